@@ -2,5 +2,5 @@
 -- frame which is to begin drives its start of frame; what a recessive sample makes of an idle machine; and that a queue hands no frame before that is ready.
 pub use Rattle.wl_first_frame.proofs.Reaching.{IsFound, IsSilence, Silence, after_decision, after_rested, alone_begins, alone_early, begin_first, begins_has, by_decision, by_due, found_is, some_first, unfound_before, unreached_rested}
 pub use Rattle.wl_first_frame.proofs.Beginning.{drives_first}
-pub use Rattle.wl_first_frame.proofs.Silent.{TakesOn, goes_idle, seen_length}
+pub use Rattle.wl_first_frame.proofs.Silent.{IsUntouched, TakesOn, goes_idle, seen_length}
 pub use Rattle.wl_first_frame.proofs.Plans.{unready_then}

@@ -13,7 +13,7 @@ use Rattle.wl_machine.specs.Judged.{stretch_of}
 use Rattle.wl_machine.proofs.Callers.{stretch_next}
 use Rattle.wl_machine.specs.States.{sample_of}
 use Rattle.wl_node.specs.declared.setup.NodeSetup.{NodeSetup}
-use Rattle.wl_node.specs.History.{History, error_count}
+use Rattle.wl_node.specs.History.{History}
 use Rattle.wl_phase.specs.Clocks.{steady_tick}
 use Rattle.wl_phase.specs.Ways.{WayLaws}
 use Rattle.wl_plan.specs.Line.{Line}
@@ -111,5 +111,5 @@ module _ (together : MayTogether) (nothing : NothingFound) (ways : WayLaws) (cal
         drive = r.drive;
       }
 
-  pub nothing_first : (q : ℕ) → q ≤ suc (rest_first w i + S) → ((node q).frames ≡ []) × (error_count (node q) ≡ 0)
+  pub nothing_first : (q : ℕ) → q ≤ suc (rest_first w i + S) → silence.IsUntouched (node q)
   nothing_first = (rests_then ways calm edges setups w on.line are hand i inside segments levels node run silent).nothing

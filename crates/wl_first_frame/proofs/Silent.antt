@@ -8,6 +8,7 @@ use Rattle.wl_level.specs.declared.Level.{Level}
 use Rattle.wl_level.specs.declared.Level.TheVariants.{Recessive}
 use Rattle.wl_level.specs.Places.{run_at_end}
 use Rattle.wl_level.proofs.Callers.{length_more}
+use Rattle.wl_confine.specs.declared.Happened.{Happened}
 use Rattle.wl_confine.specs.declared.Happened.TheVariants.{Nothing}
 use Rattle.wl_confine.specs.declared.Mode.TheVariants.{Active}
 use Rattle.wl_confine.specs.Counts.{counts_after, counts_of, is_error, mode_of, no_counts}
@@ -36,6 +37,7 @@ use Rattle.wl_phase.proofs.Callers.{IsSilent, first_silent}
 use Rattle.wl_any_senders.specs.Clocked.{EdgeLaws, NoEdgeLaws, SamplesBy}
 use Rattle.wl_any_senders.specs.Machines.{no_frame_sample}
 use Rattle.wl_any_senders.specs.Nodes.{IsRun, clock_sees}
+use Rattle.wl_first_frame.specs.Faults.{fault_count, is_fault}
 use Rattle.wl_any_senders.proofs.Callers.{drive_by as driven_by, happened_by, inputs_by, one_more, seen_are}
 
 -- a machine between frames, and what a recessive sample makes of it
@@ -106,6 +108,9 @@ any_head : (c : ℕ) (head : Option Content) → (c < 10) ⊎ (head ≡ None)
 any_head c head (inl few) = integrates c head few ∙ next_of c
 any_head c head (inr none) = ap (λ h. stretch_after (stretch_of (replicate c no_frame_sample)) (Sample (sample_of Recessive h Active))) none ∙ next_of c
 
+abbrev pub IsUntouched : History → Type 0
+IsUntouched h = (h.frames ≡ []) × (error_count h ≡ 0) × (fault_count h ≡ 0)
+
 abbrev pub NoneCounts : History → Type 0
 NoneCounts h = counts_of h.happened ≡ no_counts
 
@@ -159,7 +164,7 @@ module _ (ways : WayLaws) (calm : NoEdgeLaws) (edges : EdgeLaws) (setup : NodeSe
     pub stretch : stretch_of (node q).inputs ≡ stretch_of (replicate c no_frame_sample)
     pub counts : counts_of (node q).happened ≡ no_counts
     pub frames : (node q).frames ≡ []
-    pub errors : error_count (node q) ≡ 0
+    pub found : (test : Happened → Bool) → test Nothing ≡ false → count_by test (node q).happened ≡ 0
     pub drive : (node q).drive ≡ Recessive
 
   still_first : IsStill 0 0
@@ -173,7 +178,7 @@ module _ (ways : WayLaws) (calm : NoEdgeLaws) (edges : EdgeLaws) (setup : NodeSe
         stretch = ap (λ h. stretch_of h.inputs) first;
         counts = ap (λ h. counts_of h.happened) first;
         frames = ap (λ h. h.frames) first;
-        errors = ap error_count first;
+        found = λ test fine. ap (λ h. count_by test h.happened) first;
         drive = ap (λ h. h.drive) first;
       }
 
@@ -203,7 +208,7 @@ module _ (ways : WayLaws) (calm : NoEdgeLaws) (edges : EdgeLaws) (setup : NodeSe
           stretch = ap stretch_of (inputs_by setup levels node run q beats.Plain e) ∙ a.stretch;
           counts = ap counts_of (happened_by setup levels node run q beats.Plain e) ∙ a.counts;
           frames = frames_by q beats.Plain e ∙ a.frames;
-          errors = ap (count_by is_error) (happened_by setup levels node run q beats.Plain e) ∙ a.errors;
+          found = λ test fine. ap (count_by test) (happened_by setup levels node run q beats.Plain e) ∙ a.found test fine;
           drive = driven_by setup levels node run q beats.Plain e ∙ a.drive;
         })
     passes apart beats.Start e =
@@ -216,7 +221,7 @@ module _ (ways : WayLaws) (calm : NoEdgeLaws) (edges : EdgeLaws) (setup : NodeSe
           stretch = ap stretch_of (inputs_by setup levels node run q beats.Start e) ∙ a.stretch;
           counts = ap counts_of (happened_by setup levels node run q beats.Start e) ∙ a.counts;
           frames = frames_by q beats.Start e ∙ a.frames;
-          errors = ap (count_by is_error) (happened_by setup levels node run q beats.Start e) ∙ a.errors;
+          found = λ test fine. ap (count_by test) (happened_by setup levels node run q beats.Start e) ∙ a.found test fine;
           drive = driven_by setup levels node run q beats.Start e ∙ ap drive_of a.stretch ∙ none_driven_after c;
         })
     passes apart (beats.Sample level) e = absurd (apart (ways.only l (seen_before sees q) (sees q) level book e).1)
@@ -278,11 +283,11 @@ module _ (ways : WayLaws) (calm : NoEdgeLaws) (edges : EdgeLaws) (setup : NodeSe
           frames_by q (beats.Sample (levels q)) beat
           ∙ ap (λ x. (node q).frames ++ passed_frames (length (node q).seen) x) on.ended ∙ append-nil (node q).frames ∙ a.frames
 
-      errors_there : error_count (node (suc q)) ≡ 0
-      errors_there =
-          ap (count_by is_error) (happened_by setup levels node run q (beats.Sample (levels q)) beat)
-          ∙ sum_by-append (λ x. cond (is_error x) 1 0) (node q).happened (judgement.happened ∷ [])
-          ∙ ap (λ k. k + (0 + cond (is_error judgement.happened) 1 0)) a.errors ∙ ap (λ x. 0 + (0 + cond (is_error x) 1 0)) on.happened
+      found_there : (test : Happened → Bool) → test Nothing ≡ false → count_by test (node (suc q)).happened ≡ 0
+      found_there test fine =
+          ap (count_by test) (happened_by setup levels node run q (beats.Sample (levels q)) beat)
+          ∙ sum_by-append (λ h. cond (test h) 1 0) (node q).happened (judgement.happened ∷ [])
+          ∙ ap (λ k. k + (0 + cond (test judgement.happened) 1 0)) (a.found test fine) ∙ ap (λ h. 0 + (0 + cond (test h) 1 0)) on.happened ∙ ap (λ b. 0 + (0 + cond b 1 0)) fine
 
       pub drive_there : (node (suc q)).drive ≡ Recessive
       drive_there = driven_by setup levels node run q (beats.Sample (levels q)) beat ∙ a.drive
@@ -300,7 +305,7 @@ module _ (ways : WayLaws) (calm : NoEdgeLaws) (edges : EdgeLaws) (setup : NodeSe
           stretch = stretch_then now (ready_head setup.queue q) refl ∙ any_head c (ready_head setup.queue q) unready;
           counts = counts_there now (ready_head setup.queue q) refl;
           frames = frames_there now (ready_head setup.queue q) refl;
-          errors = errors_there now (ready_head setup.queue q) refl;
+          found = found_there now (ready_head setup.queue q) refl;
           drive = drive_there now (ready_head setup.queue q) refl;
         }
 
@@ -370,14 +375,17 @@ module _ (ways : WayLaws) (calm : NoEdgeLaws) (edges : EdgeLaws) (setup : NodeSe
       | inr before ↦ still_drive q before
     ]
 
-    -- no frame has passed it, and it has found no error
-    pub nothing_up_to : (head : Option Content) → ready_head setup.queue (m * B + S) ≡ head → (q : ℕ) → q ≤ suc (m * B + S) → ((node q).frames ≡ []) × (error_count (node q) ≡ 0)
+    -- no frame has passed it, and nothing has happened that isn't fine
+    pub nothing_up_to : (head : Option Content) → ready_head setup.queue (m * B + S) ≡ head → (q : ℕ) → q ≤ suc (m * B + S) → IsUntouched (node q)
     nothing_up_to head ready q less = elim (cases_lt (m * B + S) q) [
       | inl last ↦
           (let e : suc (m * B + S) ≡ q = omega arith in
-          subst (λ k. ((node k).frames ≡ []) × (error_count (node k) ≡ 0)) e
-          (frames_there (m * B + S) m silent_last still_last way_last head ready, errors_there (m * B + S) m silent_last still_last way_last head ready))
-      | inr before ↦ (let x = still_at q before in (x.is.frames, x.is.errors))
+          subst (λ k. IsUntouched (node k)) e (
+            frames_there (m * B + S) m silent_last still_last way_last head ready,
+            found_there (m * B + S) m silent_last still_last way_last head ready is_error refl,
+            found_there (m * B + S) m silent_last still_last way_last head ready is_fault refl,
+          ))
+      | inr before ↦ (let x = still_at q before in (x.is.frames, x.is.found is_error refl, x.is.found is_fault refl))
     ]
 
   -- its bit clock after the second bit or a later one

@@ -1,5 +1,5 @@
 -- A node waits for the first frame on a silent line.
-use Rattle.std.proofs.Common.{◌≡◌, ◌∙◌, inl, inr, refl, sym, ap, subst, ℕ, suc, ◌+◌, ◌-◌, ◌*◌, ◌<◌, ◌≤◌, Bool, true, false, List, [], replicate, Option, Some, None, arith}
+use Rattle.std.proofs.Common.{◌≡◌, ◌∙◌, inl, inr, refl, sym, ap, subst, ℕ, suc, ◌+◌, ◌-◌, ◌*◌, ◌<◌, ◌≤◌, Bool, true, false, List, replicate, Option, Some, None, arith}
 use Rattle.std.specs.Prelude.{slice_get}
 use Rattle.std.proofs.lemmas.Bool.{cases_Bool}
 use Rattle.std.proofs.Math.Nat.{lt_of_mul-lt-mul_right}
@@ -15,7 +15,7 @@ use Rattle.wl_machine.specs.Stretch.Input.{Sample}
 use Rattle.wl_machine.specs.Judged.{stretch_after, stretch_of}
 use Rattle.wl_machine.specs.States.{sample_of}
 use Rattle.wl_node.specs.declared.setup.NodeSetup.{NodeSetup}
-use Rattle.wl_node.specs.History.{History, error_count, ready_head}
+use Rattle.wl_node.specs.History.{History, ready_head}
 use Rattle.wl_phase.specs.InStep.{seen_before}
 use Rattle.wl_phase.specs.Ways.{ByTheBook, WayLaws}
 use Rattle.wl_any_senders.specs.Stations.{AreOnALine, Stations}
@@ -104,7 +104,7 @@ module _ (ways : WayLaws) (calm : NoEdgeLaws) (edges : EdgeLaws) (setups : ℕ �
     pub stretch : stretch_of (node (suc (m * bit_quanta k + sample_at k))).inputs ≡ next_after m (head_by (w.frames i) (begins_first w i))
     pub counts : silence.NoneCounts (node (suc (m * bit_quanta k + sample_at k)))
     pub drive : (q : ℕ) → q ≤ suc (m * bit_quanta k + sample_at k) → (node q).drive ≡ Recessive
-    pub nothing : (q : ℕ) → q ≤ suc (m * bit_quanta k + sample_at k) → ((node q).frames ≡ []) × (error_count (node q) ≡ 0)
+    pub nothing : (q : ℕ) → q ≤ suc (m * bit_quanta k + sample_at k) → silence.IsUntouched (node q)
 
   rests : Silent (setups i).segments → Unready (setups i).segments → Handed (setups i).segments → Rests (setups i).segments
   rests quiet none head = record {

@@ -1,2 +1,3 @@
 pub mod FirstStarts
 pub mod FirstFrames
+pub mod Faults

@@ -20,6 +20,7 @@ ghost use Rattle.wl_any_senders.specs.Machines.{bus_levels};
 ghost use Rattle.wl_any_senders.specs.Nodes.{IsRun};
 ghost use Rattle.wl_any_senders.specs.Plans.{IsPlanOf};
 ghost use Rattle.wl_any_senders.specs.Stations.{AreOnALine, AreStations, HaveRoom, HaveWays, Stations};
+ghost use Rattle.wl_first_frame.specs.Faults.{fault_count};
 ghost use Rattle.wl_first_frame.specs.FirstFrames.{AreIdleWhenReady, BeginAsQueues, GoesToItsCrc, HasFirstFrames, HasFrames, first_frames_of, queues_of, waiting_of};
 ghost use Rattle.wl_first_frame.specs.FirstStarts.{AreIdle, HandTheFirst, Waiting, first_outset, first_start, rest_first};
 
@@ -51,20 +52,21 @@ pub fn nodes_rest_before_a_first_frame()
     idle_stations_begin_a_first_frame();
 }
 
-/// Law: up to then no frame has passed it, and it has found no error. So it is with any node whose line is silent up to the quantum from
+/// Law: up to then no frame has passed it, and it has found no error, nor has anything else happened that isn't fine. So it is with any node whose line is silent up to the quantum from
 /// which it drives its start of frame, or finds the edge of another one's.
 pub fn nothing_passes_before_a_first_frame()
     ensures silent { (w : Waiting) (setups : ℕ → NodeSetup) → AreOnALine w.stations → AreIdle w → HandTheFirst w setups
         → (i : ℕ) → i < w.stations.count → (setups i).segments ≡ w.stations.lengths i → (levels : ℕ → Level) (node : ℕ → History)
         → IsRun (setups i) levels node → ((q : ℕ) → q < (first_start w).from i → levels q ≡ Recessive)
         → (q : ℕ) → q ≤ suc (rest_first w i + sample_at (w.stations.lengths i))
-        → ((node q).frames ≡ []) × (error_count (node q) ≡ 0) }
+        → ((node q).frames ≡ []) × (error_count (node q) ≡ 0) × (fault_count (node q) ≡ 0) }
     ensures line { (l : Line) (setups : ℕ → NodeSetup) (w : Waiting) (length i : ℕ) → IsLineOf l setups w.stations
         → AreStations w.stations → HaveRoom w.stations → AreIdle w → HandTheFirst w setups
         → ((n : ℕ) → n < length → stuffed_end (bus_levels w.stations (expected_bits w.stations (first_outset w)) n) ≡ None)
         → i < w.stations.count → (q : ℕ) → q ≤ suc (rest_first w i + sample_at (w.stations.lengths i))
         → ((node_after (setups i) (finds_expected l w.stations (first_outset w) length i) q).frames ≡ [])
-        × (error_count (node_after (setups i) (finds_expected l w.stations (first_outset w) length i) q) ≡ 0) }
+        × (error_count (node_after (setups i) (finds_expected l w.stations (first_outset w) length i) q) ≡ 0)
+        × (fault_count (node_after (setups i) (finds_expected l w.stations (first_outset w) length i) q) ≡ 0) }
 {
     wl_phase::laws::an_edge_moves_the_sample();
     wl_any_senders::laws::idle_machines_may_begin_together();

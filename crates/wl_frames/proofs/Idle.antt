@@ -1,12 +1,14 @@
 -- A node that rests on a silent line, bit by bit: what it has sampled, and that nothing counts.
-use Rattle.std.proofs.Common.{◌≡◌, ◌∙◌, inl, inr, refl, sym, ap, subst, ℕ, zero, suc, ◌+◌, ◌<◌, ◌≤◌, cond, List, [], ◌∷◌, ◌++◌, length, Option, arith, append-nil, ◌-◌}
+use Rattle.std.proofs.Common.{◌≡◌, ◌∙◌, inl, inr, refl, sym, ap, subst, ℕ, zero, suc, ◌+◌, ◌<◌, ◌≤◌, cond, Bool, false, List, [], ◌∷◌, ◌++◌, length, Option, arith, append-nil, ◌-◌}
 use Rattle.std.specs.Prelude.{count_by, drop}
 use Rattle.std.proofs.lemmas.Bool.{cases_eq, cases_lt}
 use Rattle.std.proofs.lemmas.List.Sums.{fold-append, sum_by-append}
 use Rattle.wl_level.specs.declared.Level.{Level}
 use Rattle.wl_level.specs.declared.Level.TheVariants.{Recessive}
+use Rattle.wl_confine.specs.declared.Happened.{Happened}
+use Rattle.wl_confine.specs.declared.Happened.TheVariants.{Nothing}
 use Rattle.wl_confine.specs.declared.Mode.TheVariants.{Active}
-use Rattle.wl_confine.specs.Counts.{counts_after, counts_of, is_error, mode_of, no_counts}
+use Rattle.wl_confine.specs.Counts.{counts_after, counts_of, mode_of, no_counts}
 use Rattle.wl_segments.specs.Lengths.{Lengths, bit_quanta, sample_at}
 use Rattle.wl_sync.specs.declared.Beat.{Beat}
 use Rattle.wl_sync.specs.declared.Beat.TheVariants as beats
@@ -23,7 +25,7 @@ use Rattle.wl_machine.specs.States.{sample_of}
 use Rattle.wl_machine.proofs.Callers.{stretch_next}
 use Rattle.wl_node.specs.declared.setup.NodeSetup.{NodeSetup}
 use Rattle.wl_node.specs.declared.setup.Passed.{Passed}
-use Rattle.wl_node.specs.History.{History, by_beat, error_count, is_sent, passed_frames, ready_head, sampled_next, switched_off, unsent_of}
+use Rattle.wl_node.specs.History.{History, by_beat, is_sent, passed_frames, ready_head, sampled_next, switched_off, unsent_of}
 use Rattle.wl_phase.specs.InStep.{seen_before}
 use Rattle.wl_phase.specs.Ways.{ByTheBook}
 use Rattle.wl_any_senders.specs.Clocked.{BitIs, EdgeLaws, NoEdgeLaws, SamplesBy}
@@ -44,14 +46,14 @@ module _ (edges : EdgeLaws) (calm : NoEdgeLaws) (setup : NodeSetup) (l : Lengths
   abbrev sees : ℕ → Seen
   sees = clock_sees levels node
 
-  -- the node after its sample of a bit with place 0 at p: its machine is in this stretch, these frames have passed it, and it has found this number of errors
-  pub record Rests (p : ℕ) (x : Stretch) (passed : List Passed) (wrong : ℕ) : Type 0 where
+  -- the node after its sample of a bit with place 0 at p: its machine is in this stretch, these frames have passed it, and `wrong` counts what has happened to it
+  pub record Rests (p : ℕ) (x : Stretch) (passed : List Passed) (wrong : (Happened → Bool) → ℕ) : Type 0 where
     pub sampled : SamplesBy l sees (p + S) Recessive
     pub clock : clock_after l (seen_before sees (suc (p + S))) ≡ steady_clock l
     pub stretch : stretch_of (node (suc (p + S))).inputs ≡ x
     pub counts : counts_of (node (suc (p + S))).happened ≡ no_counts
     pub frames : (node (suc (p + S))).frames ≡ passed
-    pub errors : error_count (node (suc (p + S))) ≡ wrong
+    pub found : (test : Happened → Bool) → test Nothing ≡ false → count_by test (node (suc (p + S))).happened ≡ wrong test
     pub drive : (node (suc (p + S))).drive ≡ Recessive
 
   whole : (q : ℕ) (b : Beat) → beat_of l (seen_before sees q) (sees q) ≡ b → beat_of setup.segments (seen_before sees q) (sees q) ≡ b
@@ -64,7 +66,7 @@ module _ (edges : EdgeLaws) (calm : NoEdgeLaws) (setup : NodeSetup) (l : Lengths
       ∙ ap (λ x. (by_beat setup (node q) (levels q) x).frames) (ap (λ v. beat_of setup.segments v (sees q)) (seen_are setup levels node run q) ∙ whole q b e)
 
   -- a silent bit
-  module _ (p : ℕ) (x : Stretch) (idle : x.sort ≡ Idle) (passed : List Passed) (wrong : ℕ) (r : Rests p x passed wrong) (silent : (q : ℕ) → p + S < q → q ≤ p + B + S → levels q ≡ Recessive) where
+  module _ (p : ℕ) (x : Stretch) (idle : x.sort ≡ Idle) (passed : List Passed) (wrong : (Happened → Bool) → ℕ) (r : Rests p x passed wrong) (silent : (q : ℕ) → p + S < q → q ≤ p + B + S → levels q ≡ Recessive) where
     bit : BitIs l sees (p + S) (p + B) (p + B) Recessive
     bit = edges.silent l sees p Recessive book r.sampled silent
 
@@ -176,12 +178,12 @@ module _ (edges : EdgeLaws) (calm : NoEdgeLaws) (setup : NodeSetup) (l : Lengths
         frames_by next (beats.Sample Recessive) beat
         ∙ ap (λ e. (node next).frames ++ passed_frames (length (node next).seen) e) on.ended ∙ append-nil (node next).frames ∙ last.frames
 
-    errors_then : error_count (node (suc next)) ≡ wrong
-    errors_then =
-        ap (count_by is_error) (happened_by setup levels node run next (beats.Sample Recessive) (whole next (beats.Sample Recessive) beat))
-        ∙ sum_by-append (λ h. cond (is_error h) 1 0) (node next).happened (judgement.happened ∷ [])
-        ∙ ap (λ k. k + (0 + cond (is_error judgement.happened) 1 0)) (ap (count_by is_error) last.happened ∙ r.errors)
-        ∙ ap (λ h. wrong + (0 + cond (is_error h) 1 0)) on.happened ∙ omega arith
+    found_then : (test : Happened → Bool) → test Nothing ≡ false → count_by test (node (suc next)).happened ≡ wrong test
+    found_then test fine =
+        ap (count_by test) (happened_by setup levels node run next (beats.Sample Recessive) (whole next (beats.Sample Recessive) beat))
+        ∙ sum_by-append (λ h. cond (test h) 1 0) (node next).happened (judgement.happened ∷ [])
+        ∙ ap (λ k. k + (0 + cond (test judgement.happened) 1 0)) (ap (count_by test) last.happened ∙ r.found test fine)
+        ∙ ap (λ h. wrong test + (0 + cond (test h) 1 0)) on.happened ∙ ap (λ b. wrong test + (0 + cond b 1 0)) fine ∙ omega arith
 
     pub rests_next : Rests (p + B) (stretch_after x (Sample (sample_of Recessive head Active))) passed wrong
     rests_next = record {
@@ -190,7 +192,7 @@ module _ (edges : EdgeLaws) (calm : NoEdgeLaws) (setup : NodeSetup) (l : Lengths
       stretch = stretch_then;
       counts = ap counts_of (happened_by setup levels node run next (beats.Sample Recessive) (whole next (beats.Sample Recessive) beat)) ∙ counts_then;
       frames = frames_then;
-      errors = errors_then;
+      found = found_then;
       drive = driven_by setup levels node run next (beats.Sample Recessive) (whole next (beats.Sample Recessive) beat) ∙ last.drive;
     }
 

@@ -1,10 +1,10 @@
 -- The nodes of a plan begin with its first frame, from their power-up on.
-use Rattle.std.proofs.Common.{◌≡◌, ◌∙◌, sym, ap, subst, ℕ, suc, ◌+◌, ◌<◌, ◌≤◌, [], None, arith}
+use Rattle.std.proofs.Common.{◌≡◌, ◌∙◌, sym, ap, subst, ℕ, suc, ◌+◌, ◌<◌, ◌≤◌, None, arith}
 use Rattle.wl_level.specs.Levels.{level_of}
 use Rattle.wl_segments.specs.Lengths.{sample_at}
 use Rattle.wl_machine.specs.Frames.{stuffed_end}
 use Rattle.wl_node.specs.declared.setup.NodeSetup.{NodeSetup}
-use Rattle.wl_node.specs.History.{error_count, history_of}
+use Rattle.wl_node.specs.History.{history_of}
 use Rattle.wl_plan.specs.Line.{Line}
 use Rattle.wl_any_senders.specs.Expected.{expected_bits}
 use Rattle.wl_any_senders.specs.Lines.{BeginsAfter, IsLineOf, RestsBefore, finds_expected, node_after}
@@ -12,6 +12,7 @@ use Rattle.wl_any_senders.specs.Machines.{bus_levels}
 use Rattle.wl_any_senders.specs.Stations.{AreOnALine, AreStations, HaveRoom, Stations}
 use Rattle.wl_any_senders.proofs.Callers.{finds_driven, finds_what_comes}
 use Rattle.wl_first_frame.specs.FirstStarts.{AreIdle, HandTheFirst, Waiting, first_outset, rest_first}
+use Rattle.wl_first_frame.proofs.Callers.{IsUntouched}
 use Rattle.wl_frame_end.proofs.Callers.{MachineLaws, levels_agree}
 use Rattle.wl_frames.specs.Frames.{FollowOneAnother, Frame, frames_drove}
 use Rattle.wl_frames.specs.Lines.{BeginFrames, finds_frames}
@@ -48,8 +49,7 @@ abbrev pub NothingFirst : Type 0
 NothingFirst = (l : Line) (setups : ℕ → NodeSetup) (w : Waiting) (length i : ℕ) → IsLineOf l setups w.stations → AreStations w.stations → HaveRoom w.stations → AreIdle w → HandTheFirst w setups
     → ((n : ℕ) → n < length → stuffed_end (bus_levels w.stations (expected_bits w.stations (first_outset w)) n) ≡ None) → i < w.stations.count
     → (q : ℕ) → q ≤ suc (rest_first w i + sample_at (w.stations.lengths i))
-    → ((node_after (setups i) (finds_expected l w.stations (first_outset w) length i) q).frames ≡ [])
-    × (error_count (node_after (setups i) (finds_expected l w.stations (first_outset w) length i) q) ≡ 0)
+    → IsUntouched (node_after (setups i) (finds_expected l w.stations (first_outset w) length i) q)
 
 module _ (m : MachineLaws) (nothing : NothingFound) (is_heard : IsHeard) (rest_after : RestAfter) (after : AfterFirst) (none : NothingFirst) (l : Line) (setups : ℕ → NodeSetup) (w : Waiting)
     (line : IsLineOf l setups w.stations) (are : AreStations w.stations) (room : HaveRoom w.stations) (idle : AreIdle w) (hand : HandTheFirst w setups) (fs : ℕ → Frame) (count : ℕ)
@@ -66,17 +66,13 @@ module _ (m : MachineLaws) (nothing : NothingFound) (is_heard : IsHeard) (rest_a
       ∙ ap level_of (windows.first_alone m nothing is_heard rest_after s are room fs count frames some i (rest_first w i) q inside begins by)
       ∙ sym (finds_what_comes l setups s line (fs 0).outset (fs 0).bits i q inside)
 
-  none_first : (q : ℕ) → q ≤ suc (rest_first w i + sample_at (s.lengths i)) → ((node_after (setups i) (finds_expected l s (fs 0).outset (fs 0).bits i) q).frames ≡ [])
-      × (error_count (node_after (setups i) (finds_expected l s (fs 0).outset (fs 0).bits i) q) ≡ 0)
+  none_first : (q : ℕ) → q ≤ suc (rest_first w i + sample_at (s.lengths i)) → IsUntouched (node_after (setups i) (finds_expected l s (fs 0).outset (fs 0).bits i) q)
   none_first q by =
-      subst (λ o. ((node_after (setups i) (finds_expected l s o (fs 0).bits i) q).frames ≡ []) × (error_count (node_after (setups i) (finds_expected l s o (fs 0).bits i) q) ≡ 0)) (sym first)
+      subst (λ o. IsUntouched (node_after (setups i) (finds_expected l s o (fs 0).bits i) q)) (sym first)
       (none l setups w (fs 0).bits i line are room idle hand
       (subst (λ o. (n : ℕ) → n < (fs 0).bits → stuffed_end (bus_levels s (expected_bits s o) n) ≡ None) first (frames.each 0 some).ends.none) inside q by)
 
-  pub nothing_passed : (q : ℕ) → q ≤ suc (rest_first w i + sample_at (s.lengths i)) → ((node_after (setups i) (finds_frames l s fs count i) q).frames ≡ [])
-      × (error_count (node_after (setups i) (finds_frames l s fs count i) q) ≡ 0)
+  pub nothing_passed : (q : ℕ) → q ≤ suc (rest_first w i + sample_at (s.lengths i)) → IsUntouched (node_after (setups i) (finds_frames l s fs count i) q)
   nothing_passed q by =
-      let node : node_after (setups i) (finds_frames l s fs count i) q ≡ node_after (setups i) (finds_expected l s (fs 0).outset (fs 0).bits i) q =
-      ap (history_of (setups i)) (levels_agree (finds_frames l s fs count i) (finds_expected l s (fs 0).outset (fs 0).bits i) q (λ j less. same j (omega arith))) in
-      let x = none_first q by in
-      (ap (λ h. h.frames) node ∙ x.0, ap error_count node ∙ x.1)
+      subst IsUntouched
+      (sym (ap (history_of (setups i)) (levels_agree (finds_frames l s fs count i) (finds_expected l s (fs 0).outset (fs 0).bits i) q (λ j less. same j (omega arith))))) (none_first q by)

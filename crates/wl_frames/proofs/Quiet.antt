@@ -1,9 +1,10 @@
 -- A node that has sent its queue rests as long as its line is silent.
-use Rattle.std.proofs.Common.{◌≡◌, ◌∙◌, inl, inr, refl, sym, ap, subst, ℕ, zero, suc, ◌+◌, ◌-◌, ◌*◌, ◌<◌, ◌≤◌, cond, List, [], None, arith}
+use Rattle.std.proofs.Common.{◌≡◌, ◌∙◌, inl, inr, refl, sym, ap, subst, ℕ, zero, suc, ◌+◌, ◌-◌, ◌*◌, ◌<◌, ◌≤◌, cond, Bool, List, [], None, arith}
 use Rattle.std.specs.Prelude.{count_by, drop, nat_lt}
 use Rattle.std.proofs.lemmas.Bool.{cases_lt, le-ltb, lt-ltb}
 use Rattle.wl_level.specs.declared.Level.{Level}
 use Rattle.wl_level.specs.declared.Level.TheVariants.{Recessive}
+use Rattle.wl_confine.specs.declared.Happened.{Happened}
 use Rattle.wl_confine.specs.declared.Mode.TheVariants.{Active}
 use Rattle.wl_confine.specs.Counts.{counts_of, is_error}
 use Rattle.wl_segments.specs.Lengths.{bit_quanta, sample_at}
@@ -24,6 +25,7 @@ use Rattle.wl_any_senders.specs.Lines.{node_after}
 use Rattle.wl_any_senders.specs.Machines.{no_frame_sample}
 use Rattle.wl_any_senders.specs.Nodes.{IsRun, clock_sees}
 use Rattle.wl_any_senders.proofs.Callers.{run_of, seen_before_same}
+use Rattle.wl_first_frame.specs.Faults.{fault_count, is_fault}
 use Rattle.wl_frame_end.specs.Again.{RestsAgain}
 use Rattle.wl_frames.specs.Silence.{StillRests}
 use Rattle.wl_frames.proofs.Idle as idle
@@ -48,8 +50,8 @@ module _ (edges : EdgeLaws) (calm : NoEdgeLaws) (s : Stations) (line : AreOnALin
   abbrev passed : List Passed
   passed = (node (suc R)).frames
 
-  abbrev wrong : ℕ
-  wrong = error_count (node (suc R))
+  abbrev wrong : (Happened → Bool) → ℕ
+  wrong test = count_by test (node (suc R)).happened
 
   abbrev RestsIn : ℕ → Stretch → Type 0
   RestsIn k x = idle.Rests edges calm setup (s.lengths i) segments (line.book i inside) levels node run k x passed wrong
@@ -74,7 +76,7 @@ module _ (edges : EdgeLaws) (calm : NoEdgeLaws) (s : Stations) (line : AreOnALin
           stretch = first.stretch ∙ is_free;
           counts = first.counts;
           frames = refl;
-          errors = refl;
+          found = λ test fine. refl;
           drive = first.drive (suc R) (let h = early in omega arith) (omega arith);
         });
   }
@@ -133,7 +135,8 @@ module _ (edges : EdgeLaws) (calm : NoEdgeLaws) (s : Stations) (line : AreOnALin
       record {
         drive = same.drive;
         frames = same.frames;
-        errors = ap (count_by is_error) same.happened ∙ a.rests.errors;
+        errors = ap (count_by is_error) same.happened ∙ a.rests.found is_error refl;
+        faults = ap (count_by is_fault) same.happened ∙ a.rests.found is_fault refl;
       }
 
 -- on a line that is silent up to a quantum: so it is if that stays silent
@@ -192,4 +195,5 @@ module _ (edges : EdgeLaws) (calm : NoEdgeLaws) (s : Stations) (line : AreOnALin
         drive = ap (λ h. h.drive) (sym (same_node q (omega arith))) ∙ x.drive;
         frames = ap (λ h. h.frames) (sym (same_node q (omega arith))) ∙ x.frames ∙ ap (λ h. h.frames) (same_node (suc last) more);
         errors = ap error_count (sym (same_node q (omega arith))) ∙ x.errors ∙ ap error_count (same_node (suc last) more);
+        faults = ap fault_count (sym (same_node q (omega arith))) ∙ x.faults ∙ ap fault_count (same_node (suc last) more);
       }

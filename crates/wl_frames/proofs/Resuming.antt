@@ -1,5 +1,5 @@
 -- A node that rests waits for the next frame.
-use Rattle.std.proofs.Common.{◌≡◌, ◌∙◌, inl, inr, refl, sym, ap, subst, ℕ, zero, suc, ◌+◌, ◌*◌, ◌<◌, ◌≤◌, true, false, List, [], ◌∷◌, ◌++◌, length, replicate, Option, Some, None, arith, append-nil}
+use Rattle.std.proofs.Common.{◌≡◌, ◌∙◌, inl, inr, refl, sym, ap, subst, ℕ, zero, suc, ◌+◌, ◌*◌, ◌<◌, ◌≤◌, Bool, true, false, List, [], ◌∷◌, ◌++◌, length, replicate, Option, Some, None, arith, append-nil}
 use Rattle.std.specs.Prelude.{count_by, drop, slice_get}
 use Rattle.std.proofs.lemmas.Bool.{cases_Bool, cases_lt}
 use Rattle.std.proofs.lemmas.List.{append_assoc}
@@ -7,6 +7,7 @@ use Rattle.std.proofs.lemmas.Option.{slice_get_past}
 use Rattle.std.proofs.Math.Nat.{lt_of_mul-lt-mul_right, mul-le-mul_right}
 use Rattle.wl_level.specs.declared.Level.{Level}
 use Rattle.wl_level.specs.declared.Level.TheVariants.{Recessive}
+use Rattle.wl_confine.specs.declared.Happened.{Happened}
 use Rattle.wl_confine.specs.declared.Mode.TheVariants.{Active}
 use Rattle.wl_segments.specs.Lengths.{bit_quanta, sample_at}
 use Rattle.wl_frame.specs.Grammar.{Content}
@@ -18,7 +19,7 @@ use Rattle.wl_machine.specs.States.{sample_of, stretch_by}
 use Rattle.wl_machine.proofs.Callers.{stretch_next}
 use Rattle.wl_node.specs.declared.setup.NodeSetup.{NodeSetup}
 use Rattle.wl_node.specs.declared.setup.Passed.{Passed}
-use Rattle.wl_node.specs.History.{History, error_count, is_sent, ready_head, unsent_of}
+use Rattle.wl_node.specs.History.{History, is_sent, ready_head, unsent_of}
 use Rattle.wl_wire.specs.Wire.{Handed, sampled}
 use Rattle.wl_any_senders.specs.Stations.{AreOnALine, Stations}
 use Rattle.wl_any_senders.specs.Clocked.{EdgeLaws, NoEdgeLaws}
@@ -70,8 +71,8 @@ module _ (wait : MayWait) (edges : EdgeLaws) (calm : NoEdgeLaws) (w : Resting) (
   abbrev passed : List Passed
   passed = (node (suc (rested w i))).frames
 
-  abbrev wrong : ℕ
-  wrong = error_count (node (suc (rested w i)))
+  abbrev wrong : (Happened → Bool) → ℕ
+  wrong test = count_by test (node (suc (rested w i))).happened
 
   abbrev head : ℕ → Option Content
   head = head_after w i (slice_get (w.frames i) handed.which) (unsent_of setup (node (suc (rested w i))))
@@ -167,7 +168,7 @@ module _ (wait : MayWait) (edges : EdgeLaws) (calm : NoEdgeLaws) (w : Resting) (
         stretch = first.stretch ∙ free_first;
         counts = first.counts;
         frames = refl;
-        errors = refl;
+        found = λ test fine. refl;
         drive = first.drive (suc (rested w i)) (let h = since_before in omega arith) (omega arith);
       })
 

@@ -6,14 +6,16 @@ use Rattle.wl_node.specs.History.{History, error_count, unsent_of}
 use Rattle.wl_plan.specs.Line.{Line}
 use Rattle.wl_any_senders.specs.Lines.{node_after}
 use Rattle.wl_any_senders.specs.Stations.{Stations}
+use Rattle.wl_first_frame.specs.Faults.{fault_count}
 use Rattle.wl_frames.specs.Frames.{FollowOneAnother, Frame, third_sample}
 use Rattle.wl_frames.specs.Lines.{LineGoes, finds_frames}
 
--- At quantum q a node is as it was at an earlier one: it drives recessive, no frame has passed it since, and it has found no error.
+-- At quantum q a node is as it was at an earlier one: it drives recessive, no frame has passed it since, and it has found no error, nor has anything else happened that isn't fine.
 pub record StillRests (node : ℕ → History) (earlier q : ℕ) : Type 0 where
   pub drive : (node q).drive ≡ Recessive
   pub frames : (node q).frames ≡ (node earlier).frames
   pub errors : error_count (node q) ≡ error_count (node earlier)
+  pub faults : fault_count (node q) ≡ fault_count (node earlier)
 
 -- Each node has sent all frames of its queue by its third bit of the intermission of the last frame, and no other comes with that bit.
 pub record AllAreSent (l : Line) (setups : ℕ → NodeSetup) (s : Stations) (frames : ℕ → Frame) (count : ℕ) : Type 0 where

@@ -14,6 +14,7 @@ ghost use Rattle.wl_any_senders.specs.Bounds.{IsBusOf, IsLeftForTwo};
 ghost use Rattle.wl_any_senders.specs.Lines.{IsLineOf, node_after};
 ghost use Rattle.wl_any_senders.specs.Plans.{IsPlanOf};
 ghost use Rattle.wl_any_senders.specs.Stations.{AreStations, HaveRoom, Stations};
+ghost use Rattle.wl_first_frame.specs.Faults.{fault_count};
 ghost use Rattle.wl_first_frame.specs.FirstFrames.{HasFirstFrames, outset_of, waiting_of};
 ghost use Rattle.wl_first_frame.specs.FirstStarts.{rest_first};
 ghost use Rattle.wl_frames.specs.Frames.{FollowOneAnother, Frame};
@@ -73,7 +74,8 @@ pub fn a_plan_goes_from_frame_to_frame()
     a_line_goes_from_frame_to_frame();
 }
 
-/// Law: up to its last bit before the first of these frames nothing has passed a node of such a plan, and it has found no error.
+/// Law: up to its last bit before the first of these frames nothing has passed a node of such a plan. It has found no error, nor has anything
+/// else happened to it that isn't fine.
 pub fn nothing_passes_before_the_frames()
     ensures { (plan : Plan) (queues : ℕ → List Content) (s : Stations) (bus : Bus) (frames : ℕ → Frame) (count i q : ℕ)
         → IsPlanOf plan s → plan.disturbances ≡ [] → IsBusOf bus s → IsLeftForTwo bus s → IsSound bus
@@ -81,7 +83,8 @@ pub fn nothing_passes_before_the_frames()
         → (frames 0).outset ≡ outset_of plan queues s → i < s.count
         → q ≤ suc (rest_first (waiting_of plan queues s) i + sample_at (s.lengths i))
         → ((node_after (setup_at plan i) (finds_frames (line_of plan) s frames count i) q).frames ≡ [])
-        × (error_count (node_after (setup_at plan i) (finds_frames (line_of plan) s frames count i) q) ≡ 0) }
+        × (error_count (node_after (setup_at plan i) (finds_frames (line_of plan) s frames count i) q) ≡ 0)
+        × (fault_count (node_after (setup_at plan i) (finds_frames (line_of plan) s frames count i) q) ≡ 0) }
 {
     wl_plan::checked_is_sound();
     wl_topology::driven_laws();

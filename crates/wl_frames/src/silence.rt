@@ -28,7 +28,7 @@ use crate::laws::stations_rest_after_a_frame;
 use crate::runs::a_node_goes_from_frame_to_frame;
 
 /// Law: a node that rests and has sent all frames of its queue rests as long as its line is silent: it drives recessive, no frame passes it,
-/// and it finds no error.
+/// and it finds no error, nor does anything else happen to it that isn't fine.
 pub fn a_node_rests_for_ever()
     ensures { (s : Stations) (past : List Input) (i : ℕ) (setup : NodeSetup) (levels : ℕ → Level) (node : ℕ → History)
         (rest since : ℕ) → AreOnALine s → i < s.count → setup.segments ≡ s.lengths i → IsRun setup levels node
