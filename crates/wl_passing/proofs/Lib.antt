@@ -1,1 +1,4 @@
 mod Quanta
+mod Resting
+mod Samples
+mod Waiting
