@@ -1,4 +1,10 @@
+mod Between
+mod Distance
+mod Judging
+mod Passed
 mod Quanta
 mod Resting
 mod Samples
+mod Started
+mod Steps
 mod Waiting

@@ -3,7 +3,8 @@ use Rattle.std.proofs.Common.{◌≡◌, ◌∙◌, refl, sym, ap, subst, ℕ, z
 use Rattle.std.specs.Prelude.{count_by}
 use Rattle.wl_level.specs.declared.Level.{Level}
 use Rattle.wl_confine.specs.declared.Happened.{Happened}
-use Rattle.wl_confine.specs.Counts.{counts_of, mode_of}
+use Rattle.wl_confine.specs.declared.Mode.TheVariants.{Active}
+use Rattle.wl_confine.specs.Counts.{counts_of, mode_of, no_counts}
 use Rattle.wl_segments.specs.Lengths.{Lengths}
 use Rattle.wl_sync.specs.declared.Beat.{Beat}
 use Rattle.wl_sync.specs.declared.Beat.TheVariants.{Plain, Sample, Start}
@@ -12,7 +13,8 @@ use Rattle.wl_sync.specs.Bits.{beat_of}
 use Rattle.wl_machine.specs.Stretch.{Judgement, Sampled, Stretch}
 use Rattle.wl_machine.specs.Stretch.Ended.{NoFrame}
 use Rattle.wl_machine.specs.Stretch.Input.{Sample as Given}
-use Rattle.wl_machine.specs.Judged.{judged, stretch_of}
+use Rattle.wl_machine.specs.Judged.{judged, stretch_after, stretch_of}
+use Rattle.wl_machine.proofs.Callers.{stretch_next}
 use Rattle.wl_node.specs.declared.setup.NodeSetup.{NodeSetup}
 use Rattle.wl_node.specs.History.{History, by_beat, passed_frames, sampled_next, switched_off}
 use Rattle.wl_phase.specs.InStep.{seen_before}
@@ -128,3 +130,13 @@ module _ (setup : NodeSetup) (levels : ℕ → Level) (node : ℕ → History) (
 
     pub count_stays : (p : Happened → Bool) → p (judged X given).happened ≡ false → count_by p (node (suc m)).happened ≡ count_by p (node (suc k)).happened
     count_stays p e = ap (count_by p) happened_then ∙ calm_one p (node m).happened (judged X given).happened e ∙ ap (count_by p) last.happened
+
+    -- the stretch after it, if nothing has counted
+    pub stretch_then : counts_of (node (suc k)).happened ≡ no_counts → counts_of (node (suc m)).happened ≡ no_counts → stretch_of (node (suc m)).inputs ≡ stretch_after X (Given given)
+    stretch_then before after =
+        ap stretch_of (inputs_then ∙ ap (λ w. ((node m).inputs ++ Given given ∷ []) ++ w) off ∙ append-nil ((node m).inputs ++ Given given ∷ [])) ∙ stretch_next (node m).inputs (Given given)
+        ∙ ap (λ x. stretch_after x (Given given)) stretch_last
+      where
+        off : switched_off given.mode (mode_of (counts_of (node (suc m)).happened)) ≡ []
+        off =
+            ap (λ c. switched_off (mode_of c) (mode_of (counts_of (node (suc m)).happened))) (ap counts_of last.happened ∙ before) ∙ ap (λ c. switched_off Active (mode_of c)) after

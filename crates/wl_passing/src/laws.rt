@@ -3,21 +3,28 @@
 ghost use Rattle.std.specs.Prelude.{◌≡◌, ◌++◌, ◌∷◌, ◌+◌, ◌<◌, ◌≤◌, ℕ, suc, List, [], slice_get};
 ghost use Rattle.wl_level.specs.declared.Level.{Level};
 ghost use Rattle.wl_level.specs.declared.Level.TheVariants.{Recessive};
+ghost use Rattle.wl_level.specs.Levels.{level_of};
 ghost use Rattle.wl_confine.specs.Counts.{no_counts};
 ghost use Rattle.wl_confine.specs.declared.Mode.TheVariants.{Active};
 ghost use Rattle.wl_segments.specs.Lengths.{sample_at};
+ghost use Rattle.wl_topology.specs.Driven.{driven};
 ghost use Rattle.wl_machine.specs.Stretch.{Input};
 ghost use Rattle.wl_machine.specs.Stretch.Input.{Sample};
 ghost use Rattle.wl_node.specs.declared.setup.NodeSetup.{NodeSetup};
 ghost use Rattle.wl_node.specs.declared.setup.Passed.{Passed};
 ghost use Rattle.wl_node.specs.History.{History, counters_of, error_count, unsent_of};
+ghost use Rattle.wl_phase.specs.Clocks.{steady_tick};
 ghost use Rattle.wl_wire.specs.Wire.{Handed, sampled};
+ghost use Rattle.wl_any_senders.specs.Expected.{IsOutset, Outset, expected_bits, expected_drove, expected_sample};
+ghost use Rattle.wl_any_senders.specs.Lines.{BeginsAfter};
+ghost use Rattle.wl_any_senders.specs.Machines.{HasWon};
 ghost use Rattle.wl_any_senders.specs.Nodes.{IsRun};
-ghost use Rattle.wl_any_senders.specs.Stations.{AreOnALine};
+ghost use Rattle.wl_any_senders.specs.Stations.{AreOnALine, AreStations, HaveRoom, Stations};
 ghost use Rattle.wl_frame_end.specs.Again.{RestsAgain};
+ghost use Rattle.wl_frame_end.specs.Asked.{CanBeAnswered, EndsBefore};
 ghost use Rattle.wl_frames.specs.NextNodes.{HandsNext};
 ghost use Rattle.wl_frames.specs.NextStarts.{AreFreeNext, AreResting, Resting, rest_next, rested, start_next};
-ghost use Rattle.wl_passing.specs.Passing.{fault_count};
+ghost use Rattle.wl_passing.specs.Passing.{PassesOne, fault_count};
 
 /// Law: what a node has found it keeps. The errors that it has found grow in number or stay, and so does all that isn't fine. The frames that
 /// have passed it are the first of those that have passed it later. If all is fine, it has found no error, and its counters are 0.
@@ -47,4 +54,33 @@ pub fn nothing_passes_a_waiting_node()
     wl_any_senders::laws::a_station_begins_its_bits();
     wl_frames::laws::resting_stations_begin_the_next_frame();
     wl_frames::nodes::a_node_waits_for_the_next_frame();
+}
+
+/// Law: one frame passes a node that rests and goes through it: that frame alone, and with the quantum that is expected. It finds no error
+/// from the sample by which it rests up to that of the third bit of the intermission, and nothing else happens to it that isn't fine.
+pub fn a_frame_passes_a_node()
+    ensures { (s : Stations) (o : Outset) (end : ℕ) (chase : ℕ → ℕ) → AreStations s → HaveRoom s
+        → IsOutset s o → 0 < end → EndsBefore s o end → (won : HasWon s (expected_bits s o) o.frames end)
+        → CanBeAnswered s won.station chase
+        → (i rest since : ℕ) (setup : NodeSetup) (levels : ℕ → Level) (node : ℕ → History) → i < s.count
+        → setup.segments ≡ s.lengths i → IsRun setup levels node → BeginsAfter s o i rest
+        → RestsAgain s (o.past i) i levels node rest since → since ≤ rest + sample_at (s.lengths i)
+        → ((q : ℕ) → rest + sample_at (s.lengths i) < q → q ≤ expected_sample s o (end + 12) i
+        → levels q ≡ level_of (driven s.count s.delay (expected_drove s o (end + 13)) i (steady_tick (s.clocks i) q)))
+        → PassesOne s o end won.station i rest won.frame node }
+{
+    wl_topology::driven_laws();
+    wl_any_senders::before::nothing_is_found_before_a_frame();
+    wl_any_senders::laws::bit_clocks_go_as_expected();
+    wl_any_senders::laws::no_edge_counts_then();
+    wl_frame_end::laws::a_machine_ends_its_frame();
+    wl_frame_end::laws::bit_clocks_go_to_the_end();
+    wl_frame_end::laws::machines_answer_as_asked();
+    wl_frames::nodes::a_node_goes_through_the_next_frame();
+    wl_phase::laws::an_edge_moves_the_sample();
+    wl_wire::laws::machines_stay_in_step();
+    wl_wire::laws::the_least_field_wins();
+    wl_machine::laws::a_transmitter_sends_its_head_stuffed();
+    wl_frame::laws::a_front_of_no_stuffing_ends_six_equal_bits();
+    wl_frame::laws::ten_bits_have_an_edge();
 }
