@@ -4,6 +4,7 @@ mod Judging
 mod Passed
 mod Quanta
 mod Resting
+mod Rows
 mod Samples
 mod Started
 mod Steps

@@ -86,9 +86,6 @@ module _ (m : MachineLaws) (ways : WayLaws) (calm_clock : NoEdgeLaws) (s : Stati
   book : ByTheBook (s.lengths i)
   book = are.line.book i inside
 
-  up : (a n : ℕ) → a ≤ n → S a ≤ S n
-  up a n less = samples_up m s are room o is end valid over won chase catch enough a n i inside less
-
   begins_later : R < o.start.from i
   begins_later = after_rest s o i rest book after (is.begin i inside)
 
@@ -99,8 +96,8 @@ module _ (m : MachineLaws) (ways : WayLaws) (calm_clock : NoEdgeLaws) (s : Stati
   silent : (q : ℕ) → R < q → q ≤ o.start.from i → ((k : ℕ) → Drives s o.start i k → steady_tick (s.clocks i) q < reaches_at s o.start k i) → levels q ≡ Recessive
   silent q more less unreached =
       let sample = by_first in
-      let stuffed = up 0 end (omega arith) in
-      let third = up end (end + 12) (omega arith) in
+      let stuffed = samples_up m s are room o is end valid over won chase catch enough 0 end i inside (omega arith) in
+      let third = samples_up m s are room o is end valid over won chase catch enough end (end + 12) i inside (omega arith) in
       finds q more (omega arith) ∙ ap level_of (found_was m s are room o is end valid over won chase catch enough i q inside (omega arith)) ∙ ap level_of (nothing q less unreached)
 
   none : samples.NoneSamples (s.lengths i) sees R (S 0)

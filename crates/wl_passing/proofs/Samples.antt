@@ -43,8 +43,8 @@ module _ (setup : NodeSetup) (levels : ℕ → Level) (node : ℕ → History) (
   abbrev sees : ℕ → Seen
   sees = clock_sees levels node
 
-  beat_as : (q : ℕ) (b : Beat) → beat_of l (seen_before sees q) (sees q) ≡ b → beat_of setup.segments (seen_before sees q) (sees q) ≡ b
-  beat_as q b e = ap (λ m. beat_of m (seen_before sees q) (sees q)) segments ∙ e
+  beat_as : (q : ℕ) (v : Level) → SamplesBy l sees q v → beat_of setup.segments (seen_before sees q) (sees q) ≡ Sample v
+  beat_as q v e = ap (λ m. beat_of m (seen_before sees q) (sees q)) segments ∙ e
 
   frames_by : (q : ℕ) (b : Beat) → beat_of setup.segments (seen_before sees q) (sees q) ≡ b → (node (suc q)).frames ≡ (by_beat setup (node q) (levels q) b).frames
   frames_by q b e =
@@ -77,8 +77,8 @@ module _ (setup : NodeSetup) (levels : ℕ → Level) (node : ℕ → History) (
   stays_at k m q more less none = stays k q more (λ j a b. none j a (omega arith))
 
   -- a quantum that leaves what reached the machine is no sample
-  longer_not : (m : Level) (x : Sampled) (h : History) → (h.inputs ++ Given x ∷ []) ++ switched_off x.mode (mode_of (counts_of (h.happened ++ (judged (stretch_of h.inputs) x).happened ∷ []))) ≡ h.inputs → ⊥
-  longer_not m x h e =
+  longer_not : (x : Sampled) (h : History) → (h.inputs ++ Given x ∷ []) ++ switched_off x.mode (mode_of (counts_of (h.happened ++ (judged (stretch_of h.inputs) x).happened ∷ []))) ≡ h.inputs → ⊥
+  longer_not x h e =
       let w = switched_off x.mode (mode_of (counts_of (h.happened ++ (judged (stretch_of h.inputs) x).happened ∷ []))) in
       let a = length-append (h.inputs ++ Given x ∷ []) (switched_off x.mode (mode_of (counts_of (h.happened ++ (judged (stretch_of h.inputs) x).happened ∷ [])))) in
       let b = length-append h.inputs (Given x ∷ []) in
@@ -86,7 +86,7 @@ module _ (setup : NodeSetup) (levels : ℕ → Level) (node : ℕ → History) (
       omega arith
 
   pub unsampled : (q : ℕ) → (node (suc q)).inputs ≡ (node q).inputs → (v : Level) → SamplesBy l sees q v → ⊥
-  unsampled q same v e = longer_not v (sampled_next setup (node q) (levels q)) (node q) (sym (inputs_by setup levels node run q (Sample v) (beat_as q (Sample v) e)) ∙ same)
+  unsampled q same v e = longer_not (sampled_next setup (node q) (levels q)) (node q) (sym (inputs_by setup levels node run q (Sample v) (beat_as q v e)) ∙ same)
 
   -- the level of a sample
   pub level_there : WayLaws → ByTheBook l → (m : ℕ) (v : Level) → SamplesBy l sees m v → levels m ≡ v
@@ -107,7 +107,7 @@ module _ (setup : NodeSetup) (levels : ℕ → Level) (node : ℕ → History) (
     found = judged (stretch_of (node m).inputs) given
 
     beat : beat_of setup.segments (seen_before sees m) (sees m) ≡ Sample v
-    beat = beat_as m (Sample v) samples
+    beat = beat_as m v samples
 
     pub stretch_last : stretch_of (node m).inputs ≡ X
     stretch_last = ap stretch_of last.inputs ∙ stretch

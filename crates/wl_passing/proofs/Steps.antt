@@ -104,8 +104,12 @@ module _ (m : MachineLaws) (ways : WayLaws) (s : Stations) (are : AreStations s)
       (λ k lt j below. right_at m.steps m.errors m.winner m.stuffed m.six m.ten m.driven s are room o is end valid j k (omega arith) lt) (valid n less)).framing i inside
       (λ j below. right_at m.steps m.errors m.winner m.stuffed m.six m.ten m.driven s are room o is end valid j i (omega arith) inside)
 
-  up : (a n : ℕ) → a ≤ n → S a ≤ S n
-  up a n less = samples_up m s are room o is end valid over won chase catch enough a n i inside less
+  -- its samples come one after another
+  inner : (n : ℕ) → n < end + 12 → (S 0 ≤ S n) × (S (suc n) ≤ S (end + 12))
+  inner n less = (
+    samples_up m s are room o is end valid over won chase catch enough 0 n i inside (omega arith),
+    samples_up m s are room o is end valid over won chase catch enough (suc n) (end + 12) i inside less,
+  )
 
   module _ (setup : NodeSetup) (segments : setup.segments ≡ s.lengths i) (levels : ℕ → Level) (node : ℕ → History) (run : IsRun setup levels node) (since low : ℕ) (by_low : low ≤ S 0)
       (finds : (q : ℕ) → low < q → q ≤ S (end + 12) → levels q ≡ level_of (driven s.count s.delay (expected_drove s o (end + 13)) i (steady_tick (s.clocks i) q)))
@@ -179,9 +183,10 @@ module _ (m : MachineLaws) (ways : WayLaws) (s : Stations) (are : AreStations s)
 
       finds_early : (q : ℕ) → S n < q → q ≤ S (suc n) → levels q ≡ level_of (driven s.count s.delay (expected_drove s o end) i (steady_tick (s.clocks i) q))
       finds_early q a b =
-          (let first = up 0 n (omega arith) in
-          let last = up (suc n) end (omega arith) in
-          let third = up end (end + 12) (omega arith) in
+          (let within = inner n (omega arith) in
+          let low = within.0 in
+          let high = within.1 in
+          let stuffed = samples_up m s are room o is end valid over won chase catch enough (suc n) end i inside (omega arith) in
           finds q (omega arith) (omega arith) ∙ ap level_of (found_was m s are room o is end valid over won chase catch enough i q inside (omega arith)))
 
       sees_early : SeesExpected s o end i expects n
@@ -232,8 +237,9 @@ module _ (m : MachineLaws) (ways : WayLaws) (s : Stations) (are : AreStations s)
 
       sees_late : SeesEnd s o end i expects_end n
       sees_late = record {
-        level = λ q a b. (let first = up 0 n (omega arith) in
-            let third = up (suc n) (end + 12) (omega arith) in
+        level = λ q a b. (let within = inner n (omega arith) in
+            let low = within.0 in
+            let high = within.1 in
             ap (λ y. y.level) (between.expects_there setup levels node run s o i n segments at_end begins_end q a) ∙ finds q (omega arith) (omega arith));
         awaits = λ q slot a b. ap (λ y. y.awaits) (between.expects_there setup levels node run s o i n segments at_end begins_end q a) ∙ no_start_end slot;
         before = λ q slot a b. ap (λ y. y.driving) (between.expects_there setup levels node run s o i n segments at_end begins_end q a)
