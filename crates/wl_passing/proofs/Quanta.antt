@@ -122,3 +122,17 @@ module _ (setup : NodeSetup) (levels : ℕ → Level) (node : ℕ → History) (
       let e : k + (m - k) ≡ m = omega arith in
       let f : count_by p (node (k + (m - k))).happened ≡ count_by p (node k).happened + count_by p a.0 = ap (count_by p) a.1 ∙ counted p (node k).happened a.0 in
       subst (λ q. count_by p (node k).happened ≤ count_by p (node q).happened) e (omega arith))
+
+  -- while nothing happens that isn't fine, no error is found and counters of 0 stay so
+  pub fine_between : (k q m : ℕ) → k ≤ q → q ≤ m → fault_count (node m) ≡ fault_count (node k) → counters_of (node k) ≡ no_counts
+      → (error_count (node q) ≡ error_count (node k)) × (counters_of (node q) ≡ no_counts)
+  fine_between k q m low high same counts =
+      (let a = later_happened k (q - k) in
+      let e : k + (q - k) ≡ q = omega arith in
+      let there : (node q).happened ≡ (node k).happened ++ a.0 = ap (λ j. (node j).happened) (sym e) ∙ a.1 in
+      let up = count_stays is_fault q m high in
+      let faults : fault_count (node q) ≡ fault_count (node k) + count_by is_fault a.0 = ap (count_by is_fault) there ∙ counted is_fault (node k).happened a.0 in
+      let errors : error_count (node q) ≡ error_count (node k) + count_by is_error a.0 = ap (count_by is_error) there ∙ counted is_error (node k).happened a.0 in
+      let none : count_by is_fault a.0 ≡ 0 = omega arith in
+      let fine = all_fine (node k).happened a.0 counts none in
+      let f = fine.0 in (omega arith, ap counts_of there ∙ fine.1))

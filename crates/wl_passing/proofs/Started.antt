@@ -17,7 +17,8 @@ use Rattle.wl_passing.proofs.Samples.{NoneSamples}
 
 module _ (ways : WayLaws) (calm : NoEdgeLaws) (s : Stations) (are : AreStations s) (o : Outset) (i : ℕ) (inside : i < s.count) (rest : ℕ) (after : BeginsAfter s o i rest) (seen : ℕ → Seen)
     (v w : Level) (first : SamplesBy (s.lengths i) seen (rest + sample_at (s.lengths i)) v) (next : SamplesBy (s.lengths i) seen (expected_sample s o 0 i) w)
-    (silent : (q : ℕ) → rest + sample_at (s.lengths i) < q → q ≤ o.start.from i → ((k : ℕ) → Drives s o.start i k → steady_tick (s.clocks i) q < reaches_at s o.start k i) → (seen q).level ≡ Recessive) where
+    (silent : (q : ℕ) → rest + sample_at (s.lengths i) < q → q ≤ o.start.from i → ((k : ℕ) → Drives s o.start i k → steady_tick (s.clocks i) q < reaches_at s o.start k i)
+    → (seen q).level ≡ Recessive) where
   pub none_first : BeginsAlone s o.start i ⊎ FollowsHard s o.start i → NoneSamples (s.lengths i) seen (rest + sample_at (s.lengths i)) (expected_sample s o 0 i)
   none_first (inl itself) =
       let due = after.alone itself in

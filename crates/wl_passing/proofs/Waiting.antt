@@ -139,7 +139,8 @@ module _ (edges : EdgeLaws) (setup : NodeSetup) (levels : ℕ → Level) (node :
 
     happened_then : (node (suc (place + B + S))).happened ≡ (node (place + B + S)).happened ++ Nothing ∷ []
     happened_then =
-        samples.happened_then setup levels node run l segments (place + S) (place + B + S) longer none Recessive bit.samples.beat X refl ∙ ap (λ h. (node (place + B + S)).happened ++ h ∷ []) on.happened
+        samples.happened_then setup levels node run l segments (place + S) (place + B + S) longer none Recessive bit.samples.beat X refl
+        ∙ ap (λ h. (node (place + B + S)).happened ++ h ∷ []) on.happened
 
     stretch_then : stretch_of (node (suc (place + B + S))).inputs ≡ stretch_after X (Given given)
     stretch_then =
@@ -149,7 +150,8 @@ module _ (edges : EdgeLaws) (setup : NodeSetup) (levels : ℕ → Level) (node :
         ∙ ap (λ x. stretch_after x (Given given)) (samples.stretch_last setup levels node run l segments (place + S) (place + B + S) longer none Recessive bit.samples.beat X refl)
       where
         off : switched_off given.mode (mode_of (counts_of (node (suc (place + B + S))).happened)) ≡ []
-        off = ap (λ h. switched_off given.mode (mode_of (counts_of h))) happened_then ∙ ap (λ c. switched_off given.mode (mode_of c)) (nothing_counts (node (place + B + S)).happened) ∙ not_off given.mode
+        off =
+            ap (λ h. switched_off given.mode (mode_of (counts_of h))) happened_then ∙ ap (λ c. switched_off given.mode (mode_of c)) (nothing_counts (node (place + B + S)).happened) ∙ not_off given.mode
 
     pub waits_next : Waits (place + B) count
     waits_next = record {

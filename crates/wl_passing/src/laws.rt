@@ -27,7 +27,8 @@ ghost use Rattle.wl_frames.specs.NextStarts.{AreFreeNext, AreResting, Resting, r
 ghost use Rattle.wl_passing.specs.Passing.{PassesOne, fault_count};
 
 /// Law: what a node has found it keeps. The errors that it has found grow in number or stay, and so does all that isn't fine. The frames that
-/// have passed it are the first of those that have passed it later. If all is fine, it has found no error, and its counters are 0.
+/// have passed it are the first of those that have passed it later. If all is fine, it has found no error, and its counters are 0. From
+/// counters of 0 on they stay so while all is fine, whatever was before.
 pub fn what_is_found_stays()
     ensures errors { (setup : NodeSetup) (levels : ℕ → Level) (node : ℕ → History) (k m : ℕ) → IsRun setup levels node
         → k ≤ m → error_count (node k) ≤ error_count (node m) }
@@ -36,6 +37,9 @@ pub fn what_is_found_stays()
     ensures frames { (setup : NodeSetup) (levels : ℕ → Level) (node : ℕ → History) (k m : ℕ) → IsRun setup levels node
         → k ≤ m → (more : List Passed) × ((node m).frames ≡ (node k).frames ++ more) }
     ensures counters { (h : History) → fault_count h ≡ 0 → (error_count h ≡ 0) × (counters_of h ≡ no_counts) }
+    ensures between { (setup : NodeSetup) (levels : ℕ → Level) (node : ℕ → History) (k q m : ℕ) → IsRun setup levels node
+        → k ≤ q → q ≤ m → fault_count (node m) ≡ fault_count (node k) → counters_of (node k) ≡ no_counts
+        → (error_count (node q) ≡ error_count (node k)) × (counters_of (node q) ≡ no_counts) }
 {}
 
 /// Law: a node that rests finds no error while it waits on a silent line for the next frame, and nothing else happens to it that isn't fine.

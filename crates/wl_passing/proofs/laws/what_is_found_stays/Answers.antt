@@ -1,6 +1,6 @@
 use Rattle.wl_confine.specs.Counts.{is_error}
 use Rattle.wl_passing.specs.Passing.{is_fault}
-use Rattle.wl_passing.proofs.Quanta.{count_stays, fine_counters, frames_stay}
+use Rattle.wl_passing.proofs.Quanta.{count_stays, fine_between, fine_counters, frames_stay}
 use Rattle.wl_passing.proofs.laws.what_is_found_stays.Goals as goal
 
 pub returns-clause-errors : goal.returns-clause-errors
@@ -14,3 +14,6 @@ returns-clause-frames c = λ setup levels node k m run less. frames_stay setup l
 
 pub returns-clause-counters : goal.returns-clause-counters
 returns-clause-counters c = λ h none. fine_counters h none
+
+pub returns-clause-between : goal.returns-clause-between
+returns-clause-between c = λ setup levels node k q m run low high same counts. fine_between setup levels node run k q m low high same counts
