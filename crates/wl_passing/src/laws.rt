@@ -37,8 +37,8 @@ pub fn what_is_found_stays()
     ensures frames { (setup : NodeSetup) (levels : ℕ → Level) (node : ℕ → History) (k m : ℕ) → IsRun setup levels node
         → k ≤ m → (more : List Passed) × ((node m).frames ≡ (node k).frames ++ more) }
     ensures counters { (h : History) → fault_count h ≡ 0 → (error_count h ≡ 0) × (counters_of h ≡ no_counts) }
-    ensures between { (setup : NodeSetup) (levels : ℕ → Level) (node : ℕ → History) (k q m : ℕ) → IsRun setup levels node
-        → k ≤ q → q ≤ m → fault_count (node m) ≡ fault_count (node k) → counters_of (node k) ≡ no_counts
+    ensures between { (setup : NodeSetup) (levels : ℕ → Level) (node : ℕ → History) (k q m : ℕ)
+        → IsRun setup levels node → k ≤ q → q ≤ m → fault_count (node m) ≡ fault_count (node k) → counters_of (node k) ≡ no_counts
         → (error_count (node q) ≡ error_count (node k)) × (counters_of (node q) ≡ no_counts) }
 {}
 
