@@ -53,6 +53,11 @@ class Bus:
     def delay(self, i, j):
         return self.times[i][j]
 
+    def plan_delay(self, i, j):
+        """On the plan's own cable."""
+        a, b = self.plan.places[i], self.plan.places[j]
+        return self.tick * (a.out_delay + b.in_delay + abs(a.x - b.x) * self.plan.per)
+
     def drift(self, i, j):
         return max(0, self.bit[i] * self.high[i] - self.bit[j] * self.low[j])
 
@@ -90,8 +95,9 @@ class Bus:
         return (min(self.edges[i], self.edges[j]) if third else 0) * self.spread(i, j)
 
     def pulled(self, i, j):
-        third = any(a in self.sends for a in self.others(i, j))
-        pull = self.look[j] if j in self.sends and third else 0
+        pull = 0
+        if j in self.sends and any(a in self.sends for a in self.others(i, j)): pull = self.look[j]
+        elif j in self.sends and i in self.sends: pull = max(0, self.high[j] + self.tick - self.plan_delay(i, j) - self.plan_delay(j, i))
         return max(0, pull - max(0, self.jump[i] - self.jump[j]))
 
     def tour(self, i, j):

@@ -67,7 +67,11 @@ class Bus:
         return way + min(self.apart(i, j), down(tour, way))
 
     def pull(self, i, j):
-        return self.look if j in self.senders and any(map(self.sends_but(i, j), self.nodes)) else 0
+        if j not in self.senders:
+            return 0
+        if any(map(self.sends_but(i, j), self.nodes)):
+            return self.look
+        return down(self.long + TICK, self.delay(i, j) + self.delay(j, i)) if i in self.senders else 0
 
     def holds(self):
         return all(

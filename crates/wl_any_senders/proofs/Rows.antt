@@ -116,6 +116,7 @@ bus = record {
   lengths = λ i. l;
   sends = λ i. true;
   delay = λ i k. 9;
+  added = λ i k. 0;
   listens = λ i. false;
 }
 

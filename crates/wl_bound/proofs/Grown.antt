@@ -93,12 +93,16 @@ longer_harder f o long per n m h =
       longer = λ i. omega arith;
       own = λ i. ap (λ w. 1000000 * (long * propagation_of f.cable i i + n * per * w)) (no_way f.cable i)
           ∙ sym (ap (λ w. 1000000 * (long * propagation_of f.cable i i + m * per * w)) (no_way f.cable i) ∙ still (long * propagation_of f.cable i i) (n * per) (m * per));
+      planned = λ i j. planned (long * propagation_of f.cable i j) (n * per) (m * per) (way_between f.cable i j);
       delays = λ i j. mul-le-mul_left 1000000 (apart (long * propagation_of f.cable i j) (mul-le-mul_right (way_between f.cable i j) more));
       detours = λ k j i. millions _ _ _ _ _ _
           (detour long (n * per) (m * per) (propagation_of f.cable k j) (propagation_of f.cable j i) (propagation_of f.cable k i)
           (way_between f.cable k j) (way_between f.cable j i) (way_between f.cable k i) more (triangle f.cable k j i));
     }
   where
+    planned : (d s t w : ℕ) → 1000000 * (d + s * w) - 1000000 * (s * w) ≡ 1000000 * (d + t * w) - 1000000 * (t * w)
+    planned d s t w = omega arith
+
     still : (d s t : ℕ) → 1000000 * (d + t * 0) ≡ 1000000 * (d + s * 0)
     still d s t = omega arith
 
@@ -121,6 +125,7 @@ wider_harder f o n m h = record {
   shorter = λ i. mul-le-mul_left 1 (shortest_le (member_at f i).oscillator n m h);
   longer = λ i. mul-le-mul_left 1 (longest_le (member_at f i).oscillator n m h);
   own = λ i. refl;
+  planned = λ i j. refl;
   delays = λ i j. omega arith;
   detours = λ k j i. omega arith;
 }

@@ -10,10 +10,10 @@ use Rattle.wl_topology.specs.Driven.{any_below}
 use Rattle.wl_bound.specs.declared.condition.Inequality.{Inequality}
 use Rattle.wl_bound.specs.declared.condition.Inequality.TheVariants.{DriftFitsJump, BitIsThereAtSample, NoBitTooEarly}
 use Rattle.wl_bound.specs.Families.{Bus}
-use Rattle.wl_bound.specs.Terms.{ahead, answered, apart, behind, chase, drift, early, edges, greatest, is_answering, is_third, jump, late, look, lost, pull, pulled, sends_but, sends_third, several, spread, strays, sum_of, tour, trip, way}
+use Rattle.wl_bound.specs.Terms.{ahead, answered, apart, behind, chase, drift, early, edges, greatest, is_answering, is_third, jump, late, look, lost, pull, pulled, sends_but, sends_third, several, spread, strays, sum_of, there_and_back, tour, trip, way}
 use Rattle.wl_bound.specs.Conditions.{IsSound, is_asked, left_of, right_of}
 
--- c is no easier than b: the same nodes, segments, senders, listeners and changes of rates, quanta that may be shorter and longer, the same own loops, longer delays and detours
+-- c is no easier than b: the same nodes, segments, senders, listeners and changes of rates, quanta that may be shorter and longer, the same own loops and ways on the plan's cable, longer delays and detours
 pub record IsHarder (b c : Bus) : Type 0 where
   pub nodes : b.nodes ≡ c.nodes
   pub tick : b.tick ≡ c.tick
@@ -24,6 +24,7 @@ pub record IsHarder (b c : Bus) : Type 0 where
   pub shorter : (i : ℕ) → c.shortest i ≤ b.shortest i
   pub longer : (i : ℕ) → b.longest i ≤ c.longest i
   pub own : (i : ℕ) → b.delay i i ≡ c.delay i i
+  pub planned : (i j : ℕ) → b.delay i j - b.added i j ≡ c.delay i j - c.added i j
   pub delays : (i j : ℕ) → b.delay i j ≤ c.delay i j
   pub detours : (k j i : ℕ) → b.delay k j + b.delay j i + c.delay k i ≤ c.delay k j + c.delay j i + b.delay k i
 
@@ -285,8 +286,20 @@ pull_le : (b c : Bus) → IsHarder b c → (i j : ℕ) → pull b i j ≤ pull c
 unfolding pull
 pull_le b c h i j =
     let more = look_le b c h j in
-    pick_le (b.sends j && any_below b.nodes (sends_third b i j)) (c.sends j && any_below c.nodes (sends_third c i j)) _ _
-    (ap₂ (λ u v. u && v) (h.sends j) (third_same b c h i j)) more
+    let there = h.planned j i in
+    let back = h.planned i j in
+    let long = h.longer j in
+    let t = h.tick in
+    let alone =
+    pick_le (b.sends i) (c.sends i) (b.longest j + b.tick - there_and_back b i j) (c.longest j + c.tick - there_and_back c i j) (h.sends i) (omega arith) in
+    pick_le (b.sends j) (c.sends j) _ _ (h.sends j)
+    (choose_le (any_below b.nodes (sends_third b i j)) (any_below c.nodes (sends_third c i j)) _ _ _ _ (third_same b c h i j) more alone)
+  where
+    choose_le : (t u : Bool) (x y v w : ℕ) → t ≡ u → x ≤ y → v ≤ w → cond t x v ≤ cond u y w
+    choose_le true true x y v w e h k = h
+    choose_le false false x y v w e h k = k
+    choose_le true false x y v w e h k = absurd (cc)
+    choose_le false true x y v w e h k = absurd (cc)
 
 -- the jump that node i has beyond that of j may grow, but not the room of both
 drift_fits : (b c : Bus) → IsHarder b c → (i j : ℕ) → left_of c DriftFitsJump i j ≤ right_of c DriftFitsJump i j

@@ -188,6 +188,52 @@ wider_fits : first_failure_of (pulling (lengths 8 8 8 4) (pace 80 0)) plain Any 
 unfolding first_failure_of left_of right_of shortest_in longest_in delay_in sends_in turns_in ahead drift jump look trip way several early lost edges chase spread apart tour behind answered late pull pulled strays lengths_in
 wider_fits = refl
 
+-- ---- Two senders alone: the first lags behind what the second does ahead of its edges (check/margins/ahead_of_lagging_sender.toml)
+
+-- 320 ticks, 4560 ppm slow
+abbrev slow : Pace
+slow = record { fastest = rate 321459200 1000000; slowest = rate 321459200 1000000; tolerance = 0; turns = 0 }
+
+abbrev lagging : Buses
+lagging = record {
+  members = member (lengths 3 2 2 2) (pace 880 0) true ∷ member (lengths 8 8 5 1) slow true ∷ member (lengths 3 2 2 2) (pace 880 0) false ∷ [];
+  cable = record { places = near ∷ near ∷ near ∷ []; per = 1 };
+}
+
+-- a quantum and a tick, less there and back, and ten bits' drift of 321.024: that drift alone is within the jump
+ahead_of_lagging : first_failure_of lagging plain Any
+    ≡ Some (record { inequality = DriftFitsJump; node = 1; other = 0; sides = record { left = 1200024000; right = 321459200 } })
+unfolding first_failure_of left_of right_of shortest_in longest_in delay_in sends_in turns_in ahead drift jump look trip way several early lost edges chase spread apart tour behind answered late pull pulled strays lengths_in
+ahead_of_lagging = refl
+
+-- with one sender nobody lags
+lagging_alone : first_failure_of lagging plain One ≡ None
+unfolding first_failure_of left_of right_of shortest_in longest_in delay_in sends_in turns_in ahead drift jump look trip way several early lost edges chase spread apart tour behind answered late pull pulled strays lengths_in
+lagging_alone = refl
+
+-- two nodes of 2000 ticks a bit, 2 ticks apart
+abbrev two_alone : ℕ → Buses
+two_alone loop = record {
+  members = member (lengths 2 3 2 1) (pace 250 0) true ∷ member (lengths 8 8 8 3) (pace 80 0) true ∷ [];
+  cable = record { places = near ∷ record { x = 1; out_delay = 0; in_delay = loop; listens = false } ∷ []; per = 2 };
+}
+
+-- a quantum of 250 ticks and a tick, less 11 there and back, are just three quanta of 80
+two_alone_fit : first_failure_of (two_alone 6) plain Any ≡ None
+unfolding first_failure_of left_of right_of shortest_in longest_in delay_in sends_in turns_in ahead drift jump look trip way several early lost edges chase spread apart tour behind answered late pull pulled strays lengths_in
+two_alone_fit = refl
+
+two_alone_fit_no_more : first_failure_of (two_alone 5) plain Any
+    ≡ Some (record { inequality = DriftFitsJump; node = 1; other = 0; sides = record { left = 241000000; right = 240000000 } })
+unfolding first_failure_of left_of right_of shortest_in longest_in delay_in sends_in turns_in ahead drift jump look trip way several early lost edges chase spread apart tour behind answered late pull pulled strays lengths_in
+two_alone_fit_no_more = refl
+
+-- a longer cable makes that no less
+two_alone_longer : first_failure_of (two_alone 5) (record plain { longer = 1 }) Any
+    ≡ Some (record { inequality = DriftFitsJump; node = 1; other = 0; sides = record { left = 241000000; right = 240000000 } })
+unfolding first_failure_of left_of right_of shortest_in longest_in delay_in sends_in turns_in ahead drift jump look trip way several early lost edges chase spread apart tour behind answered late pull pulled strays lengths_in
+two_alone_longer = refl
+
 -- ---- An acknowledgement that comes early, and two receivers whose jumps are unlike (check/margins/acknowledged_unlike.toml)
 
 abbrev loops : ℕ → Place

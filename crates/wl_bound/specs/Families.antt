@@ -61,6 +61,7 @@ pub record Bus : Type 0 where
   pub lengths : ℕ → Lengths
   pub sends : ℕ → Bool
   pub delay : ℕ → ℕ → ℕ
+  pub added : ℕ → ℕ → ℕ
   pub listens : ℕ → Bool
 
 -- a node that only listens: what it drives reaches no other node (ISO 11898-1, bus monitoring)
@@ -94,6 +95,10 @@ turns_in f s i = units s * (member_at f i).oscillator.turns
 unfoldable pub delay_in : Buses → Setting → ℕ → ℕ → ℕ
 delay_in f s i j = 1000000 * (s.length * propagation_of f.cable i j + s.longer * way_between f.cable i j)
 
+-- what of that the plan's own cable hasn't
+abbrev pub added_in : Buses → Setting → ℕ → ℕ → ℕ
+added_in f s i j = 1000000 * (s.longer * way_between f.cable i j)
+
 -- The segments with one of them a quantum wider or narrower: the jump width; or PHASE_SEG1 instead of PHASE_SEG2, so that the bit keeps its length.
 abbrev pub changed : Change → Lengths → Result Lengths SegmentsFault
 changed WiderJump l = segments_of l.prop l.ps1 l.ps2 (l.sjw + 1)
@@ -126,5 +131,6 @@ bus_of f s = record {
   lengths = lengths_in f s;
   sends = sends_in f s;
   delay = delay_in f s;
+  added = added_in f s;
   listens = only_listens f.cable;
 }

@@ -76,9 +76,18 @@ edges b i =
     else if nat_le (jump b i) 0 then 74
     else min 74 (div_ceil (early b i - b.shortest i + 14 * lost b i) (jump b i))
 
--- By how much two senders at least can pull the edges of sender j forward, each following the other ahead of its edge, while node i follows both.
+-- there and back between two nodes, on the plan's own cable
+abbrev pub there_and_back : Bus → ℕ → ℕ → ℕ
+there_and_back b i j = (b.delay j i - b.added j i) + (b.delay i j - b.added i j)
+
+-- By how much the edges of sender j can come ahead of those that it follows, while node i follows them: two senders at least pull each other forward
+-- by that. If i and j alone send, it is what a quantum and a tick of j take beyond there and back: j follows the edges of i, and i those of j. It counts
+-- the plan's own cable alone. So no bus becomes sound by a longer one.
 unfoldable pub pull : Bus → ℕ → ℕ → ℕ
-pull b i j = if b.sends j && any_below b.nodes (sends_third b i j) then look b j else 0
+pull b i j =
+    if b.sends j
+    then (if any_below b.nodes (sends_third b i j) then look b j else if b.sends i then b.longest j + b.tick - there_and_back b i j else 0)
+    else 0
 
 -- that of it which the jump of node i doesn't put right beyond that of j
 unfoldable pub pulled : Bus → ℕ → ℕ → ℕ

@@ -1,6 +1,6 @@
 //! Families of buses: what of a plan the condition is about.
-ghost use Rattle.std.specs.Prelude.{◌≡◌, ◌≢◌, ◌^◌, ◌<◌, ◌≤◌, ◌++◌, length, IfOk, OnOk};
-ghost use Rattle.wl_bound.specs.Families.{Buses, IsFamily, bus_of, changed, delay_in, family_of, lengths_in, longest_in, member_at, member_of, members_of, only_listens, sends_in, shortest_in, turns_in, units, way_between};
+ghost use Rattle.std.specs.Prelude.{◌≡◌, ◌≢◌, ◌-◌, ◌^◌, ◌<◌, ◌≤◌, ◌++◌, length, IfOk, OnOk};
+ghost use Rattle.wl_bound.specs.Families.{Buses, IsFamily, added_in, bus_of, changed, delay_in, family_of, lengths_in, longest_in, member_at, member_of, members_of, only_listens, sends_in, shortest_in, turns_in, units, way_between};
 
 use crate::oscillator::Oscillator;
 use std::alloc::{AllocError, Global};
@@ -237,6 +237,17 @@ impl Family {
         let nominal = setting.length as u128 * self.cable.propagation(i, j) as u128;
         let more = setting.longer as u128 * self.way_between(i, j) as u128;
         1_000_000 * (nominal + more)
+    }
+
+    /// Returns how long it takes on the plan's own cable, in units.
+    #[tactic(auto, unfolding(crate::specs::Families::delay_in))]
+    pub(crate) fn plan_delay(&self, setting: Setting, i: u8, j: u8) -> u128
+        requires one { i < length self.now.members }
+        requires other { j < length self.now.members }
+        ensures value { result ≡ delay_in self.now setting i j - added_in self.now setting i j }
+        ensures most { result < 2 ^ 73 }
+    {
+        1_000_000 * (setting.length as u128 * self.cable.propagation(i, j) as u128)
     }
 }
 

@@ -3,7 +3,7 @@ ghost use Rattle.std.specs.Prelude.{◌≡◌, ◌+◌, ◌-◌, ◌*◌, ◌^�
 ghost use Rattle.wl_topology.specs.Driven.{any_below};
 ghost use Rattle.wl_level.specs.Places.{count_places};
 ghost use Rattle.wl_bound.specs.Families.{bus_of};
-ghost use Rattle.wl_bound.specs.Terms.{ahead, answered, apart, behind, chase, drift, early, edges, greatest, is_answering, is_third, jump, late, look, lost, pull, pulled, sends_but, sends_third, several, spread, strays, sum_of, tour, trip, way};
+ghost use Rattle.wl_bound.specs.Terms.{ahead, answered, apart, behind, chase, drift, early, edges, greatest, is_answering, is_third, jump, late, look, lost, pull, pulled, sends_but, sends_third, several, spread, strays, sum_of, there_and_back, tour, trip, way};
 
 use crate::family::{Family, Setting};
 
@@ -231,7 +231,7 @@ impl Family {
         sends
     }
 
-    /// Returns by how much two senders at least can pull the edges of node `j` forward while node `i` follows both.
+    /// Returns by how much the edges of node `j` can come ahead of those that it follows while node `i` follows them.
     #[tactic(auto, unfolding(crate::specs::Terms::pull))]
     fn pull(&self, setting: Setting, i: u8, j: u8) -> u128
         requires one { i < length self.now.members }
@@ -239,12 +239,17 @@ impl Family {
         ensures value { result ≡ pull (bus_of self.now setting) i j }
         ensures most { result < 2 ^ 87 }
     {
-        let third = self.third_sends(setting, i, j);
-        if self.sends(setting, j) && third {
-            self.look(setting, j)
-        } else {
-            0
+        if !self.sends(setting, j) {
+            return 0;
         }
+        if self.third_sends(setting, i, j) {
+            return self.look(setting, j);
+        }
+        if !self.sends(setting, i) {
+            return 0;
+        }
+        let back = self.plan_delay(setting, j, i) + self.plan_delay(setting, i, j);
+        (self.longest(setting, j) + self.tick(setting)).saturating_sub(back)
     }
 
     /// Returns what of it the jump of node `i` doesn't put right beyond that of node `j`.
