@@ -1,0 +1,8 @@
+use Rattle.std.proofs.Common.{◌≡◌, ◌^◌, ◌<◌}
+use Rattle.wl_bound.specs.Terms.{greatest, sends_but}
+use Rattle.wl_room.specs.Rooms.{edges_to, plain_bus}
+use Rattle.wl_room.proofs.room.least_chase.Given as goal
+
+-- the most of the senders so far
+abbrev pub invariant-loop-w : goal.invariant-loop-w
+invariant-loop-w l = (l.most ≡ greatest l.w (sends_but (plain_bus l.family) l.k) (edges_to (plain_bus l.family) l.k)) × (l.most < 2 ^ 51)
