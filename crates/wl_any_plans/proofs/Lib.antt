@@ -1,0 +1,3 @@
+mod Roomy
+mod Standing
+mod Waiting
