@@ -5,16 +5,16 @@ use Rattle.wl_topology.specs.Delays.{Cable, place_at, propagation_of}
 use Rattle.wl_bound.specs.Conditions.{plain}
 use Rattle.wl_bound.specs.Families.{Bus, Buses, delay_in}
 use Rattle.wl_bound.specs.Terms.{drift, jump, look}
-use Rattle.wl_room.specs.Rooms.{distance, gain, gathers, least_chase, plain_bus}
-use Rattle.wl_room.specs.RoomLaws.{HasRoom}
+use Rattle.wl_room.specs.Rooms.{distance, gain, gathering, least_chase, plain_bus}
+use Rattle.wl_room.specs.RoomLaws.{HasAllRoom}
 use Rattle.wl_any_senders.specs.Answers.{HasRoomToAnswer, gathered}
 use Rattle.wl_any_senders.specs.Bounds.{IsBusOf, IsLeftForTwo}
 use Rattle.wl_any_senders.specs.Stations.{Stations}
 use Rattle.wl_frame_end.specs.Again.{LeavesRoomToRest}
 
-module _ (b : Bus) (has : HasRoom b) where
-  gathered_is : (i k : ℕ) → gathered b (least_chase b) i k ≡ gathers b i k
-  unfolding gathers
+module _ (b : Bus) (has : HasAllRoom b) where
+  gathered_is : (i k : ℕ) → gathered b (least_chase b) i k ≡ gathering b i k
+  unfolding gathering
   gathered_is i k = refl
 
   catches : (k w : ℕ) → k < b.nodes → w < b.nodes → k ≢ w → b.sends w ≡ true
@@ -49,7 +49,7 @@ own_loop f i k =
     let none : (n : ℕ) → 1000000 * (1 * n + 0) ≡ 1000000 * n = λ n. omega arith in
     omega arith
 
-pub two : (f : Buses) (s : Stations) → HasRoom (plain_bus f) → IsBusOf (plain_bus f) s → IsLeftForTwo (plain_bus f) s
+pub two : (f : Buses) (s : Stations) → HasAllRoom (plain_bus f) → IsBusOf (plain_bus f) s → IsLeftForTwo (plain_bus f) s
 unfolding look
 two f s has is i k ni nk apart one other alone =
     let n = is.nodes in

@@ -12,8 +12,8 @@ use Rattle.wl_any_senders.specs.Stations.{Stations}
 use Rattle.wl_any_senders.specs.Bounds.{bus_way}
 
 -- its nodes, each of which may send if it does so in the family; and the same stations with the ways that follow from their delays
-abbrev pub standing_of : Buses → Plan → (clocks : ℕ → Steady) → Stations
-standing_of f plan clocks = record {
+abbrev pub wayless_stations : Buses → Plan → (clocks : ℕ → Steady) → Stations
+wayless_stations f plan clocks = record {
   count = length plan.nodes;
   clocks = clocks;
   lengths = lengths_in f plain;
@@ -23,7 +23,7 @@ standing_of f plan clocks = record {
 }
 
 abbrev pub stations_of : Buses → Plan → (clocks : ℕ → Steady) → Stations
-stations_of f plan clocks = record (standing_of f plan clocks) { way = bus_way (standing_of f plan clocks) }
+stations_of f plan clocks = record (wayless_stations f plan clocks) { way = bus_way (wayless_stations f plan clocks) }
 
 -- no node only listens (ISO 11898-1, bus monitoring)
 abbrev pub NoneListens : Plan → Type 0

@@ -7,8 +7,8 @@ use Rattle.wl_topology.specs.Driven.{any_below}
 use Rattle.wl_topology.proofs.Callers.{any_from}
 use Rattle.wl_bound.specs.Families.{Bus, Buses}
 use Rattle.wl_bound.specs.Terms.{drift, jump}
-use Rattle.wl_room.specs.Rooms.{IsShort, catches, comes_early, distance, falls_behind, gain, has_room, have_room, is_crowded, is_long, lacks_room, least_chase, plain_bus}
-use Rattle.wl_room.specs.RoomLaws.{HasRoom}
+use Rattle.wl_room.specs.Rooms.{IsShort, catches, comes_early, distance, falls_behind, gain, has_room, have_room, is_crowded, has_long_quantum, lacks_room, least_chase, plain_bus}
+use Rattle.wl_room.specs.RoomLaws.{HasAllRoom}
 
 none_below : (n : ℕ) (p : ℕ → Bool) → any_below n p ≡ false → (i : ℕ) → i < n → p i ≡ false
 none_below n p none i less =
@@ -26,9 +26,9 @@ all_four p q r s e =
     let third = and_parts r s second.1 in
     (first.0, second.0, third.0, third.1)
 
-pub all_short : (f : Buses) → any_below (length f.members) (is_long (plain_bus f)) ≡ false → IsShort f
+pub all_short : (f : Buses) → any_below (length f.members) (has_long_quantum (plain_bus f)) ≡ false → IsShort f
 all_short f none i less =
-    let both = or_parts _ _ (none_below (length f.members) (is_long (plain_bus f)) none i less) in
+    let both = or_parts _ _ (none_below (length f.members) (has_long_quantum (plain_bus f)) none i less) in
     (leb-false _ _ both.0, leb-false _ _ both.1)
 
 module _ (b : Bus) (has : has_room b ≡ true) where
@@ -66,7 +66,7 @@ module _ (b : Bus) (has : has_room b ≡ true) where
       (nat_le (comes_early b i k + 12 * drift b i k + b.tick) ((b.lengths i).ps2 * b.shortest i)) have in
       (leb-true _ _ four.0, leb-true _ _ four.1, leb-true _ _ four.2, leb-true _ _ four.3)
 
-  pub is_room : HasRoom b
+  pub is_room : HasAllRoom b
   is_room = record {
     catches = catches_up;
     loop_is_there = λ i ni. leb-true _ _ (not-false _ (node i ni).0);

@@ -32,13 +32,13 @@ abbrev pub catches : Bus → (k w : ℕ) → Bool
 catches b k w = nat_le (distance b k w) (suc (least_chase b k) * gain b k w)
 
 -- How much later a bit of node i gets for node k meanwhile, if the winner may be a third node: with each edge ten bits' drift, and what the jump of i is longer.
-unfoldable pub gathers : Bus → (i k : ℕ) → ℕ
-gathers b i k =
+unfoldable pub gathering : Bus → (i k : ℕ) → ℕ
+gathering b i k =
     if any_below b.nodes (sends_third b i k) then least_chase b k * (10 * drift b i k + ((b.lengths i).sjw * b.longest i - jump b k)) else 0
 
 -- how early a bit of node k can be at node i, without drift
 abbrev pub comes_early : Bus → (i k : ℕ) → ℕ
-comes_early b i k = look b k + gathers b i k
+comes_early b i k = look b k + gathering b i k
 
 -- Nodes i and k have room, as if both sent: ten bits' drift and what comes early fit a jump, a bit is there at the sample, and the next one isn't yet after twelve bits without an edge. So many
 -- are from the ACK slot to the next frame (Bosch CAN 2.0 part B, section 3.1: end of frame and intermission).
@@ -65,15 +65,15 @@ lacks_room b i =
 abbrev pub most_quantum : ℕ
 most_quantum = 281474976710656
 
-abbrev pub is_long : Bus → ℕ → Bool
-is_long b i = nat_le most_quantum (b.shortest i) || nat_le most_quantum (b.longest i)
+abbrev pub has_long_quantum : Bus → ℕ → Bool
+has_long_quantum b i = nat_le most_quantum (b.shortest i) || nat_le most_quantum (b.longest i)
 
 abbrev pub IsShort : Buses → Type 0
 IsShort f = (i : ℕ) → i < length f.members → (shortest_in f plain i < most_quantum) × (longest_in f plain i < most_quantum)
 
 -- no node lacks room
 abbrev pub has_room : Bus → Bool
-has_room b = not (any_below b.nodes (is_long b)) && not (any_below b.nodes (lacks_room b))
+has_room b = not (any_below b.nodes (has_long_quantum b)) && not (any_below b.nodes (lacks_room b))
 
 abbrev pub leaves_room : Buses → Bool
 leaves_room f = has_room (plain_bus f)

@@ -2,7 +2,7 @@
 ghost use Rattle.std.specs.Prelude.{◌≡◌, ◌^◌, ◌<◌, ◌≤◌, length};
 ghost use Rattle.wl_topology.specs.Driven.{any_below};
 ghost use Rattle.wl_bound.specs.Families.{IsFamily};
-ghost use Rattle.wl_room.specs.Rooms.{IsShort, catches, comes_early, distance, edges_to, falls_behind, gain, gathers, have_room, is_crowded, lacks_room, least_chase, leaves_room, plain_bus};
+ghost use Rattle.wl_room.specs.Rooms.{IsShort, catches, comes_early, distance, edges_to, falls_behind, gain, gathering, have_room, is_crowded, lacks_room, least_chase, leaves_room, plain_bus};
 
 use crate::times::{
     TICK, any_long, delay, drift, jump, longest, look, segments, sends, shortest, third_sends,
@@ -77,7 +77,7 @@ fn least_chase(family: &Family, cable: &Topology, k: u8) -> u128
     most
 }
 
-/// True if node `k` catches up with node `w` in so many edges.
+/// True if node `k` catches up with node `w` in its least number of edges.
 fn catches(family: &Family, cable: &Topology, k: u8, w: u8) -> bool
     requires short { IsShort family.now }
     requires family { IsFamily family.now }
@@ -91,14 +91,14 @@ fn catches(family: &Family, cable: &Topology, k: u8, w: u8) -> bool
 }
 
 /// Returns how much later a bit of node `i` gets for node `k` meanwhile.
-#[tactic(auto, unfolding(crate::specs::Rooms::gathers))]
-fn gathers(family: &Family, cable: &Topology, i: u8, k: u8) -> u128
+#[tactic(auto, unfolding(crate::specs::Rooms::gathering))]
+fn gathering(family: &Family, cable: &Topology, i: u8, k: u8) -> u128
     requires short { IsShort family.now }
     requires family { IsFamily family.now }
     requires cable { family.now.cable ≡ cable.now }
     requires one { i < length family.now.members }
     requires other { k < length family.now.members }
-    ensures value { result ≡ gathers (plain_bus family.now) i k }
+    ensures value { result ≡ gathering (plain_bus family.now) i k }
     ensures most { result < 2 ^ 110 }
 {
     if !third_sends(family, i, k) {
@@ -119,7 +119,7 @@ fn comes_early(family: &Family, cable: &Topology, i: u8, k: u8) -> u128
     ensures value { result ≡ comes_early (plain_bus family.now) i k }
     ensures most { result < 2 ^ 111 }
 {
-    look(family, cable, k) + gathers(family, cable, i, k)
+    look(family, cable, k) + gathering(family, cable, i, k)
 }
 
 /// True if nodes `i` and `k` have room, as if both sent.
@@ -203,8 +203,8 @@ fn any_lacks_room(family: &Family, cable: &Topology) -> bool
 
 /// True if the bus of a family has room for acknowledgements of any senders, and to rest after each frame. `cable` is that of the family.
 ///
-/// Any two nodes have room as if both sent: ten bits' drift, a look and what gathers while they catch up with a winner fit a jump, a bit is
-/// there at each sample, and the next one isn't yet after twelve bits without an edge.
+/// Any two nodes have room as if both sent. Ten bits' drift, a look and what gathers while they catch up with a winner fit a jump. A bit is
+/// there at each sample, and after twelve bits without an edge the next one isn't there yet.
 pub fn leaves_room(family: &Family, cable: &Topology) -> bool
     requires family { IsFamily family.now }
     requires cable { family.now.cable ≡ cable.now }

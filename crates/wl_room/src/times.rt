@@ -5,7 +5,7 @@ ghost use Rattle.wl_topology.specs.Driven.{any_below};
 ghost use Rattle.wl_bound.specs.Conditions.{plain};
 ghost use Rattle.wl_bound.specs.Families.{IsFamily, delay_in, lengths_in, longest_in, sends_in, shortest_in};
 ghost use Rattle.wl_bound.specs.Terms.{drift, jump, look, sends_third};
-ghost use Rattle.wl_room.specs.Rooms.{IsShort, is_long, plain_bus};
+ghost use Rattle.wl_room.specs.Rooms.{IsShort, has_long_quantum, plain_bus};
 
 use wl_bound::Family;
 use wl_segments::Segments;
@@ -14,14 +14,14 @@ use wl_topology::Topology;
 /// A tick, in millionths of one.
 pub(crate) const TICK: u128 = 1_000_000;
 
-/// No quantum takes so many millionths of a tick.
+/// No quantum takes this many millionths of a tick.
 const MOST_QUANTUM: u128 = 281_474_976_710_656;
 
 /// True if a quantum of node `i` may take 2^48 millionths of a tick or more, which none of an oscillator does.
 #[tactic(auto, unfolding(wl_bound::specs::Families::shortest_in, wl_bound::specs::Families::longest_in))]
-fn is_long(family: &Family, i: u8) -> bool
+fn has_long_quantum(family: &Family, i: u8) -> bool
     requires { i < length family.now.members }
-    ensures { result ≡ is_long (plain_bus family.now) i }
+    ensures { result ≡ has_long_quantum (plain_bus family.now) i }
 {
     let oscillator = family.member(i).oscillator;
     MOST_QUANTUM <= oscillator.shortest() || MOST_QUANTUM <= oscillator.longest()
@@ -29,11 +29,11 @@ fn is_long(family: &Family, i: u8) -> bool
 
 /// True if some quantum may.
 pub(crate) fn any_long(family: &Family) -> bool
-    ensures { result ≡ any_below (length family.now.members) (is_long (plain_bus family.now)) }
+    ensures { result ≡ any_below (length family.now.members) (has_long_quantum (plain_bus family.now)) }
 {
     let mut long = false;
     for i in 0..family.nodes() {
-        long = long || is_long(family, i);
+        long = long || has_long_quantum(family, i);
     }
     long
 }
