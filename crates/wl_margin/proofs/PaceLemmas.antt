@@ -1,8 +1,10 @@
 -- The oscillators of the first nodes, and those of all.
-use Rattle.std.proofs.Common.{◌≡◌, ◌∙◌, ℕ, ◌+◌, ◌<◌, ◌≤◌, List, [], ◌∷◌, ◌++◌, length, get_or, drop, Option, Some, None, option_map, option_and_then, refl, sym, ap, append_assoc, add-one, suc}
+use Rattle.std.proofs.Common.{◌≡◌, ◌∙◌, ℕ, ◌+◌, ◌<◌, ◌≤◌, List, [], ◌∷◌, ◌++◌, length, get_or, drop, Option, Some, None, option_map, option_and_then, refl, sym, ap, append_assoc, add-one, arith, suc}
 use Rattle.std.proofs.Math.Seq.{drop-cons}
 use Rattle.std.proofs.lemmas.List.{append-nil, drop_all}
+use Rattle.wl_node.specs.declared.setup.NodeSetup.{NodeSetup}
 use Rattle.wl_setup.specs.declared.bus.Deviation.{Deviation}
+use Rattle.wl_bound.specs.Families.{members_of}
 use Rattle.wl_bound.specs.Oscillators.{Pace, oscillator_of}
 use Rattle.wl_margin.specs.Margins.{paces_of}
 
@@ -49,3 +51,9 @@ paces-length (d ∷ ds) ps is = counted (oscillator_of d.rates d.tolerance) (pac
   counted None q made same = cc
   counted (Some p) None made same = cc
   counted (Some p) (Some rest) made same = let are : ps ≡ p ∷ rest = cc in rw (are, same rest refl) refl
+
+-- as many members of a family
+pub members-length : (nodes : List NodeSetup) (ps : List Pace) → length ps ≡ length nodes → length (members_of nodes ps) ≡ length nodes
+members-length [] ps e = refl
+members-length (node ∷ nodes) [] e = absurd (omega arith)
+members-length (node ∷ nodes) (p ∷ ps) e = (let rest = members-length nodes ps (omega arith) in rw rest refl)

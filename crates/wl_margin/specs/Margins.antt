@@ -24,9 +24,11 @@ use Rattle.wl_bound.specs.declared.verdict.Outside.{Outside}
 use Rattle.wl_bound.specs.declared.verdict.Outside.TheVariants.{FewNodes, NoFrames, ListenerSends, NobodyAcknowledges, NotByTheBook, SameIdentifier, NobodyIdle}
 use Rattle.wl_bound.specs.declared.verdict.Verdict.{Verdict}
 use Rattle.wl_bound.specs.declared.verdict.Verdict.TheVariants.{ForAny, ForOne, DoesNotHold, NoBound}
+use Rattle.wl_room.specs.Rooms.{leaves_room}
 use Rattle.wl_margin.specs.Pieces.{joined, each_below}
 use Rattle.wl_margin.specs.declared.found.Found.{Found}
 use Rattle.wl_margin.specs.declared.found.Reach.{Reach}
+use Rattle.wl_margin.specs.declared.margin.Proved.{Proved}
 use Rattle.wl_margin.specs.Sentences.{measure_of, spare_words, failure_words}
 
 -- the oscillators of the nodes, if each has rates that make a clock
@@ -81,10 +83,12 @@ spare_of tick f senders inequality i j =
     else codes "none"
 
 -- What is said where the condition holds. That it suffices is proved for one sender at a time, on the plans that the law covers (`one_sender_is_clean` of
--- wl_one_sender); for several senders it is shown by search.
-abbrev pub any_lead : Bool → List ℕ
-any_lead true = codes "holds for any senders, shown by search; for one sender at a time, proved: one_sender_is_clean\n"
-any_lead false = codes "holds for any senders, shown by search, not proved\n"
+-- wl_one_sender). So it is for any senders, if the bus leaves room (`any_senders_are_clean` of wl_clean); else it is shown by search for these.
+abbrev pub any_lead : Proved → List ℕ
+any_lead proved =
+    if proved.any then codes "holds for any senders, proved: any_senders_are_clean\n"
+    else if proved.one then codes "holds for any senders, shown by search; for one sender at a time, proved: one_sender_is_clean\n"
+    else codes "holds for any senders, shown by search, not proved\n"
 
 abbrev pub one_lead : Bool → List ℕ
 one_lead true = codes "holds for one sender at a time, proved: one_sender_is_clean\n"
@@ -95,9 +99,17 @@ abbrev pub are_steady : List Deviation → Bool
 are_steady [] = true
 are_steady (d ∷ later) = length d.rates == 1 && are_steady later
 
--- the law covers the plan, and the condition holds for one sender at a time
-abbrev pub is_proved : Bool → Plan → Buses → Bool
-is_proved steady plan f = steady && (is_covered plan && not (is_some (first_failure_of f plain One)))
+-- the laws cover the plan, and the condition holds for one sender at a time
+abbrev pub is_proved_for_one : Bool → Plan → Buses → Bool
+is_proved_for_one steady plan f = steady && (is_covered plan && not (is_some (first_failure_of f plain One)))
+
+-- the laws cover the plan, and its bus has room for acknowledgements of any senders and to rest after each frame
+abbrev pub is_proved_for_any : Bool → Plan → Buses → Bool
+is_proved_for_any steady plan f = steady && (is_covered plan && leaves_room f)
+
+-- for whom it is proved, if the condition holds for them
+abbrev pub proved_of : Bool → Plan → Buses → Proved
+proved_of steady plan f = record { any = is_proved_for_any steady plan f; one = is_proved_for_one steady plan f }
 
 module _ (tick : ℕ) (f : Buses) (names : List (List ℕ)) where
   abbrev pub pair_line : Senders → ℕ → ℕ → List ℕ
@@ -125,9 +137,9 @@ module _ (tick : ℕ) (f : Buses) (names : List (List ℕ)) where
   any_failure (Some failure) = failure_line (codes "any senders: ") failure
 
   -- the first lines, and what is to spare
-  abbrev pub verdict_words : Bool → Verdict → List ℕ
+  abbrev pub verdict_words : Proved → Verdict → List ℕ
   verdict_words proved ForAny = any_lead proved ++ all_pairs Any
-  verdict_words proved ForOne = one_lead proved ++ any_failure (first_failure_of f plain Any) ++ all_pairs One
+  verdict_words proved ForOne = one_lead proved.one ++ any_failure (first_failure_of f plain Any) ++ all_pairs One
   verdict_words proved (DoesNotHold failure) = failure_line (codes "does not hold: ") failure ++ all_pairs One
   verdict_words proved (NoBound cause) = outside_words names cause
 
@@ -187,7 +199,7 @@ IsTextAfter verdict said f text = (found : Found) × IsFound f found × (text �
 
 abbrev pub IsFamilyText : ℕ → Bool → Plan → List (List ℕ) → Buses → List ℕ → Type 0
 IsFamilyText tick steady plan names f text =
-    IsTextAfter (verdict_of plan f) (verdict_words tick f names (is_proved steady plan f) (verdict_of plan f)) f text
+    IsTextAfter (verdict_of plan f) (verdict_words tick f names (proved_of steady plan f) (verdict_of plan f)) f text
 
 abbrev pub no_clock_words : List ℕ
 no_clock_words = codes "no bound is known: without its ppm a quantum takes less than a tick or more than 1,048,576\n"

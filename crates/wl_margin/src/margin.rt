@@ -6,7 +6,7 @@ ghost use Rattle.wl_bound.specs.Oscillators.{shortest_of};
 ghost use Rattle.wl_bound.specs.declared.condition.Senders.TheVariants.{Any};
 ghost use Rattle.wl_margin.specs.Sentences.{failure_words, measure_of, rest_words};
 ghost use Rattle.wl_margin.specs.Pieces.{each_below};
-ghost use Rattle.wl_margin.specs.Margins.{IsFamilyText, IsMarginText, all_pairs, any_failure, any_lead, are_steady, failure_line, is_proved, lone_words, mute_words, one_lead, outside_lead, outside_reason, outside_words, paces_of, pair_line, pair_words, pairs_of, shared_words, spare_of, unheard_words, verdict_words};
+ghost use Rattle.wl_margin.specs.Margins.{IsFamilyText, IsMarginText, all_pairs, any_failure, any_lead, are_steady, failure_line, is_proved_for_any, is_proved_for_one, lone_words, mute_words, one_lead, outside_lead, outside_reason, outside_words, paces_of, pair_line, pair_words, pairs_of, proved_of, shared_words, spare_of, unheard_words, verdict_words};
 
 use crate::found::{push_found, search};
 use crate::sentences::{Rest, Spare, push_failure};
@@ -17,6 +17,7 @@ use wl_bound::{
 };
 use wl_level::Listed;
 use wl_plan::CheckedPlan;
+use wl_room::leaves_room;
 use wl_setup::{Bus, Deviation, Names};
 
 /// Returns the oscillators of the nodes, if each has rates that make a clock.
@@ -296,11 +297,22 @@ fn push_any_failure(
     }
 }
 
+/// For whom it is proved that the condition suffices, if it holds for them.
+#[derive(Clone, Copy, Debug)]
+pub(crate) struct Proved {
+    /// For any senders.
+    any: bool,
+    /// For one sender at a time.
+    one: bool,
+}
+
 /// Returns what is said of a bus that holds for any senders.
-fn any_lead(proved: bool) -> &'static str
+fn any_lead(proved: Proved) -> &'static str
     ensures { result.now ≡ any_lead proved }
 {
-    if proved {
+    if proved.any {
+        "holds for any senders, proved: any_senders_are_clean\n"
+    } else if proved.one {
         "holds for any senders, shown by search; for one sender at a time, proved: one_sender_is_clean\n"
     } else {
         "holds for any senders, shown by search, not proved\n"
@@ -328,11 +340,32 @@ fn are_steady(deviations: &[Deviation]) -> bool
     }
 }
 
-/// True if the law on one sender covers a plan of clocks of one rate each, and the condition holds for one sender at a time.
-fn is_proved(plan: &CheckedPlan, family: &Family, steady: bool) -> bool
-    ensures { result ≡ is_proved steady plan.now family.now }
+/// True if the laws cover a plan of clocks of one rate each, and the condition holds for one sender at a time.
+fn is_proved_for_one(plan: &CheckedPlan, family: &Family, steady: bool) -> bool
+    ensures { result ≡ is_proved_for_one steady plan.now family.now }
 {
     steady && is_covered(plan) && !family.first_failure(Senders::One).is_some()
+}
+
+/// True if the laws cover a plan of clocks of one rate each, and its bus has room for acknowledgements of any senders and to rest.
+fn is_proved_for_any(plan: &CheckedPlan, family: &Family, steady: bool) -> bool
+    requires cable { family.now.cable ≡ plan.now.topology }
+    requires members { length family.now.members ≡ length plan.now.nodes }
+    ensures { result ≡ is_proved_for_any steady plan.now family.now }
+{
+    steady && is_covered(plan) && leaves_room(family, &plan.topology)
+}
+
+/// Returns for whom it is proved that the condition suffices, if it holds for them.
+fn proved_of(plan: &CheckedPlan, family: &Family, steady: bool) -> Proved
+    requires cable { family.now.cable ≡ plan.now.topology }
+    requires members { length family.now.members ≡ length plan.now.nodes }
+    ensures { result ≡ proved_of steady plan.now family.now }
+{
+    Proved {
+        any: is_proved_for_any(plan, family, steady),
+        one: is_proved_for_one(plan, family, steady),
+    }
 }
 
 /// Adds what a verdict says, and what is to spare.
@@ -341,7 +374,7 @@ fn push_verdict(
     family: &Family,
     names: &Names,
     tick: u64,
-    proved: bool,
+    proved: Proved,
     verdict: Verdict,
 ) -> Result<(), AllocError>
     requires { tick < 2 ^ 36 }
@@ -354,7 +387,7 @@ fn push_verdict(
             push_pairs(text, family, names, tick, Senders::Any)
         }
         Verdict::ForOne => {
-            text.push_str(one_lead(proved))?;
+            text.push_str(one_lead(proved.one))?;
             push_any_failure(text, family, names, tick)?;
             push_pairs(text, family, names, tick, Senders::One)
         }
@@ -376,11 +409,13 @@ fn family_text(
     plan: &CheckedPlan,
 ) -> Result<String, AllocError>
     requires tick { tick < 2 ^ 36 }
+    requires cable { family.now.cable ≡ plan.now.topology }
+    requires members { length family.now.members ≡ length plan.now.nodes }
     ensures { IfOk result (λ text. IsFamilyText tick steady plan.now names.now family.now (string_bytes text)) }
 {
     let mut text = String::new(alloc);
     let verdict = judge(plan, family);
-    let proved = is_proved(plan, family, steady);
+    let proved = proved_of(plan, family, steady);
     push_verdict(&mut text, family, names, tick, proved, verdict)?;
     if let Verdict::NoBound(_) = verdict {
         return Ok(text);
@@ -392,9 +427,9 @@ fn family_text(
 /// Returns the margin of a bus as text, for ticks of `tick` picoseconds, below 2^36.
 ///
 /// The first line says whether the condition for a sound bus holds: for any senders, for one sender at a time, or not. It says 'proved' where
-/// the law on one sender covers the plan (`one_sender_is_clean` of wl_one_sender). If it fails the line
-/// says which inequality fails, for which nodes and by how much. It may also say that no condition is known for the plan. Then follows what
-/// is to spare for each node and each other. Last come how much longer the cable and wider the tolerances may be, and which change by a
+/// a law covers the plan: that on one sender (`one_sender_is_clean` of wl_one_sender), or, if the bus leaves room, that on any senders
+/// (`any_senders_are_clean` of wl_clean). If it fails the line says which inequality fails, for which nodes and by how much. It may also say
+/// that no condition is known for the plan. Then follows what is to spare for each node and each other. Last come how much longer the cable and wider the tolerances may be, and which change by a
 /// quantum helps most. Refused out of memory alone.
 pub fn margin_text(alloc: Global, tick: u64, bus: &Bus) -> Result<String, AllocError>
     requires tick { tick < 2 ^ 36 }
