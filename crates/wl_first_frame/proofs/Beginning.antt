@@ -50,7 +50,7 @@ first_some [] e = cc
 first_some (c ∷ cs) e = (c, refl)
 
 -- it is idle after eleven samples without a frame
-idle_by : MayTogether → (n : ℕ) → 10 < n → (stretch_of (replicate n no_frame_sample)).sort ≡ Idle
+pub idle_by : MayTogether → (n : ℕ) → 10 < n → (stretch_of (replicate n no_frame_sample)).sort ≡ Idle
 idle_by together n many =
     let e : n ≡ 11 + (n - 11) = omega arith in
     let m = together 1 (λ k. []) (λ k. replicate n no_frame_sample) (λ k less. (n - 11, inl (ap (λ j. replicate j no_frame_sample) e))) in

@@ -75,17 +75,33 @@ given r i first unsent hands = elim (cases_eq (r.decides i) 0) [
     at_zero : (n : ℕ) → n ≡ 0 → head_after r i first unsent n ≡ first
     at_zero n e = ap (head_after r i first unsent) e
 
+-- How a node goes from one frame to the next: it rests with the third bit of the intermission, handed a frame or none, goes on to rest on a silent line, and then goes through the next frame.
+pub record GoesOn (s : Stations) (fs : ℕ → Frame) (count : ℕ) (frames : FollowOneAnother s fs count) (i first_since : ℕ) (setup : NodeSetup) (levels : ℕ → Level) (node : ℕ → History) (n : ℕ)
+    (less : suc n < count) : Type 0 where
+  pub handed : Handed
+  pub active : handed.mode ≡ Active
+  pub since : ℕ
+  pub early : since ≤ third_sample s (fs n) i
+  pub rests : RestsAgain s (past_at s (fs n).outset ((fs n).bits + 12) i ++ Sample (sampled Recessive ((fs n).outset.frames i) handed) ∷ []) i levels node
+      ((resting_of s (fs n) (fs (suc n)) (frames.next n less)).place i) since
+  pub silent : (q : ℕ) → third_sample s (fs n) i < q → q < (start_next (resting_of s (fs n) (fs (suc n)) (frames.next n less))).from i → levels q ≡ Recessive
+  pub hands : HandsNext (resting_of s (fs n) (fs (suc n)) (frames.next n less)) i (slice_get ((fs n).outset.frames i) handed.which) (unsent_of setup (node (suc (third_sample s (fs n) i))))
+  pub begins : BeginsAfter s (fs (suc n)).outset i (rest_next (resting_of s (fs n) (fs (suc n)) (frames.next n less)) i)
+  pub again : RestsAgain s ((fs (suc n)).outset.past i) i levels node (rest_next (resting_of s (fs n) (fs (suc n)) (frames.next n less)) i) (third_sample s (fs n) i)
+  pub same : (node (suc (rest_next (resting_of s (fs n) (fs (suc n)) (frames.next n less)) i + sample_at (s.lengths i)))).frames ≡ (node (suc (third_sample s (fs n) i))).frames
+  pub goes : GoesThroughOne s fs count frames i first_since setup levels node (suc n) less
+
 module _ (m : MachineLaws) (nothing : NothingFound) (is_heard : IsHeard) (rest_after : RestAfter) (rests : RestsLaw) (free : FreeLaw) (wait : WaitLaw) (through : ThroughLaw)
     (s : Stations) (are : AreStations s) (room : HaveRoom s) (fs : ℕ → Frame) (count : ℕ) (frames : FollowOneAnother s fs count)
     (i : ℕ) (inside : i < s.count) (setup : NodeSetup) (segments : setup.segments ≡ s.lengths i) (levels : ℕ → Level) (node : ℕ → History) (run : IsRun setup levels node)
     (finds : (n q : ℕ) → n < count → q ≤ third_sample s (fs n) i → levels q ≡ level_of (driven s.count s.delay (frames_drove s fs count) i (steady_tick (s.clocks i) q)))
     (first_rest first_since : ℕ) (begins : BeginsAfter s (fs 0).outset i first_rest) (first : RestsAgain s ((fs 0).outset.past i) i levels node first_rest first_since)
-    (early : first_since ≤ first_rest + sample_at (s.lengths i)) (hands : HandsBetween s fs count frames i setup node) where
+    (early : first_since ≤ first_rest + sample_at (s.lengths i)) where
   abbrev T : ℕ → ℕ
   T n = third_sample s (fs n) i
 
   -- in the time of a frame it finds that
-  finds_alone : (n q : ℕ) → n < count → ((j : ℕ) → suc j ≡ n → T j < q) → q ≤ T n
+  pub finds_alone : (n q : ℕ) → n < count → ((j : ℕ) → suc j ≡ n → T j < q) → q ≤ T n
       → levels q ≡ level_of (driven s.count s.delay (frame_drove s (fs n)) i (steady_tick (s.clocks i) q))
   finds_alone n q less after by = finds n q less by ∙ ap level_of (windows.alone m nothing is_heard rest_after s are room fs count frames n i q less inside after by)
 
@@ -102,8 +118,9 @@ module _ (m : MachineLaws) (nothing : NothingFound) (is_heard : IsHeard) (rest_a
       through s (fs n).outset (fs n).bits f.chase are room f.outset f.some f.ends f.won f.answer i rest (quiet n) setup levels node inside segments run after at by
       (λ q more up. finds_alone n q less (λ j e. (let low = last j e in omega arith)) up)
 
-  -- from one frame to the next
-  module _ (n : ℕ) (less : suc n < count) (x : Goes n (omega arith)) where
+  -- from one frame to the next, if the node is handed what that asks
+  module _ (n : ℕ) (less : suc n < count) (x : Goes n (omega arith))
+      (hands : HandsNext (resting_of s (fs n) (fs (suc n)) (frames.next n less)) i (waiting_frame setup (node (T n))) (unsent_of setup (node (suc (T n))))) where
     abbrev f : IsBegun s (fs n)
     f = frames.each n (omega arith)
 
@@ -117,7 +134,7 @@ module _ (m : MachineLaws) (nothing : NothingFound) (is_heard : IsHeard) (rest_a
     before = past_at s (fs n).outset ((fs n).bits + 12)
 
     abbrev which : (w : ℕ) × (slice_get (r.frames i) w ≡ waiting_frame setup (node (T n)))
-    which = given r i (waiting_frame setup (node (T n))) (unsent_of setup (node (suc (T n)))) (hands n less)
+    which = given r i (waiting_frame setup (node (T n))) (unsent_of setup (node (suc (T n)))) hands
 
     abbrev handed : Handed
     handed = record { which = which.0; mode = Active }
@@ -136,25 +153,44 @@ module _ (m : MachineLaws) (nothing : NothingFound) (is_heard : IsHeard) (rest_a
         finds_alone (suc n) q less (λ j e. (let same : j ≡ n = omega (arith, e) in let f : T j ≡ T n = ap T same in omega arith)) (windows.by_third m nothing is_heard rest_after s are room fs count frames n less i inside q below)
         ∙ ap level_of (windows.silent_before m nothing is_heard rest_after s are room fs count frames n less i inside q below)
 
-    waits : RestsAgain s ((outset_next r before).past i) i levels node (rest_next r i) since
+    hands_then : HandsNext r i (slice_get (r.frames i) which.0) (unsent_of setup (node (suc (T n))))
+    hands_then = subst (λ h. HandsNext r i h (unsent_of setup (node (suc (T n))))) (sym which.1) hands
+
+    waits : RestsAgain s ((outset_next r before).past i) i levels node (rest_next r i) since × ((node (suc (rest_next r i + sample_at (s.lengths i)))).frames ≡ (node (suc (T n))).frames)
     waits =
-        (wait r before are.line (windows.resting m nothing is_heard rest_after s are room fs count frames n less i inside) (free s (fs n).outset (fs n).bits are room f.outset f.ends f.won) i inside setup segments levels node run
-        handed refl since since_by rests_then silent
-        (subst (λ h. HandsNext r i h (unsent_of setup (node (suc (T n))))) (sym which.1) (hands n less))).0
+        wait r before are.line (windows.resting m nothing is_heard rest_after s are room fs count frames n less i inside) (free s (fs n).outset (fs n).bits are room f.outset f.ends f.won) i inside setup segments levels node run
+        handed refl since since_by rests_then silent hands_then
 
     -- it has driven nothing since the third bit of the intermission
     waits_quiet : RestsAgain s ((outset_next r before).past i) i levels node (rest_next r i) (T n)
     waits_quiet =
-        let w = waits in
+        let w = waits.0 in
         let by = since_by in
         record { sampled = w.sampled; clock = w.clock; stretch = w.stretch; counts = w.counts; drive = λ q low high. w.drive q (omega arith) high }
 
-    pub goes_on : Goes (suc n) less
-    goes_on =
-        go (suc n) less (rest_next r i) (windows.begins_after m nothing is_heard rest_after s are room fs count frames n less i inside)
-        (subst (λ o. RestsAgain s (o.past i) i levels node (rest_next r i) (T n)) (sym next.is) waits_quiet) (omega arith)
-        (λ j e. (let same : j ≡ n = omega (arith, e) in let f : T j ≡ T n = ap T same in omega arith))
+    next_rests : RestsAgain s ((fs (suc n)).outset.past i) i levels node (rest_next r i) (T n)
+    next_rests = subst (λ o. RestsAgain s (o.past i) i levels node (rest_next r i) (T n)) (sym next.is) waits_quiet
 
-  pub chained : (n : ℕ) (less : n < count) → Goes n less
-  chained zero less = go 0 less first_rest begins first early (λ j e. absurd (omega (arith, e)))
-  chained (suc n) less = goes_on n less (chained n (omega arith))
+    pub goes_on : GoesOn s fs count frames i first_since setup levels node n less
+    goes_on = record {
+      handed = handed;
+      active = refl;
+      since = since;
+      early = since_by;
+      rests = rests_then;
+      silent = silent;
+      hands = hands_then;
+      begins = windows.begins_after m nothing is_heard rest_after s are room fs count frames n less i inside;
+      again = next_rests;
+      same = waits.1;
+      goes =
+          go (suc n) less (rest_next r i) (windows.begins_after m nothing is_heard rest_after s are room fs count frames n less i inside) next_rests (omega arith)
+          (λ j e. (let same : j ≡ n = omega (arith, e) in let f : T j ≡ T n = ap T same in omega arith));
+    }
+
+  pub goes_first : (less : 0 < count) → Goes 0 less
+  goes_first less = go 0 less first_rest begins first early (λ j e. absurd (omega (arith, e)))
+
+  pub chained : HandsBetween s fs count frames i setup node → (n : ℕ) (less : n < count) → Goes n less
+  chained hands zero less = goes_first less
+  chained hands (suc n) less = (goes_on n less (chained hands n (omega arith)) (hands n less)).goes

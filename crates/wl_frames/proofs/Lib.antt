@@ -1,4 +1,5 @@
 mod Beginning
+pub mod Callers
 mod Chaining
 mod Driving
 mod Falling
@@ -7,6 +8,7 @@ mod Histories
 mod Idle
 mod Lasting
 mod LineGoing
+mod LineResting
 mod Outset
 mod PoweredUp
 mod Quiet

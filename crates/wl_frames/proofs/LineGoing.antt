@@ -13,19 +13,19 @@ use Rattle.wl_plan.specs.Line.{Line}
 use Rattle.wl_one_sender.specs.Expected.{IsExpected}
 use Rattle.wl_one_sender.specs.Levels.{levels_before}
 use Rattle.wl_any_senders.specs.Expected.{IsOutset, Outset, expected_bits}
-use Rattle.wl_any_senders.specs.Lines.{BeginsAfter, IsLineOf, RestsBefore, finds_expected, node_after}
+use Rattle.wl_any_senders.specs.Lines.{BeginsAfter, IsLineOf, node_after}
 use Rattle.wl_any_senders.specs.Machines.{HasWon}
 use Rattle.wl_any_senders.specs.Nodes.{IsRun}
 use Rattle.wl_any_senders.specs.Stations.{AreStations, HaveRoom, Stations}
-use Rattle.wl_any_senders.proofs.Callers.{finds_driven, finds_what_comes, run_of, tick_next}
+use Rattle.wl_any_senders.proofs.Callers.{finds_driven, run_of, tick_next}
 use Rattle.wl_frame_end.specs.Again.{RestsAgain}
 use Rattle.wl_frame_end.specs.Asked.{EndAsAsked, EndsBefore}
 use Rattle.wl_frame_end.proofs.Callers.{DriveExpected, FindLevels, MachineLaws}
 use Rattle.wl_frames.specs.Frames.{FollowOneAnother, Frame, frame_drove, frames_drove, third_sample}
 use Rattle.wl_frames.specs.Lines.{BeginFrames, IsBeforeLast, LineGoes, finds_frames}
 use Rattle.wl_frames.specs.Runs.{GoesThroughOne, HandsBetween, quiet_by}
-use Rattle.wl_frames.proofs.Histories.{rests_as}
 use Rattle.wl_frames.proofs.Driving as driving
+use Rattle.wl_frames.proofs.LineResting as resting
 use Rattle.wl_frames.proofs.Windows as windows
 use Rattle.wl_frames.proofs.Windows.{IsHeard, NothingFound, RestAfter, any_alone}
 
@@ -58,23 +58,14 @@ module _ (m : MachineLaws) (nothing : NothingFound) (is_heard : IsHeard) (rest_a
   abbrev node : ℕ → ℕ → History
   node i = node_after (setups i) (levels i)
 
-  -- up to its last bit before the first frame it finds what is driven in that
-  same_first : (i q : ℕ) → i < s.count → q ≤ begin.rest i + sample_at (s.lengths i) → levels i q ≡ finds_expected l s (fs 0).outset (fs 0).bits i q
-  same_first i q inside by =
-      finds_driven l setups s line drove i q inside
-      ∙ ap level_of (windows.first_alone m nothing is_heard rest_after s are room fs count frames some i (begin.rest i) q inside (begin.after i inside) by)
-      ∙ sym (finds_what_comes l setups s line (fs 0).outset (fs 0).bits i q inside)
-
-  rests_first : (i : ℕ) → i < s.count → RestsBefore s (fs 0).outset i (levels i) (node i) (begin.rest i)
-  rests_first i inside =
-      rests_as s (fs 0).outset i (setups i) (levels i) (finds_expected l s (fs 0).outset (fs 0).bits i) (begin.rest i) (λ q by. same_first i q inside by) (begin.rests i inside)
+  rests_first : (i : ℕ) → i < s.count → RestsAgain s ((fs 0).outset.past i) i (levels i) (node i) (begin.rest i) 0
+  rests_first i inside = resting.rests_first m nothing is_heard rest_after l setups s line are room fs count frames some begin.rest begin.after begin.rests i inside
 
   pub goes : (i n : ℕ) (less : n < count) → i < s.count → GoesThroughOne s fs count frames i 0 (setups i) (levels i) (node i) n less
   goes i n less inside =
-      let r = rests_first i inside in
       node_law s fs count are room frames i inside (setups i) (line.segments i (let e = line.nodes in omega arith)) (levels i) (node i) (run_of (setups i) (levels i))
       (λ n q lt by. finds_driven l setups s line drove i q inside) (begin.rest i) 0 (begin.after i inside)
-      (record { sampled = r.sampled; clock = r.clock; stretch = r.stretch; counts = r.counts; drive = λ q low high. r.drive q high }) (omega arith) (begin.hands i inside) n less
+      (rests_first i inside) (omega arith) (begin.hands i inside) n less
 
   -- what one frame leaves at a station
   module _ (n : ℕ) (less : n < count) (i : ℕ) (inside : i < s.count) where

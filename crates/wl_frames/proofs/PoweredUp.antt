@@ -6,7 +6,7 @@ use Rattle.wl_machine.specs.Frames.{stuffed_end}
 use Rattle.wl_node.specs.declared.setup.NodeSetup.{NodeSetup}
 use Rattle.wl_node.specs.History.{history_of}
 use Rattle.wl_plan.specs.Line.{Line}
-use Rattle.wl_any_senders.specs.Expected.{expected_bits}
+use Rattle.wl_any_senders.specs.Expected.{Outset, expected_bits}
 use Rattle.wl_any_senders.specs.Lines.{BeginsAfter, IsLineOf, RestsBefore, finds_expected, node_after}
 use Rattle.wl_any_senders.specs.Machines.{bus_levels}
 use Rattle.wl_any_senders.specs.Stations.{AreOnALine, AreStations, HaveRoom, Stations}
@@ -30,17 +30,25 @@ RestFirst = (l : Line) (setups : ℕ → NodeSetup) (w : Waiting) (length i : �
     → RestsBefore w.stations (first_outset w) i (finds_expected l w.stations (first_outset w) length i)
     (node_after (setups i) (finds_expected l w.stations (first_outset w) length i)) (rest_first w i)
 
+-- after which bit each node begins the first frame, and that it rests before it
+pub begins_first : AfterFirst → (w : Waiting) → AreOnALine w.stations → AreIdle w → (o : Outset) → o ≡ first_outset w → (i : ℕ) → i < w.stations.count → BeginsAfter w.stations o i (rest_first w i)
+begins_first after w line idle o first i inside = subst (λ o. BeginsAfter w.stations o i (rest_first w i)) (sym first) (after w line idle i inside)
+
+pub rests_before : RestFirst → (l : Line) (setups : ℕ → NodeSetup) (w : Waiting) → IsLineOf l setups w.stations → AreStations w.stations → HaveRoom w.stations → AreIdle w → HandTheFirst w setups
+    → (o : Outset) (length : ℕ) → o ≡ first_outset w → ((n : ℕ) → n < length → stuffed_end (bus_levels w.stations (expected_bits w.stations o) n) ≡ None) → (i : ℕ) → i < w.stations.count
+    → RestsBefore w.stations o i (finds_expected l w.stations o length i) (node_after (setups i) (finds_expected l w.stations o length i)) (rest_first w i)
+rests_before rest l setups w line are room idle hand o length first none i inside =
+    subst (λ o. RestsBefore w.stations o i (finds_expected l w.stations o length i) (node_after (setups i) (finds_expected l w.stations o length i)) (rest_first w i)) (sym first)
+    (rest l setups w length i line are room idle hand (subst (λ o. (n : ℕ) → n < length → stuffed_end (bus_levels w.stations (expected_bits w.stations o) n) ≡ None) first none) inside)
+
 pub powered_up : AfterFirst → RestFirst → (l : Line) (setups : ℕ → NodeSetup) (w : Waiting) → IsLineOf l setups w.stations → AreStations w.stations → HaveRoom w.stations → AreIdle w
     → HandTheFirst w setups → (frames : ℕ → Frame) (count : ℕ) (all : FollowOneAnother w.stations frames count) → 0 < count → (frames 0).outset ≡ first_outset w
     → ((i : ℕ) → i < w.stations.count → HandsBetween w.stations frames count all i (setups i) (node_after (setups i) (finds_frames l w.stations frames count i)))
     → BeginFrames l setups w.stations frames count all
 powered_up after rest l setups w line are room idle hand frames count all some first hands = record {
   rest = rest_first w;
-  after = λ i inside. subst (λ o. BeginsAfter w.stations o i (rest_first w i)) (sym first) (after w are.line idle i inside);
-  rests = λ i inside.
-      subst (λ o. RestsBefore w.stations o i (finds_expected l w.stations o (frames 0).bits i) (node_after (setups i) (finds_expected l w.stations o (frames 0).bits i)) (rest_first w i)) (sym first)
-      (rest l setups w (frames 0).bits i line are room idle hand
-      (subst (λ o. (n : ℕ) → n < (frames 0).bits → stuffed_end (bus_levels w.stations (expected_bits w.stations o) n) ≡ None) first (all.each 0 some).ends.none) inside);
+  after = begins_first after w are.line idle (frames 0).outset first;
+  rests = rests_before rest l setups w line are room idle hand (frames 0).outset (frames 0).bits first (all.each 0 some).ends.none;
   hands = hands;
 }
 
@@ -58,7 +66,7 @@ module _ (m : MachineLaws) (nothing : NothingFound) (is_heard : IsHeard) (rest_a
   s = w.stations
 
   begins : BeginsAfter s (fs 0).outset i (rest_first w i)
-  begins = subst (λ o. BeginsAfter s o i (rest_first w i)) (sym first) (after w are.line idle i inside)
+  begins = begins_first after w are.line idle (fs 0).outset first i inside
 
   same : (q : ℕ) → q ≤ rest_first w i + sample_at (s.lengths i) → finds_frames l s fs count i q ≡ finds_expected l s (fs 0).outset (fs 0).bits i q
   same q by =

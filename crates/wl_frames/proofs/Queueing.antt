@@ -1,13 +1,13 @@
 -- A queue hands its next frame to a node that rests.
 use Rattle.std.proofs.Common.{◌≡◌, ◌∙◌, refl, sym, ap, subst, ℕ, zero, suc, ◌+◌, ◌-◌, ◌*◌, ◌<◌, ◌≤◌, cond, true, false, List, [], ◌∷◌, length, Some, None, arith}
-use Rattle.std.specs.Prelude.{drop, slice_get}
+use Rattle.std.specs.Prelude.{count_by, drop, slice_get}
 use Rattle.std.specs.Int.{div_ceil}
 use Rattle.std.proofs.lemmas.Bool.{le-leb, ltb-false, ltb-true}
 use Rattle.std.proofs.lemmas.Grind.{div_ceil_times}
 use Rattle.std.proofs.Math.Nat.{mul-le-mul_right}
 use Rattle.wl_segments.specs.Lengths.{bit_quanta, sample_at}
 use Rattle.wl_node.specs.declared.setup.Queued.{Queued}
-use Rattle.wl_node.specs.History.{History, ready_head, unsent_of}
+use Rattle.wl_node.specs.History.{History, is_sent, ready_head, unsent_of}
 use Rattle.wl_one_sender.specs.Through.{first_ready, queued_contents}
 use Rattle.wl_level.specs.declared.Level.{Level}
 use Rattle.wl_node.specs.declared.setup.NodeSetup.{NodeSetup}
@@ -107,17 +107,23 @@ module _ (r : Resting) (i : ℕ) (queue : List Queued) (by : DecidesByQueue r i 
     ready = next;
   }
 
+-- after one frame
+pub hands_one : (s : Stations) (frames : ℕ → Frame) (count : ℕ) (are : FollowOneAnother s frames count) (i : ℕ) (setup : NodeSetup) (levels : ℕ → Level) (node : ℕ → History) → IsRun setup levels node
+    → 0 < bit_quanta (s.lengths i) → (n : ℕ) (less : suc n < count) → DecidesByQueue (resting_of s (frames n) (frames (suc n)) (are.next n less)) i setup.queue
+    → count_by is_sent (node (third_sample s (frames n) i)).frames ≡ (are.next n less).sent i → count_by is_sent (node (suc (third_sample s (frames n) i))).frames ≡ (are.next n less).sent i
+    → HandsNext (resting_of s (frames n) (frames (suc n)) (are.next n less)) i (waiting_frame setup (node (third_sample s (frames n) i))) (unsent_of setup (node (suc (third_sample s (frames n) i))))
+hands_one s frames count are i setup levels node run some n less by third next =
+    let first : waiting_frame setup (node (third_sample s (frames n) i)) ≡ ready_head (drop ((are.next n less).sent i) setup.queue) (third_sample s (frames n) i) =
+    ap (λ c. ready_head (drop c setup.queue) (length (node (third_sample s (frames n) i)).seen)) third
+    ∙ ap (ready_head (drop ((are.next n less).sent i) setup.queue)) (ap length (seen_are setup levels node run (third_sample s (frames n) i)) ∙ seen_length (clock_sees levels node) (third_sample s (frames n) i)) in
+    let after : unsent_of setup (node (suc (third_sample s (frames n) i))) ≡ drop ((are.next n less).sent i) setup.queue = ap (λ c. drop c setup.queue) next in
+    subst (λ h. HandsNext (resting_of s (frames n) (frames (suc n)) (are.next n less)) i h (unsent_of setup (node (suc (third_sample s (frames n) i))))) (sym first)
+    (subst (λ u. HandsNext (resting_of s (frames n) (frames (suc n)) (are.next n less)) i (ready_head (drop ((are.next n less).sent i) setup.queue) (third_sample s (frames n) i)) u) (sym after)
+    (queue_hands (resting_of s (frames n) (frames (suc n)) (are.next n less)) i setup.queue by some))
+
 -- after each frame
 pub hands_between : (s : Stations) (frames : ℕ → Frame) (count : ℕ) (are : FollowOneAnother s frames count) (i : ℕ) (setup : NodeSetup) (levels : ℕ → Level) (node : ℕ → History) → IsRun setup levels node
     → 0 < bit_quanta (s.lengths i) → SendsByQueue s frames count are i setup node → HandsBetween s frames count are i setup node
 hands_between s frames count are i setup levels node run some by n less =
     let q = by n less in
-    let T : ℕ = third_sample s (frames n) i in
-    let sent : ℕ = (are.next n less).sent i in
-    let first : waiting_frame setup (node (third_sample s (frames n) i)) ≡ ready_head (drop ((are.next n less).sent i) setup.queue) (third_sample s (frames n) i) =
-    ap (λ c. ready_head (drop c setup.queue) (length (node (third_sample s (frames n) i)).seen)) q.1
-    ∙ ap (ready_head (drop ((are.next n less).sent i) setup.queue)) (ap length (seen_are setup levels node run (third_sample s (frames n) i)) ∙ seen_length (clock_sees levels node) (third_sample s (frames n) i)) in
-    let after : unsent_of setup (node (suc (third_sample s (frames n) i))) ≡ drop ((are.next n less).sent i) setup.queue = ap (λ c. drop c setup.queue) q.2 in
-    subst (λ h. HandsNext (resting_of s (frames n) (frames (suc n)) (are.next n less)) i h (unsent_of setup (node (suc (third_sample s (frames n) i))))) (sym first)
-    (subst (λ u. HandsNext (resting_of s (frames n) (frames (suc n)) (are.next n less)) i (ready_head (drop ((are.next n less).sent i) setup.queue) (third_sample s (frames n) i)) u) (sym after)
-    (queue_hands (resting_of s (frames n) (frames (suc n)) (are.next n less)) i setup.queue q.0 some))
+    hands_one s frames count are i setup levels node run some n less q.0 q.1 q.2

@@ -54,7 +54,7 @@ winner m left course same s o end are room is ends =
     }
 
 -- the winner has begun the frame
-has_begun : (s : Stations) (bits : ℕ → Start) (n k : ℕ) → still_sends s bits n k ≡ true → (bits 0).drives k ≡ true
+pub has_begun : (s : Stations) (bits : ℕ → Start) (n k : ℕ) → still_sends s bits n k ≡ true → (bits 0).drives k ≡ true
 has_begun s bits zero k e = e
 has_begun s bits (suc n) k e = has_begun s bits n k (and_parts (still_sends s bits n k) ((bits n).drives k || not (bus_bit s bits n)) e).0
 
