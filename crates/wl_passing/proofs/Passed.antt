@@ -32,12 +32,13 @@ use Rattle.wl_any_senders.specs.Starts.{Drives, reaches_at}
 use Rattle.wl_any_senders.specs.Stations.{AreStations, HaveRoom, Stations}
 use Rattle.wl_any_senders.proofs.Callers.{from_sample}
 use Rattle.wl_first_frame.proofs.Callers.{TakesOn}
+use Rattle.wl_first_frame.specs.Faults.{is_fault}
 use Rattle.wl_frame_end.specs.Again.{RestsAgain}
 use Rattle.wl_frame_end.specs.Asked.{EndAsAsked}
 use Rattle.wl_frame_end.specs.Rests.{passed_frame, passing_bit}
 use Rattle.wl_frame_end.proofs.Callers.{MachineLaws, found_was, samples_up}
 use Rattle.wl_frames.specs.NextNodes.{GoesThrough}
-use Rattle.wl_passing.specs.Passing.{PassesOne, is_fault}
+use Rattle.wl_passing.specs.Passing.{PassesOne}
 use Rattle.wl_passing.proofs.Judging.{takes_idle, takes_stuffed}
 use Rattle.wl_passing.proofs.Quanta.{IsCalm, calm_error, calm_fault}
 use Rattle.wl_passing.proofs.Resting.{after_rest}

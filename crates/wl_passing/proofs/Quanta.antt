@@ -19,7 +19,7 @@ use Rattle.wl_node.specs.History.{History, by_beat, counters_of, error_count, pa
 use Rattle.wl_wire.specs.InStep.{is_fine}
 use Rattle.wl_any_senders.specs.Nodes.{IsRun, clock_sees}
 use Rattle.wl_any_senders.proofs.Callers.{fine_counts}
-use Rattle.wl_passing.specs.Passing.{fault_count, is_fault}
+use Rattle.wl_first_frame.specs.Faults.{fault_count, is_fault}
 
 -- what is fine is no error, and leaves the counters at 0
 fine_no_error : (h : Happened) → is_fine h ≡ true → is_error h ≡ false

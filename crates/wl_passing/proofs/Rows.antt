@@ -5,7 +5,7 @@ use Rattle.wl_confine.specs.declared.ErrorKind.TheVariants.{Stuff}
 use Rattle.wl_confine.specs.declared.Happened.{Happened}
 use Rattle.wl_confine.specs.declared.Happened.TheVariants.{Acked, Nothing, RxError, RxFlagBit, Sent}
 use Rattle.wl_node.specs.History.{History, counters_of, error_count}
-use Rattle.wl_passing.specs.Passing.{fault_count}
+use Rattle.wl_first_frame.specs.Faults.{fault_count}
 
 abbrev after : List Happened → History
 after happened = record { seen = []; inputs = []; happened = happened; samples = []; frames = []; syncs = []; drive = Recessive }

@@ -1,21 +1,12 @@
 -- What passes a node, and what it finds, from one frame to the next.
-use Rattle.std.specs.Prelude.{◌≡◌, ℕ, suc, ◌+◌, not, Bool, [], ◌∷◌, ◌++◌, count_by}
-use Rattle.wl_confine.specs.declared.Happened.{Happened}
+use Rattle.std.specs.Prelude.{◌≡◌, ℕ, suc, ◌+◌, [], ◌∷◌, ◌++◌}
 use Rattle.wl_segments.specs.Lengths.{sample_at}
 use Rattle.wl_frame.specs.Grammar.{Content}
 use Rattle.wl_node.specs.History.{History, error_count}
-use Rattle.wl_wire.specs.InStep.{is_fine}
 use Rattle.wl_any_senders.specs.Expected.{Outset, expected_sample}
 use Rattle.wl_any_senders.specs.Stations.{Stations}
+use Rattle.wl_first_frame.specs.Faults.{fault_count}
 use Rattle.wl_frame_end.specs.Rests.{passed_frame}
-
--- what happens that isn't fine: an error, or what a flag leads to (Bosch CAN 2.0 part B, section 8)
-abbrev pub is_fault : Happened → Bool
-is_fault happened = not (is_fine happened)
-
--- and how often that has happened to a node
-abbrev pub fault_count : History → ℕ
-fault_count h = count_by is_fault h.happened
 
 -- One frame passes a node, sent or received, between its sample by which it rests before it and that of the third bit of the intermission. The latter leaves the frames as they are. In that
 -- time it finds no error, and nothing else happens that isn't fine.

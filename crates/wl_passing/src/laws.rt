@@ -20,11 +20,12 @@ ghost use Rattle.wl_any_senders.specs.Lines.{BeginsAfter};
 ghost use Rattle.wl_any_senders.specs.Machines.{HasWon};
 ghost use Rattle.wl_any_senders.specs.Nodes.{IsRun};
 ghost use Rattle.wl_any_senders.specs.Stations.{AreOnALine, AreStations, HaveRoom, Stations};
+ghost use Rattle.wl_first_frame.specs.Faults.{fault_count};
 ghost use Rattle.wl_frame_end.specs.Again.{RestsAgain};
 ghost use Rattle.wl_frame_end.specs.Asked.{CanBeAnswered, EndsBefore};
 ghost use Rattle.wl_frames.specs.NextNodes.{HandsNext};
 ghost use Rattle.wl_frames.specs.NextStarts.{AreFreeNext, AreResting, Resting, rest_next, rested, start_next};
-ghost use Rattle.wl_passing.specs.Passing.{PassesOne, fault_count};
+ghost use Rattle.wl_passing.specs.Passing.{PassesOne};
 
 /// Law: what a node has found it keeps. The errors that it has found grow in number or stay, and so does all that isn't fine. The frames that
 /// have passed it are the first of those that have passed it later. If all is fine, it has found no error, and its counters are 0. From

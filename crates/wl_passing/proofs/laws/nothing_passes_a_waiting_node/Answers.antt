@@ -1,6 +1,6 @@
 use Rattle.wl_confine.specs.Counts.{is_error}
 use Rattle.wl_frames.specs.NextStarts.{outset_next, rest_next}
-use Rattle.wl_passing.specs.Passing.{is_fault}
+use Rattle.wl_first_frame.specs.Faults.{is_fault}
 use Rattle.wl_passing.proofs.Quanta.{calm_error, calm_fault}
 use Rattle.wl_passing.proofs.Resting.{after_rest, found_none}
 use Rattle.wl_passing.proofs.laws.nothing_passes_a_waiting_node.Goals as goal

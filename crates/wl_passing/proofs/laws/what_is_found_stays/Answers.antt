@@ -1,5 +1,5 @@
 use Rattle.wl_confine.specs.Counts.{is_error}
-use Rattle.wl_passing.specs.Passing.{is_fault}
+use Rattle.wl_first_frame.specs.Faults.{is_fault}
 use Rattle.wl_passing.proofs.Quanta.{count_stays, fine_between, fine_counters, frames_stay}
 use Rattle.wl_passing.proofs.laws.what_is_found_stays.Goals as goal
 
