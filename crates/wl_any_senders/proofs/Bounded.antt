@@ -5,7 +5,7 @@ use Rattle.std.proofs.lemmas.Bool.{cases_eq, cases_lt, cases_Bool, and_from, and
 use Rattle.std.proofs.Math.Nat.{mul-le-mul_left, mul-le-mul_right, le_of_mul-le-mul_left}
 use Rattle.wl_segments.specs.Lengths.{sample_at, bit_quanta}
 use Rattle.wl_bound.specs.Families.{Bus}
-use Rattle.wl_bound.specs.Terms.{greatest, sends_but, sends_third, ahead, drift, jump, late, look, pull, pulled, strays, trip, way}
+use Rattle.wl_bound.specs.Terms.{greatest, sends_but, sends_third, ahead, drift, jump, late, look, pull, pulled, strays, there_and_back, trip, way}
 use Rattle.wl_bound.specs.Conditions.{IsSound, left_of, right_of}
 use Rattle.wl_bound.proofs.Greatest.{bounded, bounds_each}
 use Rattle.wl_topology.specs.Driven.{any_below}
@@ -192,7 +192,7 @@ module _ (bus : Bus) (s : Stations) (line : AreOnALine s) (of : IsBusOf bus s) w
     straight = straight;
   }
 
-module _ (bus : Bus) (s : Stations) (line : AreOnALine s) (of : IsBusOf bus s) (left : IsLeftForTwo bus s) (sound : IsSound bus) where
+module _ (bus : Bus) (s : Stations) (line : AreOnALine s) (of : IsBusOf bus s) (sound : IsSound bus) where
   drifts : (i k : ℕ) → i < s.count → k < s.count → i ≢ k → (bus.listens i && bus.listens k) ≡ false → 10 * drift bus i k ≤ min (jump bus i) (jump bus k)
   unfolding left_of right_of
   drifts i k ni nk apart some =
@@ -210,10 +210,42 @@ module _ (bus : Bus) (s : Stations) (line : AreOnALine s) (of : IsBusOf bus s) (
       (and_from (not (i == k)) (not (bus.listens i && bus.listens k)) (ap not (ne_eqb i k apart)) (ap not (and_right (bus.listens i) (bus.listens k) (of.answers k nk may)))) in
       omega arith
 
+  abbrev alone_by : (i k : ℕ) → Bool → ℕ
+  alone_by i k sends = cond sends (bus.longest k + bus.tick - there_and_back bus i k) 0
+
   pull_is : (i k : ℕ) → bus.sends k ≡ true → any_below bus.nodes (sends_third bus i k) ≡ true → pull bus i k ≡ look bus k
   unfolding pull
-  pull_is i k sends some = ap (λ b. cond b (look bus k) 0) (and_from (bus.sends k) (any_below bus.nodes (sends_third bus i k)) sends some)
+  pull_is i k sends some =
+      ap (λ b. cond b (cond (any_below bus.nodes (sends_third bus i k)) (look bus k) (alone_by i k (bus.sends i))) 0) sends
+      ∙ ap (λ b. cond b (look bus k) (alone_by i k (bus.sends i))) some
 
+  pull_alone : (i k : ℕ) → bus.sends k ≡ true → bus.sends i ≡ true → any_below bus.nodes (sends_third bus i k) ≡ false
+      → pull bus i k ≡ bus.longest k + bus.tick - there_and_back bus i k
+  unfolding pull
+  pull_alone i k sends own none =
+      ap (λ b. cond b (cond (any_below bus.nodes (sends_third bus i k)) (look bus k) (alone_by i k (bus.sends i))) 0) sends
+      ∙ ap (λ b. cond b (look bus k) (alone_by i k (bus.sends i))) none ∙ ap (alone_by i k) own
+
+  -- whoever sends, it is no less than what a look takes beyond there and back
+  pull_most : (i k : ℕ) → i < s.count → k < s.count → s.may_send i ≡ true → s.may_send k ≡ true
+      → bus.longest k + bus.tick - (bus.delay k i + bus.delay i k) ≤ pull bus i k
+  unfolding look
+  pull_most i k ni nk own may = elim (cases_Bool (any_below bus.nodes (sends_third bus i k))) [
+    | inl third ↦
+        (let e = pull_is i k (of.sends k nk ∙ may) third in
+        let detour = line.detours k i k nk ni nk in
+        let m : bus.tick * (s.delay k k + s.delay i i) ≤ bus.tick * (s.delay k i + s.delay i k) = mul-le-mul_left bus.tick detour in
+        let loop = of.delays k k nk nk in
+        let there = of.delays k i nk ni in
+        let back = of.delays i k ni nk in
+        omega arith)
+    | inr none ↦ (let e = pull_alone i k (of.sends k nk ∙ may) (of.sends i ni ∙ own) none in omega arith)
+  ]
+
+  pub left_for_two : IsLeftForTwo bus s
+  left_for_two i k ni nk apart own may two = (let h = jumped i k ni nk apart may in let p = pull_most i k ni nk own may in omega arith)
+
+module _ (bus : Bus) (s : Stations) (line : AreOnALine s) (of : IsBusOf bus s) (left : IsLeftForTwo bus s) (sound : IsSound bus) where
   -- where a quantum and a tick counts beyond some ticks
   early_look : (i k w W : ℕ) → i < s.count → k < s.count → W ≡ w * bus.tick
       → s.way k i ≤ (s.delay k i + s.delay i k) * shared_tick s i k + (shared_quantum s k i + shared_tick s i k - w * shared_tick s i k)
@@ -233,7 +265,7 @@ module _ (bus : Bus) (s : Stations) (line : AreOnALine s) (of : IsBusOf bus s) (
   early_alone : (i k : ℕ) → i < s.count → k < s.count → i ≢ k → s.may_send k ≡ true → ((a : ℕ) → a < s.count → s.may_send a ≡ true → a ≡ k)
       → s.way k i + 10 * bit_drift s i k ≤ (s.delay k i + s.delay i k) * shared_tick s i k + (s.lengths i).sjw * shared_quantum s i k
   early_alone i k ni nk apart may none =
-      let h = drifts i k ni nk apart (and_right (bus.listens i) (bus.listens k) (of.answers k nk may)) in
+      let h = drifts bus s line of sound i k ni nk apart (and_right (bus.listens i) (bus.listens k) (of.answers k nk may)) in
       let d = drift_is bus s line of i k in
       let j = jump_is bus s line of i in
       let way = way_alone bus s line of i k ni nk may none in
@@ -263,8 +295,8 @@ module _ (bus : Bus) (s : Stations) (line : AreOnALine s) (of : IsBusOf bus s) (
       → s.way k i + 10 * bit_drift s i k ≤ (s.delay k i + s.delay i k) * shared_tick s i k + (s.lengths i).sjw * shared_quantum s i k
   unfolding look
   early_third i k ni nk apart may third =
-      let h = jumped i k ni nk apart may in
-      let e = pull_is i k (of.sends k nk ∙ may) third in
+      let h = jumped bus s line of sound i k ni nk apart may in
+      let e = pull_is bus s line of sound i k (of.sends k nk ∙ may) third in
       early_look i k (s.delay k k) (bus.delay k k) ni nk (of.delays k k nk nk) (way_by bus s line of i k ni nk may) (omega arith)
 
   early_two : (i k : ℕ) → i < s.count → k < s.count → i ≢ k → s.may_send k ≡ true → s.may_send i ≡ true → any_below bus.nodes (sends_third bus i k) ≡ false
@@ -294,7 +326,7 @@ module _ (bus : Bus) (s : Stations) (line : AreOnALine s) (of : IsBusOf bus s) (
 
   late_fits : (i k : ℕ) → i < s.count → k < s.count → i ≢ k → s.may_send k ≡ true → 10 * bit_drift s k i ≤ (s.lengths i).sjw * shared_quantum s i k
   late_fits i k ni nk apart may =
-      let h = drifts k i nk ni (λ e. apart (sym e)) (and_left (bus.listens k) (bus.listens i) (of.answers k nk may)) in
+      let h = drifts bus s line of sound k i nk ni (λ e. apart (sym e)) (and_left (bus.listens k) (bus.listens i) (of.answers k nk may)) in
       let d = drift_is bus s line of k i in
       let j = jump_is bus s line of i in
       let f =

@@ -30,7 +30,7 @@ pub record IsBusOf (bus : Bus) (s : Stations) : Type 0 where
   pub sends : (i : ℕ) → i < s.count → bus.sends i ≡ s.may_send i
   pub answers : (i : ℕ) → i < s.count → s.may_send i ≡ true → bus.listens i ≡ false
 
--- Two stations alone may send: what the look of the one takes beyond there and back is left in a jump of the other. If three may, the condition for margins has that.
+-- Two stations alone may send: what the look of the one takes beyond there and back is left in a jump of the other. The condition for margins implies it.
 abbrev pub IsLeftForTwo : Bus → Stations → Type 0
 IsLeftForTwo bus s = (i k : ℕ) → i < s.count → k < s.count → i ≢ k → s.may_send i ≡ true → s.may_send k ≡ true → ((a : ℕ) → a < s.count → s.may_send a ≡ true → (a ≡ i) ⊎ (a ≡ k))
     → 10 * drift bus i k + (bus.longest k + bus.tick - (bus.delay k i + bus.delay i k)) ≤ jump bus i

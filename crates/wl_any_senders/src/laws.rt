@@ -92,6 +92,12 @@ pub fn a_sound_bus_has_room()
         → HaveRoom s }
 {}
 
+/// Law: if two nodes alone may send on a bus that meets the condition for margins, what a look takes beyond there and back is left in a
+/// jump. So it is a premise of other laws that such a bus always meets.
+pub fn two_alone_have_room()
+    ensures { (bus : Bus) (s : Stations) → AreOnALine s → IsBusOf bus s → IsSound bus → IsLeftForTwo bus s }
+{}
+
 /// Law: the nodes of each checked plan of one rate a clock, by the rules of the book, are such stations, if none only listens.
 pub fn a_plan_is_on_a_line()
     ensures { (plan : Plan) (s : Stations) → IsPlanOf plan s → AreOnALine s }
