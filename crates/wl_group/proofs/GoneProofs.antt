@@ -1,5 +1,5 @@
 -- A group of which a member ran quanta in a row, all below its place horizon of before: it is one, and the machine takes its parties there.
-use Rattle.std.proofs.Common.{◌≡◌, ℕ, zero, suc, ◌+◌, ◌-◌, ◌<◌, ◌≤◌, Bool, true, false, inl, inr, List, [], ◌∷◌, ◌++◌, length, All, Option, Some, None, is_some, refl, sym, ◌∙◌, ap, subst, arith, if◌then◌else◌}
+use Rattle.std.proofs.Common.{◌≡◌, ℕ, zero, suc, ◌+◌, ◌-◌, ◌<◌, ◌≤◌, true, inl, inr, List, [], ◌∷◌, ◌++◌, length, All, Option, Some, None, is_some, refl, sym, ◌∙◌, ap, subst, arith, if◌then◌else◌}
 use Rattle.std.specs.Prelude.{slice_set, slice_index_or, Contains}
 use Rattle.std.proofs.lemmas.Bool.{cases_lt, cases_eq, cases_Bool, cond-true, cond-false}
 use Rattle.std.proofs.lemmas.List.{get_or-set_same, get_or-set_other}
@@ -17,7 +17,7 @@ use Rattle.wl_replica.specs.State.{state_of, slots_of, state_with_records, Fits}
 use Rattle.wl_replica.specs.Known.{is_tick, horizon, place_horizon}
 use Rattle.wl_replica.specs.KnownLaws.{SlotsLaws, KnownLaws}
 use Rattle.wl_plan.specs.Limits.{most_quanta}
-use Rattle.wl_plan.specs.Line.{Line, found, reach}
+use Rattle.wl_plan.specs.Line.{found, reach}
 use Rattle.wl_plan.specs.PlanLine.{line_of, table_of}
 use Rattle.wl_plan.specs.Simulation.{level, seen, differs, changes, AreInside}
 use Rattle.wl_plan.specs.SimulationLaws.{SimulationLaws}
@@ -27,13 +27,13 @@ use Rattle.wl_group.specs.Member.{Member, next_tick, turns, member_after_quantum
 use Rattle.wl_group.specs.Party.{Party}
 use Rattle.wl_group.specs.Holds.{IsMember}
 use Rattle.wl_group.specs.GroupLaws.{GroupLaws}
-use Rattle.wl_group.specs.Running.{quanta_to_come, quanta_left}
+use Rattle.wl_group.specs.Running.{quanta_to_come}
 use Rattle.wl_group.specs.ValueLaws.{ValueLaws}
 use Rattle.wl_group.specs.GroupValue.{GroupValue, IsGroupValue, Matches, quanta_at, belongs, member_after, member_at, members_now, with_records}
 use Rattle.wl_group.specs.Going.{told_by, gone_on, AdvancesTo, HasGoneOn}
 use Rattle.wl_group.specs.Through.{spoken, Stays}
 use Rattle.wl_group.proofs.Callers.{true_append}
-use Rattle.wl_group.proofs.GoingProofs.{OneByOne, one_by_one, node, inside_all, own_before, here_at}
+use Rattle.wl_group.proofs.GoingProofs.{OneByOne, one_by_one, node, inside_all, own_before}
 use Rattle.wl_group.proofs.GroupProofs.{place_keeps, count_most}
 use Rattle.wl_group.proofs.RunProofs.{true_fits, some_there}
 use Rattle.wl_group.proofs.ThroughProofs.{next_is}

@@ -1,11 +1,11 @@
 -- A member's next quantum, and the group's after it. This project's profile.
-use Rattle.std.specs.Prelude.{◌≡◌, ℕ, suc, ◌+◌, ◌-◌, ◌<◌, ◌≤◌, replicate, All, List, [], ◌∷◌, ◌++◌, length, Option, None, Some, true, false, not, nat_le, if◌then◌else◌}
+use Rattle.std.specs.Prelude.{◌≡◌, ℕ, suc, ◌+◌, ◌-◌, ◌<◌, ◌≤◌, replicate, List, [], ◌∷◌, ◌++◌, length, Option, None, Some, true, false, not, nat_le, if◌then◌else◌}
 use Rattle.wl_level.specs.declared.Level.{Level}
 use Rattle.wl_record_core.specs.declared.record.Record.{Record}
 use Rattle.wl_record_core.specs.declared.record.Slot.{Slot}
 use Rattle.wl_record_core.specs.declared.record.Slot.TheVariants.{EdgeAt, SilenceAt}
 use Rattle.wl_record_core.specs.Truth.{AreTrueOf}
-use Rattle.wl_replica.specs.State.{Fits, slots_of}
+use Rattle.wl_replica.specs.State.{slots_of}
 use Rattle.wl_node.specs.Reached.{IsNode, node_setup, quanta_of}
 use Rattle.wl_plan.specs.declared.plan.Plan.{Plan}
 use Rattle.wl_plan.specs.Limits.{most_quanta}

@@ -6,7 +6,6 @@ ghost use Rattle.wl_replica.specs.Known.{place_horizon};
 ghost use Rattle.wl_node.specs.Reached.{quanta_of};
 ghost use Rattle.wl_plan.specs.PlanLine.{line_of};
 ghost use Rattle.wl_plan.specs.Simulation.{AreInside};
-ghost use Rattle.wl_plan.specs.Checked.{IsChecked};
 ghost use Rattle.wl_group.specs.Heard.{IsStretch};
 ghost use Rattle.wl_group.specs.Kept.{IsCell};
 ghost use Rattle.wl_group.specs.Running.{HasNotGone};
@@ -19,7 +18,7 @@ use crate::group::Group;
 use crate::heard::{Stretch, shaken_around, stretch_around};
 use crate::laws::{group_laws, value_laws};
 use std::alloc::{AllocError, Global};
-use wl_plan::Plan;
+use wl_plan::CheckedPlan;
 use wl_record_core::Record;
 use wl_replica::Replica;
 
@@ -128,7 +127,7 @@ impl Group {
 /// memory, all is as it was.
 pub(crate) fn run_over(
     alloc: Global,
-    plan: &Plan,
+    plan: &CheckedPlan,
     cell: &mut Cell,
     i: u8,
     ahead: &Ahead,
@@ -136,7 +135,6 @@ pub(crate) fn run_over(
     replica: &mut Replica,
     emitted: &mut Vec<Record>,
 ) -> Result<Emission, AllocError>
-    requires checked { IsChecked plan.now }
     requires node { i < length plan.now.nodes }
     requires cell { IsCell plan.now i cell.old }
     requires some { 0 < ahead.now.count }
@@ -174,12 +172,11 @@ impl Cell {
     /// drive. Returns what it says of all of them. Refused if memory runs out before the first, and the member is where it was.
     fn go_over(
         &mut self,
-        plan: &Plan,
+        plan: &CheckedPlan,
         i: u8,
         ahead: &Ahead,
         end: u64,
     ) -> Result<Emission, AllocError>
-        requires checked { IsChecked plan.now }
         requires node { i < length plan.now.nodes }
         requires cell { IsCell plan.now i self.old }
         requires some { 0 < ahead.now.count }
@@ -190,7 +187,7 @@ impl Cell {
         ensures gone { IfOk result (λ said. HasGoneOver plan.now i end self.old self.new said.items) }
         ensures err { OnErr result (HasNotGone self.old self.new) }
     {
-        wl_plan::checked_is_sound();
+        plan.laws();
         wl_plan::simulation_laws();
         let mut said = self.go_in(plan, i, ahead.stretches[0], end)?;
         for m in 1..ahead.count {
@@ -213,12 +210,11 @@ impl Cell {
     /// drive. Returns what it says of all of them. Refused if memory runs out before the first, and the member is where it was.
     fn go_in(
         &mut self,
-        plan: &Plan,
+        plan: &CheckedPlan,
         i: u8,
         stretch: Stretch,
         end: u64,
     ) -> Result<Emission, AllocError>
-        requires checked { IsChecked plan.now }
         requires node { i < length plan.now.nodes }
         requires cell { IsCell plan.now i self.old }
         requires stretch { IsStretch (line_of plan.now) i stretch }
@@ -229,7 +225,7 @@ impl Cell {
         ensures gone { IfOk result (λ said. HasGoneOver plan.now i end self.old self.new said.items) }
         ensures err { OnErr result (HasNotGone self.old self.new) }
     {
-        wl_plan::checked_is_sound();
+        plan.laws();
         wl_plan::simulation_laws();
         let ran = self.node.quanta();
         let last = self

@@ -15,7 +15,7 @@ ghost use Rattle.wl_group.specs.Ways.{AreWays};
 use crate::cell::{Cell, Ways};
 use std::alloc::{AllocError, Global};
 use wl_node::Node;
-use wl_plan::Plan;
+use wl_plan::CheckedPlan;
 use wl_record_core::Record;
 use wl_replica::Replica;
 use wl_topology::MOST_NODES;
@@ -45,15 +45,14 @@ fn is_named(members: &[u8], i: u8) -> bool
 /// Returns, for each node of the plan that is chosen, the node before its first quantum.
 pub(crate) fn fresh_cells(
     alloc: Global,
-    plan: &Plan,
+    plan: &CheckedPlan,
     chosen: &Chosen,
 ) -> Result<Vec<Option<Cell>>, AllocError>
-    requires { IsChecked plan.now }
     ensures ran { IfOk result (λ cells. ran_of cells.items ≡ (initial_group plan.now (is_chosen chosen.now)).ran) }
     ensures cells { IfOk result (λ cells. AreCells plan.now cells.items) }
 {
     let mut cells = Vec::new(alloc);
-    for i in 0..plan.topology.nodes() {
+    for i in 0..plan.nodes() {
         cells.push(fresh_cell(alloc, plan, chosen, i)?)?;
     }
     Ok(cells)
@@ -62,22 +61,21 @@ pub(crate) fn fresh_cells(
 /// Returns node `i` before its first quantum, if it is chosen.
 fn fresh_cell(
     alloc: Global,
-    plan: &Plan,
+    plan: &CheckedPlan,
     chosen: &Chosen,
     i: u8,
 ) -> Result<Option<Cell>, AllocError>
-    requires checked { IsChecked plan.now }
     requires node { i < length plan.now.nodes }
     ensures ran { IfOk result (λ cell. quanta_kept cell ≡ (if is_chosen chosen.now i then Some 0 else None)) }
     ensures cell { IfOk result (λ cell. (member : KeptCell) → cell ≡ Some member → IsCell plan.now i member) }
 {
-    wl_plan::checked_is_sound();
+    plan.laws();
     wl_plan::simulation_laws();
     wl_node::node_laws();
     if !chosen[i as usize] {
         return Ok(None);
     }
-    let setup = plan.nodes.as_slice()[i as usize].clone_in(alloc)?;
+    let setup = plan.node(i).clone_in(alloc)?;
     let node = Node::new(alloc, setup)?;
     let next = node.setup().clock.at(0);
     Ok(Some(Cell {
@@ -89,13 +87,12 @@ fn fresh_cell(
 }
 
 /// Returns how many ticks a level takes from each node to node `j`.
-fn ways_to(plan: &Plan, j: u8) -> Ways
-    requires places { length plan.now.topology.places ≡ length plan.now.nodes }
+fn ways_to(plan: &CheckedPlan, j: u8) -> Ways
     requires node { j < length plan.now.nodes }
     ensures { AreWays plan.now j result }
 {
     let mut ways = [0; MOST_NODES];
-    for i in 0..plan.topology.nodes() {
+    for i in 0..plan.nodes() {
         ways[i as usize] = plan.topology.delay(i, j);
     }
     ways
@@ -105,14 +102,13 @@ fn ways_to(plan: &Plan, j: u8) -> Ways
 /// chosen: that it keeps its first drive up to its first quantum.
 pub(crate) fn first_replica(
     alloc: Global,
-    plan: &Plan,
+    plan: &CheckedPlan,
     chosen: &Chosen,
 ) -> Result<Replica, AllocError>
-    requires { IsChecked plan.now }
     ensures { IfOk result (λ replica. replica ≡ (initial_group plan.now (is_chosen chosen.now)).replica) }
 {
-    let mut replica = Replica::new(alloc, plan.topology.nodes())?;
-    for i in 0..plan.topology.nodes() {
+    let mut replica = Replica::new(alloc, plan.nodes())?;
+    for i in 0..plan.nodes() {
         take_first(&mut replica, plan, chosen, i)?;
     }
     Ok(replica)
@@ -120,15 +116,14 @@ pub(crate) fn first_replica(
 
 /// Returns what a node says before its first quantum: that it keeps its first drive up to then. It
 /// is true of the plan.
-pub fn first_silence(plan: &Plan, node: u8) -> Record
-    requires checked { IsChecked plan.now }
+pub fn first_silence(plan: &CheckedPlan, node: u8) -> Record
     requires node { node < length plan.now.nodes }
     ensures value { result ≡ Silence node 0 (reach (line_of plan.now) node []) }
     ensures truth { IsTrueOfPlan plan.now result }
 {
     wl_plan::simulation_laws();
-    wl_plan::checked_is_sound();
-    let setup = &plan.nodes.as_slice()[node as usize];
+    plan.laws();
+    let setup = plan.node(node);
     let until = setup.clock.at(setup.first_quiet() as u64);
     Record::Silence {
         node,
@@ -138,13 +133,18 @@ pub fn first_silence(plan: &Plan, node: u8) -> Record
 }
 
 /// Takes the first silence of node `i`, if it is chosen.
-fn take_first(replica: &mut Replica, plan: &Plan, chosen: &Chosen, i: u8) -> Result<(), AllocError>
-    requires checked { IsChecked plan.now }
+fn take_first(
+    replica: &mut Replica,
+    plan: &CheckedPlan,
+    chosen: &Chosen,
+    i: u8,
+) -> Result<(), AllocError>
     requires node { i < length plan.now.nodes }
     requires nodes { replica.old.nodes ≡ length plan.now.nodes }
     ensures { OnOk result ((before : List Told) → replica.old ≡ state_of (length plan.now.nodes) before
         → replica.new ≡ state_of (length plan.now.nodes) (before ++ (if is_chosen chosen.now i then Silence i 0 (reach (line_of plan.now) i []) ∷ [] else []))) }
 {
+    plan.laws();
     if !chosen[i as usize] {
         return Ok(());
     }

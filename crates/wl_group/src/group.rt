@@ -9,7 +9,7 @@ use crate::laws::value_laws;
 use std::alloc::{AllocError, Global};
 use std::marker::Model;
 use wl_node::Node;
-use wl_plan::Plan;
+use wl_plan::{CheckedPlan, Plan};
 use wl_record_core::Record;
 use wl_replica::Replica;
 use wl_topology::MOST_NODES;
@@ -21,7 +21,7 @@ use wl_topology::MOST_NODES;
 #[derive(Drop)]
 pub struct Group {
     pub(crate) alloc: Global,
-    pub(crate) plan: Plan,
+    pub(crate) plan: CheckedPlan,
     pub(crate) cells: Vec<Option<Cell>>,
     pub(crate) replica: Replica,
     pub(crate) emitted: Vec<Record>,
@@ -79,12 +79,13 @@ impl Group {
         ensures members { IfOk result (λ group. belongs group ≡ names members.now) }
     {
         value_laws();
+        let plan = CheckedPlan::of(plan.clone_in(alloc)?);
         let chosen = chosen_of(members);
-        let cells = fresh_cells(alloc, plan, &chosen)?;
-        let replica = first_replica(alloc, plan, &chosen)?;
+        let cells = fresh_cells(alloc, &plan, &chosen)?;
+        let replica = first_replica(alloc, &plan, &chosen)?;
         Ok(Group {
             alloc,
-            plan: plan.clone_in(alloc)?,
+            plan,
             cells,
             replica,
             emitted: Vec::new(alloc),
@@ -242,7 +243,7 @@ impl Group {
     }
 
     /// Returns the plan whose nodes these are.
-    pub fn plan(&self) -> &Plan
+    pub fn plan(&self) -> &CheckedPlan
         ensures value { result.now ≡ self.now.plan }
         ensures holds { IsGroupValue self.now }
     {

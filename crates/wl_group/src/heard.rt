@@ -9,7 +9,6 @@ ghost use Rattle.wl_topology.specs.Limits.{most_places, never};
 ghost use Rattle.wl_replica.specs.Known.{tick_in, horizon, place_horizon};
 ghost use Rattle.wl_replica.specs.Slots.{HoldsTrue};
 ghost use Rattle.wl_plan.specs.Line.{Line};
-ghost use Rattle.wl_plan.specs.Checked.{IsChecked};
 ghost use Rattle.wl_plan.specs.PlanLine.{line_of, table_of, disturbed};
 ghost use Rattle.wl_plan.specs.declared.plan.Plan.{Plan as GivenPlan};
 ghost use Rattle.wl_group.specs.Heard.{AreNotAfter, edge_tick, AreStretches, AreShaken, AreDrives, IsDrive, IsHeardOf, IsDriven, IsShaken, IsStretch, IsStill};
@@ -19,7 +18,7 @@ use crate::cell::Ways;
 use crate::laws::true_replicas_agree;
 use wl_lattice::FlatWord;
 use wl_level::Level;
-use wl_plan::Plan;
+use wl_plan::CheckedPlan;
 use wl_record_core::Slot;
 use wl_replica::{Replica, Word};
 use wl_topology::MOST_NODES;
@@ -127,8 +126,7 @@ fn last_until(replica: &Replica, node: u8, count: u32, t: u64) -> u64
 
 /// Returns what node `i` drives around tick `t`, at which that is known: from its last change on, up to the next one or as far as it is
 /// known.
-fn drive_at(plan: &Plan, replica: &Replica, i: u8, t: u64, come: &mut u32) -> Stretch
-    requires checked { IsChecked plan.now }
+fn drive_at(plan: &CheckedPlan, replica: &Replica, i: u8, t: u64, come: &mut u32) -> Stretch
     requires nodes { replica.now.nodes ≡ length plan.now.nodes }
     requires truth { HoldsTrue (length plan.now.nodes) (table_of plan.now) (slots_of replica.now) }
     requires from { i < length plan.now.nodes }
@@ -137,12 +135,11 @@ fn drive_at(plan: &Plan, replica: &Replica, i: u8, t: u64, come: &mut u32) -> St
     ensures until { t < result.until }
     ensures drive { IsDrive (line_of plan.now) i result }
 {
-    wl_plan::checked_is_sound();
+    plan.laws();
     wl_plan::simulation_laws();
     wl_record_core::table_laws();
     wl_replica::known_laws();
     true_replicas_agree();
-    let _ = plan;
     let run = replica.run_length(i);
     let count = changes_until(replica, i, run, t, *come);
     *come = count;
@@ -163,7 +160,7 @@ fn is_enough(replica: &Replica, i: u8, drive: Stretch, want: u64) -> bool
 /// Returns what node `i` drives around tick `t`: this stretch, if it reaches the tick that is wanted or no more is known by now, and else
 /// what is found again.
 fn drive_around(
-    plan: &Plan,
+    plan: &CheckedPlan,
     replica: &Replica,
     i: u8,
     t: u64,
@@ -171,7 +168,6 @@ fn drive_around(
     come: &mut u32,
     drive: Stretch,
 ) -> Stretch
-    requires checked { IsChecked plan.now }
     requires nodes { replica.now.nodes ≡ length plan.now.nodes }
     requires truth { HoldsTrue (length plan.now.nodes) (table_of plan.now) (slots_of replica.now) }
     requires from { i < length plan.now.nodes }
@@ -190,7 +186,7 @@ fn drive_around(
 /// Returns what node `j` finds of node `i` alone from tick `t` on, at which that is known, and what is kept of that node's drive then. How
 /// far it is wanted is a guess, which decides nothing.
 fn stretch_of(
-    plan: &Plan,
+    plan: &CheckedPlan,
     replica: &Replica,
     i: u8,
     j: u8,
@@ -200,7 +196,6 @@ fn stretch_of(
     come: &mut u32,
     drive: Stretch,
 ) -> (Stretch, Stretch)
-    requires checked { IsChecked plan.now }
     requires nodes { replica.now.nodes ≡ length plan.now.nodes }
     requires truth { HoldsTrue (length plan.now.nodes) (table_of plan.now) (slots_of replica.now) }
     requires from { i < length plan.now.nodes }
@@ -233,7 +228,7 @@ fn stretch_of(
 
 /// Returns what node `j` finds of node `i` alone from tick `t` on, at which that is known, and keeps what is found of that node's drive.
 fn heard_of(
-    plan: &Plan,
+    plan: &CheckedPlan,
     replica: &Replica,
     come: &mut Come,
     drives: &mut Heard,
@@ -243,7 +238,6 @@ fn heard_of(
     t: u64,
     want: u64,
 ) -> Stretch
-    requires checked { IsChecked plan.now }
     requires nodes { replica.now.nodes ≡ length plan.now.nodes }
     requires truth { HoldsTrue (length plan.now.nodes) (table_of plan.now) (slots_of replica.now) }
     requires from { i < length plan.now.nodes }
@@ -256,7 +250,7 @@ fn heard_of(
     ensures until { t < result.until }
     ensures heard { IsHeardOf (line_of plan.now) i j result }
 {
-    wl_plan::checked_is_sound();
+    plan.laws();
     let drive = drives[i as usize];
     let (one, own) = stretch_of(
         plan,
@@ -275,7 +269,7 @@ fn heard_of(
 
 /// Returns what node `j` finds from tick `t` on of the node that was found to drive dominant last, if that one does so again.
 fn driven_again(
-    plan: &Plan,
+    plan: &CheckedPlan,
     replica: &Replica,
     come: &mut Come,
     drives: &mut Heard,
@@ -285,11 +279,9 @@ fn driven_again(
     t: u64,
     want: u64,
 ) -> Option<Stretch>
-    requires checked { IsChecked plan.now }
     requires nodes { replica.now.nodes ≡ length plan.now.nodes }
     requires truth { HoldsTrue (length plan.now.nodes) (table_of plan.now) (slots_of replica.now) }
     requires place { j < length plan.now.nodes }
-    requires places { length plan.now.topology.places ≡ length plan.now.nodes }
     requires known { let l = line_of plan.now in t < place_horizon l.nodes l.delay (slots_of replica.now) j }
     requires early { t < 2 ^ 64 - 1 }
     requires drives { AreDrives (line_of plan.now) drives.old }
@@ -301,8 +293,8 @@ fn driven_again(
 {
     wl_replica::known_laws();
     wl_topology::driven_laws();
-    wl_plan::checked_is_sound();
-    if first >= plan.topology.nodes() {
+    plan.laws();
+    if first >= plan.nodes() {
         return None;
     }
     let one = heard_of(plan, replica, come, drives, ways, first, j, t, want);
@@ -315,7 +307,7 @@ fn driven_again(
 /// Returns what node `j` finds of all nodes from tick `t` on, at which that is known. It asks first the node that was found to drive dominant
 /// last.
 fn driven_from(
-    plan: &Plan,
+    plan: &CheckedPlan,
     replica: &Replica,
     come: &mut Come,
     drives: &mut Heard,
@@ -325,11 +317,9 @@ fn driven_from(
     t: u64,
     want: u64,
 ) -> Stretch
-    requires checked { IsChecked plan.now }
     requires nodes { replica.now.nodes ≡ length plan.now.nodes }
     requires truth { HoldsTrue (length plan.now.nodes) (table_of plan.now) (slots_of replica.now) }
     requires place { j < length plan.now.nodes }
-    requires places { length plan.now.topology.places ≡ length plan.now.nodes }
     requires known { let l = line_of plan.now in t < place_horizon l.nodes l.delay (slots_of replica.now) j }
     requires early { t < 2 ^ 64 - 1 }
     requires drives { AreDrives (line_of plan.now) drives.old }
@@ -341,12 +331,12 @@ fn driven_from(
 {
     wl_replica::known_laws();
     wl_topology::driven_laws();
-    wl_plan::checked_is_sound();
+    plan.laws();
     if let Some(again) = driven_again(plan, replica, come, drives, ways, *lead, j, t, want) {
         return again;
     }
     let mut until = u64::MAX;
-    for i in 0..plan.topology.nodes() {
+    for i in 0..plan.nodes() {
         let one = heard_of(plan, replica, come, drives, ways, i, j, t, want);
         match one.level {
             Level::Dominant => {
@@ -402,8 +392,7 @@ fn first_after(edge: u64, t: u64, until: u64) -> u64
 }
 
 /// Returns the tick after `t` at which the next disturbance arrives at node `j`, or is over there; 2^64 - 1 if there is none.
-fn undisturbed_until(plan: &Plan, j: u8, t: u64) -> u64
-    requires checked { IsChecked plan.now }
+fn undisturbed_until(plan: &CheckedPlan, j: u8, t: u64) -> u64
     requires node { j < length plan.now.nodes }
     requires early { t < 2 ^ 64 - 1 }
     ensures later { t < result }
@@ -420,8 +409,7 @@ fn undisturbed_until(plan: &Plan, j: u8, t: u64) -> u64
 }
 
 /// Returns what the disturbances make at node `j` from tick `t` on.
-fn shaken_from(plan: &Plan, j: u8, t: u64) -> Stretch
-    requires checked { IsChecked plan.now }
+fn shaken_from(plan: &CheckedPlan, j: u8, t: u64) -> Stretch
     requires node { j < length plan.now.nodes }
     requires early { t < 2 ^ 64 - 1 }
     ensures from { result.from ≡ t }
@@ -446,8 +434,7 @@ fn level_where(dominant: bool) -> Level
 }
 
 /// Returns the stretch of the disturbances at node `j` that has tick `t`: this one, or one that is found again.
-pub(crate) fn shaken_around(plan: &Plan, shaken: Stretch, j: u8, t: u64) -> Stretch
-    requires checked { IsChecked plan.now }
+pub(crate) fn shaken_around(plan: &CheckedPlan, shaken: Stretch, j: u8, t: u64) -> Stretch
     requires node { j < length plan.now.nodes }
     requires early { t < 2 ^ 64 - 1 }
     requires shaken { IsShaken plan.now j shaken }
@@ -463,7 +450,7 @@ pub(crate) fn shaken_around(plan: &Plan, shaken: Stretch, j: u8, t: u64) -> Stre
 
 /// Returns the level of the line at node `j` from tick `t` on, at which it is known there, while the disturbances stay as they are.
 fn found_from(
-    plan: &Plan,
+    plan: &CheckedPlan,
     replica: &Replica,
     come: &mut Come,
     drives: &mut Heard,
@@ -474,11 +461,9 @@ fn found_from(
     t: u64,
     want: u64,
 ) -> Stretch
-    requires checked { IsChecked plan.now }
     requires nodes { replica.now.nodes ≡ length plan.now.nodes }
     requires truth { HoldsTrue (length plan.now.nodes) (table_of plan.now) (slots_of replica.now) }
     requires place { j < length plan.now.nodes }
-    requires places { length plan.now.topology.places ≡ length plan.now.nodes }
     requires known { let l = line_of plan.now in t < place_horizon l.nodes l.delay (slots_of replica.now) j }
     requires early { t < 2 ^ 64 - 1 }
     requires shaken { IsShaken plan.now j shaken }
@@ -509,7 +494,7 @@ fn found_from(
 /// Returns the stretch in which node `j` finds the line at tick `t`: this one, or one that is found again, while the disturbances stay as
 /// they are.
 pub(crate) fn stretch_around(
-    plan: &Plan,
+    plan: &CheckedPlan,
     replica: &Replica,
     come: &mut Come,
     drives: &mut Heard,
@@ -521,11 +506,9 @@ pub(crate) fn stretch_around(
     t: u64,
     want: u64,
 ) -> Stretch
-    requires checked { IsChecked plan.now }
     requires nodes { replica.now.nodes ≡ length plan.now.nodes }
     requires truth { HoldsTrue (length plan.now.nodes) (table_of plan.now) (slots_of replica.now) }
     requires place { j < length plan.now.nodes }
-    requires places { length plan.now.topology.places ≡ length plan.now.nodes }
     requires known { let l = line_of plan.now in t < place_horizon l.nodes l.delay (slots_of replica.now) j }
     requires early { t < 2 ^ 64 - 1 }
     requires heard { IsStretch (line_of plan.now) j heard }

@@ -3,19 +3,15 @@ use Rattle.wl_clock.specs.Timing.{tick_of}
 use Rattle.wl_node.specs.declared.setup.NodeSetup.{NodeSetup}
 use Rattle.wl_node.specs.Reached.{node_setup, quanta_of}
 use Rattle.wl_plan.specs.PlanLine.{setup_at}
-use Rattle.wl_plan.proofs.Callers.{element_is}
 use Rattle.wl_group.proofs.BeginProofs.{fresh_kept}
 use Rattle.wl_group.proofs.begin.fresh_cell.Goals as goal
 
 pub returns-clause-cell : goal.returns-clause-cell
 returns-clause-cell c =
-    let element : c.index-as_slice-i.result ≡ setup_at c.args.plan.now c.args.i =
-    element_is c.args.plan.now c.args.i c.index-as_slice-i.result c.as_slice.result.now c.as_slice.ensures c.index-as_slice-i.is c.requires.node
-    in
-    let setup : node_setup c.in_ok-node.node ≡ setup_at c.args.plan.now c.args.i = c.in_ok-node.ensures.setup ∙ (c.in_ok-setup.ensures ∙ element) in
+    let setup : node_setup c.in_ok-node.node ≡ setup_at c.args.plan.now c.args.i = c.in_ok-node.ensures.setup ∙ (c.in_ok-setup.ensures ∙ c.node.ensures) in
     let is = c.in_ok-node.ensures.node in
     let none : quanta_of c.in_ok-node.node ≡ 0 = c.node_laws.ensures.counted c.in_ok-node.node _ is in
-    fresh_kept c.args.plan.now c.args.i c.in_ok-node.node c.at-next.result c.ways_to.result c.simulation_laws.ensures (c.checked_is_sound.ensures c.args.plan.now c.requires.checked) c.requires.node
+    fresh_kept c.args.plan.now c.args.i c.in_ok-node.node c.at-next.result c.ways_to.result c.simulation_laws.ensures c.laws.ensures.sound c.requires.node
     setup is none
     (c.at-next.ensures.tick ∙ ap (λ (s : NodeSetup). tick_of s.clock 0) (c.setup.ensures ∙ setup))
     c.ways_to.ensures

@@ -20,7 +20,7 @@ returns-clause-drive c u from until =
     let l = line_of c.args.plan.now in
     let run : c.run_length-run.result ≡ run_length w c.args.i = c.run_length-run.ensures.length in
     let early : u < horizon w c.args.i = omega (arith, until, c.kept_until.ensures.few, c.horizon.ensures.tick) in
-    ap level_of (level_stays c.known_laws.ensures c.true_replicas_agree.ensures l (c.checked_is_sound.ensures c.args.plan.now c.requires.checked) w c.requires.truth
+    ap level_of (level_stays c.known_laws.ensures c.true_replicas_agree.ensures l c.laws.ensures.sound w c.requires.truth
     c.args.i c.requires.from c.last_until.result u c.changes_until-count.result
     (by_the_last w c.args.i (run_length w c.args.i) c.args.t c.changes_until-count.result c.last_until.result
     (subst (λ m. AreNotAfter w c.args.i m c.args.t c.changes_until-count.result) run c.changes_until-count.ensures) c.last_until.ensures.early c.last_until.ensures.come)

@@ -15,14 +15,14 @@ loop-i-init c = (omega (arith, c.requires.early), (λ u from until k b. absurd (
 
 pub heard_of-one-requires-clause-early : goal.heard_of-one-requires-clause-early
 heard_of-one-requires-clause-early c =
-    let inside : c.loop-i.i < length c.args.plan.now.nodes = omega (arith, c.loop-i-test.true, c.nodes-i-end.ensures.count, c.requires.places) in
+    let inside : c.loop-i.i < length c.args.plan.now.nodes = omega (arith, c.loop-i-test.true, c.nodes-i-end.ensures.value) in
     c.known_laws.ensures.place_known (length c.args.plan.now.nodes) (delay_of c.args.plan.now.topology) (slots_of c.args.replica.now) c.loop-i.i c.args.j c.args.t inside c.requires.known
 
 pub returns-in-Dominant-clause-driven : goal.returns-in-Dominant-clause-driven
 returns-in-Dominant-clause-driven c t from until =
     let l = line_of c.args.plan.now in
     let delay = delay_of c.args.plan.now.topology in
-    let inside : c.loop-i.i < length c.args.plan.now.nodes = omega (arith, c.loop-i-test.true, c.nodes-i-end.ensures.count, c.requires.places) in
+    let inside : c.loop-i.i < length c.args.plan.now.nodes = omega (arith, c.loop-i-test.true, c.nodes-i-end.ensures.value) in
     let here = is_dominant_level (nat_le (delay c.loop-i.i c.args.j) t && level l c.loop-i.i (t - delay c.loop-i.i c.args.j))
     (c.heard_of-one.ensures.heard t from until ∙ c.in-Dominant.is) in
     ap level_of (driven_by_one c.driven_laws.ensures (length c.args.plan.now.nodes) delay (level l) c.loop-i.i c.args.j t inside here) ∙ sym c.in-Dominant.is
@@ -46,4 +46,4 @@ pub returns-clause-driven : goal.returns-clause-driven
 returns-clause-driven c t from until =
     ap level_of (any_none (length c.args.plan.now.nodes)
     (λ k. nat_le (delay_of c.args.plan.now.topology k c.args.j) t && level (line_of c.args.plan.now) k (t - delay_of c.args.plan.now.topology k c.args.j))
-    (λ k b. c.loop-i.invariant.1 t from until k (omega (arith, b, c.loop-i-test.false, c.nodes-i-end.ensures.count, c.requires.places))))
+    (λ k b. c.loop-i.invariant.1 t from until k (omega (arith, b, c.loop-i-test.false, c.nodes-i-end.ensures.value))))

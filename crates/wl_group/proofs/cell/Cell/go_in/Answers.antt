@@ -1,10 +1,9 @@
 -- Quanta in one stretch: they are counted by the clock, and each of them finds the level of the stretch.
-use Rattle.std.proofs.Common.{◌≡◌, ◌+◌, ◌-◌, ◌<◌, ◌≤◌, refl, arith}
+use Rattle.std.proofs.Common.{◌-◌, refl, arith}
 use Rattle.std.proofs.lemmas.Result.{IfOk-weaker}
-use Rattle.wl_plan.specs.PlanLine.{line_of}
 use Rattle.wl_group.specs.Running.{HasGone}
 use Rattle.wl_group.specs.Through.{HasGoneOver}
-use Rattle.wl_group.proofs.ThroughProofs.{IsCounted, counted_of, some_last, early_last, inside_last, few_last, finds_last, changed_most, gone_in}
+use Rattle.wl_group.proofs.ThroughProofs.{counted_of, some_last, early_last, inside_last, few_last, finds_last, changed_most, gone_in}
 use Rattle.wl_group.proofs.cell.Cell.go_in.Goals as goal
 
 pub overflow_sub-last : goal.overflow_sub-last
@@ -12,7 +11,7 @@ overflow_sub-last c =
     let is = c.requires.cell in
     let counted = counted_of c.args.plan.now c.args.i c.args.self.now is c.args.stretch.until c.args.end c.requires.until c.requires.due c.requires.stop c.setup.result.now c.setup.ensures
     c.min.result c.min.ensures c.first_not_before-last.result c.first_not_before-last.ensures.reached c.first_not_before-last.ensures.least in
-    let l = some_last c.simulation_laws.ensures c.args.plan.now (c.checked_is_sound.ensures c.args.plan.now c.requires.checked) c.args.i c.requires.node c.args.self.now is c.args.stretch.until c.args.end c.first_not_before-last.result counted in
+    let l = some_last c.simulation_laws.ensures c.args.plan.now c.laws.ensures.sound c.args.i c.requires.node c.args.self.now is c.args.stretch.until c.args.end c.first_not_before-last.result counted in
     let q = c.quanta-ran.ensures.value in
     omega arith
 
@@ -21,7 +20,7 @@ go-requires-clause-some c =
     let is = c.requires.cell in
     let counted = counted_of c.args.plan.now c.args.i c.args.self.now is c.args.stretch.until c.args.end c.requires.until c.requires.due c.requires.stop c.setup.result.now c.setup.ensures
     c.min.result c.min.ensures c.first_not_before-last.result c.first_not_before-last.ensures.reached c.first_not_before-last.ensures.least in
-    let l = some_last c.simulation_laws.ensures c.args.plan.now (c.checked_is_sound.ensures c.args.plan.now c.requires.checked) c.args.i c.requires.node c.args.self.now is c.args.stretch.until c.args.end c.first_not_before-last.result counted in
+    let l = some_last c.simulation_laws.ensures c.args.plan.now c.laws.ensures.sound c.args.i c.requires.node c.args.self.now is c.args.stretch.until c.args.end c.first_not_before-last.result counted in
     let q = c.quanta-ran.ensures.value in
     omega arith
 
@@ -30,13 +29,13 @@ go-requires-clause-quanta c =
     let is = c.requires.cell in
     let counted = counted_of c.args.plan.now c.args.i c.args.self.now is c.args.stretch.until c.args.end c.requires.until c.requires.due c.requires.stop c.setup.result.now c.setup.ensures
     c.min.result c.min.ensures c.first_not_before-last.result c.first_not_before-last.ensures.reached c.first_not_before-last.ensures.least in
-    let l = few_last c.simulation_laws.ensures c.args.plan.now (c.checked_is_sound.ensures c.args.plan.now c.requires.checked) c.args.i c.requires.node c.args.self.now is c.args.stretch.until c.args.end c.first_not_before-last.result counted in
+    let l = few_last c.simulation_laws.ensures c.args.plan.now c.laws.ensures.sound c.args.i c.requires.node c.args.self.now is c.args.stretch.until c.args.end c.first_not_before-last.result counted in
     let q = c.quanta-ran.ensures.value in
     omega arith
 
 pub go-requires-clause-changed : goal.go-requires-clause-changed
 go-requires-clause-changed c =
-    changed_most c.args.plan.now (c.checked_is_sound.ensures c.args.plan.now c.requires.checked) c.args.i c.requires.node c.args.self.now c.requires.cell
+    changed_most c.args.plan.now c.laws.ensures.sound c.args.i c.requires.node c.args.self.now c.requires.cell
 
 pub returns-clause-gone : goal.returns-clause-gone
 returns-clause-gone c =
@@ -45,7 +44,7 @@ returns-clause-gone c =
     let cell = c.args.self.now in
     let is = c.requires.cell in
     let last = c.first_not_before-last.result in
-    let s = c.checked_is_sound.ensures p c.requires.checked in
+    let s = c.laws.ensures.sound in
     let counted = counted_of p i cell is c.args.stretch.until c.args.end c.requires.until c.requires.due c.requires.stop c.setup.result.now c.setup.ensures
     c.min.result c.min.ensures last c.first_not_before-last.ensures.reached c.first_not_before-last.ensures.least in
     let early = early_last c.simulation_laws.ensures p s i c.requires.node cell is c.args.stretch.until c.args.end last counted in

@@ -1,6 +1,5 @@
 -- Stretch after stretch: each begins where the one before it is over, and what is said after the last of them is said of all.
-use Rattle.std.proofs.Common.{◌≡◌, ℕ, suc, ◌-◌, ◌≤◌, slice_index_or, sym, subst, arith}
-use Rattle.wl_group.specs.declared.cell.Cell.{Cell}
+use Rattle.std.proofs.Common.{◌≡◌, suc, ◌-◌, ◌≤◌, slice_index_or, sym, subst, arith}
 use Rattle.wl_group.specs.Heard.{no_stretch}
 use Rattle.wl_group.specs.Through.{HasGoneOver}
 use Rattle.wl_group.proofs.ThroughProofs.{gone_both, gone_still}
@@ -18,7 +17,7 @@ go_in-requires-then-self-stretch-clause-from c =
 pub returns-in-Err-clause-gone : goal.returns-in-Err-clause-gone
 returns-in-Err-clause-gone c =
     let p = c.args.plan.now in
-    gone_still c.simulation_laws.ensures p (c.checked_is_sound.ensures p c.requires.checked) c.args.i c.requires.node c.args.end c.requires.stop c.args.self.now c.loop-m.self c.loop-m.said.items
+    gone_still c.simulation_laws.ensures p c.laws.ensures.sound c.args.i c.requires.node c.args.end c.requires.stop c.args.self.now c.loop-m.self c.loop-m.said.items
     c.requires.cell c.requires.inside c.loop-m.invariant c.go_in-then-self-stretch.new.self c.in-Err.ensures.err
 
 pub loop-m-preserved : goal.loop-m-preserved
@@ -28,7 +27,7 @@ loop-m-preserved c =
       | then-self-stretch+in-Ok w ↦
           subst (λ x. HasGoneOver p c.args.i c.args.end c.args.self.now x c.if-self-stretch.said.items) (sym w.self-is)
           (subst (λ x. HasGoneOver p c.args.i c.args.end c.args.self.now w.go_in-then-self-stretch.new.self x.items) (sym w.said-is)
-          (gone_both c.simulation_laws.ensures p (c.checked_is_sound.ensures p c.requires.checked) c.args.i c.requires.node c.args.end c.requires.stop c.args.self.now c.loop-m.self c.loop-m.said.items
+          (gone_both c.simulation_laws.ensures p c.laws.ensures.sound c.args.i c.requires.node c.args.end c.requires.stop c.args.self.now c.loop-m.self c.loop-m.said.items
           c.requires.cell c.requires.inside c.loop-m.invariant w.go_in-then-self-stretch.new.self w.in-Ok.more.items (omega (arith, c.if-len-gt1.false, c.len.ensures.value)) w.in-Ok.ensures.gone))
       | else-self-stretch w ↦
           subst (λ x. HasGoneOver p c.args.i c.args.end c.args.self.now x c.if-self-stretch.said.items) (sym w.self-is)

@@ -1,5 +1,5 @@
 -- One stretch more is of the group's plan.
-use Rattle.std.proofs.Common.{◌≡◌, ◌∙◌, sym, subst}
+use Rattle.std.proofs.Common.{◌∙◌, sym, subst}
 use Rattle.wl_plan.specs.PlanLine.{line_of}
 use Rattle.wl_group.specs.Member.{next_tick}
 use Rattle.wl_group.specs.GroupValue.{GroupValue, members_now}
