@@ -74,7 +74,7 @@ impl Letter {
     {
         wl_plan::test_of_truth();
         wl_replica::joining_is_a_join();
-        if *self.plan == *group.plan() {
+        if *self.plan == **group.plan() {
             return Ok(take_all(group, self.records.as_slice())?);
         }
         Err(MailFault::Foreign)
