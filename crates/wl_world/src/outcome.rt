@@ -18,7 +18,7 @@ impl World {
     {
         outcome_node_by_node();
         let mut nodes = Listed::new(alloc);
-        for i in 0..self.plan.topology.nodes() {
+        for i in 0..self.plan.nodes() {
             nodes.push(self.node_outcome(alloc, i)?)?;
         }
         Ok(Outcome {

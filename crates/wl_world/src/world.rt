@@ -6,7 +6,7 @@ use crate::worlds_are_faithful;
 use std::alloc::{AllocError, Global};
 use std::marker::Model;
 use wl_group::Group;
-use wl_plan::{Grouping, Plan};
+use wl_plan::{CheckedPlan, Grouping, Plan};
 use wl_record_core::Record;
 
 /// The groups of a grouping of a plan's nodes, and all records that they ever emitted.
@@ -16,7 +16,7 @@ use wl_record_core::Record;
 #[derive(Drop)]
 pub struct World {
     pub(crate) alloc: Global,
-    pub(crate) plan: Plan,
+    pub(crate) plan: CheckedPlan,
     pub(crate) grouping: Grouping,
     pub(crate) groups: Vec<Group>,
     pub(crate) emitted: Vec<Record>,
@@ -54,6 +54,7 @@ impl World {
         ensures grouping { IfOk result (λ world. world.numbers ≡ grouping) }
     {
         worlds_are_faithful();
+        let plan = CheckedPlan::of(plan);
         let groups = first_groups(alloc, &plan, &grouping)?;
         let emitted = first_records(alloc, &plan)?;
         Ok(World {
