@@ -13,7 +13,7 @@ use Rattle.wl_node.specs.declared.setup.NodeSetup.{NodeSetup}
 use Rattle.wl_plan.specs.declared.plan.Plan.{Plan}
 use Rattle.wl_plan.specs.Limits.{most_quanta, most_quanta-is}
 use Rattle.wl_plan.specs.Line.{Line}
-use Rattle.wl_plan.specs.Sound.{IsCausal}
+use Rattle.wl_plan.specs.Sound.{IsCausal, IsSound}
 use Rattle.wl_plan.specs.Changes.{ChangesAreFew}
 use Rattle.wl_plan.specs.Checked.{IsChecked, CheckedIsSound}
 use Rattle.wl_plan.specs.PlanLine.{setup_at, line_of, table_of, IsTrueOfPlan}
@@ -25,9 +25,9 @@ use Rattle.wl_worker.specs.Shared.{IsShapeOf}
 
 -- ---- the words of a node
 
-few_at : CheckedIsSound → (plan : Plan) → IsChecked plan → (i q : ℕ) → i < length plan.nodes → ((k : ℕ) → k < q → tick_of (setup_at plan i).clock k < plan.end) → q ≤ most_quanta
-few_at sounds plan is i zero b before = omega arith
-few_at sounds plan is i (suc p) b before = let f = (sounds plan is).few_quanta i p b (before p (omega arith)) in omega arith
+few_at : (plan : Plan) → IsSound (line_of plan) → (i q : ℕ) → i < length plan.nodes → ((k : ℕ) → k < q → tick_of (setup_at plan i).clock k < plan.end) → q ≤ most_quanta
+few_at plan sound i zero b before = omega arith
+few_at plan sound i (suc p) b before = let f = sound.few_quanta i p b (before p (omega arith)) in omega arith
 
 -- a quotient is no greater
 pub quotient_small : (n k : ℕ) → n / (k + 1) ≤ n
@@ -37,9 +37,9 @@ quotient_small n k =
     omega arith
 
 -- few quanta of a node begin before the end
-pub few_quanta : CheckedIsSound → (plan : Plan) → IsChecked plan → (i q : ℕ) (x : NodeSetup) → x ≡ setup_at plan i → i < length plan.nodes → ((k : ℕ) → k < q → tick_of x.clock k < plan.end) → q ≤ 1048576
-few_quanta sounds plan is i q x e b before =
-    let f = few_at sounds plan is i q b (λ k low. subst (λ (s : NodeSetup). tick_of s.clock k < plan.end) e (before k low)) in omega (arith, most_quanta-is)
+pub few_quanta : (plan : Plan) → IsSound (line_of plan) → (i q : ℕ) (x : NodeSetup) → x ≡ setup_at plan i → i < length plan.nodes → ((k : ℕ) → k < q → tick_of x.clock k < plan.end) → q ≤ 1048576
+few_quanta plan sound i q x e b before =
+    let f = few_at plan sound i q b (λ k low. subst (λ (s : NodeSetup). tick_of s.clock k < plan.end) e (before k low)) in omega (arith, most_quanta-is)
 
 module _ (laws : SimulationLaws) (l : Line) (i : ℕ) (s : IsCausal l) (b : i < l.nodes) where
   few_below : TableLaws → (u : ℕ) → count_below u (changes l i) ≤ length (changes l i)

@@ -128,7 +128,7 @@ width_small : CheckedIsSound → (plan : Plan) (shape : List (ℕ × ℕ)) → I
     → (slice_index_or shape i (0, 0)).0 ≤ 1048577
 width_small sounds plan shape is words i low =
     let w = words.each i low in
-    let few = few_quanta sounds plan is i w.quanta (setup_at plan i) refl low w.least in
+    let few = few_quanta plan (sounds plan is) i w.quanta (setup_at plan i) refl low w.least in
     let small = quotient_small w.quanta (least_way (setup_at plan i).segments) in
     let e = w.edges in
     omega arith

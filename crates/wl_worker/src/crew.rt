@@ -19,13 +19,13 @@ use std::thread;
 use std::thread::{Promise, PromisedHandle, Scope, Threads};
 use wl_group::Group;
 use wl_level::Listed;
-use wl_plan::Plan;
+use wl_plan::{CheckedPlan, Plan};
 use wl_serial::{NodeOutcome, Outcome, node_outcome, outcome_node_by_node};
 
 /// What a worker's thread promises of the group that it hands back.
 #[derive(Drop)]
 pub(crate) struct OfShare {
-    plan: Snapshot<Plan>,
+    plan: Snapshot<CheckedPlan>,
     workers: u8,
     worker: u8,
 }
@@ -58,22 +58,38 @@ pub fn simulate_over<R: Threads + Wait + Sync, L: Link + Send + Drop, G: Gate + 
     ensures workers { result ≡ Err Fault.Workers ↔ (vec_len links ≡ 0) ⊎ (8 < vec_len links) }
     ensures fault { IfErr result (IsFaultOfRun plan (vec_len links)) }
 {
+    simulate_links(rt, alloc, &CheckedPlan::of(plan), links, gate)
+}
+
+/// Returns what `simulate_over` returns, of a checked plan.
+pub(crate) fn simulate_links<R: Threads + Wait + Sync, L: Link + Send + Drop, G: Gate + Sync>(
+    rt: &R,
+    alloc: Global,
+    plan: &CheckedPlan,
+    links: Vec<L>,
+    gate: &G,
+) -> Result<Outcome, Fault>
+    requires links { All (λ l. L.is_of l plan.now) links.items }
+    requires numbered { AreNumbered L.number links.items }
+    ensures outcome { IfOk result (λ outcome. outcome ≡ outcome_of plan.now) }
+    ensures workers { result ≡ Err Fault.Workers ↔ (vec_len links ≡ 0) ⊎ (8 < vec_len links) }
+    ensures fault { IfErr result (IsFaultOfRun plan.now (vec_len links)) }
+{
     if links.is_empty() || links.len() > MOST_WORKERS {
         return Err(Fault::Workers);
     }
     let workers = links.len() as u8;
-    let ends = run_all(rt, alloc, &plan, workers, links, gate)?;
-    outcome_of_ends(alloc, &plan, workers, ends.as_slice())
+    let ends = run_all(rt, alloc, plan, workers, links, gate)?;
+    outcome_of_ends(alloc, plan, workers, ends.as_slice())
 }
 
 /// Returns the outcome of all workers together, or the first of their faults.
 fn outcome_of_ends(
     alloc: Global,
-    plan: &Plan,
+    plan: &CheckedPlan,
     workers: u8,
     ends: &[Result<Group, Fault>],
 ) -> Result<Outcome, Fault>
-    requires checked { IsChecked plan.now }
     requires some { 0 < workers }
     requires ends { HaveEnded plan.now workers ends.now }
     ensures outcome { IfOk result (λ outcome. outcome ≡ outcome_of plan.now) }
@@ -94,12 +110,11 @@ fn outcome_of_ends(
 fn run_all<R: Threads + Wait + Sync, L: Link + Send + Drop, G: Gate + Sync>(
     rt: &R,
     alloc: Global,
-    plan: &Plan,
+    plan: &CheckedPlan,
     workers: u8,
     links: Vec<L>,
     gate: &G,
 ) -> Result<Vec<Result<Group, Fault>>, Fault>
-    requires checked { IsChecked plan.now }
     requires links { All (λ l. L.is_of l plan.now) links.items }
     requires numbered { AreNumbered L.number links.items }
     requires count { vec_len links ≡ workers }
@@ -112,7 +127,7 @@ fn run_all<R: Threads + Wait + Sync, L: Link + Send + Drop, G: Gate + Sync>(
         thread::scope_env(),
         rt,
         |scope| -> Result<Vec<Result<Group, Fault>>, Fault>
-            requires { IsChecked plan.now × All (λ l. L.is_of l plan.now) links.items
+            requires { All (λ l. L.is_of l plan.now) links.items
                 × AreNumbered L.number links.items × (vec_len links ≡ workers) }
             ensures ends { IfOk result (λ ends. HaveEnded plan.entry.now workers ends.items) }
             ensures fault { IfErr result (λ fault. fault ≡ Fault.Memory) }
@@ -125,13 +140,12 @@ fn run_in<'s, E, R: Threads + Wait + Sync, L: Link + Send + Drop + 's, G: Gate +
     scope: &Scope<'s, E>,
     rt: &'s R,
     alloc: Global,
-    plan: &'s Plan,
+    plan: &'s CheckedPlan,
     workers: u8,
     links: Vec<L>,
     gate: &'s G,
     refusal: &'s AtomicU64,
 ) -> Result<Vec<Result<Group, Fault>>, Fault>
-    requires checked { IsChecked plan.now }
     requires links { All (λ l. L.is_of l plan.now) links.items }
     requires numbered { AreNumbered L.number links.items }
     requires count { vec_len links ≡ workers }
@@ -156,14 +170,13 @@ fn start_all<'s, E, R: Threads + Wait + Sync, L: Link + Send + Drop + 's, G: Gat
     scope: &Scope<'s, E>,
     rt: &'s R,
     alloc: Global,
-    plan: &'s Plan,
+    plan: &'s CheckedPlan,
     workers: u8,
     links: Vec<L>,
     gate: &'s G,
     refusal: &'s AtomicU64,
     children: Vec<Child>,
 ) -> (Vec<Child>, Option<Fault>)
-    requires checked { IsChecked plan.now }
     requires links { All (λ l. L.is_of l plan.now) links.items }
     requires numbered { AreNumbered L.number links.items }
     requires count { vec_len links ≡ workers }
@@ -189,7 +202,7 @@ fn start_all<'s, E, R: Threads + Wait + Sync, L: Link + Send + Drop + 's, G: Gat
 /// Joins the threads of workers 0, 1 and so on, and puts their ends into a list with room.
 fn join_all<R: Threads>(
     rt: &R,
-    plan: &Plan,
+    plan: &CheckedPlan,
     workers: u8,
     children: Vec<Child>,
     ends: Vec<Result<Group, Fault>>,
@@ -215,14 +228,13 @@ fn start<'s, E, R: Wait + Sync, L: Link + Send + Drop + 's, G: Gate + Sync>(
     scope: &Scope<'s, E>,
     rt: &'s R,
     alloc: Global,
-    plan: &'s Plan,
+    plan: &'s CheckedPlan,
     workers: u8,
     worker: u8,
     link: L,
     gate: &'s G,
     refusal: &'s AtomicU64,
 ) -> Result<Child, Fault>
-    requires checked { IsChecked plan.now }
     requires worker { worker < workers }
     requires link { L.is_of link plan.now }
     requires number { L.number link ≡ worker }
@@ -251,14 +263,13 @@ fn start<'s, E, R: Wait + Sync, L: Link + Send + Drop + 's, G: Gate + Sync>(
 fn run_one<R: Wait, L: Link + Drop, G: Gate>(
     rt: &R,
     alloc: Global,
-    plan: &Plan,
+    plan: &CheckedPlan,
     workers: u8,
     worker: u8,
     link: L,
     gate: &G,
     refusal: &AtomicU64,
 ) -> Result<Group, Fault>
-    requires checked { IsChecked plan.now }
     requires worker { worker < workers }
     requires link { L.is_of link plan.now }
     requires number { L.number link ≡ worker }
@@ -313,11 +324,10 @@ fn lower_of(first: Fault, end: &Result<Group, Fault>) -> Fault
 /// Returns the outcome of all groups together; they are at their ends. Refused only when out of memory.
 fn outcome_from(
     alloc: Global,
-    plan: &Plan,
+    plan: &CheckedPlan,
     workers: u8,
     ends: &[Result<Group, Fault>],
 ) -> Result<Outcome, AllocError>
-    requires checked { IsChecked plan.now }
     requires count { (0 < workers) × (length ends.now ≡ workers) }
     requires ended { All IsOk ends.now }
     requires kept { EndsKept plan.now workers ends.now }
@@ -325,7 +335,7 @@ fn outcome_from(
 {
     outcome_node_by_node();
     let mut nodes = Listed::new(alloc);
-    for i in 0..plan.topology.nodes() {
+    for i in 0..plan.nodes() {
         let outcome = node_from(alloc, plan, workers, ends, i)?;
         nodes.push(outcome)?;
     }
@@ -338,7 +348,7 @@ fn outcome_from(
 /// Returns what node `i` did, by the group that has it.
 fn node_from(
     alloc: Global,
-    plan: &Plan,
+    plan: &CheckedPlan,
     workers: u8,
     ends: &[Result<Group, Fault>],
     i: u8,

@@ -9,7 +9,7 @@ use crate::over_mail::simulate_over_mail;
 use std::alloc::Global;
 use std::sync::Wait;
 use std::thread::Threads;
-use wl_plan::Plan;
+use wl_plan::{CheckedPlan, Plan};
 use wl_serial::Outcome;
 
 /// What workers hand records to one another by.
@@ -26,13 +26,12 @@ pub enum LinkKind {
 pub fn simulate_by<R: Threads + Wait + Sync, G: Gate + Sync>(
     rt: &R,
     alloc: Global,
-    plan: Plan,
+    plan: &CheckedPlan,
     workers: u8,
     kind: LinkKind,
     gate: &G,
 ) -> Result<Outcome, Fault>
-    requires { IsChecked plan }
-    ensures outcome { IfOk result (λ outcome. outcome ≡ outcome_of plan) }
+    ensures outcome { IfOk result (λ outcome. outcome ≡ outcome_of plan.now) }
     ensures workers { result ≡ Err Fault.Workers ↔ (workers ≡ 0) ⊎ (8 < workers) }
 {
     match kind {
@@ -53,5 +52,12 @@ pub fn simulate<R: Threads + Wait + Sync, G: Gate + Sync>(
     ensures outcome { IfOk result (λ outcome. outcome ≡ outcome_of plan) }
     ensures workers { result ≡ Err Fault.Workers ↔ (workers ≡ 0) ⊎ (8 < workers) }
 {
-    simulate_by(rt, alloc, plan, workers, LinkKind::Hub, gate)
+    simulate_by(
+        rt,
+        alloc,
+        &CheckedPlan::of(plan),
+        workers,
+        LinkKind::Hub,
+        gate,
+    )
 }

@@ -2,12 +2,11 @@
 ghost use Rattle.std.specs.Prelude.{◌≡◌, ◌<◌, ◌⊎◌, ◌↔◌, All, Err, IfOk, vec_len};
 ghost use Rattle.wl_hub.specs.Passes.{IsPassOf};
 ghost use Rattle.wl_plan.specs.declared.plan.Plan.{Plan as GivenPlan};
-ghost use Rattle.wl_plan.specs.Checked.{IsChecked};
 ghost use Rattle.wl_serial.specs.Outcome.{outcome_of};
 ghost use Rattle.wl_worker.specs.Shared.{AreNumbered, IsOfPlan};
 
 use crate::bell::{Bell, MOST_WORKERS};
-use crate::crew::simulate_over;
+use crate::crew::simulate_links;
 use crate::hub_link::HubLink;
 use crate::link::{Fault, Gate};
 use crate::shared::{PlanName, shape_of_plan};
@@ -15,32 +14,31 @@ use std::alloc::{AllocError, Global};
 use std::sync::Wait;
 use std::thread::Threads;
 use wl_hub::{Hub, Pass};
-use wl_plan::Plan;
+use wl_plan::CheckedPlan;
 use wl_serial::Outcome;
 
 /// Returns the outcome of the one-thread simulation of a plan, by this many workers over one hub.
 pub(crate) fn simulate_over_hub<R: Threads + Wait + Sync, G: Gate + Sync>(
     rt: &R,
     alloc: Global,
-    plan: Plan,
+    plan: &CheckedPlan,
     workers: u8,
     gate: &G,
 ) -> Result<Outcome, Fault>
-    requires { IsChecked plan }
-    ensures outcome { IfOk result (λ outcome. outcome ≡ outcome_of plan) }
+    ensures outcome { IfOk result (λ outcome. outcome ≡ outcome_of plan.now) }
     ensures workers { result ≡ Err Fault.Workers ↔ (workers ≡ 0) ⊎ (8 < workers) }
 {
     if workers == 0 || usize::from(workers) > MOST_WORKERS {
         return Err(Fault::Workers);
     }
-    let shape = shape_of_plan(alloc, &plan)?;
+    let shape = shape_of_plan(alloc, plan)?;
     let name = PlanName {
         plan: plan.clone_in(alloc)?,
     };
     let (hub, pass) = Hub::start(alloc, shape.as_slice(), &name)?;
     let bell = Bell::new(alloc, workers)?;
     let links = hub_links(rt, alloc, &hub, pass, &bell, workers)?;
-    simulate_over(rt, alloc, plan, links, gate)
+    simulate_links(rt, alloc, plan, links, gate)
 }
 
 /// Returns a link for each of this many workers, over a pass of its own that is split off a pass of the hub. Refused only when out of

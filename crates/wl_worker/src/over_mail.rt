@@ -1,17 +1,16 @@
 //! All workers of a plan by letters.
 ghost use Rattle.std.specs.Prelude.{◌≡◌, ◌<◌, ◌⊎◌, ◌↔◌, Err, IfOk};
-ghost use Rattle.wl_plan.specs.Checked.{IsChecked};
 ghost use Rattle.wl_serial.specs.Outcome.{outcome_of};
 
 use crate::bell::{Bell, MOST_WORKERS};
-use crate::crew::simulate_over;
+use crate::crew::simulate_links;
 use crate::link::{Fault, Gate};
 use crate::mail_link::mail_links;
 use std::alloc::Global;
 use std::sync::Wait;
 use std::thread::Threads;
 use wl_mail::posts;
-use wl_plan::Plan;
+use wl_plan::CheckedPlan;
 use wl_serial::Outcome;
 
 /// Returns the outcome of the one-thread simulation of a plan, by this many workers that send letters. All receivers are held until the
@@ -19,12 +18,11 @@ use wl_serial::Outcome;
 pub(crate) fn simulate_over_mail<R: Threads + Wait + Sync, G: Gate + Sync>(
     rt: &R,
     alloc: Global,
-    plan: Plan,
+    plan: &CheckedPlan,
     workers: u8,
     gate: &G,
 ) -> Result<Outcome, Fault>
-    requires { IsChecked plan }
-    ensures outcome { IfOk result (λ outcome. outcome ≡ outcome_of plan) }
+    ensures outcome { IfOk result (λ outcome. outcome ≡ outcome_of plan.now) }
     ensures workers { result ≡ Err Fault.Workers ↔ (workers ≡ 0) ⊎ (8 < workers) }
 {
     if workers == 0 || usize::from(workers) > MOST_WORKERS {
@@ -32,6 +30,6 @@ pub(crate) fn simulate_over_mail<R: Threads + Wait + Sync, G: Gate + Sync>(
     }
     let (posts, _hold) = posts(alloc, workers)?;
     let bell = Bell::new(alloc, workers)?;
-    let links = mail_links(rt, alloc, posts, &plan, &bell)?;
-    simulate_over(rt, alloc, plan, links, gate)
+    let links = mail_links(rt, alloc, posts, plan, &bell)?;
+    simulate_links(rt, alloc, plan, links, gate)
 }

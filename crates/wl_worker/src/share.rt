@@ -1,25 +1,23 @@
 //! The nodes of a worker.
 ghost use Rattle.std.specs.Prelude.{◌≡◌, ◌<◌, ◌%◌, ◌==◌, ◌||◌, ◌&&◌, ℕ, IfOk, OnOk, length};
-ghost use Rattle.wl_plan.specs.Checked.{IsChecked};
 ghost use Rattle.wl_group.specs.GroupValue.{names};
 ghost use Rattle.wl_worker.specs.Shares.{AreBelow, IsShare};
 
 use std::alloc::{AllocError, Global};
 use wl_group::Group;
-use wl_plan::Plan;
+use wl_plan::CheckedPlan;
 
 /// Returns the group of a worker, before its first quanta: the nodes `i` with `i` mod `workers` equal to `worker`.
 pub(crate) fn share_of(
     alloc: Global,
-    plan: &Plan,
+    plan: &CheckedPlan,
     workers: u8,
     worker: u8,
 ) -> Result<Group, AllocError>
-    requires checked { IsChecked plan.now }
     requires worker { worker < workers }
     ensures { IfOk result (IsShare plan.now workers worker) }
 {
-    let members = members_of(alloc, plan.topology.nodes(), workers, worker)?;
+    let members = members_of(alloc, plan.nodes(), workers, worker)?;
     Group::new(alloc, plan, members.as_slice())
 }
 

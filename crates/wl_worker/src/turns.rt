@@ -136,7 +136,7 @@ fn first_silences(alloc: Global, group: &Group) -> Result<Vec<Record>, AllocErro
 {
     let plan = group.plan();
     let mut first = Vec::new(alloc);
-    for i in 0..plan.topology.nodes() {
+    for i in 0..plan.nodes() {
         if group.has(i) {
             first.push(first_silence(plan, i))?;
         }
