@@ -51,20 +51,31 @@ class Bus:
         return greatest(self.nodes, self.sends_but(i), lambda a: self.way(i, a) + 10 * self.drift)
 
     def edges(self, i):
-        early, lost = self.early(i), 10 * greatest(self.nodes, self.sends_but(i), lambda a: self.drift)
-        if early <= self.short:
+        far, lost = self.early(i) - self.short, 10 * greatest(self.nodes, self.sends_but(i), lambda a: self.drift)
+        if far <= 0:
             return 0
-        return 14 if self.jump <= lost else min(14, -((early - self.short) // -(self.jump - lost)))
+        gained = down(self.jump, lost)
+        return -(far // -gained) if far <= 14 * gained else min(74, -((far + 14 * lost) // -self.jump))
+
+    def spread(self):
+        return 10 * self.drift + down(self.sjw * self.long, self.jump)
 
     def apart(self, i, j):
         chase = min(self.edges(i), self.edges(j)) if any(map(self.sends_but(i, j), self.nodes)) else 0
-        return chase * (10 * self.drift + down(self.sjw * self.long, self.jump))
+        return chase * self.spread()
+
+    def answered(self, i, j):
+        """How late the end of an acknowledgement can be if that of a third comes early."""
+        if len(self.senders) < 2:
+            return 0
+        behind = down(self.look + 10 * self.drift + self.edges(j) * self.spread(), self.jump)
+        return greatest(self.nodes, lambda a: a not in (i, j) and any(map(self.sends_but(a, j), self.nodes)), lambda a: self.trip(i, j, a) + behind)
 
     def late(self, i, j):
         way = self.way(i, j)
         tour = greatest(self.nodes, self.sends_but(i, j), lambda a: down(
             self.way(i, a) + 10 * self.drift + self.delay(a, j) + self.delay(j, i), self.delay(a, i)))
-        return way + min(self.apart(i, j), down(tour, way))
+        return max(way + min(self.apart(i, j), down(tour, way)), self.answered(i, j))
 
     def pull(self, i, j):
         if j not in self.senders:
