@@ -118,6 +118,9 @@ if ! env PATH=/usr/bin:/bin bash -c 'command -v rt' > /dev/null; then
   ends 1 build && is "no toolchain, said once" [ "$(grep -c "no command 'rt'" "$room/err")" = 1 ]
 fi
 ends 2 help && is "help without a build" cmp -s "$room/err" tools/help.txt
+cp crates/wl_sim/src/command.rt "$tree/crates/wl_sim/src"
+"$program" --version 2> "$room/wanted" < /dev/null
+ends 2 --version && is "the version without a build" cmp -s "$room/err" "$room/wanted"
 cat > "$stub/rt" << 'STUB'
 #!/bin/sh
 [ -z "${FAILS-}" ] || { echo "error: $FAILS" >&2; exit 1; }
@@ -131,17 +134,24 @@ else
   cp "$PROGRAM" "$TMPDIR/deep/program"
   echo "case=1" >&2
   sleep "${SLEEPS-0.3}"
+  echo "case=2" >&2
+  sleep "${SLEEPS-0.3}"
   rm -r "$TMPDIR/deep"
 fi
 STUB
-chmod +x "$stub/rt"
+cat > "$stub/ln" << 'STUB'
+#!/bin/sh
+[ -z "${GONE-}" ] || [ -e "$GONE" ] || { touch "$GONE"; echo "ln: gone" >&2; exit 1; }
+exec /bin/ln "$@"
+STUB
+chmod +x "$stub/rt" "$stub/ln"
 script=(env "PATH=$stub:/usr/bin:/bin" "CALLS=$room/calls" "PROGRAM=$program" "$tree/wireline")
 FAILS='no such name' ends 1 run "$plan" && says "a build that fails" "error: no such name"
 says "a build that fails" "no program could be made"
 says "a build that fails" "by this kit: error: no such name"
 FAILS='not proved' ends 1 build && says "a proof that fails" "the program was not proved"
 is "after a proof that fails nothing else is built" [ "$(grep -c compiling "$room/err")" = 0 ]
-ends 0 run "$plan" && says "what is built, and for how long" "compiling a build without proof, once"
+ends 0 run "$plan" && says "what is built, and for how long" "compiling a build without proof, once: some three minutes of processor time"
 is "the first report" cmp -s "$room/out" "$report"
 ends 0 run "$plan"
 is "the second report" cmp -s "$room/out" "$report"
@@ -152,6 +162,11 @@ is "the proved build is kept" [ "$(tr '\n' ' ' < "$room/calls")" = "try run " ]
 touch -d '1 second' "$tree/crates/wl_sim/src/main.rt" && sleep 1.2
 ends 0 run "$plan"
 is "a source that changed is built" [ "$(tr '\n' ' ' < "$room/calls")" = "try run try " ]
+# A program that is gone before a link to it is made: that of the next case is taken
+rm -rf "$tree/out" "$tree/crates/wl_sim/out" "$room/calls"
+GONE=$room/gone ends 0 run "$plan" && is "a program was gone" [ -e "$room/gone" ]
+is "the report of the next case's program" cmp -s "$room/out" "$report"
+is "nothing is said of the one that was gone" [ "$(grep -vc '^wireline: compiling' "$room/err")" = 0 ]
 # First calls that meet: one builds, the others wait for it
 rm -rf "$tree/out" "$tree/crates/wl_sim/out" "$room/calls"
 for n in 1 2 3 4 5; do "${script[@]}" run "$plan" > "$room/out$n" 2> "$room/err$n" & done
