@@ -13,6 +13,12 @@ Seed 1 and one process by default. Input N of a seed is always the same, in howe
   traffic       traffic on random plans
   candump       candump on random plans, at random lengths of a tick
   refusals      what explain writes of plans that are refused
+  margin        margin, and explain of every other plan, on families around the border of the condition
+  settings      settings of texts with few settings each
+  sweeps        sweeps of a few members over random words, and a member that is printed
+  readers       plans of the usual form beside the same in forms that the quick reader leaves to the TOML reader
+  formats       JSON and CSV of each command beside its text, on random plans
+  pages         the texts of pages beside what the other commands write
   versions      plans of version 1 or 2 beside the same in version 3; --bits N ends each plan after so many bits
   repeats       frames that come again beside their instances as tables; --bits N
   version-3     plans of version 3 with what it has more; --bits N, --workers N
@@ -45,6 +51,7 @@ WHATS = {
     "traffic": ("traffic", "traffic", 1_000, {}),
     "candump": ("log", "candump", 1_000, {}),
     "refusals": ("refusals", "refusals", 1_000, {}),
+    **{name: ("beside", name, 1_000, {}) for name in ("margin", "settings", "sweeps", "readers", "formats", "pages")},
     "versions": ("versions", "versions", 1_000, {"bits": "0"}),
     "repeats": ("versions", "repeats", 1_000, {"bits": "0"}),
     "version-3": ("versions", "version_3", 1_000, {"bits": "0", "workers": ""}),

@@ -1,7 +1,7 @@
 #!/usr/bin/env python3
 """Hostile texts through every command, and whether the commands agree with one another. No other program is asked.
 
-usage: hostile.py PROGRAM [--runs N] [--seed S] [--jobs J]
+usage: hostile.py PROGRAM [--runs N] [--seed S] [--jobs J] [--workers SHARE]     SHARE of the accepted plans run by workers, too: 0.3 by default
 
 Texts are strangers' (strangers.py), and good ones with hostile comments and names. Of each plan text all commands have to give one status and one fault;
 only `traffic`, `margin` and `page` may have more to say. Of an accepted plan: workers give the report of one thread; the trace has what the report counts,
@@ -48,8 +48,8 @@ def want(holds, fault):
 class Asker:
     """Runs the program, with files of its own for what it reads and writes."""
 
-    def __init__(self, program, folder):
-        self.program, self.folder, self.runs = program, folder, Counter()
+    def __init__(self, program, folder, share):
+        self.program, self.folder, self.share, self.runs = program, folder, share, Counter()
         self.input, self.out, self.err = (str(folder / name) for name in ("in", "out", "err"))
 
     def __call__(self, text, *words):
@@ -58,7 +58,7 @@ class Asker:
             (0, self.input, os.O_RDONLY), (1, self.out, os.O_WRONLY | os.O_CREAT | os.O_TRUNC), (2, self.err, os.O_WRONLY | os.O_CREAT | os.O_TRUNC))]
         child = os.posix_spawn(self.program, [self.program, *words], {"PATH": "/usr/bin"}, file_actions=opens)
         status = os.waitstatus_to_exitcode(os.waitpid(child, 0)[1])
-        self.runs[words[0]] += 1
+        self.runs[words[0] + " by workers" * (words[0] == "run" and "--workers" in words)] += 1
         with open(self.out, "rb") as out, open(self.err, "rb") as err: answer = out.read(), err.read(), status
         self.is_plain(words, *answer)
         return answer
@@ -85,7 +85,7 @@ def plan_faults(ask, rng, text):
     told = {command: ask(text, command) for command in PLAIN + ["margin", "traffic"]}
     want(all(answer[2] == 0 for answer in told.values()), f"not all accept it: {[(command, answer[1:]) for command, answer in told.items() if answer[2]]}")
     told = {command: answer[0].decode() for command, answer in told.items()}
-    workers = ask(text, "run", "--workers", str(rng.randint(2, 8)), "--link", rng.choice(["hub", "mail"])) if rng.random() < 0.3 else None
+    workers = ask(text, "run", "--workers", str(rng.randint(2, 8)), "--link", rng.choice(["hub", "mail"])) if rng.random() < ask.share else None
     want(not workers or workers[0].decode() == told["run"], "workers give another report")
     want(counts_alike(told["trace"], told["run"]), "the trace has other numbers than the report")
     log_of_trace(told)
@@ -258,10 +258,10 @@ FAULTS = {"records": record_faults, "plans": plan_faults, "hostile": plan_faults
 
 
 def part(words):
-    program, seed, first, runs = words
+    program, seed, first, runs, share = words
     counts, kept, number = Counter(), [], first
     with tempfile.TemporaryDirectory(dir="/dev/shm" if os.path.isdir("/dev/shm") else None) as folder:
-        ask = Asker(program, Path(folder))
+        ask = Asker(program, Path(folder), share)
         while sum(ask.runs.values()) < runs:
             rng = random.Random(f"{seed} {number} hostile")
             number += 1
@@ -278,9 +278,9 @@ def part(words):
 
 def main():
     if len(sys.argv) < 2: sys.exit(sys.stderr.write(__doc__) and 2)
-    options = options_of(__doc__, sys.argv[2:], {"runs": "10000", "seed": "1", "jobs": "1"})
+    options = options_of(__doc__, sys.argv[2:], {"runs": "10000", "seed": "1", "jobs": "1", "workers": "0.3"})
     program, runs, jobs, piece = os.path.abspath(sys.argv[1]), int(options["runs"]), int(options["jobs"]), 2_000
-    tasks = [(program, options["seed"], number * 10**6, min(piece, runs - number * piece)) for number in range(-(-runs // piece))]
+    tasks = [(program, options["seed"], number * 10**6, min(piece, runs - number * piece), float(options["workers"])) for number in range(-(-runs // piece))]
     all_runs, all_counts, all_kept = Counter(), Counter(), []
     with Pool(jobs) as pool:
         for done, counts, kept in pool.imap_unordered(part, tasks):
