@@ -1,3 +1,4 @@
+mod Least
 mod Roomy
 mod Standing
 mod Waiting

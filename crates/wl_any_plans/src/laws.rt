@@ -6,7 +6,7 @@ ghost use Rattle.wl_bound.specs.Covered.{is_covered};
 ghost use Rattle.wl_bound.specs.Families.{Buses, family_of};
 ghost use Rattle.wl_bound.specs.Oscillators.{Pace};
 ghost use Rattle.wl_bound.specs.Verdicts.{outside_of};
-ghost use Rattle.wl_room.specs.Rooms.{least_chase, leaves_room, plain_bus};
+ghost use Rattle.wl_room.specs.Rooms.{IsShort, least_chase, leaves_room, plain_bus};
 ghost use Rattle.wl_one_sender.specs.Clean.{IsOfFamily};
 ghost use Rattle.wl_one_sender.specs.Plans.{IsSteadyPlan};
 ghost use Rattle.wl_any_senders.specs.Answers.{HasRoomToAnswer};
@@ -27,6 +27,13 @@ pub fn a_family_leaves_room()
 {
     wl_room::room_law();
 }
+
+/// Law: the test asks no more of a bus than that: if it has the room with any numbers of edges in which nodes catch up, it passes, since
+/// it has it with the least ones. Its quanta are short, as those of oscillators are.
+pub fn no_more_room_is_asked()
+    ensures { (f : Buses) (chase : ℕ → ℕ) → IsShort f → HasRoomToAnswer (plain_bus f) chase
+        → LeavesRoomToRest (plain_bus f) chase → leaves_room f ≡ true }
+{}
 
 /// Law: the nodes of a family's plan are stations, and the bus of the family is theirs, if none only listens.
 pub fn a_plan_has_stations()
