@@ -1,0 +1,2 @@
+pub mod PlanFrames
+pub mod Clean
