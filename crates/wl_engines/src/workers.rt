@@ -40,7 +40,7 @@ fn report_by<H: Threads + Wait + Sync>(
     ensures count { IfOk result (λ _. CanWork workers) }
     ensures fault { IfErr result (IsWorkFault workers) }
 {
-    let outcome = simulate_by(rt, alloc, plan.into_plan(), workers, kind, &OpenGate)?;
+    let outcome = simulate_by(rt, alloc, &plan, workers, kind, &OpenGate)?;
     Ok(report(alloc, &outcome)?)
 }
 
