@@ -331,9 +331,9 @@ class Text:
         if of_any is None and covered and self.family.buses(False)[0].leaves_room():
             yield "holds for any senders, proved: any_senders_are_clean"
         elif of_any is None:
-            yield "holds for any senders, shown by search" + ("; for one sender at a time, proved: one_sender_is_clean" if proved else ", not proved")
+            yield "holds for any senders, as far as searched" + ("; for one sender at a time, proved: one_sender_is_clean" if proved else ", not proved")
         elif of_one is None:
-            yield "holds for one sender at a time, " + ("proved: one_sender_is_clean" if proved else "shown by search, not proved")
+            yield "holds for one sender at a time, " + ("proved: one_sender_is_clean" if proved else "as far as searched, not proved")
             yield f"any senders: {self.failure(*of_any)}"
         else:
             yield f"does not hold: {self.failure(*of_one)}"

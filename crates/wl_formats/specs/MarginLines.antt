@@ -16,12 +16,12 @@ margin_layout = record {
       record {
         kind = codes "verdict";
         parts =
-            field (codes "verdict") Phrase ∷ literal (codes ", shown by search, not proved") ∷ [];
+            field (codes "verdict") Phrase ∷ literal (codes ", as far as searched, not proved") ∷ [];
       } ∷
       record {
         kind = codes "verdict";
         parts =
-            field (codes "verdict") Phrase ∷ literal (codes ", shown by search; for one sender at a time, proved: ") ∷
+            field (codes "verdict") Phrase ∷ literal (codes ", as far as searched; for one sender at a time, proved: ") ∷
             field (codes "law") Word ∷ [];
       } ∷
       record {

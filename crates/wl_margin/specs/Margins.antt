@@ -83,16 +83,16 @@ spare_of tick f senders inequality i j =
     else codes "none"
 
 -- What is said where the condition holds. That it suffices is proved for one sender at a time, on the plans that the law covers (`one_sender_is_clean` of
--- wl_one_sender). So it is for any senders, if the bus leaves room (`any_senders_are_clean` of wl_clean); else it is shown by search for these.
+-- wl_one_sender). So it is for any senders, if the bus leaves room (`any_senders_are_clean` of wl_clean); else it rests on searches.
 abbrev pub any_lead : Proved → List ℕ
 any_lead proved =
     if proved.any then codes "holds for any senders, proved: any_senders_are_clean\n"
-    else if proved.one then codes "holds for any senders, shown by search; for one sender at a time, proved: one_sender_is_clean\n"
-    else codes "holds for any senders, shown by search, not proved\n"
+    else if proved.one then codes "holds for any senders, as far as searched; for one sender at a time, proved: one_sender_is_clean\n"
+    else codes "holds for any senders, as far as searched, not proved\n"
 
 abbrev pub one_lead : Bool → List ℕ
 one_lead true = codes "holds for one sender at a time, proved: one_sender_is_clean\n"
-one_lead false = codes "holds for one sender at a time, shown by search, not proved\n"
+one_lead false = codes "holds for one sender at a time, as far as searched, not proved\n"
 
 -- each clock has one rate
 abbrev pub are_steady : List Deviation → Bool

@@ -313,9 +313,9 @@ fn any_lead(proved: Proved) -> &'static str
     if proved.any {
         "holds for any senders, proved: any_senders_are_clean\n"
     } else if proved.one {
-        "holds for any senders, shown by search; for one sender at a time, proved: one_sender_is_clean\n"
+        "holds for any senders, as far as searched; for one sender at a time, proved: one_sender_is_clean\n"
     } else {
-        "holds for any senders, shown by search, not proved\n"
+        "holds for any senders, as far as searched, not proved\n"
     }
 }
 
@@ -326,7 +326,7 @@ fn one_lead(proved: bool) -> &'static str
     if proved {
         "holds for one sender at a time, proved: one_sender_is_clean\n"
     } else {
-        "holds for one sender at a time, shown by search, not proved\n"
+        "holds for one sender at a time, as far as searched, not proved\n"
     }
 }
 

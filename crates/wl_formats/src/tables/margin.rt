@@ -17,10 +17,10 @@ static MARGIN: Table = Table {
     ],
     shapes: &[
         Shape { kind: "verdict", pieces: &[
-            Field("verdict", Phrase), Fixed(", shown by search, not proved"),
+            Field("verdict", Phrase), Fixed(", as far as searched, not proved"),
         ] },
         Shape { kind: "verdict", pieces: &[
-            Field("verdict", Phrase), Fixed(", shown by search; for one sender at a time, proved: "), Field("law", Word),
+            Field("verdict", Phrase), Fixed(", as far as searched; for one sender at a time, proved: "), Field("law", Word),
         ] },
         Shape { kind: "verdict", pieces: &[
             Field("verdict", Phrase), Fixed(", proved: "), Field("law", Word),
