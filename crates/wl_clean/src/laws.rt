@@ -12,7 +12,7 @@ ghost use Rattle.wl_room.specs.Rooms.{leaves_room, plain_bus};
 ghost use Rattle.wl_one_sender.specs.Clean.{IsOfFamily};
 ghost use Rattle.wl_one_sender.specs.Plans.{IsSteadyPlan};
 ghost use Rattle.wl_any_senders.specs.Answers.{HasRoomToAnswer};
-ghost use Rattle.wl_any_senders.specs.Bounds.{IsBusOf, IsLeftForTwo};
+ghost use Rattle.wl_any_senders.specs.Bounds.{IsBusOf};
 ghost use Rattle.wl_any_senders.specs.Expected.{expected_sample};
 ghost use Rattle.wl_any_senders.specs.Plans.{IsPlanOf};
 ghost use Rattle.wl_any_senders.specs.Stations.{AreStations, HaveRoom, Stations};
@@ -65,7 +65,7 @@ pub fn each_frame_ends_later()
 /// lies, and whenever each node begins. What `margin` tests before it says that this is proved is enough.
 pub fn any_senders_are_clean()
     ensures plan { (plan : Plan) (s : Stations) (bus : Bus) (chase : ℕ → ℕ) → IsPlanOf plan s → plan.disturbances ≡ []
-        → IsBusOf bus s → IsLeftForTwo bus s → IsSound bus → HasRoomToAnswer bus chase → LeavesRoomToRest bus chase
+        → IsBusOf bus s → IsSound bus → HasRoomToAnswer bus chase → LeavesRoomToRest bus chase
         → HasFirstFrames plan (queues_of plan) s → AllGetThrough plan s }
     ensures family { (f : Buses) (plan : Plan) (clocks : ℕ → Steady) → IsSteadyPlan plan clocks
         → IsOfFamily f plan clocks → NoneListens plan → HasFirstFrames plan (queues_of plan) (stations_of f plan clocks)
@@ -77,6 +77,7 @@ pub fn any_senders_are_clean()
     wl_bound::condition_laws();
     wl_any_senders::laws::a_plan_is_on_a_line();
     wl_any_senders::laws::a_sound_bus_has_room();
+    wl_any_senders::laws::two_alone_have_room();
     wl_any_plans::laws::a_family_leaves_room();
     wl_any_plans::laws::a_plan_has_stations();
     wl_any_plans::laws::a_covered_plan_has_first_frames();

@@ -5,7 +5,7 @@ use Rattle.wl_bound.specs.Conditions.{IsSound, plain}
 use Rattle.wl_bound.specs.Families.{Bus}
 use Rattle.wl_room.specs.Rooms.{least_chase, plain_bus}
 use Rattle.wl_any_senders.specs.Answers.{HasRoomToAnswer}
-use Rattle.wl_any_senders.specs.Bounds.{IsBusOf, IsLeftForTwo}
+use Rattle.wl_any_senders.specs.Bounds.{IsBusOf}
 use Rattle.wl_any_senders.specs.Plans.{IsPlanOf}
 use Rattle.wl_any_senders.specs.Stations.{AreStations, Stations}
 use Rattle.wl_first_frame.specs.FirstFrames.{HasFirstFrames, queues_of}
@@ -19,11 +19,12 @@ use Rattle.wl_clean.proofs.Verdicts.{of_verdict}
 use Rattle.wl_clean.proofs.Whole.{all_sent, through}
 use Rattle.wl_clean.proofs.laws.any_senders_are_clean.Goals as goal
 
-whole : goal.After-each_frame_ends_later → (plan : Plan) (s : Stations) (bus : Bus) (chase : ℕ → ℕ) → IsPlanOf plan s → plan.disturbances ≡ [] → IsBusOf bus s → IsLeftForTwo bus s → IsSound bus
+whole : goal.After-each_frame_ends_later → (plan : Plan) (s : Stations) (bus : Bus) (chase : ℕ → ℕ) → IsPlanOf plan s → plan.disturbances ≡ [] → IsBusOf bus s → IsSound bus
     → HasRoomToAnswer bus chase → LeavesRoomToRest bus chase → HasFirstFrames plan (queues_of plan) s → AllGetThrough plan s
-whole c plan s bus chase of calm bus_of left sound answer rest has =
+whole c plan s bus chase of calm bus_of sound answer rest has =
     (let found = c.what_is_found_stays.ensures in
     let line = c.a_plan_is_on_a_line.ensures plan s of in
+    let left = c.two_alone_have_room.ensures bus s line bus_of sound in
     let are : AreStations s = record { line = line; ways = c.a_sound_bus_has_room.ensures.ways bus s line bus_of } in
     let room = c.a_sound_bus_has_room.ensures.room bus s line bus_of left sound in
     let x = c.the_frames_of_a_plan.ensures plan s chase plan.end of are room (c.a_bus_has_room_for_all.ensures bus s chase line bus_of answer rest) has in
@@ -54,7 +55,7 @@ pub returns-clause-family : goal.returns-clause-family
 returns-clause-family c = λ f plan clocks steady of speaks has room sound.
     (let bus = c.a_plan_has_stations.ensures.bus f plan clocks of speaks in
     whole c plan (stations_of f plan clocks) (plain_bus f) (least_chase (plain_bus f)) (c.a_plan_has_stations.ensures.plan f plan clocks steady of speaks) steady.undisturbed bus
-    (c.a_family_leaves_room.ensures.two f (stations_of f plan clocks) room bus) sound (c.a_family_leaves_room.ensures.answers f room) (c.a_family_leaves_room.ensures.rests f room) has)
+    sound (c.a_family_leaves_room.ensures.answers f room) (c.a_family_leaves_room.ensures.rests f room) has)
 
 pub returns-clause-covered : goal.returns-clause-covered
 returns-clause-covered c = λ f plan clocks steady of contents sends verdict covered room.
@@ -62,5 +63,5 @@ returns-clause-covered c = λ f plan clocks steady of contents sends verdict cov
     let speaks = c.a_covered_plan_has_first_frames.ensures.speaks plan covered in
     let bus = c.a_plan_has_stations.ensures.bus f plan clocks of speaks in
     whole c plan (stations_of f plan clocks) (plain_bus f) (least_chase (plain_bus f)) (c.a_plan_has_stations.ensures.plan f plan clocks steady of speaks) steady.undisturbed bus
-    (c.a_family_leaves_room.ensures.two f (stations_of f plan clocks) room bus) ((c.condition_laws.ensures.any f plain).0 v.1) (c.a_family_leaves_room.ensures.answers f room)
+    ((c.condition_laws.ensures.any f plain).0 v.1) (c.a_family_leaves_room.ensures.answers f room)
     (c.a_family_leaves_room.ensures.rests f room) (c.a_covered_plan_has_first_frames.ensures.first f plan clocks steady of covered v.0 contents sends))
