@@ -10,20 +10,18 @@ ghost use Rattle.wl_room.specs.Rooms.{IsShort, least_chase, leaves_room, plain_b
 ghost use Rattle.wl_one_sender.specs.Clean.{IsOfFamily};
 ghost use Rattle.wl_one_sender.specs.Plans.{IsSteadyPlan};
 ghost use Rattle.wl_any_senders.specs.Answers.{HasRoomToAnswer};
-ghost use Rattle.wl_any_senders.specs.Bounds.{IsBusOf, IsLeftForTwo};
+ghost use Rattle.wl_any_senders.specs.Bounds.{IsBusOf};
 ghost use Rattle.wl_any_senders.specs.Plans.{IsPlanOf};
 ghost use Rattle.wl_any_senders.specs.Stations.{Stations};
 ghost use Rattle.wl_first_frame.specs.FirstFrames.{AreIdleWhenReady, HasFirstFrames, HasFrames, queues_of};
 ghost use Rattle.wl_frame_end.specs.Again.{LeavesRoomToRest};
 ghost use Rattle.wl_any_plans.specs.FamilyStations.{AreContents, NoneListens, SendAsFamily, stations_of};
 
-/// Law: a family whose bus leaves room has it for acknowledgements, to rest after each frame, and for two that alone may send. Each node
-/// catches up in the least number of edges that does.
+/// Law: a family whose bus leaves room has it for acknowledgements, and to rest after each frame. Each node catches up in the least number of
+/// edges that does.
 pub fn a_family_leaves_room()
     ensures answers { (f : Buses) → leaves_room f ≡ true → HasRoomToAnswer (plain_bus f) (least_chase (plain_bus f)) }
     ensures rests { (f : Buses) → leaves_room f ≡ true → LeavesRoomToRest (plain_bus f) (least_chase (plain_bus f)) }
-    ensures two { (f : Buses) (s : Stations) → leaves_room f ≡ true → IsBusOf (plain_bus f) s
-        → IsLeftForTwo (plain_bus f) s }
 {
     wl_room::room_law();
 }
