@@ -10,7 +10,7 @@
 # - each row of .ci/refused.txt: the status, the one line on standard error, nothing on standard output but what explain says of it, and the hint
 # - files for input and output: what stands at the named place on each outcome; devices, rights, full disks, closed descriptors, odd names
 # - settings: lists and plans as check/settings.py has them, and what is refused (.ci/settings.sh)
-# - the commands of docs/use/first-hour.md, whose outputs are those that the page shows (.ci/shown.py)
+# - the commands of docs/use/first-hour.md, examples.md, settings.md and sweeps.md, whose outputs are those that the page shows (.ci/shown.py)
 # - JSON and CSV of each command, by Python's readers (check/formats.py)
 # - sweeps: known answers, what is refused, files, memory (.ci/sweeps.sh)
 # - command lines that name no task, or are no text: status 2, and nothing on standard output
@@ -113,7 +113,9 @@ if command -v chromium > /dev/null; then
   is "maps of sweeps in a browser" python3 -B check/page.py "$program" --sweeps
 fi
 
-is "what the first hour shows" python3 -B .ci/shown.py docs/use/first-hour.md "$program"
+for page in first-hour examples settings sweeps; do
+  is "what the page $page shows" python3 -B .ci/shown.py "docs/use/$page.md" "$program"
+done
 
 for name in bounds doubts rates; do
   runs "explain of $name" ".ci/$name.toml" 0 ".ci/$name.explained" "$room/none" explain

@@ -189,7 +189,7 @@ def usual(rng, plan):
         key, equals, value = line.partition(" = ")
         if equals and value.isdigit() and rng.random() < 0.2: value = rng.choice([hex(int(value)), f"{int(value):_}", f"0x{int(value):_X}", f"0b{int(value):b}", f"0o{int(value):o}", f"+{value}"])
         lines.append((key + rng.choice([" = ", "=", "\t=  "]) + value if equals else line) + rng.choice([""] * 6 + [" ", " # c", "\r"]))
-    return "\n".join(lines).encode()
+    return "\n".join(lines).encode() + b"\n"
 
 
 def other_forms(rng, text, plan):

@@ -25,7 +25,7 @@ def nodes_of(rng, count):
     if rng.random() < 0.95: nodes = border.settings(rng, count)
     else:
         nodes = [segments(rng) for _ in range(count)]
-        for node in nodes: node.quantum = rng.randint(1, 2_000)
+        for node in nodes: node.quantum = rng.randint(2, 2_000)
     times = rng.choice([1, 1, 1, 7, 50])
     for node in nodes: node.quantum = min(2**20, node.quantum * times)
     border.with_loops(rng, nodes)

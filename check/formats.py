@@ -75,6 +75,8 @@ def line_differs(line, record):
         left += line[at:found] + " "
         at = found + len(text)
     left = FIXED.sub("", left + line[at:])
+    for name in ("name", "other_name"):  # a sentence may say a name twice
+        left = re.sub(rf"(?<![\w-]){re.escape(record.get(name) or ' ')}(?![\w-])", " ", left)
     return f"a number is in no field: {left}" if re.search(r"\d", left) else None
 
 
