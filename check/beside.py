@@ -94,10 +94,11 @@ def settings_text(rng):
              f'senders = "{rng.choice(["one", "any", "any"])}"']
     if rng.random() < 0.3: lines.append(f"rate_error = {rng.choice([0, 500, 5_000])}")
     for number in range(rng.choice([1, 1, 2])):
-        quanta, prescaler = rng.randint(8, 25), rng.choice([1, 1, 2, 4])
+        most = {"prop": rng.randint(2, 8), "ps1": rng.randint(2, 8), "ps2": rng.randint(2, 4), "sjw": rng.randint(1, 2)}
+        quanta, prescaler = max(8, 1 + rng.randint(most["prop"], sum(most.values()) - most["sjw"])), rng.choice([1, 1, 2, 4])
         clock = rng.choice([rate * quanta * prescaler + rng.choice([0, 0, 0, 1, -7]), 8_000_000, 16_000_000])
         lines += ["[[controller]]", f'name = "c{number}"', f"clock = {min(10**9, max(1, clock))}", f"prescaler = {rng.choice([prescaler, 4])}"]
-        lines += [f"{key} = {rng.randint(low, most)}" for key, low, most in (("prop", 1, 8), ("ps1", 1, 8), ("ps2", 1, 4), ("sjw", 1, 2))]
+        lines += [f"{key} = {value}" for key, value in most.items()]
     if rng.random() < 0.05: lines[rng.randrange(len(lines))] = rng.choice(["cable = 0", "x = 1", "clock = 0", ""])
     return "\n".join(lines).encode() + b"\n"
 
