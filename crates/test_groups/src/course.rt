@@ -1,26 +1,23 @@
 //! What groups of the nodes of one plan answer.
 ghost use Rattle.std.specs.Prelude.{◌≡◌, ◌↔◌, ◌<◌, All, IsTrue, IfOk, OnOk, length, true};
-ghost use Rattle.wl_plan.specs.Checked.{IsChecked};
 ghost use Rattle.wl_group.specs.GroupValue.{belongs};
 
 use anyhow::{Result, bail};
 use std::alloc::Global;
 use wl_group::{Advance, Group, first_silence};
-use wl_plan::Plan;
+use wl_plan::CheckedPlan;
 
 /// Runs groups of a plan's nodes, and writes what they answer.
-pub fn of_plan(alloc: Global, plan: &Plan) -> Result<String>
-    requires { IsChecked plan.now }
-{
+pub fn of_plan(alloc: Global, plan: &CheckedPlan) -> Result<String> {
     let mut told = String::new(alloc);
     let mut all = group_of_all(alloc, plan)?;
-    for i in 0..plan.topology.nodes() {
+    for i in 0..plan.nodes() {
         tell_alone(alloc, plan, i, &mut told)?;
     }
     tell_first(&mut all, &mut told)?;
     tell_rest(alloc, &mut all, &mut told)?;
     tell_rest(alloc, &mut all, &mut told)?;
-    for i in 0..plan.topology.nodes() {
+    for i in 0..plan.nodes() {
         tell_node(alloc, &all, i, &mut told)?;
         tell_joined(alloc, plan, &all, i, &mut told)?;
     }
@@ -36,9 +33,7 @@ const MOST_ROWS: u32 = 10_000;
 
 /// Runs a group of all nodes in rows, each of the least member that may run. Writes how many rows that were, how many records the group has
 /// emitted, and where each node is in the end.
-fn tell_rows(alloc: Global, plan: &Plan, told: &mut String) -> Result<()>
-    requires { IsChecked plan.now }
-{
+fn tell_rows(alloc: Global, plan: &CheckedPlan, told: &mut String) -> Result<()> {
     let mut all = group_of_all(alloc, plan)?;
     let mut rows = 0u32;
     for _ in 0..MOST_ROWS {
@@ -55,26 +50,26 @@ fn tell_rows(alloc: Global, plan: &Plan, told: &mut String) -> Result<()>
         "in {rows} rows: {emitted} told, then {:?}",
         all.ready()
     )?;
-    for i in 0..plan.topology.nodes() {
+    for i in 0..plan.nodes() {
         tell_node(alloc, &all, i, told)?;
     }
     Ok(())
 }
 
 /// True if each of the numbers is that of a node.
-fn each_is_a_node(plan: &Plan, members: &[u8]) -> bool
+fn each_is_a_node(plan: &CheckedPlan, members: &[u8]) -> bool
     ensures { IsTrue result ↔ All (λ m. m < length plan.now.nodes) members.now }
 {
-    members.iter().all(|m| (*m as usize) < plan.nodes.len())
+    let nodes = plan.nodes();
+    members.iter().all(|m| *m < nodes)
 }
 
 /// Returns a group of all nodes.
-fn group_of_all(alloc: Global, plan: &Plan) -> Result<Group>
-    requires { IsChecked plan.now }
+fn group_of_all(alloc: Global, plan: &CheckedPlan) -> Result<Group>
     ensures { IfOk result (λ group. group.plan ≡ plan.now) }
 {
     let mut members = Vec::new(alloc);
-    for i in 0..plan.topology.nodes() {
+    for i in 0..plan.nodes() {
         members.push(i)?;
     }
     if !each_is_a_node(plan, members.as_slice()) {
@@ -96,13 +91,12 @@ fn state(group: &Group, i: u8) -> &'static str {
 }
 
 /// Writes whether node `i` may run by itself, and whether it may once it has taken the other nodes' first silences.
-fn tell_alone(alloc: Global, plan: &Plan, i: u8, told: &mut String) -> Result<()>
-    requires checked { IsChecked plan.now }
+fn tell_alone(alloc: Global, plan: &CheckedPlan, i: u8, told: &mut String) -> Result<()>
     requires node { i < length plan.now.nodes }
 {
     let mut alone = Group::new(alloc, plan, &[i])?;
     let before = state(&alone, i);
-    for j in 0..plan.topology.nodes() {
+    for j in 0..plan.nodes() {
         alone.take(first_silence(plan, j))?;
     }
     let after = state(&alone, i);
@@ -164,8 +158,13 @@ fn tell_node(alloc: Global, group: &Group, i: u8, told: &mut String) -> Result<(
 }
 
 /// Writes how far a group of node `i` alone comes that knows what a group of all does.
-fn tell_joined(alloc: Global, plan: &Plan, all: &Group, i: u8, told: &mut String) -> Result<()>
-    requires checked { IsChecked plan.now }
+fn tell_joined(
+    alloc: Global,
+    plan: &CheckedPlan,
+    all: &Group,
+    i: u8,
+    told: &mut String,
+) -> Result<()>
     requires node { i < length plan.now.nodes }
     requires plan { all.now.plan ≡ plan.now }
 {

@@ -12,7 +12,7 @@ use anyhow::Result;
 use std::alloc::Global;
 use std::io::Read;
 use wl_device::Host;
-use wl_setup::read_plan;
+use wl_setup::read_checked;
 
 fn main(rt: HostRuntime) -> Result<()> {
     let mut texts = String::new(rt.alloc());
@@ -26,6 +26,6 @@ fn main(rt: HostRuntime) -> Result<()> {
 
 /// Returns what the groups of a plan answer.
 fn answers(alloc: Global, text: &str) -> Result<String> {
-    let (plan, _) = read_plan(alloc, &mut Host::new(text.as_bytes()))?;
+    let (plan, _) = read_checked(alloc, &mut Host::new(text.as_bytes()))?;
     course::of_plan(alloc, &plan)
 }
