@@ -1,6 +1,5 @@
 //! Links by which nothing comes, and which fail.
 ghost use Rattle.std.specs.Prelude.{◌≡◌};
-ghost use Rattle.wl_plan.specs.Checked.{IsChecked};
 
 use crate::gates::ANY_TURN;
 use std::alloc::{AllocError, Global};
@@ -8,7 +7,7 @@ use std::sync::Wait;
 use std::sync::atomic::{AtomicU64, Ordering};
 use std::thread::Threads;
 use wl_group::Group;
-use wl_plan::Plan;
+use wl_plan::CheckedPlan;
 use wl_record_core::Record;
 use wl_worker::{Fault, Link, LinkFault, nothing_is_taken, simulate_over};
 
@@ -78,11 +77,9 @@ impl<'s> Link for Failing<'s> {
 pub fn runs_gone<R: Threads + Wait + Sync>(
     rt: &R,
     alloc: Global,
-    plan: &Plan,
+    plan: &CheckedPlan,
     failing: u8,
-) -> Result<u64, AllocError>
-    requires { IsChecked plan.now }
-{
+) -> Result<u64, AllocError> {
     let mut answered = 0u64;
     for before in 0..10u64 {
         if run_gone(rt, alloc, plan, failing, before + 1)? {
@@ -96,12 +93,10 @@ pub fn runs_gone<R: Threads + Wait + Sync>(
 fn run_gone<R: Threads + Wait + Sync>(
     rt: &R,
     alloc: Global,
-    plan: &Plan,
+    plan: &CheckedPlan,
     failing: u8,
     nth: u64,
-) -> Result<bool, AllocError>
-    requires { IsChecked plan.now }
-{
+) -> Result<bool, AllocError> {
     let nth = |worker: u8| if worker == failing { nth } else { 0 };
     let faults = (LinkFault::Gone, LinkFault::Gone);
     let ended = run_failing(rt, alloc, plan, (nth(0), nth(1)), faults)?;
@@ -112,11 +107,9 @@ fn run_gone<R: Threads + Wait + Sync>(
 pub fn fault_of_two<R: Threads + Wait + Sync>(
     rt: &R,
     alloc: Global,
-    plan: &Plan,
+    plan: &CheckedPlan,
     faults: (LinkFault, LinkFault),
-) -> Result<Option<Fault>, AllocError>
-    requires { IsChecked plan.now }
-{
+) -> Result<Option<Fault>, AllocError> {
     run_failing(rt, alloc, plan, (1, 1), faults)
 }
 
@@ -124,12 +117,10 @@ pub fn fault_of_two<R: Threads + Wait + Sync>(
 fn run_failing<R: Threads + Wait + Sync>(
     rt: &R,
     alloc: Global,
-    plan: &Plan,
+    plan: &CheckedPlan,
     nth: (u64, u64),
     faults: (LinkFault, LinkFault),
-) -> Result<Option<Fault>, AllocError>
-    requires { IsChecked plan.now }
-{
+) -> Result<Option<Fault>, AllocError> {
     let stopped = AtomicU64::new(NONE_STOPPED);
     let mut links = Vec::new(alloc);
     links.push(Failing {

@@ -1,24 +1,22 @@
 //! What links bring again, and a letter of another plan.
 ghost use Rattle.std.specs.Prelude.{◌≡◌, ◌≤◌, IfOk, length};
 ghost use Rattle.wl_plan.specs.declared.plan.Plan.{Plan as GivenPlan};
-ghost use Rattle.wl_plan.specs.Checked.{IsChecked};
 
 use anyhow::{Result, bail};
 use std::alloc::{AllocError, Global};
 use std::sync::Wait;
 use wl_group::{Group, value_laws};
 use wl_mail::{MailFault, Post, posts};
-use wl_plan::Plan;
+use wl_plan::CheckedPlan;
 use wl_worker::{Link, LinkFault};
 
 /// Returns what a link brings to a group of node 1, twice, and once more after a restart; another link gives what node 0 alone emits.
 pub fn tell_handed<L: Link + Drop>(
     alloc: Global,
-    plan: &Plan,
+    plan: &CheckedPlan,
     giving: L,
     bringing: L,
 ) -> Result<String>
-    requires checked { IsChecked plan.now }
     requires nodes { 2 ≤ length plan.now.nodes }
     requires giving { L.is_of giving plan.now }
     requires bringing { L.is_of bringing plan.now }
@@ -38,8 +36,7 @@ pub fn tell_handed<L: Link + Drop>(
 }
 
 /// Gives by a link what node 0 alone emits.
-fn give_first<L: Link>(alloc: Global, plan: &Plan, link: &mut L) -> Result<(), LinkFault>
-    requires checked { IsChecked plan.now }
+fn give_first<L: Link>(alloc: Global, plan: &CheckedPlan, link: &mut L) -> Result<(), LinkFault>
     requires nodes { 2 ≤ length plan.now.nodes }
     requires of { L.is_of link.old plan.now }
 {
@@ -102,13 +99,14 @@ fn quanta_of(group: &Group, node: u8) -> u64 {
 }
 
 /// Returns what a letter of another plan is to a group of node 0: the same plan with its end one tick later.
-pub fn tell_foreign<R: Wait>(rt: &R, alloc: Global, plan: &Plan) -> Result<String>
-    requires { IsChecked plan.now }
-{
+pub fn tell_foreign<R: Wait>(rt: &R, alloc: Global, plan: &CheckedPlan) -> Result<String> {
     let mut later = plan.clone_in(alloc)?;
     later.end = later.end.saturating_add(1);
-    if later.nodes.len() < 2 || later.check().is_err() {
-        bail!("one node alone, or the latest end");
+    let Ok(later) = CheckedPlan::new(later) else {
+        bail!("the latest end");
+    };
+    if later.nodes() < 2 {
+        bail!("one node alone");
     }
     let (mut posts, _hold) = posts(alloc, 2)?;
     let (Some(mut second), Some(mut first)) = (posts.pop(), posts.pop()) else {
@@ -120,8 +118,12 @@ pub fn tell_foreign<R: Wait>(rt: &R, alloc: Global, plan: &Plan) -> Result<Strin
 }
 
 /// Sends by a post what node 1 alone emits.
-fn send_first<R: Wait>(rt: &R, alloc: Global, plan: &Plan, post: &mut Post) -> Result<(), MailFault>
-    requires checked { IsChecked plan.now }
+fn send_first<R: Wait>(
+    rt: &R,
+    alloc: Global,
+    plan: &CheckedPlan,
+    post: &mut Post,
+) -> Result<(), MailFault>
     requires nodes { 2 ≤ length plan.now.nodes }
 {
     let mut group = Group::new(alloc, plan, &[1])?;
@@ -145,10 +147,9 @@ pub fn post_emitted<R: Wait>(
 fn receive_one<R: Wait>(
     rt: &R,
     alloc: Global,
-    plan: &Plan,
+    plan: &CheckedPlan,
     post: &mut Post,
 ) -> Result<(bool, bool), AllocError>
-    requires checked { IsChecked plan.now }
     requires nodes { 1 ≤ length plan.now.nodes }
 {
     let mut group = Group::new(alloc, plan, &[0])?;

@@ -1,6 +1,5 @@
 //! What posts answer.
 ghost use Rattle.std.specs.Prelude.{◌≤◌, length};
-ghost use Rattle.wl_plan.specs.Checked.{IsChecked};
 
 use crate::handed::{post_emitted, run_on};
 use anyhow::{Result, bail};
@@ -8,13 +7,11 @@ use std::alloc::Global;
 use std::sync::Wait;
 use wl_group::{Group, first_silence};
 use wl_mail::{Hold, MailFault, Post, posts};
-use wl_plan::Plan;
+use wl_plan::CheckedPlan;
 
 /// Lets posts exchange letters of a plan, and says what they answer, line by line.
-pub fn tell_posts<R: Wait>(rt: &R, alloc: Global, plan: &Plan) -> Result<String>
-    requires { IsChecked plan.now }
-{
-    if plan.nodes.len() < 2 {
+pub fn tell_posts<R: Wait>(rt: &R, alloc: Global, plan: &CheckedPlan) -> Result<String> {
+    if plan.nodes() < 2 {
         bail!("one node alone");
     }
     let mut told = format!(in alloc; "letters:")?;
@@ -56,8 +53,12 @@ fn last_of(all: &mut Vec<Post>) -> Result<Post> {
 }
 
 /// Sends a letter of node 0's first silence to all other workers.
-fn send_first<R: Wait>(rt: &R, alloc: Global, plan: &Plan, post: &mut Post) -> Result<(), MailFault>
-    requires checked { IsChecked plan.now }
+fn send_first<R: Wait>(
+    rt: &R,
+    alloc: Global,
+    plan: &CheckedPlan,
+    post: &mut Post,
+) -> Result<(), MailFault>
     requires nodes { 2 ≤ length plan.now.nodes }
 {
     post.send(rt, alloc, plan, &[first_silence(plan, 0)])
@@ -65,8 +66,7 @@ fn send_first<R: Wait>(rt: &R, alloc: Global, plan: &Plan, post: &mut Post) -> R
 
 /// Writes what one letter is to both other workers: it reaches them; the same once more says nothing new to them, and neither does a letter
 /// of no records.
-fn tell_letters<R: Wait>(rt: &R, alloc: Global, plan: &Plan, told: &mut String) -> Result<()>
-    requires checked { IsChecked plan.now }
+fn tell_letters<R: Wait>(rt: &R, alloc: Global, plan: &CheckedPlan, told: &mut String) -> Result<()>
     requires nodes { 2 ≤ length plan.now.nodes }
 {
     let mut office = open(alloc)?;
@@ -82,7 +82,7 @@ fn tell_letters<R: Wait>(rt: &R, alloc: Global, plan: &Plan, told: &mut String) 
 fn send_none<R: Wait>(
     rt: &R,
     alloc: Global,
-    plan: &Plan,
+    plan: &CheckedPlan,
     post: &mut Post,
 ) -> Result<(), MailFault> {
     post.send(rt, alloc, plan, &[])
@@ -105,8 +105,7 @@ fn tell_three<R: Wait>(
 }
 
 /// Writes what comes if ends are given up: a hold keeps the receivers, and a letter that was sent still comes.
-fn tell_gone<R: Wait>(rt: &R, alloc: Global, plan: &Plan, told: &mut String) -> Result<()>
-    requires checked { IsChecked plan.now }
+fn tell_gone<R: Wait>(rt: &R, alloc: Global, plan: &CheckedPlan, told: &mut String) -> Result<()>
     requires nodes { 2 ≤ length plan.now.nodes }
 {
     let Office {
@@ -125,11 +124,10 @@ fn tell_gone<R: Wait>(rt: &R, alloc: Global, plan: &Plan, told: &mut String) -> 
 fn send_unheld<R: Wait>(
     rt: &R,
     alloc: Global,
-    plan: &Plan,
+    plan: &CheckedPlan,
     post: Post,
     hold: Hold,
 ) -> Result<&'static str>
-    requires checked { IsChecked plan.now }
     requires nodes { 2 ≤ length plan.now.nodes }
 {
     let mut post = post;
@@ -142,12 +140,10 @@ fn send_unheld<R: Wait>(
 fn tell_last<R: Wait>(
     rt: &R,
     alloc: Global,
-    plan: &Plan,
+    plan: &CheckedPlan,
     post: Post,
     told: &mut String,
-) -> Result<()>
-    requires { IsChecked plan.now }
-{
+) -> Result<()> {
     let mut post = post;
     let mut none = Group::new(alloc, plan, &[])?;
     for _ in 0..3 {
@@ -158,8 +154,7 @@ fn tell_last<R: Wait>(
 }
 
 /// Writes what a letter of all that node 0 emits says to a group of node 1. If memory is refused meanwhile, the letter comes again.
-fn tell_many<R: Wait>(rt: &R, alloc: Global, plan: &Plan, told: &mut String) -> Result<()>
-    requires checked { IsChecked plan.now }
+fn tell_many<R: Wait>(rt: &R, alloc: Global, plan: &CheckedPlan, told: &mut String) -> Result<()>
     requires nodes { 2 ≤ length plan.now.nodes }
 {
     let mut office = open(alloc)?;
@@ -173,8 +168,12 @@ fn tell_many<R: Wait>(rt: &R, alloc: Global, plan: &Plan, told: &mut String) -> 
 }
 
 /// Sends all that node 0 alone emits.
-fn send_all<R: Wait>(rt: &R, alloc: Global, plan: &Plan, post: &mut Post) -> Result<(), MailFault>
-    requires checked { IsChecked plan.now }
+fn send_all<R: Wait>(
+    rt: &R,
+    alloc: Global,
+    plan: &CheckedPlan,
+    post: &mut Post,
+) -> Result<(), MailFault>
     requires nodes { 2 ≤ length plan.now.nodes }
 {
     let mut group = Group::new(alloc, plan, &[0])?;

@@ -1,6 +1,5 @@
 //! Runs over links that are made here.
 ghost use Rattle.std.specs.Prelude.{◌≤◌, All, IfOk, IfSome, IsTrue, length};
-ghost use Rattle.wl_plan.specs.Checked.{IsChecked};
 ghost use Rattle.wl_plan.specs.PlanLine.{IsTrueOfPlan};
 ghost use Rattle.wl_worker.specs.Shared.{AreNumbered};
 
@@ -13,7 +12,7 @@ use std::thread::Threads;
 use wl_group::Group;
 use wl_hub::Hub;
 use wl_mail::posts;
-use wl_plan::Plan;
+use wl_plan::CheckedPlan;
 use wl_record_core::Record;
 use wl_serial::{Outcome, run_serial};
 use wl_worker::{
@@ -25,14 +24,12 @@ use wl_worker::{
 pub fn run_over<R: Threads + Wait + Sync, G: Gate + Sync>(
     rt: &R,
     alloc: Global,
-    plan: &Plan,
+    plan: &CheckedPlan,
     workers: u8,
     kind: LinkKind,
     gate: &G,
     counts: &Counts,
-) -> Result<Outcome, Fault>
-    requires { IsChecked plan.now }
-{
+) -> Result<Outcome, Fault> {
     let bell = Bell::new(alloc, workers)?;
     match kind {
         LinkKind::Hub => {
@@ -56,12 +53,11 @@ pub fn run_over<R: Threads + Wait + Sync, G: Gate + Sync>(
 fn run_watched<R: Threads + Wait + Sync, L: Link + Send + Drop, G: Gate + Sync>(
     rt: &R,
     alloc: Global,
-    plan: &Plan,
+    plan: &CheckedPlan,
     links: Vec<L>,
     gate: &G,
     counts: &Counts,
 ) -> Result<Outcome, Fault>
-    requires checked { IsChecked plan.now }
     requires links { All (λ link. L.is_of link plan.now) links.items }
     requires numbered { AreNumbered L.number links.items }
 {
@@ -70,8 +66,7 @@ fn run_watched<R: Threads + Wait + Sync, L: Link + Send + Drop, G: Gate + Sync>(
 }
 
 /// True if a record is true of a plan.
-fn is_true(alloc: Global, plan: &Plan, entry: Record) -> Result<bool, AllocError>
-    requires { IsChecked plan.now }
+fn is_true(alloc: Global, plan: &CheckedPlan, entry: Record) -> Result<bool, AllocError>
     ensures { IfOk result (λ b. IsTrue b → IsTrueOfPlan plan.now entry) }
 {
     let outcome = run_serial(alloc, plan)?;
@@ -80,7 +75,7 @@ fn is_true(alloc: Global, plan: &Plan, entry: Record) -> Result<bool, AllocError
         return Ok(false);
     }
     let changes = &outcome.nodes.as_slice()[node].changes;
-    Ok(entry.is_true_of(plan.topology.nodes(), changes.as_slice()))
+    Ok(entry.is_true_of(plan.nodes(), changes.as_slice()))
 }
 
 /// Gives by one of two links the silence of a node after some changes up to tick `until`. The other one brings what there is to a group of
@@ -88,12 +83,10 @@ fn is_true(alloc: Global, plan: &Plan, entry: Record) -> Result<bool, AllocError
 pub fn tell_silence<R: Wait>(
     rt: &R,
     alloc: Global,
-    plan: &Plan,
+    plan: &CheckedPlan,
     kind: LinkKind,
     silence: (u8, u32, u64),
-) -> Result<String>
-    requires { IsChecked plan.now }
-{
+) -> Result<String> {
     let (node, count, until) = silence;
     let entry = Record::Silence { node, count, until };
     if !is_true(alloc, plan, entry)? {
@@ -107,14 +100,13 @@ pub fn tell_silence<R: Wait>(
 pub fn tell_links<R: Wait>(
     rt: &R,
     alloc: Global,
-    plan: &Plan,
+    plan: &CheckedPlan,
     kind: LinkKind,
     given: Option<Record>,
 ) -> Result<String>
-    requires checked { IsChecked plan.now }
     requires truth { IfSome given (λ entry. IsTrueOfPlan plan.now entry) }
 {
-    if plan.nodes.len() < 2 {
+    if plan.nodes() < 2 {
         bail!("one node alone");
     }
     let bell = Bell::new(alloc, 2)?;
@@ -146,12 +138,11 @@ pub fn tell_links<R: Wait>(
 /// Returns what `tell_links` says, by these two links.
 fn tell_two<L: Link + Drop>(
     alloc: Global,
-    plan: &Plan,
+    plan: &CheckedPlan,
     giving: L,
     bringing: L,
     given: Option<Record>,
 ) -> Result<String>
-    requires checked { IsChecked plan.now }
     requires nodes { 2 ≤ length plan.now.nodes }
     requires giving { L.is_of giving plan.now }
     requires bringing { L.is_of bringing plan.now }
@@ -166,12 +157,11 @@ fn tell_two<L: Link + Drop>(
 /// Gives a record by one link, and brings by another one what there is to a group of node 1, twice.
 fn tell_one<L: Link + Drop>(
     alloc: Global,
-    plan: &Plan,
+    plan: &CheckedPlan,
     giving: L,
     bringing: L,
     entry: Record,
 ) -> Result<String>
-    requires checked { IsChecked plan.now }
     requires nodes { 2 ≤ length plan.now.nodes }
     requires giving { L.is_of giving plan.now }
     requires bringing { L.is_of bringing plan.now }

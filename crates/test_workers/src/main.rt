@@ -54,7 +54,7 @@ use std::thread::Threads;
 use wl_device::Host;
 use wl_report::report;
 use wl_serial::run_serial;
-use wl_setup::read_plan;
+use wl_setup::read_checked;
 
 fn main(rt: HostRuntime) -> Result<()> {
     let mut texts = String::new(rt.alloc());
@@ -69,7 +69,7 @@ fn main(rt: HostRuntime) -> Result<()> {
 fn answer<R: Threads + Wait + Sync + Print + AllocGlobal>(rt: &R, text: &str) -> Result<()> {
     let alloc = rt.alloc();
     let (steps, text) = steps::read(alloc, text)?;
-    let (plan, _) = read_plan(alloc, &mut Host::new(text.as_bytes()))?;
+    let (plan, _) = read_checked(alloc, &mut Host::new(text.as_bytes()))?;
     let alone = report(alloc, &run_serial(alloc, &plan)?)?;
     for step in steps.as_slice() {
         let said = runs::answer(rt, alloc, &plan, alone.as_slice(), *step)?;

@@ -1,5 +1,4 @@
 //! Runs of a plan by workers, and what is answered to them.
-ghost use Rattle.wl_plan.specs.Checked.{IsChecked};
 
 use crate::failing::{fault_of_two, runs_gone};
 use crate::gates::{ANY_TURN, HeldTurn, LastTurn, OneRefusal, Overlap, TurnCounts};
@@ -17,7 +16,7 @@ use std::fmt::{Display, Formatter, Write};
 use std::sync::Wait;
 use std::thread::Threads;
 use wl_group::Group;
-use wl_plan::Plan;
+use wl_plan::CheckedPlan;
 use wl_report::report;
 use wl_serial::Outcome;
 use wl_worker::{Fault, Gate, LinkKind, simulate, simulate_by, simulate_over, work};
@@ -69,17 +68,15 @@ fn end_of(alloc: Global, alone: &[u8], ran: Result<Outcome, Fault>) -> Result<En
 fn run_by<R: Threads + Wait + Sync, G: Gate + Sync>(
     rt: &R,
     alloc: Global,
-    plan: &Plan,
+    plan: &CheckedPlan,
     alone: &[u8],
     workers: u8,
     link: LinkKind,
     gate: &G,
-) -> Result<End, AllocError>
-    requires { IsChecked plan.now }
-{
+) -> Result<End, AllocError> {
     let ran = match link {
         LinkKind::Hub => simulate(rt, alloc, plan.clone_in(alloc)?, workers, gate),
-        LinkKind::Mail => simulate_by(rt, alloc, plan.clone_in(alloc)?, workers, link, gate),
+        LinkKind::Mail => simulate_by(rt, alloc, plan, workers, link, gate),
     };
     end_of(alloc, alone, ran)
 }
@@ -88,14 +85,12 @@ fn run_by<R: Threads + Wait + Sync, G: Gate + Sync>(
 fn run<R: Threads + Wait + Sync>(
     rt: &R,
     alloc: Global,
-    plan: &Plan,
+    plan: &CheckedPlan,
     alone: &[u8],
     workers: u8,
     link: LinkKind,
     kind: Kind,
-) -> Result<End>
-    requires { IsChecked plan.now }
-{
+) -> Result<End> {
     Ok(match kind {
         Kind::Free => run_by(rt, alloc, plan, alone, workers, link, &ANY_TURN)?,
         Kind::Stop(worker, turn) => {
@@ -139,14 +134,12 @@ fn run<R: Threads + Wait + Sync>(
 fn run_restarted<R: Threads + Wait + Sync>(
     rt: &R,
     alloc: Global,
-    plan: &Plan,
+    plan: &CheckedPlan,
     alone: &[u8],
     workers: u8,
     link: LinkKind,
     turns: (u8, u64, u64),
-) -> Result<End, AllocError>
-    requires { IsChecked plan.now }
-{
+) -> Result<End, AllocError> {
     let (worker, first, second) = turns;
     let gate = Restarts::new(When::Twice(worker, first, second));
     let counts = Counts::new();
@@ -162,14 +155,12 @@ fn run_restarted<R: Threads + Wait + Sync>(
 fn run_held<R: Threads + Wait + Sync>(
     rt: &R,
     alloc: Global,
-    plan: &Plan,
+    plan: &CheckedPlan,
     alone: &[u8],
     workers: u8,
     link: LinkKind,
     held: (u8, u64, u64),
-) -> Result<End, AllocError>
-    requires { IsChecked plan.now }
-{
+) -> Result<End, AllocError> {
     let (worker, turn, polls) = held;
     let gate = HeldTurn {
         worker,
@@ -188,12 +179,10 @@ fn run_held<R: Threads + Wait + Sync>(
 pub fn answer<R: Threads + Wait + Sync>(
     rt: &R,
     alloc: Global,
-    plan: &Plan,
+    plan: &CheckedPlan,
     alone: &[u8],
     step: Step,
-) -> Result<String>
-    requires { IsChecked plan.now }
-{
+) -> Result<String> {
     match step {
         Step::Run(workers, link, kind) => {
             let end = run(rt, alloc, plan, alone, workers, link, kind)?;
@@ -240,14 +229,12 @@ pub fn answer<R: Threads + Wait + Sync>(
 fn runs_as_one<R: Threads + Wait + Sync>(
     rt: &R,
     alloc: Global,
-    plan: &Plan,
+    plan: &CheckedPlan,
     alone: &[u8],
     workers: u8,
     link: LinkKind,
     asked: (u32, Option<u64>),
-) -> Result<u32, AllocError>
-    requires { IsChecked plan.now }
-{
+) -> Result<u32, AllocError> {
     let (runs, seed) = asked;
     let mut same = 0u32;
     for number in 0..runs {
@@ -267,13 +254,11 @@ fn runs_as_one<R: Threads + Wait + Sync>(
 fn counts<R: Threads + Wait + Sync>(
     rt: &R,
     alloc: Global,
-    plan: &Plan,
+    plan: &CheckedPlan,
     alone: &[u8],
     workers: u8,
     link: LinkKind,
-) -> Result<String>
-    requires { IsChecked plan.now }
-{
+) -> Result<String> {
     let gate = TurnCounts::new(alloc)?;
     let counts = Counts::new();
     let ran = run_over(rt, alloc, plan, workers, link, &gate, &counts);
@@ -291,9 +276,12 @@ fn counts<R: Threads + Wait + Sync>(
 
 /// Returns the fault of a worker of node 0 over a link that brings nothing, which is refused this turn, and the last turn that it asked
 /// for.
-fn work_alone<R: Wait>(rt: &R, alloc: Global, plan: &Plan, turn: u64) -> Result<(Fault, u64)>
-    requires { IsChecked plan.now }
-{
+fn work_alone<R: Wait>(
+    rt: &R,
+    alloc: Global,
+    plan: &CheckedPlan,
+    turn: u64,
+) -> Result<(Fault, u64)> {
     let group = Group::new(alloc, plan, &[0])?;
     let gate = LastTurn::new(turn);
     match work(rt, alloc, group, Silent { worker: 0 }, &gate) {

@@ -29,7 +29,7 @@ use std::alloc::Global;
 use std::io::BufRead;
 use std::process::ExitCode;
 use wl_device::Host;
-use wl_setup::read_plan;
+use wl_setup::read_checked;
 
 fn main(rt: HostRuntime) -> ExitCode {
     match read_and_play(&rt) {
@@ -51,6 +51,6 @@ fn read_and_play<R: AllocGlobal + Input + Print>(rt: &R) -> Result<(), Fault> {
 /// Returns what the script that an input has is answered.
 fn played<B: BufRead + Drop>(alloc: Global, mut input: B) -> Result<String, Fault> {
     let script = script::read(alloc, &mut input)?;
-    let (plan, _) = read_plan(alloc, &mut Host::new(input))?;
+    let (plan, _) = read_checked(alloc, &mut Host::new(input))?;
     play::play(alloc, plan, &script)
 }

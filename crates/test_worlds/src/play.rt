@@ -1,22 +1,19 @@
 //! Playing a script over a world.
 ghost use Rattle.std.specs.Prelude.{◌≡◌, ◌++◌, ◌∷◌, [], OnOk};
-ghost use Rattle.wl_plan.specs.Checked.{IsChecked};
 
 use crate::fault::Fault;
 use crate::script::{Script, Step};
 use std::alloc::{AllocError, Global};
 use wl_group::Group;
-use wl_plan::{Grouping, Plan};
+use wl_plan::{CheckedPlan, Grouping};
 use wl_replica::Replica;
 use wl_report::report;
 use wl_world::{Answer, Event, World};
 
 /// Plays a script over the world of its groups and a plan. Returns what is on standard output then.
-pub fn play(alloc: Global, plan: Plan, script: &Script) -> Result<String, Fault>
-    requires { IsChecked plan }
-{
+pub fn play(alloc: Global, plan: CheckedPlan, script: &Script) -> Result<String, Fault> {
     let grouping = Grouping::new(alloc, &plan, script.groups.as_slice())?;
-    let mut world = World::new(alloc, plan, grouping)?;
+    let mut world = World::new(alloc, plan.into_plan(), grouping)?;
     let mut told = String::new(alloc);
     let mut events = Vec::new(alloc);
     for (i, step) in script.steps.iter().enumerate() {
