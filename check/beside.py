@@ -182,13 +182,17 @@ def sweeps(tally, program, seed, numbers, options):
 # ---- The two readers of plans
 
 
+def spelled(rng, number):
+    return rng.choice([hex(number), f"{number:_}", f"0x{number:_X}", f"0b{number:b}", f"0o{number:o}", f"+{number}"])
+
+
 def usual(rng, plan):
     """A text of the usual form: version 1, a line for each key, with comments, blanks, underscores and hexadecimal numbers."""
     lines = []
     for line in random_plans.toml_text(plan, False).split("\n"):
         if rng.random() < 0.1: lines.append(rng.choice(["", "  ", "# a comment", "\t# é"]))
         key, equals, value = line.partition(" = ")
-        if equals and value.isdigit() and rng.random() < 0.2: value = rng.choice([hex(int(value)), f"{int(value):_}", f"0x{int(value):_X}", f"0b{int(value):b}", f"0o{int(value):o}", f"+{value}"])
+        if equals and value.isdigit() and value == str(int(value)) and rng.random() < 0.2: value = spelled(rng, int(value))
         lines.append((key + rng.choice([" = ", "=", "\t=  "]) + value if equals else line) + rng.choice([""] * 6 + [" ", " # c", "\r"]))
     return "\n".join(lines).encode() + b"\n"
 
