@@ -125,8 +125,10 @@ def settings(tally, program, seed, numbers, options):
 
 # ---- Sweeps
 
-VARIED = ["sjw=1..2", "x=0..60:30", "n0.ppm=-9..9:9", "n1.offset=0..50:25", "prop=0..9:3", "end=4000..9000:2500", "per=0..2", "ps2=1..3", "tolerance=0..1000:500", "out=0..1",
-          "sjw=4..1", "nobody.x=1..2", "sjw=1..4:0", "name=1..2", "=", "quantum=9..11", "num=9..11", "every=100..300:100", "count=1..2", "1.in=0..1", "x=1..99999999:1"]
+VARIED = ["sjw=1..2", "x=0..60:30", "n0.offset=0..50:25", "prop=0..9:3", "end=4000..9000:2500", "per=0..2", "ps2=1..3", "tolerance=0..1000:500", "out=0..1", "0.in=0..1",
+          "n0.sjw=1..4", "ps1=1..8:3", "end=2..3", "offset=0..9:9"]
+SELDOM = ["n0.ppm=-9..9:9", "quantum=9..11", "num=9..11", "every=100..300:100", "count=1..2", "n1.x=1..2", "sjw=4..1", "nobody.x=1..2", "sjw=1..4:0", "name=1..2", "=",
+          "x=1..99999999:1", "x=0..101:1", "n0.end=1..2", "sjw=1.2", "prop=-1..2"]
 
 
 def sweep_words(rng, plan):
@@ -135,7 +137,7 @@ def sweep_words(rng, plan):
     request |= {"runs": rng.choice([1, 2, 3, 5]), "seed": rng.choice([1, 7, rng.randrange(2**32)]), "workers": 1}
     request |= {"offsets": rng.random() < 0.3, "ppm": rng.random() < 0.3, "worst": rng.random() < 0.15}
     if rng.random() < 0.3: request["step"] = rng.choice([1, 3, 100])
-    request["ranges"] = [rng.choice(VARIED) for _ in range(rng.choice([0, 1, 1, 1, 2]))]
+    request["ranges"] = [rng.choice(VARIED if rng.random() < 0.8 else SELDOM) for _ in range(rng.choice([0, 1, 1, 1, 2]))]
     words = ["--runs", str(request["runs"]), "--seed", str(request["seed"])] + ["--keep-offsets"] * request["offsets"] + ["--keep-ppm"] * request["ppm"]
     words += ["--worst"] * request["worst"] + (["--step", str(request["step"])] if request["step"] else [])
     return words + [word for one in request["ranges"] for word in ("--vary", one)], request
@@ -246,10 +248,15 @@ def decoded(text):
         return None
 
 
+STRANGE = ["-", "in", "0x1F", "_", "n11", "1e5", "none", "late", "samples", "by", "up", "of", "node", "-7", "clean", "falls", "and", "__proto__", "any", "a" * 32]
+
+
 def formats(tally, program, seed, numbers, options):
     for number in numbers:
         rng, text = random.Random(f"{seed} {number} formats"), None
         while text is None or len(text) > 20_000: text = decoded(random_text(rng))
+        names = iter(rng.sample(STRANGE, len(STRANGE)))
+        if rng.random() < 0.4: text = re.sub(r'(?<=name = ")n\d+(?=")', lambda found: next(names, found[0]), text)
         words = rng.choice(of_formats.COMMANDS)
         tally.tried += 1
         found = list(of_formats.differences(program, words, text))
