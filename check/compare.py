@@ -17,6 +17,7 @@ Seed 1 and one process by default. Input N of a seed is always the same, in howe
   settings      settings of texts with few settings each
   sweeps        sweeps of a few members over random words, and a member that is printed
   readers       plans of the usual form beside the same in forms that the quick reader leaves to the TOML reader
+  hints         the place that a hint names, on strangers' texts
   formats       JSON and CSV of each command beside its text, on random plans
   pages         the texts of pages beside what the other commands write
   versions      plans of version 1 or 2 beside the same in version 3; --bits N ends each plan after so many bits
@@ -52,6 +53,7 @@ WHATS = {
     "candump": ("log", "candump", 1_000, {}),
     "refusals": ("refusals", "refusals", 1_000, {}),
     **{name: ("beside", name, 1_000, {}) for name in ("margin", "settings", "sweeps", "readers", "formats", "pages")},
+    "hints": ("places", "hints", 1_000, {}),
     "versions": ("versions", "versions", 1_000, {"bits": "0"}),
     "repeats": ("versions", "repeats", 1_000, {"bits": "0"}),
     "version-3": ("versions", "version_3", 1_000, {"bits": "0", "workers": ""}),
