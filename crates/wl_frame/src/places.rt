@@ -75,10 +75,13 @@ pub(crate) fn identifier(bits: &[Level]) -> u32
 }
 
 /// True if the bits are those of a whole frame, by its own data length code. In constant time.
+///
+/// Most lengths are that of no frame: a header of 19 or 39 bits, whole bytes and the CRC sequence leave a remainder of 2 by 4.
 pub fn is_whole(bits: &[Level]) -> bool
     ensures { result ≡ is_whole bits.now }
 {
-    bits.len() >= header_length(bits) + CRC_LENGTH
+    bits.len() % 4 == 2
+        && bits.len() >= header_length(bits) + CRC_LENGTH
         && bits.len() == places_covered(bits) + CRC_LENGTH
 }
 
