@@ -46,15 +46,30 @@ impl Node {
         ensures few { IfOk result (λ n. n ≤ most) }
         ensures stopped { OnErr result (HasStopped level most self.old self.new) }
     {
-        let heard = self.hear(level, most);
-        if 0 < heard {
-            return Ok(heard);
+        let passed = self.pass(level, most);
+        if 0 < passed {
+            return Ok(passed);
         }
-        Ok(heard + self.step(level, most - heard)?)
+        Ok(passed + self.step(level, most - passed)?)
     }
 
-    /// Runs quanta of this level up to and including the next sample, if the node receives and that sample is only kept, or `most` if the
-    /// sample comes later; else none.
+    /// Runs whole bits of a free bus, or else the quanta up to and including the next sample: at most `most`. The drive
+    /// stays. Returns how many, also none.
+    fn pass(&mut self, level: Level, most: u64) -> u64
+        requires some { 0 < most }
+        requires short { quanta_of self.old + most ≤ most_run_quanta }
+        ensures gone { HasGone level result self.old self.new }
+        ensures stands { StandsFor self.old level result }
+        ensures few { result ≤ most }
+    {
+        let rested = self.rest(level, most);
+        if 0 < rested {
+            return rested;
+        }
+        rested + self.hear(level, most - rested)
+    }
+
+    /// Runs quanta of this level up to and including the next sample, or `most` if that comes later; none if it can't be done at once.
     fn hear(&mut self, level: Level, most: u64) -> u64
         requires some { 0 < most }
         requires short { quanta_of self.old + most ≤ most_run_quanta }
@@ -62,7 +77,7 @@ impl Node {
         ensures stands { StandsFor self.old level result }
         ensures few { result ≤ most }
     {
-        self.progress.hear(level, most)
+        self.progress.hear(&self.setup, level, most)
     }
 
     /// Skips the quanta of this level without effect, then runs one: at least one quantum, and at most `most`. Refused if memory runs out:
@@ -75,24 +90,13 @@ impl Node {
         ensures few { IfOk result (λ n. n ≤ most) }
         ensures stopped { OnErr result (HasStopped level most self.old self.new) }
     {
-        let passed = self.pass(level, most);
+        let passed = self.skip(level, most);
         if passed == most {
             return Ok(passed);
         }
         self.prepare()?;
         self.run(level);
         Ok(passed + 1)
-    }
-
-    /// Skips quanta of this level, at most `most`, that do nothing but sample: whole bits of a free bus, and those before the next sample.
-    fn pass(&mut self, level: Level, most: u64) -> u64
-        requires short { quanta_of self.old + most ≤ most_run_quanta }
-        ensures gone { HasGone level result self.old self.new }
-        ensures stands { StandsFor self.old level result }
-        ensures few { result ≤ most }
-    {
-        let rested = self.rest(level, most);
-        rested + self.skip(level, most - rested)
     }
 
     /// Skips quanta of this level in which nothing happens at all.

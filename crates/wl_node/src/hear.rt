@@ -1,64 +1,75 @@
-//! The samples of a receiver that are only kept, each with the quanta before it at once.
+//! A sample with the quanta before it at once.
 
-ghost use Rattle.std.specs.Prelude.{◌≡◌, suc, ◌+◌, ◌<◌, ◌≤◌, vec_len, vec_capacity};
+ghost use Rattle.std.specs.Prelude.{◌≡◌, suc, ◌+◌, ◌<◌, ◌≤◌, true, vec_len, vec_capacity};
+ghost use Rattle.wl_level.specs.Levels.{same};
 ghost use Rattle.wl_sync.specs.Skips.{quanta_before_sample, IsSampleAhead};
-ghost use Rattle.wl_node.specs.declared.setup.NodeSetup.{NodeSetup};
 ghost use Rattle.wl_node.specs.Kept.{HasProgressedBy, KeepsDrive};
 ghost use Rattle.wl_node.specs.Limits.{most_run_quanta};
 
 use crate::progress::Progress;
+use crate::setup::NodeSetup;
 use wl_level::Level;
 
 impl Progress {
-    /// Runs quanta of this level up to and including the next sample, if the node receives and its machine only keeps that sample. If the
-    /// sample comes later than `most` quanta, it runs `most`. If an edge comes, or if there is no room, it runs none. Returns how many.
-    pub fn hear(&mut self, level: Level, most: u64) -> u64
+    /// Runs quanta of this level up to and including the next sample, in a node that drives what its machine wants. If the sample comes
+    /// later than `most` quanta, it runs `most`. If an edge comes, or if there is no room, it runs none. Returns how many.
+    #[inline(always)]
+    pub fn hear(&mut self, setup: &NodeSetup, level: Level, most: u64) -> u64
         requires some { 0 < most }
         requires short { self.old.quanta + most ≤ most_run_quanta }
-        requires few { self.old.traffic.samples.count ≤ self.old.quanta }
-        ensures place { (setup : NodeSetup) → HasProgressedBy setup level result self.old self.new }
-        ensures drive { (setup : NodeSetup) → KeepsDrive setup level (suc result) self.old }
+        requires errors { self.old.traffic.errors ≤ self.old.quanta }
+        requires samples { self.old.traffic.samples.count ≤ self.old.quanta }
+        ensures place { HasProgressedBy setup.now level result self.old self.new }
+        ensures drive { KeepsDrive setup.now level (suc result) self.old }
         ensures few { result ≤ most }
         ensures quanta { self.new.quanta ≡ self.old.quanta + result }
         ensures hards { self.new.syncs.hards ≡ self.old.syncs.hards }
-        ensures errors { self.new.traffic.errors ≡ self.old.traffic.errors }
+        ensures errors { self.new.traffic.errors ≤ self.new.quanta }
         ensures samples { self.new.traffic.samples.count ≤ self.new.quanta }
     {
-        if self.drive.is_dominant() || !self.has_room() {
+        if !self.drive.is(self.traffic.pending) || !self.has_room() || !self.has_frame_room() {
             return 0;
         }
         match self.clock.until_sample(level) {
-            Some(before) if (before as u64) < most => self.hear_sample(level, before),
-            Some(_) if !self.traffic.pending.is_dominant() => {
+            Some(before) if (before as u64) < most => self.hear_sample(setup, level, before),
+            Some(_) => {
                 self.skip(level, most as u8);
                 most
             }
-            _ => 0,
+            None => 0,
         }
     }
 
-    /// Runs this many quanta and the sample after them, if the machine only keeps that; else none.
-    fn hear_sample(&mut self, level: Level, before: u8) -> u64
+    /// Runs this many quanta and the sample after them. Returns how many ran.
+    #[inline(always)]
+    fn hear_sample(&mut self, setup: &NodeSetup, level: Level, before: u8) -> u64
         requires ahead { IsSampleAhead self.old.clock level }
         requires before { before ≡ quanta_before_sample self.old.clock }
-        requires recessive { self.old.drive ≡ Level.Recessive }
+        requires settled { same self.old.drive self.old.traffic.pending ≡ true }
         requires room { vec_len self.old.traffic.samples.runs < vec_capacity self.old.traffic.samples.runs }
+        requires frames { vec_len self.old.traffic.frames < vec_capacity self.old.traffic.frames }
         requires short { self.old.quanta + before < most_run_quanta }
-        requires few { self.old.traffic.samples.count ≤ self.old.quanta }
-        ensures place { (setup : NodeSetup) → HasProgressedBy setup level result self.old self.new }
-        ensures drive { (setup : NodeSetup) → KeepsDrive setup level (suc result) self.old }
-        ensures few { result ≤ before + 1 }
+        requires errors { self.old.traffic.errors ≤ self.old.quanta }
+        requires samples { self.old.traffic.samples.count ≤ self.old.quanta }
+        ensures place { HasProgressedBy setup.now level result self.old self.new }
+        ensures drive { KeepsDrive setup.now level (suc result) self.old }
+        ensures all { result ≡ before + 1 }
         ensures quanta { self.new.quanta ≡ self.old.quanta + result }
         ensures hards { self.new.syncs.hards ≡ self.old.syncs.hards }
-        ensures errors { self.new.traffic.errors ≡ self.old.traffic.errors }
+        ensures errors { self.new.traffic.errors ≤ self.new.quanta }
         ensures samples { self.new.traffic.samples.count ≤ self.new.quanta }
     {
         let quantum = self.quanta + before as u64;
-        if !self.traffic.keep(quantum, level) {
-            return 0;
-        }
+        self.traffic.take(setup, quantum, level);
         self.clock.sample(level);
         self.quanta = quantum + 1;
         before as u64 + 1
+    }
+
+    /// True only if there is room for one more frame.
+    fn has_frame_room(&self) -> bool
+        ensures { result ≡ true → vec_len self.now.traffic.frames < vec_capacity self.now.traffic.frames }
+    {
+        self.traffic.frames.len() < self.traffic.frames.capacity()
     }
 }

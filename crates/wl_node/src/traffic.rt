@@ -125,7 +125,8 @@ impl Traffic {
 
     /// Takes a sample at this quantum if the node receives and its machine only keeps it: it is stored, and nothing else comes of it. Else
     /// returns false, and nothing changes.
-    pub fn keep(&mut self, quantum: u64, level: Level) -> bool
+    #[inline(always)]
+    fn keep(&mut self, quantum: u64, level: Level) -> bool
         requires samples { vec_len self.old.samples.runs < vec_capacity self.old.samples.runs }
         requires early { quantum < most_run_quanta }
         requires few { self.old.samples.count ≤ quantum }
@@ -133,8 +134,6 @@ impl Traffic {
             → IsTraffic setup self.old h → IsTraffic setup self.new (history_after_sample setup h level) }
         ensures same { result ≡ false → (setup : NodeSetup) (h : History)
             → IsTraffic setup self.old h → IsTraffic setup self.new h }
-        ensures settled { result ≡ true → (setup : NodeSetup) (h : History) → IsTraffic setup self.old h
-            → drive_of (stretch_of h.inputs) ≡ Level.Recessive }
         ensures samples { result ≡ false → self.new.samples ≡ self.old.samples }
         ensures frames { self.new.frames ≡ self.old.frames }
         ensures errors { self.new.errors ≡ self.old.errors }
@@ -145,6 +144,24 @@ impl Traffic {
             self.samples.push(quantum, level);
         }
         keeps
+    }
+
+    /// Takes a sample at this quantum, as `sample`. One that the machine only keeps goes a shorter way.
+    #[inline(always)]
+    pub fn take(&mut self, setup: &NodeSetup, quantum: u64, level: Level)
+        requires samples { vec_len self.old.samples.runs < vec_capacity self.old.samples.runs }
+        requires frames { vec_len self.old.frames < vec_capacity self.old.frames }
+        requires early { quantum < most_run_quanta }
+        requires few { self.old.samples.count ≤ quantum }
+        requires fits { self.old.errors < most_run_quanta }
+        ensures traffic { (h : History) → length h.seen ≡ quantum → IsTraffic setup.now self.old h
+            → IsTraffic setup.now self.new (history_after_sample setup.now h level) }
+        ensures errors { self.new.errors ≤ self.old.errors + 1 }
+        ensures count { self.new.samples.count ≤ self.old.samples.count + 1 }
+    {
+        if !self.keep(quantum, level) {
+            self.sample(setup, quantum, level);
+        }
     }
 
     /// Takes a sample at this quantum: it is stored, and goes to the machine and then to the counters.
