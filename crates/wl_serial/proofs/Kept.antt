@@ -11,8 +11,8 @@ use Rattle.wl_plan.specs.declared.plan.Plan.{Plan}
 use Rattle.wl_serial.specs.declared.running_node.Running.{Running}
 use Rattle.wl_serial.specs.declared.sources.Sources.{Sources}
 use Rattle.wl_serial.specs.declared.pulse.Pulse.{Pulse}
-use Rattle.wl_serial.specs.Heard.{drove, passing, AreTallied, IsAhead, AreSooner, AreSources, IsPulseTold}
-use Rattle.wl_topology.proofs.Callers.{any_same}
+use Rattle.wl_serial.specs.Heard.{drove, passing, AreTallied, IsAhead, IsDriving, AreSooner, AreSources, IsPulseTold}
+use Rattle.wl_topology.proofs.Callers.{any_from, any_same}
 
 -- some number passes where there is one at least that does
 or_one : (a : ℕ) (b : Bool) → (nat_lt 0 a || b) ≡ nat_lt 0 (a + from_bool b)
@@ -113,6 +113,19 @@ told_by plan rs j n s p few kept sources until dominant d t after before =
     any_same (length plan.nodes) (λ i. drove (get_or rs i d).changes (delay_of plan.topology i j) t) (λ i. get_or s.drives i false)
     (λ i b. sources i t d b after (let u = until i (omega (arith, b, few)) in omega (arith, u, before)))
     ∙ (any_is (λ i. get_or s.drives i false) (length plan.nodes) ∙ (ap (nat_lt 0) (sym kept.driving) ∙ sym dominant))
+
+-- and a dominant line stays up to its last driver
+pub told_longer : (plan : Plan) (rs : List Running) (j n least : ℕ) (s : Sources) (p : Pulse) → length plan.nodes ≤ n → AreTallied (length plan.nodes) s → AreSources plan rs j p.from s
+    → ((k : ℕ) → k < n → least ≤ get_or s.nexts k 0) → ((u : ℕ) → least ≤ u → u < p.until → IsDriving (length plan.nodes) u s)
+    → p.dominant ≡ nat_lt 0 s.driving → IsPulseTold plan rs j p
+told_longer plan rs j n least s p few kept sources until driving dominant d t after before = elim (cases_lt t least) [
+  | inl early ↦ told_by plan rs j n s (record p { until = least }) few kept sources until dominant d t after early
+  | inr late ↦
+      (let w : IsDriving (length plan.nodes) t s = driving t late before in
+      any_from (length plan.nodes) w.0 (λ i. drove (get_or rs i d).changes (delay_of plan.topology i j) t) w.1 (sources w.0 t d w.1 after w.3 ∙ w.2)
+      ∙ sym (any_from (length plan.nodes) w.0 (λ i. get_or s.drives i false) w.1 w.2)
+      ∙ (any_is (λ i. get_or s.drives i false) (length plan.nodes) ∙ (ap (nat_lt 0) (sym kept.driving) ∙ sym dominant)))
+]
 
 -- at first none drives
 silent : (m i : ℕ) → get_or (replicate m false) i false ≡ false

@@ -1,5 +1,5 @@
 -- What a place hears, and for how long it stays so. This project's profile.
-use Rattle.std.specs.Prelude.{◌≡◌, ℕ, zero, suc, ◌+◌, ◌^◌, false, ◌-◌, ◌<◌, ◌≤◌, ◌&&◌, Bool, List, [], ◌∷◌, ◌++◌, length, ◌≢◌, nat_le, slice_index_or}
+use Rattle.std.specs.Prelude.{◌≡◌, ℕ, zero, suc, ◌+◌, ◌^◌, true, false, ◌-◌, ◌<◌, ◌≤◌, ◌&&◌, Bool, List, [], ◌∷◌, ◌++◌, length, ◌≢◌, nat_le, slice_index_or}
 use Rattle.std.specs.Int.{from_bool}
 use Rattle.wl_level.specs.declared.Level.{Level}
 use Rattle.wl_level.specs.Levels.{level_of}
@@ -56,6 +56,10 @@ pub record AreTallied (n : ℕ) (s : Sources) : Type 0 where
 pub record IsAhead (s : Sources) : Type 0 where
   pub inside : s.one < most_places
   pub others : (k : ℕ) → k ≢ s.one → k < most_places → s.others ≤ slice_index_or s.nexts k 0
+
+-- one of the first n nodes drives dominant, and its next change comes after tick u
+abbrev pub IsDriving : ℕ → ℕ → Sources → Type 0
+IsDriving n u s = (i : ℕ) × (i < n) × (slice_index_or s.drives i false ≡ true) × (u < slice_index_or s.nexts i 0)
 
 -- what a place keeps
 pub record IsEar (plan : Plan) (j : ℕ) (ear : Ear) : Type 0 where

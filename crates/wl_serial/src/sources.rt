@@ -2,7 +2,7 @@
 ghost use Rattle.std.specs.Prelude.{◌≡◌, ◌≢◌, ℕ, ◌<◌, ◌≤◌, ◌^◌, false, length, slice_index_or};
 ghost use Rattle.wl_record_core.specs.Truth.{IsIncreasing};
 ghost use Rattle.wl_topology.specs.Limits.{most_places};
-ghost use Rattle.wl_serial.specs.Heard.{AreDelays, AreTallied, IsAhead, IsAlone, AreSooner, AreSources, IsPulseTold, drove};
+ghost use Rattle.wl_serial.specs.Heard.{AreDelays, AreTallied, IsAhead, IsAlone, AreSooner, AreSources, IsDriving, IsPulseTold, drove};
 ghost use Rattle.wl_serial.specs.Running.{AreSomewhere};
 
 use crate::checked::Checked;
@@ -125,9 +125,24 @@ impl Sources {
         self.others = others;
         Pulse {
             from: t,
-            until,
+            until: until.max(self.dominant_until(plan.nodes())),
             dominant: 0 < self.driving,
         }
+    }
+
+    /// Returns the tick before which one of this many nodes goes on to drive dominant, by its changes; 0 if none does. Up to its last driver
+    /// a dominant line stays so, whatever the others do.
+    fn dominant_until(&self, nodes: usize) -> u64
+        requires { nodes ≤ most_places }
+        ensures { (u : ℕ) → u < result → IsDriving nodes u self.now }
+    {
+        let mut until = 0;
+        for i in 0..nodes {
+            if self.drives[i] && until < self.nexts[i] {
+                until = self.nexts[i];
+            }
+        }
+        until
     }
 
     /// Returns the tick before which no change of another node than node `j` arrives, if all others are recessive; else 0.

@@ -4,7 +4,7 @@ use Rattle.std.proofs.lemmas.List.{get_or_default}
 use Rattle.wl_record_core.specs.Truth.{IsIncreasing}
 use Rattle.wl_topology.specs.Delays.{delay_of}
 use Rattle.wl_serial.specs.Heard.{drove}
-use Rattle.wl_serial.proofs.Kept.{is_node, sources_taken, others_one_more, told_by, until_one_more}
+use Rattle.wl_serial.proofs.Kept.{is_node, sources_taken, others_one_more, told_longer, until_one_more}
 use Rattle.wl_serial.proofs.sources.Sources.hear_all.Goals as goal
 use Rattle.wl_serial.proofs.sources.Sources.hear_all.Goals.{then-self-i, else-self-i}
 
@@ -51,7 +51,11 @@ loop-i-preserved c =
           )
     ]
 
+pub returns-clause-until : goal.returns-clause-until
+returns-clause-until c = (let m = c.max.ensures in omega (arith, m, c.loop-i.invariant.2))
+
 pub returns-clause-told : goal.returns-clause-told
 returns-clause-told c =
-    told_by c.args.plan.now c.args.running.now c.args.j 16 c.loop-i.self _ c.laws.ensures.checked.few_nodes c.loop-i.invariant.0 c.loop-i.invariant.1
-    (λ k b. c.loop-i.invariant.3 k (omega (arith, b, c.loop-i-test.false))) refl
+    told_longer c.args.plan.now c.args.running.now c.args.j 16 c.loop-i.until c.loop-i.self _ c.laws.ensures.checked.few_nodes c.loop-i.invariant.0 c.loop-i.invariant.1
+    (λ k b. c.loop-i.invariant.3 k (omega (arith, b, c.loop-i-test.false)))
+    (λ u late before. let m = c.max.ensures in rw c.nodes.ensures.value at (c.dominant_until.ensures u (omega (arith, m, before, late)))) refl
