@@ -5,7 +5,7 @@ use Rattle.std.proofs.lemmas.List.{get_or_default, replicate_more}
 use Rattle.wl_level.specs.declared.Level.{Level}
 use Rattle.wl_level.specs.Levels.{level_of}
 use Rattle.wl_clock.specs.Timing.{tick_of}
-use Rattle.wl_record_core.specs.Limits.{tick_end, tick_end-is}
+use Rattle.wl_record_core.specs.Limits.{tick_end-is}
 use Rattle.wl_node.specs.declared.setup.NodeSetup.{NodeSetup}
 use Rattle.wl_plan.specs.declared.plan.Plan.{Plan}
 use Rattle.wl_plan.specs.Limits.{latest_end}

@@ -12,3 +12,5 @@ mod Telling
 mod WaveRows
 mod Watching
 mod Going
+mod Calendars
+mod Dates

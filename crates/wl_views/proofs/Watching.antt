@@ -1,5 +1,5 @@
 -- What is known of nodes from a tick on, at later ticks.
-use Rattle.std.proofs.Common.{◌≡◌, ◌∙◌, refl, sym, subst, ap, ap₂, arith, zero-add, below_more, get_or-set_other, get_or-set_same, ℕ, zero, suc, ◌+◌, ◌-◌, inl, inr, ◌<◌, ◌≤◌, ◌≢◌, not, ◌||◌, false, Bool, List, [], ◌∷◌, ◌++◌, length, get_or, set, take, map}
+use Rattle.std.proofs.Common.{◌≡◌, ◌∙◌, refl, sym, subst, ap, ap₂, arith, zero-add, below_more, get_or-set_other, get_or-set_same, ℕ, zero, suc, ◌+◌, ◌-◌, inl, inr, ◌<◌, ◌≤◌, ◌≢◌, not, ◌||◌, false, Bool, List, [], ◌∷◌, ◌++◌, length, get_or, set, take, map, append-nil}
 use Rattle.std.specs.List.{range_with_len}
 use Rattle.std.proofs.lemmas.Bool.{cases_lt}
 use Rattle.std.proofs.Math.ListN.{get_or-append}
@@ -23,7 +23,7 @@ use Rattle.wl_views.specs.Vcd.{changes_from, node_changes}
 use Rattle.wl_clock.specs.Timing.{tick_of}
 use Rattle.wl_views.proofs.Going.{begun_earlier}
 use Rattle.wl_views.proofs.SignalProofs.{driven_then}
-use Rattle.wl_views.proofs.Walk.{changed_more}
+use Rattle.wl_views.proofs.Walk.{changed_more, same_node}
 
 abbrev pub low : NodeSignals
 low = record { tx = false; rx = false; cable = false; disturbance = false; sample = false; start = false; state = record { tec = 0; rec = 0; mode = Active; doing = Integrating } }
@@ -54,6 +54,7 @@ pub on : (plan : Plan) (i t u : ℕ) (w : Watched) → Watches plan i t w → t 
 on plan i t u w h from below = record {
   runs = h.runs;
   hears = hears_on plan i t u w.line h.hears from (omega (arith, h.until));
+  limit = h.limit;
   next = h.next;
   before = h.before;
   later = omega (arith, h.until);
@@ -164,3 +165,17 @@ known_behind P all i w long below here k d =
     (λ m h. let inside : m < length all = omega arith in subst (P m) (sym (get_or-append all (w ∷ []) d m inside)) (below m d h))
     (subst (λ (x : Watched). P i x) (sym (ap (λ (n : ℕ). get_or (all ++ w ∷ []) n d) (sym long) ∙ get_or-append_seam all w [] d)) here)
     k
+
+-- nodes whose signals stay have no lines
+pub none_changed : (plan : Plan) (s t a n : ℕ) → a + n ≤ length plan.nodes
+    → ((k : ℕ) → a ≤ k → k < a + n → node_signals plan t k ≡ node_signals plan s k)
+    → changes_from 0 (take (a + n) (signals plan s)) (take (a + n) (signals plan t)) ≡ changes_from 0 (take a (signals plan s)) (take a (signals plan t))
+none_changed plan s t a zero few same =
+    ap (λ (k : ℕ). changes_from 0 (take k (signals plan s)) (take k (signals plan t))) {x = a + 0} {y = a} (omega arith)
+none_changed plan s t a (suc n) few same =
+    ap (λ (k : ℕ). changes_from 0 (take k (signals plan s)) (take k (signals plan t))) {x = a + suc n} {y = (a + n) + 1} (omega arith)
+    ∙ node_more plan s t (a + n) (omega arith)
+    ∙ ap (λ x. changes_from 0 (take (a + n) (signals plan s)) (take (a + n) (signals plan t)) ++ node_changes (a + n) (node_signals plan s (a + n)) x) (same (a + n) (omega arith) (omega arith))
+    ∙ ap (λ ys. changes_from 0 (take (a + n) (signals plan s)) (take (a + n) (signals plan t)) ++ ys) (same_node (a + n) (node_signals plan s (a + n)))
+    ∙ append-nil (changes_from 0 (take (a + n) (signals plan s)) (take (a + n) (signals plan t)))
+    ∙ none_changed plan s t a n (omega arith) (λ k from below. same k from (omega arith))

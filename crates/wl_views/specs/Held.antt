@@ -1,5 +1,5 @@
 -- Values that stay from one tick up to another, so that the ticks in between needn't be asked for (this project's profile).
-use Rattle.std.specs.Prelude.{◌≡◌, ℕ, ◌<◌, ◌≤◌, ◌||◌, nat_lt, min, not, Bool, false, List, length, slice_index_or, if◌then◌else◌}
+use Rattle.std.specs.Prelude.{◌≡◌, ℕ, ◌+◌, ◌*◌, ◌<◌, ◌≤◌, ◌||◌, nat_lt, min, not, Bool, false, List, length, slice_index_or, if◌then◌else◌}
 use Rattle.wl_level.specs.Levels.{is_dominant}
 use Rattle.wl_clock.specs.Timing.{Timing, tick_of}
 use Rattle.wl_plan.specs.declared.plan.Plan.{Plan}
@@ -12,8 +12,10 @@ use Rattle.wl_trace.specs.Shown.{shown_of}
 use Rattle.wl_serial.specs.declared.pulse.Pulse.{Pulse}
 use Rattle.wl_views.specs.declared.signals.NodeSignals.{NodeSignals}
 use Rattle.wl_views.specs.declared.place_line.PlaceLine.{PlaceLine}
+use Rattle.wl_views.specs.declared.calendar.Calendar.{Calendar}
 use Rattle.wl_views.specs.declared.watched.Watched.{Watched}
 use Rattle.wl_views.specs.Signals.{driven_at, shown_then}
+use Rattle.wl_views.specs.Calendar.{date_at}
 
 -- from tick t up to another one a value is this one
 pub record Lasts (f : ℕ → Bool) (t : ℕ) (held : Pulse) : Type 0 where
@@ -69,6 +71,10 @@ pub record Runs (plan : Plan) (i : ℕ) (w : Watched) : Type 0 where
   pub shown : w.shown ≡ shown_of (setup_at plan i) (seen (line_of plan) i w.quanta)
   pub inside : AreInside (line_of plan) i w.quanta
 
+-- so many quanta begin before the line changes, and before the end
+abbrev pub IsLimit : Plan → ℕ → Watched → Type 0
+IsLimit plan i w = (q : ℕ) → q < w.limit → tick_of (setup_at plan i).clock q < min (heard_until w.line) plan.end
+
 -- those that begin before tick t
 pub record Awaits (plan : Plan) (i t : ℕ) (w : Watched) : Type 0 where
   pub runs : Runs plan i w
@@ -86,6 +92,7 @@ pub record SawUpTo (plan : Plan) (i t : ℕ) (w : Watched) : Type 0 where
 pub record Watches (plan : Plan) (i t : ℕ) (w : Watched) : Type 0 where
   pub runs : Runs plan i w
   pub hears : Hears plan i t w.line
+  pub limit : IsLimit plan i w
   pub next : w.next ≡ next_of (setup_at plan i).clock plan.end w.quanta
   pub before : (q : ℕ) → q < w.quanta → tick_of (setup_at plan i).clock q < heard_until w.line
   pub later : t < w.next
@@ -96,3 +103,8 @@ pub record Watches (plan : Plan) (i t : ℕ) (w : Watched) : Type 0 where
 pub record AllWatched (plan : Plan) (t : ℕ) (all : List Watched) : Type 0 where
   pub nodes : length all ≡ length plan.nodes
   pub each : (i : ℕ) (d : Watched) → i < length plan.nodes → Watches plan i t (slice_index_or all i d)
+
+-- the turn of each node is when that runs out, or at the end; there are no others
+pub record IsCalendarOf (end : ℕ) (all : List Watched) (calendar : Calendar) : Type 0 where
+  pub each : (i : ℕ) (d : Watched) → i < length all → date_at calendar.tree (16 + i) ≡ min (slice_index_or all i d).until end * 16 + i
+  pub none : (i : ℕ) → length all ≤ i → i < 16 → date_at calendar.tree (16 + i) ≡ no_tick

@@ -7,3 +7,4 @@ pub mod Held
 pub mod Vcd
 pub mod Streams
 pub mod Trace
+pub mod Calendar

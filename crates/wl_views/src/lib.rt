@@ -1,6 +1,7 @@
 //! Views of a run in the formats of other tools: the log of can-utils, and a Value Change Dump.
 #![tactic(auto)]
 
+mod calendar;
 mod digits;
 mod dump;
 mod fault;

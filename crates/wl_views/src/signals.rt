@@ -10,11 +10,11 @@ ghost use Rattle.wl_plan.specs.PlanLine.{disturbed, is_at, line_of};
 ghost use Rattle.wl_plan.specs.Simulation.{level};
 ghost use Rattle.wl_serial.specs.Heard.{comes};
 ghost use Rattle.wl_serial.specs.Outcome.{outcome_of};
-ghost use Rattle.wl_views.specs.Held.{AllWatched, Comes, Lasts, Watches};
+ghost use Rattle.wl_views.specs.Held.{AllWatched, IsCalendarOf, Comes, Lasts, Watches};
 ghost use Rattle.wl_views.specs.Signals.{driven_at, node_signals, signals};
 ghost use Rattle.wl_views.specs.Vcd.{changes_from, node_changes};
 
-use crate::held::either;
+use crate::calendar::Calendar;
 use crate::lines::{Lines, push_node_changes};
 use crate::watched::Watched;
 use std::alloc::{AllocError, Global};
@@ -42,7 +42,8 @@ pub struct NodeSignals {
     pub state: NodeState,
 }
 
-/// Asks again whether the drive of node `i` is dominant as it arrives at node `j` at tick `t`, if what was known of it has run out.
+/// Returns whether the drive of node `i` is dominant as it arrives at node `j` at tick `t`. That is asked again if what was known of it has
+/// run out.
 fn ask_again(
     plan: &CheckedPlan,
     outcome: &Outcome,
@@ -51,35 +52,6 @@ fn ask_again(
     t: u64,
     come: &mut usize,
     held: &mut Pulse,
-)
-    requires outcome { outcome.now ≡ outcome_of plan.now }
-    requires from { i < length plan.now.nodes }
-    requires node { j < length plan.now.nodes }
-    requires early { t ≤ latest_end }
-    requires was { t < held.old.until → Lasts (comes plan.now i j) t held.old }
-    ensures { Lasts (comes plan.now i j) t held.new }
-{
-    plan.laws();
-    wl_plan::simulation_laws();
-    if t < held.until {
-        return;
-    }
-    let delay = plan.topology.delay(i as u8, j as u8);
-    let nodes = outcome.nodes.as_slice();
-    let changes = nodes[i].changes.as_slice();
-    *held = pulse_of(changes, delay, t, come);
-}
-
-/// Returns whether something is dominant or the drive of node `i` as it arrives at node `j` at tick `t`. That is asked again if it has run out.
-fn joined(
-    plan: &CheckedPlan,
-    outcome: &Outcome,
-    i: usize,
-    j: usize,
-    t: u64,
-    come: &mut usize,
-    held: &mut Pulse,
-    other: Pulse,
 ) -> Pulse
     requires outcome { outcome.now ≡ outcome_of plan.now }
     requires from { i < length plan.now.nodes }
@@ -87,13 +59,22 @@ fn joined(
     requires early { t ≤ latest_end }
     requires was { t < held.old.until → Lasts (comes plan.now i j) t held.old }
     ensures held { Lasts (comes plan.now i j) t held.new }
-    ensures both { (f : ℕ → Bool) → Lasts f t other → Lasts (λ u. f u || comes plan.now i j u) t result }
+    ensures answer { result ≡ held.new }
 {
-    ask_again(plan, outcome, i, j, t, come, held);
-    either(other, *held)
+    plan.laws();
+    wl_plan::simulation_laws();
+    if t < held.until {
+        return *held;
+    }
+    let delay = plan.topology.delay(i as u8, j as u8);
+    let nodes = outcome.nodes.as_slice();
+    let changes = nodes[i].changes.as_slice();
+    *held = pulse_of(changes, delay, t, come);
+    *held
 }
 
-/// Returns whether some node's drive is dominant at node `j` at tick `t`. `come` and `sources` are what was known of each node's.
+/// Returns whether some node's drive is dominant at node `j` at tick `t`. `come` and `sources` are what was known of each node's. One that
+/// is dominant is enough, so those after it aren't asked.
 pub(crate) fn driven(
     plan: &CheckedPlan,
     outcome: &Outcome,
@@ -110,15 +91,19 @@ pub(crate) fn driven(
     ensures sources { Comes plan.now j t sources.new }
 {
     plan.laws();
-    let mut all = Pulse {
-        from: t,
-        until: u64::MAX,
-        dominant: false,
-    };
+    let mut until = u64::MAX;
     for i in 0..plan.nodes.len() {
-        all = joined(plan, outcome, i, j, t, &mut come[i], &mut sources[i], all);
+        let held = ask_again(plan, outcome, i, j, t, &mut come[i], &mut sources[i]);
+        if held.dominant {
+            return held;
+        }
+        until = until.min(held.until);
     }
-    all
+    Pulse {
+        from: t,
+        until,
+        dominant: false,
+    }
 }
 
 /// Returns what is known of each node's signals from tick 0 on. Refused only if memory runs out.
@@ -158,7 +143,20 @@ pub(crate) fn first_signals(
     Ok(now)
 }
 
-/// Adds those signals of node `i` that change at tick `t`, notes what is known of it from then on, and returns how long that stays.
+/// Returns when the turn of each node comes: its signals stay up to then.
+pub(crate) fn calendar_of(plan: &CheckedPlan, watched: &[Watched]) -> Calendar
+    requires watched { AllWatched plan.now 0 watched.now }
+    ensures { IsCalendarOf plan.now.end watched.now result }
+{
+    plan.laws();
+    let mut calendar = Calendar::new();
+    for i in 0..watched.len() {
+        calendar.put(i, watched[i].until.min(plan.end));
+    }
+    calendar
+}
+
+/// Adds those signals of node `i` that change at tick `t`, at which what was known of it runs out, and notes what is known from then on.
 fn push_node(
     text: &mut Lines,
     plan: &CheckedPlan,
@@ -166,42 +164,41 @@ fn push_node(
     i: usize,
     t: u64,
     known: &mut Watched,
-) -> u64
+)
     requires outcome { outcome.now ≡ outcome_of plan.now }
     requires node { i < length plan.now.nodes }
     requires some { 0 < t }
     requires early { t ≤ latest_end }
     requires was { Watches plan.now i (t - 1) known.old }
+    requires past { known.old.until ≤ t }
     requires room { array_vec_len text.old + 300 ≤ 16384 }
     ensures lines { text.new.items ≡ text.old.items
         ++ node_changes i (node_signals plan.now (t - 1) i) (node_signals plan.now t i) }
     ensures grown { array_vec_len text.new ≤ array_vec_len text.old + 300 }
     ensures watches { Watches plan.now i t known.new }
-    ensures until { result ≡ known.new.until }
 {
     plan.laws();
     wl_plan::simulation_laws();
-    if t < known.until {
-        return known.until;
-    }
     let was = known.signals();
     known.go(plan, outcome, i, t);
     push_node_changes(text, i, was, known.signals());
-    known.until
 }
 
-/// Adds those signals of all nodes that change at tick `t`, and returns a later tick up to which none of them changes again.
+/// Adds those signals of all nodes that change at tick `t`, and returns a later tick up to which none of them changes again. Only nodes whose
+/// turn has come are looked at, the first one first.
 pub(crate) fn push_changes(
     text: &mut Lines,
     plan: &CheckedPlan,
     outcome: &Outcome,
     t: u64,
     watched: &mut [Watched],
+    calendar: &mut Calendar,
 ) -> u64
     requires outcome { outcome.now ≡ outcome_of plan.now }
     requires some { 0 < t }
     requires early { t < plan.now.end }
     requires watched { AllWatched plan.now (t - 1) watched.old }
+    requires calendar { IsCalendarOf plan.now.end watched.old calendar.old }
     requires room { array_vec_len text.old + 4800 ≤ 16384 }
     ensures lines { text.new.items ≡ text.old.items ++ changes_from 0 (signals plan.now (t - 1)) (signals plan.now t) }
     ensures grown { array_vec_len text.new ≤ array_vec_len text.old + 4800 }
@@ -209,13 +206,18 @@ pub(crate) fn push_changes(
     ensures inside { result ≤ plan.now.end }
     ensures stays { (u : ℕ) → t ≤ u → u < result → signals plan.now u ≡ signals plan.now t }
     ensures watched { AllWatched plan.now (result - 1) watched.new }
+    ensures calendar { IsCalendarOf plan.now.end watched.new calendar.new }
 {
     plan.laws();
     wl_plan::simulation_laws();
-    let mut until = plan.end;
-    for i in 0..watched.len() {
-        let stays = push_node(text, plan, outcome, i, t, &mut watched[i]);
-        until = until.min(stays);
+    let mut next = 0;
+    let mut first = calendar.first();
+    while next < watched.len() && first.0 <= t {
+        let i = first.1;
+        push_node(text, plan, outcome, i, t, &mut watched[i]);
+        calendar.put(i, watched[i].until.min(plan.end));
+        next = i + 1;
+        first = calendar.first();
     }
-    until
+    first.0.min(plan.end)
 }

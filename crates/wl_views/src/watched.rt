@@ -12,7 +12,7 @@ ghost use Rattle.wl_plan.specs.Simulation.{level};
 ghost use Rattle.wl_serial.specs.Outcome.{outcome_of};
 ghost use Rattle.wl_trace.specs.Rerun.{IsRerun};
 ghost use Rattle.wl_trace.specs.Shown.{shown_of};
-ghost use Rattle.wl_views.specs.Held.{Awaits, SawUpTo, Hears, Remembers, Watches, next_of, signals_by};
+ghost use Rattle.wl_views.specs.Held.{Awaits, Hears, IsLimit, Remembers, SawUpTo, Watches, heard_until, next_of, signals_by};
 
 use crate::place_line::PlaceLine;
 use crate::signals::NodeSignals;
@@ -35,6 +35,8 @@ pub(crate) struct Watched {
     pub(crate) quanta: u64,
     /// The tick of its next quantum before the end, and the last of all ticks if there is none.
     pub(crate) next: u64,
+    /// How many quanta begin before the line changes, and before the end.
+    pub(crate) limit: u64,
     /// Up to which tick the signals stay.
     pub(crate) until: u64,
 }
@@ -66,6 +68,7 @@ impl Watched {
         ensures remembers { Remembers plan.now i 0 result.line }
         ensures awaits { Awaits plan.now i 0 result }
         ensures quanta { result.quanta ≡ 0 }
+        ensures limit { result.limit ≡ 0 }
     {
         let (setup, end) = (&plan.nodes.as_slice()[i], plan.end);
         let node = Rerun::new(setup.segments);
@@ -76,6 +79,7 @@ impl Watched {
             shown,
             quanta: 0,
             next: next_tick(&setup.clock, end, 0),
+            limit: 0,
             until: 0,
         }
     }
@@ -87,7 +91,7 @@ impl Watched {
         let shown = self.shown;
         NodeSignals {
             tx: !shown.drive.is_dominant(),
-            rx: !self.line.found().dominant,
+            rx: !(self.line.cable.dominant || self.line.disturbance.dominant),
             cable: !self.line.cable.dominant,
             disturbance: self.line.disturbance.dominant,
             sample: shown.sampled,
@@ -102,12 +106,33 @@ impl Watched {
         requires node { i < length plan.now.nodes }
         requires early { t ≤ latest_end }
         requires remembers { Remembers plan.now i t self.old.line }
+        requires limit { t < heard_until self.old.line → IsLimit plan.now i self.old }
         requires awaits { Awaits plan.now i t self.old }
         ensures { Watches plan.now i t self.new }
     {
-        self.line.hear(plan, outcome, i, t);
+        self.listen(plan, outcome, i, t);
         self.see(plan, i, t);
         self.pass(plan, i, t);
+    }
+
+    /// Asks again what the line is if that has run out at tick `t`.
+    fn listen(&mut self, plan: &CheckedPlan, outcome: &Outcome, i: usize, t: u64)
+        requires outcome { outcome.now ≡ outcome_of plan.now }
+        requires node { i < length plan.now.nodes }
+        requires early { t ≤ latest_end }
+        requires remembers { Remembers plan.now i t self.old.line }
+        requires limit { t < heard_until self.old.line → IsLimit plan.now i self.old }
+        ensures hears { Hears plan.now i t self.new.line }
+        ensures limit { IsLimit plan.now i self.new }
+        ensures awaits { Awaits plan.now i t self.old → Awaits plan.now i t self.new }
+    {
+        plan.laws();
+        if t < self.line.found().until {
+            return;
+        }
+        self.line.hear(plan, outcome, i, t);
+        let (clock, end) = (&plan.nodes.as_slice()[i].clock, plan.end);
+        self.limit = clock.first_not_before(self.line.found().until.min(end));
     }
 
     /// Sees the quantum of tick `t`, if one begins then.
@@ -118,6 +143,7 @@ impl Watched {
         requires awaits { Awaits plan.now i t self.old }
         ensures seen { SawUpTo plan.now i t self.new }
         ensures line { self.new.line ≡ self.old.line }
+        ensures limit { self.new.limit ≡ self.old.limit }
     {
         plan.laws();
         wl_plan::simulation_laws();
@@ -136,6 +162,7 @@ impl Watched {
         requires node { i < length plan.now.nodes }
         requires early { t ≤ latest_end }
         requires hears { Hears plan.now i t self.old.line }
+        requires limit { IsLimit plan.now i self.old }
         requires seen { SawUpTo plan.now i t self.old }
         ensures { Watches plan.now i t self.new }
     {
@@ -143,8 +170,7 @@ impl Watched {
         wl_plan::simulation_laws();
         let line = self.line.found();
         let (clock, end) = (&plan.nodes.as_slice()[i].clock, plan.end);
-        let until = line.until.min(end);
-        let most = clock.first_not_before(until).saturating_sub(self.quanta);
+        let most = self.limit.saturating_sub(self.quanta);
         self.quanta += self.node.pass(level_of(line.dominant), most);
         self.next = next_tick(clock, end, self.quanta);
         self.until = line.until.min(self.next);

@@ -4,15 +4,16 @@ ghost use Rattle.std.specs.List.{flat_map, range_with_len};
 ghost use Rattle.arrayvec.specs.ArrayVec.{array_vec_len};
 ghost use Rattle.wl_device.specs.Devices.{Writes};
 ghost use Rattle.wl_serial.specs.Outcome.{outcome_of};
-ghost use Rattle.wl_views.specs.Held.{AllWatched};
+ghost use Rattle.wl_views.specs.Held.{AllWatched, IsCalendarOf};
 ghost use Rattle.wl_views.specs.Signals.{signals};
 ghost use Rattle.wl_views.specs.Streams.{Streams};
 ghost use Rattle.wl_views.specs.Vcd.{tick_lines, time_line, vcd_text};
 
+use crate::calendar::Calendar;
 use crate::dump::front;
 use crate::fault::ViewFault;
 use crate::lines::{Lines, push_time};
-use crate::signals::{first_signals, push_changes, watch_all};
+use crate::signals::{calendar_of, first_signals, push_changes, watch_all};
 use crate::tick::Tick;
 use crate::watched::Watched;
 use arrayvec::ArrayVec;
@@ -33,11 +34,13 @@ fn push_tick(
     outcome: &Outcome,
     t: u64,
     watched: &mut [Watched],
+    calendar: &mut Calendar,
 ) -> u64
     requires outcome { outcome.now ≡ outcome_of plan.now }
     requires some { 0 < t }
     requires early { t < plan.now.end }
     requires watched { AllWatched plan.now (t - 1) watched.old }
+    requires calendar { IsCalendarOf plan.now.end watched.old calendar.old }
     requires room { array_vec_len text.old ≤ 8192 }
     ensures lines { text.new.items ≡ text.old.items ++ tick_lines tick (signals plan.now) t }
     ensures grown { array_vec_len text.new ≤ 16000 }
@@ -45,12 +48,13 @@ fn push_tick(
     ensures inside { result ≤ plan.now.end }
     ensures stays { (u : ℕ) → t ≤ u → u < result → signals plan.now u ≡ signals plan.now t }
     ensures watched { AllWatched plan.now (result - 1) watched.new }
+    ensures calendar { IsCalendarOf plan.now.end watched.new calendar.new }
 {
     plan.laws();
     let before = text.len();
     push_time(text, tick, t);
     let timed = text.len();
-    let until = push_changes(text, plan, outcome, t, watched);
+    let until = push_changes(text, plan, outcome, t, watched, calendar);
     if text.len() == timed {
         text.truncate(before);
     }
@@ -79,6 +83,7 @@ fn write_from<W: Sink>(
         Err(fault) => return Err(fault),
     };
     let end = plan.end;
+    let mut calendar = calendar_of(plan, watched);
     let mut text: Lines = ArrayVec::new();
     let mut t = 1;
     while t < end {
@@ -89,7 +94,7 @@ fn write_from<W: Sink>(
             };
             text.clear();
         }
-        t = push_tick(&mut text, tick, plan, outcome, t, watched);
+        t = push_tick(&mut text, tick, plan, outcome, t, watched, &mut calendar);
     }
     push_time(&mut text, tick, end);
     match send(text.as_slice(), writer, calls) {

@@ -24,8 +24,8 @@ pulse_of-requires-clause-order c =
     in
     subst IsIncreasing (sym are) (c.simulation_laws.ensures.changes_increase (line_of c.args.plan.now) c.args.i)
 
-pub returns : goal.returns
-returns c =
+pub returns-clause-held : goal.returns-clause-held
+returns-clause-held c =
     let are : c.as_slice-changes.result.now ≡ table_of c.args.plan.now c.args.i =
     c.as_slice-changes.ensures
     ∙ ap (λ (n : NodeOutcome). n.changes)

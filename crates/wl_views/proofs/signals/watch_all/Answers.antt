@@ -1,4 +1,4 @@
-use Rattle.std.proofs.Common.{◌∙◌, ◌+◌, ◌∷◌, [], ℕ, List, length, length-append, get_or, ap, sym, subst}
+use Rattle.std.proofs.Common.{◌∙◌, ◌+◌, ◌∷◌, [], ℕ, List, length, length-append, get_or, ap, sym, subst, arith}
 use Rattle.wl_views.specs.declared.watched.Watched.{Watched}
 use Rattle.wl_views.specs.Held.{Watches}
 use Rattle.wl_views.proofs.Watching.{known_behind}
@@ -16,3 +16,6 @@ loop-i-preserved c =
           subst (λ (xs : List Watched). Watches plan k 0 (get_or xs k d)) (sym c.in_ok-push.ensures.items)
           (known_behind (λ m x. Watches plan m 0 x) all i w c.loop-i.invariant.long c.loop-i.invariant.known c.go.ensures k d below);
     }
+
+pub go-requires-clause-limit : goal.go-requires-clause-limit
+go-requires-clause-limit c later q below = absurd (omega (arith, c.new-node.ensures.limit))

@@ -71,6 +71,7 @@ loop-t-preserved g c =
             omega arith,
             c.push_tick-t.ensures.grown,
             omega (arith, w.calls-is, out.3),
+            c.push_tick-t.ensures.calendar,
           )
       | else-len-gt-PIECE w ↦
           let moved : inv.1 ++ c.if-len-gt-PIECE.text.items ≡ inv.1 ++ c.loop-t.text.items = ap (λ x. inv.1 ++ x.items) w.text-is in (
@@ -83,6 +84,7 @@ loop-t-preserved g c =
             omega arith,
             c.push_tick-t.ensures.grown,
             omega (arith, w.calls-is, inv.8),
+            c.push_tick-t.ensures.calendar,
           )
     ]
 

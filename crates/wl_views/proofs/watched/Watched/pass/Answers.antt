@@ -32,9 +32,9 @@ next_tick-self-requires c =
     λ q below. elim (cases_lt q k) [
       | inl low ↦ h.runs.inside q low
       | inr high ↦
-          (let less : q < c.first_not_before.result = omega (arith, c.saturating_sub-most.ensures, few) in
-          let early : tick_of (setup_at plan i).clock q < c.min-until.result = subst (λ (s : NodeSetup). tick_of s.clock q < c.min-until.result) setup (c.first_not_before.ensures.least q less) in
-          omega (arith, c.min-until.ensures))
+          (let less : q < c.args.self.now.limit = omega (arith, c.saturating_sub-most.ensures, few) in
+          let early = c.requires.limit q less in
+          omega arith)
     ] in
     few_inside c.simulation_laws.ensures plan c.laws.ensures.sound i b (k + n) inside
 
@@ -57,9 +57,9 @@ returns c =
     let few : n ≤ c.saturating_sub-most.result = omega (arith, c.pass.ensures.quanta (setup_at plan i) (seen (line_of plan) i k) h.runs.node) in
     let during : (q : ℕ) → k ≤ q → q < k + n → (tick_of (setup_at plan i).clock q < held.until) × (tick_of (setup_at plan i).clock q < plan.end) =
     λ q from below.
-    (let less : q < c.first_not_before.result = omega (arith, c.saturating_sub-most.ensures, few) in
-    let early : tick_of (setup_at plan i).clock q < c.min-until.result = subst (λ (s : NodeSetup). tick_of s.clock q < c.min-until.result) setup (c.first_not_before.ensures.least q less) in
-    (omega (arith, c.min-until.ensures), omega (arith, c.min-until.ensures)))
+    (let less : q < c.args.self.now.limit = omega (arith, c.saturating_sub-most.ensures, few) in
+    let early = c.requires.limit q less in
+    (omega arith, omega arith))
     in
     let plain : (m : ℕ) → m ≤ n → shown_of (setup_at plan i) (seen (line_of plan) i k ++ replicate m (level_of held.dominant)) ≡ shown_of (setup_at plan i) (seen (line_of plan) i k) =
     λ m less. ap (λ (l : Level). shown_of (setup_at plan i) (seen (line_of plan) i k ++ replicate m l)) (sym c.level_of.ensures) ∙ c.pass.ensures.same (setup_at plan i) (seen (line_of plan) i k) h.runs.node m less
@@ -80,6 +80,7 @@ returns c =
         inside = all_inside laws plan sound i b t held line k n h.runs.inside h.before h.later during plain;
       };
       hears = record { cable = c.requires.hears.cable; disturbance = c.requires.hears.disturbance; sources = c.requires.hears.sources };
+      limit = c.requires.limit;
       next = next;
       before = λ q below. elim (cases_lt q k) [
         | inl low ↦ (let m = h.before q low in let l = line.later in omega arith)
