@@ -1,6 +1,8 @@
 //! The trace of a run: what happened to each node, a line for each event.
-ghost use Rattle.std.specs.Prelude.{◌≡◌, ◌-◌, ◌<◌, ◌≤◌, ◌^◌, ◌++◌, OnOk, IfOk, length, string_bytes};
+ghost use Rattle.std.specs.Prelude.{◌≡◌, ◌+◌, ◌-◌, ◌<◌, ◌≤◌, ◌^◌, ◌++◌, OnOk, IfOk, length, string_bytes};
 ghost use Rattle.std.specs.List.{All};
+ghost use Rattle.std.specs.Fmt.{decimal};
+ghost use Rattle.arrayvec.specs.ArrayString.{array_string_len};
 ghost use Rattle.wl_report.specs.Lines.{GrowsBy};
 ghost use Rattle.wl_serial.specs.Outcome.{outcome_of};
 ghost use Rattle.wl_level.specs.ByTick.{by_tick};
@@ -8,6 +10,8 @@ ghost use Rattle.wl_views.specs.Trace.{all_told, error_kind_word, event_text, ev
 
 use crate::place_line::PlaceLine;
 use crate::watched::level_of;
+use arrayvec::ArrayString;
+use itoa::Buffer;
 use std::alloc::{AllocError, Global};
 use wl_clock::Clock;
 use wl_confine::{Counters, ErrorKind};
@@ -130,22 +134,48 @@ fn push_event(text: &mut String, event: Event) -> Result<(), AllocError>
         }
         Event::ModeChanged(counters) => push_mode(text, counters),
         Event::HardSynchronised => text.push_str("sync hard"),
-        Event::Resynchronised(error) => write!(text, "sync {error}"),
+        Event::Resynchronised(error) => {
+            text.push_str("sync ")?;
+            text.push_str(Buffer::new().format(error))
+        }
     }
+}
+
+/// Some words, which need no memory.
+type Words = ArrayString<64>;
+
+/// Adds a number.
+fn push_number(words: &mut Words, number: u64)
+    requires { array_string_len words.old + 20 ≤ 64 }
+    ensures bytes { words.new.bytes ≡ words.old.bytes ++ decimal number }
+    ensures grown { array_string_len words.new ≤ array_string_len words.old + 20 }
+{
+    words.push_str(Buffer::new().format(number));
 }
 
 /// Adds a tick and a node's number.
 fn push_start(text: &mut String, tick: u64, i: usize) -> Result<(), AllocError>
     ensures { OnOk result (GrowsBy text.old text.new (line_start tick i)) }
 {
-    write!(text, "{tick} {i} ")
+    let mut words = Words::new();
+    push_number(&mut words, tick);
+    words.push_str(" ");
+    push_number(&mut words, i as u64);
+    words.push_str(" ");
+    text.push_str(words.as_str())
 }
 
 /// Adds a quantum and a bit.
 fn push_sample_words(text: &mut String, quantum: u64, bit: u64) -> Result<(), AllocError>
     ensures { OnOk result (GrowsBy text.old text.new (sample_words quantum bit)) }
 {
-    write!(text, " q {quantum} b {bit} ")
+    let mut words = Words::new();
+    words.push_str(" q ");
+    push_number(&mut words, quantum);
+    words.push_str(" b ");
+    push_number(&mut words, bit);
+    words.push_str(" ");
+    text.push_str(words.as_str())
 }
 
 /// Adds the line of an event of node `i` at a tick.
