@@ -14,3 +14,4 @@ mod Watching
 mod Going
 mod Calendars
 mod Dates
+mod Times

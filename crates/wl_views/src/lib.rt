@@ -12,6 +12,7 @@ mod log;
 mod place_line;
 mod sent;
 mod signals;
+mod stamp;
 mod tick;
 mod told;
 mod watched;

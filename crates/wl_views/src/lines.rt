@@ -6,6 +6,7 @@ ghost use Rattle.wl_plan.specs.Limits.{latest_end};
 ghost use Rattle.wl_views.specs.Vcd.{change_line, level_changes, line_changes, mark_changes, node_changes, number_change, signal_id, state_changes, time_line, value_line, word_change};
 
 use crate::signals::NodeSignals;
+use crate::stamp::Stamp;
 use crate::tick::Tick;
 use crate::words::{doing_word, mode};
 use arrayvec::ArrayVec;
@@ -19,7 +20,7 @@ pub(crate) const ROOM: usize = 16_384;
 pub(crate) type Lines = ArrayVec<u8, ROOM>;
 
 /// Adds these bytes.
-fn push_bytes(text: &mut Lines, bytes: &[u8])
+pub(crate) fn push_bytes(text: &mut Lines, bytes: &[u8])
     requires { array_vec_len text.old + length bytes.now ≤ 16384 }
     ensures bytes { text.new.items ≡ text.old.items ++ bytes.now }
     ensures len { array_vec_len text.new ≡ array_vec_len text.old + length bytes.now }
@@ -29,7 +30,7 @@ fn push_bytes(text: &mut Lines, bytes: &[u8])
 }
 
 /// Adds a number.
-fn push_number(text: &mut Lines, number: u64)
+pub(crate) fn push_number(text: &mut Lines, number: u64)
     requires { array_vec_len text.old + 20 ≤ 16384 }
     ensures bytes { text.new.items ≡ text.old.items ++ decimal number }
     ensures grown { array_vec_len text.new ≤ array_vec_len text.old + 20 }
@@ -39,7 +40,7 @@ fn push_number(text: &mut Lines, number: u64)
     push_bytes(text, &digits[at..]);
 }
 
-/// Adds a number that mostly has one digit.
+/// Adds a number that mostly has one digit or two.
 fn push_small(text: &mut Lines, number: u64)
     requires { array_vec_len text.old + 20 ≤ 16384 }
     ensures bytes { text.new.items ≡ text.old.items ++ decimal number }
@@ -47,9 +48,14 @@ fn push_small(text: &mut Lines, number: u64)
 {
     if number < 10 {
         text.push(b'0' + number as u8);
-    } else {
-        push_number(text, number);
+        return;
     }
+    if number < 100 {
+        text.push(b'0' + (number / 10) as u8);
+        text.push(b'0' + (number % 10) as u8);
+        return;
+    }
+    push_number(text, number);
 }
 
 /// Adds the name of a signal of node `i`: its letter and the node's number.
@@ -62,15 +68,15 @@ fn push_id(text: &mut Lines, letter: u8, i: usize)
     push_small(text, i as u64);
 }
 
-/// Adds the time of a tick.
-pub(crate) fn push_time(text: &mut Lines, tick: Tick, t: u64)
+/// Adds the time of a tick. `stamp` has the digits of an earlier one.
+pub(crate) fn push_time(text: &mut Lines, stamp: &mut Stamp, tick: Tick, t: u64)
     requires room { array_vec_len text.old + 22 ≤ 16384 }
     requires early { t ≤ latest_end }
     ensures line { text.new.items ≡ text.old.items ++ time_line tick t }
     ensures grown { array_vec_len text.new ≤ array_vec_len text.old + 22 }
 {
     text.push(b'#');
-    push_number(text, t * u64::from(tick.count));
+    stamp.push(text, t * u64::from(tick.count));
     text.push(b'\n');
 }
 

@@ -14,6 +14,7 @@ use crate::dump::front;
 use crate::fault::ViewFault;
 use crate::lines::{Lines, push_time};
 use crate::signals::{calendar_of, first_signals, push_changes, watch_all};
+use crate::stamp::Stamp;
 use crate::tick::Tick;
 use crate::watched::Watched;
 use arrayvec::ArrayVec;
@@ -29,6 +30,7 @@ const PIECE: usize = 8_192;
 /// Adds what changes at tick `t` under its time, and returns a later tick up to which nothing changes again.
 fn push_tick(
     text: &mut Lines,
+    stamp: &mut Stamp,
     tick: Tick,
     plan: &CheckedPlan,
     outcome: &Outcome,
@@ -52,7 +54,7 @@ fn push_tick(
 {
     plan.laws();
     let before = text.len();
-    push_time(text, tick, t);
+    push_time(text, stamp, tick, t);
     let timed = text.len();
     let until = push_changes(text, plan, outcome, t, watched, calendar);
     if text.len() == timed {
@@ -85,6 +87,7 @@ fn write_from<W: Sink>(
     let end = plan.end;
     let mut calendar = calendar_of(plan, watched);
     let mut text: Lines = ArrayVec::new();
+    let mut stamp = Stamp::new();
     let mut t = 1;
     while t < end {
         if text.len() > PIECE {
@@ -94,9 +97,18 @@ fn write_from<W: Sink>(
             };
             text.clear();
         }
-        t = push_tick(&mut text, tick, plan, outcome, t, watched, &mut calendar);
+        t = push_tick(
+            &mut text,
+            &mut stamp,
+            tick,
+            plan,
+            outcome,
+            t,
+            watched,
+            &mut calendar,
+        );
     }
-    push_time(&mut text, tick, end);
+    push_time(&mut text, &mut stamp, tick, end);
     match send(text.as_slice(), writer, calls) {
         Ok(_) => Ok(()),
         Err(fault) => Err(fault),
