@@ -1,17 +1,18 @@
 -- What a place finds: how long a node's level stays, what all nodes make of the line, and the disturbances.
-use Rattle.std.proofs.Common.{◌≡◌, ℕ, zero, suc, ◌-◌, ◌<◌, ◌≤◌, Bool, true, false, ◌&&◌, ◌||◌, inl, inr, List, [], ◌∷◌, length, replicate, nat_le, refl, sym, ◌∙◌, ap, subst, arith}
+use Rattle.std.proofs.Common.{◌≡◌, ℕ, zero, suc, ◌+◌, ◌-◌, ◌<◌, ◌≤◌, Bool, true, false, ◌&&◌, ◌||◌, inl, inr, List, [], ◌∷◌, length, replicate, nat_le, refl, sym, ◌∙◌, ap, subst, arith}
 use Rattle.std.specs.Prelude.{slice_index_or, slice_set, All}
 use Rattle.std.specs.List.{list_any}
 use Rattle.std.proofs.Math.ListN.{length-set}
-use Rattle.std.proofs.lemmas.Bool.{cases_lt, cases_eq, le-leb, and_parts, leb-true}
+use Rattle.std.proofs.lemmas.Bool.{cases_lt, cases_eq, le-leb, lt-leb, and_parts, leb-true}
 use Rattle.std.proofs.lemmas.List.{get_or_past, get_or-set_same, get_or-set_other}
 use Rattle.wl_level.specs.declared.Level.{Level}
 use Rattle.wl_level.specs.declared.Level.TheVariants.{Dominant, Recessive}
 use Rattle.wl_level.specs.Levels.{level_of}
+use Rattle.wl_lattice.specs.declared.FlatWord.{FlatWord}
 use Rattle.wl_topology.specs.Driven.{driven, DrivenLaws}
 use Rattle.wl_record_core.specs.Truth.{odd}
 use Rattle.wl_replica.specs.Slots.{Contents, HoldsTrue}
-use Rattle.wl_replica.specs.Known.{tick_in, run_length, horizon}
+use Rattle.wl_replica.specs.Known.{tick_in, after_edges, run_length, horizon}
 use Rattle.wl_replica.specs.KnownLaws.{KnownLaws}
 use Rattle.wl_plan.specs.declared.plan.Disturbance.{Disturbance}
 use Rattle.wl_plan.specs.declared.plan.Plan.{Plan}
@@ -21,7 +22,7 @@ use Rattle.wl_plan.specs.Simulation.{level, changes}
 use Rattle.wl_plan.specs.Sound.{IsSound}
 use Rattle.wl_group.specs.GroupLaws.{WaveIsLevel}
 use Rattle.wl_group.specs.declared.heard.Stretch.{Stretch}
-use Rattle.wl_group.specs.Heard.{AreNotAfter, IsDrive, IsShaken, IsStretch, IsStill, no_stretch, AreStretches, AreShaken, AreDrives}
+use Rattle.wl_group.specs.Heard.{AreNotAfter, HasComeBy, IsShaken, IsStretch, IsStill, no_stretch, AreStretches, AreShaken}
 
 -- ---- one node
 
@@ -33,17 +34,38 @@ level_stays knows agree l sound w truth i b s t count are from early before =
     sym (agree l sound w truth i t b early)
     ∙ knows.wave_counted w i t count are.few early (λ some. (let c = are.come some in omega arith)) before
 
--- as many had come by their last one
-pub by_the_last : (w : Contents) (i m t count last : ℕ) → AreNotAfter w i m t count → last ≤ t → (0 < count → tick_in (w.edge i (count - 1)) ≤ last) → AreNotAfter w i m last count
-by_the_last w i m t count last are early come = record {
-  few = are.few;
-  come = come;
-  others = λ some. (let later = are.others some in omega arith);
-}
+-- all had come where the last one had
+pub all_come : (w : Contents) (i m t : ℕ) → (0 < m → tick_in (w.edge i (m - 1)) ≤ t) → AreNotAfter w i m t m
+all_come w i m t come = record { few = omega arith; come = come; others = λ some. absurd (omega arith) }
 
 -- a delay later it is heard
 pub heard_after : (delay t : ℕ) (b : Bool) (wave : Level) → delay ≤ t → level_of b ≡ wave → level_of (nat_le delay t && b) ≡ wave
 heard_after delay t b wave h e = ap (λ v. level_of (v && b)) (le-leb delay t h) ∙ e
+
+-- the last of some changes, where there is one
+last_edge : (e : ℕ → FlatWord) (m : ℕ) → 0 < m → after_edges e m ≡ suc (tick_in (e (m - 1)))
+last_edge e zero some = absurd (omega arith)
+last_edge e (suc m) some =
+    let same : m ≡ suc m - 1 = omega arith in
+    ap (λ k. suc (tick_in (e k))) same
+
+no_edge : (e : ℕ → FlatWord) (m : ℕ) → after_edges e m ≡ 0 → m ≡ 0
+no_edge e zero none = refl
+no_edge e (suc m) none = absurd (omega (arith, none))
+
+-- after the last change that is known has come, the level stays as far as it is known
+pub heard_to_the_last : KnownLaws → WaveIsLevel → (l : Line) → IsSound l → (w : Contents) → HoldsTrue l.nodes (changes l) w → (i j : ℕ) → i < l.nodes
+    → (t u : ℕ) → HasComeBy l w i j t → t ≤ u → u < horizon w i + l.delay i j
+    → level_of (nat_le (l.delay i j) u && level l i (u - l.delay i j)) ≡ level_of (odd (run_length w i))
+heard_to_the_last knows agree l sound w truth i j b t u come from until = elim (cases_lt u (l.delay i j)) [
+  | inl before ↦
+      let none = no_edge (w.edge i) (run_length w i) (omega (arith, come, from, before)) in
+      ap (λ v. level_of (v && level l i (u - l.delay i j))) (lt-leb (l.delay i j) u before) ∙ ap (λ m. level_of (odd m)) (sym none)
+  | inr after ↦ heard_after (l.delay i j) u (level l i (u - l.delay i j)) (level_of (odd (run_length w i))) after
+      (ap level_of (level_stays knows agree l sound w truth i b (u - l.delay i j) (u - l.delay i j) (run_length w i)
+      (all_come w i (run_length w i) (u - l.delay i j) (λ some. let last = last_edge (w.edge i) (run_length w i) some in omega (arith, last, come, from, after)))
+      (omega arith) (omega (arith, until, after)) (λ past. absurd (omega (arith, past)))))
+]
 
 -- ---- all nodes
 
@@ -107,17 +129,11 @@ empty_stretch l j t from until = absurd (omega arith)
 empty_shaken : (plan : Plan) (j : ℕ) → IsShaken plan j no_stretch
 empty_shaken plan j t from until = absurd (omega arith)
 
-empty_drive : (l : Line) (i : ℕ) → IsDrive l i no_stretch
-empty_drive l i t from until = absurd (omega arith)
-
 pub nothing_heard : (l : Line) (n : ℕ) → AreStretches l (replicate n no_stretch)
 nothing_heard l n j = subst (IsStretch l j) (sym (nothing_at n j)) (empty_stretch l j)
 
 pub nothing_shaken : (plan : Plan) (n : ℕ) → AreShaken plan (replicate n no_stretch)
 nothing_shaken plan n j = subst (IsShaken plan j) (sym (nothing_at n j)) (empty_shaken plan j)
-
-pub nothing_driven : (l : Line) (n : ℕ) → AreDrives l (replicate n no_stretch)
-nothing_driven l n i = subst (IsDrive l i) (sym (nothing_at n i)) (empty_drive l i)
 
 -- with another stretch at one place
 one_set : (P : ℕ → Stretch → Type 0) → ((j : ℕ) → P j no_stretch) → (xs : List Stretch) (i : ℕ) (new : Stretch)
@@ -137,6 +153,3 @@ one_more_heard l heard i new are is = one_set (IsStretch l) (empty_stretch l) he
 
 pub one_more_shaken : (plan : Plan) (shaken : List Stretch) (i : ℕ) (new : Stretch) → AreShaken plan shaken → IsShaken plan i new → AreShaken plan (slice_set shaken i new)
 one_more_shaken plan shaken i new are is = one_set (IsShaken plan) (empty_shaken plan) shaken i new are is
-
-pub one_more_drive : (l : Line) (drives : List Stretch) (i : ℕ) (new : Stretch) → AreDrives l drives → IsDrive l i new → AreDrives l (slice_set drives i new)
-one_more_drive l drives i new are is = one_set (IsDrive l) (empty_drive l) drives i new are is

@@ -1,11 +1,11 @@
 -- What a place finds: which of a node's changes have come, and how long the line stays as it is. This project's profile.
-use Rattle.std.specs.Prelude.{◌≡◌, ℕ, ◌-◌, ◌<◌, ◌≤◌, ◌&&◌, Bool, List, Option, nat_le, slice_index_or}
+use Rattle.std.specs.Prelude.{◌≡◌, ℕ, suc, ◌+◌, ◌-◌, ◌<◌, ◌≤◌, ◌&&◌, Bool, List, Option, nat_le, slice_index_or}
 use Rattle.wl_level.specs.declared.Level.TheVariants.{Dominant}
 use Rattle.wl_level.specs.Levels.{level_of}
 use Rattle.wl_topology.specs.Driven.{driven}
 use Rattle.wl_record_core.specs.declared.record.Record.{Record}
 use Rattle.wl_replica.specs.Slots.{Contents}
-use Rattle.wl_replica.specs.Known.{tick_in}
+use Rattle.wl_replica.specs.Known.{tick_in, after_edges, run_length}
 use Rattle.wl_replica.specs.State.{State, slots_of}
 use Rattle.wl_plan.specs.declared.plan.Disturbance.{Disturbance}
 use Rattle.wl_plan.specs.declared.plan.Plan.{Plan}
@@ -38,6 +38,10 @@ IsDrive l i s = IsStay (level l i) s
 abbrev pub IsHeardOf : Line → ℕ → ℕ → Stretch → Type 0
 IsHeardOf l i j s = IsStay (λ t. nat_le (l.delay i j) t && level l i (t - l.delay i j)) s
 
+-- the last of node i's changes that are known has come to node j by a tick
+abbrev pub HasComeBy : Line → Contents → ℕ → ℕ → ℕ → Type 0
+HasComeBy l w i j tick = after_edges (w.edge i) (run_length w i) + l.delay i j ≤ suc tick
+
 -- and this level of all nodes, without disturbances
 abbrev pub IsDriven : Line → ℕ → Stretch → Type 0
 IsDriven l j s = IsStay (driven l.nodes l.delay (level l) j) s
@@ -65,12 +69,8 @@ AreStretches l heard = (j : ℕ) → IsStretch l j (slice_index_or heard j no_st
 abbrev pub AreShaken : Plan → List Stretch → Type 0
 AreShaken plan shaken = (j : ℕ) → IsShaken plan j (slice_index_or shaken j no_stretch)
 
-abbrev pub AreDrives : Line → List Stretch → Type 0
-AreDrives l drives = (i : ℕ) → IsDrive l i (slice_index_or drives i no_stretch)
-
 -- What a group keeps, with what its members found last.
-pub record IsKeptWithStretches (plan : Plan) (cells : List (Option Cell)) (replica : State) (emitted : List Record) (heard shakes driving : List Stretch) : Type 0 where
+pub record IsKeptWithStretches (plan : Plan) (cells : List (Option Cell)) (replica : State) (emitted : List Record) (heard shakes : List Stretch) : Type 0 where
   pub kept : IsKept plan cells replica emitted
   pub stretches : AreStretches (line_of plan) heard
   pub shaken : AreShaken plan shakes
-  pub drives : AreDrives (line_of plan) driving

@@ -52,7 +52,7 @@ impl Group {
         value_laws();
         let tick = self.due(i);
         let mut ahead = Ahead {
-            stretches: [self.find(i, tick, end); MOST_AHEAD],
+            stretches: [self.find(i, tick); MOST_AHEAD],
             count: 1,
         };
         for _ in 0..more {
@@ -82,14 +82,13 @@ impl Group {
         if tick >= end {
             return;
         }
-        let stretch = self.find(i, tick, end);
+        let stretch = self.find(i, tick);
         ahead.stretches[ahead.count] = stretch;
         ahead.count += 1;
     }
 
-    /// Returns the stretch of the line at a member's place that has this tick, at which it is known there. How far it is wanted is a guess,
-    /// which decides nothing.
-    pub(crate) fn find(&mut self, i: u8, tick: u64, want: u64) -> Stretch
+    /// Returns the stretch of the line at a member's place that has this tick, at which it is known there.
+    pub(crate) fn find(&mut self, i: u8, tick: u64) -> Stretch
         requires member { belongs self.old i ≡ true }
         requires early { tick < 2 ^ 64 - 1 }
         requires known { let l = line_of self.old.plan in
@@ -108,14 +107,12 @@ impl Group {
             &self.plan,
             &self.replica,
             &mut self.come,
-            &mut self.drives,
             &ways,
             &mut self.lead,
             self.heard[i as usize],
             shaken,
             i,
             tick,
-            want,
         );
         self.heard[i as usize] = stretch;
         stretch

@@ -34,7 +34,6 @@ pub struct Group {
     pub(crate) come: Come,
     pub(crate) heard: Heard,
     pub(crate) shaken: Heard,
-    pub(crate) drives: Heard,
 }
 
 impl Model for Group {
@@ -50,7 +49,7 @@ impl Model for Group {
 
     ghost view = { λ g. group_value g.plan g.cells.items g.replica g.emitted.items };
 
-    ghost invariant = { λ g. IsKeptWithStretches g.plan g.cells.items g.replica g.emitted.items g.heard g.shaken g.drives };
+    ghost invariant = { λ g. IsKeptWithStretches g.plan g.cells.items g.replica g.emitted.items g.heard g.shaken };
 }
 
 impl Group {
@@ -95,7 +94,6 @@ impl Group {
             come: [0; MOST_NODES],
             heard: nothing_heard(),
             shaken: nothing_heard(),
-            drives: nothing_heard(),
         })
     }
 

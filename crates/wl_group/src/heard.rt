@@ -11,7 +11,7 @@ ghost use Rattle.wl_replica.specs.Slots.{HoldsTrue};
 ghost use Rattle.wl_plan.specs.Line.{Line};
 ghost use Rattle.wl_plan.specs.PlanLine.{line_of, table_of, disturbed};
 ghost use Rattle.wl_plan.specs.declared.plan.Plan.{Plan as GivenPlan};
-ghost use Rattle.wl_group.specs.Heard.{AreNotAfter, edge_tick, AreStretches, AreShaken, AreDrives, IsDrive, IsHeardOf, IsDriven, IsShaken, IsStretch, IsStill};
+ghost use Rattle.wl_group.specs.Heard.{AreNotAfter, edge_tick, AreStretches, AreShaken, HasComeBy, IsDrive, IsHeardOf, IsDriven, IsShaken, IsStretch, IsStill};
 ghost use Rattle.wl_group.specs.Ways.{AreWays, way_in};
 
 use crate::cell::Ways;
@@ -35,14 +35,13 @@ pub(crate) struct Stretch {
     pub(crate) level: Level,
 }
 
-/// For each node a stretch: of the line where it read it last, of the disturbances there, or of what it drives itself.
+/// For each node a stretch: of the line where it read it last, or of the disturbances there.
 pub(crate) type Heard = [Stretch; MOST_NODES];
 
 /// Returns the state in which no place has heard anything.
 pub(crate) fn nothing_heard() -> Heard
     ensures heard { (l : Line) → AreStretches l result }
     ensures shaken { (plan : GivenPlan) → AreShaken plan result }
-    ensures drives { (l : Line) → AreDrives l result }
 {
     [Stretch {
         from: 0,
@@ -112,26 +111,13 @@ fn kept_until(replica: &Replica, node: u8, run: u32, count: u32, known: u64) -> 
     known
 }
 
-/// Returns the tick of the last of a node's first changes that have come by tick `t`, `count` in number; 0 if none has.
-fn last_until(replica: &Replica, node: u8, count: u32, t: u64) -> u64
-    requires { 0 < count → tick_in ((slots_of replica.now).edge node (count - 1)) ≤ t }
-    ensures early { result ≤ t }
-    ensures come { 0 < count → tick_in ((slots_of replica.now).edge node (count - 1)) ≤ result }
-{
-    if count == 0 {
-        return 0;
-    }
-    change_at(replica, node, count - 1)
-}
-
-/// Returns what node `i` drives around tick `t`, at which that is known: from its last change on, up to the next one or as far as it is
-/// known.
+/// Returns what node `i` drives from tick `t` on, at which that is known: up to its next change, or as far as it is known.
 fn drive_at(plan: &CheckedPlan, replica: &Replica, i: u8, t: u64, come: &mut u32) -> Stretch
     requires nodes { replica.now.nodes ≡ length plan.now.nodes }
     requires truth { HoldsTrue (length plan.now.nodes) (table_of plan.now) (slots_of replica.now) }
     requires from { i < length plan.now.nodes }
     requires early { t < horizon (slots_of replica.now) i }
-    ensures from { result.from ≤ t }
+    ensures from { result.from ≡ t }
     ensures until { t < result.until }
     ensures drive { IsDrive (line_of plan.now) i result }
 {
@@ -144,127 +130,98 @@ fn drive_at(plan: &CheckedPlan, replica: &Replica, i: u8, t: u64, come: &mut u32
     let count = changes_until(replica, i, run, t, *come);
     *come = count;
     Stretch {
-        from: last_until(replica, i, count, t),
+        from: t,
         until: kept_until(replica, i, run, count, replica.horizon(i)),
         level: level_after(count),
     }
 }
 
-/// True if a stretch of what node `i` drives needn't be found again: it reaches a tick, or as far as is known by now.
-fn is_enough(replica: &Replica, i: u8, drive: Stretch, want: u64) -> bool
-    requires { i < replica.now.nodes }
-{
-    want <= drive.until || replica.horizon(i) <= drive.until
-}
-
-/// Returns what node `i` drives around tick `t`: this stretch, if it reaches the tick that is wanted or no more is known by now, and else
-/// what is found again.
-fn drive_around(
-    plan: &CheckedPlan,
-    replica: &Replica,
-    i: u8,
-    t: u64,
-    want: u64,
-    come: &mut u32,
-    drive: Stretch,
-) -> Stretch
-    requires nodes { replica.now.nodes ≡ length plan.now.nodes }
-    requires truth { HoldsTrue (length plan.now.nodes) (table_of plan.now) (slots_of replica.now) }
-    requires from { i < length plan.now.nodes }
-    requires early { t < horizon (slots_of replica.now) i }
-    requires drive { IsDrive (line_of plan.now) i drive }
-    ensures from { result.from ≤ t }
-    ensures until { t < result.until }
-    ensures drive { IsDrive (line_of plan.now) i result }
-{
-    if drive.from <= t && t < drive.until && is_enough(replica, i, drive, want) {
-        return drive;
-    }
-    drive_at(plan, replica, i, t, come)
-}
-
-/// Returns what node `j` finds of node `i` alone from tick `t` on, at which that is known, and what is kept of that node's drive then. How
-/// far it is wanted is a guess, which decides nothing.
-fn stretch_of(
+/// Returns what node `j` finds of node `i` alone from tick `t` on, at which that is known: `delay` ticks later what it drives.
+fn heard_at(
     plan: &CheckedPlan,
     replica: &Replica,
     i: u8,
     j: u8,
     t: u64,
-    want: u64,
     delay: u64,
     come: &mut u32,
-    drive: Stretch,
-) -> (Stretch, Stretch)
+) -> Stretch
     requires nodes { replica.now.nodes ≡ length plan.now.nodes }
     requires truth { HoldsTrue (length plan.now.nodes) (table_of plan.now) (slots_of replica.now) }
     requires from { i < length plan.now.nodes }
     requires way { delay ≡ (line_of plan.now).delay i j }
     requires early { t < horizon (slots_of replica.now) i + (line_of plan.now).delay i j }
     requires short { t < 2 ^ 64 - 1 }
-    requires drive { IsDrive (line_of plan.now) i drive }
-    ensures from { result.0.from ≡ t }
-    ensures until { t < result.0.until }
-    ensures heard { IsHeardOf (line_of plan.now) i j result.0 }
-    ensures drive { IsDrive (line_of plan.now) i result.1 }
+    ensures from { result.from ≡ t }
+    ensures until { t < result.until }
+    ensures heard { IsHeardOf (line_of plan.now) i j result }
 {
     if t < delay {
-        let silence = Stretch {
+        return Stretch {
             from: t,
             until: delay,
             level: Level::Recessive,
         };
-        return (silence, drive);
     }
-    let want = want.saturating_sub(delay);
-    let own = drive_around(plan, replica, i, t - delay, want, come, drive);
-    let heard = Stretch {
+    let own = drive_at(plan, replica, i, t - delay, come);
+    Stretch {
         from: t,
         until: own.until.saturating_add(delay),
         level: own.level,
-    };
-    (heard, own)
+    }
 }
 
-/// Returns what node `j` finds of node `i` alone from tick `t` on, at which that is known, and keeps what is found of that node's drive.
+/// Returns what node `j` finds of node `i` alone from tick `t` on, if the last of that node's changes that are known has come there by
+/// then: its level stays as far as it is known.
+fn heard_last(plan: &CheckedPlan, replica: &Replica, ways: &Ways, i: u8, j: u8, t: u64) -> Stretch
+    requires nodes { replica.now.nodes ≡ length plan.now.nodes }
+    requires truth { HoldsTrue (length plan.now.nodes) (table_of plan.now) (slots_of replica.now) }
+    requires from { i < length plan.now.nodes }
+    requires early { t < horizon (slots_of replica.now) i + (line_of plan.now).delay i j }
+    requires last { HasComeBy (line_of plan.now) (slots_of replica.now) i j t }
+    requires ways { AreWays plan.now j ways.now }
+    ensures from { result.from ≡ t }
+    ensures until { t < result.until }
+    ensures heard { IsHeardOf (line_of plan.now) i j result }
+{
+    plan.laws();
+    wl_plan::simulation_laws();
+    wl_record_core::table_laws();
+    wl_replica::known_laws();
+    true_replicas_agree();
+    Stretch {
+        from: t,
+        until: known_of(replica, ways, i),
+        level: level_after(replica.run_length(i)),
+    }
+}
+
+/// Returns what node `j` finds of node `i` alone from tick `t` on, at which that is known.
 fn heard_of(
     plan: &CheckedPlan,
     replica: &Replica,
     come: &mut Come,
-    drives: &mut Heard,
     ways: &Ways,
     i: u8,
     j: u8,
     t: u64,
-    want: u64,
 ) -> Stretch
     requires nodes { replica.now.nodes ≡ length plan.now.nodes }
     requires truth { HoldsTrue (length plan.now.nodes) (table_of plan.now) (slots_of replica.now) }
     requires from { i < length plan.now.nodes }
     requires early { t < horizon (slots_of replica.now) i + (line_of plan.now).delay i j }
     requires short { t < 2 ^ 64 - 1 }
-    requires drives { AreDrives (line_of plan.now) drives.old }
     requires ways { AreWays plan.now j ways.now }
-    ensures drives { AreDrives (line_of plan.now) drives.new }
     ensures from { result.from ≡ t }
     ensures until { t < result.until }
     ensures heard { IsHeardOf (line_of plan.now) i j result }
 {
     plan.laws();
-    let drive = drives[i as usize];
-    let (one, own) = stretch_of(
-        plan,
-        replica,
-        i,
-        j,
-        t,
-        want,
-        ways[i as usize],
-        &mut come[i as usize],
-        drive,
-    );
-    drives[i as usize] = own;
-    one
+    let delay = ways[i as usize];
+    if replica.run_end(i) + delay <= t + 1 {
+        return heard_last(plan, replica, ways, i, j, t);
+    }
+    heard_at(plan, replica, i, j, t, delay, &mut come[i as usize])
 }
 
 /// Returns what node `j` finds from tick `t` on of the node that was found to drive dominant last, if that one does so again.
@@ -272,21 +229,17 @@ fn driven_again(
     plan: &CheckedPlan,
     replica: &Replica,
     come: &mut Come,
-    drives: &mut Heard,
     ways: &Ways,
     first: u8,
     j: u8,
     t: u64,
-    want: u64,
 ) -> Option<Stretch>
     requires nodes { replica.now.nodes ≡ length plan.now.nodes }
     requires truth { HoldsTrue (length plan.now.nodes) (table_of plan.now) (slots_of replica.now) }
     requires place { j < length plan.now.nodes }
     requires known { let l = line_of plan.now in t < place_horizon l.nodes l.delay (slots_of replica.now) j }
     requires early { t < 2 ^ 64 - 1 }
-    requires drives { AreDrives (line_of plan.now) drives.old }
     requires ways { AreWays plan.now j ways.now }
-    ensures drives { AreDrives (line_of plan.now) drives.new }
     ensures from { IfSome result (λ s. s.from ≡ t) }
     ensures until { IfSome result (λ s. t < s.until) }
     ensures driven { IfSome result (IsDriven (line_of plan.now) j) }
@@ -297,7 +250,7 @@ fn driven_again(
     if first >= plan.nodes() {
         return None;
     }
-    let one = heard_of(plan, replica, come, drives, ways, first, j, t, want);
+    let one = heard_of(plan, replica, come, ways, first, j, t);
     match one.level {
         Level::Dominant => Some(one),
         Level::Recessive => None,
@@ -310,21 +263,17 @@ fn driven_from(
     plan: &CheckedPlan,
     replica: &Replica,
     come: &mut Come,
-    drives: &mut Heard,
     ways: &Ways,
     lead: &mut u8,
     j: u8,
     t: u64,
-    want: u64,
 ) -> Stretch
     requires nodes { replica.now.nodes ≡ length plan.now.nodes }
     requires truth { HoldsTrue (length plan.now.nodes) (table_of plan.now) (slots_of replica.now) }
     requires place { j < length plan.now.nodes }
     requires known { let l = line_of plan.now in t < place_horizon l.nodes l.delay (slots_of replica.now) j }
     requires early { t < 2 ^ 64 - 1 }
-    requires drives { AreDrives (line_of plan.now) drives.old }
     requires ways { AreWays plan.now j ways.now }
-    ensures drives { AreDrives (line_of plan.now) drives.new }
     ensures from { result.from ≡ t }
     ensures until { t < result.until }
     ensures driven { IsDriven (line_of plan.now) j result }
@@ -332,12 +281,12 @@ fn driven_from(
     wl_replica::known_laws();
     wl_topology::driven_laws();
     plan.laws();
-    if let Some(again) = driven_again(plan, replica, come, drives, ways, *lead, j, t, want) {
+    if let Some(again) = driven_again(plan, replica, come, ways, *lead, j, t) {
         return again;
     }
     let mut until = u64::MAX;
     for i in 0..plan.nodes() {
-        let one = heard_of(plan, replica, come, drives, ways, i, j, t, want);
+        let one = heard_of(plan, replica, come, ways, i, j, t);
         match one.level {
             Level::Dominant => {
                 *lead = i;
@@ -453,13 +402,11 @@ fn found_from(
     plan: &CheckedPlan,
     replica: &Replica,
     come: &mut Come,
-    drives: &mut Heard,
     ways: &Ways,
     lead: &mut u8,
     shaken: Stretch,
     j: u8,
     t: u64,
-    want: u64,
 ) -> Stretch
     requires nodes { replica.now.nodes ≡ length plan.now.nodes }
     requires truth { HoldsTrue (length plan.now.nodes) (table_of plan.now) (slots_of replica.now) }
@@ -469,9 +416,7 @@ fn found_from(
     requires shaken { IsShaken plan.now j shaken }
     requires shaken_from { shaken.from ≤ t }
     requires shaken_until { t < shaken.until }
-    requires drives { AreDrives (line_of plan.now) drives.old }
     requires ways { AreWays plan.now j ways.now }
-    ensures drives { AreDrives (line_of plan.now) drives.new }
     ensures from { result.from ≡ t }
     ensures until { t < result.until }
     ensures found { IsStretch (line_of plan.now) j result }
@@ -483,7 +428,7 @@ fn found_from(
             level: Level::Dominant,
         };
     }
-    let driven = driven_from(plan, replica, come, drives, ways, lead, j, t, want);
+    let driven = driven_from(plan, replica, come, ways, lead, j, t);
     Stretch {
         from: t,
         until: driven.until.min(shaken.until),
@@ -497,14 +442,12 @@ pub(crate) fn stretch_around(
     plan: &CheckedPlan,
     replica: &Replica,
     come: &mut Come,
-    drives: &mut Heard,
     ways: &Ways,
     lead: &mut u8,
     heard: Stretch,
     shaken: Stretch,
     j: u8,
     t: u64,
-    want: u64,
 ) -> Stretch
     requires nodes { replica.now.nodes ≡ length plan.now.nodes }
     requires truth { HoldsTrue (length plan.now.nodes) (table_of plan.now) (slots_of replica.now) }
@@ -515,9 +458,7 @@ pub(crate) fn stretch_around(
     requires shaken { IsShaken plan.now j shaken }
     requires shaken_from { shaken.from ≤ t }
     requires shaken_until { t < shaken.until }
-    requires drives { AreDrives (line_of plan.now) drives.old }
     requires ways { AreWays plan.now j ways.now }
-    ensures drives { AreDrives (line_of plan.now) drives.new }
     ensures from { result.from ≤ t }
     ensures until { t < result.until }
     ensures found { IsStretch (line_of plan.now) j result }
@@ -525,5 +466,5 @@ pub(crate) fn stretch_around(
     if heard.from <= t && t < heard.until {
         return heard;
     }
-    found_from(plan, replica, come, drives, ways, lead, shaken, j, t, want)
+    found_from(plan, replica, come, ways, lead, shaken, j, t)
 }

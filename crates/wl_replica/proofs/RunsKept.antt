@@ -6,7 +6,7 @@ use Rattle.wl_lattice.specs.declared.FlatWord.{FlatWord}
 use Rattle.wl_record_core.specs.Limits.{tick_end}
 use Rattle.wl_replica.specs.declared.known_run.KnownRun.{KnownRun}
 use Rattle.wl_replica.specs.Slots.{Contents}
-use Rattle.wl_replica.specs.Known.{known_by, ticks, intervals, run_length, horizon, wave}
+use Rattle.wl_replica.specs.Known.{after_edges, known_by, ticks, intervals, run_length, horizon, wave}
 use Rattle.wl_replica.specs.Runs.{IsRunOf, IsRunOfEdges, AreInLimits, AreRuns}
 use Rattle.wl_replica.proofs.ChangesStand.{wave_within, end_within}
 use Rattle.wl_replica.proofs.RunLemmas.{run_length_is, horizon_is}
@@ -28,12 +28,18 @@ module _ (w : Contents) (node : ℕ) (k : KnownRun) (run : IsRunOf (w.edge node)
   pub horizon_told : k.horizon ≡ horizon w node
   horizon_told = horizon_is (w.edge node) (w.silence node) k run ∙ ap (known_by (w.edge node) (w.silence node)) length_told
 
+  pub end_told : k.run.end ≡ after_edges (w.edge node) (run_length w node)
+  end_told = run.end ∙ ap (after_edges (w.edge node)) length_told
+
   pub wave_told : intervals (ticks (w.edge node) k.run.length) k.horizon ≡ wave w node
   wave_told = λ i. intervals (ticks (w.edge node) (length_told i)) (horizon_told i)
 
   module _ (limits : AreInLimits w) where
     pub horizon_early : k.horizon ≤ tick_end
     horizon_early = omega (arith, run.horizon, run.end, end_within (w.edge node) k.run.length (limits.edges node), limits.silences node k.run.length)
+
+    pub end_early : k.run.end ≤ tick_end
+    end_early = omega (arith, run.end, end_within (w.edge node) k.run.length (limits.edges node))
 
     pub wave_early : IfSome (last_end (intervals (ticks (w.edge node) k.run.length) k.horizon)) (λ end. end ≤ tick_end)
     wave_early = wave_within (w.edge node) k.run.length k.horizon (limits.edges node) horizon_early

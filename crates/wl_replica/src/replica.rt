@@ -217,6 +217,17 @@ impl Replica {
         self.runs[node as usize].horizon
     }
 
+    ghost use Rattle.wl_replica.specs.Known.{after_edges};
+
+    /// Returns the tick after the last change of the node's run; 0 if the run has none.
+    pub fn run_end(&self, node: u8) -> u64
+        requires { node < self.now.nodes }
+        ensures tick { result ≡ after_edges ((slots_of self.now).edge node) (run_length (slots_of self.now) node) }
+        ensures early { result ≤ tick_end }
+    {
+        self.runs[node as usize].run.end
+    }
+
     ghost use Rattle.wl_replica.specs.Known.{wave, wave_after, wave_at, place_horizon};
     ghost use Rattle.wl_level.specs.Levels.{level_of};
     ghost use Rattle.wl_intervals.specs.Pairs.{covers, last_end};

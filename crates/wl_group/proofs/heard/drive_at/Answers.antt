@@ -5,11 +5,8 @@ use Rattle.wl_replica.specs.State.{slots_of}
 use Rattle.wl_replica.specs.Known.{run_length, horizon}
 use Rattle.wl_plan.specs.PlanLine.{line_of}
 use Rattle.wl_group.specs.Heard.{AreNotAfter}
-use Rattle.wl_group.proofs.HeardProofs.{by_the_last, level_stays}
+use Rattle.wl_group.proofs.HeardProofs.{level_stays}
 use Rattle.wl_group.proofs.heard.drive_at.Goals as goal
-
-pub last_until-requires : goal.last_until-requires
-last_until-requires c = c.changes_until-count.ensures.come
 
 pub returns-clause-until : goal.returns-clause-until
 returns-clause-until c = c.kept_until.ensures.later c.args.t (omega (arith, c.requires.early, c.horizon.ensures.tick)) c.changes_until-count.ensures.others
@@ -21,9 +18,8 @@ returns-clause-drive c u from until =
     let run : c.run_length-run.result ≡ run_length w c.args.i = c.run_length-run.ensures.length in
     let early : u < horizon w c.args.i = omega (arith, until, c.kept_until.ensures.few, c.horizon.ensures.tick) in
     ap level_of (level_stays c.known_laws.ensures c.true_replicas_agree.ensures l c.laws.ensures.sound w c.requires.truth
-    c.args.i c.requires.from c.last_until.result u c.changes_until-count.result
-    (by_the_last w c.args.i (run_length w c.args.i) c.args.t c.changes_until-count.result c.last_until.result
-    (subst (λ m. AreNotAfter w c.args.i m c.args.t c.changes_until-count.result) run c.changes_until-count.ensures) c.last_until.ensures.early c.last_until.ensures.come)
+    c.args.i c.requires.from c.args.t u c.changes_until-count.result
+    (subst (λ m. AreNotAfter w c.args.i m c.args.t c.changes_until-count.result) run c.changes_until-count.ensures)
     from early
     (λ some. let b = c.kept_until.ensures.change (omega (arith, some, run)) in omega (arith, until, b)))
     ∙ sym c.level_after.ensures

@@ -11,7 +11,7 @@ use Rattle.wl_group.proofs.HeardProofs.{is_dominant_level, is_recessive_level, d
 use Rattle.wl_group.proofs.heard.driven_from.Goals as goal
 
 pub loop-i-init : goal.loop-i-init
-loop-i-init c = (omega (arith, c.requires.early), (λ u from until k b. absurd (omega arith)), c.driven_again.ensures.drives)
+loop-i-init c = (omega (arith, c.requires.early), (λ u from until k b. absurd (omega arith)))
 
 pub heard_of-one-requires-clause-early : goal.heard_of-one-requires-clause-early
 heard_of-one-requires-clause-early c =
@@ -39,7 +39,6 @@ loop-i-preserved c = (
         (c.heard_of-one.ensures.heard u (omega (arith, from, c.heard_of-one.ensures.from)) (omega (arith, until, c.min-until.ensures)) ∙ c.in-Recessive.is))
     | inr other ↦ c.loop-i.invariant.1 u from (omega (arith, until, c.min-until.ensures)) k (omega arith)
   ]),
-  c.heard_of-one.ensures.drives,
 )
 
 pub returns-clause-driven : goal.returns-clause-driven

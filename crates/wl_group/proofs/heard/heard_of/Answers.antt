@@ -1,6 +1,10 @@
-use Rattle.wl_plan.specs.PlanLine.{line_of}
-use Rattle.wl_group.proofs.HeardProofs.{one_more_drive}
+use Rattle.std.proofs.Common.{◌≤◌, arith}
+use Rattle.wl_record_core.specs.Limits.{tick_end-is}
+use Rattle.wl_topology.specs.Limits.{never}
+use Rattle.wl_group.specs.Ways.{way_in}
 use Rattle.wl_group.proofs.heard.heard_of.Goals as goal
 
-pub returns-clause-drives : goal.returns-clause-drives
-returns-clause-drives c = one_more_drive (line_of c.args.plan.now) c.args.drives.now c.args.i c.stretch_of.result.1 c.requires.drives c.stretch_of.ensures.drive
+pub overflow_add-run_end : goal.overflow_add-run_end
+overflow_add-run_end c =
+    let short : way_in c.args.ways.now c.args.i ≤ never = c.requires.ways.short c.args.i in
+    omega (arith, c.run_end.ensures.early, short, tick_end-is)

@@ -8,5 +8,4 @@ invariant_of-self c = record {
   kept = c.self.invariant.kept;
   stretches = one_more_heard (line_of c.self.inside.plan) c.self.inside.heard c.args.i c.stretch_around-stretch.result c.self.invariant.stretches c.stretch_around-stretch.ensures.found;
   shaken = one_more_shaken c.self.inside.plan c.self.inside.shaken c.args.i c.shaken_around-shaken.result c.self.invariant.shaken c.shaken_around-shaken.ensures.shaken;
-  drives = c.stretch_around-stretch.ensures.drives;
 }

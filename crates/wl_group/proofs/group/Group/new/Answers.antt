@@ -17,7 +17,6 @@ invariant_of-result c =
           c.in_ok-cells.ensures.ran c.in_ok-cells.ensures.cells c.in_ok-replica.ensures c.new.ensures.items;
       stretches = c.nothing_heard.ensures.heard (line_of plan);
       shaken = c.nothing_heard-2.ensures.shaken plan;
-      drives = c.nothing_heard-3.ensures.drives (line_of plan);
     }
 
 pub returns-clause-value : goal.returns-clause-value

@@ -14,7 +14,6 @@ invariant_of-self c =
           c.in_ok-cells.ensures.ran c.in_ok-cells.ensures.cells c.in_ok-replica.ensures c.clear.ensures.items;
       stretches = c.self.invariant.stretches;
       shaken = c.self.invariant.shaken;
-      drives = c.self.invariant.drives;
     }
 
 pub returns-clause-ok : goal.returns-clause-ok

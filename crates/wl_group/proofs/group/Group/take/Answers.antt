@@ -11,7 +11,6 @@ invariant_of-self-2 c =
           c.self.view_is c.self.invariant.kept c.requires c.in_ok-take.ensures.ok;
       stretches = c.self.invariant.stretches;
       shaken = c.self.invariant.shaken;
-      drives = c.self.invariant.drives;
     }
 
 pub returns-clause-after : goal.returns-clause-after
