@@ -495,7 +495,8 @@ function fillEvents() {
   });
   more.addEventListener("click", add);
   add();
-  const counts = [["frames", isFrame], ["errors", (event) => event.kind === "error"], ["synchronisations", isSync]];
+  const kinds = [["frames sent", "sent"], ["received", "received"], ["errors", "error"]];
+  const counts = [...kinds.map(([name, kind]) => [name, (event) => event.kind === kind]), ["synchronisations", isSync]];
   document.getElementById("counted").textContent = counts.map(([name, is]) => `${data.events.filter(is).length} ${name}`).join(", ");
 }
 
