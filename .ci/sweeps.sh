@@ -167,6 +167,10 @@ is "memory of 20,000 runs $few KiB, of 300,000 $many KiB" [ "$few" -gt 0 -a "$ma
 is 'cells of a map' [ "$(grep -c '^cell \|"cells" hidden>cell ' "$room/map")" = 9 -a ! -s "$room/err" ]
 "$program" sweep --runs 20 --vary ps1=3..3 --vary tolerance=3000..3000 --vary sjw=1..1 examples/drifting_listener.toml > "$room/out"
 is 'a cell of a map' cmp -s <(awk '/^cell / { n++; next } n == 5' "$room/map" | grep -v '^first error: ') <(grep -v '^no frame has edges' "$room/out")
+# The word of a node whose name begins with a dash comes after `=`, and so does each word of a map (check/page.py --commands runs them)
+sed "s/'a'/'-a'/" "$room/pair" > "$room/dash"
+swept 'a name that begins with a dash' "$room/dash" 0 '-a.x 0 clean in 1 of 1\n-a.x 5 clean in 1 of 1\nclean in 2 of 2\n' - --vary=-a.x=0..5:5 --keep-offsets
+is 'the words of a map' grep -qF '"--vary=" + quoted(`${name}=${value}..${value}`)' "$room/map"
 # Progress goes to standard error from the first second on, and changes no output
 "$program" sweep --workers 1 --runs 1500 examples/sixteen_nodes.toml > "$room/without"
 "$program" sweep --workers 1 --runs 1500 --progress examples/sixteen_nodes.toml > "$room/out" 2> "$room/err"

@@ -5,6 +5,7 @@ usage: page.py PROGRAM [PLAN..]               the pages of these plans; without 
        page.py PROGRAM --sweeps               the pages of sweeps alone
        page.py PROGRAM --busy [SECONDS]       how long the page of 16 nodes with 60,000 quanta each takes to open; it may be 2 seconds
        page.py PROGRAM --lint                 the scripts of the pages by a linter: node's reader, and the rules of RULES
+       page.py PROGRAM --commands             each command that a map shows, by a shell: it has to write what its cell says (without a browser, by node)
        page.py PROGRAM --picture PLAN FROM-TO FILE.png
 
 Each page has to draw itself whole, with no word in the browser's console. The page of a run has to draw each frame of the report, with the
@@ -12,7 +13,10 @@ report's nodes and verdict, and a row or a paragraph for each line of margin and
 the run that the address names has to be what is shown. The page of a sweep has to have a cell for each row of the sweep, coloured by what the
 sweep says of that row alone, and to show the words of the first member that isn't clean.
 """
+import html
+import json
 import re
+import shlex
 import subprocess
 import sys
 import tempfile
@@ -208,6 +212,48 @@ def lint(program, folder):
     return 1 if faults else 0
 
 
+DASH = """version = 1
+end = 400_000
+per = 5
+[[node]]
+name = "-e"
+x = 0
+{node}frame = [{{ id = 0x0F1, dlc = 0, ready = 480 }}]
+[[node]]
+name = "b"
+x = 5
+{node}""".format(node="offset = 0\nquantum = 125\nppm = 0\nprop = 6\nps1 = 7\nps2 = 2\nsjw = 1\nout = 40\nin = 40\n")
+
+# The part of a map's script that reads its texts, over the texts themselves.
+SHOWN = """const texts = JSON.parse(require("fs").readFileSync(0, "utf8"));
+const document = { getElementById: (id) => ({ textContent: texts[id] }) };
+SCRIPT
+console.log(JSON.stringify(cells.map(({ said }, number) => [commandOf(number), said])));
+"""
+
+
+def commands(program, folder):
+    """Runs each command that a map shows: of a plan in which a node's name begins with a dash, and of the sweeps of SWEEPS."""
+    (folder / "dash.toml").write_text(DASH)
+    dash = ["--runs", "2", "--keep-offsets", "--vary=-e.x=0..5:5", "--vary", "b.x=5..10:5", "--vary=-e.out=40..41:1"]
+    faults = count = 0
+    for plan, words in [(folder / "dash.toml", dash)] + [(TOP / "examples" / (name + ".toml"), words) for name, words in SWEEPS]:
+        page = said(program, "sweep", plan, *words, "--page", status=(0, 1))
+        texts = {name: html.unescape(re.search(rf'<pre id="{name}"[^>]*>(.*?)</pre>', page, re.S)[1]) for name in ("axes", "cells")}
+        script = page[page.index("// ---- Reading"):page.index("// ---- The table")]
+        reader = SHOWN.replace("SCRIPT", "const text = (id) => document.getElementById(id).textContent;\n" + script)
+        ran = subprocess.run(["node", "-e", reader], input=json.dumps(texts), capture_output=True, text=True, check=True)
+        for command, cell in json.loads(ran.stdout):
+            command = command.replace("./wireline sweep PLAN", f"{shlex.quote(str(program))} sweep {shlex.quote(str(plan))}", 1)
+            found = subprocess.run(["bash", "-c", command], capture_output=True, text=True)
+            wanted = [line for line in cell.splitlines() if not line.startswith("first error: ")]
+            wrong = found.returncode > 1 or [line for line in found.stdout.splitlines() if not line.startswith(NOTES)] != wanted
+            if wrong: print(f"{command}: status {found.returncode}, {found.stderr.strip() or found.stdout}\nand its cell says\n{cell}")
+            faults, count = faults + wrong, count + 1
+    print(f"{count} commands of maps, {faults} faults")
+    return 1 if faults else 0
+
+
 def main():
     words = sys.argv[1:]
     if not words: sys.exit(__doc__)
@@ -215,6 +261,7 @@ def main():
     with tempfile.TemporaryDirectory() as room:
         folder = Path(room)
         if words[:1] == ["--lint"]: sys.exit(lint(program, folder))
+        if words[:1] == ["--commands"]: sys.exit(commands(program, folder))
         if not is_here(): sys.exit("no chromium here")
         with Browser() as browser:
             if words[:1] == ["--busy"]: sys.exit(busy(program, float((words + ["2", "2"])[1]), browser, folder))

@@ -80,7 +80,9 @@ function valuesOf(number) {
   return [...chosen, ...held.map(({ name, values }) => [name, values[0]])];
 }
 const quoted = (word) => (/^[\w.=-]+$/.test(word) ? word : `'${word.replaceAll("'", "'\\''")}'`);
-const commandOf = (number) => ["./wireline sweep PLAN", options, ...valuesOf(number).map(([name, value]) => "--vary " + quoted(`${name}=${value}..${value}`))].join(" ");
+// After `=`, since a name may begin with a dash.
+const rangeOf = ([name, value]) => "--vary=" + quoted(`${name}=${value}..${value}`);
+const commandOf = (number) => ["./wireline sweep PLAN", options, ...valuesOf(number).map(rangeOf)].join(" ");
 
 // How to look at the member that a cell names: its trace, or of one that is refused why.
 function memberOf(number) {
