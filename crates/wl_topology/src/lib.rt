@@ -75,7 +75,11 @@ impl Model for Topology {
 
     ghost inverse = { λ c. record { places = padded_places c.places; nodes = length c.places; per = c.per } };
 
-    ghost inverse_ok = { λ t h i. record { places = stored_again t.places t.nodes t.per h i; nodes = stored_length t.places t.nodes t.per h i; per = t.per } };
+    ghost inverse_ok = { λ t h i. record {
+      places = stored_again t.places t.nodes t.per h i;
+      nodes = stored_length t.places t.nodes t.per h i;
+      per = t.per;
+    } };
 
     ghost invariant = { λ t. IsStored t.places t.nodes t.per };
 }
