@@ -1,7 +1,8 @@
 -- The lines of `explain`, each kind with its fields (this project's profile).
-use Rattle.std.specs.Prelude.{List, [], ◌∷◌, codes}
+use Rattle.std.specs.Prelude.{List, [], ◌∷◌, ◌++◌, codes}
 use Rattle.wl_formats.specs.declared.shape.Class.TheVariants.{Measure, Number, Rest, Word}
-use Rattle.wl_formats.specs.Shapes.{Form, Layout, Text, literal, field, passed, given}
+use Rattle.wl_formats.specs.Shapes.{Form, Layout, Part, Text, literal, field, given}
+use Rattle.wl_formats.specs.Sentences.{comes_back_late, comes_early, comes_late, falls_behind, growths, line}
 
 abbrev pub explain_columns : List Text
 explain_columns =
@@ -13,237 +14,81 @@ explain_columns =
     codes "left_ppm" ∷ codes "cable_ns" ∷ codes "cable_m" ∷ codes "one_sender_units" ∷ codes "any_senders_units" ∷
     codes "one_sender_ppm" ∷ codes "any_senders_ppm" ∷ codes "wrong" ∷ codes "change" ∷ []
 
+-- a doubt, by its name in `doubt`
+abbrev pub doubt : Text → List Part → Form
+doubt name parts = line (codes "doubt") (given (codes "doubt") Word name ∷ parts)
+
+-- an inequality that fails with these senders
+abbrev pub failing : Text → Text → List Part → Form
+failing inequality senders parts = doubt inequality (given (codes "senders") Word senders ∷ parts)
+
+abbrev pub failures : List Form
+failures =
+    (let one = codes "doubt: " in
+    let any = codes "doubt: if several nodes send at once, " in
+    failing (codes "drift_fits_jump") (codes "one") (falls_behind one) ∷
+    failing (codes "bit_is_there_at_sample") (codes "one") (comes_late one) ∷
+    failing (codes "bit_is_there_at_sample") (codes "one") (comes_back_late one) ∷
+    failing (codes "no_bit_too_early") (codes "one") (comes_early one) ∷
+    failing (codes "bit_is_there_at_sample") (codes "any") (comes_late any) ∷
+    failing (codes "no_bit_too_early") (codes "any") (comes_early any) ∷ [])
+
+abbrev pub other_doubts : List Form
+other_doubts =
+    doubt (codes "no_bound") (literal (codes "doubt: no bound is known: ") ∷ field (codes "reason") Rest ∷ []) ∷
+    doubt (codes "unlike_rates") (literal (codes "doubt: ") ∷ field (codes "name") Word ∷ literal (codes " and ") ∷
+        field (codes "other_name") Word ∷ literal (codes " have unlike bit rates, ") ∷
+        field (codes "rate_kbit_s") Number ∷ literal (codes " and ") ∷ field (codes "other_rate_kbit_s") Number ∷
+        literal (codes " kbit/s") ∷ []) ∷
+    doubt (codes "clocks_apart") (literal (codes "doubt: the clocks of ") ∷ field (codes "name") Word ∷
+        literal (codes " and ") ∷ field (codes "other_name") Word ∷ literal (codes " are ") ∷
+        field (codes "taken_ppm") Number ∷ literal (codes " ppm apart, and their segments bear ") ∷
+        field (codes "available_ppm") Number ∷ []) ∷
+    doubt (codes "round_trip") (literal (codes "doubt: ") ∷ field (codes "name") Word ∷ literal (codes " to ") ∷
+        field (codes "other_name") Word ∷ literal (codes " and back takes ") ∷ field (codes "taken_ticks") Number ∷
+        literal (codes " ticks, and the earlier sample leaves ") ∷ field (codes "available_ticks") Number ∷ []) ∷
+    doubt (codes "clock_beyond_tolerance") (literal (codes "doubt: the clock of ") ∷ field (codes "name") Word ∷
+        literal (codes " deviates by more than its tolerance of ") ∷ field (codes "tolerance_ppm") Number ∷
+        literal (codes " ppm") ∷ []) ∷
+    doubt (codes "jump_above_phase_seg2") (literal (codes "doubt: ") ∷ field (codes "name") Word ∷
+        literal (codes " has a jump width of ") ∷ field (codes "jump_quanta") Number ∷
+        literal (codes " quanta, above its PHASE_SEG2 of ") ∷ field (codes "phase_seg2_quanta") Number ∷ []) ∷
+    doubt (codes "ready_too_late") (literal (codes "doubt: frame ") ∷ field (codes "frame") Number ∷
+        literal (codes " of ") ∷ field (codes "name") Word ∷ literal (codes " becomes ready at the end or later") ∷ []) ∷
+    doubt (codes "ready_too_early") (literal (codes "doubt: frame ") ∷ field (codes "frame") Number ∷
+        literal (codes " of ") ∷ field (codes "name") Word ∷ literal (codes " becomes ready before tick ") ∷
+        field (codes "idle_tick") Number ∷ literal (codes ", from which on all nodes can be idle") ∷ []) ∷
+    doubt (codes "no_room") (literal (codes "doubt: 11 bits and the frames of ") ∷ field (codes "name") Word ∷
+        literal (codes " take at least ") ∷ field (codes "needed_bits") Number ∷
+        literal (codes " bits, beyond the end") ∷ []) ∷
+    doubt (codes "other") (literal (codes "doubt: ") ∷ field (codes "reason") Rest ∷ []) ∷
+    []
+
+-- a node, up to the length of its quantum
+abbrev pub node_front : Text → List Part → Form
+node_front after parts =
+    line (codes "node") (literal (codes "node ") ∷ field (codes "name") Word ∷ literal (codes ": ") ∷
+    field (codes "rate_kbit_s") Number ∷ literal (codes " kbit/s, sample point ") ∷
+    field (codes "sample_point_percent") Number ∷ literal (codes " %, quantum ") ∷ field (codes "quantum_ns") Number ∷
+    literal (codes " ns" ++ after) ∷ parts)
+
+-- after that its tolerance, what is left of it, and its cable
+abbrev pub node_line : List Part → Form
+node_line cable =
+    node_front (codes ", tolerance ") (field (codes "tolerance_ppm") Number ∷ literal (codes " ppm, left ") ∷
+    field (codes "left_ppm") Number ∷ literal (codes " ppm, cable ") ∷ cable)
+
+abbrev pub node_lines : List Form
+node_lines =
+    node_front [] [] ∷
+    node_line (given (codes "cable_ns") Measure (codes "-") ∷ given (codes "cable_m") Measure (codes "-") ∷ literal (codes "none") ∷ []) ∷
+    node_line (field (codes "cable_ns") Number ∷ literal (codes " ns, ") ∷ field (codes "cable_m") Number ∷ literal (codes " m at 5 ns a metre") ∷ []) ∷ []
+
 abbrev pub explain_forms : List Form
 explain_forms =
-    record {
-      kind = codes "doubt";
-      parts =
-          given (codes "doubt") Word (codes "drift_fits_jump") ∷ given (codes "senders") Word (codes "one") ∷
-          literal (codes "doubt: in ten bits ") ∷ field (codes "name") Word ∷ literal (codes " falls behind ") ∷
-          field (codes "other_name") Word ∷ literal (codes " by up to ") ∷ field (codes "taken_ns") Number ∷
-          literal (codes " ns (") ∷ field (codes "taken_quanta") Number ∷
-          literal (codes " quanta), and an edge puts right ") ∷ field (codes "available_ns") Number ∷
-          literal (codes " ns (") ∷ field (codes "available_quanta") Number ∷ literal (codes " quanta)") ∷ [];
-    } ∷
-    record {
-      kind = codes "doubt";
-      parts =
-          given (codes "doubt") Word (codes "bit_is_there_at_sample") ∷ given (codes "senders") Word (codes "one") ∷
-          literal (codes "doubt: a bit of ") ∷ field (codes "other_name") Word ∷ literal (codes " comes to ") ∷
-          field (codes "name") Word ∷ literal (codes " up to ") ∷ field (codes "taken_ns") Number ∷
-          literal (codes " ns (") ∷ field (codes "taken_quanta") Number ∷
-          literal (codes " quanta) after its own began, and ") ∷ passed Word ∷ literal (codes " samples after ") ∷
-          field (codes "available_ns") Number ∷ literal (codes " ns (") ∷ field (codes "available_quanta") Number ∷
-          literal (codes " quanta)") ∷ [];
-    } ∷
-    record {
-      kind = codes "doubt";
-      parts =
-          given (codes "doubt") Word (codes "bit_is_there_at_sample") ∷ given (codes "senders") Word (codes "one") ∷
-          literal (codes "doubt: a bit of ") ∷ field (codes "name") Word ∷ literal (codes " comes back to it ") ∷
-          field (codes "taken_ns") Number ∷ literal (codes " ns (") ∷ field (codes "taken_quanta") Number ∷
-          literal (codes " quanta) after it began, and it samples after ") ∷ field (codes "available_ns") Number ∷
-          literal (codes " ns (") ∷ field (codes "available_quanta") Number ∷ literal (codes " quanta)") ∷ [];
-    } ∷
-    record {
-      kind = codes "doubt";
-      parts =
-          given (codes "doubt") Word (codes "no_bit_too_early") ∷ given (codes "senders") Word (codes "one") ∷
-          literal (codes "doubt: the next bit of ") ∷ field (codes "other_name") Word ∷ literal (codes " comes to ") ∷
-          field (codes "name") Word ∷ literal (codes " up to ") ∷ field (codes "taken_ns") Number ∷
-          literal (codes " ns (") ∷ field (codes "taken_quanta") Number ∷
-          literal (codes " quanta) too early, and its PHASE_SEG2 has ") ∷ field (codes "available_ns") Number ∷
-          literal (codes " ns (") ∷ field (codes "available_quanta") Number ∷ literal (codes " quanta)") ∷ [];
-    } ∷
-    record {
-      kind = codes "doubt";
-      parts =
-          given (codes "doubt") Word (codes "bit_is_there_at_sample") ∷ given (codes "senders") Word (codes "any") ∷
-          literal (codes "doubt: if several nodes send at once, a bit of ") ∷ field (codes "other_name") Word ∷
-          literal (codes " comes to ") ∷ field (codes "name") Word ∷ literal (codes " up to ") ∷
-          field (codes "taken_ns") Number ∷ literal (codes " ns (") ∷ field (codes "taken_quanta") Number ∷
-          literal (codes " quanta) after its own began, and ") ∷ passed Word ∷ literal (codes " samples after ") ∷
-          field (codes "available_ns") Number ∷ literal (codes " ns (") ∷ field (codes "available_quanta") Number ∷
-          literal (codes " quanta)") ∷ [];
-    } ∷
-    record {
-      kind = codes "doubt";
-      parts =
-          given (codes "doubt") Word (codes "no_bit_too_early") ∷ given (codes "senders") Word (codes "any") ∷
-          literal (codes "doubt: if several nodes send at once, the next bit of ") ∷ field (codes "other_name") Word ∷
-          literal (codes " comes to ") ∷ field (codes "name") Word ∷ literal (codes " up to ") ∷
-          field (codes "taken_ns") Number ∷ literal (codes " ns (") ∷ field (codes "taken_quanta") Number ∷
-          literal (codes " quanta) too early, and its PHASE_SEG2 has ") ∷ field (codes "available_ns") Number ∷
-          literal (codes " ns (") ∷ field (codes "available_quanta") Number ∷ literal (codes " quanta)") ∷ [];
-    } ∷
-    record {
-      kind = codes "doubt";
-      parts =
-          given (codes "doubt") Word (codes "no_bound") ∷ literal (codes "doubt: no bound is known: ") ∷
-          field (codes "reason") Rest ∷ [];
-    } ∷
-    record {
-      kind = codes "doubt";
-      parts =
-          given (codes "doubt") Word (codes "unlike_rates") ∷ literal (codes "doubt: ") ∷ field (codes "name") Word ∷
-          literal (codes " and ") ∷ field (codes "other_name") Word ∷ literal (codes " have unlike bit rates, ") ∷
-          field (codes "rate_kbit_s") Number ∷ literal (codes " and ") ∷ field (codes "other_rate_kbit_s") Number ∷
-          literal (codes " kbit/s") ∷ [];
-    } ∷
-    record {
-      kind = codes "doubt";
-      parts =
-          given (codes "doubt") Word (codes "clocks_apart") ∷ literal (codes "doubt: the clocks of ") ∷
-          field (codes "name") Word ∷ literal (codes " and ") ∷ field (codes "other_name") Word ∷
-          literal (codes " are ") ∷ field (codes "taken_ppm") Number ∷
-          literal (codes " ppm apart, and their segments bear ") ∷ field (codes "available_ppm") Number ∷ [];
-    } ∷
-    record {
-      kind = codes "doubt";
-      parts =
-          given (codes "doubt") Word (codes "round_trip") ∷ literal (codes "doubt: ") ∷ field (codes "name") Word ∷
-          literal (codes " to ") ∷ field (codes "other_name") Word ∷ literal (codes " and back takes ") ∷
-          field (codes "taken_ticks") Number ∷ literal (codes " ticks, and the earlier sample leaves ") ∷
-          field (codes "available_ticks") Number ∷ [];
-    } ∷
-    record {
-      kind = codes "doubt";
-      parts =
-          given (codes "doubt") Word (codes "clock_beyond_tolerance") ∷ literal (codes "doubt: the clock of ") ∷
-          field (codes "name") Word ∷ literal (codes " deviates by more than its tolerance of ") ∷
-          field (codes "tolerance_ppm") Number ∷ literal (codes " ppm") ∷ [];
-    } ∷
-    record {
-      kind = codes "doubt";
-      parts =
-          given (codes "doubt") Word (codes "jump_above_phase_seg2") ∷ literal (codes "doubt: ") ∷
-          field (codes "name") Word ∷ literal (codes " has a jump width of ") ∷ field (codes "jump_quanta") Number ∷
-          literal (codes " quanta, above its PHASE_SEG2 of ") ∷ field (codes "phase_seg2_quanta") Number ∷ [];
-    } ∷
-    record {
-      kind = codes "doubt";
-      parts =
-          given (codes "doubt") Word (codes "ready_too_late") ∷ literal (codes "doubt: frame ") ∷
-          field (codes "frame") Number ∷ literal (codes " of ") ∷ field (codes "name") Word ∷
-          literal (codes " becomes ready at the end or later") ∷ [];
-    } ∷
-    record {
-      kind = codes "doubt";
-      parts =
-          given (codes "doubt") Word (codes "ready_too_early") ∷ literal (codes "doubt: frame ") ∷
-          field (codes "frame") Number ∷ literal (codes " of ") ∷ field (codes "name") Word ∷
-          literal (codes " becomes ready before tick ") ∷ field (codes "idle_tick") Number ∷
-          literal (codes ", from which on all nodes can be idle") ∷ [];
-    } ∷
-    record {
-      kind = codes "doubt";
-      parts =
-          given (codes "doubt") Word (codes "no_room") ∷ literal (codes "doubt: 11 bits and the frames of ") ∷
-          field (codes "name") Word ∷ literal (codes " take at least ") ∷ field (codes "needed_bits") Number ∷
-          literal (codes " bits, beyond the end") ∷ [];
-    } ∷
-    record {
-      kind = codes "doubt";
-      parts =
-          given (codes "doubt") Word (codes "other") ∷ literal (codes "doubt: ") ∷ field (codes "reason") Rest ∷ [];
-    } ∷
-    record {
-      kind = codes "node";
-      parts =
-          literal (codes "node ") ∷ field (codes "name") Word ∷ literal (codes ": ") ∷
-          field (codes "rate_kbit_s") Number ∷ literal (codes " kbit/s, sample point ") ∷
-          field (codes "sample_point_percent") Number ∷ literal (codes " %, quantum ") ∷
-          field (codes "quantum_ns") Number ∷ literal (codes " ns") ∷ [];
-    } ∷
-    record {
-      kind = codes "node";
-      parts =
-          literal (codes "node ") ∷ field (codes "name") Word ∷ literal (codes ": ") ∷
-          field (codes "rate_kbit_s") Number ∷ literal (codes " kbit/s, sample point ") ∷
-          field (codes "sample_point_percent") Number ∷ literal (codes " %, quantum ") ∷
-          field (codes "quantum_ns") Number ∷ literal (codes " ns, tolerance ") ∷
-          field (codes "tolerance_ppm") Number ∷ literal (codes " ppm, left ") ∷ field (codes "left_ppm") Number ∷
-          literal (codes " ppm, cable ") ∷ given (codes "cable_ns") Measure (codes "-") ∷
-          given (codes "cable_m") Measure (codes "-") ∷ literal (codes "none") ∷ [];
-    } ∷
-    record {
-      kind = codes "node";
-      parts =
-          literal (codes "node ") ∷ field (codes "name") Word ∷ literal (codes ": ") ∷
-          field (codes "rate_kbit_s") Number ∷ literal (codes " kbit/s, sample point ") ∷
-          field (codes "sample_point_percent") Number ∷ literal (codes " %, quantum ") ∷
-          field (codes "quantum_ns") Number ∷ literal (codes " ns, tolerance ") ∷
-          field (codes "tolerance_ppm") Number ∷ literal (codes " ppm, left ") ∷ field (codes "left_ppm") Number ∷
-          literal (codes " ppm, cable ") ∷ field (codes "cable_ns") Number ∷ literal (codes " ns, ") ∷
-          field (codes "cable_m") Number ∷ literal (codes " m at 5 ns a metre") ∷ [];
-    } ∷
-    record {
-      kind = codes "cable";
-      parts =
-          literal (codes "cable: one sender at a time ") ∷ field (codes "one_sender_units") Number ∷
-          literal (codes " units longer, any senders ") ∷ field (codes "any_senders_units") Number ∷
-          literal (codes " units longer") ∷ [];
-    } ∷
-    record {
-      kind = codes "cable";
-      parts =
-          literal (codes "cable: one sender at a time ") ∷ field (codes "one_sender_units") Number ∷
-          literal (codes " units longer, any senders ") ∷ given (codes "any_senders_units") Measure (codes "-") ∷
-          literal (codes "none") ∷ [];
-    } ∷
-    record {
-      kind = codes "cable";
-      parts =
-          literal (codes "cable: one sender at a time ") ∷ given (codes "one_sender_units") Measure (codes "-") ∷
-          literal (codes "none, any senders ") ∷ field (codes "any_senders_units") Number ∷
-          literal (codes " units longer") ∷ [];
-    } ∷
-    record {
-      kind = codes "cable";
-      parts =
-          literal (codes "cable: one sender at a time ") ∷ given (codes "one_sender_units") Measure (codes "-") ∷
-          literal (codes "none, any senders ") ∷ given (codes "any_senders_units") Measure (codes "-") ∷
-          literal (codes "none") ∷ [];
-    } ∷
-    record {
-      kind = codes "tolerance";
-      parts =
-          literal (codes "tolerance: one sender at a time ") ∷ field (codes "one_sender_ppm") Number ∷
-          literal (codes " ppm wider, any senders ") ∷ field (codes "any_senders_ppm") Number ∷
-          literal (codes " ppm wider") ∷ [];
-    } ∷
-    record {
-      kind = codes "tolerance";
-      parts =
-          literal (codes "tolerance: one sender at a time ") ∷ field (codes "one_sender_ppm") Number ∷
-          literal (codes " ppm wider, any senders ") ∷ given (codes "any_senders_ppm") Measure (codes "-") ∷
-          literal (codes "none") ∷ [];
-    } ∷
-    record {
-      kind = codes "tolerance";
-      parts =
-          literal (codes "tolerance: one sender at a time ") ∷ given (codes "one_sender_ppm") Measure (codes "-") ∷
-          literal (codes "none, any senders ") ∷ field (codes "any_senders_ppm") Number ∷
-          literal (codes " ppm wider") ∷ [];
-    } ∷
-    record {
-      kind = codes "tolerance";
-      parts =
-          literal (codes "tolerance: one sender at a time ") ∷ given (codes "one_sender_ppm") Measure (codes "-") ∷
-          literal (codes "none, any senders ") ∷ given (codes "any_senders_ppm") Measure (codes "-") ∷
-          literal (codes "none") ∷ [];
-    } ∷
-    record {
-      kind = codes "wrong";
-      parts =
-          literal (codes "wrong: ") ∷ field (codes "wrong") Rest ∷ [];
-    } ∷
-    record {
-      kind = codes "change";
-      parts =
-          literal (codes "change: ") ∷ field (codes "change") Rest ∷ [];
-    } ∷
-    []
+    failures ++ (other_doubts ++ (node_lines ++ (growths ++ (
+    line (codes "wrong") (literal (codes "wrong: ") ∷ field (codes "wrong") Rest ∷ []) ∷
+    line (codes "change") (literal (codes "change: ") ∷ field (codes "change") Rest ∷ []) ∷ []))))
 
 abbrev pub explain_layout : Layout
 explain_layout = record { command = codes "explain"; columns = explain_columns; forms = explain_forms }

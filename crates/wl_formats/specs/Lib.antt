@@ -1,4 +1,5 @@
 pub mod Shapes
+pub mod Sentences
 pub mod Numbers
 pub mod Matching
 pub mod Json
