@@ -5,7 +5,7 @@ usage: house.py [--all] [repeats|wide|names|unused|long|english|comments|links|q
 
 repeats  lemma statements that stand more than once, up to the names of their variables (definitions and proofs are read, bodies not; a module's own
          name for a lemma of another one is none)
-wide     clauses of more than 120 columns
+wide     lines of clauses of more than 120 columns
 names    words of specs/ that two crates define
 unused   definitions of specs/ that no clause and no other definition names, but for `most_x-is`: they belong into proofs/
 long     files of more than 800 lines, functions of more than 40
@@ -89,9 +89,13 @@ def repeats():
 
 def wide():
     for path, text in files("rt", "src"):
+        depth = 0
         for at, line in enumerate(text.splitlines()):
-            if re.match(r"\s*(ensures|requires|holds)\b", line) and len(line) > 120:
+            begins = re.match(r"\s*((ensures|requires|holds)\b|ghost \w+ = \{)", line)
+            if (begins or depth > 0) and len(line) > 120:
                 yield path, f"{path}:{at + 1} {len(line)} columns"
+            if begins or depth > 0:
+                depth += line.count("{") - line.count("}")
 
 
 def defined():
