@@ -26,11 +26,26 @@ pub struct Oscillator {
 impl Model for Oscillator {
     ghost Value = { Pace };
 
-    ghost view = { λ o. record { fastest = o.fastest; slowest = o.slowest; tolerance = o.tolerance; turns = o.turns } };
+    ghost view = { λ o. record {
+      fastest = o.fastest;
+      slowest = o.slowest;
+      tolerance = o.tolerance;
+      turns = o.turns;
+    } };
 
-    ghost inverse = { λ p. record { fastest = p.fastest; slowest = p.slowest; tolerance = p.tolerance; turns = p.turns } };
+    ghost inverse = { λ p. record {
+      fastest = p.fastest;
+      slowest = p.slowest;
+      tolerance = p.tolerance;
+      turns = p.turns;
+    } };
 
-    ghost invariant = { λ o. IsPace (record { fastest = o.fastest; slowest = o.slowest; tolerance = o.tolerance; turns = o.turns }) };
+    ghost invariant = { λ o. IsPace (record {
+      fastest = o.fastest;
+      slowest = o.slowest;
+      tolerance = o.tolerance;
+      turns = o.turns;
+    }) };
 }
 
 impl Oscillator {

@@ -150,7 +150,8 @@ impl Family {
     fn latest_sender(&self, setting: Setting, i: u8) -> u128
         requires { i < length self.now.members }
         ensures value { result ≡ greatest (length self.now.members) (sends_but (bus_of self.now setting) i)
-            (λ a. way (bus_of self.now setting) i a + 10 * drift (bus_of self.now setting) a i + ahead (bus_of self.now setting) a) }
+            (λ a. way (bus_of self.now setting) i a + 10 * drift (bus_of self.now setting) a i
+            + ahead (bus_of self.now setting) a) }
         ensures most { result < 2 ^ 95 }
     {
         let mut latest = 0;

@@ -78,7 +78,8 @@ pub fn a_plan_is_such_a_bus()
         → EndsAfterSlot (sender_bus_of plan clocks sender frame stuffed decides)
         → IsAcknowledged (sender_bus_of plan clocks sender frame stuffed decides) }
     ensures through { (plan : Plan) (clocks : ℕ → Steady) → IsSteadyPlan plan clocks
-        → (sender : ℕ) → sender < length plan.nodes → (frame : Content) (first : List Level) (decides : ℕ) (stuffed : ℕ → List Level)
+        → (sender : ℕ) → sender < length plan.nodes
+        → (frame : Content) (first : List Level) (decides : ℕ) (stuffed : ℕ → List Level)
         → SendsFirst (sender_bus_of plan clocks sender frame first decides)
         → AreFrames (sender_bus_of plan clocks sender frame first decides) stuffed
         → IsInStepWithAll (sender_bus_of plan clocks sender frame first decides)

@@ -108,7 +108,8 @@ pub fn the_sender_samples_the_acknowledgement()
         → IsSteady s.clock → IsSteady j.clock → ByTheBook own → ByTheBook j.lengths → s.bit_quanta ≡ bit_quanta own
         → ClocksAreNear s j → ComesInTime s own j back → SamplesBit s j seen found d k
         → HearsAnswer s own j back d k sender_seen
-        → (m : ℕ) × (m ≤ own_sample s own (suc d) + own.sjw) × SamplesNext own sender_seen (own_sample s own d) m Dominant }
+        → (m : ℕ) × (m ≤ own_sample s own (suc d) + own.sjw)
+        × SamplesNext own sender_seen (own_sample s own d) m Dominant }
 {
     an_acknowledgement_comes_in_time();
     the_next_sample_is_dominant();
@@ -160,7 +161,8 @@ pub fn an_acknowledgement_is_over_everywhere()
         → SamplesBit s i seen found d k → SamplesBit s j other_seen other_found d n
         → answer_end i between k ≤ steady_tick j.clock (n + 2 * bit_quanta j.lengths) }
     ensures ends_there { (s : Sender) (own : Lengths) (j : Listener) (seen : ℕ → Seen) (found back d k : ℕ)
-        → IsSteady s.clock → IsSteady j.clock → ByTheBook own → ByTheBook j.lengths → s.bit_quanta ≡ bit_quanta own → ClocksAreNear s j
+        → IsSteady s.clock → IsSteady j.clock → ByTheBook own → ByTheBook j.lengths → s.bit_quanta ≡ bit_quanta own
+        → ClocksAreNear s j
         → ComesInTime s own j back → EndsInTime s own j back → SamplesBit s j seen found d k
         → answer_end j back k ≤ steady_tick s.clock (own_sample s own (suc (suc d))) }
 {}
@@ -178,8 +180,10 @@ pub fn an_early_acknowledgement_moves_a_node()
         → FitsBit i c l → answer_begin i between k ≤ steady_tick c x
         → answer_end i between k ≤ steady_tick c (x + (sample_at l - 1) + bit_quanta l) }
     ensures others { (s : Sender) (i j : Listener) (c : Steady) (l : Lengths) (seen other_seen : ℕ → Seen)
-        (found other_found from_i from_j d k n x : ℕ) → IsSteady s.clock → IsSteady i.clock → IsSteady j.clock → IsSteady c
-        → EndsAfterMove s i j c l from_i from_j → SamplesBit s i seen found d k → SamplesBit s j other_seen other_found d n
+        (found other_found from_i from_j d k n x : ℕ) → IsSteady s.clock → IsSteady i.clock → IsSteady j.clock
+        → IsSteady c
+        → EndsAfterMove s i j c l from_i from_j → SamplesBit s i seen found d k
+        → SamplesBit s j other_seen other_found d n
         → answer_begin i from_i k ≤ steady_tick c x
         → answer_end j from_j n ≤ steady_tick c (x + (sample_at l - 1) + bit_quanta l) }
     ensures later { (s : Sender) (j : Listener) (back k x c : ℕ) → IsSteady s.clock → IsSteady j.clock

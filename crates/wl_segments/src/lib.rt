@@ -58,7 +58,13 @@ impl Model for Segments {
 
     ghost inverse = { λ l. record { prop = l.prop; ps1 = l.ps1; ps2 = l.ps2; sjw = l.sjw; sync = l.sync } };
 
-    ghost invariant = { λ s. AreLengths (record { prop = s.prop; ps1 = s.ps1; ps2 = s.ps2; sjw = s.sjw; sync = s.sync }) };
+    ghost invariant = { λ s. AreLengths (record {
+      prop = s.prop;
+      ps1 = s.ps1;
+      ps2 = s.ps2;
+      sjw = s.sjw;
+      sync = s.sync;
+    }) };
 }
 
 impl Segments {

@@ -47,7 +47,8 @@ pub fn sample(machine: &mut Machine, level: Level, head: Option<&Frame>, mode: M
     ensures in_step { (count : ℕ) (frames : ℕ → List Content) (events : List Event) → AreSoundFrames count frames
         → (event : Event) (k : ℕ) → k < count
         → IsMachine machine.old ((wire_after (idle_wire count frames) events).past k)
-        → added (wire_after (idle_wire count frames) events) event k ≡ Sample (sample_of level (option_copied head.entry) mode) ∷ []
+        → added (wire_after (idle_wire count frames) events) event k
+        ≡ Sample (sample_of level (option_copied head.entry) mode) ∷ []
         → is_fine result.happened ≡ true }
 {
     laws::machines_stay_in_step();
