@@ -3,7 +3,8 @@
 # usage: program.sh PROGRAM
 # - each plan of examples/ with the report beside it, and each of those plans through check, records and candump, which must accept it;
 #   and by 2, 3 and 8 workers over either link
-# - the explanation, the trace and the waveform of each of them as check/plain.py gives them, and the explanations of plans with every doubt, by the book and
+# - the explanation, the trace and the waveform of each of them as check/plain.py gives them, the traffic and the margin as check/traffic.py and
+#   check/margin.py do; the same of plans as no example is; and the explanations of plans with every doubt, by the book and
 #   not, and of one whose clocks change their rates
 # - the log of one plan, as ticks of three lengths have it, and the waveform of one, as ticks of two have it
 # - two nodes with full queues, as check/plain.py reports them, and their trace, a long one, in other formats; a bus that idles, in less than 200 ms
@@ -62,7 +63,41 @@ for report in examples/*.report; do
   is "lines of candump of $name" [ "$(grep -c '^frame [0-9]* sent ' "$report")" = "$(wc -l < "$room/out")" ]
   python3 check/plain.py vcd < "examples/$name.toml" > "$room/waved"
   runs "vcd of $name" "examples/$name.toml" 0 "$room/waved" "$room/none" vcd
+  python3 -B check/margin.py < "examples/$name.toml" > "$room/beyond"
+  runs "margin of $name" "examples/$name.toml" 0 "$room/beyond" "$room/none" margin
 done
+
+# Plans as no example is: outside of the condition for margins, a node that misses a frame, remote frames, codes above 8, a CRC error.
+while IFS='|' read -r name edit; do
+  sed -E "$edit" examples/clean_500k.toml > "$room/odd.toml"
+  for word in run explain trace vcd; do
+    python3 check/plain.py "$word" < "$room/odd.toml" > "$room/wanted"
+    runs "$word of $name" "$room/odd.toml" 0 "$room/wanted" "$room/none" "$word"
+  done
+  python3 -B check/traffic.py text < "$room/odd.toml" > "$room/wanted"
+  runs "traffic of $name" "$room/odd.toml" 0 "$room/wanted" "$room/none" traffic
+  python3 -B check/margin.py < "$room/odd.toml" > "$room/wanted"
+  runs "margin of $name" "$room/odd.toml" 0 "$room/wanted" "$room/none" margin
+  case "$name" in
+    'remote frames') [ "$("$program" candump "$room/odd.toml" | cut -d ' ' -f 3 | tr '\n' ' ')" = '0C4#R3 1ABCDEF0#R8_F ' ] ;;
+    'codes above 8') [ "$("$program" candump "$room/odd.toml" | cut -d ' ' -f 3 | tr '\n' ' ')" = '0C4#1A0B00007DFF203C_F 3E8#R ' ] ;;
+    'a CRC error') grep -q ' error crc ' <("$program" trace "$room/odd.toml") ;;
+    *) true ;;
+  esac
+  is "what is odd of $name" [ $? = 0 ]
+done << 'PLANS'
+no frames|/^frame/d
+one node|0,/^frame/!d
+a listener with frames|s/^version = 1/version = 3/;0,/^sjw = 3/s//&\nlisten = true/
+one identifier|s/0x3E8/0x0C4/
+a frame before any other node is idle|s/ready = 480/ready = 0/
+clocks that are none without ppm|s/^quantum = 125/quantum = 1_048_577/;s/^ppm = .*/ppm = -5000\ntolerance = 5000/
+a node that begins after a frame|s/^offset = 777/offset = 500_000/;/0x3E8/d
+an end that comes too early|s/^end = .*/end = 300_000/
+remote frames|s/dlc = 8, bytes = \[[^]]*\]/dlc = 3, remote = true/;s/id = 0x3E8, dlc = 2, bytes = \[[^]]*\]/id = 0x1ABCDEF0, extended = true, dlc = 15, remote = true/
+codes above 8|s/dlc = 8/dlc = 15/;s/dlc = 2, bytes = \[[^]]*\]/dlc = 0, remote = true/
+a CRC error|s/^version = 1/version = 3/;$a \\n[[disturbance]]\nnode = "gateway"\nfrom = 206_000\nto = 208_000
+PLANS
 
 # The status says whether a run works only if that is asked for.
 runs "traffic of a plan that works" examples/cyclic_500k.toml 0 examples/cyclic_500k.traffic "$room/none" traffic --strict
@@ -175,7 +210,8 @@ while IFS= read -r line; do
       ;;
     'hint: '*)
       timeout 300 "$program" "$word" --hint "$room/input" > "$room/out" 2> "$room/err" < /dev/null
-      is "hint, $fault: $(tail -1 "$room/err")" cmp -s <(sed -E '2s/\bline [0-9]+/line #/g' "$room/err") <(printf '%s\n%s\n' "$fault" "$line")
+      [[ $line != *'line #'* ]] || sed -i -E '2s/\bline [0-9]+/line #/g' "$room/err"
+      is "hint, $fault: $(tail -1 "$room/err")" cmp -s "$room/err" <(printf '%s\n%s\n' "$fault" "$line")
       continue
       ;;
   esac

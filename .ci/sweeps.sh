@@ -61,6 +61,10 @@ is 'the first of a table' grep -q "^first that isn't: member 1, sensor.x = 30: v
 swept 'refused members' "$room/pair" 1 'sjw 3 clean in 1 of 1\nsjw 4 clean in 1 of 1\nsjw 5 clean in 0 of 1, refused in 1\n' '' \
   --vary sjw=3..5:1 --keep-offsets --keep-ppm
 is 'the first that is refused' grep -q '^first refused: member 2, sjw = 5: refused' "$room/out"
+# A listener that begins after the frame finds no error and misses it
+cp "$room/pair" "$room/three" && sed -n "/'b'/,\$p" "$room/pair" | sed "1s/.*/[[node]]\nname = 'c'/;s/^offset = 0/offset = 350_000/" >> "$room/three"
+swept 'a node that begins late' "$room/three" 1 'clean in 0 of 1\nall 1 members were run\n' '' --keep-offsets && \
+  is 'and misses a frame' grep -qx "first that isn't: member 0: a node has not received every frame" "$room/out"
 # What tests the clocks
 swept 'a payload without edges' "$room/pair" 0 'clean in 1 of 1\n' '' --keep-offsets
 swept 'the worst payload' "$room/pair" 0 'clean in 1 of 1\n' '' --keep-offsets --worst
