@@ -1,6 +1,7 @@
 # The part of .ci/program.sh on settings: it takes that script's $program, $room, is and runs.
 # - the lists of examples/settings and the plans of their first settings, as check/settings.py has them, with ticks of two lengths
 # - each plan runs clean, holds by margin, and is the file that -o names
+# - three lists of other texts, as check/settings.py has them
 # - what is refused: the fault's line, the hint, the status, and nothing on standard output
 
 for given in examples/settings/*.toml; do
@@ -18,6 +19,17 @@ for given in examples/settings/*.toml; do
   python3 check/settings.py --tick 10ns < "$given" > "$room/listed"
   runs "settings --tick 10ns of $name" "$given" 0 "$room/listed" "$room/none" settings --tick 10ns
 done
+
+# No setting has a slow rate; the clocks refuse the nearest one; a bus on which a rate may be off
+while IFS= read -r edit; do
+  sed -E "$edit" examples/settings/narrow_1m.toml > "$room/input"
+  python3 check/settings.py < "$room/input" > "$room/listed"
+  runs "settings, $edit" "$room/input" 0 "$room/listed" "$room/none" settings
+done << 'EDITS'
+s/^bitrate = .*/bitrate = 9_999/
+s/^tolerance = .*/tolerance = 50_000/
+/^(prescaler|prop|ps1|ps2|sjw) /d;s/^bitrate = .*/bitrate = 125_000\nrate_error = 10_000/
+EDITS
 
 refuses() { # refuses FAULT HINT EXPRESSION WORDS..: of an example that sed changed
   local fault=$1 hint=$2 expression=$3

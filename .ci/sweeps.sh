@@ -164,8 +164,14 @@ resident() { # resident WORDS..: the most KiB of memory that a program had, as /
   while now=$(sed -n 's/^VmHWM:[^0-9]*\([0-9]*\) kB/\1/p' "/proc/$!/status" 2> /dev/null) && [ -n "$now" ]; do most=$now && sleep 0.02; done
   echo "$most"
 }
-few=$(resident "$program" sweep "$room/wide" --runs 20000) many=$(resident "$program" sweep "$room/wide" --runs 300000)
+few=$(resident "$program" sweep "$room/wide" --runs 20000)
+begun=${EPOCHREALTIME/./}
+many=$(resident "$program" sweep "$room/wide" --runs 300000 --progress 2> "$room/err")
+took=$(((${EPOCHREALTIME/./} - begun) / 1000000))
 is "memory of 20,000 runs $few KiB, of 300,000 $many KiB" [ "$few" -gt 0 -a "$many" -lt $((few + few / 4)) ]
+# A line of progress comes each 200 ms at most, and has whole seconds
+is "$(wc -l < "$room/err") lines of progress in $took s" [ "$(wc -l < "$room/err")" -le $((5 * took + 1)) ]
+is "the last of them: $(tail -1 "$room/err")" [ "$(tail -1 "$room/err" | sed -n 's/.* \([0-9]*\) s$/\1/p')" -le "$took" ]
 # A map has a cell for each row of its two axes, and a cell says what a sweep of its row alone says
 "$program" sweep --runs 20 --vary ps1=2..4:1 --vary tolerance=0..3000:1500 --vary sjw=1..2:1 --page examples/drifting_listener.toml > "$room/map" 2> "$room/err"
 is 'cells of a map' [ "$(grep -c '^cell \|"cells" hidden>cell ' "$room/map")" = 9 -a ! -s "$room/err" ]
