@@ -11,7 +11,7 @@ Seed 1 and one process by default. Input N of a seed is always the same, in howe
   examples      each plan of examples/: its report, and what the other commands write of it
   traces        plans with errors, whose traces have to have what their reports count
   traffic       traffic on random plans
-  candump       candump on random plans, at random lengths of a tick
+  candump       candump on random plans, at random lengths of a tick and seconds of tick 0
   refusals      what explain writes of plans that are refused
   margin        margin, and explain of every other plan, on families around the border of the condition
   settings      settings of texts with few settings each

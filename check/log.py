@@ -11,6 +11,7 @@ import random_plans
 from tally import asked
 
 UNITS = {"ps": 1, "ns": 1_000, "us": 1_000_000}  # in picoseconds
+STARTS = [None, None, 0, 1, 1_700_000_000, 2**32 - 1]  # the second of tick 0
 WRONG_TICKS = ["0ns", "1000ns", "1000ps", "1000us", "000us", "1", "ns", "ps1", "1ms", "1s", "1 ns", "+1ns", "1.5ns", "1nS", "0x1ns", "1n", "9999ps", "1nss", "٣ns"]
 
 
@@ -27,10 +28,10 @@ def log_line(microseconds, frame):
     return f"({microseconds // 10**6:010}.{microseconds % 10**6:06}) can0 {number}#{content}\n"
 
 
-def log_text(plan, tick):
+def log_text(plan, tick, start=0):
     sent = [(node.setup.clock.at(quantum), i, n, frame) for i, node in enumerate(plain.simulate(plan))
             for n, (what, quantum, frame) in enumerate(node.frames) if what == "sent"]
-    return "".join(log_line(at * picoseconds(tick) // 10**6, frame) for at, _, _, frame in sorted(sent, key=lambda one: one[:3]))
+    return "".join(log_line(start * 10**6 + at * picoseconds(tick) // 10**6, frame) for at, _, _, frame in sorted(sent, key=lambda one: one[:3]))
 
 
 def sending_plan(rng):
@@ -49,13 +50,15 @@ def candump(tally, program, seed, numbers, options):
         rng = random.Random(f"{seed} {number} candump")
         text = random_plans.toml_text(sending_plan(rng) if rng.random() < 0.7 else random_plans.random_plan(rng), rng.random() < 0.3).encode() + b"\n"
         tick = rng.choice(WRONG_TICKS) if rng.random() < 0.1 else rng.choice(["1ns", "125ps", "3us", "999us", "007ns", f"{rng.randint(1, 999)}{rng.choice([*UNITS])}"])
+        start = rng.choice(STARTS)
+        words = ["candump", f"--tick={tick}"] + ([] if start is None else ["--from", str(start)])
         tally.tried += 1
         if picoseconds(tick) is None: wanted = "", None, 2
         else:
             try:
-                wanted = log_text(plain.read_plan(text), tick), "", 0
+                wanted = log_text(plain.read_plan(text), tick, start or 0), "", 0
             except plain.Fault as fault:
                 wanted = "", f"fault: {fault}\n", 1
-        out, error, status = asked(program, "candump", f"--tick={tick}", text=text)
+        out, error, status = asked(program, *words, text=text)
         tally.count("lines", "sent", wanted[0].count("\n"))
-        tally.compare(f"plan {number} of seed {seed}", f"candump --tick={tick}" if wanted[2] else "candump", text, (out, wanted[1] and error, status), wanted)
+        tally.compare(f"plan {number} of seed {seed}", " ".join(words) if wanted[2] else "candump", text, (out, wanted[1] and error, status), wanted)
