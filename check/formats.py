@@ -3,7 +3,8 @@
 
 usage: formats.py PROGRAM [PLAN..]
 
-Without plans it takes all examples, plans with every doubt, and plans that are refused. Of each line of the text it looks for the values of
+Without plans it takes all examples, plans with every doubt, plans that are refused, and those of formats/, whose records stand beside them, written by hand
+from docs/use/formats.md. Of each line of the text it looks for the values of
 its record in their order, digit by digit, and says if a digit of the line is in no value. The rows of CSV have to be the records of JSON.
 The status and standard error have to be those of the text. It knows no shape of a line.
 """
@@ -130,6 +131,16 @@ def differences(program, words, plan):
         yield "text: differs from what is written without the word"
 
 
+def unlike_stored(program):
+    """Yields what differs of the plans of formats/ from the records that stand beside them, PLAN.COMMAND.json."""
+    for path in sorted((TOP / "check/formats").glob("*.json")):
+        name, command = path.stem.split(".")
+        made = run(program, [command, "--format", "json"], path.with_name(f"{name}.toml").read_text())[1]
+        for one, wanted in zip(json.loads(made)["records"], json.loads(path.read_text())["records"], strict=True):
+            if one != wanted:
+                yield f"{name}, {command}: {one}, wanted {wanted}"
+
+
 def renamed(plan):
     """Returns a plan whose nodes have strange names."""
     names = iter(NAMES)
@@ -159,6 +170,9 @@ def main():
         if run(program, words, plans[0][1])[0] != 2:
             wrong += 1
             print(f"{' '.join(words)} is not refused")
+    for found in unlike_stored(program) if not sys.argv[2:] else []:
+        wrong += 1
+        print(found)
     print(f"{runs} runs in other formats, {wrong} differ")
     sys.exit(1 if wrong else 0)
 
