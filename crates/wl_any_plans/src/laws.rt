@@ -52,7 +52,8 @@ pub fn a_covered_plan_has_first_frames()
     ensures idle { (plan : Plan) (s : Stations) → is_covered plan ≡ true → s.count ≡ length plan.nodes
         → AreIdleWhenReady plan s }
     ensures first { (f : Buses) (plan : Plan) (clocks : ℕ → Steady) → IsSteadyPlan plan clocks
-        → IsOfFamily f plan clocks → is_covered plan ≡ true → outside_of plan ≡ None → AreContents plan → SendAsFamily f plan
+        → IsOfFamily f plan clocks → is_covered plan ≡ true → outside_of plan ≡ None → AreContents plan
+        → SendAsFamily f plan
         → HasFirstFrames plan (queues_of plan) (stations_of f plan clocks) }
 {
     wl_first_frame::laws::a_plan_has_a_first_frame();

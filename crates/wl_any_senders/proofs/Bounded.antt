@@ -10,7 +10,7 @@ use Rattle.wl_bound.specs.Conditions.{IsSound, left_of, right_of}
 use Rattle.wl_bound.proofs.Greatest.{bounded, bounds_each}
 use Rattle.wl_topology.specs.Driven.{any_below}
 use Rattle.wl_any_senders.specs.Acknowledged.{any_way}
-use Rattle.wl_any_senders.specs.Bounds.{IsBusOf, IsLeftForTwo, following_way, other_sends}
+use Rattle.wl_any_senders.specs.Bounds.{IsBusOf, following_way, other_sends}
 use Rattle.wl_any_senders.specs.Stations.{Stations, AreOnALine, HaveRoom, HaveWays, IsPair, shared_tick, shared_quantum, bit_drift}
 use Rattle.wl_any_senders.proofs.Sampled.{none_below}
 
@@ -242,10 +242,13 @@ module _ (bus : Bus) (s : Stations) (line : AreOnALine s) (of : IsBusOf bus s) (
     | inr none ↦ (let e = pull_alone i k (of.sends k nk ∙ may) (of.sends i ni ∙ own) none in omega arith)
   ]
 
-  pub left_for_two : IsLeftForTwo bus s
+  -- two stations alone may send: what the look of the one takes beyond there and back is left in a jump of the other
+  left_for_two : (i k : ℕ) → i < s.count → k < s.count → i ≢ k → s.may_send i ≡ true → s.may_send k ≡ true
+      → ((a : ℕ) → a < s.count → s.may_send a ≡ true → (a ≡ i) ⊎ (a ≡ k))
+      → 10 * drift bus i k + (bus.longest k + bus.tick - (bus.delay k i + bus.delay i k)) ≤ jump bus i
   left_for_two i k ni nk apart own may two = (let h = jumped i k ni nk apart may in let p = pull_most i k ni nk own may in omega arith)
 
-module _ (bus : Bus) (s : Stations) (line : AreOnALine s) (of : IsBusOf bus s) (left : IsLeftForTwo bus s) (sound : IsSound bus) where
+module _ (bus : Bus) (s : Stations) (line : AreOnALine s) (of : IsBusOf bus s) (sound : IsSound bus) where
   -- where a quantum and a tick counts beyond some ticks
   early_look : (i k w W : ℕ) → i < s.count → k < s.count → W ≡ w * bus.tick
       → s.way k i ≤ (s.delay k i + s.delay i k) * shared_tick s i k + (shared_quantum s k i + shared_tick s i k - w * shared_tick s i k)
@@ -306,7 +309,7 @@ module _ (bus : Bus) (s : Stations) (line : AreOnALine s) (of : IsBusOf bus s) (
       let two = of.delays i k ni nk in
       let sum : (s.delay k i + s.delay i k) * bus.tick ≡ s.delay k i * bus.tick + s.delay i k * bus.tick = omega arith in
       early_look i k (s.delay k i + s.delay i k) (bus.delay k i + bus.delay i k) ni nk (omega arith)
-      (way_of_two bus s line of i k ni nk may (λ a na sends. one_of i k none a na sends)) (left i k ni nk apart own may (λ a na sends. one_of i k none a na sends))
+      (way_of_two bus s line of i k ni nk may (λ a na sends. one_of i k none a na sends)) (left_for_two bus s line of sound i k ni nk apart own may (λ a na sends. one_of i k none a na sends))
 
   only_k : (i k : ℕ) → s.may_send i ≡ false → any_below bus.nodes (sends_third bus i k) ≡ false → (a : ℕ) → a < s.count → s.may_send a ≡ true → a ≡ k
   only_k i k listens none a na sends = elim (one_of i k none a na sends) [

@@ -1,7 +1,7 @@
 -- Stations as one of the buses of the condition for margins.
-use Rattle.std.specs.Prelude.{◌≡◌, ◌≢◌, ◌⊎◌, ℕ, ◌+◌, ◌-◌, ◌*◌, ◌<◌, ◌≤◌, ◌==◌, ◌&&◌, not, max, Bool, true, false, if◌then◌else◌}
+use Rattle.std.specs.Prelude.{◌≡◌, ℕ, ◌+◌, ◌-◌, ◌*◌, ◌<◌, ◌≤◌, ◌==◌, ◌&&◌, not, max, Bool, true, false, if◌then◌else◌}
 use Rattle.wl_bound.specs.Families.{Bus}
-use Rattle.wl_bound.specs.Terms.{greatest, drift, jump}
+use Rattle.wl_bound.specs.Terms.{greatest}
 use Rattle.wl_any_senders.specs.Stations.{Stations, shared_quantum, shared_tick}
 
 -- how long after its own the bit of station i reaches station k at most, if k follows the edge of station a, which may be i
@@ -29,8 +29,3 @@ pub record IsBusOf (bus : Bus) (s : Stations) : Type 0 where
   pub ways : (i k : ℕ) → i < s.count → k < s.count → s.way k i ≡ bus_way s k i
   pub sends : (i : ℕ) → i < s.count → bus.sends i ≡ s.may_send i
   pub answers : (i : ℕ) → i < s.count → s.may_send i ≡ true → bus.listens i ≡ false
-
--- Two stations alone may send: what the look of the one takes beyond there and back is left in a jump of the other. The condition for margins implies it.
-abbrev pub IsLeftForTwo : Bus → Stations → Type 0
-IsLeftForTwo bus s = (i k : ℕ) → i < s.count → k < s.count → i ≢ k → s.may_send i ≡ true → s.may_send k ≡ true → ((a : ℕ) → a < s.count → s.may_send a ≡ true → (a ≡ i) ⊎ (a ≡ k))
-    → 10 * drift bus i k + (bus.longest k + bus.tick - (bus.delay k i + bus.delay i k)) ≤ jump bus i

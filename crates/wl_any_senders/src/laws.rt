@@ -23,7 +23,7 @@ ghost use Rattle.wl_phase.specs.Ways.{ByTheBook, moved_to};
 ghost use Rattle.wl_bound.specs.Conditions.{IsSound};
 ghost use Rattle.wl_bound.specs.Families.{Bus};
 ghost use Rattle.wl_plan.specs.declared.plan.Plan.{Plan};
-ghost use Rattle.wl_any_senders.specs.Bounds.{IsBusOf, IsLeftForTwo};
+ghost use Rattle.wl_any_senders.specs.Bounds.{IsBusOf};
 ghost use Rattle.wl_any_senders.specs.Clocked.{BitIs, NoEdgeLaws, BitPlaceLaws, BitStartLaws, EdgeLaws};
 ghost use Rattle.wl_any_senders.specs.Plans.{IsPlanOf};
 ghost use Rattle.wl_any_senders.specs.Stations.{AreClose, AreOnALine, AreStations, HaveRoom, HaveWays, Stations};
@@ -67,7 +67,8 @@ pub fn all_sample_what_is_driven()
 /// frame on. Whoever has sent each bit as it is on the bus still sends. Each other one has lost, and stays close to those that send.
 pub fn all_sample_the_same_bits()
     ensures { (s : Stations) (bits : ℕ → Start) (drove : ℕ → ℕ → Bool) (length : ℕ) (until : ℕ → ℕ)
-        → AreStations s → HaveRoom s → IsCourse s bits drove length until → (n : ℕ) → n < length → IsSampled s bits drove n }
+        → AreStations s → HaveRoom s → IsCourse s bits drove length until → (n : ℕ) → n < length
+        → IsSampled s bits drove n }
 {
     wl_topology::driven_laws();
 }
@@ -78,24 +79,18 @@ pub fn all_sample_the_same_bits()
 pub fn a_bit_clock_follows_an_edge()
     ensures { (l : Lengths) (seen : ℕ → Seen) (place found : ℕ) → ByTheBook l
         → FindsDominant l seen (place + sample_at l) found
-        → SamplesNext l seen (place + sample_at l) (moved_to (found - 1) l.sjw (place + bit_quanta l) + sample_at l) Dominant }
+        → SamplesNext l seen (place + sample_at l)
+        (moved_to (found - 1) l.sjw (place + bit_quanta l) + sample_at l) Dominant }
 {
     wl_phase::laws::the_next_sample_is_dominant();
 }
 
-/// Law: a bus that meets the condition for margins has room for any senders, wherever within its tolerance each clock lies. If two nodes
-/// alone may send, what a look takes beyond there and back is left in a jump. The ways are there and back, or over the edges that a
-/// station follows.
+/// Law: a bus that meets the condition for margins has room for any senders, wherever within its tolerance each clock lies. The ways are
+/// there and back, or over the edges that a station follows.
 pub fn a_sound_bus_has_room()
     ensures ways { (bus : Bus) (s : Stations) → AreOnALine s → IsBusOf bus s → HaveWays s }
-    ensures room { (bus : Bus) (s : Stations) → AreOnALine s → IsBusOf bus s → IsLeftForTwo bus s → IsSound bus
+    ensures room { (bus : Bus) (s : Stations) → AreOnALine s → IsBusOf bus s → IsSound bus
         → HaveRoom s }
-{}
-
-/// Law: if two nodes alone may send on a bus that meets the condition for margins, what a look takes beyond there and back is left in a
-/// jump. So it is a premise of other laws that such a bus always meets.
-pub fn two_alone_have_room()
-    ensures { (bus : Bus) (s : Stations) → AreOnALine s → IsBusOf bus s → IsSound bus → IsLeftForTwo bus s }
 {}
 
 /// Law: the nodes of each checked plan of one rate a clock, by the rules of the book, are such stations, if none only listens.
@@ -142,7 +137,8 @@ pub fn a_station_begins_its_bits()
 /// Whoever drives dominant still sends, and an edge comes every ten bits. Their frames differ in format, identifier or RTR bit.
 pub fn machines_drive_as_a_course_asks()
     ensures { (s : Stations) (bits : ℕ → Start) (drove : ℕ → ℕ → Bool) (frames : ℕ → List Content)
-        (past : ℕ → ℕ → List Input) (length : ℕ) → AreSoundFrames s.count frames → AreMachines s bits drove frames past length → SomeBegins s bits
+        (past : ℕ → ℕ → List Input) (length : ℕ) → AreSoundFrames s.count frames
+        → AreMachines s bits drove frames past length → SomeBegins s bits
         → (n : ℕ) → n < length → AllRight s bits drove n → stuffed_end (bus_levels s bits n) ≡ None
         → GoesByMachines s bits drove frames past n }
 {
@@ -157,8 +153,10 @@ pub fn machines_drive_as_a_course_asks()
 /// arbitration field of all frames that began with it.
 pub fn one_frame_is_left()
     ensures { (s : Stations) (bits : ℕ → Start) (drove : ℕ → ℕ → Bool) (frames : ℕ → List Content)
-        (past : ℕ → ℕ → List Input) (length : ℕ) → AreSoundFrames s.count frames → AreMachines s bits drove frames past length → SomeBegins s bits
-        → (n : ℕ) → n ≤ length → AllRight s bits drove n → stuffed_end (bus_levels s bits n) ≡ Some n → HasWon s bits frames n }
+        (past : ℕ → ℕ → List Input) (length : ℕ) → AreSoundFrames s.count frames
+        → AreMachines s bits drove frames past length → SomeBegins s bits
+        → (n : ℕ) → n ≤ length → AllRight s bits drove n → stuffed_end (bus_levels s bits n) ≡ Some n
+        → HasWon s bits frames n }
 {
     wl_wire::laws::machines_stay_in_step();
     wl_wire::laws::the_least_field_wins();
@@ -203,7 +201,8 @@ pub fn bit_clocks_go_as_expected()
     ensures { (s : Stations) (o : Outset) (length i : ℕ) (seen : ℕ → Seen) → AreStations s → HaveRoom s → IsOutset s o
         → ((n : ℕ) → n < length → stuffed_end (bus_levels s (expected_bits s o) n) ≡ None)
         → i < s.count → (n : ℕ) → suc n < length → SeesExpected s o length i seen n → HasSampled s o i seen n
-        → BitIs (s.lengths i) seen (expected_sample s o n i) ((expected_bits s o (suc n)).place i) ((expected_bits s o (suc n)).from i)
+        → BitIs (s.lengths i) seen (expected_sample s o n i) ((expected_bits s o (suc n)).place i)
+        ((expected_bits s o (suc n)).from i)
         (level_of (bus_bit s (expected_bits s o) (suc n))) × HasSampled s o i seen (suc n) }
 {
     wl_topology::driven_laws();
@@ -266,7 +265,8 @@ pub fn a_line_does_what_is_expected()
 pub fn a_node_at_rest_begins_as_expected()
     ensures { (l : Line) (setups : ℕ → NodeSetup) (s : Stations) (o : Outset) (length i rest : ℕ) → IsLineOf l setups s
         → AreStations s → HaveRoom s → IsOutset s o → 0 < length
-        → ((n : ℕ) → n < length → stuffed_end (bus_levels s (expected_bits s o) n) ≡ None) → i < s.count → BeginsAfter s o i rest
+        → ((n : ℕ) → n < length → stuffed_end (bus_levels s (expected_bits s o) n) ≡ None) → i < s.count
+        → BeginsAfter s o i rest
         → RestsBefore s o i (finds_expected l s o length i) (node_after (setups i) (finds_expected l s o length i)) rest
         → BeginsAsExpected l setups s o length i }
 {
@@ -294,7 +294,7 @@ pub fn a_plan_does_what_is_expected()
         (node_after (setup_at plan i) (finds_expected (line_of plan) s o length i)) (rest i))
         → IsBeforeEnd (line_of plan) s o length end → DoesAsExpected (line_of plan) (setup_at plan) s o length end }
     ensures sound { (plan : Plan) (s : Stations) (bus : Bus) (o : Outset) (rest : ℕ → ℕ) (length end : ℕ)
-        → IsPlanOf plan s → plan.disturbances ≡ [] → IsBusOf bus s → IsLeftForTwo bus s → IsSound bus → IsOutset s o
+        → IsPlanOf plan s → plan.disturbances ≡ [] → IsBusOf bus s → IsSound bus → IsOutset s o
         → 0 < length
         → ((n : ℕ) → n < length → stuffed_end (bus_levels s (expected_bits s o) n) ≡ None)
         → ((i : ℕ) → i < s.count → BeginsAfter s o i (rest i))

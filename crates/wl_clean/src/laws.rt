@@ -77,7 +77,6 @@ pub fn any_senders_are_clean()
     wl_bound::condition_laws();
     wl_any_senders::laws::a_plan_is_on_a_line();
     wl_any_senders::laws::a_sound_bus_has_room();
-    wl_any_senders::laws::two_alone_have_room();
     wl_any_plans::laws::a_family_leaves_room();
     wl_any_plans::laws::a_plan_has_stations();
     wl_any_plans::laws::a_covered_plan_has_first_frames();

@@ -13,7 +13,7 @@ ghost use Rattle.wl_plan.specs.PlanLine.{setup_at};
 ghost use Rattle.wl_plan.specs.declared.plan.Plan.{Plan};
 ghost use Rattle.wl_bound.specs.Conditions.{IsSound};
 ghost use Rattle.wl_bound.specs.Families.{Bus};
-ghost use Rattle.wl_any_senders.specs.Bounds.{IsBusOf, IsLeftForTwo};
+ghost use Rattle.wl_any_senders.specs.Bounds.{IsBusOf};
 ghost use Rattle.wl_any_senders.specs.Expected.{IsOutset, expected_bits};
 ghost use Rattle.wl_any_senders.specs.Lines.{BeginsAfter, IsLineOf, RestsBefore, finds_expected, node_after};
 ghost use Rattle.wl_any_senders.specs.Machines.{bus_levels};
@@ -39,7 +39,8 @@ pub fn idle_stations_begin_a_first_frame()
 pub fn nodes_rest_before_a_first_frame()
     ensures { (l : Line) (setups : ℕ → NodeSetup) (w : Waiting) (length i : ℕ) → IsLineOf l setups w.stations
         → AreStations w.stations → HaveRoom w.stations → AreIdle w → HandTheFirst w setups
-        → ((n : ℕ) → n < length → stuffed_end (bus_levels w.stations (expected_bits w.stations (first_outset w)) n) ≡ None)
+        → ((n : ℕ) → n < length
+        → stuffed_end (bus_levels w.stations (expected_bits w.stations (first_outset w)) n) ≡ None)
         → i < w.stations.count
         → RestsBefore w.stations (first_outset w) i (finds_expected l w.stations (first_outset w) length i)
         (node_after (setups i) (finds_expected l w.stations (first_outset w) length i)) (rest_first w i) }
@@ -56,13 +57,15 @@ pub fn nodes_rest_before_a_first_frame()
 /// which it drives its start of frame, or finds the edge of another one's.
 pub fn nothing_passes_before_a_first_frame()
     ensures silent { (w : Waiting) (setups : ℕ → NodeSetup) → AreOnALine w.stations → AreIdle w → HandTheFirst w setups
-        → (i : ℕ) → i < w.stations.count → (setups i).segments ≡ w.stations.lengths i → (levels : ℕ → Level) (node : ℕ → History)
+        → (i : ℕ) → i < w.stations.count → (setups i).segments ≡ w.stations.lengths i
+        → (levels : ℕ → Level) (node : ℕ → History)
         → IsRun (setups i) levels node → ((q : ℕ) → q < (first_start w).from i → levels q ≡ Recessive)
         → (q : ℕ) → q ≤ suc (rest_first w i + sample_at (w.stations.lengths i))
         → ((node q).frames ≡ []) × (error_count (node q) ≡ 0) × (fault_count (node q) ≡ 0) }
     ensures line { (l : Line) (setups : ℕ → NodeSetup) (w : Waiting) (length i : ℕ) → IsLineOf l setups w.stations
         → AreStations w.stations → HaveRoom w.stations → AreIdle w → HandTheFirst w setups
-        → ((n : ℕ) → n < length → stuffed_end (bus_levels w.stations (expected_bits w.stations (first_outset w)) n) ≡ None)
+        → ((n : ℕ) → n < length
+        → stuffed_end (bus_levels w.stations (expected_bits w.stations (first_outset w)) n) ≡ None)
         → i < w.stations.count → (q : ℕ) → q ≤ suc (rest_first w i + sample_at (w.stations.lengths i))
         → ((node_after (setups i) (finds_expected l w.stations (first_outset w) length i) q).frames ≡ [])
         × (error_count (node_after (setups i) (finds_expected l w.stations (first_outset w) length i) q) ≡ 0)
@@ -106,7 +109,7 @@ pub fn the_first_frame_goes_as_expected()
     ensures room { (plan : Plan) (queues : ℕ → List Content) (s : Stations) → IsPlanOf plan s → plan.disturbances ≡ []
         → HaveWays s → HaveRoom s → HasFirstFrames plan queues s → GoesToItsCrc plan queues s }
     ensures sound { (plan : Plan) (queues : ℕ → List Content) (s : Stations) (bus : Bus) → IsPlanOf plan s
-        → plan.disturbances ≡ [] → IsBusOf bus s → IsLeftForTwo bus s → IsSound bus → HasFirstFrames plan queues s
+        → plan.disturbances ≡ [] → IsBusOf bus s → IsSound bus → HasFirstFrames plan queues s
         → GoesToItsCrc plan queues s }
 {
     wl_plan::checked_is_sound();

@@ -6,7 +6,7 @@ ghost use Rattle.wl_plan.specs.declared.plan.Plan.{Plan};
 ghost use Rattle.wl_bound.specs.Conditions.{IsSound};
 ghost use Rattle.wl_bound.specs.Families.{Bus};
 ghost use Rattle.wl_any_senders.specs.Answers.{HasRoomToAnswer};
-ghost use Rattle.wl_any_senders.specs.Bounds.{IsBusOf, IsLeftForTwo};
+ghost use Rattle.wl_any_senders.specs.Bounds.{IsBusOf};
 ghost use Rattle.wl_any_senders.specs.Plans.{IsPlanOf};
 ghost use Rattle.wl_any_senders.specs.Stations.{Stations};
 ghost use Rattle.wl_first_frame.specs.FirstFrames.{HasFirstFrames};
@@ -20,7 +20,7 @@ use crate::laws::a_plan_goes_to_the_end;
 /// least of the frames that are begun is sent and received by all others, and nobody finds an error, up to the third bit of the intermission.
 pub fn the_first_frame_gets_through()
     ensures { (plan : Plan) (queues : ℕ → List Content) (s : Stations) (bus : Bus) (chase : ℕ → ℕ) → IsPlanOf plan s
-        → plan.disturbances ≡ [] → IsBusOf bus s → IsLeftForTwo bus s → IsSound bus → HasRoomToAnswer bus chase
+        → plan.disturbances ≡ [] → IsBusOf bus s → IsSound bus → HasRoomToAnswer bus chase
         → HasFirstFrames plan queues s → FirstGetsThrough plan queues s }
 {
     wl_plan::checked_is_sound();

@@ -30,7 +30,7 @@ ghost use Rattle.wl_wire.specs.Wire.{Handed};
 ghost use Rattle.wl_bound.specs.Conditions.{IsSound};
 ghost use Rattle.wl_bound.specs.Families.{Bus};
 ghost use Rattle.wl_any_senders.specs.Answers.{HasRoomToAnswer};
-ghost use Rattle.wl_any_senders.specs.Bounds.{IsBusOf, IsLeftForTwo};
+ghost use Rattle.wl_any_senders.specs.Bounds.{IsBusOf};
 ghost use Rattle.wl_any_senders.specs.Plans.{IsPlanOf};
 ghost use Rattle.wl_frame_end.specs.Again.{HasRoomToRest, LeavesRoomToRest, RestsAgain, past_end};
 ghost use Rattle.wl_frame_end.specs.Lines.{LineEnds, LineRests, rests_until};
@@ -54,7 +54,8 @@ pub fn a_machine_ends_its_frame()
 /// Each other one has received it, and acknowledges.
 pub fn machines_answer_as_asked()
     ensures { (s : Stations) (o : Outset) (end : ℕ) → AreStations s → HaveRoom s → IsOutset s o
-        → EndsBefore s o end → (won : HasWon s (expected_bits s o) o.frames end) → EndAsAsked s o end won.station won.frame }
+        → EndsBefore s o end → (won : HasWon s (expected_bits s o) o.frames end)
+        → EndAsAsked s o end won.station won.frame }
 {
     wl_topology::driven_laws();
     wl_wire::laws::machines_stay_in_step();
@@ -71,12 +72,14 @@ pub fn what_is_expected_is_answered()
     ensures answered { (s : Stations) (o : Outset) (end : ℕ) (chase until : ℕ → ℕ) → AreStations s → HaveRoom s
         → IsOutset s o → EndsBefore s o end → (won : HasWon s (expected_bits s o) o.frames end)
         → CanBeAnswered s won.station chase
-        → IsAnsweredByAll s (chased_way s won.station chase) won.station (expected_bits s o end).place (expected_bits s o (suc end))
+        → IsAnsweredByAll s (chased_way s won.station chase) won.station (expected_bits s o end).place
+        (expected_bits s o (suc end))
         (expected_bits s o (suc (suc end))).from (expected_drove s o (end + 13)) until }
     ensures heard { (s : Stations) (o : Outset) (end : ℕ) (chase until : ℕ → ℕ) → AreStations s → HaveRoom s
         → IsOutset s o → EndsBefore s o end → (won : HasWon s (expected_bits s o) o.frames end)
         → CanBeAnswered s won.station chase
-        → IsAcknowledgedByAll s (chased_way s won.station chase) (expected_bits s o end).place (expected_bits s o (suc end))
+        → IsAcknowledgedByAll s (chased_way s won.station chase) (expected_bits s o end).place
+        (expected_bits s o (suc end))
         (expected_bits s o (suc (suc end))).from (expected_drove s o (end + 13)) until }
 {
     wl_topology::driven_laws();
@@ -95,7 +98,8 @@ pub fn bit_clocks_go_to_the_end()
         → CanBeAnswered s won.station chase
         → (place n i : ℕ) (seen : ℕ → Seen) → place ≤ 12 → end + place ≡ suc n → i < s.count
         → SeesEnd s o end i seen n → HasSampled s o i seen n
-        → BitIs (s.lengths i) seen (expected_sample s o n i) ((expected_bits s o (suc n)).place i) ((expected_bits s o (suc n)).from i)
+        → BitIs (s.lengths i) seen (expected_sample s o n i) ((expected_bits s o (suc n)).place i)
+        ((expected_bits s o (suc n)).from i)
         (level_of (bus_bit s (expected_bits s o) (suc n))) × HasSampled s o i seen (suc n) }
 {
     wl_topology::driven_laws();
@@ -234,7 +238,7 @@ pub fn a_bus_has_room_to_rest()
 /// one of them has won, and its frame is acknowledged and received by all others. With room for twelve bits' drift all rest afterwards.
 pub fn a_plan_goes_to_the_end()
     ensures ends { (plan : Plan) (s : Stations) (bus : Bus) (o : Outset) (rest chase : ℕ → ℕ) (end stop : ℕ)
-        → IsPlanOf plan s → plan.disturbances ≡ [] → IsBusOf bus s → IsLeftForTwo bus s → IsSound bus
+        → IsPlanOf plan s → plan.disturbances ≡ [] → IsBusOf bus s → IsSound bus
         → HasRoomToAnswer bus chase → IsOutset s o → EndsBefore s o end
         → ((i : ℕ) → i < s.count → BeginsAfter s o i (rest i))
         → ((i : ℕ) → i < s.count → RestsBefore s o i (finds_expected (line_of plan) s o end i)
@@ -243,7 +247,7 @@ pub fn a_plan_goes_to_the_end()
         → (won : HasWon s (expected_bits s o) o.frames end)
         × LineEnds (line_of plan) (setup_at plan) s o end won.station won.frame stop }
     ensures rests { (plan : Plan) (s : Stations) (bus : Bus) (o : Outset) (rest chase : ℕ → ℕ) (end : ℕ)
-        → IsPlanOf plan s → plan.disturbances ≡ [] → IsBusOf bus s → IsLeftForTwo bus s → IsSound bus
+        → IsPlanOf plan s → plan.disturbances ≡ [] → IsBusOf bus s → IsSound bus
         → HasRoomToAnswer bus chase → LeavesRoomToRest bus chase → IsOutset s o → EndsBefore s o end
         → ((i : ℕ) → i < s.count → BeginsAfter s o i (rest i))
         → ((i : ℕ) → i < s.count → RestsBefore s o i (finds_expected (line_of plan) s o end i)

@@ -1,6 +1,5 @@
 -- The nodes of a plan begin with its first frame, from their power-up on.
-use Rattle.std.proofs.Common.{◌≡◌, ◌∙◌, sym, ap, subst, ℕ, suc, ◌+◌, ◌<◌, ◌≤◌, None, arith}
-use Rattle.wl_level.specs.Levels.{level_of}
+use Rattle.std.proofs.Common.{◌≡◌, sym, ap, subst, ℕ, suc, ◌+◌, ◌<◌, ◌≤◌, None, arith}
 use Rattle.wl_segments.specs.Lengths.{sample_at}
 use Rattle.wl_machine.specs.Frames.{stuffed_end}
 use Rattle.wl_node.specs.declared.setup.NodeSetup.{NodeSetup}
@@ -10,14 +9,13 @@ use Rattle.wl_any_senders.specs.Expected.{Outset, expected_bits}
 use Rattle.wl_any_senders.specs.Lines.{BeginsAfter, IsLineOf, RestsBefore, finds_expected, node_after}
 use Rattle.wl_any_senders.specs.Machines.{bus_levels}
 use Rattle.wl_any_senders.specs.Stations.{AreOnALine, AreStations, HaveRoom, Stations}
-use Rattle.wl_any_senders.proofs.Callers.{finds_driven, finds_what_comes}
 use Rattle.wl_first_frame.specs.FirstStarts.{AreIdle, HandTheFirst, Waiting, first_outset, rest_first}
 use Rattle.wl_first_frame.proofs.Callers.{IsUntouched}
 use Rattle.wl_frame_end.proofs.Callers.{MachineLaws, levels_agree}
-use Rattle.wl_frames.specs.Frames.{FollowOneAnother, Frame, frames_drove}
+use Rattle.wl_frames.specs.Frames.{FollowOneAnother, Frame}
 use Rattle.wl_frames.specs.Lines.{BeginFrames, finds_frames}
 use Rattle.wl_frames.specs.Runs.{HandsBetween}
-use Rattle.wl_frames.proofs.Windows as windows
+use Rattle.wl_frames.proofs.LineResting.{finds_first}
 use Rattle.wl_frames.proofs.Windows.{IsHeard, NothingFound, RestAfter}
 
 -- the laws that this rests on
@@ -68,12 +66,6 @@ module _ (m : MachineLaws) (nothing : NothingFound) (is_heard : IsHeard) (rest_a
   begins : BeginsAfter s (fs 0).outset i (rest_first w i)
   begins = begins_first after w are.line idle (fs 0).outset first i inside
 
-  same : (q : ℕ) → q ≤ rest_first w i + sample_at (s.lengths i) → finds_frames l s fs count i q ≡ finds_expected l s (fs 0).outset (fs 0).bits i q
-  same q by =
-      finds_driven l setups s line (frames_drove s fs count) i q inside
-      ∙ ap level_of (windows.first_alone m nothing is_heard rest_after s are room fs count frames some i (rest_first w i) q inside begins by)
-      ∙ sym (finds_what_comes l setups s line (fs 0).outset (fs 0).bits i q inside)
-
   none_first : (q : ℕ) → q ≤ suc (rest_first w i + sample_at (s.lengths i)) → IsUntouched (node_after (setups i) (finds_expected l s (fs 0).outset (fs 0).bits i) q)
   none_first q by =
       subst (λ o. IsUntouched (node_after (setups i) (finds_expected l s o (fs 0).bits i) q)) (sym first)
@@ -83,4 +75,4 @@ module _ (m : MachineLaws) (nothing : NothingFound) (is_heard : IsHeard) (rest_a
   pub nothing_passed : (q : ℕ) → q ≤ suc (rest_first w i + sample_at (s.lengths i)) → IsUntouched (node_after (setups i) (finds_frames l s fs count i) q)
   nothing_passed q by =
       subst IsUntouched
-      (sym (ap (history_of (setups i)) (levels_agree (finds_frames l s fs count i) (finds_expected l s (fs 0).outset (fs 0).bits i) q (λ j less. same j (omega arith))))) (none_first q by)
+      (sym (ap (history_of (setups i)) (levels_agree (finds_frames l s fs count i) (finds_expected l s (fs 0).outset (fs 0).bits i) q (λ j less. finds_first m nothing is_heard rest_after l setups s line are room fs count frames some i (rest_first w i) j inside begins (omega arith))))) (none_first q by)

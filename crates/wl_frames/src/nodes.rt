@@ -31,7 +31,8 @@ pub fn a_node_waits_for_the_next_frame()
         → AreFreeNext r.stations.count r.frames before → (i : ℕ) → i < r.stations.count
         → (setup : NodeSetup) → setup.segments ≡ r.stations.lengths i → (levels : ℕ → Level) (node : ℕ → History)
         → IsRun setup levels node → (handed : Handed) → handed.mode ≡ Active → (since : ℕ) → since ≤ rested r i
-        → RestsAgain r.stations (before i ++ Sample (sampled Recessive (r.frames i) handed) ∷ []) i levels node (r.place i) since
+        → RestsAgain r.stations (before i ++ Sample (sampled Recessive (r.frames i) handed)
+        ∷ []) i levels node (r.place i) since
         → ((q : ℕ) → rested r i < q → q < (start_next r).from i → levels q ≡ Recessive)
         → HandsNext r i (slice_get (r.frames i) handed.which) (unsent_of setup (node (suc (rested r i))))
         → RestsAgain r.stations ((outset_next r before).past i) i levels node (rest_next r i) since

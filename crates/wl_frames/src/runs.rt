@@ -22,7 +22,8 @@ use crate::nodes::{a_node_goes_through_the_next_frame, a_node_waits_for_the_next
 /// that of the next. What reaches it then is what all drive in that frame alone.
 pub fn each_frame_is_found_alone()
     ensures { (s : Stations) (frames : ℕ → Frame) (count : ℕ) → AreStations s → HaveRoom s
-        → FollowOneAnother s frames count → (n i q : ℕ) → n < count → i < s.count → ((j : ℕ) → suc j ≡ n → third_sample s (frames j) i < q)
+        → FollowOneAnother s frames count → (n i q : ℕ) → n < count → i < s.count
+        → ((j : ℕ) → suc j ≡ n → third_sample s (frames j) i < q)
         → q ≤ third_sample s (frames n) i
         → driven s.count s.delay (frames_drove s frames count) i (steady_tick (s.clocks i) q)
         ≡ driven s.count s.delay (frame_drove s (frames n)) i (steady_tick (s.clocks i) q) }
@@ -43,7 +44,8 @@ pub fn each_frame_is_found_alone()
 /// finds no error. It sends the frame if it has won with it, and else receives it, and then it rests again.
 pub fn a_node_goes_from_frame_to_frame()
     ensures { (s : Stations) (frames : ℕ → Frame) (count : ℕ) → AreStations s → HaveRoom s
-        → (are : FollowOneAnother s frames count) → (i : ℕ) → i < s.count → (setup : NodeSetup) → setup.segments ≡ s.lengths i
+        → (are : FollowOneAnother s frames count) → (i : ℕ) → i < s.count → (setup : NodeSetup)
+        → setup.segments ≡ s.lengths i
         → (levels : ℕ → Level) (node : ℕ → History) → IsRun setup levels node
         → ((n q : ℕ) → n < count → q ≤ third_sample s (frames n) i
         → levels q ≡ level_of (driven s.count s.delay (frames_drove s frames count) i (steady_tick (s.clocks i) q)))

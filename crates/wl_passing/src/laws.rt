@@ -39,7 +39,8 @@ pub fn what_is_found_stays()
         → k ≤ m → (more : List Passed) × ((node m).frames ≡ (node k).frames ++ more) }
     ensures counters { (h : History) → fault_count h ≡ 0 → (error_count h ≡ 0) × (counters_of h ≡ no_counts) }
     ensures between { (setup : NodeSetup) (levels : ℕ → Level) (node : ℕ → History) (k q m : ℕ)
-        → IsRun setup levels node → k ≤ q → q ≤ m → fault_count (node m) ≡ fault_count (node k) → counters_of (node k) ≡ no_counts
+        → IsRun setup levels node → k ≤ q → q ≤ m → fault_count (node m) ≡ fault_count (node k)
+        → counters_of (node k) ≡ no_counts
         → (error_count (node q) ≡ error_count (node k)) × (counters_of (node q) ≡ no_counts) }
 {}
 
@@ -50,11 +51,14 @@ pub fn nothing_passes_a_waiting_node()
         → AreFreeNext r.stations.count r.frames before → (i : ℕ) → i < r.stations.count
         → (setup : NodeSetup) → setup.segments ≡ r.stations.lengths i → (levels : ℕ → Level) (node : ℕ → History)
         → IsRun setup levels node → (handed : Handed) → handed.mode ≡ Active → (since : ℕ) → since ≤ rested r i
-        → RestsAgain r.stations (before i ++ Sample (sampled Recessive (r.frames i) handed) ∷ []) i levels node (r.place i) since
+        → RestsAgain r.stations (before i ++ Sample (sampled Recessive (r.frames i) handed)
+        ∷ []) i levels node (r.place i) since
         → ((q : ℕ) → rested r i < q → q < (start_next r).from i → levels q ≡ Recessive)
         → HandsNext r i (slice_get (r.frames i) handed.which) (unsent_of setup (node (suc (rested r i))))
-        → (error_count (node (suc (rest_next r i + sample_at (r.stations.lengths i)))) ≡ error_count (node (suc (rested r i))))
-        × (fault_count (node (suc (rest_next r i + sample_at (r.stations.lengths i)))) ≡ fault_count (node (suc (rested r i)))) }
+        → (error_count (node (suc (rest_next r i + sample_at (r.stations.lengths i))))
+        ≡ error_count (node (suc (rested r i))))
+        × (fault_count (node (suc (rest_next r i + sample_at (r.stations.lengths i))))
+        ≡ fault_count (node (suc (rested r i)))) }
 {
     wl_any_senders::laws::a_station_begins_its_bits();
     wl_frames::laws::resting_stations_begin_the_next_frame();

@@ -43,7 +43,8 @@ pub fn the_winner_sends_its_next_frame()
         → (after : IsBegunAfter s a b)
         → slice_get (a.outset.frames is.won.station) (after.sent is.won.station) ≡ Some is.won.frame }
     ensures queued { (s : Stations) (setups : ℕ → NodeSetup) (frames : ℕ → Frame) (count : ℕ) → AreStations s
-        → HaveRoom s → (are : FollowOneAnother s frames count) → (by : ByQueues s setups frames count are) → (n : ℕ) → suc n < count
+        → HaveRoom s → (are : FollowOneAnother s frames count) → (by : ByQueues s setups frames count are) → (n : ℕ)
+        → suc n < count
         → slice_get (queued_contents (setups (by.winner (suc n))).queue) (won_by by.winner (by.winner (suc n)) (suc n))
         ≡ Some (by.content (suc n)) }
 {

@@ -12,10 +12,10 @@ returns-clause-room c = λ plan s o rest length end of calm ways room is some va
     (λ i inside. c.a_node_at_rest_begins_as_expected.ensures (line_of plan) (setup_at plan) s o length i (rest i) line are room is some valid inside (begin i inside) (rests i inside)) before)
 
 pub returns-clause-sound : goal.returns-clause-sound
-returns-clause-sound c = λ plan s bus o rest length end of calm bus_of left sound is some valid begin rests before.
+returns-clause-sound c = λ plan s bus o rest length end of calm bus_of sound is some valid begin rests before.
     (let on = c.a_plan_is_on_a_line.ensures plan s of in
     let are : AreStations s = record { line = on; ways = c.a_sound_bus_has_room.ensures.ways bus s on bus_of } in
-    let room = c.a_sound_bus_has_room.ensures.room bus s on bus_of left sound in
+    let room = c.a_sound_bus_has_room.ensures.room bus s on bus_of sound in
     let line = line_of_plan c.checked_is_sound.ensures plan s of calm in
     c.a_line_does_what_is_expected.ensures (line_of plan) (setup_at plan) s o length end line are room is some valid
     (λ i inside. c.a_node_at_rest_begins_as_expected.ensures (line_of plan) (setup_at plan) s o length i (rest i) line are room is some valid inside (begin i inside) (rests i inside)) before)

@@ -5,4 +5,4 @@ pub returns-clause-ways : goal.returns-clause-ways
 returns-clause-ways c = λ bus s line of. have_ways bus s line of
 
 pub returns-clause-room : goal.returns-clause-room
-returns-clause-room c = λ bus s line of left sound. has_room bus s line of left sound
+returns-clause-room c = λ bus s line of sound. has_room bus s line of sound

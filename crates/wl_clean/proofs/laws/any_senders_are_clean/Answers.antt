@@ -24,12 +24,11 @@ whole : goal.After-each_frame_ends_later → (plan : Plan) (s : Stations) (bus :
 whole c plan s bus chase of calm bus_of sound answer rest has =
     (let found = c.what_is_found_stays.ensures in
     let line = c.a_plan_is_on_a_line.ensures plan s of in
-    let left = c.two_alone_have_room.ensures bus s line bus_of sound in
     let are : AreStations s = record { line = line; ways = c.a_sound_bus_has_room.ensures.ways bus s line bus_of } in
-    let room = c.a_sound_bus_has_room.ensures.room bus s line bus_of left sound in
+    let room = c.a_sound_bus_has_room.ensures.room bus s line bus_of sound in
     let x = c.the_frames_of_a_plan.ensures plan s chase plan.end of are room (c.a_bus_has_room_for_all.ensures bus s chase line bus_of answer rest) has in
     let f = x.bus in
-    let sends = c.a_plan_sends_by_its_queues.ensures plan s bus f.frames f.count of calm bus_of left sound has f.are f.some f.first f.by in
+    let sends = c.a_plan_sends_by_its_queues.ensures plan s bus f.frames f.count of calm bus_of sound has f.are f.some f.first f.by in
     let ends : IsBeforeLast (line_of plan) s f.frames f.count (line_of plan).stop ⊎ EmptyAllQueues plan s f =
     elim x.ends [
       | inl all ↦ inl (record {
@@ -39,11 +38,11 @@ whole c plan s bus chase of calm bus_of sound answer rest has =
       | inr emptied ↦ inr emptied
     ] in
     let silent : EmptyAllQueues plan s f → LineFallsSilent (line_of plan) (setup_at plan) s f.frames f.count f.are (line_of plan).stop =
-    λ emptied. c.a_plan_rests_after_its_frames.ensures plan s bus f.frames f.count (line_of plan).stop of calm bus_of left sound f.are f.some sends.begins
+    λ emptied. c.a_plan_rests_after_its_frames.ensures plan s bus f.frames f.count (line_of plan).stop of calm bus_of sound f.are f.some sends.begins
     (all_sent found.faults found.frames found.counters c.each_frame_ends_later.ensures.grows plan s of are room f sends.passes emptied) (omega arith) in
     let goes : LineGoes (line_of plan) (setup_at plan) s f.frames f.count f.are (line_of plan).stop =
     elim ends [
-      | inl before ↦ c.a_plan_goes_from_frame_to_frame.ensures.goes plan s bus f.frames f.count (line_of plan).stop of calm bus_of left sound f.are f.some sends.begins before
+      | inl before ↦ c.a_plan_goes_from_frame_to_frame.ensures.goes plan s bus f.frames f.count (line_of plan).stop of calm bus_of sound f.are f.some sends.begins before
       | inr emptied ↦ (silent emptied).goes
     ] in
     through found.faults found.frames found.counters c.each_frame_ends_later.ensures.grows plan s of are room f sends.passes goes ends silent sends.order)

@@ -10,7 +10,7 @@ use Rattle.wl_sending.proofs.Planned.{line_sends}
 use Rattle.wl_sending.proofs.plans.a_plan_sends_by_its_queues.Goals as goal
 
 pub returns : goal.returns
-returns c = λ plan s bus frames count of calm bus_of left sound has all some first by.
+returns c = λ plan s bus frames count of calm bus_of sound has all some first by.
     (let m : MachineLaws = record {
       steps = c.machines_stay_in_step.ensures.step;
       errors = c.machines_stay_in_step.ensures.errors;
@@ -23,7 +23,7 @@ returns c = λ plan s bus frames count of calm bus_of left sound has all some fi
     } in
     let line = c.a_plan_is_on_a_line.ensures plan s of in
     let are : AreStations s = record { line = line; ways = c.a_sound_bus_has_room.ensures.ways bus s line bus_of } in
-    let room = c.a_sound_bus_has_room.ensures.room bus s line bus_of left sound in
+    let room = c.a_sound_bus_has_room.ensures.room bus s line bus_of sound in
     let on = line_of_plan c.checked_is_sound.ensures plan s of calm in
     line_sends m c.nothing_is_found_before_a_frame.ensures c.what_is_expected_is_answered.ensures.heard
     (λ s a b are room f next. c.stations_rest_after_a_frame.ensures.rest s a.outset a.bits f.chase next.sent next.decides are room f.outset f.ends f.won f.answer f.room next.more)
@@ -31,5 +31,5 @@ returns c = λ plan s bus frames count of calm bus_of left sound has all some fi
     c.the_winner_sends_its_next_frame.ensures.queued (line_of plan) (setup_at plan) (waiting_of plan (queues_of plan) s) on are room
     (c.a_plan_has_a_first_frame.ensures.idle plan (queues_of plan) s of has) (c.a_plan_has_a_first_frame.ensures.hands plan (queues_of plan) s of has.has.begin) (λ i. refl) frames count all some first by
     (λ i inside. (let x = c.nothing_passes_before_the_frames.ensures plan (queues_of plan) s bus frames count i (suc (rest_first (waiting_of plan (queues_of plan) s) i + sample_at (s.lengths i)))
-    of calm bus_of left sound has all some first inside (omega arith) in
+    of calm bus_of sound has all some first inside (omega arith) in
     (x.0, x.2))))
