@@ -12,3 +12,4 @@ pub mod Callers
 mod Passing
 mod Kept
 mod RunOver
+mod Skipping

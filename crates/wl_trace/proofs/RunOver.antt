@@ -6,7 +6,7 @@ use Rattle.wl_level.proofs.Callers.{snoc}
 use Rattle.wl_node.specs.declared.setup.NodeSetup.{NodeSetup}
 use Rattle.wl_trace.specs.declared.event.Noted.{Noted}
 use Rattle.wl_trace.specs.declared.rerun.Rerun.{Rerun}
-use Rattle.wl_trace.specs.Rerun.{IsRerun, RunsOver}
+use Rattle.wl_trace.specs.Rerun.{RunsAgain, RunsOver}
 use Rattle.wl_trace.specs.Synced.{syncs_of}
 
 -- so many more quanta have been seen
@@ -20,7 +20,7 @@ one_more levels level n = ap (λ (k : ℕ). levels ++ replicate k level) (add-on
 
 pub over_none : (setup : NodeSetup) (quantum : ℕ) (level : Level) (node : Rerun) (syncs : List Noted) → RunsOver setup quantum 0 level node node syncs syncs
 over_none setup quantum level node syncs = record {
-  run = λ levels n is. subst (λ more. IsRerun setup more node) (sym (append-nil levels)) is;
+  run = λ levels n is. subst (λ more. RunsAgain setup more node) (sym (append-nil levels)) is;
   syncs = λ levels n is e. e ∙ ap (syncs_of setup) (sym (append-nil levels));
 }
 
@@ -31,7 +31,7 @@ module _ (setup : NodeSetup) (quantum a b : ℕ) (level : Level) (old mid new : 
 
   pub over_more : RunsOver setup quantum (a + b) level old new first third
   over_more = record {
-    run = λ levels n is. subst (λ more. IsRerun setup more new) (together levels)
+    run = λ levels n is. subst (λ more. RunsAgain setup more new) (together levels)
         (right.run (levels ++ replicate a level) (longer levels level quantum a n) (left.run levels n is));
     syncs = λ levels n is e.
         right.syncs (levels ++ replicate a level) (longer levels level quantum a n) (left.run levels n is) (left.syncs levels n is e)

@@ -34,8 +34,16 @@ pub record IsRerun (setup : NodeSetup) (levels : List Level) (kept : Rerun) : Ty
   pub few : kept.controller.sent ≤ length levels
   pub fewer : kept.bits ≤ length levels
 
+-- the same, but that it may have begun any number of bits
+pub record RunsAgain (setup : NodeSetup) (levels : List Level) (kept : Rerun) : Type 0 where
+  pub starts : ℕ
+  pub clock : kept.clock ≡ clock_after setup.segments (history_of setup levels).seen
+  pub run : RunsTo kept (history_of setup levels) starts
+  pub few : kept.controller.sent ≤ length levels
+  pub fewer : kept.bits ≤ length levels
+
 -- From one node to another so many quanta of this level have run, of which the first has this number, and how their edges synchronised it was added to a list.
 pub record RunsOver (setup : NodeSetup) (quantum n : ℕ) (level : Level) (old new : Rerun) (before after : List Noted) : Type 0 where
-  pub run : (levels : List Level) → length levels ≡ quantum → IsRerun setup levels old → IsRerun setup (levels ++ replicate n level) new
-  pub syncs : (levels : List Level) → length levels ≡ quantum → IsRerun setup levels old → before ≡ syncs_of setup levels
+  pub run : (levels : List Level) → length levels ≡ quantum → RunsAgain setup levels old → RunsAgain setup (levels ++ replicate n level) new
+  pub syncs : (levels : List Level) → length levels ≡ quantum → RunsAgain setup levels old → before ≡ syncs_of setup levels
       → after ≡ syncs_of setup (levels ++ replicate n level)

@@ -4,7 +4,7 @@ ghost use Rattle.wl_level.specs.declared.Level.{Level};
 ghost use Rattle.wl_node.specs.declared.setup.NodeSetup.{NodeSetup};
 ghost use Rattle.wl_node.specs.History.{History, by_beat, history_of};
 ghost use Rattle.wl_trace.specs.Events.{noted};
-ghost use Rattle.wl_trace.specs.Rerun.{RunsOver, RunsTo, IsRerun, starts_with};
+ghost use Rattle.wl_trace.specs.Rerun.{IsRerun, RunsAgain, RunsOver, RunsTo, starts_with};
 ghost use Rattle.wl_trace.specs.Shown.{plain_quanta, shown_of};
 ghost use Rattle.wl_trace.specs.Synced.{sync_event, sync_next, syncs_of, with_next};
 
@@ -122,7 +122,9 @@ impl Rerun {
     pub fn quantum(&mut self, setup: &NodeSetup, quantum: u64, level: Level) -> Option<Noted>
         requires few { quantum < 2 ^ 64 - 1 }
         ensures sync { (levels : List Level) → length levels ≡ quantum
-            → IsRerun setup.now levels self.old → result ≡ sync_next setup.now (history_of setup.now levels) level }
+            → RunsAgain setup.now levels self.old → result ≡ sync_next setup.now (history_of setup.now levels) level }
+        ensures running { (levels : List Level) → length levels ≡ quantum
+            → RunsAgain setup.now levels self.old → RunsAgain setup.now (levels ++ level ∷ []) self.new }
         ensures run { (levels : List Level) → length levels ≡ quantum
             → IsRerun setup.now levels self.old → IsRerun setup.now (levels ++ level ∷ []) self.new }
     {
@@ -180,6 +182,24 @@ impl Rerun {
         quanta
     }
 
+    /// Goes over quanta of this level that don't sample and find no edge: all that come, but at most 24, and at most `most`. It stops before a
+    /// bit's start that changes what it drives. The mark of starts isn't kept. Returns how many they were.
+    fn skip(&mut self, level: Level, most: u64) -> u64
+        ensures running { (setup : NodeSetup) (levels : List Level) → RunsAgain setup levels self.old
+            → RunsAgain setup (levels ++ replicate result level) self.new }
+        ensures syncs { (setup : NodeSetup) (levels : List Level) → RunsAgain setup levels self.old
+            → syncs_of setup (levels ++ replicate result level) ≡ syncs_of setup levels }
+        ensures few { result ≤ most }
+    {
+        let settled = self.drive.is(self.controller.pending);
+        let free = self.clock.free_quanta(level, settled);
+        let quanta = most.min(free as u64);
+        if 0 < quanta {
+            self.clock.skip(level, quanta as u8);
+        }
+        quanta
+    }
+
     /// Runs this many quanta of this level, and adds how edges synchronise it to `syncs`. `quantum` is the number of the first, counted from
     /// 0; `setup` is what it was made of. Refused only if memory runs out.
     pub fn go(
@@ -201,8 +221,7 @@ impl Rerun {
         Ok(())
     }
 
-    /// Goes over the quanta of this level that neither sample nor begin a bit, and runs one more: at least one quantum, and at most `most`.
-    /// Returns how many.
+    /// Goes over the quanta of this level that sample nothing, and runs one more: at least one quantum, and at most `most`. Returns how many.
     fn leap(
         &mut self,
         setup: &NodeSetup,
@@ -218,7 +237,7 @@ impl Rerun {
         ensures some { IfOk result (λ n. 0 < n) }
         ensures few { IfOk result (λ n. n ≤ most) }
     {
-        let passed = self.pass(level, most);
+        let passed = self.skip(level, most);
         if passed == most {
             return Ok(passed);
         }

@@ -1,5 +1,5 @@
 -- From one change of the line to the next, up to the end.
-use Rattle.std.proofs.Common.{◌≡◌, ◌∙◌, ◌+◌, ◌-◌, ◌<◌, ◌≤◌, ◌++◌, ap, sym, subst, arith, inl, inr, ℕ, List, replicate}
+use Rattle.std.proofs.Common.{◌≡◌, ◌∙◌, ◌+◌, ◌-◌, ◌<◌, ◌≤◌, ◌++◌, [], ap, sym, subst, arith, inl, inr, ℕ, List, length, replicate}
 use Rattle.std.proofs.lemmas.Bool.{cases_lt}
 use Rattle.wl_level.specs.declared.Level.{Level}
 use Rattle.wl_clock.specs.Timing.{tick_of}
@@ -8,7 +8,8 @@ use Rattle.wl_plan.specs.declared.plan.Plan.{Plan}
 use Rattle.wl_plan.specs.PlanLine.{line_of, setup_at}
 use Rattle.wl_plan.specs.Simulation.{seen}
 use Rattle.wl_serial.specs.declared.pulse.Pulse.{Pulse}
-use Rattle.wl_trace.specs.Rerun.{IsRerun, RunsOver}
+use Rattle.wl_trace.specs.Rerun.{RunsAgain, RunsOver}
+use Rattle.wl_trace.specs.Starts.{starts_of}
 use Rattle.wl_trace.specs.Synced.{syncs_of}
 use Rattle.wl_trace.proofs.Callers.{syncs_first}
 use Rattle.wl_views.proofs.Going.{clock_later, same_seen, setup_is}
@@ -23,9 +24,10 @@ loop-t-init c =
     c.index-as_slice-i.is ∙ setup_is c.args.plan.now c.as_slice.result.now c.args.i c.index-as_slice-i.result
     (c.as_slice.ensures ∙ ap (λ (p : Plan). p.nodes) c.deref.ensures.0) c.requires.node
     in
+    let was = c.new-node.ensures (setup_at c.args.plan.now c.args.i) (ap (λ (s : NodeSetup). s.segments) (sym setup)) in
     record {
       remembers = c.new-line.ensures c.args.plan.now c.args.i;
-      node = c.new-node.ensures (setup_at c.args.plan.now c.args.i) (ap (λ (s : NodeSetup). s.segments) (sym setup));
+      node = record { starts = length (starts_of (setup_at c.args.plan.now c.args.i) []); clock = was.clock; run = was.run; few = was.few; fewer = was.fewer };
       syncs = c.new-syncs.ensures.items ∙ sym (syncs_first (setup_at c.args.plan.now c.args.i));
       before = λ q below. absurd (omega arith);
       next = omega arith;
@@ -95,7 +97,7 @@ loop-t-preserved c =
     let later = line.later in
     record {
       remembers = remembers_on plan i t until c.hear.new.self c.hear.ensures (omega (arith, c.min-until.ensures, c.loop-t-test.true));
-      node = subst (λ (ls : List Level). IsRerun (setup_at plan i) ls c.go.new.self) saw (placed.run levels long inv.node);
+      node = subst (λ (ls : List Level). RunsAgain (setup_at plan i) ls c.go.new.self) saw (placed.run levels long inv.node);
       syncs = placed.syncs levels long inv.node inv.syncs ∙ ap (syncs_of (setup_at plan i)) saw;
       before = early;
       next = reached;

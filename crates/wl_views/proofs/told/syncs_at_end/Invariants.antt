@@ -2,7 +2,7 @@ use Rattle.std.proofs.Common.{◌≡◌, ◌-◌, ◌<◌, ◌≤◌, ℕ}
 use Rattle.wl_clock.specs.Timing.{tick_of}
 use Rattle.wl_plan.specs.PlanLine.{line_of, setup_at}
 use Rattle.wl_plan.specs.Simulation.{seen}
-use Rattle.wl_trace.specs.Rerun.{IsRerun}
+use Rattle.wl_trace.specs.Rerun.{RunsAgain}
 use Rattle.wl_trace.specs.Synced.{syncs_of}
 use Rattle.wl_views.specs.Held.{Remembers}
 use Rattle.wl_views.proofs.told.syncs_at_end.Given as goal
@@ -11,7 +11,7 @@ use Rattle.wl_views.proofs.told.syncs_at_end.Given as goal
 abbrev pub invariant-loop-t : goal.invariant-loop-t
 invariant-loop-t l = record {
   remembers : Remembers l.plan l.i l.t l.line;
-  node : IsRerun (setup_at l.plan l.i) (seen (line_of l.plan) l.i l.quanta) l.node;
+  node : RunsAgain (setup_at l.plan l.i) (seen (line_of l.plan) l.i l.quanta) l.node;
   syncs : l.syncs.items ≡ syncs_of (setup_at l.plan l.i) (seen (line_of l.plan) l.i l.quanta);
   before : (q : ℕ) → q < l.quanta → tick_of (setup_at l.plan l.i).clock q < l.t;
   next : l.t ≤ tick_of (setup_at l.plan l.i).clock l.quanta;

@@ -9,7 +9,8 @@ use Rattle.wl_trace.specs.Replay.{IsController, SampledPast}
 use Rattle.wl_trace.specs.Rerun.{IsRerun}
 use Rattle.wl_trace.specs.Shown.{mark, shown_of}
 use Rattle.wl_trace.specs.Synced.{syncs_of}
-use Rattle.wl_trace.proofs.Passing.{all_passed, all_unmoved, shown_same}
+use Rattle.wl_trace.proofs.Passing.{all_passed, plain_skippable, shown_same}
+use Rattle.wl_trace.proofs.Skipping.{none_synced}
 use Rattle.wl_trace.proofs.rerun.Rerun.pass.Goals as goal
 
 pub returns-then-quanta-gt0-clause-run : goal.returns-then-quanta-gt0-clause-run
@@ -25,12 +26,12 @@ returns-then-quanta-gt0-clause-run c setup levels r =
     let sent = r.few in
     let bits = r.fewer in
     record {
-      clock = c.skip.ensures.clock setup.segments h.seen r.clock x refl ∙ ap (clock_after setup.segments) (sym is.seen);
+      clock = c.skip.ensures.clock setup.segments h.seen r.clock x refl ∙ ap (clock_after setup.segments) (sym is.same.seen);
       run = record {
-        controller = subst (IsController c.args.self.now.controller) (sym is.past) r.run.controller;
-        drive = r.run.drive ∙ sym is.drive;
-        bits = r.run.bits ∙ ap (λ (p : SampledPast). length p.samples) (sym is.past);
-        sampled = r.run.sampled ∙ ap (λ (p : SampledPast). mark (length p.samples)) (sym is.past);
+        controller = subst (IsController c.args.self.now.controller) (sym is.same.past) r.run.controller;
+        drive = r.run.drive ∙ sym is.same.drive;
+        bits = r.run.bits ∙ ap (λ (p : SampledPast). length p.samples) (sym is.same.past);
+        sampled = r.run.sampled ∙ ap (λ (p : SampledPast). mark (length p.samples)) (sym is.same.past);
         started = r.run.started ∙ ap (λ (qs : List ℕ). mark (length qs)) (sym is.starts);
       };
       few = omega arith;
@@ -64,7 +65,7 @@ returns-then-quanta-gt0-clause-syncs c setup levels r =
     let h : History = history_of setup levels in
     let few : n ≤ free_quanta false c.args.self.now.clock level = omega (arith, c.min-quanta.ensures, c.free_quanta-free.ensures) in
     let plain : IsPlain setup.segments h.seen (seen_next h level) n = c.skip.ensures.plain few setup.segments h.seen r.clock (seen_next h level) refl in
-    all_unmoved setup levels level n n (omega arith) plain (c.skip.ensures.unmoved setup.segments h.seen r.clock (seen_next h level) refl)
+    none_synced setup levels level n n (omega arith) (plain_skippable setup h level n plain) (c.skip.ensures.unmoved setup.segments h.seen r.clock (seen_next h level) refl)
 
 pub returns-else-quanta-gt0-clause-syncs : goal.returns-else-quanta-gt0-clause-syncs
 returns-else-quanta-gt0-clause-syncs c setup levels r =

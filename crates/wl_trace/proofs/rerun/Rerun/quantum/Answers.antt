@@ -24,8 +24,8 @@ counted before quantum beats.Start = length-append before (quantum ∷ []) ∙ (
 counted before quantum beats.Plain = ap length (append-nil before)
 counted before quantum (beats.Sample _) = ap length (append-nil before)
 
-pub returns-clause-run : goal.returns-clause-run
-returns-clause-run c levels n r =
+pub returns-clause-running : goal.returns-clause-running
+returns-clause-running c levels n r =
     let setup : NodeSetup = c.args.setup.now in
     let level : Level = c.args.level in
     let h : History = history_of setup levels in
@@ -39,23 +39,38 @@ returns-clause-run c levels n r =
     let bits = r.fewer in
     let few = c.requires.few in
     let size = length-append levels (level ∷ []) in
-    let begun : starts_with (beat_of setup.segments h.seen x) (length (starts_of setup levels)) ≡ length (starts_of setup (levels ++ level ∷ [])) =
-    sym (counted (starts_of setup levels) (length h.seen) (beat_of setup.segments h.seen x)) ∙ ap (λ (qs : List ℕ). length qs) (sym (starts_more setup levels level)) in
-    let ran : RunsTo c.obey.new.self (by_beat setup h level c.step-beat.result.0) (starts_with c.step-beat.result.0 (length (starts_of setup levels))) =
-    c.obey.ensures.run h (length (starts_of setup levels)) (sym n ∙ long) (omega arith) (omega arith) (record { controller = r.run.controller; drive = r.run.drive; bits = r.run.bits; sampled = r.run.sampled; started = r.run.started }) in
-    let so = subst (λ (b : Beat). RunsTo c.obey.new.self (by_beat setup h level b) (starts_with b (length (starts_of setup levels)))) beat ran in
-    let after : RunsTo c.obey.new.self (history_after setup h level) (starts_with (beat_of setup.segments h.seen x) (length (starts_of setup levels))) =
+    let ran : RunsTo c.obey.new.self (by_beat setup h level c.step-beat.result.0) (starts_with c.step-beat.result.0 r.starts) =
+    c.obey.ensures.run h r.starts (sym n ∙ long) (omega arith) (omega arith) (record { controller = r.run.controller; drive = r.run.drive; bits = r.run.bits; sampled = r.run.sampled; started = r.run.started }) in
+    let so = subst (λ (b : Beat). RunsTo c.obey.new.self (by_beat setup h level b) (starts_with b r.starts)) beat ran in
+    let after : RunsTo c.obey.new.self (history_after setup h level) (starts_with (beat_of setup.segments h.seen x) r.starts) =
     record { controller = so.controller; drive = so.drive; bits = so.bits; sampled = so.sampled; started = so.started } in
     record {
+      starts = starts_with (beat_of setup.segments h.seen x) r.starts;
       clock =
           c.obey.ensures.clock ∙ c.step-beat.ensures.clock setup.segments h.seen r.clock
           ∙ ap (λ (y : Seen). clock_after setup.segments (h.seen ++ y ∷ [])) e
           ∙ ap (λ (g : History). clock_after setup.segments g.seen) (sym (history_more setup levels level));
-      run =
-          subst (λ (k : ℕ). RunsTo c.obey.new.self (history_of setup (levels ++ level ∷ [])) k) begun
-          (subst (λ (g : History). RunsTo c.obey.new.self g (starts_with (beat_of setup.segments h.seen x) (length (starts_of setup levels)))) (sym (history_more setup levels level)) after);
+      run = subst (λ (g : History). RunsTo c.obey.new.self g (starts_with (beat_of setup.segments h.seen x) r.starts)) (sym (history_more setup levels level)) after;
       few = omega (arith, c.obey.ensures.sent);
       fewer = omega (arith, c.obey.ensures.bits);
+    }
+
+-- where the starts are those of the levels, so they are one quantum later
+pub returns-clause-run : goal.returns-clause-run
+unfolding history_of returns-clause-running
+returns-clause-run c levels n r =
+    let setup : NodeSetup = c.args.setup.now in
+    let level : Level = c.args.level in
+    let h : History = history_of setup levels in
+    let x : Seen = seen_next h level in
+    let on = returns-clause-running c levels n (record { starts = length (starts_of setup levels); clock = r.clock; run = r.run; few = r.few; fewer = r.fewer }) in
+    let begun : starts_with (beat_of setup.segments h.seen x) (length (starts_of setup levels)) ≡ length (starts_of setup (levels ++ level ∷ [])) =
+    sym (counted (starts_of setup levels) (length h.seen) (beat_of setup.segments h.seen x)) ∙ ap (λ (qs : List ℕ). length qs) (sym (starts_more setup levels level)) in
+    record {
+      clock = on.clock;
+      run = subst (λ (k : ℕ). RunsTo c.obey.new.self (history_of setup (levels ++ level ∷ [])) k) begun on.run;
+      few = on.few;
+      fewer = on.fewer;
     }
 
 pub returns-clause-sync : goal.returns-clause-sync
