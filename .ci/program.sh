@@ -96,6 +96,7 @@ a node that begins after a frame|s/^offset = 777/offset = 500_000/;/0x3E8/d
 an end that comes too early|s/^end = .*/end = 300_000/
 remote frames|s/dlc = 8, bytes = \[[^]]*\]/dlc = 3, remote = true/;s/id = 0x3E8, dlc = 2, bytes = \[[^]]*\]/id = 0x1ABCDEF0, extended = true, dlc = 15, remote = true/
 codes above 8|s/dlc = 8/dlc = 15/;s/dlc = 2, bytes = \[[^]]*\]/dlc = 0, remote = true/
+the latest end that a plan may have|s/^end = .*/end = 68_719_476_736/;s/^quantum = 125/quantum = 1_048_576/;s/^ppm = .*/ppm = 0/
 a CRC error|s/^version = 1/version = 3/;$a \\n[[disturbance]]\nnode = "gateway"\nfrom = 206_000\nto = 208_000
 PLANS
 

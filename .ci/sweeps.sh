@@ -65,6 +65,11 @@ is 'the first that is refused' grep -q '^first refused: member 2, sjw = 5: refus
 cp "$room/pair" "$room/three" && sed -n "/'b'/,\$p" "$room/pair" | sed "1s/.*/[[node]]\nname = 'c'/;s/^offset = 0/offset = 350_000/" >> "$room/three"
 swept 'a node that begins late' "$room/three" 1 'clean in 0 of 1\nall 1 members were run\n' '' --keep-offsets && \
   is 'and misses a frame' grep -qx "first that isn't: member 0: a node has not received every frame" "$room/out"
+# As many rows as there may be, and more members than are counted: 2^128 - 1 is the most
+swept 'ten thousand rows' "$room/pair" 0 'end 400000 clean in 1 of 1\n' '' --vary end=400000..409999:1 --keep-offsets --keep-ppm && \
+  is 'all of them' [ "$(sed -n 10001p "$room/out")" = 'clean in 10000 of 10000' ]
+most=340282366920938463463374607431768211455
+swept 'too many members to count' examples/sixteen_nodes.toml 0 "clean in 1 of 1\n1 of at least $most members were run, drawn by seed 1\n" '' --runs 1 --step 1
 # What tests the clocks
 swept 'a payload without edges' "$room/pair" 0 'clean in 1 of 1\n' '' --keep-offsets
 swept 'the worst payload' "$room/pair" 0 'clean in 1 of 1\n' '' --keep-offsets --worst
@@ -181,6 +186,10 @@ is 'a cell of a map' cmp -s <(awk '/^cell / { n++; next } n == 5' "$room/map" | 
 sed "s/'a'/'-a'/" "$room/pair" > "$room/dash"
 swept 'a name that begins with a dash' "$room/dash" 0 '-a.x 0 clean in 1 of 1\n-a.x 5 clean in 1 of 1\nclean in 2 of 2\n' - --vary=-a.x=0..5:5 --keep-offsets
 is 'the words of a map' grep -qF '"--vary=" + quoted(`${name}=${value}..${value}`)' "$room/map"
+# A greater one, some of whose values are below 0
+"$program" sweep --keep-offsets --keep-ppm --vary b.ppm=-50..50:1 --vary x=0..1:1 --page "$room/pair" > "$room/map" 2> "$room/err"
+is 'cells of a greater map' [ "$(grep -c '^cell \|"cells" hidden>cell ' "$room/map")" = 202 -a ! -s "$room/err" ]
+is 'its first axis' grep -q '^axis b.ppm -50 -49 -48 ' "$room/map"
 # Progress goes to standard error from the first second on, and changes no output
 "$program" sweep --workers 1 --runs 1500 examples/sixteen_nodes.toml > "$room/without"
 "$program" sweep --workers 1 --runs 1500 --progress examples/sixteen_nodes.toml > "$room/out" 2> "$room/err"
