@@ -67,7 +67,8 @@ for report in examples/*.report; do
   runs "margin of $name" "examples/$name.toml" 0 "$room/beyond" "$room/none" margin
 done
 
-# Plans as no example is: outside of the condition for margins, a node that misses a frame, remote frames, codes above 8, a CRC error.
+# Plans as no example is: outside of the condition for margins, a node that misses a frame, remote frames, codes above 8, a CRC error, long queues,
+# and the latest end: a view that went tick by tick would take years.
 while IFS='|' read -r name edit; do
   sed -E "$edit" examples/clean_500k.toml > "$room/odd.toml"
   for word in run explain trace vcd; do
@@ -97,6 +98,7 @@ an end that comes too early|s/^end = .*/end = 300_000/
 remote frames|s/dlc = 8, bytes = \[[^]]*\]/dlc = 3, remote = true/;s/id = 0x3E8, dlc = 2, bytes = \[[^]]*\]/id = 0x1ABCDEF0, extended = true, dlc = 15, remote = true/
 codes above 8|s/dlc = 8/dlc = 15/;s/dlc = 2, bytes = \[[^]]*\]/dlc = 0, remote = true/
 the latest end that a plan may have|s/^end = .*/end = 68_719_476_736/;s/^quantum = 125/quantum = 1_048_576/;s/^ppm = .*/ppm = 0/
+queues of 270 frames|s/^version = 1/version = 3/;s/ready = 480/ready = 480, every = 16/
 a CRC error|s/^version = 1/version = 3/;$a \\n[[disturbance]]\nnode = "gateway"\nfrom = 206_000\nto = 208_000
 PLANS
 
