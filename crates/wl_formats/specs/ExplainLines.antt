@@ -30,6 +30,7 @@ failing_forms =
     failing_form (codes "bit_is_there_at_sample") (codes "one") (late_parts one) ∷
     failing_form (codes "bit_is_there_at_sample") (codes "one") (back_parts one) ∷
     failing_form (codes "no_bit_too_early") (codes "one") (early_parts one) ∷
+    failing_form (codes "drift_fits_jump") (codes "any") (behind_parts any) ∷
     failing_form (codes "bit_is_there_at_sample") (codes "any") (late_parts any) ∷
     failing_form (codes "no_bit_too_early") (codes "any") (early_parts any) ∷ [])
 
@@ -37,30 +38,30 @@ abbrev pub other_doubt_forms : List Form
 other_doubt_forms =
     doubt_form (codes "no_bound") (literal (codes "doubt: no bound is known: ") ∷ field (codes "reason") Rest ∷ []) ∷
     doubt_form (codes "unlike_rates") (literal (codes "doubt: ") ∷ field (codes "name") Word ∷ literal (codes " and ") ∷
-        field (codes "other_name") Word ∷ literal (codes " have unlike bit rates, ") ∷
-        field (codes "rate_kbit_s") Number ∷ literal (codes " and ") ∷ field (codes "other_rate_kbit_s") Number ∷
-        literal (codes " kbit/s") ∷ []) ∷
+    field (codes "other_name") Word ∷ literal (codes " have unlike bit rates, ") ∷
+    field (codes "rate_kbit_s") Number ∷ literal (codes " and ") ∷ field (codes "other_rate_kbit_s") Number ∷
+    literal (codes " kbit/s") ∷ []) ∷
     doubt_form (codes "clocks_apart") (literal (codes "doubt: the clocks of ") ∷ field (codes "name") Word ∷
-        literal (codes " and ") ∷ field (codes "other_name") Word ∷ literal (codes " are ") ∷
-        field (codes "taken_ppm") Number ∷ literal (codes " ppm apart, and their segments bear ") ∷
-        field (codes "available_ppm") Number ∷ []) ∷
+    literal (codes " and ") ∷ field (codes "other_name") Word ∷ literal (codes " are ") ∷
+    field (codes "taken_ppm") Number ∷ literal (codes " ppm apart, and their segments bear ") ∷
+    field (codes "available_ppm") Number ∷ []) ∷
     doubt_form (codes "round_trip") (literal (codes "doubt: ") ∷ field (codes "name") Word ∷ literal (codes " to ") ∷
-        field (codes "other_name") Word ∷ literal (codes " and back takes ") ∷ field (codes "taken_ticks") Number ∷
-        literal (codes " ticks, and the earlier sample leaves ") ∷ field (codes "available_ticks") Number ∷ []) ∷
+    field (codes "other_name") Word ∷ literal (codes " and back takes ") ∷ field (codes "taken_ticks") Number ∷
+    literal (codes " ticks, and the earlier sample leaves ") ∷ field (codes "available_ticks") Number ∷ []) ∷
     doubt_form (codes "clock_beyond_tolerance") (literal (codes "doubt: the clock of ") ∷ field (codes "name") Word ∷
-        literal (codes " deviates by more than its tolerance of ") ∷ field (codes "tolerance_ppm") Number ∷
-        literal (codes " ppm") ∷ []) ∷
+    literal (codes " deviates by more than its tolerance of ") ∷ field (codes "tolerance_ppm") Number ∷
+    literal (codes " ppm") ∷ []) ∷
     doubt_form (codes "jump_above_phase_seg2") (literal (codes "doubt: ") ∷ field (codes "name") Word ∷
-        literal (codes " has a jump width of ") ∷ field (codes "jump_quanta") Number ∷
-        literal (codes " quanta, above its PHASE_SEG2 of ") ∷ field (codes "phase_seg2_quanta") Number ∷ []) ∷
+    literal (codes " has a jump width of ") ∷ field (codes "jump_quanta") Number ∷
+    literal (codes " quanta, above its PHASE_SEG2 of ") ∷ field (codes "phase_seg2_quanta") Number ∷ []) ∷
     doubt_form (codes "ready_too_late") (literal (codes "doubt: frame ") ∷ field (codes "frame") Number ∷
-        literal (codes " of ") ∷ field (codes "name") Word ∷ literal (codes " becomes ready at the end or later") ∷ []) ∷
+    literal (codes " of ") ∷ field (codes "name") Word ∷ literal (codes " becomes ready at the end or later") ∷ []) ∷
     doubt_form (codes "ready_too_early") (literal (codes "doubt: frame ") ∷ field (codes "frame") Number ∷
-        literal (codes " of ") ∷ field (codes "name") Word ∷ literal (codes " becomes ready before tick ") ∷
-        field (codes "idle_tick") Number ∷ literal (codes ", from which on all nodes can be idle") ∷ []) ∷
+    literal (codes " of ") ∷ field (codes "name") Word ∷ literal (codes " becomes ready before tick ") ∷
+    field (codes "idle_tick") Number ∷ literal (codes ", from which on all nodes can be idle") ∷ []) ∷
     doubt_form (codes "no_room") (literal (codes "doubt: 11 bits and the frames of ") ∷ field (codes "name") Word ∷
-        literal (codes " take at least ") ∷ field (codes "needed_bits") Number ∷
-        literal (codes " bits, beyond the end") ∷ []) ∷
+    literal (codes " take at least ") ∷ field (codes "needed_bits") Number ∷
+    literal (codes " bits, beyond the end") ∷ []) ∷
     doubt_form (codes "other") (literal (codes "doubt: ") ∷ field (codes "reason") Rest ∷ []) ∷
     []
 
@@ -84,11 +85,15 @@ node_forms =
     node_form (given (codes "cable_ns") Measure (codes "-") ∷ given (codes "cable_m") Measure (codes "-") ∷ literal (codes "none") ∷ []) ∷
     node_form (field (codes "cable_ns") Number ∷ literal (codes " ns, ") ∷ field (codes "cable_m") Number ∷ literal (codes " m at 5 ns a metre") ∷ []) ∷ []
 
-abbrev pub explain_forms : List Form
-explain_forms =
-    failing_forms ++ (other_doubt_forms ++ (node_forms ++ (growing_forms ++ (
-    a_form (codes "wrong") (literal (codes "wrong: ") ∷ field (codes "wrong") Rest ∷ []) ∷
-    a_form (codes "change") (literal (codes "change: ") ∷ field (codes "change") Rest ∷ []) ∷ []))))
+-- a doubt, first an inequality that fails
+abbrev pub doubt_forms : List Form
+doubt_forms = failing_forms ++ other_doubt_forms
+
+-- the other lines
+abbrev pub figure_forms : List Form
+figure_forms =
+    node_forms ++ (growing_forms ++ (a_form (codes "wrong") (literal (codes "wrong: ") ∷ field (codes "wrong") Rest ∷ []) ∷
+    a_form (codes "change") (literal (codes "change: ") ∷ field (codes "change") Rest ∷ []) ∷ []))
 
 abbrev pub explain_layout : Layout
-explain_layout = record { command = codes "explain"; columns = explain_columns; forms = explain_forms }
+explain_layout = record { command = codes "explain"; columns = explain_columns; forms = doubt_forms ++ figure_forms }

@@ -1,5 +1,5 @@
 -- The shapes of lines, as what they hold (this project's profile).
-use Rattle.std.specs.Prelude.{ℕ, List, map}
+use Rattle.std.specs.Prelude.{ℕ, List, ◌++◌, map}
 use Rattle.wl_formats.specs.declared.shape.Class.{Class}
 use Rattle.wl_formats.specs.declared.shape.Piece.{Piece}
 use Rattle.wl_formats.specs.declared.shape.Piece.TheVariants.{Fixed, Field, Passed, Given}
@@ -37,4 +37,4 @@ abbrev pub form_of : Shape → Form
 form_of s = record { kind = s.kind.now; parts = map part_of s.pieces.now }
 
 abbrev pub layout_of : Table → Layout
-layout_of t = record { command = t.command.now; columns = map (λ c. c.now) t.columns.now; forms = map form_of t.shapes.now }
+layout_of t = record { command = t.command.now; columns = map (λ c. c.now) t.columns.now; forms = map form_of t.shapes.now ++ map form_of t.more.now }

@@ -28,14 +28,14 @@ trace_layout = record {
       event_form (codes "hard_synchronisation") (literal (codes " sync hard") ∷ []) ∷
       event_form (codes "resynchronisation") (literal (codes " sync ") ∷ field (codes "phase_error_quanta") Number ∷ []) ∷
       event_form (codes "lost") (literal (codes " lost in ") ∷ field (codes "field") Word ∷ literal (codes " ") ∷
-          field (codes "field_bit") Number ∷ []) ∷
+      field (codes "field_bit") Number ∷ []) ∷
       event_form (codes "error") (literal (codes " error ") ∷ field (codes "error") Word ∷ literal (codes " ") ∷
-          field (codes "role") Word ∷ literal (codes " ") ∷ field (codes "place") Word ∷ literal (codes " ") ∷
-          field (codes "field") Word ∷ literal (codes " ") ∷ field (codes "field_bit") Number ∷ []) ∷
+      field (codes "role") Word ∷ literal (codes " ") ∷ field (codes "place") Word ∷ literal (codes " ") ∷
+      field (codes "field") Word ∷ literal (codes " ") ∷ field (codes "field_bit") Number ∷ []) ∷
       event_form (codes "flag") (literal (codes " flag ") ∷ field (codes "flag") Word ∷ []) ∷
       frame_form (codes "sent") (codes " sent ") ∷
       frame_form (codes "received") (codes " received ") ∷
       event_form (codes "mode") (literal (codes " mode ") ∷ field (codes "mode") Word ∷ literal (codes " tec ") ∷
-          field (codes "tec") Number ∷ literal (codes " rec ") ∷ field (codes "rec") Number ∷ []) ∷
+      field (codes "tec") Number ∷ literal (codes " rec ") ∷ field (codes "rec") Number ∷ []) ∷
       [];
 }

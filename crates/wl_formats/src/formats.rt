@@ -9,7 +9,7 @@ ghost use Rattle.wl_formats.specs.declared.fault.FormatFault.TheVariants as Form
 use crate::csv::{push_header, push_row};
 use crate::fault::FormatFault;
 use crate::json::{push_quoted, push_record};
-use crate::matching::shape_for;
+use crate::matching::shape_of;
 use crate::shape::{Shape, Table};
 use crate::tables::{Subject, table_of};
 use std::alloc::{AllocError, Global};
@@ -100,7 +100,7 @@ fn push_line(
     ensures fault { IfErr result (λ fault. fault ≢ FormatFault.Memory
         → is_some (form_for (layout_of table.now).forms line.now) ≡ false) }
 {
-    match shape_for(table.shapes, line) {
+    match shape_of(table, line) {
         Some(shape) => {
             push_shape(text, format, table, is_first, shape, line)?;
             Ok(())

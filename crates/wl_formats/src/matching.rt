@@ -1,10 +1,10 @@
 //! Which lines a shape fits.
 ghost use Rattle.std.specs.Prelude.{◌≡◌, ◌≤◌, ◌<◌, IfSome, map, length, option_map};
-ghost use Rattle.wl_formats.specs.Shapes.{part_of, form_of};
+ghost use Rattle.wl_formats.specs.Shapes.{part_of, form_of, layout_of};
 ghost use Rattle.wl_formats.specs.Matching.{takes, stop_in, width, is_value, holds, fits, form_for};
 
 use crate::number::{is_dash, is_number};
-use crate::shape::{Class, Piece, Shape};
+use crate::shape::{Class, Piece, Shape, Table};
 
 /// True if a value of this class may have this byte.
 fn takes(class: Class, byte: u8) -> bool
@@ -95,4 +95,14 @@ pub(crate) fn shape_for<'a>(shapes: &'a [Shape], line: &[u8]) -> Option<&'a Shap
         }
     }
     None
+}
+
+/// Returns the first shape of a table that a line fits.
+pub(crate) fn shape_of(table: &Table, line: &[u8]) -> Option<&'static Shape>
+    ensures { option_map (λ s. form_of s.now) result ≡ form_for (layout_of table.now).forms line.now }
+{
+    match shape_for(table.shapes, line) {
+        Some(shape) => Some(shape),
+        None => shape_for(table.more, line),
+    }
 }

@@ -48,4 +48,6 @@ pub struct Table {
     /// The names of all fields, in the order of the columns.
     pub columns: &'static [&'static str],
     pub shapes: &'static [Shape],
+    /// The shapes after those: a table of too many is proved in two parts.
+    pub more: &'static [Shape],
 }

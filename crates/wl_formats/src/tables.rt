@@ -40,7 +40,7 @@ pub(crate) fn table_of(subject: Subject) -> Table
         Subject::Run => *run_table(),
         Subject::Check => *check_table(),
         Subject::Explain => explain_table(),
-        Subject::Margin => *margin_table(),
+        Subject::Margin => margin_table(),
         Subject::Trace => *trace_table(),
         Subject::Traffic => *traffic_table(),
         Subject::Sweep => *sweep_table(),

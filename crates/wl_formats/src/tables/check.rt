@@ -25,6 +25,7 @@ static CHECK: Table = Table {
             Field("delay_ticks", Number), Fixed(" back "), Field("back_ticks", Number),
         ] },
     ],
+    more: &[],
 };
 
 /// Returns the shapes of the lines of `check`.

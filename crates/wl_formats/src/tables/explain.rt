@@ -1,7 +1,7 @@
 //! The lines of `explain`.
 ghost use Rattle.std.specs.Prelude.{◌≡◌, map};
 ghost use Rattle.wl_formats.specs.Shapes.{form_of, layout_of};
-ghost use Rattle.wl_formats.specs.ExplainLines.{explain_columns, explain_forms, explain_layout};
+ghost use Rattle.wl_formats.specs.ExplainLines.{doubt_forms, explain_columns, explain_layout, figure_forms};
 
 use crate::shape::Class::{Measure, Number, Rest, Word};
 use crate::shape::Piece::{Field, Fixed, Given, Passed};
@@ -17,7 +17,7 @@ static COLUMNS: &[&str] = &[
 ];
 
 #[rattlefmt::skip]
-static SHAPES: &[Shape] = &[
+static DOUBTS: &[Shape] = &[
     Shape { kind: "doubt", pieces: &[
         Given("doubt", Word, "drift_fits_jump"), Given("senders", Word, "one"), Fixed("doubt: in ten bits "),
         Field("name", Word), Fixed(" falls behind "), Field("other_name", Word), Fixed(" by up to "),
@@ -43,6 +43,13 @@ static SHAPES: &[Shape] = &[
         Field("other_name", Word), Fixed(" comes to "), Field("name", Word), Fixed(" up to "), Field("taken_ns", Number),
         Fixed(" ns ("), Field("taken_quanta", Number), Fixed(" quanta) too early, and its PHASE_SEG2 has "),
         Field("available_ns", Number), Fixed(" ns ("), Field("available_quanta", Number), Fixed(" quanta)"),
+    ] },
+    Shape { kind: "doubt", pieces: &[
+        Given("doubt", Word, "drift_fits_jump"), Given("senders", Word, "any"),
+        Fixed("doubt: if several nodes send at once, in ten bits "), Field("name", Word), Fixed(" falls behind "),
+        Field("other_name", Word), Fixed(" by up to "), Field("taken_ns", Number), Fixed(" ns ("),
+        Field("taken_quanta", Number), Fixed(" quanta), and an edge puts right "), Field("available_ns", Number),
+        Fixed(" ns ("), Field("available_quanta", Number), Fixed(" quanta)"),
     ] },
     Shape { kind: "doubt", pieces: &[
         Given("doubt", Word, "bit_is_there_at_sample"), Given("senders", Word, "any"),
@@ -101,6 +108,10 @@ static SHAPES: &[Shape] = &[
     Shape { kind: "doubt", pieces: &[
         Given("doubt", Word, "other"), Fixed("doubt: "), Field("reason", Rest),
     ] },
+];
+
+#[rattlefmt::skip]
+static FIGURES: &[Shape] = &[
     Shape { kind: "node", pieces: &[
         Fixed("node "), Field("name", Word), Fixed(": "), Field("rate_kbit_s", Number), Fixed(" kbit/s, sample point "),
         Field("sample_point_percent", Number), Fixed(" %, quantum "), Field("quantum_ns", Number), Fixed(" ns"),
@@ -165,12 +176,20 @@ fn explain_columns() -> &'static [&'static str]
     COLUMNS
 }
 
-/// Returns the shapes of the lines of `explain`, without its fields.
+/// Returns the shapes of doubts.
 #[tactic(none)]
-fn explain_shapes() -> &'static [Shape]
-    ensures { map form_of result.now ≡ explain_forms }
+fn doubt_shapes() -> &'static [Shape]
+    ensures { map form_of result.now ≡ doubt_forms }
 {
-    SHAPES
+    DOUBTS
+}
+
+/// Returns the shapes of the other lines of `explain`.
+#[tactic(none)]
+fn figure_shapes() -> &'static [Shape]
+    ensures { map form_of result.now ≡ figure_forms }
+{
+    FIGURES
 }
 
 /// Returns the shapes of the lines of `explain`.
@@ -180,6 +199,7 @@ pub(crate) fn explain_table() -> Table
     Table {
         command: "explain",
         columns: explain_columns(),
-        shapes: explain_shapes(),
+        shapes: doubt_shapes(),
+        more: figure_shapes(),
     }
 }

@@ -1,166 +1,203 @@
 //! The lines of `margin`.
-ghost use Rattle.std.specs.Prelude.{◌≡◌};
-ghost use Rattle.wl_formats.specs.Shapes.{layout_of};
-ghost use Rattle.wl_formats.specs.MarginLines.{margin_layout};
+ghost use Rattle.std.specs.Prelude.{◌≡◌, map};
+ghost use Rattle.wl_formats.specs.Shapes.{form_of, layout_of};
+ghost use Rattle.wl_formats.specs.MarginLines.{figure_forms, margin_columns, margin_layout, verdict_forms};
 
 use crate::shape::Class::{Measure, Number, Phrase, Rest, Word};
 use crate::shape::Piece::{Field, Fixed, Given, Passed};
 use crate::shape::{Shape, Table};
 
 #[rattlefmt::skip]
-static MARGIN: Table = Table {
-    command: "margin",
-    columns: &[
-        "verdict", "law", "inequality", "name", "other_name", "taken_ns", "taken_quanta", "available_ns", "available_quanta", "reason",
-        "late_ns", "late_quanta", "early_ns", "early_quanta", "drift_ns", "drift_quanta", "one_sender_units",
-        "any_senders_units", "one_sender_ppm", "any_senders_ppm", "one_sender_change", "any_senders_change",
-    ],
-    shapes: &[
-        Shape { kind: "verdict", pieces: &[
-            Field("verdict", Phrase), Fixed(", as far as searched, not proved"),
-        ] },
-        Shape { kind: "verdict", pieces: &[
-            Field("verdict", Phrase), Fixed(", as far as searched; for one sender at a time, proved: "), Field("law", Word),
-        ] },
-        Shape { kind: "verdict", pieces: &[
-            Field("verdict", Phrase), Fixed(", proved: "), Field("law", Word),
-        ] },
-        Shape { kind: "verdict", pieces: &[
-            Given("verdict", Word, "does not hold"), Given("inequality", Word, "drift_fits_jump"),
-            Fixed("does not hold: in ten bits "), Field("name", Word), Fixed(" falls behind "), Field("other_name", Word),
-            Fixed(" by up to "), Field("taken_ns", Number), Fixed(" ns ("), Field("taken_quanta", Number),
-            Fixed(" quanta), and an edge puts right "), Field("available_ns", Number), Fixed(" ns ("),
-            Field("available_quanta", Number), Fixed(" quanta)"),
-        ] },
-        Shape { kind: "verdict", pieces: &[
-            Given("verdict", Word, "does not hold"), Given("inequality", Word, "bit_is_there_at_sample"),
-            Fixed("does not hold: a bit of "), Field("other_name", Word), Fixed(" comes to "), Field("name", Word),
-            Fixed(" up to "), Field("taken_ns", Number), Fixed(" ns ("), Field("taken_quanta", Number),
-            Fixed(" quanta) after its own began, and "), Passed(Word), Fixed(" samples after "), Field("available_ns", Number),
-            Fixed(" ns ("), Field("available_quanta", Number), Fixed(" quanta)"),
-        ] },
-        Shape { kind: "verdict", pieces: &[
-            Given("verdict", Word, "does not hold"), Given("inequality", Word, "bit_is_there_at_sample"),
-            Fixed("does not hold: a bit of "), Field("name", Word), Fixed(" comes back to it "), Field("taken_ns", Number),
-            Fixed(" ns ("), Field("taken_quanta", Number), Fixed(" quanta) after it began, and it samples after "),
-            Field("available_ns", Number), Fixed(" ns ("), Field("available_quanta", Number), Fixed(" quanta)"),
-        ] },
-        Shape { kind: "verdict", pieces: &[
-            Given("verdict", Word, "does not hold"), Given("inequality", Word, "no_bit_too_early"),
-            Fixed("does not hold: the next bit of "), Field("other_name", Word), Fixed(" comes to "), Field("name", Word),
-            Fixed(" up to "), Field("taken_ns", Number), Fixed(" ns ("), Field("taken_quanta", Number),
-            Fixed(" quanta) too early, and its PHASE_SEG2 has "), Field("available_ns", Number), Fixed(" ns ("),
-            Field("available_quanta", Number), Fixed(" quanta)"),
-        ] },
-        Shape { kind: "any_senders", pieces: &[
-            Given("inequality", Word, "bit_is_there_at_sample"), Fixed("any senders: a bit of "), Field("other_name", Word),
-            Fixed(" comes to "), Field("name", Word), Fixed(" up to "), Field("taken_ns", Number), Fixed(" ns ("),
-            Field("taken_quanta", Number), Fixed(" quanta) after its own began, and "), Passed(Word), Fixed(" samples after "),
-            Field("available_ns", Number), Fixed(" ns ("), Field("available_quanta", Number), Fixed(" quanta)"),
-        ] },
-        Shape { kind: "any_senders", pieces: &[
-            Given("inequality", Word, "no_bit_too_early"), Fixed("any senders: the next bit of "), Field("other_name", Word),
-            Fixed(" comes to "), Field("name", Word), Fixed(" up to "), Field("taken_ns", Number), Fixed(" ns ("),
-            Field("taken_quanta", Number), Fixed(" quanta) too early, and its PHASE_SEG2 has "), Field("available_ns", Number),
-            Fixed(" ns ("), Field("available_quanta", Number), Fixed(" quanta)"),
-        ] },
-        Shape { kind: "any_senders", pieces: &[
-            Fixed("any senders: "), Field("reason", Rest),
-        ] },
-        Shape { kind: "pair", pieces: &[
-            Fixed("pair "), Field("name", Word), Fixed(" "), Field("other_name", Word), Fixed(": late "),
-            Field("late_ns", Number), Fixed(" ns ("), Field("late_quanta", Number), Fixed(" quanta), early "),
-            Field("early_ns", Number), Fixed(" ns ("), Field("early_quanta", Number), Fixed(" quanta), drift "),
-            Field("drift_ns", Number), Fixed(" ns ("), Field("drift_quanta", Number), Fixed(" quanta)"),
-        ] },
-        Shape { kind: "pair", pieces: &[
-            Fixed("pair "), Field("name", Word), Fixed(" "), Field("other_name", Word), Fixed(": late "),
-            Field("late_ns", Number), Fixed(" ns ("), Field("late_quanta", Number), Fixed(" quanta), early "),
-            Field("early_ns", Number), Fixed(" ns ("), Field("early_quanta", Number), Fixed(" quanta), drift "),
-            Given("drift_ns", Measure, "-"), Given("drift_quanta", Measure, "-"), Fixed("none"),
-        ] },
-        Shape { kind: "pair", pieces: &[
-            Fixed("pair "), Field("name", Word), Fixed(" "), Field("other_name", Word), Fixed(": late "),
-            Field("late_ns", Number), Fixed(" ns ("), Field("late_quanta", Number), Fixed(" quanta), early "),
-            Given("early_ns", Measure, "-"), Given("early_quanta", Measure, "-"), Fixed("none, drift "),
-            Field("drift_ns", Number), Fixed(" ns ("), Field("drift_quanta", Number), Fixed(" quanta)"),
-        ] },
-        Shape { kind: "pair", pieces: &[
-            Fixed("pair "), Field("name", Word), Fixed(" "), Field("other_name", Word), Fixed(": late "),
-            Field("late_ns", Number), Fixed(" ns ("), Field("late_quanta", Number), Fixed(" quanta), early "),
-            Given("early_ns", Measure, "-"), Given("early_quanta", Measure, "-"), Fixed("none, drift "),
-            Given("drift_ns", Measure, "-"), Given("drift_quanta", Measure, "-"), Fixed("none"),
-        ] },
-        Shape { kind: "pair", pieces: &[
-            Fixed("pair "), Field("name", Word), Fixed(" "), Field("other_name", Word), Fixed(": late "),
-            Given("late_ns", Measure, "-"), Given("late_quanta", Measure, "-"), Fixed("none, early "),
-            Field("early_ns", Number), Fixed(" ns ("), Field("early_quanta", Number), Fixed(" quanta), drift "),
-            Field("drift_ns", Number), Fixed(" ns ("), Field("drift_quanta", Number), Fixed(" quanta)"),
-        ] },
-        Shape { kind: "pair", pieces: &[
-            Fixed("pair "), Field("name", Word), Fixed(" "), Field("other_name", Word), Fixed(": late "),
-            Given("late_ns", Measure, "-"), Given("late_quanta", Measure, "-"), Fixed("none, early "),
-            Field("early_ns", Number), Fixed(" ns ("), Field("early_quanta", Number), Fixed(" quanta), drift "),
-            Given("drift_ns", Measure, "-"), Given("drift_quanta", Measure, "-"), Fixed("none"),
-        ] },
-        Shape { kind: "pair", pieces: &[
-            Fixed("pair "), Field("name", Word), Fixed(" "), Field("other_name", Word), Fixed(": late "),
-            Given("late_ns", Measure, "-"), Given("late_quanta", Measure, "-"), Fixed("none, early "),
-            Given("early_ns", Measure, "-"), Given("early_quanta", Measure, "-"), Fixed("none, drift "),
-            Field("drift_ns", Number), Fixed(" ns ("), Field("drift_quanta", Number), Fixed(" quanta)"),
-        ] },
-        Shape { kind: "pair", pieces: &[
-            Fixed("pair "), Field("name", Word), Fixed(" "), Field("other_name", Word), Fixed(": late "),
-            Given("late_ns", Measure, "-"), Given("late_quanta", Measure, "-"), Fixed("none, early "),
-            Given("early_ns", Measure, "-"), Given("early_quanta", Measure, "-"), Fixed("none, drift "),
-            Given("drift_ns", Measure, "-"), Given("drift_quanta", Measure, "-"), Fixed("none"),
-        ] },
-        Shape { kind: "cable", pieces: &[
-            Fixed("cable: one sender at a time "), Field("one_sender_units", Number), Fixed(" units longer, any senders "),
-            Field("any_senders_units", Number), Fixed(" units longer"),
-        ] },
-        Shape { kind: "cable", pieces: &[
-            Fixed("cable: one sender at a time "), Field("one_sender_units", Number), Fixed(" units longer, any senders "),
-            Given("any_senders_units", Measure, "-"), Fixed("none"),
-        ] },
-        Shape { kind: "cable", pieces: &[
-            Fixed("cable: one sender at a time "), Given("one_sender_units", Measure, "-"), Fixed("none, any senders "),
-            Field("any_senders_units", Number), Fixed(" units longer"),
-        ] },
-        Shape { kind: "cable", pieces: &[
-            Fixed("cable: one sender at a time "), Given("one_sender_units", Measure, "-"), Fixed("none, any senders "),
-            Given("any_senders_units", Measure, "-"), Fixed("none"),
-        ] },
-        Shape { kind: "tolerance", pieces: &[
-            Fixed("tolerance: one sender at a time "), Field("one_sender_ppm", Number), Fixed(" ppm wider, any senders "),
-            Field("any_senders_ppm", Number), Fixed(" ppm wider"),
-        ] },
-        Shape { kind: "tolerance", pieces: &[
-            Fixed("tolerance: one sender at a time "), Field("one_sender_ppm", Number), Fixed(" ppm wider, any senders "),
-            Given("any_senders_ppm", Measure, "-"), Fixed("none"),
-        ] },
-        Shape { kind: "tolerance", pieces: &[
-            Fixed("tolerance: one sender at a time "), Given("one_sender_ppm", Measure, "-"), Fixed("none, any senders "),
-            Field("any_senders_ppm", Number), Fixed(" ppm wider"),
-        ] },
-        Shape { kind: "tolerance", pieces: &[
-            Fixed("tolerance: one sender at a time "), Given("one_sender_ppm", Measure, "-"), Fixed("none, any senders "),
-            Given("any_senders_ppm", Measure, "-"), Fixed("none"),
-        ] },
-        Shape { kind: "help", pieces: &[
-            Fixed("help: one sender at a time "), Field("one_sender_change", Phrase), Fixed(", any senders "),
-            Field("any_senders_change", Phrase),
-        ] },
-        Shape { kind: "verdict", pieces: &[
-            Field("verdict", Phrase), Fixed(": "), Field("reason", Rest),
-        ] },
-    ],
-};
+static COLUMNS: &[&str] = &[
+    "verdict", "law", "inequality", "name", "other_name", "taken_ns", "taken_quanta", "available_ns", "available_quanta", "reason",
+    "late_ns", "late_quanta", "early_ns", "early_quanta", "drift_ns", "drift_quanta", "one_sender_units",
+    "any_senders_units", "one_sender_ppm", "any_senders_ppm", "one_sender_change", "any_senders_change",
+];
+
+#[rattlefmt::skip]
+static VERDICTS: &[Shape] = &[
+    Shape { kind: "verdict", pieces: &[
+        Field("verdict", Phrase), Fixed(", as far as searched, not proved"),
+    ] },
+    Shape { kind: "verdict", pieces: &[
+        Field("verdict", Phrase), Fixed(", as far as searched; for one sender at a time, proved: "), Field("law", Word),
+    ] },
+    Shape { kind: "verdict", pieces: &[
+        Field("verdict", Phrase), Fixed(", proved: "), Field("law", Word),
+    ] },
+    Shape { kind: "verdict", pieces: &[
+        Given("verdict", Word, "does not hold"), Given("inequality", Word, "drift_fits_jump"),
+        Fixed("does not hold: in ten bits "), Field("name", Word), Fixed(" falls behind "), Field("other_name", Word),
+        Fixed(" by up to "), Field("taken_ns", Number), Fixed(" ns ("), Field("taken_quanta", Number),
+        Fixed(" quanta), and an edge puts right "), Field("available_ns", Number), Fixed(" ns ("),
+        Field("available_quanta", Number), Fixed(" quanta)"),
+    ] },
+    Shape { kind: "verdict", pieces: &[
+        Given("verdict", Word, "does not hold"), Given("inequality", Word, "bit_is_there_at_sample"),
+        Fixed("does not hold: a bit of "), Field("other_name", Word), Fixed(" comes to "), Field("name", Word),
+        Fixed(" up to "), Field("taken_ns", Number), Fixed(" ns ("), Field("taken_quanta", Number),
+        Fixed(" quanta) after its own began, and "), Passed(Word), Fixed(" samples after "), Field("available_ns", Number),
+        Fixed(" ns ("), Field("available_quanta", Number), Fixed(" quanta)"),
+    ] },
+    Shape { kind: "verdict", pieces: &[
+        Given("verdict", Word, "does not hold"), Given("inequality", Word, "bit_is_there_at_sample"),
+        Fixed("does not hold: a bit of "), Field("name", Word), Fixed(" comes back to it "), Field("taken_ns", Number),
+        Fixed(" ns ("), Field("taken_quanta", Number), Fixed(" quanta) after it began, and it samples after "),
+        Field("available_ns", Number), Fixed(" ns ("), Field("available_quanta", Number), Fixed(" quanta)"),
+    ] },
+    Shape { kind: "verdict", pieces: &[
+        Given("verdict", Word, "does not hold"), Given("inequality", Word, "no_bit_too_early"),
+        Fixed("does not hold: the next bit of "), Field("other_name", Word), Fixed(" comes to "), Field("name", Word),
+        Fixed(" up to "), Field("taken_ns", Number), Fixed(" ns ("), Field("taken_quanta", Number),
+        Fixed(" quanta) too early, and its PHASE_SEG2 has "), Field("available_ns", Number), Fixed(" ns ("),
+        Field("available_quanta", Number), Fixed(" quanta)"),
+    ] },
+    Shape { kind: "any_senders", pieces: &[
+        Given("inequality", Word, "drift_fits_jump"), Fixed("any senders: in ten bits "), Field("name", Word),
+        Fixed(" falls behind "), Field("other_name", Word), Fixed(" by up to "), Field("taken_ns", Number),
+        Fixed(" ns ("), Field("taken_quanta", Number), Fixed(" quanta), and an edge puts right "),
+        Field("available_ns", Number), Fixed(" ns ("), Field("available_quanta", Number), Fixed(" quanta)"),
+    ] },
+    Shape { kind: "any_senders", pieces: &[
+        Given("inequality", Word, "bit_is_there_at_sample"), Fixed("any senders: a bit of "), Field("other_name", Word),
+        Fixed(" comes to "), Field("name", Word), Fixed(" up to "), Field("taken_ns", Number), Fixed(" ns ("),
+        Field("taken_quanta", Number), Fixed(" quanta) after its own began, and "), Passed(Word), Fixed(" samples after "),
+        Field("available_ns", Number), Fixed(" ns ("), Field("available_quanta", Number), Fixed(" quanta)"),
+    ] },
+    Shape { kind: "any_senders", pieces: &[
+        Given("inequality", Word, "no_bit_too_early"), Fixed("any senders: the next bit of "), Field("other_name", Word),
+        Fixed(" comes to "), Field("name", Word), Fixed(" up to "), Field("taken_ns", Number), Fixed(" ns ("),
+        Field("taken_quanta", Number), Fixed(" quanta) too early, and its PHASE_SEG2 has "), Field("available_ns", Number),
+        Fixed(" ns ("), Field("available_quanta", Number), Fixed(" quanta)"),
+    ] },
+    Shape { kind: "any_senders", pieces: &[
+        Fixed("any senders: "), Field("reason", Rest),
+    ] },
+];
+
+#[rattlefmt::skip]
+static FIGURES: &[Shape] = &[
+    Shape { kind: "pair", pieces: &[
+        Fixed("pair "), Field("name", Word), Fixed(" "), Field("other_name", Word), Fixed(": late "),
+        Field("late_ns", Number), Fixed(" ns ("), Field("late_quanta", Number), Fixed(" quanta), early "),
+        Field("early_ns", Number), Fixed(" ns ("), Field("early_quanta", Number), Fixed(" quanta), drift "),
+        Field("drift_ns", Number), Fixed(" ns ("), Field("drift_quanta", Number), Fixed(" quanta)"),
+    ] },
+    Shape { kind: "pair", pieces: &[
+        Fixed("pair "), Field("name", Word), Fixed(" "), Field("other_name", Word), Fixed(": late "),
+        Field("late_ns", Number), Fixed(" ns ("), Field("late_quanta", Number), Fixed(" quanta), early "),
+        Field("early_ns", Number), Fixed(" ns ("), Field("early_quanta", Number), Fixed(" quanta), drift "),
+        Given("drift_ns", Measure, "-"), Given("drift_quanta", Measure, "-"), Fixed("none"),
+    ] },
+    Shape { kind: "pair", pieces: &[
+        Fixed("pair "), Field("name", Word), Fixed(" "), Field("other_name", Word), Fixed(": late "),
+        Field("late_ns", Number), Fixed(" ns ("), Field("late_quanta", Number), Fixed(" quanta), early "),
+        Given("early_ns", Measure, "-"), Given("early_quanta", Measure, "-"), Fixed("none, drift "),
+        Field("drift_ns", Number), Fixed(" ns ("), Field("drift_quanta", Number), Fixed(" quanta)"),
+    ] },
+    Shape { kind: "pair", pieces: &[
+        Fixed("pair "), Field("name", Word), Fixed(" "), Field("other_name", Word), Fixed(": late "),
+        Field("late_ns", Number), Fixed(" ns ("), Field("late_quanta", Number), Fixed(" quanta), early "),
+        Given("early_ns", Measure, "-"), Given("early_quanta", Measure, "-"), Fixed("none, drift "),
+        Given("drift_ns", Measure, "-"), Given("drift_quanta", Measure, "-"), Fixed("none"),
+    ] },
+    Shape { kind: "pair", pieces: &[
+        Fixed("pair "), Field("name", Word), Fixed(" "), Field("other_name", Word), Fixed(": late "),
+        Given("late_ns", Measure, "-"), Given("late_quanta", Measure, "-"), Fixed("none, early "),
+        Field("early_ns", Number), Fixed(" ns ("), Field("early_quanta", Number), Fixed(" quanta), drift "),
+        Field("drift_ns", Number), Fixed(" ns ("), Field("drift_quanta", Number), Fixed(" quanta)"),
+    ] },
+    Shape { kind: "pair", pieces: &[
+        Fixed("pair "), Field("name", Word), Fixed(" "), Field("other_name", Word), Fixed(": late "),
+        Given("late_ns", Measure, "-"), Given("late_quanta", Measure, "-"), Fixed("none, early "),
+        Field("early_ns", Number), Fixed(" ns ("), Field("early_quanta", Number), Fixed(" quanta), drift "),
+        Given("drift_ns", Measure, "-"), Given("drift_quanta", Measure, "-"), Fixed("none"),
+    ] },
+    Shape { kind: "pair", pieces: &[
+        Fixed("pair "), Field("name", Word), Fixed(" "), Field("other_name", Word), Fixed(": late "),
+        Given("late_ns", Measure, "-"), Given("late_quanta", Measure, "-"), Fixed("none, early "),
+        Given("early_ns", Measure, "-"), Given("early_quanta", Measure, "-"), Fixed("none, drift "),
+        Field("drift_ns", Number), Fixed(" ns ("), Field("drift_quanta", Number), Fixed(" quanta)"),
+    ] },
+    Shape { kind: "pair", pieces: &[
+        Fixed("pair "), Field("name", Word), Fixed(" "), Field("other_name", Word), Fixed(": late "),
+        Given("late_ns", Measure, "-"), Given("late_quanta", Measure, "-"), Fixed("none, early "),
+        Given("early_ns", Measure, "-"), Given("early_quanta", Measure, "-"), Fixed("none, drift "),
+        Given("drift_ns", Measure, "-"), Given("drift_quanta", Measure, "-"), Fixed("none"),
+    ] },
+    Shape { kind: "cable", pieces: &[
+        Fixed("cable: one sender at a time "), Field("one_sender_units", Number), Fixed(" units longer, any senders "),
+        Field("any_senders_units", Number), Fixed(" units longer"),
+    ] },
+    Shape { kind: "cable", pieces: &[
+        Fixed("cable: one sender at a time "), Field("one_sender_units", Number), Fixed(" units longer, any senders "),
+        Given("any_senders_units", Measure, "-"), Fixed("none"),
+    ] },
+    Shape { kind: "cable", pieces: &[
+        Fixed("cable: one sender at a time "), Given("one_sender_units", Measure, "-"), Fixed("none, any senders "),
+        Field("any_senders_units", Number), Fixed(" units longer"),
+    ] },
+    Shape { kind: "cable", pieces: &[
+        Fixed("cable: one sender at a time "), Given("one_sender_units", Measure, "-"), Fixed("none, any senders "),
+        Given("any_senders_units", Measure, "-"), Fixed("none"),
+    ] },
+    Shape { kind: "tolerance", pieces: &[
+        Fixed("tolerance: one sender at a time "), Field("one_sender_ppm", Number), Fixed(" ppm wider, any senders "),
+        Field("any_senders_ppm", Number), Fixed(" ppm wider"),
+    ] },
+    Shape { kind: "tolerance", pieces: &[
+        Fixed("tolerance: one sender at a time "), Field("one_sender_ppm", Number), Fixed(" ppm wider, any senders "),
+        Given("any_senders_ppm", Measure, "-"), Fixed("none"),
+    ] },
+    Shape { kind: "tolerance", pieces: &[
+        Fixed("tolerance: one sender at a time "), Given("one_sender_ppm", Measure, "-"), Fixed("none, any senders "),
+        Field("any_senders_ppm", Number), Fixed(" ppm wider"),
+    ] },
+    Shape { kind: "tolerance", pieces: &[
+        Fixed("tolerance: one sender at a time "), Given("one_sender_ppm", Measure, "-"), Fixed("none, any senders "),
+        Given("any_senders_ppm", Measure, "-"), Fixed("none"),
+    ] },
+    Shape { kind: "help", pieces: &[
+        Fixed("help: one sender at a time "), Field("one_sender_change", Phrase), Fixed(", any senders "),
+        Field("any_senders_change", Phrase),
+    ] },
+    Shape { kind: "verdict", pieces: &[
+        Field("verdict", Phrase), Fixed(": "), Field("reason", Rest),
+    ] },
+];
+
+/// Returns the fields of the lines of `margin`.
+#[tactic(none)]
+fn margin_columns() -> &'static [&'static str]
+    ensures { map (λ c. c.now) result.now ≡ margin_columns }
+{
+    COLUMNS
+}
+
+/// Returns the shapes of what holds, and of what fails.
+#[tactic(none)]
+fn verdict_shapes() -> &'static [Shape]
+    ensures { map form_of result.now ≡ verdict_forms }
+{
+    VERDICTS
+}
+
+/// Returns the shapes of the other lines of `margin`.
+#[tactic(none)]
+fn figure_shapes() -> &'static [Shape]
+    ensures { map form_of result.now ≡ figure_forms }
+{
+    FIGURES
+}
 
 /// Returns the shapes of the lines of `margin`.
-#[tactic(none)]
-pub(crate) fn margin_table() -> &'static Table
-    ensures { layout_of result.now ≡ margin_layout }
+pub(crate) fn margin_table() -> Table
+    ensures { layout_of result ≡ margin_layout }
 {
-    &MARGIN
+    Table {
+        command: "margin",
+        columns: margin_columns(),
+        shapes: verdict_shapes(),
+        more: figure_shapes(),
+    }
 }

@@ -36,6 +36,7 @@ static RUN: Table = Table {
             Field("unsent", Number),
         ] },
     ],
+    more: &[],
 };
 
 /// Returns the shapes of the lines of `run`.

@@ -107,6 +107,7 @@ static SWEEP: Table = Table {
             Fixed("no frame has edges ten bits apart, so none tests the clocks; --worst adds some that do"),
         ] },
     ],
+    more: &[],
 };
 
 /// Returns the shapes of the lines of `sweep`.

@@ -54,6 +54,7 @@ static TRACE: Table = Table {
             Field("tec", Number), Fixed(" rec "), Field("rec", Number),
         ] },
     ],
+    more: &[],
 };
 
 /// Returns the shapes of the lines of `trace`.

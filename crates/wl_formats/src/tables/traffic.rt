@@ -30,6 +30,7 @@ static TRAFFIC: Table = Table {
             Fixed("verdict "), Field("verdict", Phrase),
         ] },
     ],
+    more: &[],
 };
 
 /// Returns the shapes of the lines of `traffic`.

@@ -1,5 +1,5 @@
 use Rattle.std.proofs.Common.{refl}
-use Rattle.wl_formats.proofs.tables.explain.explain_shapes.Goals as goal
+use Rattle.wl_formats.proofs.tables.margin.verdict_shapes.Goals as goal
 
 pub returns : goal.returns
 returns c = refl
