@@ -65,6 +65,16 @@ module _ (level : Level) (a b : ℕ) (old mid new : Node) (first : HasGone level
   pub stands_more : StandsFor mid level b → StandsFor old level (a + b)
   stands_more = stood_on b
 
+  -- and where they turned
+  pub turns_more : TurnsAfter mid level b → TurnsAfter old level (a + b)
+  turns_more turns levels is e =
+      turns (levels ++ replicate a level) (first.node levels is)
+      (ap (λ setup. drive_by setup ((levels ++ replicate a level) ++ replicate b level)) first.setup
+      ∙ ap (drive_by old.setup) (joined levels level a b)
+      ∙ e
+      ∙ sym (stands levels is)
+      ∙ sym (ap (λ setup. drive_by setup (levels ++ replicate a level)) first.setup))
+
 -- one quantum
 pub gone_one : {level : Level} {old new : Node} → HasSeen level old new → node_setup new ≡ node_setup old → quanta_of new ≡ quanta_of old + 1 → HasGone level 1 old new
 gone_one {level} {old} {new} seen setup quanta = record {

@@ -21,7 +21,7 @@ pub same_history : (h : History) {seen seen' : List Seen} {syncs syncs' : List (
 same_history h e f i = record h { seen = e i; syncs = f i }
 
 -- a start that leaves the drive as it is does nothing
-nothing_done : (setup : NodeSetup) (h : History) (level : Level) (b : Beat) → ((v : Level) → b ≢ Sample v) → (b ≡ Start → h.drive ≡ pending_of h) → by_beat setup h level b ≡ h
+pub nothing_done : (setup : NodeSetup) (h : History) (level : Level) (b : Beat) → ((v : Level) → b ≢ Sample v) → (b ≡ Start → h.drive ≡ pending_of h) → by_beat setup h level b ≡ h
 nothing_done setup h level Plain unsampled starts = refl
 nothing_done setup h level Start unsampled starts = λ i. record h { drive = sym (starts refl) i }
 nothing_done setup h level (Sample v) unsampled starts = absurd (unsampled v refl)

@@ -16,7 +16,38 @@ impl Node {
     ///
     /// At most [`MOST_RUN_QUANTA`](crate::MOST_RUN_QUANTA) quanta were run, `most` more counted. Refused if memory runs out: fewer than
     /// `most` were run then, or none, and the node drives what it drove.
+    #[inline(always)]
     pub fn go(&mut self, level: Level, most: u64) -> Result<u64, AllocError>
+        requires some { 0 < most }
+        requires short { quanta_of self.old + most ≤ most_run_quanta }
+        ensures gone { IfOk result (λ n. HasGone level n self.old self.new) }
+        ensures some { IfOk result (λ n. 0 < n) }
+        ensures few { IfOk result (λ n. n ≤ most) }
+        ensures turned { IfOk result (λ n. n < most → TurnsAfter self.old level n) }
+        ensures stopped { OnErr result (HasStopped level most self.old self.new) }
+    {
+        let heard = self.listen(level, most);
+        if heard == most {
+            return Ok(heard);
+        }
+        Ok(heard + self.go_on(level, most - heard)?)
+    }
+
+    /// Runs quanta of this level as long as the node only listens: at most `most`. The drive stays. Returns how many.
+    #[inline(always)]
+    fn listen(&mut self, level: Level, most: u64) -> u64
+        requires some { 0 < most }
+        requires short { quanta_of self.old + most ≤ most_run_quanta }
+        ensures gone { HasGone level result self.old self.new }
+        ensures stands { StandsFor self.old level result }
+        ensures few { result ≤ most }
+    {
+        self.progress.listen(level, most)
+    }
+
+    /// Runs quanta as `go` does, whatever the node does.
+    #[inline(never)]
+    fn go_on(&mut self, level: Level, most: u64) -> Result<u64, AllocError>
         requires some { 0 < most }
         requires short { quanta_of self.old + most ≤ most_run_quanta }
         ensures gone { IfOk result (λ n. HasGone level n self.old self.new) }

@@ -6,6 +6,7 @@ mod go;
 mod hear;
 mod laws;
 mod limits;
+mod listen;
 mod mark;
 mod node;
 mod progress;

@@ -1,6 +1,6 @@
 //! What a node keeps of its synchronisations.
 
-ghost use Rattle.std.specs.Prelude.{◌≡◌, ◌+◌, ◌<◌, ◌≤◌, ◌++◌, ℕ, List, OnOk, vec_len, vec_capacity};
+ghost use Rattle.std.specs.Prelude.{◌≡◌, ◌+◌, ◌<◌, ◌≤◌, ◌++◌, ℕ, true, List, OnOk, vec_len, vec_capacity};
 ghost use Rattle.wl_sync.specs.declared.Sync.{Sync};
 ghost use Rattle.wl_node.specs.History.{syncs_at};
 ghost use Rattle.wl_node.specs.Kept.{AreSyncs};
@@ -28,6 +28,13 @@ impl Syncs {
             self.phases.reserve(1)?;
         }
         Ok(())
+    }
+
+    /// True only if there is room for one more.
+    pub fn has_room(&self) -> bool
+        ensures { result ≡ true → vec_len self.now.phases < vec_capacity self.now.phases }
+    {
+        self.phases.len() < self.phases.capacity()
     }
 
     /// Keeps how a quantum synchronised its bit, if it did.

@@ -126,7 +126,7 @@ impl Traffic {
     /// Takes a sample at this quantum if the node receives and its machine only keeps it: it is stored, and nothing else comes of it. Else
     /// returns false, and nothing changes.
     #[inline(always)]
-    fn keep(&mut self, quantum: u64, level: Level) -> bool
+    pub fn keep(&mut self, quantum: u64, level: Level) -> bool
         requires samples { vec_len self.old.samples.runs < vec_capacity self.old.samples.runs }
         requires early { quantum < most_run_quanta }
         requires few { self.old.samples.count ≤ quantum }
@@ -134,6 +134,8 @@ impl Traffic {
             → IsTraffic setup self.old h → IsTraffic setup self.new (history_after_sample setup h level) }
         ensures same { result ≡ false → (setup : NodeSetup) (h : History)
             → IsTraffic setup self.old h → IsTraffic setup self.new h }
+        ensures settled { result ≡ true → (setup : NodeSetup) (h : History) → IsTraffic setup self.old h
+            → drive_of (stretch_of h.inputs) ≡ Level.Recessive }
         ensures samples { result ≡ false → self.new.samples ≡ self.old.samples }
         ensures frames { self.new.frames ≡ self.old.frames }
         ensures errors { self.new.errors ≡ self.old.errors }

@@ -1,6 +1,6 @@
 use Rattle.std.proofs.Common.{◌≤◌, ◌-◌}
 use Rattle.wl_node.specs.Reached.{HasGone, StandsFor}
-use Rattle.wl_node.proofs.node.Node.go.Given as goal
+use Rattle.wl_node.proofs.node.Node.go_on.Given as goal
 
 -- so many quanta have run, and the drive stands
 abbrev pub invariant-loop-done : goal.invariant-loop-done

@@ -1,0 +1,147 @@
+//! Quanta of one level in a node that only keeps what it samples: from one change of the line to the next.
+
+ghost use Rattle.std.specs.Prelude.{◌≡◌, suc, ◌+◌, ◌<◌, ◌≤◌, vec_len, vec_capacity};
+ghost use Rattle.wl_level.specs.declared.Level.{Level};
+ghost use Rattle.wl_sync.specs.Skips.{quanta_before_sample, IsSampleAhead};
+ghost use Rattle.wl_node.specs.declared.setup.NodeSetup.{NodeSetup};
+ghost use Rattle.wl_node.specs.Kept.{HasProgressedBy, KeepsDrive};
+ghost use Rattle.wl_node.specs.Limits.{most_run_quanta};
+
+use crate::progress::Progress;
+use wl_level::Level;
+use wl_sync::Beat;
+
+impl Progress {
+    /// Runs quanta of this level as long as the machine only keeps what is sampled: at most `most`. The first of them may find an edge. It
+    /// runs none if there is no room. Returns how many.
+    #[inline(always)]
+    pub fn listen(&mut self, level: Level, most: u64) -> u64
+        requires some { 0 < most }
+        requires short { self.old.quanta + most ≤ most_run_quanta }
+        requires hards { self.old.syncs.hards ≤ self.old.quanta }
+        requires samples { self.old.traffic.samples.count ≤ self.old.quanta }
+        ensures place { (setup : NodeSetup) → HasProgressedBy setup level result self.old self.new }
+        ensures drive { (setup : NodeSetup) → KeepsDrive setup level (suc result) self.old }
+        ensures few { result ≤ most }
+        ensures quanta { self.new.quanta ≡ self.old.quanta + result }
+        ensures hards { self.new.syncs.hards ≤ self.new.quanta }
+        ensures errors { self.new.traffic.errors ≡ self.old.traffic.errors }
+        ensures samples { self.new.traffic.samples.count ≤ self.new.quanta }
+    {
+        let mut done = self.meet_edge(level);
+        while done < most {
+            let kept = self.keep_sample(level, most - done);
+            if kept == 0 {
+                return done;
+            }
+            done += kept;
+        }
+        done
+    }
+
+    /// Runs one quantum of this level, if that finds an edge and isn't a sample, in a node that drives what its machine wants. Returns how
+    /// many ran: 1 or none.
+    #[inline(always)]
+    fn meet_edge(&mut self, level: Level) -> u64
+        requires short { self.old.quanta < most_run_quanta }
+        requires hards { self.old.syncs.hards ≤ self.old.quanta }
+        ensures place { (setup : NodeSetup) → HasProgressedBy setup level result self.old self.new }
+        ensures drive { (setup : NodeSetup) → KeepsDrive setup level (suc result) self.old }
+        ensures few { result ≤ 1 }
+        ensures quanta { self.new.quanta ≡ self.old.quanta + result }
+        ensures hards { self.new.syncs.hards ≤ self.new.quanta }
+        ensures errors { self.new.traffic.errors ≡ self.old.traffic.errors }
+        ensures samples { self.new.traffic.samples.count ≡ self.old.traffic.samples.count }
+    {
+        if !level.is_dominant() || !self.drive.is(self.traffic.pending) || !self.syncs.has_room() {
+            return 0;
+        }
+        if self.clock.until_sample(level).is_some() {
+            return 0;
+        }
+        self.pass_edge(level)
+    }
+
+    /// Runs that quantum, unless it is a sample.
+    #[inline(always)]
+    fn pass_edge(&mut self, level: Level) -> u64
+        requires settled { self.old.drive ≡ self.old.traffic.pending }
+        requires room { vec_len self.old.syncs.phases < vec_capacity self.old.syncs.phases }
+        requires short { self.old.quanta < most_run_quanta }
+        requires hards { self.old.syncs.hards ≤ self.old.quanta }
+        ensures place { (setup : NodeSetup) → HasProgressedBy setup level result self.old self.new }
+        ensures drive { (setup : NodeSetup) → KeepsDrive setup level (suc result) self.old }
+        ensures few { result ≤ 1 }
+        ensures quanta { self.new.quanta ≡ self.old.quanta + result }
+        ensures hards { self.new.syncs.hards ≤ self.new.quanta }
+        ensures errors { self.new.traffic.errors ≡ self.old.traffic.errors }
+        ensures samples { self.new.traffic.samples.count ≡ self.old.traffic.samples.count }
+    {
+        let idle = self.traffic.machine.idle();
+        let awaits = self.traffic.machine.awaits_start();
+        let mut clock = self.clock;
+        let (beat, sync) = clock.step(level, idle, awaits, self.drive.is_dominant());
+        match beat {
+            Beat::Sample(_) => return 0,
+            _ => {}
+        }
+        self.clock = clock;
+        self.syncs.note(self.quanta, sync);
+        self.quanta += 1;
+        1
+    }
+
+    /// Runs quanta of this level up to and including the next sample, if the machine only keeps that sample. If the sample comes later than
+    /// `most` quanta, it runs `most`. If an edge comes, or if there is no room, it runs none. Returns how many.
+    #[inline(always)]
+    fn keep_sample(&mut self, level: Level, most: u64) -> u64
+        requires some { 0 < most }
+        requires short { self.old.quanta + most ≤ most_run_quanta }
+        requires few { self.old.traffic.samples.count ≤ self.old.quanta }
+        ensures place { (setup : NodeSetup) → HasProgressedBy setup level result self.old self.new }
+        ensures drive { (setup : NodeSetup) → KeepsDrive setup level (suc result) self.old }
+        ensures few { result ≤ most }
+        ensures quanta { self.new.quanta ≡ self.old.quanta + result }
+        ensures hards { self.new.syncs.hards ≡ self.old.syncs.hards }
+        ensures errors { self.new.traffic.errors ≡ self.old.traffic.errors }
+        ensures samples { self.new.traffic.samples.count ≤ self.new.quanta }
+    {
+        if self.drive.is_dominant() || !self.has_room() {
+            return 0;
+        }
+        match self.clock.until_sample(level) {
+            Some(before) if (before as u64) < most => self.keep_after(level, before),
+            Some(_) if !self.traffic.pending.is_dominant() => {
+                self.skip(level, most as u8);
+                most
+            }
+            _ => 0,
+        }
+    }
+
+    /// Runs this many quanta and the sample after them, if the machine only keeps that; else none.
+    #[inline(always)]
+    fn keep_after(&mut self, level: Level, before: u8) -> u64
+        requires ahead { IsSampleAhead self.old.clock level }
+        requires before { before ≡ quanta_before_sample self.old.clock }
+        requires recessive { self.old.drive ≡ Level.Recessive }
+        requires room { vec_len self.old.traffic.samples.runs < vec_capacity self.old.traffic.samples.runs }
+        requires short { self.old.quanta + before < most_run_quanta }
+        requires few { self.old.traffic.samples.count ≤ self.old.quanta }
+        ensures place { (setup : NodeSetup) → HasProgressedBy setup level result self.old self.new }
+        ensures drive { (setup : NodeSetup) → KeepsDrive setup level (suc result) self.old }
+        ensures few { result ≤ before + 1 }
+        ensures quanta { self.new.quanta ≡ self.old.quanta + result }
+        ensures hards { self.new.syncs.hards ≡ self.old.syncs.hards }
+        ensures errors { self.new.traffic.errors ≡ self.old.traffic.errors }
+        ensures samples { self.new.traffic.samples.count ≤ self.new.quanta }
+    {
+        let quantum = self.quanta + before as u64;
+        if !self.traffic.keep(quantum, level) {
+            return 0;
+        }
+        self.clock.sample(level);
+        self.quanta = quantum + 1;
+        before as u64 + 1
+    }
+}
