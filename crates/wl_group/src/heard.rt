@@ -137,6 +137,8 @@ fn drive_at(plan: &CheckedPlan, replica: &Replica, i: u8, t: u64, come: &mut u32
 }
 
 /// Returns what node `j` finds of node `i` alone from tick `t` on, at which that is known: `delay` ticks later what it drives.
+#[cold]
+#[inline(never)]
 fn heard_at(
     plan: &CheckedPlan,
     replica: &Replica,
@@ -197,6 +199,7 @@ fn heard_last(plan: &CheckedPlan, replica: &Replica, ways: &Ways, i: u8, j: u8, 
 }
 
 /// Returns what node `j` finds of node `i` alone from tick `t` on, at which that is known.
+#[inline(always)]
 fn heard_of(
     plan: &CheckedPlan,
     replica: &Replica,
