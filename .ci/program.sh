@@ -240,9 +240,10 @@ is "faults without a row: $(tr '\n' ' ' < "$room/out")" [ ! -s "$room/out" ]
 ended=0
 python3 -B check/formats.py "$program" examples/clean_500k.toml examples/burst.toml examples/bus_off.toml .ci/bounds.toml .ci/doubts.toml > "$room/out" || ended=$?
 is "JSON and CSV: $(tail -3 "$room/out" | tr '\n' '/')" [ "$ended" = 0 ]
-# A line that no example has: drift doesn't fit if several nodes send, and fits for one
-for command in margin explain; do
-  runs "JSON of $command" check/formats/drift_of_several.toml 0 "check/formats/drift_of_several.$command.json" "$room/none" "$command" --format json
+# Lines that no example has: what fails if several nodes send, and doesn't for one, or where nobody sends
+for records in check/formats/*.json; do
+  plan=${records%.json} command=${records%.json}
+  runs "JSON of $(basename "$records")" "${plan%.*}.toml" 0 "$records" "$room/none" "${command##*.}" --format json
 done
 . .ci/settings.sh
 # Each worker has a thread of its own beside the program's, and one works on that.

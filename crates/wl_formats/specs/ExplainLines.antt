@@ -32,7 +32,7 @@ failing_forms =
     failing_form (codes "no_bit_too_early") (codes "one") (early_parts one) ∷
     failing_form (codes "drift_fits_jump") (codes "any") (behind_parts any) ∷
     failing_form (codes "bit_is_there_at_sample") (codes "any") (late_parts any) ∷
-    failing_form (codes "no_bit_too_early") (codes "any") (early_parts any) ∷ [])
+    failing_form (codes "bit_is_there_at_sample") (codes "any") (back_parts any) ∷ failing_form (codes "no_bit_too_early") (codes "any") (early_parts any) ∷ [])
 
 abbrev pub other_doubt_forms : List Form
 other_doubt_forms =

@@ -59,6 +59,13 @@ static DOUBTS: &[Shape] = &[
         Fixed(" ns ("), Field("available_quanta", Number), Fixed(" quanta)"),
     ] },
     Shape { kind: "doubt", pieces: &[
+        Given("doubt", Word, "bit_is_there_at_sample"), Given("senders", Word, "any"),
+        Fixed("doubt: if several nodes send at once, a bit of "), Field("name", Word), Fixed(" comes back to it "),
+        Field("taken_ns", Number), Fixed(" ns ("), Field("taken_quanta", Number),
+        Fixed(" quanta) after it began, and it samples after "), Field("available_ns", Number), Fixed(" ns ("),
+        Field("available_quanta", Number), Fixed(" quanta)"),
+    ] },
+    Shape { kind: "doubt", pieces: &[
         Given("doubt", Word, "no_bit_too_early"), Given("senders", Word, "any"),
         Fixed("doubt: if several nodes send at once, the next bit of "), Field("other_name", Word), Fixed(" comes to "),
         Field("name", Word), Fixed(" up to "), Field("taken_ns", Number), Fixed(" ns ("), Field("taken_quanta", Number),
