@@ -77,6 +77,7 @@ pub(crate) fn identifier(bits: &[Level]) -> u32
 /// True if the bits are those of a whole frame, by its own data length code. In constant time.
 ///
 /// Most lengths are that of no frame: a header of 19 or 39 bits, whole bytes and the CRC sequence leave a remainder of 2 by 4.
+#[inline(always)]
 pub fn is_whole(bits: &[Level]) -> bool
     ensures { result ≡ is_whole bits.now }
 {

@@ -52,6 +52,7 @@ impl Progress {
     }
 
     /// Keeps one more bit of a stuffed part, unless it is a stuff bit. Returns the run of equal bits that it ends.
+    #[inline(always)]
     fn take_bit(&mut self, last: Level, run: u8, level: Level) -> u8
         requires small { run ≤ 5 }
         requires room { run < 5 → length self.old.bits.items < most_bits }
@@ -67,6 +68,7 @@ impl Progress {
     }
 
     /// Puts a receiver where it is after a sample that ends this run: after the end of what is stuffed, or still before it.
+    #[inline(always)]
     fn received_bit(&mut self, level: Level, run: u8)
         ensures { (head : Option Content) (own : List Level) → frame_role head own ≡ Role.Rx
             → IsTaken level run self.old.bits.items own
@@ -114,6 +116,7 @@ impl Progress {
 
     /// Takes one sample of a receiver, up to the end of what is stuffed, unless it is the sixth of equal ones. Then it returns false, and
     /// does nothing.
+    #[inline(always)]
     fn keep_bit(&mut self, last: Level, run: u8, level: Level) -> bool
         requires small { run ≤ 5 }
         requires room { run < 5 → length self.old.bits.items < most_bits }
@@ -132,6 +135,7 @@ impl Progress {
     }
 
     /// Takes one sample that changes nothing but that it is kept. If it isn't one, returns false, and does nothing.
+    #[inline(always)]
     pub fn keep(&mut self, level: Level) -> bool
         requires { ∥ ((s : Stretch) × IsIn self.old s) ∥₁ }
         ensures value { result ≡ state_keeps self.old.state level }

@@ -110,6 +110,7 @@ impl Machine {
     /// With such a bit no frame begins or ends, and nothing is counted. The node drives recessive before and after, whatever it is to send
     /// and in whatever mode. A receiver samples such bits up to the end of what is stuffed, but for a sixth equal one (Bosch CAN 2.0 part
     /// B, sections 6 and 7.1).
+    #[inline(always)]
     pub fn keep(&mut self, sample: Level) -> bool
         ensures value { (past : List Input) → IsMachine self.old past → result ≡ keeps (stretch_of past) sample }
         ensures stays { result ≡ false → (past : List Input) → IsMachine self.old past → IsMachine self.new past }

@@ -109,6 +109,7 @@ impl SampleRuns {
     }
 
     /// Adds a sample.
+    #[inline(always)]
     pub(crate) fn push(&mut self, quantum: u64, level: Level)
         requires room { vec_len self.old.runs < vec_capacity self.old.runs }
         requires early { quantum < most_run_quanta }
@@ -173,6 +174,7 @@ impl SampleRuns {
 
 impl Run {
     /// True only if such a sample is one more of this run.
+    #[inline(always)]
     fn goes_on(&self, quantum: u64, level: Level) -> bool
         ensures level { result ≡ true → self.now.level ≡ level }
         ensures quantum { result ≡ true → quantum ≡ self.now.from + self.now.count * self.now.step }
@@ -185,6 +187,7 @@ impl Run {
 }
 
 /// Adds a sample to the last run, or begins another run.
+#[inline(always)]
 fn add(runs: &mut Vec<Run>, quantum: u64, step: u8, level: Level)
     requires room { vec_len runs.old < vec_capacity runs.old }
     requires early { quantum < most_run_quanta }

@@ -63,6 +63,7 @@ impl Running {
 
     /// Runs the quanta below tick `until`, up to the first that changes the drive; the node finds this level there as long as its drive
     /// stays. Returns the tick of that quantum, if there is one.
+    #[inline(always)]
     pub(crate) fn go(
         &mut self,
         plan: &Checked,

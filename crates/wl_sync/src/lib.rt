@@ -122,6 +122,7 @@ impl BitClock {
     ///
     /// The profile's rules synchronise hard with `idle`, those of the book with `awaits` and without `driving`. After any list of quanta
     /// both answers, and what the clock keeps, are those of that list.
+    #[inline(always)]
     pub fn step(
         &mut self,
         level: Level,
@@ -182,6 +183,7 @@ impl BitClock {
 
     /// Returns how many quanta of this level come before the next that samples a bit: from 0 to 24. `None` if the first of them, or that
     /// sample itself, finds an edge from recessive to dominant.
+    #[inline(always)]
     pub fn until_sample(&self, level: Level) -> Option<u8>
         ensures ahead { (n : ℕ) → result ≡ Some n → IsSampleAhead self.now level }
         ensures value { (n : ℕ) → result ≡ Some n → n ≡ quanta_before_sample self.now }
@@ -202,6 +204,7 @@ impl BitClock {
 
     /// Runs the quanta of this level that come before the next sample, as [`BitClock::until_sample`] counts them, and that sample, at once.
     /// What the clock keeps is what it keeps after the same number of steps. No edge synchronises, and the last one alone is a sample.
+    #[inline(always)]
     pub fn sample(&mut self, level: Level)
         requires { IsSampleAhead self.old level }
         ensures clock { Follows self.old (λ l past. (x : Seen) → x.level ≡ level
@@ -217,6 +220,7 @@ impl BitClock {
     }
 
     /// Goes to the sample of the running bit.
+    #[inline(always)]
     fn sample_this(&mut self, level: Level)
         requires { moved_place self.old < end_of self.old }
         ensures clock { self.new ≡ sampled_on self.old level }
@@ -228,6 +232,7 @@ impl BitClock {
     }
 
     /// Goes to the sample of the next bit.
+    #[inline(always)]
     fn sample_next(&mut self, level: Level)
         ensures clock { self.new ≡ sampled_new self.old level }
         ensures kept { IsBitClock self.old }
@@ -271,6 +276,7 @@ impl BitClock {
     /// Runs this many quanta of this level at once. There are no more than [`BitClock::free_quanta`] says with `starts`, so none of them is
     /// a sample, and no edge synchronises. What the clock keeps is what it keeps after the same number of steps. If there are no more than
     /// [`BitClock::free_quanta`] says without `starts`, none begins a bit.
+    #[inline(always)]
     pub fn skip(&mut self, level: Level, quanta: u8)
         requires some { 0 < quanta }
         requires few { quanta ≤ free_quanta true self.old level }
@@ -293,6 +299,7 @@ impl BitClock {
     }
 
     /// Returns the quanta of the bit as it was moved.
+    #[inline(always)]
     fn end_at(&self) -> u8
         ensures end { result ≡ end_of self.now }
         ensures clock { IsBitClock self.now }
@@ -301,6 +308,7 @@ impl BitClock {
     }
 
     /// Returns the place of the sample in a bit that nothing moved.
+    #[inline(always)]
     fn sample_at(&self) -> u8
         ensures place { result ≡ sample_at self.now.lengths }
         ensures lengths { AreLengths self.now.lengths }
@@ -309,6 +317,7 @@ impl BitClock {
     }
 
     /// Returns the quanta of a bit that nothing moved.
+    #[inline(always)]
     fn bit_quanta(&self) -> u8
         ensures quanta { result ≡ bit_quanta self.now.lengths }
         ensures lengths { AreLengths self.now.lengths }
@@ -317,6 +326,7 @@ impl BitClock {
     }
 
     /// Returns the jump width.
+    #[inline(always)]
     fn jump(&self) -> u8
         ensures jump { result ≡ self.now.lengths.sjw }
         ensures lengths { AreLengths self.now.lengths }
@@ -325,6 +335,7 @@ impl BitClock {
     }
 
     /// Returns the place, in the bit that an edge begins, of the quantum that finds the edge.
+    #[inline(always)]
     fn found_at(&self) -> u8
         ensures { result ≡ found_at self.now.lengths }
     {
@@ -332,6 +343,7 @@ impl BitClock {
     }
 
     /// True if the quantum finds no edge, and comes in the running bit, which has begun.
+    #[inline(always)]
     fn goes_on(&self, level: Level) -> bool
         ensures edge { result ≡ true → finds_edge self.now level ≡ false }
         ensures begun { result ≡ true → 0 < self.now.quanta }
@@ -343,6 +355,7 @@ impl BitClock {
     }
 
     /// Runs such a quantum: it samples the bit, or does nothing.
+    #[inline(always)]
     fn go_on(&mut self, level: Level) -> Beat
         requires begun { 0 < self.old.quanta }
         requires inside { self.old.quanta < end_of self.old }
@@ -354,6 +367,7 @@ impl BitClock {
     }
 
     /// Runs one quantum that may find an edge, or begin a bit.
+    #[inline(always)]
     fn look(
         &mut self,
         level: Level,
@@ -376,6 +390,7 @@ impl BitClock {
     }
 
     /// Goes to the bit in which the edge lies that this quantum finds, if it finds one: its own, or that of the quantum before.
+    #[inline(always)]
     fn reach_edge(&mut self)
         ensures edge { self.new ≡ running_edge self.old }
         ensures room { self.new.lengths.sync ≡ SyncRules.After
@@ -388,6 +403,7 @@ impl BitClock {
     }
 
     /// Begins a new bit if the running one is over.
+    #[inline(always)]
     fn begin_due(&mut self)
         ensures due { self.new ≡ running_due self.old }
         ensures room { self.new.quanta + self.new.shorter < bit_quanta self.new.lengths + self.new.longer }
@@ -401,6 +417,7 @@ impl BitClock {
     }
 
     /// True if the node synchronises hard: on an idle bus, or by the book wherever the next edge may be a start of frame, up to its own.
+    #[inline(always)]
     fn is_hard_edge(&self, idle: bool, awaits: bool, driving: bool) -> bool
         ensures { (level : Level) → result ≡ is_hard_edge self.now.lengths.sync (seen_as level idle awaits driving) }
     {
@@ -411,6 +428,7 @@ impl BitClock {
     }
 
     /// True if the quantum looks for an edge.
+    #[inline(always)]
     fn looks(&self) -> bool
         ensures { result ≡ looks self.now.lengths.sync (sample_at self.now.lengths) self.now.quanta }
     {
@@ -421,6 +439,7 @@ impl BitClock {
     }
 
     /// True if the edge that is seen now counts.
+    #[inline(always)]
     fn is_sync(&self, level: Level, hard: bool, driving: bool) -> bool
         ensures { result ≡ running_counts self.now level hard driving }
     {
@@ -449,6 +468,7 @@ impl BitClock {
     }
 
     /// True if the edge counts, and begins the bit again.
+    #[inline(always)]
     fn is_restart(&self, counts: bool, hard: bool) -> bool
         ensures restart { result ≡ (counts && restarts_at self.now.lengths hard self.now.quanta) }
         ensures stays { counts ≡ true → result ≡ false → sample_at self.now.lengths < self.now.quanta
@@ -460,6 +480,7 @@ impl BitClock {
     }
 
     /// Puts the quantum into its bit, and returns what it is there.
+    #[inline(always)]
     fn place(&mut self, level: Level, counts: bool, restarts: bool) -> Beat
         requires room { self.old.lengths.sync ≡ SyncRules.After
             → self.old.quanta + self.old.shorter < bit_quanta self.old.lengths + self.old.longer }
@@ -480,6 +501,7 @@ impl BitClock {
     }
 
     /// Begins a new bit, by the edge too, if an edge lies in the quantum before and the running bit is over.
+    #[inline(always)]
     fn reach_quantum(&mut self)
         requires room { self.old.lengths.sync ≡ SyncRules.After
             → self.old.quanta + self.old.shorter < bit_quanta self.old.lengths + self.old.longer }
@@ -493,6 +515,7 @@ impl BitClock {
     }
 
     /// Begins a bit again with the quantum in which the edge lies.
+    #[inline(always)]
     fn restart(&mut self, level: Level)
         ensures { self.new ≡ record self.old {
           quanta = suc (found_at self.old.lengths);
@@ -510,6 +533,7 @@ impl BitClock {
     }
 
     /// Moves the bit by an edge that counts. True if the quantum is the sample even so.
+    #[inline(always)]
     fn pass_edge(&mut self, counts: bool) -> bool
         requires room { self.old.lengths.sync ≡ SyncRules.After
             → self.old.quanta + self.old.shorter < bit_quanta self.old.lengths + self.old.longer }
@@ -528,6 +552,7 @@ impl BitClock {
     }
 
     /// Moves the sample or the end of a bit that nothing moved yet; the sample also if this quantum would be it.
+    #[inline(always)]
     fn synchronise(&mut self)
         requires fresh { self.old.synced ≡ false }
         requires stays { sample_at self.old.lengths < self.old.quanta
