@@ -126,6 +126,9 @@ for word in candump vcd page margin traffic; do
   is "$word of full queues" [ $? = 0 -a -s "$room/$word" -a ! -s "$room/err" ]
 done
 is "lines of candump of full queues" [ "$(wc -l < "$room/candump")" = 128 ]
+# The records of a run are canonical: merged they are the same text.
+"$program" records < "$room/full.toml" > "$room/recorded"
+runs "merge of the records of full queues" "$room/recorded" 0 "$room/recorded" "$room/none" merge
 # By two workers that is a run of some thousands of turns.
 for link in hub mail; do
   runs "run of full queues by two workers, $link" "$room/full.toml" 0 "$room/full" "$room/none" run --workers 2 --link "$link"
