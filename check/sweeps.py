@@ -7,6 +7,7 @@ usage: sweeps.py answers [--program PROGRAM] [--jobs N] < crates/test_sweeps/std
 With --program members are run by a build of wl_sim in the place of plain.py: less independent, and a thousand times as fast.
 """
 import os
+import re
 import subprocess
 import sys
 from collections import Counter
@@ -18,6 +19,7 @@ from multiprocessing import Pool
 import plain
 
 MASK = 2**64 - 1
+MOST = 2**128 - 1  # so many members are counted, and no more
 CLOCK = ("num", "den", "quantum", "ppm")
 TOP = ("end", "per")
 REPEAT = ("every", "count")
@@ -34,11 +36,18 @@ class Refused(Exception):
 
 # ---- A plan's text: a table of its keys, with the rates of each node as a list in all versions
 
+OF_TEXT = "Size", "Toml", "Version", "Missing", "Kind", "Unknown"  # faults by which there is no plan to which frames could be added
+
+
 def read(text):
     try:
         plain.read_plan(text.encode())
     except plain.Fault as fault:
         raise Refused(fault, of_word=False)
+    return tables(text)
+
+
+def tables(text):
     plan = plain.read_toml(text.encode())
     for node in plan["node"]:
         if "rates" not in node:
@@ -136,7 +145,7 @@ def digits_of(plan, options):
 def member_count(plan, options):
     count = 1
     for offsets, signs in digits_of(plan, options)[0]: count *= offsets * signs
-    return min(count, 2**128 - 1)
+    return min(count, MOST)
 
 
 @cache
@@ -299,7 +308,7 @@ def with_worst(plan):
     plan, nodes, below = deepcopy(plan), plan["node"], 0x7F0
     used = {frame["id"] for node in nodes for frame in node.get("frame", []) if not frame.get("extended")}
     senders = [node for node in plan["node"] if node.get("frame")]
-    plan["end"] += max(map(bit_of, nodes), default=0) * 160 * len(senders)
+    plan["end"] = min(2**48 - 1, plan["end"] + max(map(bit_of, nodes), default=0) * 160 * len(senders))
     for node in senders:
         below = max(id for id in range(below) if id not in used)
         node["frame"].append({"id": below, "dlc": 8, "bytes": [0x3C] * 8, "ready": node["frame"][-1].get("ready", 0)})
@@ -327,7 +336,11 @@ class Sweep:
         if request["runs"] == 0: raise Refused("Runs")
         if request["step"] == 0: raise Refused("Step")
         if request["print"] is None and not 1 <= request["workers"] <= 8: raise Refused("Workers")
-        plan = read(text)
+        try:
+            plan = read(text)
+        except Refused as refused:  # of a refused plan that gets frames the fault is the one that it has with them
+            if not request["worst"] or re.match("fault: (" + "|".join(OF_TEXT) + r")\b", refused.line): raise
+            plan = tables(text)
         self.plan = with_worst(plan) if request["worst"] else plan
         read(plan_text(self.plan))  # a node may have no room for one frame more
         ranges = ranges_of(self.plan, request["ranges"])
@@ -353,10 +366,10 @@ class Sweep:
             if settings:
                 of_row = Counter(it[0] for (at, _), it in zip(places, all_found) if at == row)
                 said += "".join(f"{called} {value} " for called, value in settings) + counts(of_row) + "\n"
-        tally, members = Counter(it[0] for it in all_found), sum(member_count(plan, self.options) for _, plan in self.rows)
+        tally, members = Counter(it[0] for it in all_found), min(MOST, sum(member_count(plan, self.options) for _, plan in self.rows))
         said += counts(tally) + "\n"
         said += f"all {members} members were run\n" if tally.total() == members else \
-            f"{tally.total()} of {members} members were run, drawn by seed {self.options['seed']}\n"
+            f"{tally.total()} of {'at least ' * (members == MOST)}{members} members were run, drawn by seed {self.options['seed']}\n"
         said += self.first("first that isn't", places, all_found, lambda word: word not in ("clean", "refused"))
         said += self.first("first refused", places, all_found, lambda word: word == "refused")
         if self.options["worst"]: said += "each sender has one frame more, with edges ten bits apart\n"
