@@ -245,8 +245,8 @@ python3 -B check/formats.py "$program" examples/clean_500k.toml examples/burst.t
 is "JSON and CSV: $(tail -3 "$room/out" | tr '\n' '/')" [ "$ended" = 0 ]
 # Lines that no example has: what fails if several nodes send, and doesn't for one, or where nobody sends
 for records in check/formats/*.json; do
-  plan=${records%.json} command=${records%.json}
-  runs "JSON of $(basename "$records")" "${plan%.*}.toml" 0 "$records" "$room/none" "${command##*.}" --format json
+  by_hand=${records%.json}
+  runs "JSON of $(basename "$records")" "${by_hand%.*}.toml" 0 "$records" "$room/none" "${by_hand##*.}" --format json
 done
 . .ci/settings.sh
 # Each worker has a thread of its own beside the program's, and one works on that.
