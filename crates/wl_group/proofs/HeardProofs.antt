@@ -1,28 +1,22 @@
 -- What a place finds: how long a node's level stays, what all nodes make of the line, and the disturbances.
-use Rattle.std.proofs.Common.{◌≡◌, ℕ, zero, suc, ◌+◌, ◌-◌, ◌<◌, ◌≤◌, Bool, true, false, ◌&&◌, ◌||◌, inl, inr, List, [], ◌∷◌, length, replicate, nat_le, refl, sym, ◌∙◌, ap, subst, arith}
-use Rattle.std.specs.Prelude.{slice_index_or, slice_set, All}
-use Rattle.std.specs.List.{list_any}
+use Rattle.std.proofs.Common.{◌≡◌, ℕ, zero, suc, ◌+◌, ◌-◌, ◌<◌, ◌≤◌, Bool, true, false, ◌&&◌, ◌||◌, inl, inr, List, length, replicate, nat_le, refl, sym, ◌∙◌, ap, subst, arith}
+use Rattle.std.specs.Prelude.{slice_index_or, slice_set}
 use Rattle.std.proofs.Math.ListN.{length-set}
 use Rattle.std.proofs.lemmas.Bool.{cases_lt, cases_eq, le-leb, lt-leb, and_parts, leb-true}
 use Rattle.std.proofs.lemmas.List.{get_or_past, get_or-set_same, get_or-set_other}
-use Rattle.wl_level.specs.declared.Level.{Level}
-use Rattle.wl_level.specs.declared.Level.TheVariants.{Dominant, Recessive}
-use Rattle.wl_level.specs.Levels.{level_of}
 use Rattle.wl_lattice.specs.declared.FlatWord.{FlatWord}
 use Rattle.wl_topology.specs.Driven.{driven, DrivenLaws}
 use Rattle.wl_record_core.specs.Truth.{odd}
 use Rattle.wl_replica.specs.Slots.{Contents, HoldsTrue}
 use Rattle.wl_replica.specs.Known.{tick_in, after_edges, run_length, horizon}
 use Rattle.wl_replica.specs.KnownLaws.{KnownLaws}
-use Rattle.wl_plan.specs.declared.plan.Disturbance.{Disturbance}
 use Rattle.wl_plan.specs.declared.plan.Plan.{Plan}
 use Rattle.wl_plan.specs.Line.{Line}
-use Rattle.wl_plan.specs.PlanLine.{is_at}
 use Rattle.wl_plan.specs.Simulation.{level, changes}
 use Rattle.wl_plan.specs.Sound.{IsSound}
+use Rattle.wl_pulse.specs.declared.pulse.Pulse.{Pulse}
 use Rattle.wl_group.specs.GroupLaws.{WaveIsLevel}
-use Rattle.wl_group.specs.declared.heard.Stretch.{Stretch}
-use Rattle.wl_group.specs.Heard.{AreNotAfter, HasComeBy, IsShaken, IsStretch, IsStill, no_stretch, AreStretches, AreShaken}
+use Rattle.wl_group.specs.Heard.{AreNotAfter, HasComeBy, IsShaken, IsStretch, no_stretch, AreStretches, AreShaken}
 
 -- ---- one node
 
@@ -39,8 +33,8 @@ pub all_come : (w : Contents) (i m t : ℕ) → (0 < m → tick_in (w.edge i (m 
 all_come w i m t come = record { few = omega arith; come = come; others = λ some. absurd (omega arith) }
 
 -- a delay later it is heard
-pub heard_after : (delay t : ℕ) (b : Bool) (wave : Level) → delay ≤ t → level_of b ≡ wave → level_of (nat_le delay t && b) ≡ wave
-heard_after delay t b wave h e = ap (λ v. level_of (v && b)) (le-leb delay t h) ∙ e
+pub heard_after : (delay t : ℕ) (b wave : Bool) → delay ≤ t → b ≡ wave → (nat_le delay t && b) ≡ wave
+heard_after delay t b wave h e = ap (λ v. v && b) (le-leb delay t h) ∙ e
 
 -- the last of some changes, where there is one
 last_edge : (e : ℕ → FlatWord) (m : ℕ) → 0 < m → after_edges e m ≡ suc (tick_in (e (m - 1)))
@@ -56,26 +50,18 @@ no_edge e (suc m) none = absurd (omega (arith, none))
 -- after the last change that is known has come, the level stays as far as it is known
 pub heard_to_the_last : KnownLaws → WaveIsLevel → (l : Line) → IsSound l → (w : Contents) → HoldsTrue l.nodes (changes l) w → (i j : ℕ) → i < l.nodes
     → (t u : ℕ) → HasComeBy l w i j t → t ≤ u → u < horizon w i + l.delay i j
-    → level_of (nat_le (l.delay i j) u && level l i (u - l.delay i j)) ≡ level_of (odd (run_length w i))
+    → (nat_le (l.delay i j) u && level l i (u - l.delay i j)) ≡ odd (run_length w i)
 heard_to_the_last knows agree l sound w truth i j b t u come from until = elim (cases_lt u (l.delay i j)) [
   | inl before ↦
       let none = no_edge (w.edge i) (run_length w i) (omega (arith, come, from, before)) in
-      ap (λ v. level_of (v && level l i (u - l.delay i j))) (lt-leb (l.delay i j) u before) ∙ ap (λ m. level_of (odd m)) (sym none)
-  | inr after ↦ heard_after (l.delay i j) u (level l i (u - l.delay i j)) (level_of (odd (run_length w i))) after
-      (ap level_of (level_stays knows agree l sound w truth i b (u - l.delay i j) (u - l.delay i j) (run_length w i)
+      ap (λ v. v && level l i (u - l.delay i j)) (lt-leb (l.delay i j) u before) ∙ ap odd (sym none)
+  | inr after ↦ heard_after (l.delay i j) u (level l i (u - l.delay i j)) (odd (run_length w i)) after
+      (level_stays knows agree l sound w truth i b (u - l.delay i j) (u - l.delay i j) (run_length w i)
       (all_come w i (run_length w i) (u - l.delay i j) (λ some. let last = last_edge (w.edge i) (run_length w i) some in omega (arith, last, come, from, after)))
-      (omega arith) (omega (arith, until, after)) (λ past. absurd (omega (arith, past)))))
+      (omega arith) (omega (arith, until, after)) (λ past. absurd (omega (arith, past))))
 ]
 
 -- ---- all nodes
-
-pub is_dominant_level : (b : Bool) → level_of b ≡ Dominant → b ≡ true
-is_dominant_level true e = refl
-is_dominant_level false e = absurd cc
-
-pub is_recessive_level : (b : Bool) → level_of b ≡ Recessive → b ≡ false
-is_recessive_level true e = absurd cc
-is_recessive_level false e = refl
 
 -- one node that drove dominant is enough
 pub driven_by_one : DrivenLaws → (n : ℕ) (delay : ℕ → ℕ → ℕ) (drove : ℕ → ℕ → Bool) (i j t : ℕ) → i < n
@@ -86,35 +72,10 @@ driven_by_one laws n delay drove i j t b h =
 
 -- ---- disturbances
 
-any_stays : {A : Type 0} (p q : A → Bool) (xs : List A) → ((k : ℕ) (d : A) → k < length xs → p (slice_index_or xs k d) ≡ q (slice_index_or xs k d)) → list_any p xs ≡ list_any q xs
-any_stays p q [] same = refl
-any_stays p q (x ∷ xs) same =
-    ap (λ v. v || list_any p xs) (same 0 x (omega arith)) ∙ ap (λ v. q x || v) (any_stays p q xs (λ k d b. same (suc k) d (omega (arith, b))))
-
--- where none comes or goes, the same ones are there
-pub disturbed_stays : (plan : Plan) (j t u until : ℕ) (ds : List Disturbance) → All (IsStill plan j t until) ds → t ≤ u → u < until
-    → list_any (is_at plan j u) ds ≡ list_any (is_at plan j t) ds
-disturbed_stays plan j t u until ds still from before = any_stays (is_at plan j u) (is_at plan j t) ds (λ k d b. still k d b u from before)
-
-or_false : (b : Bool) → (b || false) ≡ b
-or_false true = refl
-or_false false = refl
-
-or_true : (b : Bool) → (b || true) ≡ true
-or_true true = refl
-or_true false = refl
-
--- with a disturbance the line is dominant, and without one as the nodes make it
-pub with_disturbance : (b d : Bool) → d ≡ true → level_of (b || d) ≡ Dominant
-with_disturbance b d e = ap (λ v. level_of (b || v)) e ∙ ap level_of (or_true b)
-
-pub without_disturbance : (b d : Bool) → d ≡ false → level_of (b || d) ≡ level_of b
-without_disturbance b d e = ap (λ v. level_of (b || v)) e ∙ ap level_of (or_false b)
-
--- no disturbance is there where they don't make the line dominant
-pub not_shaken : (d : Bool) (here : Level) → level_of d ≡ here → (here ≡ Dominant → ⊥) → d ≡ false
-not_shaken true here e other = absurd (other (sym e))
-not_shaken false here e other = refl
+-- without a disturbance the line is as the nodes make it
+pub without_disturbance : (b d v : Bool) → d ≡ false → b ≡ v → (b || d) ≡ v
+without_disturbance true d v none is = is
+without_disturbance false d v none is = none ∙ is
 
 -- ---- the stretches that a group keeps
 
@@ -136,7 +97,7 @@ pub nothing_shaken : (plan : Plan) (n : ℕ) → AreShaken plan (replicate n no_
 nothing_shaken plan n j = subst (IsShaken plan j) (sym (nothing_at n j)) (empty_shaken plan j)
 
 -- with another stretch at one place
-one_set : (P : ℕ → Stretch → Type 0) → ((j : ℕ) → P j no_stretch) → (xs : List Stretch) (i : ℕ) (new : Stretch)
+one_set : (P : ℕ → Pulse → Type 0) → ((j : ℕ) → P j no_stretch) → (xs : List Pulse) (i : ℕ) (new : Pulse)
     → ((j : ℕ) → P j (slice_index_or xs j no_stretch)) → P i new → (j : ℕ) → P j (slice_index_or (slice_set xs i new) j no_stretch)
 one_set P empty xs i new are is j = elim (cases_eq j i) [
   | inl same ↦ subst (λ n. P n (slice_index_or (slice_set xs i new) n no_stretch)) (sym same) (elim (cases_lt i (length xs)) [
@@ -148,8 +109,8 @@ one_set P empty xs i new are is j = elim (cases_eq j i) [
   | inr other ↦ subst (P j) (sym (get_or-set_other xs i j new no_stretch other)) (are j)
 ]
 
-pub one_more_heard : (l : Line) (heard : List Stretch) (i : ℕ) (new : Stretch) → AreStretches l heard → IsStretch l i new → AreStretches l (slice_set heard i new)
+pub one_more_heard : (l : Line) (heard : List Pulse) (i : ℕ) (new : Pulse) → AreStretches l heard → IsStretch l i new → AreStretches l (slice_set heard i new)
 one_more_heard l heard i new are is = one_set (IsStretch l) (empty_stretch l) heard i new are is
 
-pub one_more_shaken : (plan : Plan) (shaken : List Stretch) (i : ℕ) (new : Stretch) → AreShaken plan shaken → IsShaken plan i new → AreShaken plan (slice_set shaken i new)
+pub one_more_shaken : (plan : Plan) (shaken : List Pulse) (i : ℕ) (new : Pulse) → AreShaken plan shaken → IsShaken plan i new → AreShaken plan (slice_set shaken i new)
 one_more_shaken plan shaken i new are is = one_set (IsShaken plan) (empty_shaken plan) shaken i new are is

@@ -25,8 +25,8 @@ use Rattle.wl_plan.specs.PlanLine.{setup_at, line_of, table_of}
 use Rattle.wl_plan.specs.Simulation.{level, seen, differs, changes, AreInside}
 use Rattle.wl_plan.specs.SimulationLaws.{SimulationLaws}
 use Rattle.wl_plan.specs.Sound.{IsSound}
+use Rattle.wl_pulse.specs.declared.pulse.Pulse.{Pulse}
 use Rattle.wl_group.specs.declared.cell.Cell.{Cell}
-use Rattle.wl_group.specs.declared.heard.Stretch.{Stretch}
 use Rattle.wl_group.specs.Heard.{IsStretch, no_stretch}
 use Rattle.wl_group.specs.Member.{Member, next_tick, turns, member_after_quantum, emission}
 use Rattle.wl_group.specs.Kept.{IsCell}
@@ -252,13 +252,13 @@ module _ (sims : SimulationLaws) (plan : Plan) (s : IsSound (line_of plan)) (i :
       let f = s.few_quanta i (last - 1) b (omega arith) in
       omega arith
 
-  pub finds_last : (stretch : Stretch) → stretch.until ≡ until → IsStretch (line_of plan) i stretch → stretch.from ≤ cell.next
-      → Finds (line_of plan) i stretch.level (quanta_of cell.node) (last - quanta_of cell.node)
+  pub finds_last : (stretch : Pulse) → stretch.until ≡ until → IsStretch (line_of plan) i stretch → stretch.from ≤ cell.next
+      → Finds (line_of plan) i (level_of stretch.dominant) (quanta_of cell.node) (last - quanta_of cell.node)
   finds_last stretch e stay from j c =
       let t = counted.below (quanta_of cell.node + j) (omega arith) in
       let later = sims.clock_later (line_of plan) i (quanta_of cell.node) (quanta_of cell.node + j) s.causal b (omega arith) in
       let n = is.next in
-      stay ((line_of plan).instant i (quanta_of cell.node + j)) (omega arith) (omega arith)
+      ap level_of (stay ((line_of plan).instant i (quanta_of cell.node + j)) (omega arith) (omega arith))
 
 -- a node has changed no more often than records count
 pub changed_most : (plan : Plan) → IsSound (line_of plan) → (i : ℕ) → i < length plan.nodes → (cell : Cell) → IsCell plan i cell → cell.changed ≤ most_edges
@@ -271,7 +271,7 @@ changed_most plan s i b cell is =
 -- ---- stretches that are found one after another
 
 module _ (l : Line) (j t : ℕ) where
-  pub ahead_one : (s : Stretch) (n : ℕ) → IsStretch l j s → s.from ≤ t → t < s.until → AreAhead l j t (replicate (suc n) s) 1
+  pub ahead_one : (s : Pulse) (n : ℕ) → IsStretch l j s → s.from ≤ t → t < s.until → AreAhead l j t (replicate (suc n) s) 1
   ahead_one s n stay from until = record {
     few = omega arith;
     each = λ m c. (let e : 0 ≡ m = omega arith in subst (λ x. IsStretch l j (slice_index_or (replicate (suc n) s) x no_stretch)) e stay);
@@ -280,7 +280,7 @@ module _ (l : Line) (j t : ℕ) where
     joined = λ m c. absurd (omega arith);
   }
 
-  pub ahead_more : (ss : List Stretch) (n : ℕ) (s : Stretch) → 0 < n → n < length ss → AreAhead l j t ss n → IsStretch l j s → s.from ≤ (slice_index_or ss (n - 1) no_stretch).until
+  pub ahead_more : (ss : List Pulse) (n : ℕ) (s : Pulse) → 0 < n → n < length ss → AreAhead l j t ss n → IsStretch l j s → s.from ≤ (slice_index_or ss (n - 1) no_stretch).until
       → AreAhead l j t (slice_set ss n s) (n + 1)
   ahead_more ss n s some room a stay from =
       let long = length-set ss n s in
@@ -292,17 +292,17 @@ module _ (l : Line) (j t : ℕ) where
           | inl less ↦ subst (IsStretch l j) (sym (old m less)) (a.each m less)
           | inr more ↦ (let e : n ≡ m = omega arith in subst (λ x. IsStretch l j (slice_index_or (slice_set ss n s) x no_stretch)) e (subst (IsStretch l j) (sym new) stay))
         ];
-        from = λ c. subst (λ (x : Stretch). x.from ≤ t) (sym (old 0 some)) (a.from some);
-        until = λ c. subst (λ (x : Stretch). t < x.until) (sym (old 0 some)) (a.until some);
+        from = λ c. subst (λ (x : Pulse). x.from ≤ t) (sym (old 0 some)) (a.from some);
+        until = λ c. subst (λ (x : Pulse). t < x.until) (sym (old 0 some)) (a.until some);
         joined = λ m c. elim (cases_lt (suc m) n) [
-          | inl less ↦ subst (λ (x : Stretch). x.from ≤ (slice_index_or (slice_set ss n s) m no_stretch).until) (sym (old (suc m) less))
-              (subst (λ (x : Stretch). (slice_index_or ss (suc m) no_stretch).from ≤ x.until) (sym (old m (omega arith))) (a.joined m less))
+          | inl less ↦ subst (λ (x : Pulse). x.from ≤ (slice_index_or (slice_set ss n s) m no_stretch).until) (sym (old (suc m) less))
+              (subst (λ (x : Pulse). (slice_index_or ss (suc m) no_stretch).from ≤ x.until) (sym (old m (omega arith))) (a.joined m less))
           | inr last ↦
               let e : n ≡ suc m = omega arith in
               let f : n - 1 ≡ m = omega arith in
               subst (λ x. (slice_index_or (slice_set ss n s) x no_stretch).from ≤ (slice_index_or (slice_set ss n s) m no_stretch).until) e
-              (subst (λ (x : Stretch). x.from ≤ (slice_index_or (slice_set ss n s) m no_stretch).until) (sym new)
-              (subst (λ (x : Stretch). s.from ≤ x.until) (sym (old m (omega arith))) (subst (λ x. s.from ≤ (slice_index_or ss x no_stretch).until) f from)))
+              (subst (λ (x : Pulse). x.from ≤ (slice_index_or (slice_set ss n s) m no_stretch).until) (sym new)
+              (subst (λ (x : Pulse). s.from ≤ x.until) (sym (old m (omega arith))) (subst (λ x. s.from ≤ (slice_index_or ss x no_stretch).until) f from)))
         ];
       }
 

@@ -8,8 +8,8 @@ use Rattle.wl_plan.specs.declared.plan.Plan.{Plan}
 use Rattle.wl_plan.specs.Line.{Line, found}
 use Rattle.wl_plan.specs.PlanLine.{line_of}
 use Rattle.wl_plan.specs.Simulation.{level, seen}
+use Rattle.wl_pulse.specs.declared.pulse.Pulse.{Pulse}
 use Rattle.wl_group.specs.declared.cell.Cell.{Cell}
-use Rattle.wl_group.specs.declared.heard.Stretch.{Stretch}
 use Rattle.wl_group.specs.Heard.{IsStretch, no_stretch}
 use Rattle.wl_group.specs.Kept.{IsCell}
 use Rattle.wl_group.specs.Member.{emission}
@@ -20,7 +20,7 @@ abbrev pub spoken : Line → ℕ → ℕ → List Record
 spoken l i k = emission l i (member_after l i k) (level_of (found l (level l) i (l.instant i k)))
 
 -- The first n of a list are stretches of the line at node j, one after another: the first has tick t.
-pub record AreAhead (l : Line) (j t : ℕ) (ss : List Stretch) (n : ℕ) : Type 0 where
+pub record AreAhead (l : Line) (j t : ℕ) (ss : List Pulse) (n : ℕ) : Type 0 where
   pub few : n ≤ length ss
   pub each : (m : ℕ) → m < n → IsStretch l j (slice_index_or ss m no_stretch)
   pub from : 0 < n → (slice_index_or ss 0 no_stretch).from ≤ t

@@ -15,10 +15,11 @@ use crate::advance::{append, make_room, prepare};
 use crate::answer::Emission;
 use crate::cell::Cell;
 use crate::group::Group;
-use crate::heard::{Stretch, shaken_around, stretch_around};
+use crate::heard::{shaken_around, stretch_around};
 use crate::laws::{group_laws, value_laws};
 use std::alloc::{AllocError, Global};
 use wl_plan::CheckedPlan;
+use wl_pulse::Pulse;
 use wl_record_core::Record;
 use wl_replica::Replica;
 
@@ -28,7 +29,7 @@ pub(crate) const MOST_AHEAD: usize = 4;
 /// Stretches of the line at a member's place, one after another, and how many there are.
 #[derive(Drop)]
 pub(crate) struct Ahead {
-    pub(crate) stretches: [Stretch; MOST_AHEAD],
+    pub(crate) stretches: [Pulse; MOST_AHEAD],
     pub(crate) count: usize,
 }
 
@@ -88,7 +89,7 @@ impl Group {
     }
 
     /// Returns the stretch of the line at a member's place that has this tick, at which it is known there.
-    pub(crate) fn find(&mut self, i: u8, tick: u64) -> Stretch
+    pub(crate) fn find(&mut self, i: u8, tick: u64) -> Pulse
         requires member { belongs self.old i ≡ true }
         requires early { tick < 2 ^ 64 - 1 }
         requires known { let l = line_of self.old.plan in
@@ -209,7 +210,7 @@ impl Cell {
         &mut self,
         plan: &CheckedPlan,
         i: u8,
-        stretch: Stretch,
+        stretch: Pulse,
         end: u64,
     ) -> Result<Emission, AllocError>
         requires node { i < length plan.now.nodes }
@@ -230,6 +231,6 @@ impl Cell {
             .setup()
             .clock
             .first_not_before(stretch.until.min(end));
-        self.go(i, stretch.level, last - ran)
+        self.go(i, stretch.level(), last - ran)
     }
 }

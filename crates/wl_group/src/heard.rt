@@ -1,7 +1,6 @@
-//! What a place finds: the level of the line there, and for how long it stays, as far as that is known.
+//! What a place finds: whether the line is dominant there, and for how long it stays so, as far as that is known.
 
-ghost use Rattle.std.specs.Prelude.{◌≡◌, ◌+◌, ◌-◌, ◌<◌, ◌≤◌, ◌^◌, ℕ, All, IfSome, length, nat_le, nat_lt};
-ghost use Rattle.wl_level.specs.Levels.{level_of};
+ghost use Rattle.std.specs.Prelude.{◌≡◌, ◌+◌, ◌-◌, ◌<◌, ◌≤◌, ◌^◌, ℕ, IfSome, length};
 ghost use Rattle.wl_record_core.specs.Limits.{tick_end};
 ghost use Rattle.wl_record_core.specs.Truth.{odd};
 ghost use Rattle.wl_replica.specs.State.{slots_of};
@@ -9,16 +8,16 @@ ghost use Rattle.wl_topology.specs.Limits.{most_places, never};
 ghost use Rattle.wl_replica.specs.Known.{tick_in, horizon, place_horizon};
 ghost use Rattle.wl_replica.specs.Slots.{HoldsTrue};
 ghost use Rattle.wl_plan.specs.Line.{Line};
-ghost use Rattle.wl_plan.specs.PlanLine.{line_of, table_of, disturbed};
+ghost use Rattle.wl_plan.specs.PlanLine.{line_of, table_of};
 ghost use Rattle.wl_plan.specs.declared.plan.Plan.{Plan as GivenPlan};
-ghost use Rattle.wl_group.specs.Heard.{AreNotAfter, edge_tick, AreStretches, AreShaken, HasComeBy, IsDrive, IsHeardOf, IsDriven, IsShaken, IsStretch, IsStill};
+ghost use Rattle.wl_group.specs.Heard.{AreNotAfter, edge_tick, AreStretches, AreShaken, HasComeBy, IsDrive, IsHeardOf, IsDriven, IsShaken, IsStretch};
 ghost use Rattle.wl_group.specs.Ways.{AreWays, way_in};
 
 use crate::cell::Ways;
 use crate::laws::true_replicas_agree;
 use wl_lattice::FlatWord;
-use wl_level::Level;
 use wl_plan::CheckedPlan;
+use wl_pulse::{Pulse, SILENCE, disturbed_at};
 use wl_record_core::Slot;
 use wl_replica::{Replica, Word};
 use wl_topology::MOST_NODES;
@@ -27,27 +26,15 @@ use wl_topology::MOST_NODES;
 /// nothing.
 pub(crate) type Come = [u32; MOST_NODES];
 
-/// A level from a tick on and below another one.
-#[derive(Clone, Copy)]
-pub(crate) struct Stretch {
-    pub(crate) from: u64,
-    pub(crate) until: u64,
-    pub(crate) level: Level,
-}
-
-/// For each node a stretch: of the line where it read it last, or of the disturbances there.
-pub(crate) type Heard = [Stretch; MOST_NODES];
+/// For each node a pulse: of the line where it read it last, or of the disturbances there.
+pub(crate) type Heard = [Pulse; MOST_NODES];
 
 /// Returns the state in which no place has heard anything.
 pub(crate) fn nothing_heard() -> Heard
     ensures heard { (l : Line) → AreStretches l result }
     ensures shaken { (plan : GivenPlan) → AreShaken plan result }
 {
-    [Stretch {
-        from: 0,
-        until: 0,
-        level: Level::Dominant,
-    }; MOST_NODES]
+    [SILENCE; MOST_NODES]
 }
 
 /// Returns the tick of a node's change; 0 if it isn't known.
@@ -89,16 +76,6 @@ fn changes_until(replica: &Replica, node: u8, run: u32, tick: u64, guess: u32) -
     count
 }
 
-/// Returns the level of a node after this many changes: dominant after an odd number.
-fn level_after(count: u32) -> Level
-    ensures { result ≡ level_of (odd count) }
-{
-    if count % 2 == 1 {
-        return Level::Dominant;
-    }
-    Level::Recessive
-}
-
 /// Returns the tick below which a node has no more than `count` changes, as far as it is known; `run` of them are known.
 fn kept_until(replica: &Replica, node: u8, run: u32, count: u32, known: u64) -> u64
     ensures few { result ≤ known }
@@ -112,7 +89,7 @@ fn kept_until(replica: &Replica, node: u8, run: u32, count: u32, known: u64) -> 
 }
 
 /// Returns what node `i` drives from tick `t` on, at which that is known: up to its next change, or as far as it is known.
-fn drive_at(plan: &CheckedPlan, replica: &Replica, i: u8, t: u64, come: &mut u32) -> Stretch
+fn drive_at(plan: &CheckedPlan, replica: &Replica, i: u8, t: u64, come: &mut u32) -> Pulse
     requires nodes { replica.now.nodes ≡ length plan.now.nodes }
     requires truth { HoldsTrue (length plan.now.nodes) (table_of plan.now) (slots_of replica.now) }
     requires from { i < length plan.now.nodes }
@@ -129,10 +106,10 @@ fn drive_at(plan: &CheckedPlan, replica: &Replica, i: u8, t: u64, come: &mut u32
     let run = replica.run_length(i);
     let count = changes_until(replica, i, run, t, *come);
     *come = count;
-    Stretch {
+    Pulse {
         from: t,
         until: kept_until(replica, i, run, count, replica.horizon(i)),
-        level: level_after(count),
+        dominant: count % 2 == 1,
     }
 }
 
@@ -147,7 +124,7 @@ fn heard_at(
     t: u64,
     delay: u64,
     come: &mut u32,
-) -> Stretch
+) -> Pulse
     requires nodes { replica.now.nodes ≡ length plan.now.nodes }
     requires truth { HoldsTrue (length plan.now.nodes) (table_of plan.now) (slots_of replica.now) }
     requires from { i < length plan.now.nodes }
@@ -159,23 +136,23 @@ fn heard_at(
     ensures heard { IsHeardOf (line_of plan.now) i j result }
 {
     if t < delay {
-        return Stretch {
+        return Pulse {
             from: t,
             until: delay,
-            level: Level::Recessive,
+            dominant: false,
         };
     }
     let own = drive_at(plan, replica, i, t - delay, come);
-    Stretch {
+    Pulse {
         from: t,
         until: own.until.saturating_add(delay),
-        level: own.level,
+        dominant: own.dominant,
     }
 }
 
 /// Returns what node `j` finds of node `i` alone from tick `t` on, if the last of that node's changes that are known has come there by
 /// then: its level stays as far as it is known.
-fn heard_last(plan: &CheckedPlan, replica: &Replica, ways: &Ways, i: u8, j: u8, t: u64) -> Stretch
+fn heard_last(plan: &CheckedPlan, replica: &Replica, ways: &Ways, i: u8, j: u8, t: u64) -> Pulse
     requires nodes { replica.now.nodes ≡ length plan.now.nodes }
     requires truth { HoldsTrue (length plan.now.nodes) (table_of plan.now) (slots_of replica.now) }
     requires from { i < length plan.now.nodes }
@@ -191,10 +168,10 @@ fn heard_last(plan: &CheckedPlan, replica: &Replica, ways: &Ways, i: u8, j: u8, 
     wl_record_core::table_laws();
     wl_replica::known_laws();
     true_replicas_agree();
-    Stretch {
+    Pulse {
         from: t,
         until: known_of(replica, ways, i),
-        level: level_after(replica.run_length(i)),
+        dominant: replica.run_length(i) % 2 == 1,
     }
 }
 
@@ -208,7 +185,7 @@ fn heard_of(
     i: u8,
     j: u8,
     t: u64,
-) -> Stretch
+) -> Pulse
     requires nodes { replica.now.nodes ≡ length plan.now.nodes }
     requires truth { HoldsTrue (length plan.now.nodes) (table_of plan.now) (slots_of replica.now) }
     requires from { i < length plan.now.nodes }
@@ -236,7 +213,7 @@ fn driven_again(
     first: u8,
     j: u8,
     t: u64,
-) -> Option<Stretch>
+) -> Option<Pulse>
     requires nodes { replica.now.nodes ≡ length plan.now.nodes }
     requires truth { HoldsTrue (length plan.now.nodes) (table_of plan.now) (slots_of replica.now) }
     requires place { j < length plan.now.nodes }
@@ -254,10 +231,10 @@ fn driven_again(
         return None;
     }
     let one = heard_of(plan, replica, come, ways, first, j, t);
-    match one.level {
-        Level::Dominant => Some(one),
-        Level::Recessive => None,
+    if one.dominant {
+        return Some(one);
     }
+    None
 }
 
 /// Returns what node `j` finds of all nodes from tick `t` on, at which that is known. It asks first the node that was found to drive dominant
@@ -270,7 +247,7 @@ fn driven_from(
     lead: &mut u8,
     j: u8,
     t: u64,
-) -> Stretch
+) -> Pulse
     requires nodes { replica.now.nodes ≡ length plan.now.nodes }
     requires truth { HoldsTrue (length plan.now.nodes) (table_of plan.now) (slots_of replica.now) }
     requires place { j < length plan.now.nodes }
@@ -290,18 +267,16 @@ fn driven_from(
     let mut until = u64::MAX;
     for i in 0..plan.nodes() {
         let one = heard_of(plan, replica, come, ways, i, j, t);
-        match one.level {
-            Level::Dominant => {
-                *lead = i;
-                return one;
-            }
-            Level::Recessive => until = until.min(one.until),
+        if one.dominant {
+            *lead = i;
+            return one;
         }
+        until = until.min(one.until);
     }
-    Stretch {
+    Pulse {
         from: t,
         until,
-        level: Level::Recessive,
+        dominant: false,
     }
 }
 
@@ -329,64 +304,8 @@ pub(crate) fn known_by(replica: &Replica, ways: &Ways) -> u64
     least
 }
 
-/// Returns a tick, if it is after tick `t` and before another one, and else that one.
-fn first_after(edge: u64, t: u64, until: u64) -> u64
-    requires later { t < until }
-    ensures later { t < result }
-    ensures few { result ≤ until }
-    ensures come { (u : ℕ) → t ≤ u → u < result → nat_le edge u ≡ nat_le edge t }
-    ensures over { (u : ℕ) → t ≤ u → u < result → nat_lt u edge ≡ nat_lt t edge }
-{
-    if t < edge && edge < until {
-        return edge;
-    }
-    until
-}
-
-/// Returns the tick after `t` at which the next disturbance arrives at node `j`, or is over there; 2^64 - 1 if there is none.
-fn undisturbed_until(plan: &CheckedPlan, j: u8, t: u64) -> u64
-    requires node { j < length plan.now.nodes }
-    requires early { t < 2 ^ 64 - 1 }
-    ensures later { t < result }
-    ensures still { All (IsStill plan.now j t result) plan.now.disturbances }
-{
-    let mut until = u64::MAX;
-    for i in 0..plan.disturbances.len() {
-        let d = plan.disturbances.as_slice()[i];
-        let delay = plan.disturbance_delay(d, j);
-        until = first_after(d.from + delay, t, until);
-        until = first_after(d.to + delay, t, until);
-    }
-    until
-}
-
-/// Returns what the disturbances make at node `j` from tick `t` on.
-fn shaken_from(plan: &CheckedPlan, j: u8, t: u64) -> Stretch
-    requires node { j < length plan.now.nodes }
-    requires early { t < 2 ^ 64 - 1 }
-    ensures from { result.from ≡ t }
-    ensures until { t < result.until }
-    ensures shaken { IsShaken plan.now j result }
-{
-    Stretch {
-        from: t,
-        until: undisturbed_until(plan, j, t),
-        level: level_where(plan.disturbed(j, t)),
-    }
-}
-
-/// Returns dominant if something drives so.
-fn level_where(dominant: bool) -> Level
-    ensures { result ≡ level_of dominant }
-{
-    if dominant {
-        return Level::Dominant;
-    }
-    Level::Recessive
-}
-
 /// Returns the stretch of the disturbances at node `j` that has tick `t`: this one, or one that is found again.
-pub(crate) fn shaken_around(plan: &CheckedPlan, shaken: Stretch, j: u8, t: u64) -> Stretch
+pub(crate) fn shaken_around(plan: &CheckedPlan, shaken: Pulse, j: u8, t: u64) -> Pulse
     requires node { j < length plan.now.nodes }
     requires early { t < 2 ^ 64 - 1 }
     requires shaken { IsShaken plan.now j shaken }
@@ -397,7 +316,7 @@ pub(crate) fn shaken_around(plan: &CheckedPlan, shaken: Stretch, j: u8, t: u64) 
     if shaken.from <= t && t < shaken.until {
         return shaken;
     }
-    shaken_from(plan, j, t)
+    disturbed_at(plan, j as usize, t)
 }
 
 /// Returns the level of the line at node `j` from tick `t` on, at which it is known there, while the disturbances stay as they are.
@@ -407,10 +326,10 @@ fn found_from(
     come: &mut Come,
     ways: &Ways,
     lead: &mut u8,
-    shaken: Stretch,
+    shaken: Pulse,
     j: u8,
     t: u64,
-) -> Stretch
+) -> Pulse
     requires nodes { replica.now.nodes ≡ length plan.now.nodes }
     requires truth { HoldsTrue (length plan.now.nodes) (table_of plan.now) (slots_of replica.now) }
     requires place { j < length plan.now.nodes }
@@ -424,18 +343,18 @@ fn found_from(
     ensures until { t < result.until }
     ensures found { IsStretch (line_of plan.now) j result }
 {
-    if let Level::Dominant = shaken.level {
-        return Stretch {
+    if shaken.dominant {
+        return Pulse {
             from: t,
             until: shaken.until,
-            level: Level::Dominant,
+            dominant: true,
         };
     }
     let driven = driven_from(plan, replica, come, ways, lead, j, t);
-    Stretch {
+    Pulse {
         from: t,
         until: driven.until.min(shaken.until),
-        level: driven.level,
+        dominant: driven.dominant,
     }
 }
 
@@ -447,11 +366,11 @@ pub(crate) fn stretch_around(
     come: &mut Come,
     ways: &Ways,
     lead: &mut u8,
-    heard: Stretch,
-    shaken: Stretch,
+    heard: Pulse,
+    shaken: Pulse,
     j: u8,
     t: u64,
-) -> Stretch
+) -> Pulse
     requires nodes { replica.now.nodes ≡ length plan.now.nodes }
     requires truth { HoldsTrue (length plan.now.nodes) (table_of plan.now) (slots_of replica.now) }
     requires place { j < length plan.now.nodes }

@@ -7,7 +7,8 @@ use Rattle.wl_plan.specs.declared.plan.Plan.{Plan}
 use Rattle.wl_plan.specs.PlanLine.{disturbed}
 use Rattle.wl_serial.specs.declared.ear.Ear.{Ear}
 use Rattle.wl_serial.specs.declared.running_node.Running.{Running}
-use Rattle.wl_serial.specs.Heard.{AreDelays, AreOthers, AreSooner, IsPulse, IsEar, IsHeard, HasChanged}
+use Rattle.wl_pulse.specs.Pulses.{IsPulse}
+use Rattle.wl_serial.specs.Heard.{AreDelays, AreOthers, AreSooner, IsEar, IsHeard, HasChanged}
 use Rattle.wl_serial.proofs.Hearing.{heard_before}
 use Rattle.wl_serial.proofs.Kept.{kept_sooner}
 

@@ -1,21 +1,19 @@
 -- What comes from each node, below the tick up to which its drive is known, is what the simulation says.
-use Rattle.std.proofs.Common.{◌≡◌, ℕ, suc, ◌+◌, ◌-◌, ◌<◌, ◌≤◌, Bool, ◌&&◌, ◌||◌, ◌⊎◌, inl, inr, List, [], ◌∷◌, All, refl, length, take, get_or, sym, ◌∙◌, ap, subst, arith, nat_le, add-one}
+use Rattle.std.proofs.Common.{◌≡◌, ℕ, ◌+◌, ◌-◌, ◌<◌, ◌≤◌, Bool, ◌&&◌, ◌||◌, ◌⊎◌, inl, inr, List, length, take, get_or, sym, ◌∙◌, ap, subst, arith, nat_le, add-one}
 use Rattle.std.proofs.lemmas.Bool.{cases_lt, cases_eq, lt-leb}
-use Rattle.std.specs.List.{list_any}
 use Rattle.std.proofs.lemmas.List.{get_or_default}
 use Rattle.wl_topology.specs.Delays.{delay_of}
 use Rattle.wl_topology.specs.Driven.{driven}
 use Rattle.wl_record_core.specs.Truth.{count_below, odd}
 use Rattle.wl_record_core.specs.TableLaws.{TableLaws}
 use Rattle.wl_plan.specs.declared.plan.Plan.{Plan}
-use Rattle.wl_plan.specs.declared.plan.Disturbance.{Disturbance}
-use Rattle.wl_plan.specs.PlanLine.{line_of, table_of, is_at}
+use Rattle.wl_plan.specs.PlanLine.{line_of, table_of}
 use Rattle.wl_plan.specs.Line.{Line}
 use Rattle.wl_plan.specs.Simulation.{level, changes}
 use Rattle.wl_plan.specs.SimulationLaws.{SimulationLaws}
 use Rattle.wl_plan.specs.Sound.{IsCausal, IsSound}
 use Rattle.wl_serial.specs.declared.running_node.Running.{Running}
-use Rattle.wl_serial.specs.Heard.{comes, drove, IsStill}
+use Rattle.wl_serial.specs.Heard.{comes, drove}
 use Rattle.wl_serial.specs.Running.{IsRunning, AreRunning, KnowsOthers, OwnIsTold}
 
 -- the front of a list of changes tells the level up to where it reaches
@@ -82,13 +80,3 @@ makes plan rs i j u horizon d r laws table sound are b known early told = elim (
       let all = are.all in
       come plan i j u (get_or rs i r) laws table sound (omega (arith, b, all)) (are.each i r b) (omega (arith, early, h))
 ]
-
--- where no disturbance comes or goes, the same ones are there
-any_stays : {X : Type 0} (p q : X → Bool) (xs : List X) → All (λ x. p x ≡ q x) xs → list_any p xs ≡ list_any q xs
-any_stays p q [] same = refl
-any_stays p q (x ∷ xs) same =
-    ap (λ v. v || list_any p xs) (same 0 x (omega arith)) ∙ ap (λ v. q x || v) (any_stays p q xs (λ k d b. same (suc k) d (omega (arith, b))))
-
-pub disturbed_stays : (plan : Plan) (j t u until : ℕ) (ds : List Disturbance) → All (IsStill plan j t until) ds → t ≤ u → u < until
-    → list_any (is_at plan j u) ds ≡ list_any (is_at plan j t) ds
-disturbed_stays plan j t u until ds still from before = any_stays (is_at plan j u) (is_at plan j t) ds (λ k d b. still k d b u from before)

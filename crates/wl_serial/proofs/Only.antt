@@ -15,10 +15,11 @@ use Rattle.wl_plan.specs.PlanLine.{line_of, disturbed}
 use Rattle.wl_plan.specs.SimulationLaws.{SimulationLaws}
 use Rattle.wl_serial.specs.declared.ear.Ear.{Ear}
 use Rattle.wl_serial.specs.declared.ear.Found.{Found}
-use Rattle.wl_serial.specs.declared.pulse.Pulse.{Pulse}
+use Rattle.wl_pulse.specs.declared.pulse.Pulse.{Pulse}
 use Rattle.wl_serial.specs.declared.running_node.Running.{Running}
 use Rattle.wl_serial.specs.Stretch.{HasStretched, TellsTheSame}
-use Rattle.wl_serial.specs.Heard.{drove, passing, tells, HearsOnly, IsAlone, IsFound, IsHeard, IsPulse}
+use Rattle.wl_pulse.specs.Pulses.{IsPulse}
+use Rattle.wl_serial.specs.Heard.{drove, passing, tells, HearsOnly, IsAlone, IsFound, IsHeard}
 
 -- one of those that pass
 one_passes : (p : ℕ → Bool) (n k : ℕ) → k < n → from_bool (p k) ≤ passing p n

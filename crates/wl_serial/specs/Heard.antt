@@ -8,11 +8,11 @@ use Rattle.wl_topology.specs.Delays.{delay_of}
 use Rattle.wl_topology.specs.Limits.{most_places}
 use Rattle.wl_topology.specs.Driven.{driven}
 use Rattle.wl_plan.specs.declared.plan.Plan.{Plan}
-use Rattle.wl_plan.specs.declared.plan.Disturbance.{Disturbance}
-use Rattle.wl_plan.specs.PlanLine.{line_of, disturbed, is_at}
+use Rattle.wl_plan.specs.PlanLine.{line_of, disturbed}
 use Rattle.wl_plan.specs.Line.{found}
 use Rattle.wl_plan.specs.Simulation.{level}
-use Rattle.wl_serial.specs.declared.pulse.Pulse.{Pulse}
+use Rattle.wl_pulse.specs.declared.pulse.Pulse.{Pulse}
+use Rattle.wl_pulse.specs.Pulses.{IsPulse}
 use Rattle.wl_serial.specs.declared.ear.Ear.{Ear}
 use Rattle.wl_serial.specs.declared.sources.Sources.{Sources}
 use Rattle.wl_serial.specs.declared.ear.Found.{Found}
@@ -25,10 +25,6 @@ drove changes delay t = nat_le delay t && odd (count_below (t - delay + 1) chang
 -- whether node i drives dominant at place j and tick t in the simulation
 abbrev pub comes : Plan → ℕ → ℕ → ℕ → Bool
 comes plan i j t = nat_le (delay_of plan.topology i j) t && level (line_of plan) i (t - delay_of plan.topology i j)
-
--- at each tick of the pulse it is as the pulse says
-abbrev pub IsPulse : (ℕ → Bool) → Pulse → Type 0
-IsPulse dominant p = (t : ℕ) → p.from ≤ t → t < p.until → dominant t ≡ p.dominant
 
 -- these are the delays from each node to place j
 abbrev pub AreDelays : Plan → ℕ → List ℕ → Type 0
@@ -73,10 +69,6 @@ pub record IsEar (plan : Plan) (j : ℕ) (ear : Ear) : Type 0 where
 pub record AreEars (plan : Plan) (ears : List Ear) : Type 0 where
   pub all : length ears ≡ length plan.nodes
   pub each : (j : ℕ) (d : Ear) → j < length ears → IsEar plan j (slice_index_or ears j d)
-
--- from tick t on and below another one the disturbance neither comes to place j nor is over there
-abbrev pub IsStill : Plan → ℕ → ℕ → ℕ → Disturbance → Type 0
-IsStill plan j t until d = (u : ℕ) → t ≤ u → u < until → is_at plan j u d ≡ is_at plan j t d
 
 -- whether the changes of node i tell that it drives dominant at tick u
 abbrev pub tells : List Running → Running → ℕ → ℕ → Bool

@@ -7,11 +7,10 @@ ghost use Rattle.wl_serial.specs.Rest.{IsSilent};
 ghost use Rattle.wl_serial.specs.Running.{AreRunning, AreSomewhere, AreKnown, KnowsOthers, RunsBelow, AllKnown};
 
 use crate::checked::Checked;
-use crate::disturbed::disturbed_at;
-use crate::pulse::{Pulse, SILENCE};
 use crate::running_node::{Running, Ticks};
 use crate::sources::Sources;
 use wl_level::Level;
+use wl_pulse::{Pulse, SILENCE, disturbed_at};
 use wl_topology::MOST_NODES;
 
 /// What a place keeps of the line. It has the delay from each node and from each other node, and what arrives from each node. It has what

@@ -3,7 +3,6 @@
 
 mod alone;
 mod checked;
-mod disturbed;
 mod ear;
 mod engine;
 mod guess;
@@ -17,10 +16,9 @@ mod so_far;
 mod sources;
 mod turn;
 
-pub use disturbed::disturbed_at;
 pub use engine::run_serial;
 pub use laws::{outcome_is_recordable, outcome_node_by_node, records_are_true};
 pub use outcome::{Changes, Frames, NodeOutcome, NodeOutcomes, Outcome, Phases};
-pub use pulse::{Pulse, pulse_of};
+pub use pulse::pulse_of;
 pub use records::records_of;
 pub use so_far::node_outcome;

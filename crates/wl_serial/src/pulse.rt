@@ -1,18 +1,10 @@
-//! Levels that stay for some ticks.
+//! What a node's changes make at a place, and for how long that stays.
 ghost use Rattle.std.specs.Prelude.{◌≡◌, ◌+◌, ◌-◌, ◌<◌, ◌≤◌, ◌^◌, length, slice_index_or};
 ghost use Rattle.wl_record_core.specs.Truth.{count_below, IsIncreasing};
-ghost use Rattle.wl_serial.specs.Heard.{IsPulse, drove};
+ghost use Rattle.wl_pulse.specs.Pulses.{IsPulse};
+ghost use Rattle.wl_serial.specs.Heard.{drove};
 
-/// Whether something is dominant, from a tick on and below another one.
-#[derive(Clone, Copy)]
-pub struct Pulse {
-    /// The first tick.
-    pub from: u64,
-    /// The first tick at which it may be otherwise.
-    pub until: u64,
-    /// Whether it is dominant.
-    pub dominant: bool,
-}
+use wl_pulse::Pulse;
 
 /// Returns whether a node with these changes drove dominant `delay` ticks before tick `t`, and up to which tick that stays. `come` is how
 /// many changes had arrived when it was last asked for. It speeds up the next time, and decides nothing.
@@ -78,10 +70,3 @@ fn sure(changes: &[u64], tick: u64, guess: usize) -> usize
     }
     guess
 }
-
-/// No tick at all.
-pub(crate) const SILENCE: Pulse = Pulse {
-    from: 0,
-    until: 0,
-    dominant: false,
-};

@@ -6,8 +6,9 @@ ghost use Rattle.wl_serial.specs.Heard.{AreDelays, AreTallied, IsAhead, IsAlone,
 ghost use Rattle.wl_serial.specs.Running.{AreSomewhere};
 
 use crate::checked::Checked;
-use crate::pulse::{Pulse, pulse_of};
+use crate::pulse::pulse_of;
 use crate::running_node::{Running, Ticks};
+use wl_pulse::Pulse;
 use wl_topology::MOST_NODES;
 
 /// What is cached of the nodes at a place. Of each node it is how many of its changes had arrived when they were last asked for, and the

@@ -15,7 +15,7 @@ use Rattle.wl_plan.specs.Simulation.{AreInside, level, ran, seen}
 use Rattle.wl_plan.specs.SimulationLaws.{SimulationLaws}
 use Rattle.wl_plan.specs.Sound.{IsSound}
 use Rattle.wl_trace.specs.Shown.{shown_of}
-use Rattle.wl_serial.specs.declared.pulse.Pulse.{Pulse}
+use Rattle.wl_pulse.specs.declared.pulse.Pulse.{Pulse}
 use Rattle.wl_views.specs.Held.{Lasts, next_of, no_tick}
 use Rattle.wl_views.specs.Signals.{shown_then}
 use Rattle.wl_views.proofs.Seeing.{few_more, later, seen_more}

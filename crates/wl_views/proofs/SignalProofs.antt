@@ -12,7 +12,7 @@ use Rattle.wl_serial.specs.declared.outcome.NodeOutcome.{NodeOutcome}
 use Rattle.wl_serial.specs.declared.outcome.Outcome.{Outcome}
 use Rattle.wl_serial.specs.Heard.{drove}
 use Rattle.wl_serial.specs.Outcome.{node_outcome_of, outcome_of}
-use Rattle.wl_serial.specs.declared.pulse.Pulse.{Pulse}
+use Rattle.wl_pulse.specs.declared.pulse.Pulse.{Pulse}
 use Rattle.wl_views.specs.Held.{Lasts}
 use Rattle.wl_views.specs.Signals.{shown_then}
 use Rattle.wl_level.specs.declared.Level.{Level}

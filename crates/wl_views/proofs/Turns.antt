@@ -1,7 +1,7 @@
 -- What lasts from a tick on.
 use Rattle.std.proofs.Common.{◌≡◌, ◌∙◌, refl, sym, subst, ℕ, ◌<◌, ◌≤◌, Bool, false}
-use Rattle.wl_serial.specs.declared.pulse.Pulse.{Pulse}
-use Rattle.wl_serial.specs.Heard.{IsPulse}
+use Rattle.wl_pulse.specs.declared.pulse.Pulse.{Pulse}
+use Rattle.wl_pulse.specs.Pulses.{IsPulse}
 use Rattle.wl_views.specs.Held.{Lasts}
 
 -- what is known from this tick on

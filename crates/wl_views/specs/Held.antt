@@ -9,7 +9,7 @@ use Rattle.wl_serial.specs.Heard.{comes}
 use Rattle.wl_trace.specs.declared.shown.Shown.{Shown}
 use Rattle.wl_trace.specs.Rerun.{IsRerun}
 use Rattle.wl_trace.specs.Shown.{shown_of}
-use Rattle.wl_serial.specs.declared.pulse.Pulse.{Pulse}
+use Rattle.wl_pulse.specs.declared.pulse.Pulse.{Pulse}
 use Rattle.wl_views.specs.declared.signals.NodeSignals.{NodeSignals}
 use Rattle.wl_views.specs.declared.place_line.PlaceLine.{PlaceLine}
 use Rattle.wl_views.specs.declared.calendar.Calendar.{Calendar}

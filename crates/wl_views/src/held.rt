@@ -2,7 +2,7 @@
 ghost use Rattle.std.specs.Prelude.{◌≡◌, ℕ, ◌||◌, min, Bool};
 ghost use Rattle.wl_views.specs.Held.{Lasts};
 
-use wl_serial::Pulse;
+use wl_pulse::Pulse;
 
 /// Returns whether one of two things is dominant, for as long as both stay.
 pub(crate) fn either(one: Pulse, other: Pulse) -> Pulse

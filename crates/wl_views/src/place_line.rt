@@ -11,7 +11,8 @@ ghost use Rattle.wl_views.specs.Held.{Hears, Lasts, Remembers, heard_until};
 use crate::held::either;
 use crate::signals::driven;
 use wl_plan::CheckedPlan;
-use wl_serial::{Outcome, Pulse, disturbed_at};
+use wl_pulse::{Pulse, SILENCE, disturbed_at};
+use wl_serial::Outcome;
 use wl_topology::MOST_NODES;
 
 /// What is known of the line at a node's place, from a tick on.
@@ -32,15 +33,10 @@ impl PlaceLine {
     pub(crate) fn new() -> PlaceLine
         ensures { (plan : Plan) (i : ℕ) → Remembers plan i 0 result }
     {
-        let none = Pulse {
-            from: 0,
-            until: 0,
-            dominant: false,
-        };
         PlaceLine {
-            cable: none,
-            disturbance: none,
-            sources: [none; MOST_NODES],
+            cable: SILENCE,
+            disturbance: SILENCE,
+            sources: [SILENCE; MOST_NODES],
             come: [0; MOST_NODES],
         }
     }

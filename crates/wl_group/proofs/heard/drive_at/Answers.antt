@@ -1,6 +1,6 @@
 -- Until its next change, and as far as it is known, the node keeps its level.
-use Rattle.std.proofs.Common.{◌≡◌, ◌<◌, ◌∙◌, sym, ap, subst, arith}
-use Rattle.wl_level.specs.Levels.{level_of}
+use Rattle.std.proofs.Common.{◌≡◌, ◌<◌, ◌∙◌, sym, subst, arith}
+use Rattle.wl_record_core.proofs.Callers.{odd_is}
 use Rattle.wl_replica.specs.State.{slots_of}
 use Rattle.wl_replica.specs.Known.{run_length, horizon}
 use Rattle.wl_plan.specs.PlanLine.{line_of}
@@ -17,9 +17,9 @@ returns-clause-drive c u from until =
     let l = line_of c.args.plan.now in
     let run : c.run_length-run.result ≡ run_length w c.args.i = c.run_length-run.ensures.length in
     let early : u < horizon w c.args.i = omega (arith, until, c.kept_until.ensures.few, c.horizon.ensures.tick) in
-    ap level_of (level_stays c.known_laws.ensures c.true_replicas_agree.ensures l c.laws.ensures.sound w c.requires.truth
+    level_stays c.known_laws.ensures c.true_replicas_agree.ensures l c.laws.ensures.sound w c.requires.truth
     c.args.i c.requires.from c.args.t u c.changes_until-count.result
     (subst (λ m. AreNotAfter w c.args.i m c.args.t c.changes_until-count.result) run c.changes_until-count.ensures)
     from early
-    (λ some. let b = c.kept_until.ensures.change (omega (arith, some, run)) in omega (arith, until, b)))
-    ∙ sym c.level_after.ensures
+    (λ some. let b = c.kept_until.ensures.change (omega (arith, some, run)) in omega (arith, until, b))
+    ∙ sym (odd_is c.changes_until-count.result)

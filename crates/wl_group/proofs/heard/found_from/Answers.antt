@@ -4,12 +4,12 @@ use Rattle.wl_topology.specs.Delays.{delay_of}
 use Rattle.wl_topology.specs.Driven.{driven}
 use Rattle.wl_plan.specs.PlanLine.{line_of, disturbed}
 use Rattle.wl_plan.specs.Simulation.{level}
-use Rattle.wl_group.proofs.HeardProofs.{not_shaken, without_disturbance}
+use Rattle.wl_group.proofs.HeardProofs.{without_disturbance}
 use Rattle.wl_group.proofs.heard.found_from.Goals as goal
 
 pub returns-clause-found : goal.returns-clause-found
 returns-clause-found c u from until =
     let plan = c.args.plan.now in
-    without_disturbance (driven (line_of plan).nodes (delay_of plan.topology) (level (line_of plan)) c.args.j u) (disturbed plan c.args.j u)
-    (not_shaken (disturbed plan c.args.j u) c.args.shaken.level (c.requires.shaken u (omega (arith, from, c.requires.shaken_from)) (omega (arith, until, c.min.ensures))) c.in_default.not-Dominant)
-    ∙ c.driven_from-driven.ensures.driven u (omega (arith, from, c.driven_from-driven.ensures.from)) (omega (arith, until, c.min.ensures))
+    without_disturbance (driven (line_of plan).nodes (delay_of plan.topology) (level (line_of plan)) c.args.j u) (disturbed plan c.args.j u) c.driven_from-driven.result.dominant
+    (c.requires.shaken u (omega (arith, from, c.requires.shaken_from)) (omega (arith, until, c.min.ensures)) ∙ c.if-shaken.false)
+    (c.driven_from-driven.ensures.driven u (omega (arith, from, c.driven_from-driven.ensures.from)) (omega (arith, until, c.min.ensures)))

@@ -12,7 +12,7 @@ returns-clause-heard c u from until =
     let d = delay_of c.args.plan.now.topology c.args.i c.args.j in
     let same : c.args.delay ≡ d = c.requires.way in
     let after : d ≤ u = omega (arith, same, from, c.if-t-delay.false) in
-    heard_after d u (level l c.args.i (u - d)) c.drive_at-own.result.level after
+    heard_after d u (level l c.args.i (u - d)) c.drive_at-own.result.dominant after
     (c.drive_at-own.ensures.drive (u - d)
     (omega (arith, same, from, c.drive_at-own.ensures.from, c.if-t-delay.false))
     (omega (arith, same, until, after, c.saturating_add.ensures)))

@@ -1,7 +1,7 @@
 -- After its last change the node keeps its level, as far as it is known.
 use Rattle.std.proofs.Common.{◌≡◌, ◌∙◌, sym, ap, arith}
-use Rattle.wl_level.specs.Levels.{level_of}
 use Rattle.wl_record_core.specs.Truth.{odd}
+use Rattle.wl_record_core.proofs.Callers.{odd_is}
 use Rattle.wl_topology.specs.Delays.{delay_of}
 use Rattle.wl_replica.specs.State.{slots_of}
 use Rattle.wl_plan.specs.PlanLine.{line_of}
@@ -19,4 +19,4 @@ returns-clause-heard c u from until =
     let way : way_in c.args.ways.now c.args.i ≡ delay_of c.args.plan.now.topology c.args.i c.args.j = c.requires.ways.each c.args.i c.requires.from in
     heard_to_the_last c.known_laws.ensures c.true_replicas_agree.ensures (line_of c.args.plan.now) c.laws.ensures.sound (slots_of c.args.replica.now) c.requires.truth
     c.args.i c.args.j c.requires.from c.args.t u c.requires.last from (omega (arith, until, way, c.known_of.ensures))
-    ∙ sym (c.level_after.ensures ∙ ap (λ m. level_of (odd m)) c.run_length.ensures.length)
+    ∙ sym (odd_is c.run_length.result ∙ ap odd c.run_length.ensures.length)

@@ -7,7 +7,7 @@ use Rattle.wl_node.specs.declared.setup.NodeSetup.{NodeSetup}
 use Rattle.wl_plan.specs.declared.plan.Plan.{Plan}
 use Rattle.wl_plan.specs.PlanLine.{line_of, setup_at}
 use Rattle.wl_plan.specs.Simulation.{seen}
-use Rattle.wl_serial.specs.declared.pulse.Pulse.{Pulse}
+use Rattle.wl_pulse.specs.declared.pulse.Pulse.{Pulse}
 use Rattle.wl_trace.specs.Rerun.{RunsAgain, RunsOver}
 use Rattle.wl_trace.specs.Starts.{starts_of}
 use Rattle.wl_trace.specs.Synced.{syncs_of}

@@ -1,5 +1,5 @@
 -- Quanta in one stretch: they are counted by the clock, and each of them finds the level of the stretch.
-use Rattle.std.proofs.Common.{◌-◌, refl, arith}
+use Rattle.std.proofs.Common.{◌-◌, ◌∙◌, refl, sym, arith}
 use Rattle.std.proofs.lemmas.Result.{IfOk-weaker}
 use Rattle.wl_group.specs.Running.{HasGone}
 use Rattle.wl_group.specs.Through.{HasGoneOver}
@@ -51,6 +51,6 @@ returns-clause-gone c =
     let inside = inside_last c.simulation_laws.ensures p s i c.requires.node cell is c.args.stretch.until c.args.end last counted in
     let finds = finds_last c.simulation_laws.ensures p s i c.requires.node cell is c.args.stretch.until c.args.end last counted c.args.stretch refl c.requires.stretch c.requires.from in
     let q = c.quanta-ran.ensures.value in
-    IfOk-weaker c.go.result (λ said. HasGone i c.args.stretch.level (last - c.quanta-ran.result) cell c.go.new.self said.items) (λ said. HasGoneOver p i c.args.end cell c.go.new.self said.items)
-    (λ said gone. gone_in c.simulation_laws.ensures p s i c.requires.node cell c.go.new.self said.items c.args.stretch.level (last - c.quanta-ran.result) c.args.end is gone
-    (λ j f. finds j (omega arith)) (λ j f. early j (omega arith)) (λ j f. inside j (omega arith))) c.go.ensures.gone
+    IfOk-weaker c.go.result (λ said. HasGone i c.level.result (last - c.quanta-ran.result) cell c.go.new.self said.items) (λ said. HasGoneOver p i c.args.end cell c.go.new.self said.items)
+    (λ said gone. gone_in c.simulation_laws.ensures p s i c.requires.node cell c.go.new.self said.items c.level.result (last - c.quanta-ran.result) c.args.end is gone
+    (λ j f. finds j (omega arith) ∙ sym c.level.ensures) (λ j f. early j (omega arith)) (λ j f. inside j (omega arith))) c.go.ensures.gone

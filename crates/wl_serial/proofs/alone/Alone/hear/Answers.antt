@@ -3,7 +3,8 @@ use Rattle.std.proofs.Common.{◌<◌, ◌∙◌, ap, sym, subst, length, arith}
 use Rattle.std.proofs.lemmas.List.{get_or_default}
 use Rattle.wl_record_core.specs.Truth.{IsIncreasing}
 use Rattle.wl_topology.specs.Delays.{delay_of}
-use Rattle.wl_serial.specs.Heard.{drove, IsPulse}
+use Rattle.wl_pulse.specs.Pulses.{IsPulse}
+use Rattle.wl_serial.specs.Heard.{drove}
 use Rattle.wl_serial.proofs.Only.{found_alone}
 use Rattle.wl_serial.proofs.alone.Alone.hear.Goals as goal
 

@@ -1,17 +1,18 @@
-//! Disturbances at a place, and for how long they stay as they are.
-ghost use Rattle.std.specs.Prelude.{◌≡◌, ℕ, ◌<◌, ◌≤◌, ◌^◌, All, length, nat_le, nat_lt};
+//! Disturbances at a node, and for how long they stay as they are.
+ghost use Rattle.std.specs.Prelude.{◌≡◌, ℕ, ◌-◌, ◌<◌, ◌≤◌, ◌^◌, All, length, nat_le, nat_lt};
 ghost use Rattle.wl_plan.specs.Checked.{IsChecked};
 ghost use Rattle.wl_plan.specs.PlanLine.{disturbed};
-ghost use Rattle.wl_serial.specs.Heard.{IsPulse, IsStill};
+ghost use Rattle.wl_pulse.specs.Pulses.{IsPulse, IsStill};
 
 use crate::pulse::Pulse;
 use wl_plan::Plan;
 
-/// Returns whether some disturbance makes the line dominant at node `j`, from tick `t` on.
+/// Returns whether some disturbance makes the line dominant at node `j`, from tick `t` on and up to the next tick at which one arrives or
+/// is over there; up to 2^64 - 1 if there is none.
 pub fn disturbed_at(plan: &Plan, j: usize, t: u64) -> Pulse
     requires checked { IsChecked plan.now }
     requires node { j < length plan.now.nodes }
-    requires early { t < 2 ^ 63 }
+    requires early { t < 2 ^ 64 - 1 }
     ensures from { result.from ≡ t }
     ensures until { t < result.until }
     ensures dominant { IsPulse (disturbed plan.now j) result }
@@ -23,11 +24,11 @@ pub fn disturbed_at(plan: &Plan, j: usize, t: u64) -> Pulse
     }
 }
 
-/// Returns the tick after `t` at which the next disturbance arrives at node `j`, or is over there.
+/// Returns the tick after `t` at which the next disturbance arrives at node `j`, or is over there; 2^64 - 1 if there is none.
 fn next_edge(plan: &Plan, j: usize, t: u64) -> u64
     requires checked { IsChecked plan.now }
     requires node { j < length plan.now.nodes }
-    requires early { t < 2 ^ 63 }
+    requires early { t < 2 ^ 64 - 1 }
     ensures later { t < result }
     ensures still { All (IsStill plan.now j t result) plan.now.disturbances }
 {

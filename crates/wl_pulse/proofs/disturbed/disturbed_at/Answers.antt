@@ -1,7 +1,7 @@
 -- Where no disturbance comes or goes, the same ones are there.
 use Rattle.std.proofs.Common.{◌∙◌, sym}
-use Rattle.wl_serial.proofs.Found.{disturbed_stays}
-use Rattle.wl_serial.proofs.disturbed.disturbed_at.Goals as goal
+use Rattle.wl_pulse.proofs.DisturbedProofs.{disturbed_stays}
+use Rattle.wl_pulse.proofs.disturbed.disturbed_at.Goals as goal
 
 pub returns-clause-dominant : goal.returns-clause-dominant
 returns-clause-dominant c u from until =

@@ -1,7 +1,7 @@
 use Rattle.std.proofs.Common.{ℕ, ◌<◌, slice_index_or}
 use Rattle.wl_plan.specs.declared.plan.Disturbance.{Disturbance}
-use Rattle.wl_serial.specs.Heard.{IsStill}
-use Rattle.wl_serial.proofs.disturbed.next_edge.Given as goal
+use Rattle.wl_pulse.specs.Pulses.{IsStill}
+use Rattle.wl_pulse.proofs.disturbed.next_edge.Given as goal
 
 -- of the disturbances so far none comes or goes before then
 abbrev pub invariant-loop-i : goal.invariant-loop-i
