@@ -1,23 +1,18 @@
--- Quanta of one level that a member's node ran in a row: where they put its cell, and what it says of them.
-use Rattle.std.proofs.Common.{◌≡◌, ℕ, zero, suc, ◌+◌, ◌-◌, ◌<◌, ◌≤◌, Bool, true, false, List, [], ◌∷◌, ◌++◌, length, replicate, append_assoc, refl, sym, ◌∙◌, ap, subst, arith, length-append, if◌then◌else◌}
-use Rattle.std.proofs.lemmas.List.{length-replicate}
+-- Quanta of one level that a member's node ran in a row: where they put its cell, and whether its drive changed.
+use Rattle.std.proofs.Common.{◌≡◌, ℕ, zero, suc, ◌+◌, ◌-◌, ◌<◌, ◌≤◌, Bool, true, false, List, [], ◌∷◌, ◌++◌, replicate, append_assoc, refl, sym, ◌∙◌, ap, subst, arith, if◌then◌else◌}
 use Rattle.wl_level.specs.declared.Level.{Level}
 use Rattle.wl_level.specs.declared.Level.TheVariants.{Dominant, Recessive}
 use Rattle.wl_level.specs.Levels.{is_dominant, same}
 use Rattle.wl_clock.specs.Timing.{tick_of}
-use Rattle.wl_record_core.specs.declared.record.Record.{Record}
-use Rattle.wl_record_core.specs.declared.record.Record.TheVariants.{Edge, Silence}
 use Rattle.wl_node.specs.History.{history_of}
-use Rattle.wl_node.specs.Quiet.{quiet_of}
 use Rattle.wl_node.specs.declared.setup.NodeSetup.{NodeSetup}
 use Rattle.wl_node.specs.Reached.{IsNode, node_setup, quanta_of}
 use Rattle.wl_node.specs.Reached as nodes
 use Rattle.wl_plan.specs.declared.plan.Plan.{Plan}
-use Rattle.wl_plan.specs.Line.{Line, reach}
 use Rattle.wl_plan.specs.PlanLine.{setup_at, line_of}
 use Rattle.wl_plan.specs.Simulation.{differs}
 use Rattle.wl_group.specs.declared.cell.Cell.{Cell}
-use Rattle.wl_group.specs.Member.{Member, next_tick, turns, member_after_quantum, emission}
+use Rattle.wl_group.specs.Member.{Member, turns, member_after_quantum}
 use Rattle.wl_group.specs.Running.{IsCellOf, passed, Stood, HasGone}
 use Rattle.wl_group.specs.Ways.{AreWays}
 
@@ -35,31 +30,23 @@ differs_is Dominant Recessive v h = ap (λ w. if w then false else true) h
 differs_is Recessive Dominant v h = ap (λ w. if w then false else true) h
 differs_is Recessive Recessive v h = ap (λ w. if w then false else true) h
 
-turned_list : {A : Type 0} (b t : Bool) (e : List A) → t ≡ (if b then false else true) → (if b then [] else e) ≡ (if t then e else [])
-turned_list {A} true t e h = sym (ap (λ v. if v then e else []) h)
-turned_list {A} false t e h = sym (ap (λ v. if v then e else []) h)
-
 turned_count : (b t : Bool) (n : ℕ) → t ≡ (if b then false else true) → (if b then n else suc n) ≡ (if t then suc n else n)
 turned_count true t n h = sym (ap (λ v. if v then suc n else n) h)
 turned_count false t n h = sym (ap (λ v. if v then suc n else n) h)
 
 -- What a cell is before and after quanta of one level, as the calls that ran them say.
-pub record Went (i : ℕ) (level before after : Level) (b : Bool) (ran quanta quiet : ℕ) (old new : Cell) (said : List Record) : Type 0 where
+pub record Went (level before after : Level) (b : Bool) (ran quanta : ℕ) (old new : Cell) : Type 0 where
   pub gone : nodes.HasGone level ran old.node new.node
   pub some : 0 < ran
   pub quanta_is : quanta ≡ quanta_of old.node
-  pub counted : (levels : List Level) → IsNode levels old.node → quanta ≡ length levels
   pub before_is : (levels : List Level) → IsNode levels old.node → before ≡ (history_of (node_setup old.node) levels).drive
   pub after_is : (levels : List Level) → IsNode levels new.node → after ≡ (history_of (node_setup new.node) levels).drive
-  pub quiet_is : (levels : List Level) → IsNode levels new.node → quiet ≡ quiet_of (node_setup new.node) levels
   pub is : same after before ≡ b
   pub changed : new.changed ≡ (if b then old.changed else suc old.changed)
   pub next : new.next ≡ tick_of (node_setup new.node).clock (quanta + ran)
   pub ways : new.ways ≡ old.ways
-  pub says : said ≡ (if b then [] else Edge i old.changed (tick_of (node_setup new.node).clock (quanta + ran - 1)) ∷ [])
-      ++ Silence i new.changed (tick_of (node_setup new.node).clock (quanta + ran + quiet)) ∷ []
 
-module _ (i : ℕ) (level before after : Level) (b : Bool) (ran quanta quiet : ℕ) (old new : Cell) (said : List Record) (w : Went i level before after b ran quanta quiet old new said) where
+module _ (level before after : Level) (b : Bool) (ran quanta : ℕ) (old new : Cell) (w : Went level before after b ran quanta old new) where
   n : ℕ
   n = ran - 1
 
@@ -70,10 +57,7 @@ module _ (i : ℕ) (level before after : Level) (b : Bool) (ran quanta quiet : �
   gone : nodes.HasGone level (suc n) old.node new.node
   gone = subst (λ r. nodes.HasGone level r old.node new.node) n_is w.gone
 
-  module _ (plan : Plan) (m : Member) (held : IsCellOf plan i m old) where
-    l : Line
-    l = line_of plan
-
+  module _ (plan : Plan) (i : ℕ) (m : Member) (held : IsCellOf plan i m old) where
     saw : List Level
     saw = (m.saw ++ replicate n level) ++ level ∷ []
 
@@ -89,13 +73,6 @@ module _ (i : ℕ) (level before after : Level) (b : Bool) (ran quanta quiet : �
         ap (λ (s : NodeSetup). is_dominant (history_of s (m.saw ++ replicate j level)).drive) (sym held.setup)
         ∙ (ap is_dominant (gone.stood j (omega arith) m.saw held.node)
         ∙ ap (λ (s : NodeSetup). is_dominant (history_of s m.saw).drive) held.setup)
-
-    long : length (m.saw ++ replicate n level) ≡ quanta + n
-    long = length-append m.saw (replicate n level) ∙ (let e = w.counted m.saw held.node in let f = length-replicate n level in omega arith)
-
-    longer : length saw ≡ quanta + ran
-    unfolding saw
-    longer = length-append (m.saw ++ replicate n level) (level ∷ []) ∙ (let e = long in let f = n_is in omega arith)
 
     drive_new : is_dominant after ≡ (line_of plan).drives i saw
     drive_new = ap is_dominant (w.after_is saw is_new) ∙ ap (λ (s : NodeSetup). is_dominant (history_of s saw).drive) setup_new
@@ -135,36 +112,12 @@ module _ (i : ℕ) (level before after : Level) (b : Bool) (ran quanta quiet : �
       ways = subst (AreWays plan i) (sym w.ways) held.ways;
     }
 
-    edge_is : tick_of (node_setup new.node).clock (quanta + ran - 1) ≡ next_tick (line_of plan) i (passed m level n)
-    edge_is =
-        ap (λ (s : NodeSetup). tick_of s.clock (quanta + ran - 1)) setup_new
-        ∙ ap (λ k. tick_of (setup_at plan i).clock k) (let e = long in let f = n_is in omega arith)
-
-    promise_is : tick_of (node_setup new.node).clock (quanta + ran + quiet) ≡ reach (line_of plan) i saw
-    promise_is =
-        ap (λ (s : NodeSetup). tick_of s.clock (quanta + ran + quiet)) setup_new
-        ∙ (ap (λ k. tick_of (setup_at plan i).clock (k + quiet)) (sym longer)
-        ∙ ap (λ q. tick_of (setup_at plan i).clock (length saw + q)) (w.quiet_is saw is_new ∙ ap (λ (s : NodeSetup). quiet_of s saw) setup_new))
-
-    says : said ≡ emission (line_of plan) i (passed m level n) level
-    unfolding saw
-    says =
-        w.says
-        ∙ (ap (λ e. e ++ Silence i new.changed (tick_of (node_setup new.node).clock (quanta + ran + quiet)) ∷ [])
-        (ap (λ c. if b then [] else Edge i c (tick_of (node_setup new.node).clock (quanta + ran - 1)) ∷ []) held.changed
-        ∙ (ap (λ t. if b then [] else Edge i m.changed t ∷ []) edge_is
-        ∙ turned_list b (turns (line_of plan) i (passed m level n) level) (Edge i m.changed (next_tick (line_of plan) i (passed m level n)) ∷ []) turns_is))
-        ∙ (ap (λ c. (if turns (line_of plan) i (passed m level n) level then Edge i m.changed (next_tick (line_of plan) i (passed m level n)) ∷ [] else [])
-        ++ Silence i c (tick_of (node_setup new.node).clock (quanta + ran + quiet)) ∷ []) changed_new
-        ∙ ap (λ u. (if turns (line_of plan) i (passed m level n) level then Edge i m.changed (next_tick (line_of plan) i (passed m level n)) ∷ [] else [])
-        ++ Silence i (member_after_quantum (line_of plan) i (passed m level n) level).changed u ∷ []) promise_is))
-
-  pub has_gone : (most : ℕ) → ran ≤ most → HasGone i level most old new said
-  has_gone most few = record {
+  pub has_gone : (most : ℕ) (turned : Bool) → ran ≤ most → turned ≡ (if b then false else true) → HasGone level most old new turned
+  has_gone most turned few is = record {
     n = n;
     few = (let s = n_is in omega arith);
     quanta = gone.quanta;
     stood = stood;
     after = after_cell;
-    says = says;
+    turned_is = λ plan i m held. is ∙ sym (turns_is plan i m held);
   }

@@ -11,6 +11,7 @@ mod ValueProofs
 mod RunProofs
 mod RowProofs
 mod ThroughProofs
+mod SpokenProofs
 mod GoneProofs
 mod OverProofs
 mod WayProofs

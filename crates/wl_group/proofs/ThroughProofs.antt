@@ -32,7 +32,7 @@ use Rattle.wl_group.specs.Member.{Member, next_tick, turns, member_after_quantum
 use Rattle.wl_group.specs.Kept.{IsCell}
 use Rattle.wl_group.specs.Running.{IsCellOf, passed, slots_ahead, Stood, HasGone, HasNotGone}
 use Rattle.wl_group.specs.GroupValue.{member_after}
-use Rattle.wl_group.specs.Through.{spoken, AreAhead, Stays, HasGoneOver}
+use Rattle.wl_group.specs.Through.{spoken, turned_at, said_last, AreAhead, Stays, HasGoneIn, HasGoneOver}
 use Rattle.wl_group.proofs.GoingProofs.{Finds, passed_is}
 
 -- ---- one quantum, by the simulation alone
@@ -72,16 +72,11 @@ module _ (sims : SimulationLaws) (l : Line) (s : IsSound l) (i : ℕ) (b : i < l
       → (l.drives i (seen l i (suc q)) ≡ l.drives i (seen l i q)) × ((member_after l i (suc q)).changed ≡ (member_after l i q).changed)
   stays_next n = (differs_no (l.drives i (seen l i (suc q))) (l.drives i (seen l i q)) (sym turn_is ∙ n), sims.no_turn l i q s.causal b inside (sym turn_is ∙ n))
 
--- what is said without a change is one record
-one_said : (v : Bool) (e r : Record) → length ((if v then e ∷ [] else []) ++ r ∷ []) ≤ 1 → v ≡ false
-one_said true e r h = absurd (omega arith)
-one_said false e r h = refl
-
 -- ---- a piece of a row: quanta in one stretch
 
 module _ (sims : SimulationLaws) where
-  module _ (plan : Plan) (s : IsSound (line_of plan)) (i : ℕ) (b : i < length plan.nodes) (old new : Cell) (said : List Record) (level_here : Level) (most end : ℕ)
-      (cell : IsCell plan i old) (gone : HasGone i level_here most old new said)
+  module _ (plan : Plan) (s : IsSound (line_of plan)) (i : ℕ) (b : i < length plan.nodes) (old new : Cell) (turned : Bool) (level_here : Level) (most end : ℕ)
+      (cell : IsCell plan i old) (gone : HasGone level_here most old new turned)
       (finds : Finds (line_of plan) i level_here (quanta_of old.node) most)
       (early : (j : ℕ) → j < most → (line_of plan).instant i (quanta_of old.node + j) < end)
       (inside : AreInside (line_of plan) i (quanta_of old.node + most)) where
@@ -89,7 +84,7 @@ module _ (sims : SimulationLaws) where
     held = record { setup = cell.setup; node = cell.node; changed = cell.changed; next = cell.next; ways = cell.ways }
 
     stood : Stood (line_of plan) i (member_after (line_of plan) i (quanta_of old.node)) level_here gone.n
-    stood = gone.stood plan (member_after (line_of plan) i (quanta_of old.node)) held
+    stood = gone.stood plan i (member_after (line_of plan) i (quanta_of old.node)) held
 
     passed_here : passed (member_after (line_of plan) i (quanta_of old.node)) level_here gone.n ≡ member_after (line_of plan) i (quanta_of old.node + gone.n)
     passed_here =
@@ -108,7 +103,7 @@ module _ (sims : SimulationLaws) where
         let q = quanta_of old.node + gone.n in
         subst (λ m. IsCellOf plan i m new)
         (ap (λ m. member_after_quantum l i m level_here) passed_here ∙ (ap (member_after_quantum l i (member_after l i q)) level_is ∙ next_is sims l s i b q last_inside))
-        (gone.after plan (member_after l i (quanta_of old.node)) held)
+        (gone.after plan i (member_after l i (quanta_of old.node)) held)
 
     new_cell : IsCell plan i new
     new_cell =
@@ -116,24 +111,36 @@ module _ (sims : SimulationLaws) where
         let at : IsCellOf plan i (member_after (line_of plan) i (quanta_of new.node)) new = subst (λ k. IsCellOf plan i (member_after (line_of plan) i k) new) e after_is in
         record { setup = at.setup; node = at.node; changed = at.changed; next = at.next; ways = at.ways }
 
-    pub gone_in : HasGoneOver plan i end old new said
+    last_is : quanta_of new.node - 1 ≡ quanta_of old.node + gone.n
+    last_is = (let g = gone.quanta in omega arith)
+
+    pub gone_in : HasGoneIn plan i end old new turned
     gone_in = record {
-      n = gone.n;
-      quanta = gone.quanta;
-      early = λ j c. early j (let f = gone.few in omega arith);
-      stays = record {
-        drive = ap (λ (m : Member). (line_of plan).drives i m.saw) (sym passed_here) ∙ stood gone.n (omega arith);
-        changed = ap (λ (m : Member). m.changed) (sym passed_here);
+      over = record {
+        n = gone.n;
+        quanta = gone.quanta;
+        early = λ j c. early j (let f = gone.few in omega arith);
+        stays = record {
+          drive = ap (λ (m : Member). (line_of plan).drives i m.saw) (sym passed_here) ∙ stood gone.n (omega arith);
+          changed = ap (λ (m : Member). m.changed) (sym passed_here);
+        };
+        after = new_cell;
+        says = ap (spoken (line_of plan) i) last_is;
       };
-      after = new_cell;
-      says = gone.says plan (member_after (line_of plan) i (quanta_of old.node)) held
-          ∙ (ap (λ m. emission (line_of plan) i m level_here) passed_here ∙ ap (emission (line_of plan) i (member_after (line_of plan) i (quanta_of old.node + gone.n))) level_is);
+      turned_is =
+          gone.turned_is plan i (member_after (line_of plan) i (quanta_of old.node)) held
+          ∙ (ap (λ m. turns (line_of plan) i m level_here) passed_here
+          ∙ (ap (turns (line_of plan) i (member_after (line_of plan) i (quanta_of old.node + gone.n))) level_is
+          ∙ ap (turned_at (line_of plan) i) (sym last_is)));
     }
 
   -- ---- pieces one after another
 
-  module _ (plan : Plan) (s : IsSound (line_of plan)) (i : ℕ) (b : i < length plan.nodes) (end : ℕ) (stop : end ≤ plan.end) (old mid : Cell) (said : List Record)
-      (cell : IsCell plan i old) (inside_old : AreInside (line_of plan) i (quanta_of old.node)) (first : HasGoneOver plan i end old mid said) where
+  module _ (plan : Plan) (s : IsSound (line_of plan)) (i : ℕ) (b : i < length plan.nodes) (end : ℕ) (stop : end ≤ plan.end) (old mid : Cell) (turned : Bool)
+      (cell : IsCell plan i old) (inside_old : AreInside (line_of plan) i (quanta_of old.node)) (gone : HasGoneIn plan i end old mid turned) where
+    first : HasGoneOver plan i end old mid (said_last plan i mid)
+    first = gone.over
+
     -- all its quanta are before the end
     pub inside_mid : AreInside (line_of plan) i (quanta_of mid.node)
     inside_mid j c = elim (cases_lt j (quanta_of old.node)) [
@@ -145,60 +152,67 @@ module _ (sims : SimulationLaws) where
           omega arith
     ]
 
-    -- where no change was said, it would drive the same after it
-    stays_mid : length said ≤ 1 → Stays plan i (quanta_of old.node) (suc first.n)
-    stays_mid few =
+    -- where its drive didn't turn, it would drive the same after it
+    stays_mid : turned ≡ false → Stays plan i (quanta_of old.node) (suc first.n)
+    stays_mid kept =
         let l = line_of plan in
         let q = quanta_of old.node + first.n in
         let e : suc q ≡ quanta_of old.node + suc first.n = omega arith in
         let inside : AreInside l i (suc q) = λ j c. inside_mid j (let g = first.quanta in omega arith) in
-        let none = one_said (turns l i (member_after l i q) (level_of (found l (level l) i (l.instant i q)))) _ _ (subst (λ rs. length rs ≤ 1) first.says few) in
-        let stay = stays_next sims l s i b q inside none in
+        let at : q ≡ quanta_of mid.node - 1 = (let g = first.quanta in omega arith) in
+        let stay = stays_next sims l s i b q inside (ap (turned_at l i) at ∙ (sym gone.turned_is ∙ kept)) in
         record {
           drive = ap (λ k. l.drives i (seen l i k)) (sym e) ∙ (stay.0 ∙ first.stays.drive);
           changed = ap (λ k. (member_after l i k).changed) (sym e) ∙ (stay.1 ∙ first.stays.changed);
         }
 
-    pub gone_both : (new : Cell) (more : List Record) → length said ≤ 1 → HasGoneOver plan i end mid new more → HasGoneOver plan i end old new more
-    gone_both new more few second =
+    pub gone_both : (new : Cell) (more : Bool) → turned ≡ false → HasGoneIn plan i end mid new more → HasGoneIn plan i end old new more
+    gone_both new more kept next =
         let l = line_of plan in
+        let second = next.over in
         let g = first.quanta in
         let h = second.quanta in
-        let stay = stays_mid few in
+        let stay = stays_mid kept in
         let at : quanta_of mid.node ≡ quanta_of old.node + suc first.n = first.quanta in
         let sum : quanta_of mid.node + second.n ≡ quanta_of old.node + (suc first.n + second.n) = omega arith in
         record {
-          n = suc first.n + second.n;
-          quanta = omega arith;
-          early = λ j c. elim (cases_lt j (suc first.n)) [
-            | inl one ↦ first.early j (omega arith)
-            | inr two ↦
-                let e = second.early (j - suc first.n) (omega arith) in
-                let f : l.instant i (quanta_of mid.node + (j - suc first.n)) ≡ l.instant i (quanta_of old.node + j) = ap (l.instant i) (omega arith) in
-                omega arith
-          ];
-          stays = record {
-            drive = ap (λ k. l.drives i (seen l i k)) (sym sum) ∙ (second.stays.drive ∙ (ap (λ k. l.drives i (seen l i k)) at ∙ stay.drive));
-            changed = ap (λ k. (member_after l i k).changed) (sym sum) ∙ (second.stays.changed ∙ (ap (λ k. (member_after l i k).changed) at ∙ stay.changed));
+          over = record {
+            n = suc first.n + second.n;
+            quanta = omega arith;
+            early = λ j c. elim (cases_lt j (suc first.n)) [
+              | inl one ↦ first.early j (omega arith)
+              | inr two ↦
+                  let e = second.early (j - suc first.n) (omega arith) in
+                  let f : l.instant i (quanta_of mid.node + (j - suc first.n)) ≡ l.instant i (quanta_of old.node + j) = ap (l.instant i) (omega arith) in
+                  omega arith
+            ];
+            stays = record {
+              drive = ap (λ k. l.drives i (seen l i k)) (sym sum) ∙ (second.stays.drive ∙ (ap (λ k. l.drives i (seen l i k)) at ∙ stay.drive));
+              changed = ap (λ k. (member_after l i k).changed) (sym sum) ∙ (second.stays.changed ∙ (ap (λ k. (member_after l i k).changed) at ∙ stay.changed));
+            };
+            after = second.after;
+            says = second.says ∙ ap (spoken l i) sum;
           };
-          after = second.after;
-          says = second.says ∙ ap (spoken l i) sum;
+          turned_is = next.turned_is;
         }
 
     -- and where no quantum more was run
-    pub gone_still : (new : Cell) → HasNotGone mid new → HasGoneOver plan i end old new said
+    pub gone_still : (new : Cell) → HasNotGone mid new → HasGoneIn plan i end old new turned
     gone_still new not =
         let a = first.after in
         let held : IsCellOf plan i (member_after (line_of plan) i (quanta_of mid.node)) mid = record { setup = a.setup; node = a.node; changed = a.changed; next = a.next; ways = a.ways } in
         let at : IsCellOf plan i (member_after (line_of plan) i (quanta_of new.node)) new =
         subst (λ k. IsCellOf plan i (member_after (line_of plan) i k) new) (sym not.quanta) (not.same plan i (member_after (line_of plan) i (quanta_of mid.node)) held) in
         record {
-          n = first.n;
-          quanta = not.quanta ∙ first.quanta;
-          early = first.early;
-          stays = first.stays;
-          after = record { setup = at.setup; node = at.node; changed = at.changed; next = at.next; ways = at.ways };
-          says = first.says;
+          over = record {
+            n = first.n;
+            quanta = not.quanta ∙ first.quanta;
+            early = first.early;
+            stays = first.stays;
+            after = record { setup = at.setup; node = at.node; changed = at.changed; next = at.next; ways = at.ways };
+            says = ap (λ k. spoken (line_of plan) i (k - 1)) not.quanta ∙ first.says;
+          };
+          turned_is = gone.turned_is ∙ ap (λ k. turned_at (line_of plan) i (k - 1)) (sym not.quanta);
         }
 
 -- ---- how many quanta come before a tick and the end of a stretch

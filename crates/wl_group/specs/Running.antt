@@ -1,5 +1,5 @@
 -- A member's next quantum, and the group's after it. This project's profile.
-use Rattle.std.specs.Prelude.{◌≡◌, ℕ, suc, ◌+◌, ◌-◌, ◌<◌, ◌≤◌, replicate, List, [], ◌∷◌, ◌++◌, length, Option, None, Some, true, false, not, nat_le, if◌then◌else◌}
+use Rattle.std.specs.Prelude.{◌≡◌, ℕ, suc, ◌+◌, ◌-◌, ◌<◌, ◌≤◌, replicate, Bool, List, [], ◌∷◌, ◌++◌, length, Option, None, Some, true, false, not, nat_le, if◌then◌else◌}
 use Rattle.wl_level.specs.declared.Level.{Level}
 use Rattle.wl_record_core.specs.declared.record.Record.{Record}
 use Rattle.wl_record_core.specs.declared.record.Slot.{Slot}
@@ -12,7 +12,7 @@ use Rattle.wl_plan.specs.Limits.{most_quanta}
 use Rattle.wl_plan.specs.Line.{Line}
 use Rattle.wl_plan.specs.PlanLine.{setup_at, line_of, table_of}
 use Rattle.wl_group.specs.declared.cell.Cell.{Cell}
-use Rattle.wl_group.specs.Member.{Member, next_tick, can_run, member_after_quantum, emission}
+use Rattle.wl_group.specs.Member.{Member, next_tick, can_run, turns, member_after_quantum}
 use Rattle.wl_group.specs.Party.{Party}
 use Rattle.wl_group.specs.Ways.{AreWays}
 use Rattle.wl_group.specs.Advanced.{Reply, emitted, blocked, ended, emission_of, run_next}
@@ -34,14 +34,14 @@ passed m level n = record { saw = m.saw ++ replicate n level; changed = m.change
 abbrev pub Stood : Line → ℕ → Member → Level → ℕ → Type 0
 Stood l i m level n = (j : ℕ) → j ≤ n → l.drives i (m.saw ++ replicate j level) ≡ l.drives i m.saw
 
--- One cell and a later one: at n quanta more and one it read this level, and its drive turned at the last if at any; and what node i said of them. Of every plan and member.
-pub record HasGone (i : ℕ) (level : Level) (most : ℕ) (old new : Cell) (said : List Record) : Type 0 where
+-- One cell and a later one: at n quanta more and one it read this level, and its drive turned at the last if at any; and whether it did. Of every plan and member.
+pub record HasGone (level : Level) (most : ℕ) (old new : Cell) (turned : Bool) : Type 0 where
   pub n : ℕ
   pub few : n < most
   pub quanta : quanta_of new.node ≡ quanta_of old.node + suc n
-  pub stood : (plan : Plan) (m : Member) → IsCellOf plan i m old → Stood (line_of plan) i m level n
-  pub after : (plan : Plan) (m : Member) → IsCellOf plan i m old → IsCellOf plan i (member_after_quantum (line_of plan) i (passed m level n) level) new
-  pub says : (plan : Plan) (m : Member) → IsCellOf plan i m old → said ≡ emission (line_of plan) i (passed m level n) level
+  pub stood : (plan : Plan) (i : ℕ) (m : Member) → IsCellOf plan i m old → Stood (line_of plan) i m level n
+  pub after : (plan : Plan) (i : ℕ) (m : Member) → IsCellOf plan i m old → IsCellOf plan i (member_after_quantum (line_of plan) i (passed m level n) level) new
+  pub turned_is : (plan : Plan) (i : ℕ) (m : Member) → IsCellOf plan i m old → turned ≡ turns (line_of plan) i (passed m level n) level
 
 -- or none
 pub record HasNotGone (old new : Cell) : Type 0 where

@@ -1,5 +1,5 @@
 -- Quanta of a member in a row, through one stretch of the line after another. This project's profile, after Chandy and Misra 1979.
-use Rattle.std.specs.Prelude.{◌≡◌, ℕ, suc, ◌+◌, ◌<◌, ◌≤◌, All, List, length, slice_index_or}
+use Rattle.std.specs.Prelude.{◌≡◌, ℕ, suc, ◌+◌, ◌-◌, ◌<◌, ◌≤◌, All, Bool, List, length, slice_index_or}
 use Rattle.wl_level.specs.Levels.{level_of}
 use Rattle.wl_record_core.specs.declared.record.Record.{Record}
 use Rattle.wl_replica.specs.State.{Fits}
@@ -12,12 +12,23 @@ use Rattle.wl_pulse.specs.declared.pulse.Pulse.{Pulse}
 use Rattle.wl_group.specs.declared.cell.Cell.{Cell}
 use Rattle.wl_group.specs.Heard.{IsStretch, no_stretch}
 use Rattle.wl_group.specs.Kept.{IsCell}
-use Rattle.wl_group.specs.Member.{emission}
+use Rattle.wl_group.specs.Member.{emission, turns}
 use Rattle.wl_group.specs.GroupValue.{member_after}
 
 -- what node i says at its quantum k in the one-thread simulation
 abbrev pub spoken : Line → ℕ → ℕ → List Record
 spoken l i k = emission l i (member_after l i k) (level_of (found l (level l) i (l.instant i k)))
+
+-- whether its drive turns then
+abbrev pub turned_at : Line → ℕ → ℕ → Bool
+turned_at l i k = turns l i (member_after l i k) (level_of (found l (level l) i (l.instant i k)))
+
+-- what node i of a cell says after its last quantum, and whether its drive turned then
+abbrev pub said_last : Plan → ℕ → Cell → List Record
+said_last plan i cell = spoken (line_of plan) i (quanta_of cell.node - 1)
+
+abbrev pub turned_last : Plan → ℕ → Cell → Bool
+turned_last plan i cell = turned_at (line_of plan) i (quanta_of cell.node - 1)
 
 -- The first n of a list are stretches of the line at node j, one after another: the first has tick t.
 pub record AreAhead (l : Line) (j t : ℕ) (ss : List Pulse) (n : ℕ) : Type 0 where
@@ -40,6 +51,11 @@ pub record HasGoneOver (plan : Plan) (i end : ℕ) (old new : Cell) (said : List
   pub stays : Stays plan i (quanta_of old.node) n
   pub after : IsCell plan i new
   pub says : said ≡ spoken (line_of plan) i (quanta_of old.node + n)
+
+-- The same before it said anything: whether its drive turned at the last.
+pub record HasGoneIn (plan : Plan) (i end : ℕ) (old new : Cell) (turned : Bool) : Type 0 where
+  pub over : HasGoneOver plan i end old new (said_last plan i new)
+  pub turned_is : turned ≡ turned_last plan i new
 
 -- What it may say of quanta before a tick fits a replica of so many nodes.
 abbrev pub MaySayOver : Plan → ℕ → ℕ → Cell → ℕ → Type 0

@@ -9,7 +9,7 @@ ghost use Rattle.wl_plan.specs.Simulation.{AreInside};
 ghost use Rattle.wl_group.specs.Heard.{IsStretch};
 ghost use Rattle.wl_group.specs.Kept.{IsCell};
 ghost use Rattle.wl_group.specs.Running.{HasNotGone};
-ghost use Rattle.wl_group.specs.Through.{AreAhead, HasGoneOver, MaySayOver};
+ghost use Rattle.wl_group.specs.Through.{AreAhead, HasGoneIn, HasGoneOver, MaySayOver};
 
 use crate::advance::{append, make_room, prepare};
 use crate::answer::Emission;
@@ -187,32 +187,57 @@ impl Cell {
     {
         plan.laws();
         wl_plan::simulation_laws();
-        let mut said = self.go_in(plan, i, ahead.stretches[0], end)?;
+        let turned = self.go_through(plan, i, ahead, end)?;
+        Ok(self.speak(plan, i, turned))
+    }
+
+    /// Runs quanta of node `i` in a row, through stretches of the line and before a tick: one at least, and none after one that changes its
+    /// drive. Returns true if the last one changed it. Refused if memory runs out before the first, and the member is where it was.
+    fn go_through(
+        &mut self,
+        plan: &CheckedPlan,
+        i: u8,
+        ahead: &Ahead,
+        end: u64,
+    ) -> Result<bool, AllocError>
+        requires node { i < length plan.now.nodes }
+        requires cell { IsCell plan.now i self.old }
+        requires some { 0 < ahead.now.count }
+        requires ahead { AreAhead (line_of plan.now) i self.old.next ahead.now.stretches ahead.now.count }
+        requires inside { AreInside (line_of plan.now) i (quanta_of self.old.node) }
+        requires due { self.old.next < end }
+        requires stop { end ≤ plan.now.end }
+        ensures gone { IfOk result (λ turned. HasGoneIn plan.now i end self.old self.new turned) }
+        ensures err { OnErr result (HasNotGone self.old self.new) }
+    {
+        plan.laws();
+        wl_plan::simulation_laws();
+        let mut turned = self.go_in(plan, i, ahead.stretches[0], end)?;
         for m in 1..ahead.count {
             let reached = ahead.stretches[m - 1].until;
-            if said.len() > 1 || self.next < reached || self.next >= end {
-                return Ok(said);
+            if turned || self.next < reached || self.next >= end {
+                return Ok(turned);
             }
             let stretch = ahead.stretches[m];
             if self.next < stretch.until {
                 match self.go_in(plan, i, stretch, end) {
-                    Ok(more) => said = more,
-                    Err(_) => return Ok(said),
+                    Ok(more) => turned = more,
+                    Err(_) => return Ok(turned),
                 }
             }
         }
-        Ok(said)
+        Ok(turned)
     }
 
     /// Runs quanta of node `i` in a row in one stretch of the line and before a tick: one at least, and none after one that changes its
-    /// drive. Returns what it says of all of them. Refused if memory runs out before the first, and the member is where it was.
+    /// drive. Returns true if the last one changed it. Refused if memory runs out before the first, and the member is where it was.
     fn go_in(
         &mut self,
         plan: &CheckedPlan,
         i: u8,
         stretch: Pulse,
         end: u64,
-    ) -> Result<Emission, AllocError>
+    ) -> Result<bool, AllocError>
         requires node { i < length plan.now.nodes }
         requires cell { IsCell plan.now i self.old }
         requires stretch { IsStretch (line_of plan.now) i stretch }
@@ -220,7 +245,7 @@ impl Cell {
         requires until { self.old.next < stretch.until }
         requires due { self.old.next < end }
         requires stop { end ≤ plan.now.end }
-        ensures gone { IfOk result (λ said. HasGoneOver plan.now i end self.old self.new said.items) }
+        ensures gone { IfOk result (λ turned. HasGoneIn plan.now i end self.old self.new turned) }
         ensures err { OnErr result (HasNotGone self.old self.new) }
     {
         plan.laws();
@@ -231,6 +256,6 @@ impl Cell {
             .setup()
             .clock
             .first_not_before(stretch.until.min(end));
-        self.go(i, stretch.level(), last - ran)
+        self.go(stretch.level(), last - ran)
     }
 }

@@ -1,17 +1,20 @@
 //! A member of a group, as the group keeps it, and its next quanta.
 
-ghost use Rattle.std.specs.Prelude.{◌≡◌, ◌+◌, ◌<◌, ◌≤◌, IfOk, OnErr};
+ghost use Rattle.std.specs.Prelude.{◌≡◌, ◌+◌, ◌<◌, ◌≤◌, length, IfOk, OnErr};
 ghost use Rattle.wl_level.specs.declared.Level.{Level as GivenLevel};
 ghost use Rattle.wl_record_core.specs.Limits.{most_edges};
 ghost use Rattle.wl_node.specs.Limits.{most_quiet, most_run_quanta};
 ghost use Rattle.wl_node.specs.Reached.{quanta_of, node_setup, HasGone as NodeHasGone, IsSameNode};
 ghost use Rattle.wl_plan.specs.Limits.{most_quanta};
+ghost use Rattle.wl_plan.specs.PlanLine.{line_of};
+ghost use Rattle.wl_plan.specs.Simulation.{AreInside};
 
 use crate::answer::Emission;
 use arrayvec::ArrayVec;
 use std::alloc::AllocError;
 use wl_level::Level;
 use wl_node::Node;
+use wl_plan::CheckedPlan;
 use wl_record_core::{Record, Slot};
 use wl_replica::PREPARED_SLOTS;
 use wl_topology::MOST_NODES;
@@ -54,7 +57,9 @@ fn run_some(node: &mut Node, level: Level, most: u64) -> Result<u64, AllocError>
 }
 
 impl Cell {
+    ghost use Rattle.wl_group.specs.Kept.{IsCell};
     ghost use Rattle.wl_group.specs.Running.{HasGone, HasNotGone, slots_ahead};
+    ghost use Rattle.wl_group.specs.Through.{said_last, turned_last};
 
     /// Returns the slots about which node `i` may say something at its next quanta, up to one that changes its drive: that change, and the
     /// silence without it and with it.
@@ -73,43 +78,53 @@ impl Cell {
         ]
     }
 
-    /// Runs quanta of node `i` in a row, at which it reads this level: one at least, `most` at most, and none after one that changes its
-    /// drive. Returns what it says after them: that change, if there is one, and up to which tick it is sure to keep its drive from then
-    /// on. Refused if memory runs out before the first, and the member is where it was.
-    pub(crate) fn go(&mut self, i: u8, level: Level, most: u64) -> Result<Emission, AllocError>
+    /// Runs quanta in a row, at which the node reads this level: one at least, `most` at most, and none after one that changes its drive.
+    /// Returns true if the last one changed it. Refused if memory runs out before the first, and the member is where it was.
+    pub(crate) fn go(&mut self, level: Level, most: u64) -> Result<bool, AllocError>
         requires some { 0 < most }
         requires quanta { quanta_of self.old.node + most ≤ most_quanta }
         requires changed { self.old.changed ≤ most_edges }
-        ensures gone { IfOk result (λ said. HasGone i level most self.old self.new said.items) }
+        ensures gone { IfOk result (λ turned. HasGone level most self.old self.new turned) }
         ensures err { OnErr result (HasNotGone self.old self.new) }
     {
-        let (seq, quanta) = (self.changed, self.node.quanta());
+        let quanta = self.node.quanta();
         let before = self.node.drive();
         let ran = run_some(&mut self.node, level, most)?;
-        let next = quanta + ran;
-        let clock = &self.node.setup().clock;
-        self.next = clock.at(next);
-        let until = clock.at(next + self.node.quiet() as u64);
-        let mut emission = ArrayVec::new();
+        self.next = self.node.setup().clock.at(quanta + ran);
         if self.node.drive().is(before) {
-            emission.push(Record::Silence {
-                node: i,
-                count: seq,
-                until,
-            });
-            return Ok(emission);
+            return Ok(false);
         }
-        emission.push(Record::Edge {
-            node: i,
-            seq,
-            tick: clock.at(next - 1),
-        });
-        self.changed = seq + 1;
+        self.changed += 1;
+        Ok(true)
+    }
+
+    /// Returns what node `i` says after its last quantum, at which its drive changed or didn't: that change, if it did, and up to which tick
+    /// it is sure to keep its drive from then on.
+    pub(crate) fn speak(&self, plan: &CheckedPlan, i: u8, turned: bool) -> Emission
+        requires node { i < length plan.now.nodes }
+        requires cell { IsCell plan.now i self.now }
+        requires some { 0 < quanta_of self.now.node }
+        requires inside { AreInside (line_of plan.now) i (quanta_of self.now.node) }
+        requires turned { turned ≡ turned_last plan.now i self.now }
+        ensures { result.items ≡ said_last plan.now i self.now }
+    {
+        plan.laws();
+        wl_plan::simulation_laws();
+        let quanta = self.node.quanta();
+        let clock = &self.node.setup().clock;
+        let mut emission = ArrayVec::new();
+        if turned {
+            emission.push(Record::Edge {
+                node: i,
+                seq: self.changed - 1,
+                tick: clock.at(quanta - 1),
+            });
+        }
         emission.push(Record::Silence {
             node: i,
             count: self.changed,
-            until,
+            until: clock.at(quanta + self.node.quiet() as u64),
         });
-        Ok(emission)
+        emission
     }
 }

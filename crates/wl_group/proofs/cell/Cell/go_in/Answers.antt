@@ -2,7 +2,7 @@
 use Rattle.std.proofs.Common.{◌-◌, ◌∙◌, refl, sym, arith}
 use Rattle.std.proofs.lemmas.Result.{IfOk-weaker}
 use Rattle.wl_group.specs.Running.{HasGone}
-use Rattle.wl_group.specs.Through.{HasGoneOver}
+use Rattle.wl_group.specs.Through.{HasGoneIn}
 use Rattle.wl_group.proofs.ThroughProofs.{counted_of, some_last, early_last, inside_last, few_last, finds_last, changed_most, gone_in}
 use Rattle.wl_group.proofs.cell.Cell.go_in.Goals as goal
 
@@ -51,6 +51,6 @@ returns-clause-gone c =
     let inside = inside_last c.simulation_laws.ensures p s i c.requires.node cell is c.args.stretch.until c.args.end last counted in
     let finds = finds_last c.simulation_laws.ensures p s i c.requires.node cell is c.args.stretch.until c.args.end last counted c.args.stretch refl c.requires.stretch c.requires.from in
     let q = c.quanta-ran.ensures.value in
-    IfOk-weaker c.go.result (λ said. HasGone i c.level.result (last - c.quanta-ran.result) cell c.go.new.self said.items) (λ said. HasGoneOver p i c.args.end cell c.go.new.self said.items)
-    (λ said gone. gone_in c.simulation_laws.ensures p s i c.requires.node cell c.go.new.self said.items c.level.result (last - c.quanta-ran.result) c.args.end is gone
+    IfOk-weaker c.go.result (λ turned. HasGone c.level.result (last - c.quanta-ran.result) cell c.go.new.self turned) (λ turned. HasGoneIn p i c.args.end cell c.go.new.self turned)
+    (λ turned gone. gone_in c.simulation_laws.ensures p s i c.requires.node cell c.go.new.self turned c.level.result (last - c.quanta-ran.result) c.args.end is gone
     (λ j f. finds j (omega arith) ∙ sym c.level.ensures) (λ j f. early j (omega arith)) (λ j f. inside j (omega arith))) c.go.ensures.gone

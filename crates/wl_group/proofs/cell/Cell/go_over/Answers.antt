@@ -1,35 +1,24 @@
--- Stretch after stretch: each begins where the one before it is over, and what is said after the last of them is said of all.
-use Rattle.std.proofs.Common.{◌≡◌, suc, ◌-◌, ◌≤◌, slice_index_or, sym, subst, arith}
-use Rattle.wl_group.specs.Heard.{no_stretch}
+-- What it says of its last quantum is said of all.
+use Rattle.std.proofs.Common.{List, sym, subst, arith}
+use Rattle.wl_record_core.specs.declared.record.Record.{Record}
 use Rattle.wl_group.specs.Through.{HasGoneOver}
-use Rattle.wl_group.proofs.ThroughProofs.{gone_both, gone_still}
-use Rattle.wl_group.proofs.cell.Cell.go_over.Goals.{then-self-stretch+in-Ok, else-self-stretch}
+use Rattle.wl_group.proofs.ThroughProofs.{inside_mid}
 use Rattle.wl_group.proofs.cell.Cell.go_over.Goals as goal
 
-pub go_in-requires-then-self-stretch-clause-from : goal.go_in-requires-then-self-stretch-clause-from
-go_in-requires-then-self-stretch-clause-from c =
-    let m = c.loop-m.m in
-    let ss = c.args.ahead.now.stretches in
-    let e : suc (m - 1) ≡ m = omega (arith, c.loop-m.auto.m) in
-    let a = subst (λ x. (slice_index_or ss x no_stretch).from ≤ (slice_index_or ss (m - 1) no_stretch).until) e (c.requires.ahead.joined (m - 1) (omega (arith, e, c.loop-m-test.true))) in
-    omega (arith, a, c.if-self-reached.false)
+pub speak-requires-clause-cell : goal.speak-requires-clause-cell
+speak-requires-clause-cell c = c.in_ok-turned.ensures.gone.over.after
 
-pub returns-in-Err-clause-gone : goal.returns-in-Err-clause-gone
-returns-in-Err-clause-gone c =
-    let p = c.args.plan.now in
-    gone_still c.simulation_laws.ensures p c.laws.ensures.sound c.args.i c.requires.node c.args.end c.requires.stop c.args.self.now c.loop-m.self c.loop-m.said.items
-    c.requires.cell c.requires.inside c.loop-m.invariant c.go_in-then-self-stretch.new.self c.in-Err.ensures.err
+pub speak-requires-clause-some : goal.speak-requires-clause-some
+speak-requires-clause-some c = omega (arith, c.in_ok-turned.ensures.gone.over.quanta)
 
-pub loop-m-preserved : goal.loop-m-preserved
-loop-m-preserved c =
-    let p = c.args.plan.now in
-    elim c.if-self-stretch.branch [
-      | then-self-stretch+in-Ok w ↦
-          subst (λ x. HasGoneOver p c.args.i c.args.end c.args.self.now x c.if-self-stretch.said.items) (sym w.self-is)
-          (subst (λ x. HasGoneOver p c.args.i c.args.end c.args.self.now w.go_in-then-self-stretch.new.self x.items) (sym w.said-is)
-          (gone_both c.simulation_laws.ensures p c.laws.ensures.sound c.args.i c.requires.node c.args.end c.requires.stop c.args.self.now c.loop-m.self c.loop-m.said.items
-          c.requires.cell c.requires.inside c.loop-m.invariant w.go_in-then-self-stretch.new.self w.in-Ok.more.items (omega (arith, c.if-len-gt1.false, c.len.ensures.value)) w.in-Ok.ensures.gone))
-      | else-self-stretch w ↦
-          subst (λ x. HasGoneOver p c.args.i c.args.end c.args.self.now x c.if-self-stretch.said.items) (sym w.self-is)
-          (subst (λ x. HasGoneOver p c.args.i c.args.end c.args.self.now c.loop-m.self x.items) (sym w.said-is) c.loop-m.invariant)
-    ]
+pub speak-requires-clause-inside : goal.speak-requires-clause-inside
+speak-requires-clause-inside c =
+    inside_mid c.simulation_laws.ensures c.args.plan.now c.laws.ensures.sound c.args.i c.requires.node c.args.end c.requires.stop c.args.self.now c.go_through.new.self c.in_ok-turned.turned
+    c.requires.cell c.requires.inside c.in_ok-turned.ensures.gone
+
+pub speak-requires-clause-turned : goal.speak-requires-clause-turned
+speak-requires-clause-turned c = c.in_ok-turned.ensures.gone.turned_is
+
+pub returns-clause-gone : goal.returns-clause-gone
+returns-clause-gone c =
+    subst (λ (rs : List Record). HasGoneOver c.args.plan.now c.args.i c.args.end c.args.self.now c.go_through.new.self rs) (sym c.speak.ensures) c.in_ok-turned.ensures.gone.over
