@@ -94,7 +94,7 @@ known_then a b c later g h = record {
   ];
 }
 
-below_then : (plan : Plan) (i until : ℕ) (a b c : Running) → RanUpTo plan i until a b → RanUpTo plan i until b c → RanUpTo plan i until a c
+pub below_then : (plan : Plan) (i until : ℕ) (a b c : Running) → RanUpTo plan i until a b → RanUpTo plan i until b c → RanUpTo plan i until a c
 below_then plan i until a b c g h q before = elim (h q before) [
   | inl ahead ↦ inl ahead
   | inr ran ↦ g q ran

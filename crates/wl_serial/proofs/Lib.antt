@@ -1,3 +1,4 @@
+mod Along
 mod Back
 mod Beside
 mod Counts

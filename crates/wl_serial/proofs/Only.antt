@@ -1,25 +1,17 @@
 -- A place at which one node alone is heard.
-use Rattle.std.proofs.Common.{◌≡◌, ℕ, zero, suc, ◌+◌, ◌-◌, ◌<◌, ◌≤◌, ◌≢◌, Bool, true, false, ◌||◌, inl, inr, List, length, get_or, refl, sym, ◌∙◌, ap, subst, arith}
+use Rattle.std.proofs.Common.{◌≡◌, ℕ, zero, suc, ◌+◌, ◌<◌, ◌≤◌, ◌≢◌, Bool, true, false, ◌||◌, inl, inr, List, length, get_or, refl, sym, ◌∙◌, ap, arith}
 use Rattle.std.proofs.Math.Bool.{or-false}
-use Rattle.std.proofs.Math.ListN.{set}
 use Rattle.std.proofs.lemmas.Bool.{cases_eq}
-use Rattle.std.proofs.lemmas.List.{get_or-set_same, get_or-set_other}
 use Rattle.std.specs.Int.{from_bool}
-use Rattle.wl_level.specs.Levels.{level_of}
-use Rattle.wl_record_core.specs.Truth.{count_below, odd}
 use Rattle.wl_topology.specs.Delays.{delay_of}
 use Rattle.wl_topology.specs.Driven.{any_below}
 use Rattle.wl_topology.specs.Limits.{most_places}
 use Rattle.wl_plan.specs.declared.plan.Plan.{Plan}
-use Rattle.wl_plan.specs.PlanLine.{line_of, disturbed}
-use Rattle.wl_plan.specs.SimulationLaws.{SimulationLaws}
+use Rattle.wl_plan.specs.PlanLine.{disturbed}
 use Rattle.wl_serial.specs.declared.ear.Ear.{Ear}
-use Rattle.wl_serial.specs.declared.ear.Found.{Found}
-use Rattle.wl_pulse.specs.declared.pulse.Pulse.{Pulse}
 use Rattle.wl_serial.specs.declared.running_node.Running.{Running}
-use Rattle.wl_serial.specs.Stretch.{HasStretched, TellsTheSame}
 use Rattle.wl_pulse.specs.Pulses.{IsPulse}
-use Rattle.wl_serial.specs.Heard.{drove, passing, tells, HearsOnly, IsAlone, IsFound, IsHeard}
+use Rattle.wl_serial.specs.Heard.{drove, passing, HearsOnly, IsAlone, IsHeard}
 
 -- one of those that pass
 one_passes : (p : ℕ → Bool) (n k : ℕ) → k < n → from_bool (p k) ≤ passing p n
@@ -77,37 +69,3 @@ hears_only plan rs j i a t ear b few alone less heard shaken calm begun ends d u
 
     still : disturbed plan i u ≡ false
     still = shaken u (let f = begun d in omega (arith, f, after)) (omega (arith, before, ends)) ∙ calm
-
--- a node that told no change hears on
-pub hears_on : (plan : Plan) (rs : List Running) (j i t : ℕ) (r : Running) → SimulationLaws → i < length rs → ((d : Running) → r.changes ≡ (get_or rs i d).changes)
-    → ((d : Running) → (get_or rs i d).next ≤ r.next) → HearsOnly plan rs j i t → HearsOnly plan (set rs i r) j i t
-hears_on plan rs j i t r laws b changes later only d u after before =
-    laws.found_same (line_of plan) (tells (set rs i r) d) (tells rs d) i u (λ k c late. ap (λ xs. odd (count_below (u - delay_of plan.topology k i + 1) xs)) (same k))
-    ∙ (only d u (let e = ap (λ x. x.next) (get_or-set_same rs i r d b) in let f = later d in omega (arith, after, e, f)) before
-    ∙ ap (λ xs. drove xs (delay_of plan.topology j i) u) (sym (same j)))
-  where
-    same : (k : ℕ) → (get_or (set rs i r) k d).changes ≡ (get_or rs k d).changes
-    same k = elim (cases_eq k i) [
-      | inl own ↦ subst (λ n. (get_or (set rs i r) n d).changes ≡ (get_or rs n d).changes) (sym own) (ap (λ x. x.changes) (get_or-set_same rs i r d b) ∙ changes d)
-      | inr other ↦ ap (λ x. x.changes) (get_or-set_other rs i k r d other)
-    ]
-
-pub hears_then : (plan : Plan) (rs new : List Running) (j i t upto : ℕ) → SimulationLaws → i < length rs → HasStretched plan i upto rs new → TellsTheSame i rs new → HearsOnly plan rs j i t
-    → HearsOnly plan new j i t
-hears_then plan rs new j i t upto laws b ran same only =
-    subst (λ xs. HearsOnly plan xs j i t) (sym ran.is)
-    (hears_on plan rs j i t ran.r laws b
-    (λ d. sym (ap (λ x. x.changes) (get_or-set_same rs i ran.r d b)) ∙ (ap (λ xs. (get_or xs i d).changes) (sym ran.is) ∙ same d b))
-    (λ d. let e = ran.later d in omega (arith, e)) only)
-
--- what it finds is what comes from the one
-pub found_alone : (plan : Plan) (rs : List Running) (j i t : ℕ) (p : Pulse) (f : Found) → HearsOnly plan rs j i t → f.until ≤ t → f.until ≤ p.until → f.level ≡ level_of (p.dominant || false)
-    → ((d : Running) → (get_or rs i d).next < f.until) → ((d : Running) → p.from ≤ (get_or rs i d).next)
-    → ((d : Running) → IsPulse (drove (get_or rs j d).changes (delay_of plan.topology j i)) p) → IsFound plan i rs f
-found_alone plan rs j i t p f only less until level below from pulse d = (
-  below d,
-  λ u after before.
-      level
-      ∙ ap level_of (or-false p.dominant
-      ∙ (sym (pulse d u (let e = from d in omega (arith, e, after)) (omega (arith, before, until))) ∙ sym (only d u after (omega (arith, before, less))))),
-)

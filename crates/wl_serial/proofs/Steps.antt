@@ -7,7 +7,7 @@ use Rattle.wl_node.specs.History.{history_of, counters_of, phases_of, hards_of, 
 use Rattle.wl_record_core.specs.Truth.{count_below, IsIncreasing}
 use Rattle.wl_plan.specs.declared.plan.Plan.{Plan}
 use Rattle.wl_plan.specs.Limits.{most_quanta}
-use Rattle.wl_plan.specs.Line.{reach}
+use Rattle.wl_plan.specs.Line.{Line, reach}
 use Rattle.wl_plan.specs.PlanLine.{setup_at, line_of, table_of}
 use Rattle.wl_plan.specs.Simulation.{seen, changes, ran, AreInside}
 use Rattle.wl_plan.specs.SimulationLaws.{SimulationLaws}
@@ -17,7 +17,7 @@ use Rattle.wl_node.specs.declared.node.Node.{Node}
 use Rattle.wl_serial.specs.declared.running_node.Running.{Running}
 use Rattle.wl_serial.specs.declared.outcome.NodeOutcome.{NodeOutcome}
 use Rattle.wl_serial.specs.Outcome.{outcome_of_history, node_outcome_of}
-use Rattle.wl_serial.specs.Running.{IsRunning, IsSomewhere, RunsOn}
+use Rattle.wl_serial.specs.Running.{IsAt, IsRunning, IsSomewhere, RunsOn}
 
 as_many : (ts : List ℕ) (t u : ℕ) → t ≡ u → count_below t ts ≤ count_below u ts
 as_many ts t u e = (let f = ap (λ v. count_below v ts) e in omega (arith, f))
@@ -66,17 +66,20 @@ quanta_below plan i n r sound b some count before =
     omega (arith, count, e, f)
 
 -- the same, where only what is known of the drive is another
-pub told_alike : (plan : Plan) (i k : ℕ) (r s : Running) → s.next ≡ r.next → s.node ≡ r.node → s.changes ≡ r.changes → RunsOn plan (line_of plan) i r k → RunsOn plan (line_of plan) i s k
-told_alike plan i k r s next node changes runs = record {
-  at = record {
-    setup = ap node_setup node ∙ runs.at.setup;
-    quanta = ap quanta_of node ∙ runs.at.quanta;
-    next = next ∙ runs.at.next;
-    order = subst IsIncreasing (sym changes) runs.at.order;
-    below = subst (λ n. All (λ t. t < n) s.changes) (sym next) (subst (All (λ t. t < r.next)) (sym changes) runs.at.below);
-  };
+pub at_alike : (plan : Plan) (i : ℕ) (k : ℕ) (r s : Running) → s.next ≡ r.next → s.node ≡ r.node → s.changes ≡ r.changes → IsAt plan i r k → IsAt plan i s k
+at_alike plan i k r s next node changes at = record {
+  setup = ap node_setup node ∙ at.setup;
+  quanta = ap quanta_of node ∙ at.quanta;
+  next = next ∙ at.next;
+  order = subst IsIncreasing (sym changes) at.order;
+  below = subst (λ n. All (λ t. t < n) s.changes) (sym next) (subst (All (λ t. t < r.next)) (sym changes) at.below);
+}
+
+pub told_alike : (plan : Plan) (l : Line) (i k : ℕ) (r s : Running) → s.next ≡ r.next → s.node ≡ r.node → s.changes ≡ r.changes → RunsOn plan l i r k → RunsOn plan l i s k
+told_alike plan l i k r s next node changes runs = record {
+  at = at_alike plan i k r s next node changes runs.at;
   inside = runs.inside;
-  node = subst (IsNode (seen (line_of plan) i k)) (sym node) runs.node;
+  node = subst (IsNode (seen l i k)) (sym node) runs.node;
   changes = changes ∙ runs.changes;
 }
 
@@ -86,7 +89,7 @@ pub promises : (plan : Plan) (i : ℕ) (r s : Running) → SimulationLaws → Is
 promises plan i r s laws sound b run next node changes known = (
   run.0,
   record {
-    runs = told_alike plan i run.0 r s next node changes run.1.runs;
+    runs = told_alike plan (line_of plan) i run.0 r s next node changes run.1.runs;
     promised =
         (let e = laws.length_seen (line_of plan) i run.0 in
         let h = laws.clock_later (line_of plan) i run.0 (length (seen (line_of plan) i run.0) + (line_of plan).quiet i (seen (line_of plan) i run.0)) sound.causal b (omega (arith, e)) in

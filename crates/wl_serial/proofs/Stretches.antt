@@ -13,16 +13,14 @@ use Rattle.wl_record_core.specs.TableLaws.{TableLaws}
 use Rattle.wl_node.specs.History.{history_of}
 use Rattle.wl_node.specs.Reached.{IsNode, node_setup, quanta_of, HasGone}
 use Rattle.wl_plan.specs.declared.plan.Plan.{Plan}
-use Rattle.wl_clock.specs.Timing.{tick_of}
-use Rattle.wl_node.specs.declared.setup.NodeSetup.{NodeSetup}
 use Rattle.wl_plan.specs.Limits.{most_quanta}
 use Rattle.wl_plan.specs.Line.{Line}
-use Rattle.wl_plan.specs.PlanLine.{setup_at, line_of}
+use Rattle.wl_plan.specs.PlanLine.{line_of}
 use Rattle.wl_plan.specs.Simulation.{seen, changes, differs, AreInside}
 use Rattle.wl_plan.specs.SimulationLaws.{SimulationLaws}
 use Rattle.wl_plan.specs.Sound.{IsCausal, IsSound}
 use Rattle.wl_serial.specs.declared.running_node.Running.{Running}
-use Rattle.wl_serial.specs.Running.{IsAt, IsLater, IsSomewhere, OwnIsTold, RunsOn, finds, line_with}
+use Rattle.wl_serial.specs.Running.{IsAt, IsLater, OwnIsTold, RunsOn, finds, line_with}
 use Rattle.wl_serial.proofs.Found.{own_on}
 
 -- one quantum more stands below the end
@@ -193,13 +191,7 @@ module _ (plan : Plan) (delay : ℕ → ℕ → ℕ) (disturbed : ℕ → ℕ �
           ∙ (ap (λ xs. xs ++ l.instant i (k + p) ∷ []) so_far
           ∙ sym (known_more l i (k + p) laws causal b inside (turns false f)))
 
--- the quanta below a tick that is after the next one's are more than have run, and few
-pub ahead : (plan : Plan) (i k n until : ℕ) → SimulationLaws → IsSound (line_of plan) → i < length plan.nodes → (line_of plan).instant i k < until → until ≤ (line_of plan).instant i n → k < n
-ahead plan i k n until laws sound b before reached = elim (cases_lt k n) [
-  | inl there ↦ there
-  | inr past ↦ (let e = laws.clock_later (line_of plan) i n k sound.causal b past in absurd (omega (arith, e, before, reached)))
-]
-
+-- the quanta below a tick are few
 pub few_ahead : (plan : Plan) (i n until : ℕ) → IsSound (line_of plan) → i < length plan.nodes → ((k : ℕ) → k < n → (line_of plan).instant i k < until) → until ≤ plan.end → n ≤ most_quanta
 few_ahead plan i zero until sound b below ends = omega arith
 few_ahead plan i (suc n) until sound b below ends =
@@ -212,20 +204,6 @@ after_some plan i k p laws sound b =
     let e = laws.clock_later (line_of plan) i k (k + p) sound.causal b (omega arith) in
     let f = sound.causal.clocks i (k + p) b in
     omega (arith, e, f)
-
--- by the clock of the setup at a place, the quanta below a tick are more than have run, and few
-pub more_and_few : (plan : Plan) (i : ℕ) (r : Running) (x : NodeSetup) (quanta n until : ℕ) → SimulationLaws → IsSound (line_of plan) → i < length plan.nodes → (some : IsSomewhere plan i r)
-    → x ≡ setup_at plan i → quanta ≡ quanta_of r.node → r.next < until → until ≤ plan.end → until ≤ tick_of x.clock n
-    → ((k : ℕ) → k < n → tick_of x.clock k < until) → (quanta ≡ some.0) × (quanta < n) × (n ≤ most_quanta)
-more_and_few plan i r x quanta n until laws sound b some e count below ends reached least =
-    let q : quanta ≡ some.0 = count ∙ some.1.quanta in
-    let next = some.1.next in
-    let t = ap (λ u. tick_of u.clock n) e in
-    let h = ahead plan i some.0 n until laws sound b (omega (arith, next, below)) (omega (arith, t, reached)) in (
-      q,
-      omega (arith, q, h),
-      few_ahead plan i n until sound b (λ k c. let u = ap (λ v. tick_of v.clock k) e in let g = least k c in omega (arith, u, g)) ends,
-    )
 
 -- ticks in order, and one more after them
 increases_more : (xs : List ℕ) (t u : ℕ) → IsIncreasing xs → All (λ x. x < t) xs → t ≤ u → IsIncreasing (xs ++ u ∷ [])

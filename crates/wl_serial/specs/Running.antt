@@ -37,6 +37,10 @@ pub record IsAt (plan : Plan) (i : ℕ) (r : Running) (k : ℕ) : Type 0 where
   pub order : IsIncreasing r.changes
   pub below : All (λ t. t < r.next) r.changes
 
+-- where node i is by the quanta that it has run, if the tick of its next one may not be noted yet
+abbrev pub by_quanta : Plan → ℕ → Running → Running
+by_quanta plan i r = record { node = r.node; changes = r.changes; next = (line_of plan).instant i (quanta_of r.node); known = r.known }
+
 -- some number of quanta
 abbrev pub IsSomewhere : Plan → ℕ → Running → Type 0
 IsSomewhere plan i r = (k : ℕ) × IsAt plan i r k

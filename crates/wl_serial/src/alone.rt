@@ -1,90 +1,88 @@
-//! What a listener finds while one node alone is heard.
-ghost use Rattle.std.specs.Prelude.{◌≡◌, ◌<◌, ◌≤◌, length};
-ghost use Rattle.wl_topology.specs.Delays.{delay_of};
-ghost use Rattle.wl_serial.specs.Heard.{IsEar, IsFound, IsHeard, HearsOnly};
-ghost use Rattle.wl_serial.specs.Running.{AreSomewhere, RunsBelow};
+//! How a listener runs while one node alone is heard.
+ghost use Rattle.std.specs.Prelude.{◌≡◌, ◌≢◌, ℕ, ◌<◌, ◌≤◌, false, IfOk, OnOk, length, slice_index_or};
+ghost use Rattle.wl_serial.specs.declared.running_node.Running.{Running as GivenRunning};
+ghost use Rattle.wl_serial.specs.Heard.{AreEars, AreHeard, HearsOnly};
+ghost use Rattle.wl_serial.specs.Running.{AreSomewhere, RunsBelow, by_quanta, one_more};
+ghost use Rattle.wl_serial.specs.Stretch.{HasRunAlong, HasStretched, TellsTheSame};
 
 use crate::checked::Checked;
-use crate::ear::{Ear, Found, level_by};
+use crate::ear::{Ear, level_by, tell};
 use crate::pulse::pulse_of;
 use crate::running_node::Running;
+use std::alloc::AllocError;
 
-/// The node that sends, the tick below which a listener hears nothing else, and how many of its changes had arrived there.
-#[derive(Drop)]
-pub(crate) struct Alone {
-    pub(crate) node: usize,
-    pub(crate) until: u64,
-    /// It speeds up the next time, and decides nothing.
-    pub(crate) come: usize,
+/// Runs quanta of node `i` below a tick, up to the first that changes its drive, beside node `j`, which alone is heard there. All places
+/// note its change. True if there was one.
+pub(crate) fn run_alone(
+    plan: &Checked,
+    running: &mut [Running],
+    ears: &mut [Ear],
+    j: usize,
+    i: usize,
+    until: u64,
+) -> Result<bool, AllocError>
+    requires node { i < length plan.now.nodes }
+    requires leader { j < length plan.now.nodes }
+    requires other { i ≢ j }
+    requires somewhere { AreSomewhere plan.now running.old }
+    requires ears { AreEars plan.now ears.old }
+    requires heard { AreHeard plan.now running.old ears.old }
+    requires ends { until ≤ plan.now.end }
+    requires below { RunsBelow until running.old i }
+    requires only { HearsOnly plan.now running.old j i until }
+    ensures ears { OnOk result (AreEars plan.now ears.new) }
+    ensures heard { OnOk result (AreHeard plan.now running.new ears.new) }
+    ensures ran { OnOk result (HasStretched plan.now i until running.old running.new) }
+    ensures same { IfOk result (λ changed. changed ≡ false → TellsTheSame i running.old running.new) }
+{
+    plan.laws();
+    wl_plan::simulation_laws();
+    let delay = ears[i].delays[j];
+    let come = ears[i].sources.come[j];
+    let change = run_along(plan, running, j, i, delay, come, until)?;
+    running[i].arrive(plan, i);
+    if let Some(tick) = change {
+        tell(plan, ears, i, tick);
+        return Ok(true);
+    }
+    Ok(false)
 }
 
-impl Alone {
-    /// Returns what node `i` finds from its next quantum on, below a tick, by the changes that are known. While one node alone is heard
-    /// there, no other one is asked.
-    #[inline(always)]
-    pub(crate) fn find(
-        &mut self,
-        plan: &Checked,
-        running: &[Running],
-        ear: &mut Ear,
-        i: usize,
-        until: u64,
-    ) -> Found
-        requires node { i < length plan.now.nodes }
-        requires leader { self.old.node < length plan.now.nodes }
-        requires somewhere { AreSomewhere plan.now running.now }
-        requires ear { IsEar plan.now i ear.old }
-        requires heard { IsHeard plan.now running.now i ear.old }
-        requires ends { until ≤ plan.now.end }
-        requires below { RunsBelow until running.now i }
-        requires only { HearsOnly plan.now running.now self.old.node i self.old.until }
-        ensures ear { IsEar plan.now i ear.new }
-        ensures heard { IsHeard plan.now running.now i ear.new }
-        ensures few { result.until ≤ until }
-        ensures found { IsFound plan.now i running.now result }
-        ensures leader { self.new.node ≡ self.old.node }
-        ensures only { HearsOnly plan.now running.now self.new.node i self.new.until }
-    {
-        plan.laws();
-        let j = self.node;
-        if running[i].next < self.until {
-            return self.hear(plan, running, ear.delays[j], i, until.min(self.until));
-        }
-        let found = ear.hear(plan, running, i, until);
-        self.until = ear.alone_until(plan, running, j, i);
-        self.come = ear.sources.come[j];
-        found
-    }
-
-    /// Returns what the node makes at node `i`, a delay later, from that one's next quantum on and below a tick.
-    #[inline(always)]
-    fn hear(
-        &mut self,
-        plan: &Checked,
-        running: &[Running],
-        delay: u64,
-        i: usize,
-        until: u64,
-    ) -> Found
-        requires node { i < length plan.now.nodes }
-        requires leader { self.old.node < length plan.now.nodes }
-        requires somewhere { AreSomewhere plan.now running.now }
-        requires delay { delay ≡ delay_of plan.now.topology self.old.node i }
-        requires ends { until ≤ plan.now.end }
-        requires below { RunsBelow until running.now i }
-        requires only { HearsOnly plan.now running.now self.old.node i until }
-        ensures few { result.until ≤ until }
-        ensures found { IsFound plan.now i running.now result }
-        ensures leader { self.new.node ≡ self.old.node }
-        ensures until { self.new.until ≡ self.old.until }
-    {
-        plan.laws();
-        let t = running[i].next;
-        let changes = running[self.node].changes.as_slice();
-        let pulse = pulse_of(changes, delay, t, &mut self.come);
-        Found {
-            until: pulse.until.min(until),
-            level: level_by(pulse.dominant, false),
+/// Runs quanta of node `i` below a tick, up to the first that changes its drive, as if node `j` alone were heard. It goes from change to
+/// change of that one. Returns the tick of that quantum, if there is one. `come` is how many changes had arrived when it was last asked
+/// for; it decides nothing but speed. The tick of the next quantum isn't noted.
+fn run_along(
+    plan: &Checked,
+    running: &mut [Running],
+    j: usize,
+    i: usize,
+    delay: u64,
+    come: usize,
+    until: u64,
+) -> Result<Option<u64>, AllocError>
+    requires node { i < length plan.now.nodes }
+    requires leader { j < length plan.now.nodes }
+    requires other { i ≢ j }
+    requires somewhere { AreSomewhere plan.now running.old }
+    requires ends { until ≤ plan.now.end }
+    requires below { RunsBelow until running.old i }
+    ensures ran { OnOk result (HasRunAlong plan.now j delay i until running.old running.new) }
+    ensures later { OnOk result ((d : GivenRunning)
+        → (slice_index_or running.old i d).next < (by_quanta plan.now i (slice_index_or running.new i d)).next) }
+    ensures told { IfOk result (λ change. (d : GivenRunning) → (slice_index_or running.new i d).changes
+        ≡ one_more (slice_index_or running.old i d).changes change) }
+{
+    plan.laws();
+    wl_plan::simulation_laws();
+    let mut come = come;
+    let mut from = running[i].next;
+    while from < until {
+        let pulse = pulse_of(running[j].changes.as_slice(), delay, from, &mut come);
+        from = pulse.until.min(until);
+        let level = level_by(pulse.dominant, false);
+        if let Some(tick) = running[i].run(plan, i, level, from)? {
+            return Ok(Some(tick));
         }
     }
+    Ok(None)
 }

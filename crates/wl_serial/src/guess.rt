@@ -1,16 +1,16 @@
 //! A guess: while one node sends and all others listen, nothing else is sent but by an error or at the end of the frame. So the sender runs
 //! alone up to there, and then each listener runs as far beside what it sent. If none of them changes its drive, all did what they do
 //! (`a_consistent_guess_holds` of `wl_plan`). Else all go back to where they were.
-ghost use Rattle.std.specs.Prelude.{◌≡◌, ◌≢◌, ℕ, ◌<◌, ◌≤◌, true, IfOk, OnOk, MatchOption, List, length, slice_index_or};
+ghost use Rattle.std.specs.Prelude.{◌≡◌, ◌≢◌, ℕ, ◌<◌, ◌≤◌, false, true, IfOk, OnOk, MatchOption, List, length, slice_index_or};
 ghost use Rattle.wl_serial.specs.declared.ear.Ear.{Ear as GivenEar};
 ghost use Rattle.wl_serial.specs.declared.running_node.Running.{Running as GivenRunning};
 ghost use Rattle.wl_serial.specs.Guess.{AreAsFar, AreBack, AreBefore, AreLater, HaveListened, HavePassed, RanAlone};
 ghost use Rattle.wl_serial.specs.Engine.{GoesNext, IsEngine, IsNearer};
 ghost use Rattle.wl_serial.specs.Heard.{AreEars, AreHeard};
 ghost use Rattle.wl_serial.specs.Running.{AreRunning, AreSomewhere, RunsBelow, ticks_left};
-ghost use Rattle.wl_serial.specs.Stretch.{TellsTheSame};
+ghost use Rattle.wl_serial.specs.Stretch.{HasStretched, TellsTheSame};
 
-use crate::alone::Alone;
+use crate::alone::run_alone;
 use crate::checked::Checked;
 use crate::ear::Ear;
 use crate::engine::{Engine, all_known};
@@ -141,8 +141,8 @@ fn follow(
     Ok(true)
 }
 
-/// Runs node `i` on up to a tick, beside all known changes, as long as it doesn't change its drive. True if it never did. As
-/// long as it hears node `j` alone, it goes from change to change of that one.
+/// Runs node `i` on up to a tick, beside all known changes, as long as it doesn't change its drive. True if it never did. Node `j` is the
+/// sender.
 fn listen(
     plan: &Checked,
     running: &mut [Running],
@@ -153,6 +153,7 @@ fn listen(
 ) -> Result<bool, AllocError>
     requires node { i < length plan.now.nodes }
     requires leader { j < length plan.now.nodes }
+    requires other { i ≢ j }
     requires somewhere { AreSomewhere plan.now running.old }
     requires ears { AreEars plan.now ears.old }
     requires heard { AreHeard plan.now running.old ears.old }
@@ -167,18 +168,44 @@ fn listen(
     plan.laws();
     wl_plan::simulation_laws();
     wl_plan::a_consistent_guess_holds();
-    let mut alone = Alone {
-        node: j,
-        until: 0,
-        come: 0,
-    };
     while running[i].next < until {
-        let found = alone.find(plan, running, &mut ears[i], i, until);
-        if run_found(plan, running, ears, i, found)? {
+        if stretch_alone(plan, running, ears, j, i, until)? {
             return Ok(false);
         }
     }
     Ok(true)
+}
+
+/// Runs quanta of node `i` as `stretch` does. If it hears node `j` alone, it goes on as long as that is so.
+fn stretch_alone(
+    plan: &Checked,
+    running: &mut [Running],
+    ears: &mut [Ear],
+    j: usize,
+    i: usize,
+    until: u64,
+) -> Result<bool, AllocError>
+    requires node { i < length plan.now.nodes }
+    requires leader { j < length plan.now.nodes }
+    requires other { i ≢ j }
+    requires somewhere { AreSomewhere plan.now running.old }
+    requires ears { AreEars plan.now ears.old }
+    requires heard { AreHeard plan.now running.old ears.old }
+    requires ends { until ≤ plan.now.end }
+    requires below { RunsBelow until running.old i }
+    ensures ears { OnOk result (AreEars plan.now ears.new) }
+    ensures heard { OnOk result (AreHeard plan.now running.new ears.new) }
+    ensures ran { OnOk result (HasStretched plan.now i until running.old running.new) }
+    ensures same { IfOk result (λ changed. changed ≡ false → TellsTheSame i running.old running.new) }
+{
+    let found = ears[i].hear(plan, running, i, until);
+    let alone = ears[i].alone_until(plan, running, j, i).min(until);
+    if running[i].next < alone {
+        let changed = run_alone(plan, running, ears, j, i, alone)?;
+        return Ok(changed);
+    }
+    let changed = run_found(plan, running, ears, i, found)?;
+    Ok(changed)
 }
 
 /// Notes of each node up to which tick its drive is known, whatever it sees.

@@ -1,15 +1,18 @@
 //! One node as far as the engine has run it.
-ghost use Rattle.std.specs.Prelude.{◌≡◌, ℕ, ◌^◌, ◌<◌, ◌≤◌, ◌++◌, [], ◌∷◌, if◌then◌else◌, IfOk, OnOk, length, take};
+ghost use Rattle.std.specs.Prelude.{◌≡◌, ℕ, ◌^◌, ◌<◌, ◌≤◌, ◌⊎◌, ◌++◌, [], ◌∷◌, if◌then◌else◌, List, None, IfOk, OnOk, length, take};
 ghost use Rattle.wl_clock.specs.Timing.{tick_of};
 ghost use Rattle.wl_level.specs.Levels.{same};
 ghost use Rattle.wl_plan.specs.Checked.{IsChecked};
 ghost use Rattle.wl_plan.specs.declared.plan.Plan.{Plan as GivenPlan};
 ghost use Rattle.wl_node.specs.Marks.{HasPassed};
+ghost use Rattle.wl_node.specs.Reached.{IsNode, quanta_of};
+ghost use Rattle.wl_plan.specs.Limits.{most_quanta};
 ghost use Rattle.wl_serial.specs.declared.running_node.Running.{Running as GivenRunning};
 ghost use Rattle.wl_serial.specs.Guess.{IsBefore, IsBack};
 ghost use Rattle.wl_serial.specs.Outcome.{node_outcome_of};
 ghost use Rattle.wl_serial.specs.Rest.{NodeStands, Stays};
-ghost use Rattle.wl_serial.specs.Running.{IsRunning, IsSomewhere, GoesOn, RanBelow, IsKnownOn, IsLater, one_more};
+ghost use Rattle.wl_serial.specs.Running.{IsRunning, IsSomewhere, GoesOn, RanBelow, IsKnownOn, IsLater, by_quanta, one_more};
+ghost use Rattle.wl_serial.specs.Stretch.{HasFollowed, RunsAny};
 
 use crate::checked::Checked;
 use crate::outcome::{Changes, NodeOutcome};
@@ -84,18 +87,59 @@ impl Running {
         ensures later { OnOk result (self.old.next < self.new.next) }
     {
         plan.laws();
+        let change = self.run(plan, i, level, until)?;
+        self.arrive(plan, i);
+        Ok(change)
+    }
+
+    /// Runs the quanta below tick `until` as `go` does, or none if there is none. The tick of the next quantum isn't noted.
+    #[inline(always)]
+    pub(crate) fn run(
+        &mut self,
+        plan: &Checked,
+        i: usize,
+        level: Level,
+        until: u64,
+    ) -> Result<Option<u64>, AllocError>
+        requires node { i < length plan.now.nodes }
+        requires somewhere { IsSomewhere plan.now i (by_quanta plan.now i self.old) }
+        requires ends { until ≤ plan.now.end }
+        ensures ran { OnOk result (HasFollowed plan.now i until (λ t. level) (by_quanta plan.now i self.old)
+            (by_quanta plan.now i self.new)) }
+        ensures told { IfOk result (λ change. self.new.changes ≡ one_more self.old.changes change) }
+        ensures later { OnOk result (RunsAny until (by_quanta plan.now i self.old) (by_quanta plan.now i self.new)) }
+        ensures reached { IfOk result (λ change. (levels : List Level) → IsNode levels self.old.node → change ≡ None
+            → until ≤ (by_quanta plan.now i self.new).next) }
+    {
+        plan.laws();
         wl_plan::simulation_laws();
         wl_record_core::table_laws();
         let clock = &plan.node(i).clock;
         let quanta = self.node.quanta();
+        let stop = clock.first_not_before(until);
+        if stop <= quanta {
+            return Ok(None);
+        }
         let before = self.node.drive();
-        let most = clock.first_not_before(until) - quanta;
-        let last = quanta + self.node.go(level, most)? - 1;
+        let last = quanta + self.node.go(level, stop - quanta)? - 1;
         let after = self.node.drive();
         let change = keep_change(&mut self.changes, clock, last, before, after)?;
-        self.next = clock.at(last + 1);
-        self.known = self.known.max(self.next);
         Ok(change)
+    }
+
+    /// Notes the tick of the next quantum. The drive is known up to there.
+    #[inline(always)]
+    pub(crate) fn arrive(&mut self, plan: &Checked, i: usize)
+        requires node { i < length plan.now.nodes }
+        requires few { quanta_of self.old.node ≤ most_quanta }
+        ensures node { self.new.node ≡ self.old.node }
+        ensures changes { self.new.changes ≡ self.old.changes }
+        ensures next { self.new.next ≡ (by_quanta plan.now i self.old).next }
+        ensures promised { self.new.next ≤ self.new.known }
+        ensures known { (self.new.known ≤ self.old.known) ⊎ (self.new.known ≤ self.new.next) }
+    {
+        self.next = plan.node(i).clock.at(self.node.quanta());
+        self.known = self.known.max(self.next);
     }
 
     /// Notes up to which tick the drive is known, whatever the node sees.

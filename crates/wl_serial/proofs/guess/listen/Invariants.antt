@@ -1,11 +1,10 @@
-use Rattle.std.proofs.Common.{◌≡◌}
 use Rattle.wl_serial.specs.Guess.{RanAlone}
-use Rattle.wl_serial.specs.Heard.{AreEars, AreHeard, HearsOnly}
+use Rattle.wl_serial.specs.Heard.{AreEars, AreHeard}
 use Rattle.wl_serial.specs.Running.{AreSomewhere, ticks_left}
 use Rattle.wl_serial.specs.Stretch.{TellsTheSame}
 use Rattle.wl_serial.proofs.guess.listen.Given as goal
 
--- the node has run alone, and told nothing; what it hears of the sender alone stays so
+-- the node has run alone, and told nothing
 abbrev pub invariant-loop-running : goal.invariant-loop-running
 invariant-loop-running l =
     AreEars l.plan l.ears
@@ -13,8 +12,6 @@ invariant-loop-running l =
     × AreSomewhere l.plan l.running
     × RanAlone l.plan l.i l.until l.fn.running l.running
     × TellsTheSame l.i l.fn.running l.running
-    × (l.alone.node ≡ l.j)
-    × HearsOnly l.plan l.running l.alone.node l.i l.alone.until
 
 abbrev pub decreases-loop-running : goal.decreases-loop-running
 decreases-loop-running l = ticks_left l.plan.end l.running

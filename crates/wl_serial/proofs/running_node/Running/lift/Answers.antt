@@ -2,7 +2,7 @@
 use Rattle.std.proofs.Common.{◌≡◌, inl, inr, ap, refl, arith}
 use Rattle.std.proofs.lemmas.Bool.{cases_lt}
 use Rattle.wl_record_core.specs.Truth.{count_below}
-use Rattle.wl_plan.specs.PlanLine.{table_of}
+use Rattle.wl_plan.specs.PlanLine.{line_of, table_of}
 use Rattle.wl_serial.proofs.Steps.{told_alike}
 use Rattle.wl_serial.proofs.running_node.Running.lift.Goals as goal
 
@@ -15,7 +15,7 @@ returns-clause-running c =
     let promised = run.promised in (
       c.requires.running.0,
       record {
-        runs = told_alike c.args.plan.now c.args.i c.requires.running.0 c.args.self.now _ refl refl refl run.runs;
+        runs = told_alike c.args.plan.now (line_of c.args.plan.now) c.args.i c.requires.running.0 c.args.self.now _ refl refl refl run.runs;
         promised = omega (arith, promised, max);
         known = elim (cases_lt c.args.self.now.known c.args.until) [
           | inl more ↦
