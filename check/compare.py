@@ -27,6 +27,7 @@ Seed 1 and one process by default. Input N of a seed is always the same, in howe
   workers       runs by 2 to 8 workers and either link beside one thread
   engines       PROGRAM is test_engine: the engine that jumps beside one that goes quantum by quantum
   replicas      PROGRAM is test_replica: lists of takes and joins
+  programs      another built program, --beside PROGRAM, on the same inputs
   rooms         PROGRAM is -: when plain.py's nodes have sent their frames beside the least quanta that explain counts for them
   groups        PROGRAM is -: groups under random schedules by plain.py's nodes, beside its one-thread simulation
 
@@ -61,6 +62,7 @@ WHATS = {
     "workers": ("threads", "workers", 500, {}),
     "engines": ("engines", "engines", 2_000, {}),
     "replicas": ("replicas", "replicas", 1_000, {}),
+    "programs": ("programs", "programs", 1_000, {"beside": ""}),
     "rooms": ("rooms", "rooms", 1_000, {}),
     "groups": ("schedules", "groups", 1_000, {}),
 }

@@ -3,6 +3,7 @@ use Rattle.std.specs.Prelude.{◌≡◌, Bool, true, false, List, [], ◌∷◌,
 use Rattle.wl_level.specs.declared.Level.{Level}
 use Rattle.wl_confine.specs.declared.Mode.{Mode}
 use Rattle.wl_confine.specs.declared.Mode.TheVariants as modes
+use Rattle.wl_frame.specs.Grammar.{Content, bits_of}
 use Rattle.wl_frame.specs.Stuffing.{destuffed_bits}
 use Rattle.wl_machine.specs.declared.state.Role.{Role}
 use Rattle.wl_machine.specs.declared.state.Role.TheVariants.{Tx, Rx}
@@ -44,10 +45,21 @@ IsKind (kinds.Intermission sends) bits s = s.sort ≡ Intermission (way_of sends
 IsKind kinds.Suspension bits s = s.sort ≡ Suspension
 IsKind kinds.OffBus bits s = s.sort ≡ OffBus
 
+-- the bits of the frame that is sent, if there is one
+abbrev pub IsSent : Option Content → List Level → Type 0
+IsSent None sent = Unit {0}
+IsSent (Some head) sent = sent ≡ bits_of head
+
+-- in a stretch of this kind
+abbrev pub KeepsSent : StretchKind → List Level → Type 0
+KeepsSent (kinds.Framing head sends end) sent = IsSent head sent
+KeepsSent kind sent = Unit {0}
+
 -- what is kept is that of this stretch
 pub record KeepsStretch (kept : RunningStretch) (s : Stretch) : Type 0 where
   pub own : kept.own.items ≡ s.own
   pub kind : IsKind kept.kind kept.bits.items s
+  pub sent : KeepsSent kept.kind kept.sent.items
 
 -- the samples with which a stretch begins: the last one, or none
 abbrev pub first_samples : Bool → Level → List Level

@@ -4,7 +4,7 @@ ghost use Rattle.std.specs.Option.{option_copied};
 ghost use Rattle.wl_level.specs.declared.Level.{Level};
 ghost use Rattle.wl_level.specs.Places.{at, or_at, run_at_end};
 ghost use Rattle.wl_confine.specs.Counts.{is_error};
-ghost use Rattle.wl_frame.specs.Grammar.{Content, is_whole};
+ghost use Rattle.wl_frame.specs.Grammar.{Content, bits_of, is_whole};
 ghost use Rattle.wl_frame.specs.Stuffing.{destuffed_bits, is_stuff};
 ghost use Rattle.wl_machine.specs.Stretch.{Flag, Stretch, Sampled, free};
 ghost use Rattle.wl_machine.specs.Stretch.Flag.{OverloadFlag};
@@ -18,13 +18,13 @@ ghost use Rattle.wl_machine.specs.Judged.{head_of, judged, role_of, stretch_afte
 ghost use Rattle.wl_machine.specs.Roles.{loses};
 ghost use Rattle.wl_trace.specs.Events.{free_kind, is_transmitter};
 ghost use Rattle.wl_trace.specs.Places.{is_at_stuff, known_bits, next_place, stuffed_place};
-ghost use Rattle.wl_trace.specs.Running.{ComesNext, KeepsStretch, error_kind, first_samples, way_of};
+ghost use Rattle.wl_trace.specs.Running.{ComesNext, KeepsSent, KeepsStretch, error_kind, first_samples, way_of};
 
 use crate::event::{FrameField, Place};
 use crate::fields::{frame_place, tail_place};
 use std::alloc::{AllocError, Global};
 use wl_confine::{ErrorKind, Happened, Mode};
-use wl_frame::frame::Frame;
+use wl_frame::frame::{Frame, FrameBits};
 use wl_frame::places::{is_arbitration, is_whole};
 use wl_level::Level;
 
@@ -98,6 +98,21 @@ pub(crate) struct RunningStretch {
     pub(crate) kind: StretchKind,
     pub(crate) own: Vec<Level>,
     pub(crate) bits: Vec<Level>,
+    /// The bits of the frame that is sent, if there is one.
+    pub(crate) sent: FrameBits,
+}
+
+/// Returns the bits of the frame that is sent in a stretch of this kind; none if there is no such frame.
+fn bits_sent(kind: &StretchKind) -> FrameBits
+    ensures { KeepsSent kind.now result.items }
+{
+    match *kind {
+        StretchKind::Framing {
+            head: Some(frame),
+            ..
+        } => frame.bits(),
+        _ => FrameBits::new(),
+    }
 }
 
 /// Returns a stretch that begins with the next sample.
@@ -418,11 +433,11 @@ fn still_sends(sends: bool, lost: bool) -> bool
     sends && !lost
 }
 
-/// True if the sender of a frame loses the arbitration with a sample of this level, after these samples; `bits` of them are no stuff bits.
-/// The frame's own bits are asked for only if they decide.
-fn is_lost(frame: &Frame, own: &[Level], bits: &[Level], level: Level) -> bool
-    ensures { bits.now ≡ destuffed_bits own.now (length own.now)
-        → result ≡ is_lost frame.now (own.now ++ level ∷ []) (length own.now) }
+/// True if the sender of a frame with these bits loses the arbitration with a sample of this level, after these samples; `bits` of them are
+/// no stuff bits.
+fn is_lost(sent: &[Level], own: &[Level], bits: &[Level], level: Level) -> bool
+    ensures { (head : Content) → sent.now ≡ bits_of head → bits.now ≡ destuffed_bits own.now (length own.now)
+        → result ≡ is_lost head (own.now ++ level ∷ []) (length own.now) }
 {
     if !level.is_dominant() {
         return false;
@@ -430,21 +445,20 @@ fn is_lost(frame: &Frame, own: &[Level], bits: &[Level], level: Level) -> bool
     if bits.len() > LAST_ARBITRATION {
         return false;
     }
-    is_lost_to(frame, own, bits, level)
+    is_lost_to(sent, own, bits, level)
 }
 
 /// True if it does so, by the frame's own bits.
-fn is_lost_to(frame: &Frame, own: &[Level], bits: &[Level], level: Level) -> bool
-    ensures { bits.now ≡ destuffed_bits own.now (length own.now)
-        → result ≡ is_lost frame.now (own.now ++ level ∷ []) (length own.now) }
+fn is_lost_to(sent: &[Level], own: &[Level], bits: &[Level], level: Level) -> bool
+    ensures { (head : Content) → sent.now ≡ bits_of head → bits.now ≡ destuffed_bits own.now (length own.now)
+        → result ≡ is_lost head (own.now ++ level ∷ []) (length own.now) }
 {
     if is_stuff_due(own) {
         return false;
     }
-    let sent = frame.bits();
     let place = bits.len();
-    let inside = is_arbitration(&sent, place);
-    let recessive = !level_at(&sent, place).is_dominant();
+    let inside = is_arbitration(sent, place);
+    let recessive = !level_at(sent, place).is_dominant();
     let dominant = level.is_dominant();
     inside & recessive & dominant
 }
@@ -473,6 +487,7 @@ impl RunningStretch {
             kind: StretchKind::Integration,
             own: Vec::new(alloc),
             bits: Vec::new(alloc),
+            sent: FrameBits::new(),
         }
     }
 
@@ -513,10 +528,10 @@ impl RunningStretch {
     {
         match self.kind {
             StretchKind::Framing {
-                head: Some(frame),
+                head: Some(_),
                 sends: true,
                 ..
-            } => is_lost(&frame, &self.own, &self.bits, level),
+            } => is_lost(&self.sent, &self.own, &self.bits, level),
             _ => false,
         }
     }
@@ -609,7 +624,9 @@ impl RunningStretch {
         ensures kind { OnOk result (self.new.kind ≡ kind) }
         ensures own { OnOk result (self.new.own.items ≡ first_samples sampled level) }
         ensures bits { OnOk result (self.new.bits.items ≡ first_samples sampled level) }
+        ensures sent { OnOk result (KeepsSent kind self.new.sent.items) }
     {
+        self.sent = bits_sent(&kind);
         self.kind = kind;
         self.own.clear();
         self.bits.clear();
@@ -644,6 +661,7 @@ impl RunningStretch {
     fn take_bit(&mut self, stuff: bool, level: Level) -> Result<(), AllocError>
         ensures bits { OnOk result (self.new.bits.items ≡ self.old.bits.items ++ (if stuff then [] else level ∷ [])) }
         ensures own { OnOk result (self.new.own.items ≡ self.old.own.items) }
+        ensures sent { OnOk result (self.new.sent.items ≡ self.old.sent.items) }
     {
         if !stuff {
             self.bits.push(level)?;

@@ -3,5 +3,5 @@ use Rattle.wl_trace.proofs.Taken.{past_arbitration}
 use Rattle.wl_trace.proofs.stretch.is_lost.Goals as goal
 
 pub returns-then-bits-gt-LAST_ARBITRATION : goal.returns-then-bits-gt-LAST_ARBITRATION
-returns-then-bits-gt-LAST_ARBITRATION c kept =
-    sym (past_arbitration c.args.frame.now c.args.own.now c.args.bits.now c.args.level kept (omega (arith, c.if-bits-gt-LAST_ARBITRATION.true)))
+returns-then-bits-gt-LAST_ARBITRATION c head sent kept =
+    sym (past_arbitration head c.args.own.now c.args.bits.now c.args.level kept (omega (arith, c.if-bits-gt-LAST_ARBITRATION.true)))

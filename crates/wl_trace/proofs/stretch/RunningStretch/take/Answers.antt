@@ -6,7 +6,7 @@ use Rattle.wl_frame.specs.Grammar.{is_whole}
 use Rattle.wl_machine.specs.Judged.{role_of}
 use Rattle.wl_machine.specs.Roles.{RoleLaws, loses}
 use Rattle.wl_trace.specs.Events.{is_transmitter}
-use Rattle.wl_trace.specs.Running.{KeepsStretch, IsKind, way_of}
+use Rattle.wl_trace.specs.Running.{IsSent, KeepsSent, KeepsStretch, IsKind, way_of}
 use Rattle.wl_trace.proofs.Taken.{goes_on, role_kept, bits_kept, end_kept}
 use Rattle.wl_trace.proofs.stretch.RunningStretch.take.Goals as goal
 
@@ -34,4 +34,5 @@ returns-in_ok-take_bit c s x r l none =
             ∙ sym (c.end_after.ensures ∙ ap (λ (k : List Level). or_at c.in-Framing.end (is_whole next && not (is_stuff k (length k))) (length k)) grown),
         bits_kept laws s x none c.args.self.now.bits.items next kind.3 bits,
       );
+      sent = subst (IsSent c.in-Framing.head) (sym c.in_ok-take_bit.ensures.sent) (subst (λ k. KeepsSent k c.args.self.now.sent.items) c.in-Framing.is r.sent);
     })
