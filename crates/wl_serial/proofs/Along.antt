@@ -9,7 +9,6 @@ use Rattle.wl_level.specs.Levels.{level_of, same}
 use Rattle.wl_level.proofs.Callers.{same_equal}
 use Rattle.wl_clock.specs.Timing.{tick_of}
 use Rattle.wl_record_core.specs.TableLaws.{TableLaws}
-use Rattle.wl_record_core.specs.Truth.{IsIncreasing}
 use Rattle.wl_topology.specs.Delays.{delay_of}
 use Rattle.wl_node.specs.declared.node.Node.{Node}
 use Rattle.wl_node.specs.declared.setup.NodeSetup.{NodeSetup}
@@ -21,10 +20,8 @@ use Rattle.wl_plan.specs.PlanLine.{setup_at, line_of}
 use Rattle.wl_plan.specs.Simulation.{seen}
 use Rattle.wl_plan.specs.SimulationLaws.{SimulationLaws}
 use Rattle.wl_plan.specs.Sound.{IsSound}
-use Rattle.wl_pulse.specs.declared.pulse.Pulse.{Pulse}
 use Rattle.wl_serial.specs.declared.running_node.Running.{Running}
 use Rattle.wl_serial.specs.Guess.{RanUpTo}
-use Rattle.wl_pulse.specs.Pulses.{IsPulse}
 use Rattle.wl_serial.specs.Heard.{drove, HearsOnly}
 use Rattle.wl_serial.specs.Running.{GoesOn, IsAt, IsLater, IsSomewhere, OwnIsTold, RanBelow, RunsBelow, RunsOn, by_quanta, line_with}
 use Rattle.wl_serial.specs.Stretch.{HasFollowed, HasRunAlong, HasStretched, RunsAny}
@@ -203,12 +200,12 @@ along_none plan j delay i until rs x b some = record {
 }
 
 -- up to the next change that arrives
-pub along_more : (plan : Plan) (j delay i until upto : ℕ) (old rs : List Running) (x y s : Running) (p : Pulse) (level : Level) → i < length old → j < length old → i ≢ j
+pub along_more : (plan : Plan) (j delay i until upto : ℕ) (old rs : List Running) (x y s : Running) (from : ℕ) (dominant : Bool) (level : Level) → i < length old → j < length old → i ≢ j
     → HasRunAlong plan j delay i until old rs → ((d : Running) → (get_or rs i d).changes ≡ (get_or old i d).changes)
-    → ((d : Running) (levels : List Level) → IsNode levels (get_or old i d).node → p.from ≤ (by_quanta plan i (get_or rs i d)).next) → level ≡ level_of (p.dominant || false)
-    → IsPulse (drove (get_or rs j y).changes delay) p → upto ≤ p.until → upto ≤ until
+    → ((d : Running) (levels : List Level) → IsNode levels (get_or old i d).node → from ≤ (by_quanta plan i (get_or rs i d)).next) → level ≡ level_of (dominant || false)
+    → ((t : ℕ) → from ≤ t → t < upto → drove (get_or rs j y).changes delay t ≡ dominant) → upto ≤ until
     → HasFollowed plan i upto (λ t. level) (by_quanta plan i (get_or rs i x)) (by_quanta plan i s) → HasRunAlong plan j delay i until old (set rs i s)
-along_more plan j delay i until upto old rs x y s p level b c ne one told reached is pulse short less two = record {
+along_more plan j delay i until upto old rs x y s from dominant level b c ne one told reached is pulse less two = record {
   r = s;
   is = ap (λ xs. set xs i s) one.is ∙ set-set old i one.r s;
   ran = λ d.
@@ -217,7 +214,7 @@ along_more plan j delay i until upto old rs x y s p level b c ne one told reache
       (λ levels t node after before.
       let e = reached d levels node in
       let f = ap (λ r. (by_quanta plan i r).next) (here x d) in
-      is ∙ ap level_of (or-false p.dominant ∙ (sym (pulse t (omega (arith, after, e, f)) (omega (arith, before, short))) ∙ ap (λ xs. drove xs delay t) (sender d))))
+      is ∙ ap level_of (or-false dominant ∙ (sym (pulse t (omega (arith, after, e, f)) before) ∙ ap (λ xs. drove xs delay t) (sender d))))
       (subst (λ r. HasFollowed plan i until (λ t. level_of (drove (get_or old j d).changes delay t)) (get_or old i d) (by_quanta plan i r)) (sym (at_place x)) (one.ran d))
       two;
 }
@@ -244,10 +241,9 @@ module _ (plan : Plan) (j delay i until : ℕ) (old rs : List Running) (b : i < 
       subst (λ r. quanta_of r.node ≤ most_quanta) (sym (ap (λ xs. get_or xs i x) one.is ∙ get_or-set_same old i one.r x b))
       (few_followed plan i until (get_or old i x) (by_quanta plan i one.r) sound node ends (start x) (one.ran x).somewhere (one.ran x).below)
 
-  -- the other node's changes are in order still
-  pub along_order : (y : Running) → i ≢ j → IsIncreasing (get_or old j y).changes → IsIncreasing (get_or rs j y).changes
-  along_order y ne order =
-      subst (λ r. IsIncreasing r.changes) (sym (ap (λ xs. get_or xs j y) one.is ∙ get_or-set_other old i j one.r y (λ e. ne (sym e)))) order
+  -- the other node is where it was
+  pub along_other : (y : Running) → i ≢ j → get_or rs j y ≡ get_or old j y
+  along_other y ne = ap (λ xs. get_or xs j y) one.is ∙ get_or-set_other old i j one.r y (λ e. ne (sym e))
 
   along_place : (d e : Running) → get_or rs i d ≡ get_or rs i e
   along_place d e = get_or_default rs i d e (omega (arith, b, along_length))

@@ -28,10 +28,10 @@ ear_told plan m i tick old e node was delays others shaken sooner = record {
 
 pub heard_told : (plan : Plan) (rs : List Running) (m i tick : ℕ) (r : Running) (old e : Ear) → TableLaws → i < length plan.nodes → i < length rs → HasChanged i tick rs r → IsEar plan m old
     → IsHeard plan rs m old → e.heard.from ≡ old.heard.from → e.heard.until ≤ old.heard.until → e.heard.until ≤ tick + get_or old.delays i 0 → e.heard.dominant ≡ old.heard.dominant
-    → AreSooner i (tick + get_or old.delays i 0) old.sources e.sources → IsHeard plan (set rs i r) m e
-heard_told plan rs m i tick r old e table node inside changed was heard from few comes dominant sooner =
+    → e.shaken ≡ old.shaken → AreSooner i (tick + get_or old.delays i 0) old.sources e.sources → IsHeard plan (set rs i r) m e
+heard_told plan rs m i tick r old e table node inside changed was heard from few comes dominant shaken sooner =
     let d : get_or old.delays i 0 ≡ delay_of plan.topology i m = was.delays.1 i 0 node in
-    heard_before plan rs i tick m r old e table inside changed heard from few (omega (arith, d, comes)) dominant (sooner_by plan m i tick old e node was sooner)
+    heard_before plan rs i tick m r old e table inside changed heard from few (omega (arith, d, comes)) dominant shaken (sooner_by plan m i tick old e node was sooner)
 
 -- what holds of each ear holds with one more
 pub each_more : (P : ℕ → Ear → Type 0) (xs ys : List Ear) (x : Ear) (j : ℕ) → ys ≡ xs ++ x ∷ [] → length xs ≡ j → ((k : ℕ) (d : Ear) → k < length xs → P k (get_or xs k d)) → P j x

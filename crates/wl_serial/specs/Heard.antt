@@ -94,11 +94,12 @@ pub record AreSooner (i comes : ℕ) (old new : Sources) : Type 0 where
   pub comes_then : slice_index_or new.nexts i 0 ≤ comes
   pub ahead : IsAhead old → IsAhead new
 
--- What place j has heard, from a tick on that is no later than its next quantum.
+-- What place j has heard, and what it knows of disturbances, from ticks on that are no later than its next quantum.
 pub record IsHeard (plan : Plan) (rs : List Running) (j : ℕ) (ear : Ear) : Type 0 where
   pub told : IsPulseTold plan rs j ear.heard
   pub sources : AreSources plan rs j ear.heard.from ear.sources
   pub begun : (d : Running) → ear.heard.from ≤ (slice_index_or rs j d).next
+  pub shaken : (d : Running) → ear.shaken.from ≤ (slice_index_or rs j d).next
 
 -- at each place
 abbrev pub AreHeard : Plan → List Running → List Ear → Type 0

@@ -1,5 +1,6 @@
 //! How a listener runs while one node alone is heard.
-ghost use Rattle.std.specs.Prelude.{◌≡◌, ◌≢◌, ℕ, ◌<◌, ◌≤◌, false, IfOk, OnOk, length, slice_index_or};
+ghost use Rattle.std.specs.Prelude.{◌≡◌, ◌≢◌, ℕ, ◌+◌, ◌-◌, ◌<◌, ◌≤◌, false, IfOk, OnOk, length, slice_index_or};
+ghost use Rattle.wl_record_core.specs.Truth.{count_below, IsIncreasing};
 ghost use Rattle.wl_serial.specs.declared.running_node.Running.{Running as GivenRunning};
 ghost use Rattle.wl_serial.specs.Heard.{AreEars, AreHeard, HearsOnly};
 ghost use Rattle.wl_serial.specs.Running.{AreSomewhere, RunsBelow, by_quanta, one_more};
@@ -7,7 +8,7 @@ ghost use Rattle.wl_serial.specs.Stretch.{HasRunAlong, HasStretched, TellsTheSam
 
 use crate::checked::Checked;
 use crate::ear::{Ear, level_by, tell};
-use crate::pulse::pulse_of;
+use crate::pulse::{change_at, count_until};
 use crate::running_node::Running;
 use std::alloc::AllocError;
 
@@ -49,7 +50,7 @@ pub(crate) fn run_alone(
 }
 
 /// Runs quanta of node `i` below a tick, up to the first that changes its drive, as if node `j` alone were heard. It goes from change to
-/// change of that one. Returns the tick of that quantum, if there is one. `come` is how many changes had arrived when it was last asked
+/// change of that one. Returns the tick of that quantum, if there is one. `guess` is how many changes had arrived when it was last asked
 /// for; it decides nothing but speed. The tick of the next quantum isn't noted.
 fn run_along(
     plan: &Checked,
@@ -57,7 +58,7 @@ fn run_along(
     j: usize,
     i: usize,
     delay: u64,
-    come: usize,
+    guess: usize,
     until: u64,
 ) -> Result<Option<u64>, AllocError>
     requires node { i < length plan.now.nodes }
@@ -74,15 +75,29 @@ fn run_along(
 {
     plan.laws();
     wl_plan::simulation_laws();
-    let mut come = come;
+    wl_record_core::table_laws();
     let mut from = running[i].next;
+    let mut come = come_by(running[j].changes.as_slice(), delay, from, guess);
     while from < until {
-        let pulse = pulse_of(running[j].changes.as_slice(), delay, from, &mut come);
-        from = pulse.until.min(until);
-        let level = level_by(pulse.dominant, false);
+        let next = change_at(running[j].changes.as_slice(), come);
+        from = next.saturating_add(delay).min(until);
+        let level = level_by(come % 2 == 1, false);
         if let Some(tick) = running[i].run(plan, i, level, from)? {
             return Ok(Some(tick));
         }
+        come += 1;
     }
     Ok(None)
+}
+
+/// Returns how many of the changes have arrived by tick `t`, a delay later than they were; `guess` of them had arrived earlier.
+fn come_by(changes: &[u64], delay: u64, t: u64, guess: usize) -> usize
+    requires { IsIncreasing changes.now }
+    ensures { result ≡ count_below (t + 1 - delay) changes.now }
+{
+    wl_record_core::table_laws();
+    if t < delay {
+        return 0;
+    }
+    count_until(changes, t - delay, guess)
 }

@@ -93,7 +93,7 @@ impl Ear {
         plan.laws();
         let t = running[j].next;
         self.hear_anew(plan, running, j, t);
-        if t < self.shaken.from || self.shaken.until <= t {
+        if self.shaken.until <= t {
             self.shaken = disturbed_at(plan, j, t);
         }
         Found {
@@ -109,7 +109,7 @@ impl Ear {
         ensures { (plan : GivenPlan) (d : Running) → IsEar plan j self.now → IsHeard plan running.now j self.now
             → IsSilent plan running.now j (slice_index_or running.now j d).next result }
     {
-        if self.heard.dominant || self.shaken.dominant || running[j].next < self.shaken.from {
+        if self.heard.dominant || self.shaken.dominant {
             return 0;
         }
         self.heard.until.min(self.shaken.until)
@@ -126,7 +126,7 @@ impl Ear {
         ensures { HearsOnly plan.now running.now j i result }
     {
         plan.laws();
-        if self.shaken.dominant || running[i].next < self.shaken.from {
+        if self.shaken.dominant {
             return 0;
         }
         self.sources.alone_until(j).min(self.shaken.until)

@@ -33,7 +33,7 @@ pub fn pulse_of(changes: &[u64], delay: u64, t: u64, come: &mut usize) -> Pulse
 }
 
 /// Returns the tick of the change of this number, and if there is none the last tick of all.
-fn change_at(changes: &[u64], number: usize) -> u64
+pub(crate) fn change_at(changes: &[u64], number: usize) -> u64
     ensures there { number < length changes.now → result ≡ slice_index_or changes.now number 0 }
     ensures none { length changes.now ≤ number → result ≡ 2 ^ 64 - 1 }
 {
@@ -44,7 +44,7 @@ fn change_at(changes: &[u64], number: usize) -> u64
 }
 
 /// Returns how many of the changes are not after this tick; `guess` of them were not after an earlier one.
-fn count_until(changes: &[u64], tick: u64, guess: usize) -> usize
+pub(crate) fn count_until(changes: &[u64], tick: u64, guess: usize) -> usize
     requires { IsIncreasing changes.now }
     ensures { result ≡ count_below (tick + 1) changes.now }
 {

@@ -23,7 +23,7 @@ loop-m-preserved c =
           let told = c.loop-m.invariant.1 rs r inside are changed in
           told_one_more plan rs (set rs c.args.i r) ears m e b told
           (heard_told plan rs m c.args.i c.args.tick r _ e c.table_laws.ensures c.requires.node inside changed (c.loop-m.invariant.0.each m _ b) ((told m _ b).1 (omega arith)) is.from is.few is.comes
-          is.dominant is.sources),
+          is.dominant is.shaken is.sources),
     )
 
 pub returns-clause-heard : goal.returns-clause-heard
