@@ -74,9 +74,9 @@ impl Group {
         Ok(Some(said))
     }
 
-    /// Runs quanta of a member in a row before a tick, up to which the line at its place is known, through a stretch of the line and this many
-    /// more: one at least, none after one that changes its drive. It takes what the member says after them. Refused out of memory, the group
-    /// is as it was.
+    /// Runs quanta of a member in a row before a tick up to which the line at its place is known: one at least, none after one that changes
+    /// its drive. It goes through a stretch of the line and at most this many more, and takes what the member says after them. Refused out
+    /// of memory, the group is as it was.
     fn run_row(&mut self, i: u8, known: u64, more: u8) -> Result<Emission, AllocError>
         requires may { may_run self.old i ≡ true }
         requires known { IsKnownUpTo self.old i known }

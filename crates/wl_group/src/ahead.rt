@@ -38,7 +38,7 @@ impl Group {
     ghost use Rattle.wl_group.specs.Member.{next_tick};
 
     /// Returns the stretches of the line at a member's place, one after another from its next quantum on, up to a tick up to which it is
-    /// known there: the first one, and up to so many more.
+    /// known there: the first one, and at most this many more.
     pub(crate) fn look_ahead(&mut self, i: u8, end: u64, more: u8) -> Ahead
         requires member { belongs self.old i ≡ true }
         requires early { end < 2 ^ 64 - 1 }
@@ -101,14 +101,16 @@ impl Group {
     {
         value_laws();
         wl_plan::checked_is_sound();
-        let ways = *self.ways(i);
+        let Some(cell) = &self.cells[i as usize] else {
+            unreachable!()
+        };
         let shaken = shaken_around(&self.plan, self.shaken[i as usize], i, tick);
         self.shaken[i as usize] = shaken;
         let stretch = stretch_around(
             &self.plan,
             &self.replica,
             &mut self.come,
-            &ways,
+            &cell.ways,
             &mut self.lead,
             self.heard[i as usize],
             shaken,

@@ -1,7 +1,17 @@
 -- What a place finds is kept.
+use Rattle.std.proofs.Common.{◌≡◌, ◌<◌, length, Some, None, true, get_or, sym, subst}
 use Rattle.wl_plan.specs.PlanLine.{line_of}
+use Rattle.wl_group.specs.GroupValue.{GroupValue, belongs}
+use Rattle.wl_group.proofs.BeginProofs.{has_place, cell_read}
 use Rattle.wl_group.proofs.HeardProofs.{one_more_heard, one_more_shaken}
 use Rattle.wl_group.proofs.group.Group.find.Goals as goal
+
+pub stretch_around-stretch-requires-clause-ways : goal.stretch_around-stretch-requires-clause-ways
+stretch_around-stretch-requires-clause-ways c =
+    let cells = c.self.inside.cells.items in
+    let b : c.args.i < length cells = has_place cells c.args.i (subst (λ (v : GroupValue). belongs v c.args.i ≡ true) (sym c.self.view_is) c.requires.member) in
+    let e : get_or cells c.args.i None ≡ Some c.in-Some.cell = cell_read cells c.args.i c.index.result.now c.in-Some.cell b c.index.ensures c.in-Some.is in
+    (c.self.invariant.kept.placed c.args.i c.in-Some.cell e).ways
 
 pub invariant_of-self : goal.invariant_of-self
 invariant_of-self c = record {
