@@ -1,5 +1,6 @@
 -- The keys of a text's tables, and what their values have to be (this project's profile).
 use Rattle.std.specs.Prelude.{ℕ, List, [], ◌∷◌, codes}
+use Rattle.wl_setup.specs.declared.keys.Kind.TheVariants as plan_kind
 use Rattle.wl_settings.specs.declared.keys.Key.{Key}
 use Rattle.wl_settings.specs.declared.keys.Key.TheVariants.{Bitrate, Cable, Per, Out, In, Tolerance, Senders, Controller, RateError, Name, Clock, Prescaler, Prop, Ps1, Ps2, Sjw}
 use Rattle.wl_settings.specs.declared.keys.Kind.{Kind}
@@ -34,8 +35,8 @@ value_kind In = kind.Within 0 1048576
 value_kind Tolerance = kind.Within 0 100000
 value_kind RateError = kind.Within 0 100000
 value_kind Senders = kind.Senders
-value_kind Controller = kind.Tables
-value_kind Name = kind.Name
+value_kind Controller = kind.OfPlan plan_kind.Tables
+value_kind Name = kind.OfPlan plan_kind.Name
 value_kind Clock = kind.Within 1 1000000000
 value_kind Prescaler = kind.Within 1 1024
 value_kind Prop = kind.Within 1 8

@@ -8,12 +8,12 @@ use crate::asked::{Asked, Bounds, Controller};
 use crate::fault::SettingsFault;
 use crate::keys::{self, Key};
 use crate::tables::check_table;
-use crate::values::{elements_at, name_at, number_at, segment_at, senders_at};
+use crate::values::{number_at, segment_at, senders_at};
 use std::alloc::{AllocError, Global};
 use toml::{Table, Value};
 use wl_device::{Ended, Source};
 use wl_level::Listed;
-use wl_setup::{NoDocument, document_or_place, read_bytes};
+use wl_setup::{NoDocument, document_or_place, elements_at, name_at, read_bytes};
 
 /// What a text asks for.
 #[derive(Drop)]
