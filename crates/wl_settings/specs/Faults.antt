@@ -4,10 +4,11 @@ use Rattle.toml.specs.Data.{Members}
 use Rattle.wl_setup.specs.declared.tables.Wrong.{Wrong}
 use Rattle.wl_setup.specs.declared.tables.Wrong.TheVariants as wrong
 use Rattle.wl_setup.specs.Faults.{fault_of_keys, first_some}
+use Rattle.wl_settings.specs.declared.keys.Key.{Key}
 use Rattle.wl_settings.specs.declared.keys.Key.TheVariants as key
 use Rattle.wl_settings.specs.declared.fault.SettingsFault.{SettingsFault}
 use Rattle.wl_settings.specs.declared.fault.SettingsFault.TheVariants.{Missing, Kind, Unknown, NoController, Memory}
-use Rattle.wl_settings.specs.Keys.{KeysOfTable, controller_keys, key_word, bus_keys}
+use Rattle.wl_settings.specs.Keys.{bus_optional, bus_required, controller_optional, controller_required, key_word}
 use Rattle.wl_settings.specs.Kinds.{inner_tables, takes_value}
 
 -- a fault of a key as one of a text
@@ -17,11 +18,11 @@ settings_fault (wrong.Kind, key) = Kind key
 settings_fault (wrong.Unknown, key) = Unknown key
 
 -- the first fault of one table
-abbrev pub fault_of_table : KeysOfTable → Members → Option SettingsFault
-fault_of_table keys table = option_map settings_fault (fault_of_keys key_word takes_value keys.required keys.optional table)
+abbrev pub fault_of_table : List Key → List Key → Members → Option SettingsFault
+fault_of_table required optional table = option_map settings_fault (fault_of_keys key_word takes_value required optional table)
 
 abbrev pub controller_fault : Members → Option SettingsFault
-controller_fault table = fault_of_table controller_keys table
+controller_fault table = fault_of_table controller_required controller_optional table
 
 -- there is no controller
 abbrev pub no_controller : List Members → Option SettingsFault
@@ -32,7 +33,7 @@ no_controller (table ∷ tables) = None
 abbrev pub wanted_fault : Members → Option SettingsFault
 wanted_fault top =
     first_some (
-    fault_of_table bus_keys top
+    fault_of_table bus_required bus_optional top
     ∷ first_some (map controller_fault (inner_tables key.Controller top))
     ∷ no_controller (inner_tables key.Controller top) ∷ [])
 

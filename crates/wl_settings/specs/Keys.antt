@@ -44,19 +44,15 @@ value_kind Ps1 = kind.Within 1 8
 value_kind Ps2 = kind.Within 1 8
 value_kind Sjw = kind.Within 1 4
 
--- the keys of a table, in the order in which they are tested
-pub record KeysOfTable : Type 0 where
-  pub required : List Key
-  pub optional : List Key
+-- the keys of the top table and of a controller's, in the order in which they are tested
+abbrev pub bus_required : List Key
+bus_required = Bitrate ∷ Cable ∷ Per ∷ Out ∷ In ∷ Tolerance ∷ Senders ∷ Controller ∷ []
 
-abbrev pub bus_keys : KeysOfTable
-bus_keys = record {
-  required = Bitrate ∷ Cable ∷ Per ∷ Out ∷ In ∷ Tolerance ∷ Senders ∷ Controller ∷ [];
-  optional = RateError ∷ [];
-}
+abbrev pub bus_optional : List Key
+bus_optional = RateError ∷ []
 
-abbrev pub controller_keys : KeysOfTable
-controller_keys = record { required = Name ∷ Clock ∷ []; optional = Prescaler ∷ Prop ∷ Ps1 ∷ Ps2 ∷ Sjw ∷ [] }
+abbrev pub controller_required : List Key
+controller_required = Name ∷ Clock ∷ []
 
-abbrev pub keys_of_table : List Key → List Key → KeysOfTable
-keys_of_table required optional = record { required = required; optional = optional }
+abbrev pub controller_optional : List Key
+controller_optional = Prescaler ∷ Prop ∷ Ps1 ∷ Ps2 ∷ Sjw ∷ []

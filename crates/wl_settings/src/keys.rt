@@ -1,6 +1,6 @@
 //! The keys of each table, and what their values have to be.
 ghost use Rattle.std.specs.Prelude.{◌≡◌};
-ghost use Rattle.wl_settings.specs.Keys.{controller_keys, value_kind, bus_keys};
+ghost use Rattle.wl_settings.specs.Keys.{value_kind};
 
 use crate::values::is_of_kind;
 use toml::Value;
@@ -90,43 +90,5 @@ impl TableKey for Key {
 
     fn takes(self, value: &Value) -> bool {
         is_of_kind(self.kind(), value)
-    }
-}
-
-/// The keys of a table, in the order in which they are tested.
-#[derive(Clone, Copy)]
-pub(crate) struct Keys {
-    pub(crate) required: &'static [Key],
-    pub(crate) optional: &'static [Key],
-}
-
-/// Returns the keys of the top table.
-pub(crate) fn top_keys() -> Keys
-    ensures required { result.required.now ≡ bus_keys.required }
-    ensures optional { result.optional.now ≡ bus_keys.optional }
-{
-    Keys {
-        required: &[
-            Key::Bitrate,
-            Key::Cable,
-            Key::Per,
-            Key::Out,
-            Key::In,
-            Key::Tolerance,
-            Key::Senders,
-            Key::Controller,
-        ],
-        optional: &[Key::RateError],
-    }
-}
-
-/// Returns the keys of a controller's table.
-pub(crate) fn controller_keys() -> Keys
-    ensures required { result.required.now ≡ controller_keys.required }
-    ensures optional { result.optional.now ≡ controller_keys.optional }
-{
-    Keys {
-        required: &[Key::Name, Key::Clock],
-        optional: &[Key::Prescaler, Key::Prop, Key::Ps1, Key::Ps2, Key::Sjw],
     }
 }

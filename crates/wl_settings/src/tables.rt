@@ -3,10 +3,9 @@ ghost use Rattle.std.specs.Prelude.{◌≡◌, option_map};
 ghost use Rattle.toml.specs.View.{table_view};
 ghost use Rattle.wl_setup.specs.Faults.{key_fault};
 ghost use Rattle.wl_settings.specs.Faults.{PassesTest, fault_of_table, settings_fault};
-ghost use Rattle.wl_settings.specs.Keys.{keys_of_table};
 
 use crate::fault::SettingsFault;
-use crate::keys::Keys;
+use crate::keys::Key;
 use std::alloc::Global;
 use toml::Table;
 use wl_setup::{KeyFault, Text, Wrong, fault_of_keys};
@@ -26,10 +25,14 @@ fn refuse(alloc: Global, fault: Option<KeyFault>) -> Result<(), SettingsFault>
     })
 }
 
-/// Tests one table.
-pub(crate) fn check_table(alloc: Global, table: &Table, keys: Keys) -> Result<(), SettingsFault>
-    ensures { PassesTest (fault_of_table
-        (keys_of_table keys.required.now keys.optional.now) (table_view table.now)) result }
+/// Tests one table by its keys, in their order.
+pub(crate) fn check_table(
+    alloc: Global,
+    table: &Table,
+    required: &[Key],
+    optional: &[Key],
+) -> Result<(), SettingsFault>
+    ensures { PassesTest (fault_of_table required.now optional.now (table_view table.now)) result }
 {
-    refuse(alloc, fault_of_keys(table, keys.required, keys.optional))
+    refuse(alloc, fault_of_keys(table, required, optional))
 }
