@@ -6,5 +6,3 @@ mod Least
 mod MadeTables
 mod Rows
 mod Saying
-mod Unknown
-mod ValueLemmas

@@ -1,5 +1,6 @@
 -- The keys of a text's tables, and what their values have to be (this project's profile).
 use Rattle.std.specs.Prelude.{ℕ, List, [], ◌∷◌, codes}
+use Rattle.wl_setup.specs.declared.keys.Kind.TheVariants as plan_kind
 use Rattle.wl_settings.specs.declared.keys.Key.{Key}
 use Rattle.wl_settings.specs.declared.keys.Key.TheVariants.{Bitrate, Cable, Per, Out, In, Tolerance, Senders, Controller, RateError, Name, Clock, Prescaler, Prop, Ps1, Ps2, Sjw}
 use Rattle.wl_settings.specs.declared.keys.Kind.{Kind}
@@ -34,8 +35,8 @@ value_kind In = kind.Within 0 1048576
 value_kind Tolerance = kind.Within 0 100000
 value_kind RateError = kind.Within 0 100000
 value_kind Senders = kind.Senders
-value_kind Controller = kind.Tables
-value_kind Name = kind.Name
+value_kind Controller = kind.OfPlan plan_kind.Tables
+value_kind Name = kind.OfPlan plan_kind.Name
 value_kind Clock = kind.Within 1 1000000000
 value_kind Prescaler = kind.Within 1 1024
 value_kind Prop = kind.Within 1 8
@@ -43,19 +44,15 @@ value_kind Ps1 = kind.Within 1 8
 value_kind Ps2 = kind.Within 1 8
 value_kind Sjw = kind.Within 1 4
 
--- the keys of a table, in the order in which they are tested
-pub record KeysOfTable : Type 0 where
-  pub required : List Key
-  pub optional : List Key
+-- the keys of the top table and of a controller's, in the order in which they are tested
+abbrev pub bus_required : List Key
+bus_required = Bitrate ∷ Cable ∷ Per ∷ Out ∷ In ∷ Tolerance ∷ Senders ∷ Controller ∷ []
 
-abbrev pub bus_keys : KeysOfTable
-bus_keys = record {
-  required = Bitrate ∷ Cable ∷ Per ∷ Out ∷ In ∷ Tolerance ∷ Senders ∷ Controller ∷ [];
-  optional = RateError ∷ [];
-}
+abbrev pub bus_optional : List Key
+bus_optional = RateError ∷ []
 
-abbrev pub controller_keys : KeysOfTable
-controller_keys = record { required = Name ∷ Clock ∷ []; optional = Prescaler ∷ Prop ∷ Ps1 ∷ Ps2 ∷ Sjw ∷ [] }
+abbrev pub controller_required : List Key
+controller_required = Name ∷ Clock ∷ []
 
-abbrev pub keys_of_table : List Key → List Key → KeysOfTable
-keys_of_table required optional = record { required = required; optional = optional }
+abbrev pub controller_optional : List Key
+controller_optional = Prescaler ∷ Prop ∷ Ps1 ∷ Ps2 ∷ Sjw ∷ []

@@ -1,20 +1,16 @@
 -- What the value of a key has to be, and what it says (this project's profile).
-use Rattle.std.specs.Prelude.{ℕ, pos, ◌&&◌, min, nat_le, Bool, if◌then◌else◌, List, [], Option, Some, None, is_some, unwrap_or, option_and_then, codes}
-use Rattle.std.specs.List.{list_all, filter_map}
+use Rattle.std.specs.Prelude.{ℕ, min, Bool, if◌then◌else◌, List, Option, Some, None, is_some, unwrap_or, option_and_then, codes}
+use Rattle.std.specs.List.{filter_map}
 use Rattle.std.specs.Str.{bytes_eq}
-use Rattle.toml.specs.Data.{Data, integer, Members, get_member, as_str, as_table}
+use Rattle.toml.specs.Data.{Data, Members, get_member, as_str, as_table}
 use Rattle.wl_bound.specs.declared.condition.Senders.{Senders}
 use Rattle.wl_bound.specs.declared.condition.Senders.TheVariants.{Any, One}
-use Rattle.wl_setup.specs.Kinds.{elements_of, holds, is_name}
+use Rattle.wl_setup.specs.Kinds.{has_kind, number_within}
+use Rattle.wl_setup.specs.Quick.{elements_said, name_said}
 use Rattle.wl_settings.specs.declared.keys.Key.{Key}
 use Rattle.wl_settings.specs.declared.keys.Kind.{Kind}
 use Rattle.wl_settings.specs.declared.keys.Kind.TheVariants as kind
 use Rattle.wl_settings.specs.Keys.{key_word, value_kind}
-
--- a whole number from the least to the greatest
-abbrev pub number_within : ℕ → ℕ → Data → Option ℕ
-number_within least most (integer (pos n)) = if nat_le least n && nat_le n most then Some n else None
-number_within least most _ = None
 
 -- who sends, as a word says it
 abbrev pub senders_named : List ℕ → Option Senders
@@ -27,8 +23,10 @@ senders_in d = option_and_then senders_named (as_str d)
 abbrev pub is_of_kind : Kind → Data → Bool
 is_of_kind (kind.Within least most) d = is_some (number_within least most d)
 is_of_kind kind.Senders d = is_some (senders_in d)
-is_of_kind kind.Name d = holds is_name (as_str d)
-is_of_kind kind.Tables d = holds (list_all (λ e. is_some (as_table e))) (elements_of d)
+is_of_kind (kind.OfPlan k) d = has_kind k d
+
+abbrev pub takes_value : Key → Data → Bool
+takes_value key d = is_of_kind (value_kind key) d
 
 -- the value of a key
 abbrev pub data_at : Key → Members → Option Data
@@ -49,10 +47,10 @@ abbrev pub senders_at : Key → Members → Senders
 senders_at key table = unwrap_or (option_and_then senders_in (data_at key table)) Any
 
 abbrev pub name_in_table : Key → Members → List ℕ
-name_in_table key table = unwrap_or (option_and_then as_str (data_at key table)) []
+name_in_table key table = name_said (data_at key table)
 
 abbrev pub values_at : Key → Members → List Data
-values_at key table = unwrap_or (option_and_then elements_of (data_at key table)) []
+values_at key table = elements_said (data_at key table)
 
 abbrev pub inner_tables : Key → Members → List Members
 inner_tables key table = filter_map as_table (values_at key table)

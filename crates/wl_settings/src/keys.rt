@@ -1,6 +1,10 @@
 //! The keys of each table, and what their values have to be.
 ghost use Rattle.std.specs.Prelude.{◌≡◌};
-ghost use Rattle.wl_settings.specs.Keys.{controller_keys, key_word, value_kind, bus_keys};
+ghost use Rattle.wl_settings.specs.Keys.{value_kind};
+
+use crate::values::is_of_kind;
+use toml::Value;
+use wl_setup::{Kind as PlanKind, TableKey};
 
 /// What the value of a key has to be.
 #[derive(Clone, Copy)]
@@ -9,10 +13,8 @@ pub enum Kind {
     Within(u32, u32),
     /// `"one"` or `"any"`.
     Senders,
-    /// 1 to 32 ASCII letters, digits, `_` or `-`.
-    Name,
-    /// An array of tables.
-    Tables,
+    /// A kind that plans have too.
+    OfPlan(PlanKind),
 }
 
 /// A key of one of the tables.
@@ -37,10 +39,35 @@ pub enum Key {
 }
 
 impl Key {
-    /// Returns the key as it is written.
-    pub fn text(self) -> &'static str
-        ensures { result.now ≡ key_word self }
+    /// Returns what its value has to be.
+    pub(crate) fn kind(self) -> Kind
+        ensures { result ≡ value_kind self }
     {
+        match self {
+            Key::Bitrate => Kind::Within(1, 1_000_000),
+            Key::Cable | Key::Per => Kind::Within(1, 1_048_576),
+            Key::Out | Key::In => Kind::Within(0, 1_048_576),
+            Key::Tolerance | Key::RateError => Kind::Within(0, 100_000),
+            Key::Senders => Kind::Senders,
+            Key::Controller => Kind::OfPlan(PlanKind::Tables),
+            Key::Name => Kind::OfPlan(PlanKind::Name),
+            Key::Clock => Kind::Within(1, 1_000_000_000),
+            Key::Prescaler => Kind::Within(1, 1024),
+            Key::Prop | Key::Ps1 | Key::Ps2 => Kind::Within(1, 8),
+            Key::Sjw => Kind::Within(1, 4),
+        }
+    }
+}
+
+impl TableKey for Key {
+    ghost use Rattle.wl_settings.specs.Keys.{key_word};
+    ghost use Rattle.wl_settings.specs.Kinds.{takes_value};
+
+    ghost word = { key_word };
+
+    ghost takes = { takes_value };
+
+    fn word(self) -> &'static str {
         match self {
             Key::Bitrate => "bitrate",
             Key::Cable => "cable",
@@ -61,60 +88,7 @@ impl Key {
         }
     }
 
-    /// Returns what its value has to be.
-    pub(crate) fn kind(self) -> Kind
-        ensures { result ≡ value_kind self }
-    {
-        match self {
-            Key::Bitrate => Kind::Within(1, 1_000_000),
-            Key::Cable | Key::Per => Kind::Within(1, 1_048_576),
-            Key::Out | Key::In => Kind::Within(0, 1_048_576),
-            Key::Tolerance | Key::RateError => Kind::Within(0, 100_000),
-            Key::Senders => Kind::Senders,
-            Key::Controller => Kind::Tables,
-            Key::Name => Kind::Name,
-            Key::Clock => Kind::Within(1, 1_000_000_000),
-            Key::Prescaler => Kind::Within(1, 1024),
-            Key::Prop | Key::Ps1 | Key::Ps2 => Kind::Within(1, 8),
-            Key::Sjw => Kind::Within(1, 4),
-        }
-    }
-}
-
-/// The keys of a table, in the order in which they are tested.
-#[derive(Clone, Copy)]
-pub(crate) struct Keys {
-    pub(crate) required: &'static [Key],
-    pub(crate) optional: &'static [Key],
-}
-
-/// Returns the keys of the top table.
-pub(crate) fn top_keys() -> Keys
-    ensures required { result.required.now ≡ bus_keys.required }
-    ensures optional { result.optional.now ≡ bus_keys.optional }
-{
-    Keys {
-        required: &[
-            Key::Bitrate,
-            Key::Cable,
-            Key::Per,
-            Key::Out,
-            Key::In,
-            Key::Tolerance,
-            Key::Senders,
-            Key::Controller,
-        ],
-        optional: &[Key::RateError],
-    }
-}
-
-/// Returns the keys of a controller's table.
-pub(crate) fn controller_keys() -> Keys
-    ensures required { result.required.now ≡ controller_keys.required }
-    ensures optional { result.optional.now ≡ controller_keys.optional }
-{
-    Keys {
-        required: &[Key::Name, Key::Clock],
-        optional: &[Key::Prescaler, Key::Prop, Key::Ps1, Key::Ps2, Key::Sjw],
+    fn takes(self, value: &Value) -> bool {
+        is_of_kind(self.kind(), value)
     }
 }

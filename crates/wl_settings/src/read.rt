@@ -1,19 +1,20 @@
 //! What a text asks for.
 ghost use Rattle.std.specs.Prelude.{◌≡◌, ◌≢◌, Ok, Err, IfOk, IfErr, map};
 ghost use Rattle.toml.specs.View.{view, table_view};
-ghost use Rattle.wl_settings.specs.Faults.{AnswersFault, controller_fault, wanted_fault};
+ghost use Rattle.wl_settings.specs.Faults.{AnswersFault, PassesTest, controller_fault, fault_of_table, wanted_fault};
+ghost use Rattle.wl_settings.specs.Keys.{bus_optional, bus_required};
 ghost use Rattle.wl_settings.specs.Texts.{AnswersControllers, IsWantedAnswer, ReadsWanted, asked_of, bounds_of, controller_of, wanted_in_text, wanted_of};
 
 use crate::asked::{Asked, Bounds, Controller};
 use crate::fault::SettingsFault;
-use crate::keys::{self, Key};
+use crate::keys::Key;
 use crate::tables::check_table;
-use crate::values::{elements_at, name_at, number_at, segment_at, senders_at};
+use crate::values::{number_at, segment_at, senders_at};
 use std::alloc::{AllocError, Global};
 use toml::{Table, Value};
 use wl_device::{Ended, Source};
 use wl_level::Listed;
-use wl_setup::{NoDocument, document_or_place, read_bytes};
+use wl_setup::{NoDocument, document_or_place, elements_at, name_at, read_bytes};
 
 /// What a text asks for.
 #[derive(Drop)]
@@ -41,7 +42,8 @@ fn bounds_of(table: &Table) -> Bounds
 fn read_controller(alloc: Global, table: &Table) -> Result<Controller, SettingsFault>
     ensures { AnswersFault (controller_fault (table_view table.now)) (controller_of (table_view table.now)) result }
 {
-    check_table(alloc, table, keys::controller_keys())?;
+    let registers = &[Key::Prescaler, Key::Prop, Key::Ps1, Key::Ps2, Key::Sjw];
+    check_table(alloc, table, &[Key::Name, Key::Clock], registers)?;
     Ok(Controller {
         name: name_at(alloc, table, Key::Name)?,
         clock: number_at(table, Key::Clock, 0),
@@ -79,11 +81,28 @@ fn asked_of(table: &Table, tick: u64) -> Asked
     }
 }
 
+/// Tests the top table.
+fn check_bus(alloc: Global, top: &Table) -> Result<(), SettingsFault>
+    ensures { PassesTest (fault_of_table bus_required bus_optional (table_view top.now)) result }
+{
+    let required = &[
+        Key::Bitrate,
+        Key::Cable,
+        Key::Per,
+        Key::Out,
+        Key::In,
+        Key::Tolerance,
+        Key::Senders,
+        Key::Controller,
+    ];
+    check_table(alloc, top, required, &[Key::RateError])
+}
+
 /// Returns what a document asks for, or its first fault.
 fn read_document(alloc: Global, tick: u64, top: &Table) -> Result<Wanted, SettingsFault>
     ensures { AnswersFault (wanted_fault (table_view top.now)) (wanted_of tick (table_view top.now)) result }
 {
-    check_table(alloc, top, keys::top_keys())?;
+    check_bus(alloc, top)?;
     let controllers = read_controllers(alloc, elements_at(top, Key::Controller))?;
     if controllers.is_empty() {
         return Err(SettingsFault::NoController);

@@ -2,15 +2,16 @@
 use Rattle.std.proofs.Common.{◌≡◌, ℕ, true, List, [], ◌∷◌, map, Option, None, Some, IfSome, option_map, Err, refl, inl, inr}
 use Rattle.std.specs.List.{AllByRecursion, enumerate_from}
 use Rattle.std.proofs.lemmas.Bool.{cases_Bool}
-use Rattle.toml.specs.Data.{Data, Members}
-use Rattle.wl_setup.specs.declared.keys.Key.{Key}
+use Rattle.toml.specs.Data.{Members}
 use Rattle.wl_setup.specs.declared.keys.Key.TheVariants as key
 use Rattle.wl_setup.specs.declared.fault.SetupFault.{SetupFault}
-use Rattle.wl_setup.specs.declared.fault.SetupFault.TheVariants.{Unknown, Version, Toml}
+use Rattle.wl_setup.specs.declared.fault.SetupFault.TheVariants.{Version, Toml}
+use Rattle.wl_setup.specs.declared.tables.Wrong.{Wrong}
+use Rattle.wl_setup.specs.declared.tables.Wrong.TheVariants as wrong
 use Rattle.wl_setup.specs.declared.plan_text.PlanText.{PlanText}
-use Rattle.wl_setup.specs.Keys.{kind_of, TableKeys, top_keys}
-use Rattle.wl_setup.specs.Kinds.{has_kind, value_at, number_at, tables_at}
-use Rattle.wl_setup.specs.Faults.{first_some, kind_fault, required_fault_of, required_fault, optional_fault_of, optional_fault, unknown_fault, table_fault, node_keys, rate_keys, frame_keys, disturbance_keys, is_known_version, version_fault}
+use Rattle.wl_setup.specs.Keys.{TableKeys, top_keys}
+use Rattle.wl_setup.specs.Kinds.{number_at, tables_at}
+use Rattle.wl_setup.specs.Faults.{first_some, required_fault, setup_fault, table_fault, node_keys, rate_keys, frame_keys, disturbance_keys, is_known_version, version_fault}
 use Rattle.wl_setup.specs.Names.{first_repeat, has_repeat, names_of, same_name_fault}
 use Rattle.wl_setup.specs.declared.spot.PlacedFault.{PlacedFault}
 use Rattle.wl_setup.specs.declared.spot.Spot.{Spot}
@@ -54,29 +55,14 @@ unplaced_of : (o : Option PlacedFault) → IsPlaced o → IsOfDocument (option_m
 unplaced_of None own = tt
 unplaced_of (Some f) own = own
 
-kind_of_document : (k : Key) (d : Data) → IsOfDocument (kind_fault k d)
-kind_of_document k d =
-    elim (cases_Bool (has_kind (kind_of k) d)) [
-      | inl good ↦ rw good tt
-      | inr wrong ↦ rw wrong refl
-    ]
-
-required_of_document : (k : Key) (o : Option Data) → IsOfDocument (required_fault_of k o)
-required_of_document k None = refl
-required_of_document k (Some d) = kind_of_document k d
-
-optional_of_document : (k : Key) (o : Option Data) → IsOfDocument (optional_fault_of k o)
-optional_of_document k None = tt
-optional_of_document k (Some d) = kind_of_document k d
-
-unknown_of_document : (o : Option (List ℕ)) → IsOfDocument (option_map Unknown o)
-unknown_of_document None = tt
-unknown_of_document (Some text) = refl
+key_of_document : (o : Option (Wrong × List ℕ)) → IsOfDocument (option_map setup_fault o)
+key_of_document None = tt
+key_of_document (Some (wrong.Missing, key)) = refl
+key_of_document (Some (wrong.Kind, key)) = refl
+key_of_document (Some (wrong.Unknown, key)) = refl
 
 table_of_document : (keys : TableKeys) (table : Members) → IsOfDocument (table_fault keys table)
-table_of_document keys table = first_some_of has (
-    first_some (map (required_fault table) keys.required) ∷ first_some (map (optional_fault table) keys.optional) ∷ unknown_fault keys table ∷ []
-    ) (each_of has (required_fault table) (λ k. required_of_document k (value_at k table)) keys.required, (each_of has (optional_fault table) (λ k. optional_of_document k (value_at k table)) keys.optional, (unknown_of_document _, tt)))
+table_of_document keys table = key_of_document _
 
 in_document : (fault : ℕ → Members → Option PlacedFault) → ((n : ℕ) (table : Members) → IsPlaced (fault n table)) → (tables : List Members) → IsPlaced (first_in fault tables)
 in_document fault own tables = each_of placed_has (λ r. fault r.0 r.1) (λ r. own r.0 r.1) (enumerate_from 0 tables)
@@ -96,7 +82,7 @@ known_of_document version =
 version_of_document : (top : Members) → IsOfDocument (version_fault top)
 version_of_document top = first_some_of has (
     required_fault top key.Version ∷ (if is_known_version (number_at key.Version top) then None else Some Version) ∷ []
-    ) (required_of_document key.Version (value_at key.Version top), (known_of_document (number_at key.Version top), tt))
+    ) (key_of_document _, (known_of_document (number_at key.Version top), tt))
 
 names_of_document : (plan : PlanText) → IsOfDocument (same_name_fault plan)
 names_of_document plan =

@@ -21,7 +21,8 @@ use Rattle.wl_setup.specs.declared.keys.Key.{Key}
 use Rattle.wl_setup.specs.declared.keys.Key.TheVariants as key
 use Rattle.wl_setup.specs.declared.keys.Kind.TheVariants as kind
 use Rattle.wl_setup.specs.declared.fault.SetupFault.{SetupFault}
-use Rattle.wl_setup.specs.declared.fault.SetupFault.TheVariants.{Unknown, Version}
+use Rattle.wl_setup.specs.declared.fault.SetupFault.TheVariants.{Version}
+use Rattle.wl_setup.specs.declared.tables.Wrong.TheVariants as wrong
 use Rattle.wl_setup.specs.declared.plan_text.PlanText.{PlanText}
 use Rattle.wl_setup.specs.declared.plan_text.NodeText.{NodeText}
 use Rattle.wl_setup.specs.declared.plan_text.FrameText.{FrameText}
@@ -29,7 +30,7 @@ use Rattle.wl_setup.specs.declared.plan_text.DisturbanceText.{DisturbanceText}
 use Rattle.wl_setup.specs.Limits.{first_version}
 use Rattle.wl_setup.specs.Keys.{key_text, table_keys, TableKeys, top_keys, required_by_rate, required_by_ppm, node_optional}
 use Rattle.wl_setup.specs.Kinds.{has_kind, value_at, number_at, tables_at, elements_of}
-use Rattle.wl_setup.specs.Faults.{first_some, required_fault_of, optional_fault_of, required_fault, optional_fault, keys_in, least, is_known, unknown_fault, table_fault, node_keys, frame_fault, disturbance_fault, is_known_version, version_fault}
+use Rattle.wl_setup.specs.Faults.{first_some, required_fault_of, optional_fault_of, required_fault, fault_at_key, setup_fault, is_value_of, unknown_key, keys_in, least, is_known, table_fault, node_keys, frame_fault, disturbance_fault, is_known_version, version_fault}
 use Rattle.wl_setup.specs.Texts.{frame_of, disturbance_of, node_text_of, plan_of}
 use Rattle.wl_setup.specs.Names.{first_repeat, names_of, same_name_fault}
 use Rattle.wl_setup.specs.declared.spot.PlacedFault.{PlacedFault}
@@ -65,6 +66,9 @@ map_three : {A B C D : Type 0} (f : C → D) (g : B → C) (h : A → B) (xs : L
 map_three f g h [] = refl
 map_three f g h (x ∷ xs) = ap (λ l. f (g (h x)) ∷ l) (map_three f g h xs)
 
+abbrev optional_fault : Members → Key → Option SetupFault
+optional_fault M k = optional_fault_of k (value_at k M)
+
 -- a table whose values are those of pairs
 module _ (M : Members) (ps : Pairs) where
   abbrev SameAt : Key → Type 0
@@ -86,12 +90,27 @@ no_unknown : (test : List ℕ → Bool) (M : Members) → all_keys test M ≡ tr
 no_unknown test no_members h = refl
 no_unknown test (member k d ms) h = let (here, more) = and_parts (test k) (all_keys test ms) h in rw here (no_unknown test ms more)
 
-unknown_none : (keys : TableKeys) (M : Members) → all_keys (is_known keys) M ≡ true → unknown_fault keys M ≡ None
-unknown_none keys M h = ap (λ ts. option_map Unknown (least ts)) (no_unknown (is_known keys) M h)
+unknown_none : (keys : TableKeys) (M : Members) → all_keys (is_known keys) M ≡ true → unknown_key key_text keys.required keys.optional M ≡ None
+unknown_none keys M h = ap least (no_unknown (is_known keys) M h)
+
+none_made : {A B : Type 0} (f : A → B) (o : Option A) → option_map f o ≡ None → o ≡ None
+none_made f None h = refl
+none_made f (Some x) h = absurd (none-some (f x) (sym h))
+
+-- none is made of some faults, so there is none
+none_of_made : {A B C : Type 0} (f : B → C) (g : A → Option B) (xs : List A) → first_some (map (λ x. option_map f (g x)) xs) ≡ None → first_some (map g xs) ≡ None
+none_of_made f g [] h = refl
+none_of_made f g (x ∷ xs) h =
+    let (here, more) = none_parts (option_map f (g x)) (map (λ y. option_map f (g y)) xs) h in
+    pass (g x) (map g xs) (none_made f (g x) here) ∙ none_of_made f g xs more
 
 table_none : (keys : TableKeys) (M : Members) → first_some (map (required_fault M) keys.required) ≡ None → first_some (map (optional_fault M) keys.optional) ≡ None
-    → unknown_fault keys M ≡ None → table_fault keys M ≡ None
-table_none keys M a b c = pass _ _ a ∙ pass _ _ b ∙ only _ ∙ c
+    → unknown_key key_text keys.required keys.optional M ≡ None → table_fault keys M ≡ None
+table_none keys M a b c =
+    ap (option_map setup_fault) (
+    pass _ _ (none_of_made setup_fault (fault_at_key key_text is_value_of true M) keys.required a)
+    ∙ pass _ _ (none_of_made setup_fault (fault_at_key key_text is_value_of false M) keys.optional b)
+    ∙ only _ ∙ ap (option_map (λ key. (wrong.Unknown, key))) c)
 
 -- a key that the pairs don't have
 other_key : (keys : TableKeys) (k j : List ℕ) → is_known keys k ≡ false → is_known keys j ≡ true → bytes_eq j k ≡ false

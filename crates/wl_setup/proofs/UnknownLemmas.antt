@@ -1,5 +1,5 @@
 -- The first unknown key of a table whose keys ascend.
-use Rattle.std.proofs.Common.{◌≡◌, ℕ, Bool, List, [], ◌∷◌, map, filter, find, String, Global, Option, Less, string_bytes, option_map, not, refl, ap, inl, inr}
+use Rattle.std.proofs.Common.{◌≡◌, ℕ, Bool, List, [], ◌∷◌, map, filter, find, String, Global, Less, string_bytes, refl, ap, inl, inr}
 use Rattle.std.proofs.lemmas.Bool.{cases_Bool}
 use Rattle.std.specs.List.{AllByRecursion}
 use Rattle.std.specs.List.Sorted.{IsStrictlySortedBy}
@@ -7,9 +7,7 @@ use Rattle.std.specs.Map.{keys_of}
 use Rattle.std.specs.String.{string_cmp}
 use Rattle.toml.specs.View.{members_view}
 use Rattle.toml.specs.declared.value.Value.{Value}
-use Rattle.wl_setup.specs.Faults.{keys_in, lesser, least, is_known, unknown_fault}
-use Rattle.wl_setup.specs.Keys.{TableKeys}
-use Rattle.wl_setup.specs.declared.fault.SetupFault.TheVariants.{Unknown}
+use Rattle.wl_setup.specs.Faults.{keys_in, lesser, least}
 
 pub keys_in-view : (es : List (String Global × Value)) → keys_in (members_view es) ≡ map string_bytes (keys_of es)
 keys_in-view [] = refl
@@ -37,8 +35,7 @@ least-filter p (k ∷ ks) sorted =
       | inr fails ↦ rw fails more
     ]
 
--- the fault of a table, by its first unknown key
-pub unknown_fault-first : (known : TableKeys) (es : List (String Global × Value)) (text : Option (List ℕ)) → IsStrictlySortedBy string_cmp (keys_of es)
-    → text ≡ find (λ t. not (is_known known t)) (map string_bytes (keys_of es)) → unknown_fault known (members_view es) ≡ option_map Unknown text
-unknown_fault-first known es text sorted is_first =
-    rw (keys_in-view es, least-filter (λ t. not (is_known known t)) (keys_of es) sorted, ← is_first)
+-- the first key of a table that passes, in the order of their bytes
+pub least-of_table : (p : List ℕ → Bool) (es : List (String Global × Value)) → IsStrictlySortedBy string_cmp (keys_of es)
+    → least (filter p (keys_in (members_view es))) ≡ find p (map string_bytes (keys_of es))
+least-of_table p es sorted = rw (keys_in-view es) (least-filter p (keys_of es) sorted)

@@ -1,14 +1,17 @@
 -- The faults of a plan's tables, in the order in which they are answered (this project's profile).
-use Rattle.std.specs.Prelude.{ℕ, ◌==◌, Bool, not, ◌||◌, ◌&&◌, if◌then◌else◌, List, [], ◌∷◌, map, filter, find, Option, Some, None, option_map, is_some}
+use Rattle.std.specs.Prelude.{ℕ, ◌==◌, Bool, true, false, not, ◌||◌, ◌&&◌, if◌then◌else◌, List, [], ◌∷◌, map, filter, Option, Some, None, option_map, is_some}
 use Rattle.std.specs.List.{list_any}
 use Rattle.std.specs.Ordering.{nat_cmp, is_lt}
 use Rattle.std.specs.Str.{bytes_eq}
 use Rattle.std.specs.Cmp.Lexicographic.{slice_cmp}
-use Rattle.toml.specs.Data.{Data, Members, no_members, member}
+use Rattle.toml.specs.Data.{Data, Members, get_member, no_members, member}
 use Rattle.wl_setup.specs.declared.keys.Key.{Key}
 use Rattle.wl_setup.specs.declared.keys.Key.TheVariants as key
 use Rattle.wl_setup.specs.declared.fault.SetupFault.{SetupFault}
 use Rattle.wl_setup.specs.declared.fault.SetupFault.TheVariants.{Version, Missing, Kind, Unknown}
+use Rattle.wl_setup.specs.declared.tables.KeyFault.{KeyFault}
+use Rattle.wl_setup.specs.declared.tables.Wrong.{Wrong}
+use Rattle.wl_setup.specs.declared.tables.Wrong.TheVariants as wrong
 use Rattle.wl_setup.specs.Keys.{key_text, kind_of, TableKeys, required_by_rate, required_by_ppm, required_by_rates, node_optional, rate_keys_by_fraction, rate_keys_by_ppm, frame_required, frame_optional, disturbance_required}
 use Rattle.wl_setup.specs.Kinds.{has_kind, value_at, number_at}
 use Rattle.wl_setup.specs.Limits.{first_version, version_of_rates, version_of_traffic}
@@ -19,40 +22,10 @@ first_some [] = None
 first_some (None ∷ more) = first_some more
 first_some (Some x ∷ more) = Some x
 
--- the value of a key is of another kind than the key's
-abbrev pub kind_fault : Key → Data → Option SetupFault
-kind_fault k d = if has_kind (kind_of k) d then None else Some (Kind (key_text k))
-
--- of a key that has to be there, and of one that may be absent
-abbrev pub required_fault_of : Key → Option Data → Option SetupFault
-required_fault_of k None = Some (Missing (key_text k))
-required_fault_of k (Some d) = kind_fault k d
-
-abbrev pub optional_fault_of : Key → Option Data → Option SetupFault
-optional_fault_of k None = None
-optional_fault_of k (Some d) = kind_fault k d
-
-abbrev pub required_fault : Members → Key → Option SetupFault
-required_fault table k = required_fault_of k (value_at k table)
-
-abbrev pub optional_fault : Members → Key → Option SetupFault
-optional_fault table k = optional_fault_of k (value_at k table)
-
 -- the keys of a table, as they are written
 abbrev pub keys_in : Members → List (List ℕ)
 keys_in no_members = []
 keys_in (member k d more) = k ∷ keys_in more
-
--- whether a text is one of the keys
-abbrev pub is_among : List Key → List ℕ → Bool
-is_among keys text = list_any (λ k. bytes_eq (key_text k) text) keys
-
-abbrev pub is_known : TableKeys → List ℕ → Bool
-is_known keys text = is_among keys.required text || is_among keys.optional text
-
--- the first of some texts that is no key
-abbrev pub first_unknown : TableKeys → List (List ℕ) → Option (List ℕ)
-first_unknown keys texts = find (λ text. not (is_known keys text)) texts
 
 -- the lesser of a text and another, if there is another, in the order of their bytes
 abbrev pub lesser : List ℕ → Option (List ℕ) → List ℕ
@@ -64,17 +37,67 @@ abbrev pub least : List (List ℕ) → Option (List ℕ)
 least [] = None
 least (text ∷ more) = Some (lesser text (least more))
 
--- the first key, in the order of their bytes, that no such table has
-abbrev pub unknown_fault : TableKeys → Members → Option SetupFault
-unknown_fault keys table = option_map Unknown (least (filter (λ text. not (is_known keys text)) (keys_in table)))
+-- a fault of a key: what is wrong with it, and the key as it is written
+abbrev pub key_fault : KeyFault → Wrong × List ℕ
+key_fault f = (f.wrong, f.key.now)
 
--- the first fault of one table: of its required keys, then of its optional ones, then an unknown key
+-- keys of any type, which are written in these words
+module _ {K : Type 0} (word : K → List ℕ) where
+  -- whether a text is one of some keys, and of a table's keys
+  abbrev pub is_among : List K → List ℕ → Bool
+  is_among keys text = list_any (λ k. bytes_eq (word k) text) keys
+
+  abbrev pub is_of_table : List K → List K → List ℕ → Bool
+  is_of_table required optional text = is_among required text || is_among optional text
+
+  -- the first key, in the order of their bytes, that no such table has
+  abbrev pub unknown_key : List K → List K → Members → Option (List ℕ)
+  unknown_key required optional table = least (filter (λ text. not (is_of_table required optional text)) (keys_in table))
+
+-- and which take these values
+module _ {K : Type 0} (word : K → List ℕ) (takes : K → Data → Bool) where
+  -- of a key that is needed or not: it is missing, or its value is of another kind
+  abbrev pub fault_of_key : Bool → K → Option Data → Option (Wrong × List ℕ)
+  fault_of_key needed k (Some d) = if takes k d then None else Some (wrong.Kind, word k)
+  fault_of_key needed k None = if needed then Some (wrong.Missing, word k) else None
+
+  abbrev pub fault_at_key : Bool → Members → K → Option (Wrong × List ℕ)
+  fault_at_key needed table k = fault_of_key needed k (get_member (word k) table)
+
+  -- the first fault of one table: of its required keys, then of its optional ones, then an unknown key
+  abbrev pub fault_of_keys : List K → List K → Members → Option (Wrong × List ℕ)
+  fault_of_keys required optional table =
+      first_some (
+      first_some (map (fault_at_key true table) required)
+      ∷ first_some (map (fault_at_key false table) optional)
+      ∷ option_map (λ key. (wrong.Unknown, key)) (unknown_key word required optional table) ∷ [])
+
+-- a value is of the kind of a plan's key
+abbrev pub is_value_of : Key → Data → Bool
+is_value_of k d = has_kind (kind_of k) d
+
+-- a fault of a key as one of a plan
+abbrev pub setup_fault : Wrong × List ℕ → SetupFault
+setup_fault (wrong.Missing, key) = Missing key
+setup_fault (wrong.Kind, key) = Kind key
+setup_fault (wrong.Unknown, key) = Unknown key
+
+-- of a key of a plan that has to be there, and of one that may be absent
+abbrev pub required_fault_of : Key → Option Data → Option SetupFault
+required_fault_of k value = option_map setup_fault (fault_of_key key_text is_value_of true k value)
+
+abbrev pub optional_fault_of : Key → Option Data → Option SetupFault
+optional_fault_of k value = option_map setup_fault (fault_of_key key_text is_value_of false k value)
+
+abbrev pub required_fault : Members → Key → Option SetupFault
+required_fault table k = required_fault_of k (value_at k table)
+
+abbrev pub is_known : TableKeys → List ℕ → Bool
+is_known keys text = is_of_table key_text keys.required keys.optional text
+
+-- the first fault of one table of a plan
 abbrev pub table_fault : TableKeys → Members → Option SetupFault
-table_fault keys table =
-    first_some (
-    first_some (map (required_fault table) keys.required)
-    ∷ first_some (map (optional_fault table) keys.optional)
-    ∷ unknown_fault keys table ∷ [])
+table_fault keys table = option_map setup_fault (fault_of_keys key_text is_value_of keys.required keys.optional table)
 
 -- a version in which frames come again, nodes only listen and disturbances are at one node
 abbrev pub has_traffic : ℕ → Bool

@@ -1,5 +1,5 @@
 -- What the value of a key has to be, and what it says (this project's profile).
-use Rattle.std.specs.Prelude.{ℕ, suc, ℤ, pos, unsigned_abs, ◌||◌, ◌&&◌, ◌==◌, nat_le, Bool, false, if◌then◌else◌, List, [], ◌∷◌, length, Option, Some, None, is_some, unwrap_or, option_and_then, codes}
+use Rattle.std.specs.Prelude.{ℕ, ℤ, pos, unsigned_abs, ◌||◌, ◌&&◌, ◌==◌, nat_le, Bool, false, if◌then◌else◌, List, [], ◌∷◌, length, Option, Some, None, is_some, unwrap_or, option_and_then, codes}
 use Rattle.std.specs.List.{list_all, filter_map}
 use Rattle.toml.specs.Data.{Data, integer, array, Items, no_items, item, Members, get_member, as_str, as_integer, as_bool, as_table}
 use Rattle.std.specs.Str.{bytes_eq}
@@ -16,13 +16,16 @@ abbrev pub number_in : ℕ → Data → Option ℕ
 number_in most (integer (pos n)) = if nat_le n most then Some n else None
 number_in most _ = None
 
--- and one from 1 on
-abbrev pub positive_by : Option ℕ → Option ℕ
-positive_by (Some (suc n)) = Some (suc n)
-positive_by _ = None
+-- one from the least to the greatest, and one from 1 on
+abbrev pub unless_below : ℕ → Option ℕ → Option ℕ
+unless_below least (Some n) = if nat_le least n then Some n else None
+unless_below least None = None
+
+abbrev pub number_within : ℕ → ℕ → Data → Option ℕ
+number_within least most d = unless_below least (number_in most d)
 
 abbrev pub positive_in : Data → Option ℕ
-positive_in d = positive_by (number_in largest_number d)
+positive_in d = number_within 1 largest_number d
 
 -- an ASCII letter or digit, `_` or `-`
 abbrev pub is_name_letter : ℕ → Bool

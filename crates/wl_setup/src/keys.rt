@@ -5,8 +5,9 @@ ghost use Rattle.wl_setup.specs.Keys.{key_text, kind_of, top_keys, required_by_r
 ghost use Rattle.wl_setup.specs.Faults.{has_rates, has_traffic, node_required, node_keys, rate_keys, frame_keys, disturbance_keys};
 
 use crate::limits::{VERSION_OF_RATES, VERSION_OF_TRAFFIC};
-use crate::values::value_at;
-use toml::Table;
+use crate::tables::TableKey;
+use crate::values::{has_kind, value_at};
+use toml::{Table, Value};
 
 /// What the value of a key has to be.
 #[derive(Clone, Copy)]
@@ -132,6 +133,23 @@ impl Key {
             Key::Every | Key::Count => Kind::Positive,
             _ => Kind::Number,
         }
+    }
+}
+
+impl TableKey for Key {
+    ghost use Rattle.wl_setup.specs.Faults.{is_value_of};
+    ghost use Rattle.wl_setup.specs.Keys.{key_text};
+
+    ghost word = { key_text };
+
+    ghost takes = { is_value_of };
+
+    fn word(self) -> &'static str {
+        self.text()
+    }
+
+    fn takes(self, value: &Value) -> bool {
+        has_kind(self.kind(), value)
     }
 }
 

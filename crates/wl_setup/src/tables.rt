@@ -1,103 +1,153 @@
-//! The faults of one table.
-ghost use Rattle.std.specs.Prelude.{◌≡◌, ◌||◌, map, Some, None, option_map, string_bytes};
-ghost use Rattle.std.specs.BTreeMap.{keys, IsOrdered};
-ghost use Rattle.std.specs.String.{string_cmp};
+//! The first fault of a table, whatever its keys are.
+ghost use Rattle.std.specs.Prelude.{◌≡◌, map, Some, None, option_map, Bool, true, false};
 ghost use Rattle.toml.specs.View.{view, table_view};
-ghost use Rattle.wl_setup.specs.Keys.{key_text, table_keys};
-ghost use Rattle.wl_setup.specs.Faults.{first_some, kind_fault, required_fault, optional_fault, is_among, first_unknown, keys_in, unknown_fault, table_fault};
+ghost use Rattle.wl_setup.specs.Keys.{table_keys};
+ghost use Rattle.wl_setup.specs.Faults.{first_some, key_fault, fault_at_key, fault_of_keys, is_among, required_fault, setup_fault, table_fault, unknown_key};
 ghost use Rattle.wl_setup.specs.Document.{Passes};
 
 use crate::fault::SetupFault;
 use crate::keys::{Key, Keys};
 use crate::text::Text;
-use crate::values::{has_kind, value_at};
+use crate::values::value_at;
 use std::alloc::Global;
 use toml::{Table, Value};
 
-/// Tests the value of a key.
-fn check_kind(alloc: Global, key: Key, value: &Value) -> Result<(), SetupFault>
-    ensures { Passes (kind_fault key (view value.now)) result }
-{
-    if has_kind(key.kind(), value) {
-        Ok(())
-    } else {
-        Err(SetupFault::Kind(Text::new(alloc, key.text())?))
-    }
+/// A key of a table.
+pub trait TableKey: Copy {
+    ghost use Rattle.std.specs.Prelude.{ℕ, Bool, List};
+    ghost use Rattle.toml.specs.Data.{Data};
+
+    /// The key as it is written.
+    ghost word: { Self → List ℕ };
+
+    /// Whether a value is what the key's has to be.
+    ghost takes: { Self → Data → Bool };
+
+    /// Returns the key as it is written.
+    fn word(self) -> &'static str
+        ensures { result.now ≡ word self };
+
+    /// True if a value is what the key's has to be.
+    fn takes(self, value: &Value) -> bool
+        ensures { result ≡ takes self (view value.now) };
 }
 
-/// Tests a key that has to be there.
-pub(crate) fn check_required(alloc: Global, table: &Table, key: Key) -> Result<(), SetupFault>
-    ensures { Passes (required_fault (table_view table.now) key) result }
-{
-    match value_at(table, key) {
-        Some(value) => check_kind(alloc, key, value),
-        None => Err(SetupFault::Missing(Text::new(alloc, key.text())?)),
-    }
+/// What is wrong with a key.
+#[derive(Clone, Copy)]
+pub enum Wrong {
+    /// A required key is not there.
+    Missing,
+    /// Its value isn't what it has to be.
+    Kind,
+    /// Its table should not have it.
+    Unknown,
 }
 
-/// Tests a key that may be absent.
-fn check_optional(alloc: Global, table: &Table, key: Key) -> Result<(), SetupFault>
-    ensures { Passes (optional_fault (table_view table.now) key) result }
-{
-    match value_at(table, key) {
-        Some(value) => check_kind(alloc, key, value),
-        None => Ok(()),
-    }
+/// A fault of a table.
+#[derive(Clone, Copy)]
+pub struct KeyFault<'a> {
+    /// What is wrong with the key.
+    pub wrong: Wrong,
+    /// The key as it is written.
+    pub key: &'a str,
 }
 
-fn check_each_required(alloc: Global, table: &Table, keys: &[Key]) -> Result<(), SetupFault>
-    ensures { Passes (first_some (map (required_fault (table_view table.now)) keys.now)) result }
+/// Returns the fault of a key, which is needed or not.
+fn fault_at_key<K: TableKey>(table: &Table, key: K, needed: bool) -> Option<KeyFault<'static>>
+    ensures { option_map key_fault result ≡ fault_at_key K.word K.takes needed (table_view table.now) key }
+{
+    let wrong = match value_at(table, key) {
+        Some(value) if key.takes(value) => return None,
+        Some(_) => Wrong::Kind,
+        None if needed => Wrong::Missing,
+        None => return None,
+    };
+    Some(KeyFault {
+        wrong,
+        key: key.word(),
+    })
+}
+
+fn first_at_keys<K: TableKey>(table: &Table, keys: &[K], needed: bool) -> Option<KeyFault<'static>>
+    ensures { option_map key_fault result
+        ≡ first_some (map (fault_at_key K.word K.takes needed (table_view table.now)) keys.now) }
 {
     for key in keys {
-        check_required(alloc, table, *key)?;
+        if let Some(fault) = fault_at_key(table, *key, needed) {
+            return Some(fault);
+        }
     }
-    Ok(())
+    None
 }
 
-fn check_each_optional(alloc: Global, table: &Table, keys: &[Key]) -> Result<(), SetupFault>
-    ensures { Passes (first_some (map (optional_fault (table_view table.now)) keys.now)) result }
+pub(crate) fn is_among<K: TableKey>(keys: &[K], text: &str) -> bool
+    ensures { result ≡ is_among K.word keys.now text.now }
 {
-    for key in keys {
-        check_optional(alloc, table, *key)?;
-    }
-    Ok(())
-}
-
-pub(crate) fn is_among(keys: &[Key], text: &str) -> bool
-    ensures { result ≡ is_among keys.now text.now }
-{
-    keys.iter().any(|key| key.text() == text)
+    keys.iter().any(|key| key.word() == text)
 }
 
 /// Returns the first key, in the order of their bytes, that is none of these.
-pub(crate) fn first_unknown<'a>(table: &'a Table, known: Keys) -> Option<&'a str>
-    ensures first { option_map (λ t. t.now) result
-        ≡ first_unknown (table_keys known.required.now known.optional.now) (map string_bytes (keys table.now)) }
-    ensures ordered { IsOrdered string_cmp table.now }
+fn unknown_key<'a, K: TableKey>(table: &'a Table, required: &[K], optional: &[K]) -> Option<&'a str>
+    ensures { option_map (λ t. t.now) result ≡ unknown_key K.word required.now optional.now (table_view table.now) }
 {
     for key in table.keys() {
         let text = key.as_str();
-        if !is_among(known.required, text) && !is_among(known.optional, text) {
+        if !is_among(required, text) && !is_among(optional, text) {
             return Some(text);
         }
     }
     None
 }
 
-fn check_unknown(alloc: Global, table: &Table, known: Keys) -> Result<(), SetupFault>
-    ensures { Passes (unknown_fault (table_keys known.required.now known.optional.now) (table_view table.now)) result }
+/// Returns the first fault of a table: of its required keys, then of its optional ones, then a key that it should not have.
+pub fn fault_of_keys<'a, K: TableKey>(
+    table: &'a Table,
+    required: &[K],
+    optional: &[K],
+) -> Option<KeyFault<'a>>
+    ensures { option_map key_fault result
+        ≡ fault_of_keys K.word K.takes required.now optional.now (table_view table.now) }
 {
-    match first_unknown(table, known) {
-        Some(text) => Err(SetupFault::Unknown(Text::new(alloc, text)?)),
-        None => Ok(()),
+    if let Some(fault) = first_at_keys(table, required, true) {
+        return Some(fault);
+    }
+    if let Some(fault) = first_at_keys(table, optional, false) {
+        return Some(fault);
+    }
+    match unknown_key(table, required, optional) {
+        Some(key) => Some(KeyFault {
+            wrong: Wrong::Unknown,
+            key,
+        }),
+        None => None,
     }
 }
 
-/// Tests one table: its required keys, then its optional ones, then for keys that it should not have.
+/// Refuses a plan that has this fault.
+fn refuse(alloc: Global, fault: Option<KeyFault>) -> Result<(), SetupFault>
+    ensures { Passes (option_map setup_fault (option_map key_fault fault.entry)) result }
+{
+    let Some(fault) = fault else {
+        return Ok(());
+    };
+    let key = Text::new(alloc, fault.key)?;
+    Err(match fault.wrong {
+        Wrong::Missing => SetupFault::Missing(key),
+        Wrong::Kind => SetupFault::Kind(key),
+        Wrong::Unknown => SetupFault::Unknown(key),
+    })
+}
+
+/// Tests a key of a plan that has to be there.
+pub(crate) fn check_required(alloc: Global, table: &Table, key: Key) -> Result<(), SetupFault>
+    ensures { Passes (required_fault (table_view table.now) key) result }
+{
+    refuse(alloc, fault_at_key(table, key, true))
+}
+
+/// Tests one table of a plan.
 pub(crate) fn check_table(alloc: Global, table: &Table, keys: Keys) -> Result<(), SetupFault>
     ensures { Passes (table_fault (table_keys keys.required.now keys.optional.now) (table_view table.now)) result }
 {
-    check_each_required(alloc, table, keys.required)?;
-    check_each_optional(alloc, table, keys.optional)?;
-    check_unknown(alloc, table, keys)
+    refuse(alloc, fault_of_keys(table, keys.required, keys.optional))
 }

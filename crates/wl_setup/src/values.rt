@@ -3,13 +3,14 @@ ghost use Rattle.std.specs.Prelude.{◌≡◌, ◌≤◌, ◌^◌, ◌<◌, Some
 ghost use Rattle.std.specs.List.{list_all};
 ghost use Rattle.toml.specs.Data.{as_table, get_member};
 ghost use Rattle.toml.specs.View.{view, table_view, items_view};
-ghost use Rattle.wl_setup.specs.Kinds.{number_in, positive_in, positive_at, some_name_at, byte_in, is_name, is_name_letter, is_ppm, has_kind, value_at, number_at, small_at, tolerance_at, ppm_at, truth_at, name_at, elements_of, elements_at, bytes_at, sync_named, sync_in, sync_choice_at};
+ghost use Rattle.wl_setup.specs.Kinds.{number_within, number_in, positive_in, positive_at, some_name_at, byte_in, is_name, is_name_letter, is_ppm, has_kind, number_at, small_at, tolerance_at, ppm_at, truth_at, elements_of, bytes_at, sync_named, sync_in, sync_choice_at};
 ghost use Rattle.wl_setup.specs.Quick.{value_data, number_said, small_said, ppm_said, tolerance_said, truth_said, sync_said, name_said, elements_said, bytes_said};
 
 use crate::keys::{Key, Kind};
 use crate::limits::{
     LARGEST_BYTE, LARGEST_NUMBER, LARGEST_PPM, LARGEST_SMALL, LARGEST_TOLERANCE, LONGEST_NAME,
 };
+use crate::tables::TableKey;
 use crate::text::Text;
 use std::alloc::{AllocError, Global};
 use toml::{Table, Value};
@@ -24,10 +25,10 @@ pub fn value_named<'a>(table: &'a Table, name: &str) -> Option<&'a Value>
 }
 
 /// Returns the value of a key.
-pub(crate) fn value_at(table: &Table, key: Key) -> Option<&Value>
-    ensures { option_map (λ v. view v.now) result ≡ value_at key (table_view table.now) }
+pub fn value_at<K: TableKey>(table: &Table, key: K) -> Option<&Value>
+    ensures { option_map (λ v. view v.now) result ≡ get_member (K.word key) (table_view table.now) }
 {
-    table.get(key.text())
+    value_named(table, key.word())
 }
 
 /// Returns a whole number from 0 to the greatest.
@@ -40,15 +41,22 @@ fn number_in(most: u64, value: &Value) -> Option<u64>
     }
 }
 
+/// Returns a whole number from the least to the greatest.
+pub fn number_within(least: u64, most: u64, value: &Value) -> Option<u64>
+    ensures { result ≡ number_within least most (view value.now) }
+{
+    match number_in(most, value) {
+        Some(n) if n >= least => Some(n),
+        _ => None,
+    }
+}
+
 /// Returns a whole number from 1 on.
 #[tactic(auto, unfolding(crate::specs::Limits::largest_number))]
 fn positive_in(value: &Value) -> Option<u64>
     ensures { result ≡ positive_in (view value.now) }
 {
-    match number_in(LARGEST_NUMBER, value) {
-        Some(n) if n > 0 => Some(n),
-        _ => None,
-    }
+    number_within(1, LARGEST_NUMBER, value)
 }
 
 fn is_name_letter(letter: u8) -> bool
@@ -124,7 +132,7 @@ fn sync_in(value: &Value) -> Option<SyncRules>
 
 /// True if a value is of a kind.
 #[tactic(auto, unfolding(crate::specs::Limits::largest_number, crate::specs::Limits::largest_small))]
-pub(crate) fn has_kind(kind: Kind, value: &Value) -> bool
+pub fn has_kind(kind: Kind, value: &Value) -> bool
     ensures { result ≡ has_kind kind (view value.now) }
 {
     match kind {
@@ -272,8 +280,8 @@ pub(crate) fn name_of(alloc: Global, value: Option<&Value>) -> Result<Text, Allo
 }
 
 /// Returns the text at a key, empty if it has none.
-pub(crate) fn name_at(alloc: Global, table: &Table, key: Key) -> Result<Text, AllocError>
-    ensures { IfOk result (λ t. t ≡ name_at key (table_view table.now)) }
+pub fn name_at<K: TableKey>(alloc: Global, table: &Table, key: K) -> Result<Text, AllocError>
+    ensures { IfOk result (λ t. t ≡ name_said (get_member (K.word key) (table_view table.now))) }
 {
     name_of(alloc, value_at(table, key))
 }
@@ -306,8 +314,8 @@ pub(crate) fn some_name_at(
 }
 
 /// Returns the elements of the array at a key, none if it has no array.
-pub(crate) fn elements_at(table: &Table, key: Key) -> &[Value]
-    ensures { map view result.now ≡ elements_at key (table_view table.now) }
+pub fn elements_at<K: TableKey>(table: &Table, key: K) -> &[Value]
+    ensures { map view result.now ≡ elements_said (get_member (K.word key) (table_view table.now)) }
 {
     elements_in(value_at(table, key))
 }
