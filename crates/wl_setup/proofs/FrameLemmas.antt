@@ -15,7 +15,7 @@ use Rattle.wl_setup.specs.declared.plan_text.FrameText.{FrameText}
 use Rattle.wl_setup.specs.declared.quick_frame.FrameLines.{FrameLines}
 use Rattle.wl_setup.specs.Limits.{largest_number, largest_small}
 use Rattle.wl_setup.specs.Keys.{key_text, kind_of, TableKeys}
-use Rattle.wl_setup.specs.Kinds.{number_in, byte_in, has_kind, list_of}
+use Rattle.wl_setup.specs.Kinds.{number_in, byte_in, has_kind}
 use Rattle.wl_setup.specs.Faults.{is_known, required_fault_of, optional_fault_of}
 use Rattle.wl_setup.specs.Quick.{pair_value, has_only, HasKeys, first_frame_keys, frame_of_pairs, bytes_said}
 use Rattle.wl_setup.specs.QuickFrame.{bytes_in, ReadsAs, HoldsLines}
