@@ -213,7 +213,7 @@ def other_forms(rng, text, plan):
 
 
 LONG = {  # arrays in line, and the version, of texts that the quick reader has to take
-    "frames below headers": (set(), 1), "rates in line": ({"rates"}, 2), "frames in line": ({"frame"}, 1), "frames in line that come again": ({"rates", "frame"}, 3)}
+    "frames below headers": (set(), 1), "rates in line": ({"rates"}, 2), "frames that come again": ({"rates"}, 3), "frames in line": ({"rates", "frame"}, 3)}
 
 
 def long_plan(version):
@@ -250,6 +250,7 @@ def readers(tally, program, seed, numbers, options):
         if plan["version"] == 2 and rng.random() < 0.3:
             plan["version"] = 1
             for node in plan["node"]: node |= {key: value for key, value in node.pop("rates")[0].items() if key != "from"}
+        if rng.random() < 0.3: plan = versions.with_traffic(rng, plan)[0]
         if rng.random() < 0.4: random_plans.spoil(rng, plan)
         plan = {key: value for key, value in plan.items() if not random_plans.is_tables(value)} | {key: value for key, value in plan.items() if random_plans.is_tables(value)}
         text = usual(rng, plan)

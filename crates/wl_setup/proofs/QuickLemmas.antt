@@ -28,9 +28,9 @@ use Rattle.wl_setup.specs.declared.plan_text.FrameText.{FrameText}
 use Rattle.wl_setup.specs.declared.plan_text.RateText.{RateText}
 use Rattle.wl_setup.specs.declared.plan_text.DisturbanceText.{DisturbanceText}
 use Rattle.wl_setup.specs.Limits.{version_of_rates}
-use Rattle.wl_setup.specs.Keys.{key_text, table_keys, TableKeys, top_keys, node_optional, disturbance_required}
+use Rattle.wl_setup.specs.Keys.{key_text, table_keys, TableKeys, top_keys, node_optional, frame_required, frame_optional, disturbance_required}
 use Rattle.wl_setup.specs.Kinds.{has_kind, value_at, number_at, tables_at}
-use Rattle.wl_setup.specs.Faults.{first_some, required_fault_of, optional_fault_of, required_fault, optional_fault, keys_in, least, is_known, unknown_fault, table_fault, node_keys, disturbance_keys, has_traffic, rate_fault, frame_fault, disturbance_fault, is_known_version, version_fault}
+use Rattle.wl_setup.specs.Faults.{first_some, required_fault_of, optional_fault_of, required_fault, optional_fault, keys_in, least, is_known, unknown_fault, table_fault, node_keys, frame_keys, disturbance_keys, has_traffic, rate_fault, frame_fault, disturbance_fault, is_known_version, version_fault}
 use Rattle.wl_setup.specs.Texts.{frame_of, disturbance_of, node_text_of, plan_of}
 use Rattle.wl_setup.specs.Names.{first_repeat, names_of, same_name_fault}
 use Rattle.wl_setup.specs.declared.spot.PlacedFault.{PlacedFault}
@@ -38,7 +38,7 @@ use Rattle.wl_setup.specs.declared.spot.Spot.{Spot}
 use Rattle.wl_setup.specs.declared.spot.Spot.TheVariants as spot
 use Rattle.wl_setup.specs.Spots.{placed, fault_at, rate_fault_at, frame_fault_at, disturbance_fault_at, first_in, node_fault_at}
 use Rattle.wl_setup.specs.Document.{document_fault, first_fault}
-use Rattle.wl_setup.specs.Quick.{pair_value, required_pairs, optional_pairs, has_only, HasKeys, first_frame_keys, disturbance_pair_keys, frame_of_pairs, disturbance_of_pairs, has_rates_among, keys_by, pair_keys, node_of_pairs, members, tables_said, AreTables, AreRates, AreNodeFrames, IsGood, node_of_group, IsNodeText, AreNodes, IsTopRow, plan_of_pairs, Says, number_said}
+use Rattle.wl_setup.specs.Quick.{pair_value, required_pairs, optional_pairs, has_only, HasKeys, frame_pair_keys, disturbance_pair_keys, frame_of_pairs, disturbance_of_pairs, has_rates_among, keys_by, pair_keys, node_of_pairs, members, tables_said, AreTables, AreRates, AreNodeFrames, IsGood, node_of_group, IsNodeText, AreNodes, IsTopRow, plan_of_pairs, Says, number_said}
 use Rattle.wl_setup.proofs.ValueLemmas.{list_of-items_of}
 
 -- the first of several faults
@@ -122,15 +122,14 @@ module _ (ps : Pairs) (h : IsTable ps) where
       table_none keys (members ps) (required_same (members ps) ps keys.required (each_pair keys.required) fit.0) (optional_same (members ps) ps keys.optional (each_pair keys.optional) fit.1)
       (unknown_none keys (members ps) (keys_of_table (is_known keys) ps h fit.2))
 
-  absent : (keys : TableKeys) (k : Key) → is_known keys (key_text k) ≡ false → HasKeys keys ps → value_at k (members ps) ≡ None
-  absent keys k strange fit = at_pair k ∙ no_value keys (key_text k) ps strange fit.2
+  pub frame_same : frame_of_pairs ps ≡ frame_of (members ps)
+  frame_same = rw (at_pair key.Id, at_pair key.Dlc, at_pair key.Remote, at_pair key.Bytes, at_pair key.Ready, at_pair key.Extended, at_pair key.Every, at_pair key.Count) refl
 
-  -- the keys of a frame before the version of traffic
-  pub frame_same : HasKeys first_frame_keys ps → frame_of_pairs ps ≡ frame_of (members ps)
-  frame_same fit = rw (absent first_frame_keys key.Every refl fit, absent first_frame_keys key.Count refl fit, at_pair key.Id, at_pair key.Dlc, at_pair key.Remote, at_pair key.Bytes, at_pair key.Ready, at_pair key.Extended) refl
-
-  pub frame_fits : (version : ℕ) → has_traffic version ≡ false → HasKeys first_frame_keys ps → frame_fault version (members ps) ≡ None
-  frame_fits version early fit = rw early (fits_table first_frame_keys fit)
+  pub frame_fits : (version : ℕ) → HasKeys (frame_pair_keys (has_traffic version) ps) ps → frame_fault version (members ps) ≡ None
+  frame_fits version fit =
+      let same : frame_keys version (members ps) ≡ frame_pair_keys (has_traffic version) ps =
+      ap (λ o. record { required = frame_required (has_traffic version && is_some o); optional = frame_optional (has_traffic version) }) (at_pair key.Count) in
+      ap (λ keys. table_fault keys (members ps)) same ∙ fits_table (frame_pair_keys (has_traffic version) ps) fit
 
   pub disturbance_same : disturbance_of_pairs ps ≡ disturbance_of (members ps)
   disturbance_same = rw (at_pair key.AtNode, at_pair key.X, at_pair key.From, at_pair key.To) refl

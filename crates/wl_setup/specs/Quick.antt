@@ -23,7 +23,7 @@ use Rattle.wl_setup.specs.declared.plan_text.ClockText.{ClockText}
 use Rattle.wl_setup.specs.declared.plan_text.ClockText.TheVariants.{Rate, Ppm}
 use Rattle.wl_setup.specs.Limits.{largest_number, largest_small, largest_tolerance, version_of_rates}
 use Rattle.wl_setup.specs.Keys.{key_text, TableKeys, table_keys, top_keys, required_by_rate, required_by_ppm, required_by_rates, node_optional, frame_required, frame_optional, disturbance_required}
-use Rattle.wl_setup.specs.Kinds.{number_in, byte_in, sync_in, elements_of}
+use Rattle.wl_setup.specs.Kinds.{number_in, positive_in, byte_in, sync_in, elements_of}
 use Rattle.wl_setup.specs.Faults.{first_some, required_fault_of, optional_fault_of, is_known, has_traffic, frame_fault, is_known_version}
 use Rattle.wl_setup.specs.Texts.{frame_of, rate_of, node_text_of}
 use Rattle.wl_setup.specs.Names.{same_name_fault}
@@ -91,9 +91,15 @@ HasKeys keys ps =
     (required_pairs keys.required ps ≡ None) × (optional_pairs keys.optional ps ≡ None)
     × (has_only keys ps ≡ true)
 
--- the keys of a frame before the version of traffic
-abbrev pub first_frame_keys : TableKeys
-first_frame_keys = record { required = frame_required false; optional = frame_optional false }
+abbrev pub positive_said : Option Data → Option ℕ
+positive_said o = option_and_then positive_in o
+
+-- the keys of a frame, by whether it may come again and whether `count` is there
+abbrev pub frame_pair_keys : Bool → Pairs → TableKeys
+frame_pair_keys traffic ps = record {
+  required = frame_required (traffic && is_some (pair_value ps key.Count));
+  optional = frame_optional traffic;
+}
 
 abbrev pub frame_of_pairs : Pairs → FrameText
 frame_of_pairs ps = record {
@@ -103,8 +109,8 @@ frame_of_pairs ps = record {
   bytes = bytes_said (pair_value ps key.Bytes);
   ready = number_said (pair_value ps key.Ready);
   extended = truth_said (pair_value ps key.Extended);
-  every = None;
-  count = None;
+  every = positive_said (pair_value ps key.Every);
+  count = positive_said (pair_value ps key.Count);
 }
 
 -- the keys of a disturbance, by the version and by whether `node` is there

@@ -120,11 +120,8 @@ impl QuickTable for FrameText {
     ghost make = { frame_of };
 
     fn read(alloc: Global, version: u64, s: &str) -> Option<(FrameText, &str)> {
-        if has_traffic(version) {
-            return None;
-        }
         let (lines, rest) = read_frame_lines(alloc, s)?;
-        let frame = frame_of_lines(alloc, lines)?;
+        let frame = frame_of_lines(alloc, has_traffic(version), lines)?;
         Some((frame, rest))
     }
 }
