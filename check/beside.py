@@ -9,6 +9,7 @@ import html
 import random
 import re
 import sys
+import time
 
 sys.dont_write_bytecode = True
 import families
@@ -189,12 +190,13 @@ def spelled(rng, number):
 
 
 def usual(rng, plan):
-    """A text of the usual form: version 1, a line for each key, with comments, blanks, underscores and hexadecimal numbers."""
+    """A text of the usual form: a line for each key, with comments, blanks, underscores and hexadecimal numbers. Rates are in line, frames in half of them."""
     lines = []
-    for line in random_plans.toml_text(plan, False).split("\n"):
+    for line in random_plans.toml_text(plan, rng.choice([{"rates"}, {"rates", "frame"}])).split("\n"):
         if rng.random() < 0.1: lines.append(rng.choice(["", "  ", "# a comment", "\t# é"]))
         key, equals, value = line.partition(" = ")
         if equals and value.isdigit() and value == str(int(value)) and rng.random() < 0.2: value = spelled(rng, int(value))
+        if rng.random() < 0.3: value = value.replace("}, {", rng.choice(["},{", "}, # c\n  {", "}\n, {"])).replace("}]", rng.choice(["}]", "},\n]", "} ]"]))
         lines.append((key + rng.choice([" = ", "=", "\t=  "]) + value if equals else line) + rng.choice([""] * 6 + [" ", " # c", "\r"]))
     return "\n".join(lines).encode() + b"\n"
 
@@ -210,13 +212,45 @@ def other_forms(rng, text, plan):
     yield "dotted keys", text + b"\nzz.a.b = 1\n"
 
 
+LONG = {  # arrays in line, and the version, of texts that the quick reader has to take
+    "frames below headers": (set(), 1), "rates in line": ({"rates"}, 2), "frames that come again": ({"rates"}, 3), "frames in line": ({"rates", "frame"}, 3)}
+
+
+def long_plan(version):
+    clock = {"num": 100, "den": 1}
+    own = clock if version == 1 else {"rates": [{"from": 0} | clock]}
+    again = {"every": 500_000} if version == 3 else {}
+    nodes = [{"name": f"n{node}", "offset": node} | own | {"prop": 4, "ps1": 3, "ps2": 2, "sjw": 2, "x": node, "out": 10, "in": 10,
+              "frame": [{"id": 16 * frame + node, "dlc": 8, "bytes": [frame] * 8, "ready": 300} | again for frame in range(64)]} for node in range(16)]
+    return {"version": version, "end": 6_000_000, "per": 1, "node": nodes}
+
+
+def least_time(program, text):
+    times = []
+    for _ in range(9):
+        began = time.perf_counter()
+        asked(program, "check", text=text)
+        times.append(time.perf_counter() - began)
+    return min(times)
+
+
+def are_taken(tally, program):
+    """That the quick reader takes texts of the usual form: `check` takes far less time than of the same with a mark of byte order."""
+    for form, (in_line, version) in LONG.items():
+        text = random_plans.toml_text(long_plan(version), in_line).encode() + b"\n"
+        quick, slow = least_time(program, text), least_time(program, b"\xef\xbb\xbf" + text)
+        tally.compare(form, "in less than 3/4 of the time", text, quick < 0.75 * slow, True)
+
+
 def readers(tally, program, seed, numbers, options):
+    if 0 in numbers: are_taken(tally, program)
     for number in numbers:
         rng = random.Random(f"{seed} {number} readers")
         plan = random_plans.choose_tolerances(rng, random_plans.choose_sync(rng, random_plans.random_plan(rng), rng.choice(["none", "book", "wrong"] if number % 9 == 0 else ["none", "book"])))
-        if plan["version"] == 2:
+        if plan["version"] == 2 and rng.random() < 0.3:
             plan["version"] = 1
             for node in plan["node"]: node |= {key: value for key, value in node.pop("rates")[0].items() if key != "from"}
+        if rng.random() < 0.3: plan = versions.with_traffic(rng, plan)[0]
         if rng.random() < 0.4: random_plans.spoil(rng, plan)
         plan = {key: value for key, value in plan.items() if not random_plans.is_tables(value)} | {key: value for key, value in plan.items() if random_plans.is_tables(value)}
         text = usual(rng, plan)

@@ -164,10 +164,11 @@ def is_tables(value):
 
 
 def toml_text(table, inline, path=""):
-    lines = [f"{key_text(key)} = {value_text(value)}" for key, value in table.items() if inline or not is_tables(value)]
-    for key, value in table.items():
-        if inline or not is_tables(value): continue
-        for one in value: lines += ["", f"[[{path}{key_text(key)}]]", toml_text(one, False, f"{path}{key_text(key)}.")]
+    """A table's text. `inline` is whether arrays of tables are in line, or the keys whose arrays are."""
+    below = {key: value for key, value in table.items() if is_tables(value) and not (inline is True or inline and key in inline)}
+    lines = [f"{key_text(key)} = {value_text(value)}" for key, value in table.items() if key not in below]
+    for key, value in below.items():
+        for one in value: lines += ["", f"[[{path}{key_text(key)}]]", toml_text(one, inline, f"{path}{key_text(key)}.")]
     return "\n".join(lines).replace("\x01", "")
 
 

@@ -1,5 +1,5 @@
 -- What the tables of a text of the usual form say.
-use Rattle.std.proofs.Common.{◌<◌, ◌+◌, length, IfSome, subst, ◌≡◌, ℕ, Bool, true, false, not, ◌==◌, if◌then◌else◌, List, [], ◌∷◌, ◌++◌, map, filter, codes, Option, Some, None, is_some, unwrap_or, option_map, option_and_then, inl, inr, refl, sym, ap, ◌∙◌}
+use Rattle.std.proofs.Common.{◌<◌, ◌+◌, length, IfSome, subst, ◌≡◌, ℕ, Bool, true, false, not, ◌==◌, ◌&&◌, ◌||◌, if◌then◌else◌, List, [], ◌∷◌, ◌++◌, map, filter, codes, Option, Some, None, is_some, option_map, inl, inr, refl, sym, ap, ◌∙◌, append-nil}
 use Rattle.std.proofs.lemmas.Bool.{and_parts, cases_Bool, false≢true}
 use Rattle.std.proofs.lemmas.Option.{none-some}
 use Rattle.std.proofs.lemmas.List.{map-append}
@@ -26,19 +26,20 @@ use Rattle.wl_setup.specs.declared.tables.Wrong.TheVariants as wrong
 use Rattle.wl_setup.specs.declared.plan_text.PlanText.{PlanText}
 use Rattle.wl_setup.specs.declared.plan_text.NodeText.{NodeText}
 use Rattle.wl_setup.specs.declared.plan_text.FrameText.{FrameText}
+use Rattle.wl_setup.specs.declared.plan_text.RateText.{RateText}
 use Rattle.wl_setup.specs.declared.plan_text.DisturbanceText.{DisturbanceText}
-use Rattle.wl_setup.specs.Limits.{first_version}
-use Rattle.wl_setup.specs.Keys.{key_text, table_keys, TableKeys, top_keys, required_by_rate, required_by_ppm, node_optional}
-use Rattle.wl_setup.specs.Kinds.{has_kind, value_at, number_at, tables_at, elements_of}
-use Rattle.wl_setup.specs.Faults.{first_some, required_fault_of, optional_fault_of, required_fault, fault_at_key, setup_fault, is_value_of, unknown_key, keys_in, least, is_known, table_fault, node_keys, frame_fault, disturbance_fault, is_known_version, version_fault}
+use Rattle.wl_setup.specs.Limits.{version_of_rates}
+use Rattle.wl_setup.specs.Keys.{key_text, table_keys, TableKeys, top_keys, node_optional, frame_required, frame_optional, disturbance_required}
+use Rattle.wl_setup.specs.Kinds.{has_kind, value_at, number_at, tables_at}
+use Rattle.wl_setup.specs.Faults.{first_some, required_fault_of, optional_fault_of, required_fault, fault_at_key, setup_fault, is_value_of, unknown_key, keys_in, least, is_known, table_fault, node_keys, frame_keys, disturbance_keys, has_traffic, rate_fault, frame_fault, disturbance_fault, is_known_version, version_fault}
 use Rattle.wl_setup.specs.Texts.{frame_of, disturbance_of, node_text_of, plan_of}
 use Rattle.wl_setup.specs.Names.{first_repeat, names_of, same_name_fault}
 use Rattle.wl_setup.specs.declared.spot.PlacedFault.{PlacedFault}
 use Rattle.wl_setup.specs.declared.spot.Spot.{Spot}
 use Rattle.wl_setup.specs.declared.spot.Spot.TheVariants as spot
-use Rattle.wl_setup.specs.Spots.{fault_at, rate_fault_at, frame_fault_at, disturbance_fault_at, first_in, node_fault_at}
+use Rattle.wl_setup.specs.Spots.{placed, fault_at, rate_fault_at, frame_fault_at, disturbance_fault_at, first_in, node_fault_at}
 use Rattle.wl_setup.specs.Document.{document_fault, first_fault}
-use Rattle.wl_setup.specs.Quick.{pair_value, required_pairs, optional_pairs, has_only, HasKeys, first_frame_keys, first_disturbance_keys, frame_of_pairs, disturbance_of_pairs, pair_keys, node_of_pairs, members, AreTables, IsGood, node_of_group, IsNodeText, AreNodes, IsTopRow, plan_of_pairs, Says, number_said}
+use Rattle.wl_setup.specs.Quick.{pair_value, required_pairs, optional_pairs, has_only, HasKeys, frame_pair_keys, disturbance_pair_keys, frame_of_pairs, disturbance_of_pairs, has_rates_among, keys_by, pair_keys, node_of_pairs, members, tables_said, AreTables, AreRates, AreNodeFrames, IsGood, node_of_group, IsNodeText, AreNodes, IsTopRow, plan_of_pairs, Says, number_said}
 use Rattle.wl_setup.proofs.ValueLemmas.{list_of-items_of}
 
 -- the first of several faults
@@ -140,25 +141,30 @@ module _ (ps : Pairs) (h : IsTable ps) where
       table_none keys (members ps) (required_same (members ps) ps keys.required (each_pair keys.required) fit.0) (optional_same (members ps) ps keys.optional (each_pair keys.optional) fit.1)
       (unknown_none keys (members ps) (keys_of_table (is_known keys) ps h fit.2))
 
-  absent : (keys : TableKeys) (k : Key) → is_known keys (key_text k) ≡ false → HasKeys keys ps → value_at k (members ps) ≡ None
-  absent keys k strange fit = at_pair k ∙ no_value keys (key_text k) ps strange fit.2
+  pub frame_same : frame_of_pairs ps ≡ frame_of (members ps)
+  frame_same = rw (at_pair key.Id, at_pair key.Dlc, at_pair key.Remote, at_pair key.Bytes, at_pair key.Ready, at_pair key.Extended, at_pair key.Every, at_pair key.Count) refl
 
-  -- the keys of the first version alone
-  pub frame_same : HasKeys first_frame_keys ps → frame_of_pairs ps ≡ frame_of (members ps)
-  frame_same fit = rw (absent first_frame_keys key.Every refl fit, absent first_frame_keys key.Count refl fit, at_pair key.Id, at_pair key.Dlc, at_pair key.Remote, at_pair key.Bytes, at_pair key.Ready, at_pair key.Extended) refl
+  pub frame_fits : (version : ℕ) → HasKeys (frame_pair_keys (has_traffic version) ps) ps → frame_fault version (members ps) ≡ None
+  frame_fits version fit =
+      let same : frame_keys version (members ps) ≡ frame_pair_keys (has_traffic version) ps =
+      ap (λ o. record { required = frame_required (has_traffic version && is_some o); optional = frame_optional (has_traffic version) }) (at_pair key.Count) in
+      ap (λ keys. table_fault keys (members ps)) same ∙ fits_table (frame_pair_keys (has_traffic version) ps) fit
 
-  pub disturbance_same : HasKeys first_disturbance_keys ps → disturbance_of_pairs ps ≡ disturbance_of (members ps)
-  disturbance_same fit = rw (absent first_disturbance_keys key.AtNode refl fit, at_pair key.X, at_pair key.From, at_pair key.To) refl
+  pub disturbance_same : disturbance_of_pairs ps ≡ disturbance_of (members ps)
+  disturbance_same = rw (at_pair key.AtNode, at_pair key.X, at_pair key.From, at_pair key.To) refl
+
+  pub disturbance_fits : (version : ℕ) → HasKeys (disturbance_pair_keys version ps) ps → disturbance_fault version (members ps) ≡ None
+  disturbance_fits version fit =
+      let same : disturbance_keys version (members ps) ≡ disturbance_pair_keys version ps =
+      ap (λ o. record { required = disturbance_required (has_traffic version && is_some o); optional = [] }) (at_pair key.AtNode) in
+      ap (λ keys. table_fault keys (members ps)) same ∙ fits_table (disturbance_pair_keys version ps) fit
 
 -- the tables in an array
 tables_only : (ns : List Nodes) → filter_map as_table (map (λ m. table (close m)) ns) ≡ map close ns
 tables_only [] = refl
 tables_only (n ∷ ns) = ap (λ l. close n ∷ l) (tables_only ns)
 
-abbrev tables_in : Option Data → List Members
-tables_in o = filter_map as_table (unwrap_or (option_and_then elements_of o) [])
-
-tables_in_value : (ns : List Nodes) → tables_in (tables_value ns) ≡ map close ns
+tables_in_value : (ns : List Nodes) → tables_said (tables_value ns) ≡ map close ns
 tables_in_value [] = refl
 tables_in_value (n ∷ ns) = rw (list_of-items_of (map (λ m. table (close m)) ns)) (tables_only (n ∷ ns))
 
@@ -191,78 +197,129 @@ unplaced : (at : Spot) (o : Option SetupFault) → option_map (λ f. f.fault) (f
 unplaced at None = refl
 unplaced at (Some f) = refl
 
--- the keys of a node of the first version, by whether `quantum` is there
-abbrev keys_by : Bool → TableKeys
-keys_by b = record { required = if b then required_by_ppm else required_by_rate; optional = node_optional false }
+unplaced_none : (at : Spot) (o : Option SetupFault) → fault_at at o ≡ None → o ≡ None
+unplaced_none at None h = refl
+unplaced_none at (Some f) h = absurd (none-some (placed at f) (sym h))
+
+-- tables that have no fault in one place have none in another
+none_again : (f g : ℕ → Members → Option PlacedFault) → ((n : ℕ) (t : Members) → f n t ≡ None → g n t ≡ None) → (n : ℕ) (ts : List Members)
+    → first_some (map (λ r. f r.0 r.1) (enumerate_from n ts)) ≡ None → first_some (map (λ r. g r.0 r.1) (enumerate_from n ts)) ≡ None
+none_again f g next n [] none = refl
+none_again f g next n (t ∷ ts) none =
+    let (here, more) = none_parts (f n t) (map (λ r. f r.0 r.1) (enumerate_from (n + 1) ts)) none in
+    pass (g n t) _ (next n t here) ∙ none_again f g next (n + 1) ts more
+
+rates_anywhere : (i : ℕ) (ts : List Members) → first_in (rate_fault_at 0) ts ≡ None → first_in (rate_fault_at i) ts ≡ None
+rates_anywhere i ts none =
+    none_again (rate_fault_at 0) (rate_fault_at i) (λ n t h. ap (fault_at (spot.Rate i n)) (unplaced_none (spot.Rate 0 n) (rate_fault t) h)) 0 ts none
+
+frames_anywhere : (version i : ℕ) (ts : List Members) → first_in (frame_fault_at version 0) ts ≡ None → first_in (frame_fault_at version i) ts ≡ None
+frames_anywhere version i ts none =
+    none_again (frame_fault_at version 0) (frame_fault_at version i) (λ n t h. ap (fault_at (spot.Frame i n)) (unplaced_none (spot.Frame 0 n) (frame_fault version t) h)) 0 ts none
+
+-- what is known of the keys of a node
+frame_known : (rates quantum traffic : Bool) → is_known (keys_by rates quantum traffic) (codes "frame") ≡ true
+frame_known true quantum true = refl
+frame_known true quantum false = refl
+frame_known false true true = refl
+frame_known false true false = refl
+frame_known false false true = refl
+frame_known false false false = refl
+
+rates_unknown : (quantum traffic : Bool) → is_known (keys_by false quantum traffic) (codes "rates") ≡ false
+rates_unknown true true = refl
+rates_unknown true false = refl
+rates_unknown false true = refl
+rates_unknown false false = refl
+
+abbrev not_frame : Key → Bool
+not_frame k = not (same_key (key_text k) (codes "frame"))
+
+required_other : (rates quantum traffic : Bool) → list_all not_frame (keys_by rates quantum traffic).required ≡ true
+required_other true quantum traffic = refl
+required_other false true traffic = refl
+required_other false false traffic = refl
+
+rates_none_by : (b : Bool) (ts : List Members) (i : ℕ) → (b ≡ true → first_in (rate_fault_at 0) ts ≡ None) → (b ≡ false → ts ≡ []) → first_in (rate_fault_at i) ts ≡ None
+rates_none_by true ts i there absent = rates_anywhere i ts (there refl)
+rates_none_by false ts i there absent = ap (first_in (rate_fault_at i)) (absent refl)
 
 -- a node and its frames
-module _ (ps : Pairs) (rows : List Pairs) (h : IsTable ps) (no_frame : pair_value ps key.Frame ≡ None) (no_rates : pair_value ps key.Rates ≡ None)
-    (all : AllByRecursion (λ r. IsTable r × (frame_fault first_version (members r) ≡ None)) rows) where
+module _ (version : ℕ) (ps : Pairs) (rows : List Pairs) (h : IsTable ps) (fit : HasKeys (pair_keys version ps) ps) where
   abbrev inner : List Nodes
   inner = map nodes_of rows
 
   abbrev M : Members
   M = close (group_nodes (ps, rows))
 
+  abbrev keys : TableKeys
+  keys = pair_keys version ps
+
   at_node : (k : Key) → same_key (key_text k) (codes "frame") ≡ false → value_at k M ≡ pair_value ps k
   at_node k differ = value_beside (key_text k) (codes "frame") inner (nodes_of ps) differ ∙ value_of_table ps (key_text k) h
 
-  frame_value : value_at key.Frame M ≡ tables_value inner
-  frame_value = value_of_tables (codes "frame") inner (nodes_of ps) (value_of_table ps (codes "frame") h ∙ no_frame) refl
+  at_each : (ks : List Key) → list_all not_frame ks ≡ true → AllByRecursion (λ k. value_at k M ≡ pair_value ps k) ks
+  at_each [] all = tt
+  at_each (k ∷ ks) all =
+      let (here, more) = and_parts (not_frame k) (list_all not_frame ks) all in
+      elim (cases_Bool (same_key (key_text k) (codes "frame"))) [
+        | inl same ↦ absurd (false≢true (rw same at here))
+        | inr other ↦ (at_node k other, at_each ks more)
+      ]
 
-  frames_at : tables_at key.Frame M ≡ map close inner
-  frames_at = ap tables_in frame_value ∙ tables_in_value inner
-
-  rates_none : (i : ℕ) → first_in (rate_fault_at i) (tables_at key.Rates M) ≡ None
-  rates_none i = ap (λ o. first_in (rate_fault_at i) (tables_in o)) (at_node key.Rates refl ∙ no_rates)
-
-  frames_none : (i : ℕ) → first_in (frame_fault_at first_version i) (tables_at key.Frame M) ≡ None
-  frames_none i = ap (first_in (frame_fault_at first_version i)) frames_at
-      ∙ none_in (frame_fault_at first_version i) nodes_of (λ r. IsTable r × (frame_fault first_version (members r) ≡ None)) (λ n r p. ap (fault_at (spot.Frame i n)) p.1) 0 rows all
-
-  optional_node : optional_pairs (key.Frame ∷ key.Tolerance ∷ []) ps ≡ None → first_some (map (optional_fault M) (key.Frame ∷ key.Tolerance ∷ [])) ≡ None
-  optional_node none =
-      let (front, more) = none_parts (optional_fault_of key.Frame (pair_value ps key.Frame)) (optional_fault_of key.Tolerance (pair_value ps key.Tolerance) ∷ []) none in
+  optional_node : (traffic : Bool) → optional_fault M key.Frame ≡ None → optional_pairs (node_optional traffic) ps ≡ None → first_some (map (optional_fault M) (node_optional traffic)) ≡ None
+  optional_node false own none =
+      let (front, more) = none_parts (optional_fault_of key.Frame (pair_value ps key.Frame)) _ none in
       let (last, rest) = none_parts (optional_fault_of key.Tolerance (pair_value ps key.Tolerance)) [] more in
-      pass (optional_fault M key.Frame) _ (ap (optional_fault_of key.Frame) frame_value ∙ frame_kind inner)
+      pass (optional_fault M key.Frame) _ own
       ∙ pass (optional_fault M key.Tolerance) [] (ap (optional_fault_of key.Tolerance) (at_node key.Tolerance refl) ∙ last)
+  optional_node true own none =
+      let (front, more) = none_parts (optional_fault_of key.Frame (pair_value ps key.Frame)) _ none in
+      let (middle, most) = none_parts (optional_fault_of key.Tolerance (pair_value ps key.Tolerance)) _ more in
+      let (last, rest) = none_parts (optional_fault_of key.Listen (pair_value ps key.Listen)) [] most in
+      pass (optional_fault M key.Frame) _ own
+      ∙ pass (optional_fault M key.Tolerance) _ (ap (optional_fault_of key.Tolerance) (at_node key.Tolerance refl) ∙ middle)
+      ∙ pass (optional_fault M key.Listen) [] (ap (optional_fault_of key.Listen) (at_node key.Listen refl) ∙ last)
 
-  table_by : (b : Bool) → HasKeys (keys_by b) ps → table_fault (keys_by b) M ≡ None
-  table_by true fit =
-      table_none (keys_by true) M
-      (required_same M ps (keys_by true).required
-      (at_node key.Name refl, (at_node key.Offset refl, (at_node key.Quantum refl, (at_node key.Ppm refl, (at_node key.Prop refl, (at_node key.Ps1 refl, (at_node key.Ps2 refl, (at_node key.Sjw refl, (at_node key.X refl, (at_node key.Out refl, (at_node key.In refl, tt))))))))))) fit.0)
-      (optional_node fit.1)
-      (unknown_none (keys_by true) M (keys_of_tables (is_known (keys_by true)) (codes "frame") inner (nodes_of ps) refl (keys_of_table (is_known (keys_by true)) ps h fit.2)))
-  table_by false fit =
-      table_none (keys_by false) M
-      (required_same M ps (keys_by false).required
-      (at_node key.Name refl, (at_node key.Offset refl, (at_node key.Num refl, (at_node key.Den refl, (at_node key.Prop refl, (at_node key.Ps1 refl, (at_node key.Ps2 refl, (at_node key.Sjw refl, (at_node key.X refl, (at_node key.Out refl, (at_node key.In refl, tt))))))))))) fit.0)
-      (optional_node fit.1)
-      (unknown_none (keys_by false) M (keys_of_tables (is_known (keys_by false)) (codes "frame") inner (nodes_of ps) refl (keys_of_table (is_known (keys_by false)) ps h fit.2)))
+  own_none : optional_fault M key.Frame ≡ None → table_fault keys M ≡ None
+  own_none own =
+      table_none keys M
+      (required_same M ps keys.required (at_each keys.required (required_other (has_rates_among version ps) (is_some (pair_value ps key.Quantum)) (has_traffic version))) fit.0)
+      (optional_node (has_traffic version) own fit.1)
+      (unknown_none keys M (keys_of_tables (is_known keys) (codes "frame") inner (nodes_of ps)
+      (frame_known (has_rates_among version ps) (is_some (pair_value ps key.Quantum)) (has_traffic version)) (keys_of_table (is_known keys) ps h fit.2)))
 
-  keys_same : node_keys first_version M ≡ pair_keys ps
-  keys_same = ap (λ o. keys_by (is_some o)) (at_node key.Quantum refl)
+  abbrev keys_of : Option Data → Option Data → TableKeys
+  keys_of rates quantum = keys_by ((version == version_of_rates) || (has_traffic version && is_some rates)) (is_some quantum) (has_traffic version)
 
-  node_none : HasKeys (pair_keys ps) ps → (i : ℕ) → node_fault_at first_version i M ≡ None
-  node_none fit i =
-      pass _ _ (ap (λ ks. fault_at (spot.Node i) (table_fault ks M)) keys_same ∙ ap (fault_at (spot.Node i)) (table_by (is_some (pair_value ps key.Quantum)) fit))
-      ∙ pass _ _ (rates_none i) ∙ pass _ _ (frames_none i)
+  keys_same : node_keys version M ≡ keys
+  keys_same = ap (λ o. keys_of o (value_at key.Quantum M)) (at_node key.Rates refl) ∙ ap (keys_of (pair_value ps key.Rates)) (at_node key.Quantum refl)
 
-  no_listen : HasKeys (pair_keys ps) ps → value_at key.Listen M ≡ None
-  no_listen fit = at_node key.Listen refl ∙ no_value (pair_keys ps) (codes "listen") ps (strange (is_some (pair_value ps key.Quantum))) fit.2 where
-    strange : (b : Bool) → is_known (keys_by b) (codes "listen") ≡ false
-    strange true = refl
-    strange false = refl
+  no_rates : has_rates_among version ps ≡ false → tables_said (pair_value ps key.Rates) ≡ []
+  no_rates none = ap tables_said (no_value keys (codes "rates") ps (unknown (has_rates_among version ps) none) fit.2) where
+    unknown : (b : Bool) → b ≡ false → is_known (keys_by b (is_some (pair_value ps key.Quantum)) (has_traffic version)) (codes "rates") ≡ false
+    unknown false is = rates_unknown (is_some (pair_value ps key.Quantum)) (has_traffic version)
+    unknown true is = absurd (false≢true (sym is))
 
-  node_same : HasKeys (pair_keys ps) ps → (frames : List FrameText) → frames ≡ map (λ r. frame_of (members r)) rows → node_of_pairs ps frames ≡ node_text_of first_version M
-  node_same fit frames is =
-      let read : frames ≡ map frame_of (tables_at key.Frame M) = is ∙ map_three frame_of close nodes_of rows ∙ ap (map frame_of) (sym frames_at) in
+  rates_none : (rates : List RateText) → AreRates version ps rates → (i : ℕ) → first_in (rate_fault_at i) (tables_at key.Rates M) ≡ None
+  rates_none rates are i =
+      ap (λ o. first_in (rate_fault_at i) (tables_said o)) (at_node key.Rates refl)
+      ∙ rates_none_by (has_rates_among version ps) (tables_said (pair_value ps key.Rates)) i are.0 no_rates
+
+  node_none : (rates : List RateText) → AreRates version ps rates → optional_fault M key.Frame ≡ None → ((i : ℕ) → first_in (frame_fault_at version i) (tables_at key.Frame M) ≡ None)
+      → (i : ℕ) → node_fault_at version i M ≡ None
+  node_none rates are own frames_none i =
+      pass _ _ (ap (λ ks. fault_at (spot.Node i) (table_fault ks M)) keys_same ∙ ap (fault_at (spot.Node i)) (own_none own))
+      ∙ pass _ _ (rates_none rates are i) ∙ pass _ _ (frames_none i)
+
+  node_same : (rates : List RateText) (frames : List FrameText) → AreRates version ps rates → frames ≡ map frame_of (tables_at key.Frame M) → node_of_pairs ps rates frames ≡ node_text_of version M
+  node_same rates frames are read =
       rw (
         read,
-        no_listen fit,
+        are.1,
         at_node key.Name refl,
         at_node key.Offset refl,
+        at_node key.Rates refl,
         at_node key.Quantum refl,
         at_node key.Ppm refl,
         at_node key.Num refl,
@@ -275,21 +332,76 @@ module _ (ps : Pairs) (rows : List Pairs) (h : IsTable ps) (no_frame : pair_valu
         at_node key.Out refl,
         at_node key.In refl,
         at_node key.Tolerance refl,
+        at_node key.Listen refl,
       ) refl
 
-  good_group : IsNodeTable (ps, rows)
-  good_group = (h, no_frame, all_map _ IsTable (λ r p. p.0) rows all)
+  -- frames below headers
+  module _ (no_frame : pair_value ps key.Frame ≡ None) (all : AllByRecursion (λ r. IsTable r × (frame_fault version (members r) ≡ None)) rows) where
+    frame_value : value_at key.Frame M ≡ tables_value inner
+    frame_value = value_of_tables (codes "frame") inner (nodes_of ps) (value_of_table ps (codes "frame") h ∙ no_frame) refl
+
+    frames_at : tables_at key.Frame M ≡ map close inner
+    frames_at = ap tables_said frame_value ∙ tables_in_value inner
+
+    frame_none : optional_fault M key.Frame ≡ None
+    frame_none = ap (optional_fault_of key.Frame) frame_value ∙ frame_kind inner
+
+    frames_none : (i : ℕ) → first_in (frame_fault_at version i) (tables_at key.Frame M) ≡ None
+    frames_none i = ap (first_in (frame_fault_at version i)) frames_at
+        ∙ none_in (frame_fault_at version i) nodes_of (λ r. IsTable r × (frame_fault version (members r) ≡ None)) (λ n r p. ap (fault_at (spot.Frame i n)) p.1) 0 rows all
+
+    frames_read : (frames : List FrameText) → frames ≡ map (λ r. frame_of (members r)) rows → frames ≡ map frame_of (tables_at key.Frame M)
+    frames_read frames is = is ∙ map_three frame_of close nodes_of rows ∙ ap (map frame_of) (sym frames_at)
+
+    good_group : IsNodeTable (ps, rows)
+    good_group = (h, inl no_frame, all_map _ IsTable (λ r p. p.0) rows all)
+
+-- frames that are tables in line
+module _ (version : ℕ) (ps : Pairs) (h : IsTable ps) (fit : HasKeys (pair_keys version ps) ps) where
+  own_frame : value_at key.Frame (members ps) ≡ pair_value ps key.Frame
+  own_frame = value_of_table ps (codes "frame") h
+
+  own_frame_none : optional_fault (members ps) key.Frame ≡ None
+  own_frame_none = ap (optional_fault_of key.Frame) own_frame ∙ kind_of_frame (has_traffic version) fit.1 where
+    kind_of_frame : (traffic : Bool) → optional_pairs (node_optional traffic) ps ≡ None → optional_fault_of key.Frame (pair_value ps key.Frame) ≡ None
+    kind_of_frame true none = (none_parts (optional_fault_of key.Frame (pair_value ps key.Frame)) _ none).0
+    kind_of_frame false none = (none_parts (optional_fault_of key.Frame (pair_value ps key.Frame)) _ none).0
+
+  own_frames_none : first_in (frame_fault_at version 0) (tables_said (pair_value ps key.Frame)) ≡ None → (i : ℕ) → first_in (frame_fault_at version i) (tables_at key.Frame (members ps)) ≡ None
+  own_frames_none none i = ap (λ o. first_in (frame_fault_at version i) (tables_said o)) own_frame ∙ frames_anywhere version i (tables_said (pair_value ps key.Frame)) none
 
 -- a node that was read
-pub read_group : (text below rest : List ℕ) (ps : Pairs) (frames : List FrameText) (n : NodeText) → Goes text (map pair_expression ps) below → IsTable ps → HasKeys (pair_keys ps) ps → pair_value ps key.Frame ≡ None
-    → pair_value ps key.Rates ≡ None → AreTables (frame_fault first_version) frame_of below which.Frame frames rest → n ≡ node_of_pairs ps frames → IsNodeText text n rest
-read_group text below rest ps frames n g h fit no_frame no_rates tables is =
-    let (rows, goes, all, made) = tables in (
-      (ps, rows),
-      goes_twice text below rest (map pair_expression ps) (lines_of_each (table_lines (key_of_header which.Frame)) rows) g goes,
-      (good_group ps rows h no_frame no_rates all, node_none ps rows h no_frame no_rates all fit),
-      is ∙ node_same ps rows h no_frame no_rates all fit frames made,
-    )
+module _ (version : ℕ) (text below rest : List ℕ) (ps : Pairs) (rates : List RateText) (frames : List FrameText) (n : NodeText) (g : Goes text (map pair_expression ps) below)
+    (h : IsTable ps) (fit : HasKeys (pair_keys version ps) ps) (are : AreRates version ps rates) (is : n ≡ node_of_pairs ps rates frames) where
+  below_headers : pair_value ps key.Frame ≡ None → AreTables (frame_fault version) frame_of below which.Frame frames rest → IsNodeText version text n rest
+  below_headers no_frame tables =
+      let (rows, goes, all, made) = tables in (
+        (ps, rows),
+        goes_twice text below rest (map pair_expression ps) (lines_of_each (table_lines (key_of_header which.Frame)) rows) g goes,
+        (
+          good_group version ps rows h fit no_frame all,
+          node_none version ps rows h fit rates are (frame_none version ps rows h fit no_frame all) (frames_none version ps rows h fit no_frame all),
+        ),
+        is ∙ node_same version ps rows h fit rates frames are (frames_read version ps rows h fit no_frame all frames made),
+      )
+
+  in_line : rest ≡ below → first_in (frame_fault_at version 0) (tables_said (pair_value ps key.Frame)) ≡ None → frames ≡ map frame_of (tables_said (pair_value ps key.Frame))
+      → IsNodeText version text n rest
+  in_line same none made = (
+    (ps, []),
+    rw (same, append-nil (map pair_expression ps)) g,
+    (
+      (h, inr refl, tt),
+      node_none version ps [] h fit rates are (own_frame_none version ps h fit) (own_frames_none version ps h fit none),
+    ),
+    is ∙ node_same version ps [] h fit rates frames are (made ∙ ap (λ o. map frame_of (tables_said o)) (sym (own_frame version ps h fit))),
+  )
+
+  pub read_group : AreNodeFrames version ps below frames rest → IsNodeText version text n rest
+  read_group either = elim either [
+    | inl p ↦ below_headers p.0 p.1
+    | inr p ↦ in_line p.0 p.1 p.2
+  ]
 
 -- one table more, and one node more
 pub no_tables : {T : Type 0} (fault : Members → Option SetupFault) (make : Members → T) (text : List ℕ) (w : Header) → AreTables fault make text w [] text
@@ -307,24 +419,28 @@ tables_more fault make text w made new rest below next ps t tables head body h n
       grown ∙ rw (same, is, map-append (λ r. make (members r)) rows (ps ∷ [])) refl,
     )
 
-pub no_nodes_yet : (text : List ℕ) → AreNodes text [] text
-no_nodes_yet text = ([], goes_none text, tt, refl)
+pub no_nodes_yet : (version : ℕ) (text : List ℕ) → AreNodes version text [] text
+no_nodes_yet version text = ([], goes_none text, tt, refl)
 
-pub nodes_more : (text : List ℕ) (nodes new : List NodeText) (rest below next : List ℕ) (n : NodeText) → AreNodes text nodes rest → Goes rest (header_expression (key_of_header which.Node) ∷ []) below
-    → IsNodeText below n next → new ≡ nodes ++ n ∷ [] → AreNodes text new next
-nodes_more text nodes new rest below next n before head node grown =
+pub nodes_more : (version : ℕ) (text : List ℕ) (nodes new : List NodeText) (rest below next : List ℕ) (n : NodeText) → AreNodes version text nodes rest → Goes rest (header_expression (key_of_header which.Node) ∷ []) below
+    → IsNodeText version below n next → new ≡ nodes ++ n ∷ [] → AreNodes version text new next
+nodes_more version text nodes new rest below next n before head node grown =
     let (groups, goes, all, same) = before in
     let (g, body, good, is) = node in
     let one = goes_twice rest below next (header_expression (key_of_header which.Node) ∷ []) (map pair_expression g.0 ++ lines_of_each (table_lines (key_of_header which.Frame)) g.1) head body in (
       groups ++ g ∷ [],
       rw (each_more group_lines groups g) (goes_twice text rest next (lines_of_each group_lines groups) (group_lines g) goes one),
-      all_last IsGood groups g all good,
-      grown ∙ rw (same, is, map-append node_of_group groups (g ∷ [])) refl,
+      all_last (IsGood version) groups g all good,
+      grown ∙ rw (same, is, map-append (node_of_group version) groups (g ∷ [])) refl,
     )
 
 -- a plan
 module _ (ps : Pairs) (first_group : Group) (others : List Group) (rows : List Pairs) (h : IsTable ps) (top : IsTopRow ps)
-    (good : AllByRecursion IsGood (first_group ∷ others)) (all : AllByRecursion (λ r. IsTable r × (disturbance_fault first_version (members r) ≡ None)) rows) where
+    (good : AllByRecursion (IsGood (number_said (pair_value ps key.Version))) (first_group ∷ others))
+    (all : AllByRecursion (λ r. IsTable r × (disturbance_fault (number_said (pair_value ps key.Version)) (members r) ≡ None)) rows) where
+  abbrev version : ℕ
+  version = number_said (pair_value ps key.Version)
+
   abbrev groups : List Group
   groups = first_group ∷ others
 
@@ -348,35 +464,35 @@ module _ (ps : Pairs) (first_group : Group) (others : List Group) (rows : List P
       value_of_tables (codes "disturbance") (map nodes_of rows) base
       (value_beside (codes "disturbance") (codes "node") (map group_nodes groups) (nodes_of ps) refl ∙ value_of_table ps (codes "disturbance") h ∙ top.1) refl
 
-  version_is : number_at key.Version P ≡ first_version
-  version_is = ap number_said (at_top key.Version refl refl) ∙ top.2
+  version_is : number_at key.Version P ≡ version
+  version_is = ap number_said (at_top key.Version refl refl)
 
   nodes_at : tables_at key.Node P ≡ map close (map group_nodes groups)
-  nodes_at = ap tables_in node_value ∙ tables_in_value (map group_nodes groups)
+  nodes_at = ap tables_said node_value ∙ tables_in_value (map group_nodes groups)
 
   rows_at : tables_at key.Disturbance P ≡ map close (map nodes_of rows)
-  rows_at = ap tables_in row_value ∙ tables_in_value (map nodes_of rows)
+  rows_at = ap tables_said row_value ∙ tables_in_value (map nodes_of rows)
 
-  plan_same : (nodes : List NodeText) (made : List DisturbanceText) → nodes ≡ map node_of_group groups → made ≡ map (λ r. disturbance_of (members r)) rows
+  plan_same : (nodes : List NodeText) (made : List DisturbanceText) → nodes ≡ map (node_of_group version) groups → made ≡ map (λ r. disturbance_of (members r)) rows
       → plan_of P ≡ plan_of_pairs ps nodes made
   plan_same nodes made nodes_are made_are =
-      let read : nodes ≡ map (node_text_of first_version) (tables_at key.Node P) =
-      nodes_are ∙ map_three (node_text_of first_version) close group_nodes groups ∙ ap (map (node_text_of first_version)) (sym nodes_at) in
+      let read : nodes ≡ map (node_text_of version) (tables_at key.Node P) =
+      nodes_are ∙ map_three (node_text_of version) close group_nodes groups ∙ ap (map (node_text_of version)) (sym nodes_at) in
       let heard : made ≡ map disturbance_of (tables_at key.Disturbance P) = made_are ∙ map_three disturbance_of close nodes_of rows ∙ ap (map disturbance_of) (sym rows_at) in
       sym (rw (read, heard, ← version_is, at_top key.Version refl refl, at_top key.End refl refl, at_top key.Per refl refl, at_top key.Sync refl refl) refl)
 
   version_none : version_fault P ≡ None
   version_none =
-      let (version, more) = none_parts (required_fault_of key.Version (pair_value ps key.Version)) _ top.3 in
-      pass (required_fault P key.Version) _ (ap (required_fault_of key.Version) (at_top key.Version refl refl) ∙ version)
-      ∙ only _ ∙ ap (λ v. if is_known_version v then None else Some Version) version_is
+      let (here, more) = none_parts (required_fault_of key.Version (pair_value ps key.Version)) _ top.3 in
+      pass (required_fault P key.Version) _ (ap (required_fault_of key.Version) (at_top key.Version refl refl) ∙ here)
+      ∙ only _ ∙ ap (λ v. if is_known_version v then None else Some Version) version_is ∙ rw top.2 refl
 
   required_top : first_some (map (required_fault P) top_keys.required) ≡ None
   required_top =
-      let (version, more) = none_parts (required_fault_of key.Version (pair_value ps key.Version)) _ top.3 in
+      let (here, more) = none_parts (required_fault_of key.Version (pair_value ps key.Version)) _ top.3 in
       let (end_is, last) = none_parts (required_fault_of key.End (pair_value ps key.End)) _ more in
       let (per, rest) = none_parts (required_fault_of key.Per (pair_value ps key.Per)) [] last in
-      pass (required_fault P key.Version) _ (ap (required_fault_of key.Version) (at_top key.Version refl refl) ∙ version)
+      pass (required_fault P key.Version) _ (ap (required_fault_of key.Version) (at_top key.Version refl refl) ∙ here)
       ∙ pass (required_fault P key.End) _ (ap (required_fault_of key.End) (at_top key.End refl refl) ∙ end_is)
       ∙ pass (required_fault P key.Per) _ (ap (required_fault_of key.Per) (at_top key.Per refl refl) ∙ per)
       ∙ pass (required_fault P key.Node) [] (ap (required_fault_of key.Node) node_value ∙ node_kind (group_nodes first_group) (map group_nodes others))
@@ -393,13 +509,13 @@ module _ (ps : Pairs) (first_group : Group) (others : List Group) (rows : List P
 
   nodes_none : first_in (node_fault_at (number_at key.Version P)) (tables_at key.Node P) ≡ None
   nodes_none =
-      ap (λ v. first_in (node_fault_at v) (tables_at key.Node P)) version_is ∙ ap (first_in (node_fault_at first_version)) nodes_at
-      ∙ none_in (node_fault_at first_version) group_nodes IsGood (λ n g p. p.1 n) 0 groups good
+      ap (λ v. first_in (node_fault_at v) (tables_at key.Node P)) version_is ∙ ap (first_in (node_fault_at version)) nodes_at
+      ∙ none_in (node_fault_at version) group_nodes (IsGood version) (λ n g p. p.1 n) 0 groups good
 
   rows_none : first_in (disturbance_fault_at (number_at key.Version P)) (tables_at key.Disturbance P) ≡ None
   rows_none =
-      ap (λ v. first_in (disturbance_fault_at v) (tables_at key.Disturbance P)) version_is ∙ ap (first_in (disturbance_fault_at first_version)) rows_at
-      ∙ none_in (disturbance_fault_at first_version) nodes_of (λ r. IsTable r × (disturbance_fault first_version (members r) ≡ None)) (λ n r p. ap (fault_at (spot.Disturbance n)) p.1) 0 rows all
+      ap (λ v. first_in (disturbance_fault_at v) (tables_at key.Disturbance P)) version_is ∙ ap (first_in (disturbance_fault_at version)) rows_at
+      ∙ none_in (disturbance_fault_at version) nodes_of (λ r. IsTable r × (disturbance_fault version (members r) ≡ None)) (λ n r p. ap (fault_at (spot.Disturbance n)) p.1) 0 rows all
 
   abbrev at_repeat : Spot
   at_repeat = spot.Node (first_repeat [] (names_of (plan_of P)))
@@ -411,7 +527,7 @@ module _ (ps : Pairs) (first_group : Group) (others : List Group) (rows : List P
   fault_same : document_fault P ≡ same_name_fault (plan_of P)
   fault_same = ap (option_map (λ f. f.fault)) first_same ∙ unplaced at_repeat (same_name_fault (plan_of P))
 
-  says : (text : List ℕ) (nodes : List NodeText) (made : List DisturbanceText) (plan : PlanText) → parse_document text ≡ Some P → nodes ≡ map node_of_group groups
+  says : (text : List ℕ) (nodes : List NodeText) (made : List DisturbanceText) (plan : PlanText) → parse_document text ≡ Some P → nodes ≡ map (node_of_group version) groups
       → made ≡ map (λ r. disturbance_of (members r)) rows → plan ≡ plan_of_pairs ps nodes made → Says (parse_document text) plan
   says text nodes made plan parsed nodes_are made_are is =
       let same = plan_same nodes made nodes_are made_are ∙ sym is in
@@ -429,19 +545,24 @@ fits_keys ps keys required optional a b fit =
 module _ (text below after rest : List ℕ) (ps : Pairs) (nodes : List NodeText) (made : List DisturbanceText) (plan : PlanText) (mark : (first text == 239) ≡ false)
     (own : Goes text (map pair_expression ps) below) (h : IsTable ps) (top : IsTopRow ps) (some : nodes ≡ [] → ⊥)
     (over : (n : ℕ) (doc : Document) → length rest < n → lines n doc rest ≡ Some doc) (is : plan ≡ plan_of_pairs ps nodes made) where
-  from_groups : (groups : List Group) → Goes below (lines_of_each group_lines groups) after → AllByRecursion IsGood groups → nodes ≡ map node_of_group groups
-      → AreTables (disturbance_fault first_version) disturbance_of after which.Disturbance made rest → Says (parse_document text) plan
+  abbrev said : ℕ
+  said = number_said (pair_value ps key.Version)
+
+  from_groups : (groups : List Group) → Goes below (lines_of_each group_lines groups) after → AllByRecursion (IsGood said) groups → nodes ≡ map (node_of_group said) groups
+      → AreTables (disturbance_fault said) disturbance_of after which.Disturbance made rest → Says (parse_document text) plan
   from_groups [] goes good nodes_are tables = absurd (some nodes_are)
   from_groups (g ∷ gs) goes good nodes_are tables =
       let (rows, rowed, all, made_are) = tables in
       let tail = goes_twice below after rest (lines_of_each group_lines (g ∷ gs)) (lines_of_each (table_lines (key_of_header which.Disturbance)) rows) goes rowed in
       let whole = goes_twice text below rest (map pair_expression ps) (lines_of_each group_lines (g ∷ gs) ++ lines_of_each (table_lines (key_of_header which.Disturbance)) rows) own tail in
-      let parsed = plan_parsed text rest ps (g ∷ gs) rows mark (h, top.0, top.1) (all_map IsGood IsNodeTable (λ x p. p.0) (g ∷ gs) good)
-      (all_map (λ r. IsTable r × (disturbance_fault first_version (members r) ≡ None)) IsTable (λ r p. p.0) rows all) whole over in
+      let parsed = plan_parsed text rest ps (g ∷ gs) rows mark (h, top.0, top.1) (all_map (IsGood said) IsNodeTable (λ x p. p.0) (g ∷ gs) good)
+      (all_map (λ r. IsTable r × (disturbance_fault said (members r) ≡ None)) IsTable (λ r p. p.0) rows all) whole over in
       says ps g gs rows h top good all text nodes made plan parsed nodes_are made_are is
 
-  pub quick_says : AreNodes below nodes after → AreTables (disturbance_fault first_version) disturbance_of after which.Disturbance made rest → Says (parse_document text) plan
-  quick_says read tables = let (groups, goes, good, nodes_are) = read in from_groups groups goes good nodes_are tables
+  pub quick_says : (version : ℕ) → version ≡ said → AreNodes version below nodes after → AreTables (disturbance_fault version) disturbance_of after which.Disturbance made rest → Says (parse_document text) plan
+  quick_says version same read tables =
+      let (groups, goes, good, nodes_are) = subst (λ v. AreNodes v below nodes after) same read in
+      from_groups groups goes good nodes_are (subst (λ v. AreTables (disturbance_fault v) disturbance_of after which.Disturbance made rest) same tables)
 
 pub utf8_says : (text s : List ℕ) (r : Option PlanText) → s ≡ text → IsUtf8 text → IfSome r (Says (parse_document s)) → IfSome r (Says (document_of text))
 utf8_says text s r is utf8 h =

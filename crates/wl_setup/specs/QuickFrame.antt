@@ -1,5 +1,5 @@
 -- What the lines of a frame's table have said so far (this project's profile).
-use Rattle.std.specs.Prelude.{◌≡◌, ℕ, true, List, [], ◌∷◌, ◌++◌, map, if◌then◌else◌, Option, Some, None, option_map}
+use Rattle.std.specs.Prelude.{◌≡◌, ◌&&◌, ◌||◌, ℕ, Bool, true, false, List, [], ◌∷◌, ◌++◌, map, if◌then◌else◌, Option, Some, None, is_some, is_none, option_map}
 use Rattle.toml_parser.specs.Strings.{recursion_limit}
 use Rattle.toml.specs.Data.{Data, as_bool}
 use Rattle.toml.specs.Parse.{val}
@@ -8,12 +8,22 @@ use Rattle.wl_setup.specs.declared.keys.Key.TheVariants as key
 use Rattle.wl_setup.specs.declared.keys.Kind.TheVariants as kind
 use Rattle.wl_setup.specs.declared.quick_frame.FrameLines.{FrameLines}
 use Rattle.wl_setup.specs.Limits.{largest_number, largest_small}
-use Rattle.wl_setup.specs.Kinds.{number_in, has_kind}
-use Rattle.wl_setup.specs.Quick.{bytes_said, pair_value, has_only, first_frame_keys}
+use Rattle.wl_setup.specs.Keys.{TableKeys, frame_required, frame_optional}
+use Rattle.wl_setup.specs.Kinds.{number_in, positive_in, has_kind}
+use Rattle.wl_setup.specs.Quick.{bytes_said, pair_value, has_only}
 
 -- the bytes of an array that has nothing else
 abbrev pub bytes_in : Data → Option (List ℕ)
 bytes_in d = if has_kind kind.Bytes d then Some (bytes_said (Some d)) else None
+
+-- before the version of traffic a frame comes once, and later one with a count comes again
+abbrev pub comes_again_rightly : Bool → Option ℕ → Option ℕ → Bool
+comes_again_rightly true every count = is_none count || is_some every
+comes_again_rightly false every count = is_none count && is_none every
+
+-- the keys that a frame may have in some version
+abbrev pub all_frame_keys : TableKeys
+all_frame_keys = record { required = frame_required false; optional = frame_optional true }
 
 -- there is something that was read just if there is a value, and the function takes the value to it
 abbrev pub ReadsAs : {A : Type 0} → (Data → Option A) → Option Data → Option A → Type 0
@@ -27,7 +37,9 @@ pub record HoldsLines (ps : Pairs) (lines : FrameLines) : Type 0 where
   pub bytes : ReadsAs bytes_in (pair_value ps key.Bytes) lines.bytes
   pub ready : ReadsAs (number_in largest_number) (pair_value ps key.Ready) lines.ready
   pub extended : ReadsAs as_bool (pair_value ps key.Extended) lines.extended
-  pub known : has_only first_frame_keys ps ≡ true
+  pub every : ReadsAs positive_in (pair_value ps key.Every) lines.every
+  pub count : ReadsAs positive_in (pair_value ps key.Count) lines.count
+  pub known : has_only all_frame_keys ps ≡ true
 
 -- a text begins with a value that a function takes to this
 abbrev pub IsValue : {A : Type 0} → (Data → Option A) → List ℕ → A → List ℕ → Type 0

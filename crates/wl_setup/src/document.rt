@@ -1,11 +1,12 @@
 //! The plan text of a parsed document.
-ghost use Rattle.std.specs.Prelude.{◌≡◌, map};
+ghost use Rattle.std.specs.Prelude.{◌≡◌, map, None, IfSome};
 ghost use Rattle.toml.specs.View.{view, table_view};
 ghost use Rattle.wl_setup.specs.declared.keys.Key.TheVariants as key;
 ghost use Rattle.wl_setup.specs.Kinds.{tables_at};
 ghost use Rattle.wl_setup.specs.Faults.{version_fault};
 ghost use Rattle.wl_setup.specs.Spots.{disturbance_fault_at, first_in, frame_fault_at, node_fault_at, rate_fault_at};
 ghost use Rattle.wl_setup.specs.Texts.{frame_of, disturbance_of, clock_of, rate_of, rates_of, node_text_of};
+ghost use Rattle.wl_setup.specs.Quick.{value_data, elements_said, tables_said};
 ghost use Rattle.wl_setup.specs.Document.{AnswersAt, AnswersEach, Passes, first_fault, named_text_of};
 
 use crate::fault::SetupFault;
@@ -34,7 +35,7 @@ fn check_version(alloc: Global, top: &Table) -> Result<(), SetupFault>
 }
 
 /// What the tables of an array are read as.
-trait Row: Drop {
+pub(crate) trait Row: Drop {
     ghost use Rattle.std.specs.Prelude.{ℕ, Option};
     ghost use Rattle.toml.specs.Data.{Members};
     ghost use Rattle.wl_setup.specs.declared.spot.PlacedFault.{PlacedFault};
@@ -73,6 +74,34 @@ fn rows<T: Row>(
         }
     }
     Ok(rows)
+}
+
+/// Returns the elements of the array that a value is, none if it is none.
+fn elements(value: Option<&Value>) -> &[Value]
+    ensures { map view result.now ≡ elements_said (value_data value.entry) }
+{
+    match value {
+        Some(value) => match value.as_array() {
+            Some(array) => array.as_slice(),
+            None => &[],
+        },
+        None => &[],
+    }
+}
+
+/// Returns the tables in the array that a value is. Returns nothing if one has a fault, or if memory was refused.
+pub(crate) fn tables_in_line<T: Row>(
+    alloc: Global,
+    version: u64,
+    value: Option<&Value>,
+) -> Option<Listed<T>>
+    ensures fault { IfSome result (λ _. first_in (T.fault version 0) (tables_said (value_data value.entry)) ≡ None) }
+    ensures tables { IfSome result (λ ts. ts ≡ map (T.make version) (tables_said (value_data value.entry))) }
+{
+    match rows(alloc, version, 0, elements(value)) {
+        Ok(tables) => Some(tables),
+        Err(_) => None,
+    }
 }
 
 impl Row for FrameText {

@@ -225,7 +225,7 @@ pub(crate) fn required_by_ppm() -> &'static [Key]
 }
 
 /// Returns the required keys of a node whose rates are tables of their own.
-fn required_by_rates() -> &'static [Key]
+pub(crate) fn required_by_rates() -> &'static [Key]
     ensures { result.now ≡ required_by_rates }
 {
     &[

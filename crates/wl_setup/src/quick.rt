@@ -1,24 +1,24 @@
 //! Plans' texts of the usual form: a line for each key, the nodes with their frames, then the disturbances. `None` says nothing
-//! of a text. Only texts of the first version are of the usual form.
+//! of a text. Rates are tables in line, frames are such tables or below headers.
 ghost use Rattle.std.specs.Prelude.{◌≡◌, ◌≤◌, length, IsTrue, None, true, IfSome, Some};
 ghost use Rattle.toml.specs.Data.{Members};
 ghost use Rattle.toml.specs.Parse.{parse_document};
 ghost use Rattle.wl_tables.specs.Tables.{IsTable, Goes};
 ghost use Rattle.wl_tables.specs.Rows.{pairs_of};
-ghost use Rattle.wl_setup.specs.declared.keys.Key.TheVariants as key;
 ghost use Rattle.wl_setup.specs.Keys.{table_keys};
-ghost use Rattle.wl_setup.specs.Limits.{first_version};
-ghost use Rattle.wl_setup.specs.Faults.{required_fault_of, optional_fault_of, frame_fault, disturbance_fault};
+ghost use Rattle.wl_setup.specs.Faults.{required_fault_of, optional_fault_of, frame_fault, disturbance_fault, is_known_version};
 ghost use Rattle.wl_setup.specs.Texts.{frame_of, disturbance_of};
-ghost use Rattle.wl_setup.specs.Quick.{pair_value, required_pairs, optional_pairs, has_only, HasKeys, first_disturbance_keys, disturbance_of_pairs, clock_of_pairs, pair_keys, node_of_pairs, members, IsTableText, AreTables, IsNodeText, AreNodes, IsTopRow, plan_of_pairs, Says, value_data};
+ghost use Rattle.wl_setup.specs.Quick.{pair_value, required_pairs, optional_pairs, has_only, HasKeys, disturbance_pair_keys, disturbance_of_pairs, clock_of_pairs, has_rates_among, pair_keys, node_of_pairs, members, IsTableText, AreTables, AreRates, AreNodeFrames, IsNodeText, AreNodes, IsTopRow, plan_of_pairs, Says, value_data, some_name_said};
 ghost use Rattle.wl_setup.specs.Reading.{document_of};
 
+use crate::document::tables_in_line;
 use crate::fault::SetupFault;
-use crate::keys::{self, Key, Keys};
-use crate::limits::FIRST_VERSION;
+use crate::keys::{self, Key, Keys, has_traffic};
+use crate::limits::{FIRST_VERSION, VERSION_OF_RATES, VERSION_OF_TRAFFIC};
 use crate::plan_text::{ClockText, DisturbanceText, FrameText, NodeText, PlanText, RateText};
 use crate::quick_frame::{frame_of_lines, read_frame_lines};
 use crate::tables::is_among;
+use crate::text::Text;
 use crate::values::{
     has_kind, name_of, number_of, ppm_of, small_of, sync_choice_of, tolerance_of, truth_of,
 };
@@ -98,75 +98,97 @@ fn fits(row: &Row, keys: Keys) -> bool
 
 /// What the lines below a header are read as.
 trait QuickTable: Drop {
-    ghost use Rattle.std.specs.Prelude.{Option};
+    ghost use Rattle.std.specs.Prelude.{ℕ, Option};
     ghost use Rattle.toml.specs.Data.{Members};
     ghost use Rattle.wl_setup.specs.declared.fault.SetupFault.{SetupFault};
 
-    /// The first fault of such a table.
-    ghost fault: { Members → Option SetupFault };
+    /// The first fault of such a table, by the version of the text.
+    ghost fault: { ℕ → Members → Option SetupFault };
 
     /// What such a table says.
     ghost make: { Members → Self };
 
     /// Returns what the lines up to the next header or the end say, and the text from there.
-    fn read(alloc: Global, s: &str) -> Option<(Self, &str)>
-        ensures table { IfSome result (λ r. IsTableText Self.fault Self.make s.now r.0 r.1.now) }
+    fn read(alloc: Global, version: u64, s: &str) -> Option<(Self, &str)>
+        ensures table { IfSome result (λ r. IsTableText (Self.fault version) Self.make s.now r.0 r.1.now) }
         ensures within { IfSome result (λ r. length r.1.now ≤ length s.now) };
 }
 
 impl QuickTable for FrameText {
-    ghost fault = { frame_fault first_version };
+    ghost fault = { frame_fault };
 
     ghost make = { frame_of };
 
-    fn read(alloc: Global, s: &str) -> Option<(FrameText, &str)> {
+    fn read(alloc: Global, version: u64, s: &str) -> Option<(FrameText, &str)> {
         let (lines, rest) = read_frame_lines(alloc, s)?;
-        let frame = frame_of_lines(alloc, lines)?;
+        let frame = frame_of_lines(alloc, has_traffic(version), lines)?;
         Some((frame, rest))
     }
 }
 
-/// Returns the keys of a disturbance of the first version.
-fn disturbance_keys() -> Keys
-    ensures required { result.required.now ≡ first_disturbance_keys.required }
-    ensures optional { result.optional.now ≡ first_disturbance_keys.optional }
+/// Returns the keys of a disturbance.
+fn disturbance_keys(version: u64, row: &Row) -> Keys
+    ensures required { result.required.now ≡ (disturbance_pair_keys version (pairs_of row.now)).required }
+    ensures optional { result.optional.now ≡ (disturbance_pair_keys version (pairs_of row.now)).optional }
 {
+    let at_node = has_traffic(version) && value(row, Key::AtNode).is_some();
     Keys {
-        required: keys::disturbance_required(false),
+        required: keys::disturbance_required(at_node),
         optional: &[],
     }
 }
 
-/// Returns the disturbance that pairs say.
-fn disturbance(row: &Row) -> DisturbanceText
-    ensures { result ≡ disturbance_of_pairs (pairs_of row.now) }
+/// Returns the text that a value is, if it is one. Returns nothing if memory was refused.
+fn some_name(alloc: Global, value: Option<&Value>) -> Option<Option<Text>>
+    ensures { IfSome result (λ name. name ≡ some_name_said (value_data value.entry)) }
 {
-    DisturbanceText {
-        node: None,
-        x: small_of(value(row, Key::X)),
-        from: number_of(value(row, Key::From)),
-        to: number_of(value(row, Key::To)),
+    let Some(value) = value else {
+        return Some(None);
+    };
+    let Some(text) = value.as_str() else {
+        return Some(None);
+    };
+    match Text::new(alloc, text) {
+        Ok(name) => Some(Some(name)),
+        Err(_) => None,
     }
 }
 
+/// Returns the disturbance that pairs say.
+fn disturbance(alloc: Global, row: &Row) -> Option<DisturbanceText>
+    ensures { IfSome result (λ d. d ≡ disturbance_of_pairs (pairs_of row.now)) }
+{
+    Some(DisturbanceText {
+        node: some_name(alloc, value(row, Key::AtNode))?,
+        x: small_of(value(row, Key::X)),
+        from: number_of(value(row, Key::From)),
+        to: number_of(value(row, Key::To)),
+    })
+}
+
 impl QuickTable for DisturbanceText {
-    ghost fault = { disturbance_fault first_version };
+    ghost fault = { disturbance_fault };
 
     ghost make = { disturbance_of };
 
-    fn read(alloc: Global, s: &str) -> Option<(DisturbanceText, &str)> {
+    fn read(alloc: Global, version: u64, s: &str) -> Option<(DisturbanceText, &str)> {
         let (row, rest) = read_row(alloc, s)?;
-        if fits(&row, disturbance_keys()) {
-            Some((disturbance(&row), rest))
-        } else {
-            None
+        if !fits(&row, disturbance_keys(version, &row)) {
+            return None;
         }
+        let disturbance = disturbance(alloc, &row)?;
+        Some((disturbance, rest))
     }
 }
 
 /// Returns what the tables below headers of this kind say, and the text from the next line of another kind on.
-fn read_tables<T: QuickTable>(alloc: Global, s: &str, which: Header) -> Option<(Listed<T>, &str)>
-    ensures { IfSome result (λ r. AreTables T.fault T.make s.now which r.0 r.1.now) }
+fn read_tables<T: QuickTable>(
+    alloc: Global,
+    version: u64,
+    s: &str,
+    which: Header,
+) -> Option<(Listed<T>, &str)>
+    ensures { IfSome result (λ r. AreTables (T.fault version) T.make s.now which r.0 r.1.now) }
 {
     let mut made = Listed::new(alloc);
     let mut rest = s;
@@ -174,7 +196,7 @@ fn read_tables<T: QuickTable>(alloc: Global, s: &str, which: Header) -> Option<(
         let Some(below) = pass_header(alloc, rest, which) else {
             return Some((made, rest));
         };
-        let (table, next) = T::read(alloc, below)?;
+        let (table, next) = T::read(alloc, version, below)?;
         match made.push(table) {
             Ok(()) => rest = next,
             Err(_) => return None,
@@ -199,33 +221,76 @@ fn clock(row: &Row) -> ClockText
     }
 }
 
-/// Returns the keys of a node of the first version.
-fn node_keys(row: &Row) -> Keys
-    ensures required { result.required.now ≡ (pair_keys (pairs_of row.now)).required }
-    ensures optional { result.optional.now ≡ (pair_keys (pairs_of row.now)).optional }
+/// True if a node's rates are tables of their own.
+fn has_rates(version: u64, row: &Row) -> bool
+    ensures { result ≡ has_rates_among version (pairs_of row.now) }
 {
-    let required = if value(row, Key::Quantum).is_some() {
+    version == VERSION_OF_RATES || has_traffic(version) && value(row, Key::Rates).is_some()
+}
+
+/// Returns the keys of a node.
+fn node_keys(version: u64, row: &Row) -> Keys
+    ensures required { result.required.now ≡ (pair_keys version (pairs_of row.now)).required }
+    ensures optional { result.optional.now ≡ (pair_keys version (pairs_of row.now)).optional }
+{
+    let required = if has_rates(version, row) {
+        keys::required_by_rates()
+    } else if value(row, Key::Quantum).is_some() {
         keys::required_by_ppm()
     } else {
         keys::required_by_rate()
     };
     Keys {
         required,
-        optional: keys::node_optional(false),
+        optional: keys::node_optional(has_traffic(version)),
     }
 }
 
-/// Returns the node that its pairs and its frames say.
-fn node(alloc: Global, row: &Row, frame: Listed<FrameText>) -> Option<NodeText>
-    ensures { IfSome result (λ n. n ≡ node_of_pairs (pairs_of row.now) frame) }
+/// Returns the rates of a node's clock: its tables in line, or the one that its own pairs say.
+fn rates(alloc: Global, version: u64, row: &Row) -> Option<Listed<RateText>>
+    ensures { IfSome result (AreRates version (pairs_of row.now)) }
 {
+    if has_rates(version, row) {
+        return tables_in_line(alloc, version, value(row, Key::Rates));
+    }
     let mut rates = Listed::new(alloc);
-    let rate = RateText {
+    match rates.push(RateText {
         from: 0,
         clock: clock(row),
-    };
-    match (rates.push(rate), name_of(alloc, value(row, Key::Name))) {
-        (Ok(()), Ok(name)) => Some(NodeText {
+    }) {
+        Ok(()) => Some(rates),
+        Err(_) => None,
+    }
+}
+
+/// Returns a node's frames, which are tables in line or below headers, and the text after them.
+fn frames<'a>(
+    alloc: Global,
+    version: u64,
+    row: &Row,
+    below: &'a str,
+) -> Option<(Listed<FrameText>, &'a str)>
+    ensures { IfSome result (λ r. AreNodeFrames version (pairs_of row.now) below.now r.0 r.1.now) }
+{
+    let written = value(row, Key::Frame);
+    if written.is_none() {
+        return read_tables(alloc, version, below, Header::Frame);
+    }
+    let frames = tables_in_line(alloc, version, written)?;
+    Some((frames, below))
+}
+
+/// Returns the node that its pairs, its rates and its frames say.
+fn node(
+    alloc: Global,
+    row: &Row,
+    rates: Listed<RateText>,
+    frame: Listed<FrameText>,
+) -> Option<NodeText>
+    ensures { IfSome result (λ n. n ≡ node_of_pairs (pairs_of row.now) rates frame) }
+{
+    match name_of(alloc, value(row, Key::Name)) {
+        Ok(name) => Some(NodeText {
             name,
             offset: number_of(value(row, Key::Offset)),
             rates,
@@ -238,39 +303,29 @@ fn node(alloc: Global, row: &Row, frame: Listed<FrameText>) -> Option<NodeText>
             in_delay: number_of(value(row, Key::In)),
             frame,
             tolerance: tolerance_of(value(row, Key::Tolerance)),
-            listens: false,
+            listens: truth_of(value(row, Key::Listen)),
         }),
-        _ => None,
+        Err(_) => None,
     }
-}
-
-/// True only if a node's own pairs have the keys of the first version.
-fn is_node(row: &Row) -> bool
-    ensures fits { IsTrue result → HasKeys (pair_keys (pairs_of row.now)) (pairs_of row.now) }
-    ensures frame { IsTrue result → pair_value (pairs_of row.now) key.Frame ≡ None }
-    ensures rates { IsTrue result → pair_value (pairs_of row.now) key.Rates ≡ None }
-{
-    value(row, Key::Frame).is_none()
-        && value(row, Key::Rates).is_none()
-        && fits(row, node_keys(row))
 }
 
 /// Returns the node whose header is passed, and the text after its frames.
-fn read_node(alloc: Global, s: &str) -> Option<(NodeText, &str)>
-    ensures { IfSome result (λ r. IsNodeText s.now r.0 r.1.now) }
+fn read_node(alloc: Global, version: u64, s: &str) -> Option<(NodeText, &str)>
+    ensures { IfSome result (λ r. IsNodeText version s.now r.0 r.1.now) }
 {
     let (row, below) = read_row(alloc, s)?;
-    if !is_node(&row) {
+    if !fits(&row, node_keys(version, &row)) {
         return None;
     }
-    let (frames, rest) = read_tables(alloc, below, Header::Frame)?;
-    let node = node(alloc, &row, frames)?;
+    let rates = rates(alloc, version, &row)?;
+    let (frames, rest) = frames(alloc, version, &row, below)?;
+    let node = node(alloc, &row, rates, frames)?;
     Some((node, rest))
 }
 
 /// Returns the nodes, and the text after them.
-fn read_nodes(alloc: Global, s: &str) -> Option<(Listed<NodeText>, &str)>
-    ensures { IfSome result (λ r. AreNodes s.now r.0 r.1.now) }
+fn read_nodes(alloc: Global, version: u64, s: &str) -> Option<(Listed<NodeText>, &str)>
+    ensures { IfSome result (λ r. AreNodes version s.now r.0 r.1.now) }
 {
     let mut nodes = Listed::new(alloc);
     let mut rest = s;
@@ -278,7 +333,7 @@ fn read_nodes(alloc: Global, s: &str) -> Option<(Listed<NodeText>, &str)>
         let Some(below) = pass_header(alloc, rest, Header::Node) else {
             return Some((nodes, rest));
         };
-        let (node, next) = read_node(alloc, below)?;
+        let (node, next) = read_node(alloc, version, below)?;
         match nodes.push(node) {
             Ok(()) => rest = next,
             Err(_) => return None,
@@ -286,13 +341,20 @@ fn read_nodes(alloc: Global, s: &str) -> Option<(Listed<NodeText>, &str)>
     }
 }
 
-/// True only if the pairs on top are those of a plan of the first version, without the tables below headers.
+/// True if a version is known.
+fn is_known_version(version: u64) -> bool
+    ensures { result ≡ is_known_version version }
+{
+    version == FIRST_VERSION || version == VERSION_OF_RATES || version == VERSION_OF_TRAFFIC
+}
+
+/// True only if the pairs on top are those of a plan, without the tables below headers.
 fn is_top(row: &Row) -> bool
     ensures { IsTrue result → IsTopRow (pairs_of row.now) }
 {
     value(row, Key::Node).is_none()
         && value(row, Key::Disturbance).is_none()
-        && number_of(value(row, Key::Version)) == FIRST_VERSION
+        && is_known_version(number_of(value(row, Key::Version)))
         && has_required(row, &[Key::Version, Key::End, Key::Per])
         && has_optional_key(row, Key::Sync)
         && has_only(row, keys::top_keys())
@@ -323,8 +385,9 @@ fn quick_text(alloc: Global, text: &str) -> Option<PlanText>
     if !is_top(&row) {
         return None;
     }
-    let (nodes, after) = read_nodes(alloc, below)?;
-    let (disturbances, rest) = read_tables(alloc, after, Header::Disturbance)?;
+    let version = number_of(value(&row, Key::Version));
+    let (nodes, after) = read_nodes(alloc, version, below)?;
+    let (disturbances, rest) = read_tables(alloc, version, after, Header::Disturbance)?;
     if nodes.is_empty() || !is_over(rest) {
         return None;
     }

@@ -4,10 +4,10 @@ ghost use Rattle.toml.specs.Data.{as_bool};
 ghost use Rattle.wl_tables.specs.Tables.{Pairs};
 ghost use Rattle.wl_setup.specs.declared.keys.Key.TheVariants as key;
 ghost use Rattle.wl_setup.specs.Keys.{key_text};
-ghost use Rattle.wl_setup.specs.Kinds.{number_in};
+ghost use Rattle.wl_setup.specs.Kinds.{number_in, positive_in};
 ghost use Rattle.wl_setup.specs.Limits.{largest_number, largest_small};
-ghost use Rattle.wl_setup.specs.Quick.{HasKeys, first_frame_keys, frame_of_pairs};
-ghost use Rattle.wl_setup.specs.QuickFrame.{bytes_in, HoldsLines, IsValue, TakesPair, HasLines};
+ghost use Rattle.wl_setup.specs.Quick.{HasKeys, frame_pair_keys, frame_of_pairs};
+ghost use Rattle.wl_setup.specs.QuickFrame.{bytes_in, comes_again_rightly, HoldsLines, IsValue, TakesPair, HasLines};
 
 use crate::keys::Key;
 use crate::limits::{LARGEST_NUMBER, LARGEST_SMALL};
@@ -27,6 +27,8 @@ pub(crate) struct FrameLines {
     bytes: Option<Listed<u8>>,
     ready: Option<u64>,
     extended: Option<bool>,
+    every: Option<u64>,
+    count: Option<u64>,
 }
 
 /// Returns the small number at the front, and the text after it.
@@ -53,6 +55,15 @@ fn number(alloc: Global, s: &str) -> Option<(u64, &str)>
     } else {
         None
     }
+}
+
+/// Returns the number from 1 on at the front, and the text after it.
+fn positive(alloc: Global, s: &str) -> Option<(u64, &str)>
+    ensures value { IfSome result (λ r. IsValue positive_in s.now r.0 r.1.now) }
+    ensures shorter { IfSome result (λ r. length r.1.now < length s.now) }
+{
+    let (n, rest) = number(alloc, s)?;
+    if n > 0 { Some((n, rest)) } else { None }
 }
 
 /// Returns the truth value at the front, and the text after it.
@@ -154,6 +165,32 @@ fn take_extended<'a>(alloc: Global, lines: &mut FrameLines, s: &'a str) -> Optio
     Some(rest)
 }
 
+/// Takes the value of `every`, if no line had one before. Returns the text after it.
+fn take_every<'a>(alloc: Global, lines: &mut FrameLines, s: &'a str) -> Option<&'a str>
+    ensures pair { IfSome result (λ rest. TakesPair lines.old (key_text key.Every) s.now lines.new rest.now) }
+    ensures shorter { IfSome result (λ rest. length rest.now < length s.now) }
+{
+    let (every, rest) = positive(alloc, s)?;
+    if lines.every.is_some() {
+        return None;
+    }
+    lines.every = Some(every);
+    Some(rest)
+}
+
+/// Takes the value of `count`, if no line had one before. Returns the text after it.
+fn take_count<'a>(alloc: Global, lines: &mut FrameLines, s: &'a str) -> Option<&'a str>
+    ensures pair { IfSome result (λ rest. TakesPair lines.old (key_text key.Count) s.now lines.new rest.now) }
+    ensures shorter { IfSome result (λ rest. length rest.now < length s.now) }
+{
+    let (count, rest) = positive(alloc, s)?;
+    if lines.count.is_some() {
+        return None;
+    }
+    lines.count = Some(count);
+    Some(rest)
+}
+
 /// Takes the value of a key, if no line had one before. Returns the text after it.
 fn take_pair<'a>(alloc: Global, lines: &mut FrameLines, name: &str, s: &'a str) -> Option<&'a str>
     ensures pair { IfSome result (λ rest. TakesPair lines.old name.now s.now lines.new rest.now) }
@@ -171,6 +208,10 @@ fn take_pair<'a>(alloc: Global, lines: &mut FrameLines, name: &str, s: &'a str) 
         take_remote(alloc, lines, s)
     } else if name == Key::Extended.text() {
         take_extended(alloc, lines, s)
+    } else if name == Key::Every.text() {
+        take_every(alloc, lines, s)
+    } else if name == Key::Count.text() {
+        take_count(alloc, lines, s)
     } else {
         None
     }
@@ -188,6 +229,8 @@ pub(crate) fn read_frame_lines(alloc: Global, s: &str) -> Option<(FrameLines, &s
         bytes: None,
         ready: None,
         extended: None,
+        every: None,
+        count: None,
     };
     let mut rest = s;
     'lines: loop {
@@ -204,13 +247,27 @@ pub(crate) fn read_frame_lines(alloc: Global, s: &str) -> Option<(FrameLines, &s
     }
 }
 
-/// Returns the frame that its lines say, if they have the keys that have to be there.
-pub(crate) fn frame_of_lines(alloc: Global, lines: FrameLines) -> Option<FrameText>
+/// True if a frame may have these keys: before the version of traffic neither, and later `count` only with `every`.
+fn comes_again_rightly(traffic: bool, every: Option<u64>, count: Option<u64>) -> bool
+    ensures { result ≡ comes_again_rightly traffic every count }
+{
+    if traffic {
+        count.is_none() || every.is_some()
+    } else {
+        count.is_none() && every.is_none()
+    }
+}
+
+/// Returns the frame that its lines say, if they have the keys that have to be there, and no key that the version doesn't know.
+pub(crate) fn frame_of_lines(alloc: Global, traffic: bool, lines: FrameLines) -> Option<FrameText>
     ensures { IfSome result (λ f. (ps : Pairs) → HoldsLines ps lines
-        → HasKeys first_frame_keys ps × (f ≡ frame_of_pairs ps)) }
+        → HasKeys (frame_pair_keys traffic ps) ps × (f ≡ frame_of_pairs ps)) }
 {
     let id = lines.id?;
     let dlc = lines.dlc?;
+    if !comes_again_rightly(traffic, lines.every, lines.count) {
+        return None;
+    }
     Some(FrameText {
         id,
         dlc,
@@ -218,7 +275,7 @@ pub(crate) fn frame_of_lines(alloc: Global, lines: FrameLines) -> Option<FrameTe
         bytes: lines.bytes.unwrap_or(Listed::new(alloc)),
         ready: lines.ready.unwrap_or(0),
         extended: lines.extended.unwrap_or(false),
-        every: None,
-        count: None,
+        every: lines.every,
+        count: lines.count,
     })
 }

@@ -1,10 +1,10 @@
 -- Tables in arrays, a line at a time.
-use Rattle.std.proofs.Common.{◌≡◌, ℕ, false, List, [], ◌∷◌, ◌++◌, map, codes, Option, Some, None, option_map, option_and_then, refl, ap, ◌∙◌, append_assoc, append-nil}
+use Rattle.std.proofs.Common.{◌≡◌, ℕ, false, List, [], ◌∷◌, ◌++◌, map, codes, Option, Some, None, option_map, option_and_then, refl, ap, ◌∙◌, inl, inr, ◌⊎◌, length, arith, append_assoc, append-nil}
 use Rattle.std.specs.List.{AllByRecursion}
 use Rattle.toml.specs.Data.{Items, no_items, push_item, table, same_key}
 use Rattle.toml.specs.Tables.{Nodes, no_nodes, open_array, get_node, insert, replace, close, Edit, along_header, at_key, array_table, redefine, Expression, define, put}
 use Rattle.toml.proofs.NodeLaws.{get_node-insert, replace-insert, along_found, along_append}
-use Rattle.wl_tables.specs.Tables.{Pairs, pair_expression, header_expression, after_lines, puts, nodes_of, IsTable, complete, array_of, with_tables, lines_of_each, table_lines, Group, group_lines, group_nodes, plan_lines, plan_nodes, IsNodeTable, IsTop}
+use Rattle.wl_tables.specs.Tables.{Pairs, pair_expression, header_expression, after_lines, puts, nodes_of, IsTable, complete, array_of, first_value, with_tables, lines_of_each, table_lines, Group, group_lines, group_nodes, plan_lines, plan_nodes, IsNodeTable, IsTop}
 use Rattle.wl_tables.proofs.GoesLemmas.{run_append}
 use Rattle.wl_tables.proofs.TableLemmas.{get_inserted, get_of_table}
 
@@ -100,14 +100,29 @@ run_tables p k around leads (r ∷ rows) h ns base none s =
     let (t, more) = run_tables p k around leads rows h.1 (ns ++ nodes_of r ∷ []) base none (p ++ k ∷ []) in
     (t, run_append _ (table_lines (p, k) r) (lines_of_each (table_lines (p, k)) rows) ∙ rw (run_table p k around leads ns base none s r h.0) (more ∙ rw (append_assoc ns (nodes_of r ∷ []) (map nodes_of rows)) refl))
 
+-- tables of a new key, if there are any
+run_frames : (p : List (List ℕ)) (k : List ℕ) (around : Nodes → Nodes) → Leads p around → (rows : List Pairs) → AllByRecursion IsTable rows → (base : Nodes)
+    → (get_node k base ≡ None) ⊎ (rows ≡ []) → (s : List (List ℕ))
+    → (t : List (List ℕ)) × (after_lines (around base, s) (lines_of_each (table_lines (p, k)) rows) ≡ Some (around (with_tables k (map nodes_of rows) base), t))
+run_frames p k around leads [] h base alone s = (s, refl)
+run_frames p k around leads (r ∷ rows) h base alone s = elim alone [
+  | inl none ↦ run_tables p k around leads (r ∷ rows) h [] base none s
+  | inr nothing ↦ absurd (omega (arith, ap length nothing))
+]
+
+alone : (ps : Pairs) (rows : List Pairs) → IsTable ps → (first_value (codes "frame") ps ≡ None) ⊎ (rows ≡ []) → (get_node (codes "frame") (nodes_of ps) ≡ None) ⊎ (rows ≡ [])
+alone ps rows h either = elim either [
+  | inl none ↦ inl (get_of_table ps (codes "frame") h ∙ rw none refl)
+  | inr nothing ↦ inr nothing
+]
+
 -- a node with its frames
 run_group : (gs : List Nodes) (base : Nodes) → get_node (codes "node") base ≡ None → (s : List (List ℕ)) (g : Group) → IsNodeTable g
     → (t : List (List ℕ)) × (after_lines (with_tables (codes "node") gs base, s) (group_lines g) ≡ Some (with_tables (codes "node") (gs ++ group_nodes g ∷ []) base, t))
 run_group gs base none s g h =
     let done = complete no_items gs in
     let around : Nodes → Nodes = λ x. insert (codes "node") (open_array done x) base in
-    let no_frame : get_node (codes "frame") (nodes_of g.0) ≡ None = get_of_table g.0 (codes "frame") h.0 ∙ rw h.1 refl in
-    let (t, frames) = run_tables (codes "node" ∷ []) (codes "frame") around (leads_last (codes "node") done base) g.1 h.2 [] (nodes_of g.0) no_frame (codes "node" ∷ []) in
+    let (t, frames) = run_frames (codes "node" ∷ []) (codes "frame") around (leads_last (codes "node") done base) g.1 h.2 (nodes_of g.0) (alone g.0 g.1 h.0 h.1) (codes "node" ∷ []) in
     let own = run_table [] (codes "node") (λ x. x) leads_top gs base none s g.0 h.0 in (
       t,
       run_append _ (table_lines ([], codes "node") g.0) (lines_of_each (table_lines (codes "node" ∷ [], codes "frame")) g.1)

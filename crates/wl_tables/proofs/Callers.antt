@@ -1,17 +1,17 @@
 -- What callers cite: texts in pieces, the document of a plan's lines, and what its tables hold.
-use Rattle.std.proofs.Common.{Option, ◌&&◌, ◌≡◌, ℕ, suc, ◌<◌, ◌≤◌, ◌==◌, Bool, true, false, List, [], ◌∷◌, ◌++◌, length, map, Ordering, Less, Equal, Greater, nat_cmp, Some, None, option_map, refl, sym, ap, ◌∙◌, inl, inr, ◌⊎◌, arith}
+use Rattle.std.proofs.Common.{Option, ◌&&◌, ◌≡◌, ℕ, suc, ◌<◌, ◌≤◌, Bool, true, false, List, [], ◌∷◌, ◌++◌, length, map, Ordering, Less, Equal, Greater, nat_cmp, Some, None, option_map, refl, sym, ap, ◌∙◌, inl, inr, ◌⊎◌, arith}
 use Rattle.std.proofs.lemmas.Bool.{and_parts}
 use Rattle.std.proofs.lemmas.Option.{same_Some}
-use Rattle.std.specs.List.{AllByRecursion, list_all}
+use Rattle.std.specs.List.{list_all}
 use Rattle.std.specs.Cmp.Lexicographic.{slice_cmp}
 use Rattle.std.proofs.lemmas.List.{map-append}
-use Rattle.toml_parser.specs.Lexical.{first, skip_blank}
+use Rattle.toml_parser.specs.Lexical.{skip_blank}
 use Rattle.toml.specs.Data.{Members, no_members, member, Data, array, table, Items, no_items, item, push_item, get_member, same_key}
-use Rattle.toml.specs.Tables.{Node, Nodes, no_nodes, node, value, insert, close, close_node, Expression, Document}
-use Rattle.toml.specs.Parse.{line, lines, skip_bom, parse_document}
+use Rattle.toml.specs.Tables.{Node, Nodes, no_nodes, node, value, insert, close, close_node, Expression}
+use Rattle.toml.specs.Parse.{line, skip_bom}
 use Rattle.toml.specs.View.{items_of}
 use Rattle.toml.proofs.Turns.{document_some}
-use Rattle.wl_tables.specs.Tables.{Pairs, pair_expression, Goes, puts, nodes_of, IsTable, first_value, complete, array_of, with_tables, lines_of_each, Group, plan_lines, plan_nodes, IsNodeTable, IsTop, IsOver, PlansAreRead}
+use Rattle.wl_tables.specs.Tables.{Pairs, pair_expression, Goes, puts, nodes_of, IsTable, first_value, complete, array_of, with_tables, lines_of_each, plan_nodes, PlansAreRead}
 use Rattle.wl_tables.proofs.GoesLemmas as goes
 pub use Rattle.wl_tables.proofs.LineLemmas.{line_of_pair}
 pub use Rattle.wl_tables.proofs.TableLemmas.{table_last}

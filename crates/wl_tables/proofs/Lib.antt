@@ -4,3 +4,4 @@ mod NumberLemmas
 mod TableLemmas
 mod ArrayLemmas
 pub mod Callers
+mod MemberLemmas

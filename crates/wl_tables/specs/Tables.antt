@@ -1,10 +1,10 @@
 -- What the lines of a TOML document make of it: pairs in a table, and headers in double brackets (TOML 1.1).
-use Rattle.std.specs.Prelude.{◌≡◌, ◌<◌, ◌≤◌, ℕ, ◌==◌, false, List, [], ◌∷◌, ◌++◌, map, length, codes, if◌then◌else◌, Option, Some, None, option_and_then, unwrap_or}
+use Rattle.std.specs.Prelude.{◌≡◌, ◌⊎◌, ◌<◌, ◌≤◌, ℕ, ◌==◌, false, List, [], ◌∷◌, ◌++◌, map, length, codes, if◌then◌else◌, Option, Some, None, option_and_then, unwrap_or}
 use Rattle.std.specs.List.{AllByRecursion}
 use Rattle.std.specs.Str.{bytes_eq}
 use Rattle.toml_parser.specs.Strings.{Key}
-use Rattle.toml.specs.Data.{Data, Items, no_items, push_item, table}
-use Rattle.toml.specs.Tables.{Node, Nodes, no_nodes, open_array, insert, close, Expression, key_value, array_table, Document, define, put}
+use Rattle.toml.specs.Data.{Data, Items, no_items, push_item, table, Members, no_members, member}
+use Rattle.toml.specs.Tables.{Node, Nodes, no_nodes, node, value, open_array, insert, close, Expression, key_value, array_table, Document, define, put}
 use Rattle.toml_parser.specs.Lexical.{first}
 use Rattle.toml.specs.Parse.{lines, parse_document}
 use Rattle.wl_tables.specs.declared.header.Header.{Header}
@@ -52,6 +52,11 @@ puts (p ∷ ps) ns = option_and_then (puts ps) (put ([], p.0) p.1 ns)
 -- the table of some pairs
 abbrev pub nodes_of : Pairs → Nodes
 nodes_of ps = unwrap_or (puts ps no_nodes) no_nodes
+
+-- the nodes of a table that is complete
+abbrev pub as_nodes : Members → Nodes
+as_nodes no_members = no_nodes
+as_nodes (member k d ms) = node k (value d) (as_nodes ms)
 
 -- no key comes twice
 abbrev pub IsTable : Pairs → Type 0
@@ -106,9 +111,9 @@ plan_nodes top groups rows =
     with_tables (codes "disturbance") (map nodes_of rows)
     (with_tables (codes "node") (map group_nodes groups) (nodes_of top))
 
--- a node whose tables have no key twice, and whose frames are tables
+-- a node whose tables have no key twice, and whose frames are those of its own pair or those below headers
 abbrev pub IsNodeTable : Group → Type 0
-IsNodeTable g = IsTable g.0 × (first_value (codes "frame") g.0 ≡ None) × AllByRecursion IsTable g.1
+IsNodeTable g = IsTable g.0 × ((first_value (codes "frame") g.0 ≡ None) ⊎ (g.1 ≡ [])) × AllByRecursion IsTable g.1
 
 abbrev pub IsTop : Pairs → Type 0
 IsTop top = IsTable top × (first_value (codes "node") top ≡ None) × (first_value (codes "disturbance") top ≡ None)

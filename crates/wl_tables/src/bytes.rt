@@ -41,7 +41,7 @@ fn bytes_after(alloc: Global, s: &str) -> Option<(Vec<u8>, &str)>
             return Some((found, skip(start, 1)));
         }
         let (number, after) = read_number(alloc, start)?;
-        let next = after_element(after)?;
+        let next = after_element(after, b']')?;
         if number > 255 {
             return None;
         }

@@ -6,6 +6,7 @@
 
 mod bytes;
 mod header;
+mod key;
 mod laws;
 mod number;
 mod row;
@@ -13,6 +14,7 @@ mod value;
 
 pub use bytes::{read_bytes, read_number};
 pub use header::{Header, is_over, pass_header};
+pub use key::key_equals;
 pub use laws::plans_are_read;
-pub use row::{Pair, Row, ends_line, key_equals, read_row};
+pub use row::{Pair, Row, ends_line, read_row};
 pub use value::read_value;

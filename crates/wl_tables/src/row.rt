@@ -1,17 +1,16 @@
 //! The pairs of a table.
 ghost use Rattle.std.specs.Prelude.{◌≡◌, ◌<◌, true, [], length, map, Some, IfSome, option_map};
-ghost use Rattle.std.specs.List.{prefix_len};
-ghost use Rattle.toml_parser.specs.Lexical.{first, is_bare, skip_ws};
+ghost use Rattle.toml_parser.specs.Lexical.{skip_ws};
 ghost use Rattle.toml.specs.View.{view};
 ghost use Rattle.toml.specs.Parse as spec;
 ghost use Rattle.wl_tables.specs.Tables.{pair_expression, Goes, IsTable, first_value};
 ghost use Rattle.wl_tables.specs.Rows.{pair_view, pairs_of};
 
+use crate::key::key_equals;
 use crate::value::read_value;
 use std::alloc::Global;
 use toml::Value;
-use toml_parser::bytes::is_bare;
-use toml_parser::text::{first, skip, skip_blank, skip_ws};
+use toml_parser::text::{first, skip_blank, skip_ws};
 
 /// A key without quotes and dots, and its value.
 #[derive(Drop)]
@@ -24,31 +23,6 @@ pub struct Pair<'a> {
 #[derive(Drop)]
 pub struct Row<'a> {
     pairs: Vec<Pair<'a>>,
-}
-
-/// Returns how many bytes at the front are those of a key without quotes and dots.
-fn bare_len(bytes: &[u8]) -> usize
-    ensures { result ≡ prefix_len is_bare bytes.now }
-{
-    bytes.iter().take_while(|b| is_bare(**b)).count()
-}
-
-/// Returns the key at the front, which has no quotes and no dots, and the text after its `=`.
-pub fn key_equals(s: &str) -> Option<(&str, &str)>
-    ensures key { IfSome result (λ r. spec.key_equals s.now ≡ Some (([], r.0.now), r.1.now)) }
-    ensures bare { IfSome result (λ r. is_bare (first s.now) ≡ true) }
-    ensures shorter { IfSome result (λ r. length r.1.now < length s.now) }
-{
-    let len = bare_len(s.as_bytes());
-    if len == 0 {
-        return None;
-    }
-    let (key, after) = s.split_at(len);
-    let rest = skip_ws(after);
-    if first(rest) != b'=' {
-        return None;
-    }
-    Some((key, skip_ws(skip(rest, 1))))
 }
 
 /// True if nothing but white space or a comment is left of the line.

@@ -1,15 +1,18 @@
-//! Values: strings, what is written with no quote and no bracket, and arrays of these.
-ghost use Rattle.std.specs.Prelude.{◌≡◌, ℕ, ◌<◌, ◌≤◌, length, Some, IfSome};
+//! Values: strings, what is written with no quote and no bracket, arrays, and inline tables whose keys have no quotes and no dots.
+ghost use Rattle.std.specs.Prelude.{◌≡◌, ℕ, ◌<◌, ◌≤◌, [], length, Some, IfSome};
 ghost use Rattle.toml_parser.specs.Strings.{recursion_limit};
 ghost use Rattle.toml.specs.Data.{no_items};
-ghost use Rattle.toml.specs.View.{view, array_view};
+ghost use Rattle.toml.specs.Tables.{no_nodes, put};
+ghost use Rattle.toml.specs.View.{view, array_view, table_view};
 ghost use Rattle.toml.specs.Parse as spec;
+ghost use Rattle.wl_tables.specs.Tables.{as_nodes};
 
+use crate::key::key_equals;
 use crate::number::plain_number;
 use std::alloc::Global;
-use toml::Value;
+use toml::{Table, Value};
 use toml_parser::text::{first, skip, skip_blank};
-use toml_parser::{Scalar, quoted, starts_string, unquoted};
+use toml_parser::{RECURSION_LIMIT, Scalar, quoted, starts_string, unquoted};
 
 fn scalar_value(scalar: Scalar) -> Value
     ensures { view result ≡ spec.scalar_data scalar }
@@ -53,15 +56,15 @@ pub(crate) fn flat_value(alloc: Global, s: &str) -> Option<(Value, &str)>
     atom(alloc, s)
 }
 
-/// Returns the text after a comma, or at the closing bracket of an array.
-pub(crate) fn after_element(s: &str) -> Option<&str>
-    ensures value { IfSome result (λ rest. spec.after_element 93 s.now ≡ Some rest.now) }
+/// Returns the text after a comma, or at the closing bracket.
+pub(crate) fn after_element(s: &str, closing: u8) -> Option<&str>
+    ensures value { IfSome result (λ rest. spec.after_element closing s.now ≡ Some rest.now) }
     ensures within { IfSome result (λ rest. length rest.now ≤ length s.now) }
 {
     let rest = skip_blank(s, true);
     if first(rest) == b',' {
         Some(skip(rest, 1))
-    } else if first(rest) == b']' {
+    } else if first(rest) == closing {
         Some(rest)
     } else {
         None
@@ -69,8 +72,9 @@ pub(crate) fn after_element(s: &str) -> Option<&str>
 }
 
 /// Returns the elements of an array after its opening bracket, and the text after its closing one.
-fn array(alloc: Global, s: &str) -> Option<(Vec<Value>, &str)>
-    ensures value { (depth n : ℕ) → length s.now < n
+#[cycle(value)]
+fn array(alloc: Global, s: &str, depth: usize) -> Option<(Vec<Value>, &str)>
+    ensures value { (n : ℕ) → length s.now < n
         → IfSome result (λ r. spec.items (spec.val depth) n no_items s.now ≡ Some (array_view r.0, r.1.now)) }
     ensures shorter { IfSome result (λ r. length r.1.now < length s.now) }
 {
@@ -81,8 +85,8 @@ fn array(alloc: Global, s: &str) -> Option<(Vec<Value>, &str)>
         if first(start) == b']' {
             return Some((found, skip(start, 1)));
         }
-        let (item, after) = flat_value(alloc, start)?;
-        let next = after_element(after)?;
+        let (item, after) = value(alloc, start, depth)?;
+        let next = after_element(after, b']')?;
         match found.push(item) {
             Ok(()) => rest = next,
             Err(_) => return None,
@@ -90,14 +94,71 @@ fn array(alloc: Global, s: &str) -> Option<(Vec<Value>, &str)>
     }
 }
 
-/// Returns the value at the front, which holds no array in an array and no table, and the text after it.
+/// Adds a member with a new key. Returns nothing if the table has one with this key.
+fn add(alloc: Global, table: &mut Table, key: &str, member: Value) -> Option<()>
+    ensures { IfSome result (λ _. put ([], key.now) (view member) (as_nodes (table_view table.old))
+        ≡ Some (as_nodes (table_view table.new))) }
+{
+    if table.get(key).is_some() {
+        return None;
+    }
+    let Ok(key) = String::from_str(alloc, key) else {
+        return None;
+    };
+    match table.insert(key, member) {
+        Ok(_) => Some(()),
+        Err(_) => None,
+    }
+}
+
+/// Returns the members of an inline table after its opening brace, and the text after its closing one.
+#[cycle(value)]
+fn inline_table(alloc: Global, s: &str, depth: usize) -> Option<(Table, &str)>
+    ensures value { (n : ℕ) → length s.now < n
+        → IfSome result (λ r. spec.members (spec.val depth) n no_nodes s.now ≡ Some (table_view r.0, r.1.now)) }
+    ensures shorter { IfSome result (λ r. length r.1.now < length s.now) }
+{
+    let mut found = Table::new(alloc);
+    let mut rest = s;
+    'members: loop {
+        let start = skip_blank(rest, true);
+        if first(start) == b'}' {
+            return Some((found, skip(start, 1)));
+        }
+        let (key, at_value) = key_equals(start)?;
+        let (member, after) = value(alloc, at_value, depth)?;
+        let next = after_element(after, b'}')?;
+        add(alloc, &mut found, key, member)?;
+        rest = next;
+    }
+}
+
+/// Returns the value at the front, with arrays and inline tables at most this deep, and the text after it.
+#[cycle(value)]
+fn value(alloc: Global, s: &str, depth: usize) -> Option<(Value, &str)>
+    ensures value { IfSome result (λ r. spec.val depth s.now ≡ Some (view r.0, r.1.now)) }
+    ensures shorter { IfSome result (λ r. length r.1.now < length s.now) }
+{
+    let byte = first(s);
+    if byte != b'[' && byte != b'{' {
+        return atom(alloc, s);
+    }
+    if depth == 0 {
+        return None;
+    }
+    if byte == b'[' {
+        let (items, rest) = array(alloc, skip(s, 1), depth - 1)?;
+        Some((Value::Array(items), rest))
+    } else {
+        let (members, rest) = inline_table(alloc, skip(s, 1), depth - 1)?;
+        Some((Value::Table(members), rest))
+    }
+}
+
+/// Returns the value at the front, and the text after it.
 pub fn read_value(alloc: Global, s: &str) -> Option<(Value, &str)>
     ensures value { IfSome result (λ r. spec.val recursion_limit s.now ≡ Some (view r.0, r.1.now)) }
     ensures shorter { IfSome result (λ r. length r.1.now < length s.now) }
 {
-    if first(s) == b'[' {
-        let (items, rest) = array(alloc, skip(s, 1))?;
-        return Some((Value::Array(items), rest));
-    }
-    flat_value(alloc, s)
+    value(alloc, s, RECURSION_LIMIT)
 }

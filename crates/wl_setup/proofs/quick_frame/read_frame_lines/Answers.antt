@@ -4,7 +4,7 @@ use Rattle.wl_setup.proofs.quick_frame.read_frame_lines.Goals as goal
 
 pub lines-init : goal.lines-init
 lines-init c =
-    (search rules, le_refl _, ([], goes_none c.args.s.now, refl, record { id = refl; dlc = refl; remote = refl; bytes = refl; ready = refl; extended = refl; known = refl }))
+    (search rules, le_refl _, ([], goes_none c.args.s.now, refl, record { id = refl; dlc = refl; remote = refl; bytes = refl; ready = refl; extended = refl; every = refl; count = refl; known = refl }))
 
 pub lines-preserved : goal.lines-preserved
 lines-preserved c =

@@ -11,6 +11,11 @@ use Rattle.wl_setup.proofs.quick_frame.take_pair.Goals as goal
 named : (name text : List ℕ) (k : Key) (same : Bool) → same ≡ bytes_eq name text → same ≡ true → text ≡ key_text k → key_text k ≡ name
 named name text k same is holds written = sym ((bytes_eq-Decides name text).0 (sym is ∙ holds) ∙ written)
 
+pub returns-then-eq-clause-pair : goal.returns-then-eq-clause-pair
+returns-then-eq-clause-pair c =
+    subst (λ n. IfSome c.take_id.result (λ rest. TakesPair c.args.lines.now n c.args.s.now c.take_id.new.lines rest.now))
+    (named c.args.name.now c.text.result.now key.Id c.eq.result c.eq.ensures c.if-eq.true c.text.ensures) c.take_id.ensures.pair
+
 pub returns-then-eq-2-clause-pair : goal.returns-then-eq-2-clause-pair
 returns-then-eq-2-clause-pair c =
     subst (λ n. IfSome c.take_dlc.result (λ rest. TakesPair c.args.lines.now n c.args.s.now c.take_dlc.new.lines rest.now))
@@ -35,3 +40,13 @@ pub returns-then-eq-6-clause-pair : goal.returns-then-eq-6-clause-pair
 returns-then-eq-6-clause-pair c =
     subst (λ n. IfSome c.take_extended.result (λ rest. TakesPair c.args.lines.now n c.args.s.now c.take_extended.new.lines rest.now))
     (named c.args.name.now c.text-else-eq-5.result.now key.Extended c.eq-else-eq-5.result c.eq-else-eq-5.ensures c.if-eq-6.true c.text-else-eq-5.ensures) c.take_extended.ensures.pair
+
+pub returns-then-eq-7-clause-pair : goal.returns-then-eq-7-clause-pair
+returns-then-eq-7-clause-pair c =
+    subst (λ n. IfSome c.take_every.result (λ rest. TakesPair c.args.lines.now n c.args.s.now c.take_every.new.lines rest.now))
+    (named c.args.name.now c.text-else-eq-6.result.now key.Every c.eq-else-eq-6.result c.eq-else-eq-6.ensures c.if-eq-7.true c.text-else-eq-6.ensures) c.take_every.ensures.pair
+
+pub returns-then-eq-8-clause-pair : goal.returns-then-eq-8-clause-pair
+returns-then-eq-8-clause-pair c =
+    subst (λ n. IfSome c.take_count.result (λ rest. TakesPair c.args.lines.now n c.args.s.now c.take_count.new.lines rest.now))
+    (named c.args.name.now c.text-else-eq-7.result.now key.Count c.eq-else-eq-7.result c.eq-else-eq-7.ensures c.if-eq-8.true c.text-else-eq-7.ensures) c.take_count.ensures.pair

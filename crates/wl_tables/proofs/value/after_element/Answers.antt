@@ -6,6 +6,6 @@ pub returns-then-first-eq44-clause-value : goal.returns-then-first-eq44-clause-v
 unfolding after_element
 returns-then-first-eq44-clause-value c = search rules
 
-pub returns-then-first-eq93-clause-value : goal.returns-then-first-eq93-clause-value
+pub returns-then-first-closing-clause-value : goal.returns-then-first-closing-clause-value
 unfolding after_element
-returns-then-first-eq93-clause-value c = search rules
+returns-then-first-closing-clause-value c = search rules

@@ -1,10 +1,11 @@
-use Rattle.std.proofs.Common.{◌∙◌}
-use Rattle.wl_setup.specs.Quick.{first_frame_keys}
-use Rattle.wl_setup.proofs.QuickLemmas.{fits_table, frame_same}
+use Rattle.std.proofs.Common.{◌≡◌, Bool, sym, ◌∙◌, subst}
+use Rattle.wl_tables.specs.Tables.{Pairs}
+use Rattle.wl_setup.specs.Quick.{HasKeys, frame_pair_keys}
+use Rattle.wl_setup.proofs.QuickLemmas.{frame_fits, frame_same}
 use Rattle.wl_setup.proofs.quick.FrameTextQuickTable.read.Goals as goal
 
 pub returns-clause-table : goal.returns-clause-table
 returns-clause-table c =
     let (ps, goes, table, holds) = c.in_ok-lines.ensures.lines in
-    let (fit, same) = c.in_ok-frame.ensures ps holds in
-    (ps, goes, table, fits_table ps table first_frame_keys fit, same ∙ frame_same ps table fit)
+    let (keys, same) = c.in_ok-frame.ensures ps holds in
+    (ps, goes, table, frame_fits ps table c.args.version (subst (λ b. HasKeys (frame_pair_keys b ps) ps) c.has_traffic.ensures keys), same ∙ frame_same ps table)

@@ -5,7 +5,7 @@ use Rattle.std.specs.List.{prefix_len}
 use Rattle.toml_parser.specs.Lexical.{is_bare, skip_ws}
 use Rattle.toml_parser.proofs.LexicalLemmas.{IsCharBoundary-ascii_run}
 use Rattle.wl_tables.proofs.LineLemmas.{first_bare, bare_key_equals}
-use Rattle.wl_tables.proofs.row.key_equals.Goals as goal
+use Rattle.wl_tables.proofs.key.key_equals.Goals as goal
 
 pub split_at-requires : goal.split_at-requires
 split_at-requires c =
