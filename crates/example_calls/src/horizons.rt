@@ -10,22 +10,62 @@ use wl_record_core::Record;
 use wl_replica::Replica;
 use wl_topology::{Place, Topology};
 
-/// What a replica knows of node 0.
-#[derive(Drop)]
-pub struct KnownNode {
-    /// The changes that are known without a gap.
-    pub run_length: u32,
-    /// The tick below which the node's level is known.
-    pub horizon: u64,
-    /// The level at tick 15, which is below the horizon.
-    pub is_dominant_at_15: bool,
-    /// How many intervals of its wave end after tick 15.
-    pub intervals_after_15: usize,
-    /// What it finds at tick 16 on a line of its own, on which a level takes a tick.
-    pub found_at_16: Level,
+/// A change at tick 10, the next at tick 20, and silence after these two up to tick 50.
+const RECORDS: [Record; 3] = [
+    Record::Edge {
+        node: 0,
+        seq: 0,
+        tick: 10,
+    },
+    Record::Edge {
+        node: 0,
+        seq: 1,
+        tick: 20,
+    },
+    Record::Silence {
+        node: 0,
+        count: 2,
+        until: 50,
+    },
+];
+
+/// Writes what a replica that took these records knows of node 0.
+pub fn tell(alloc: Global, out: &mut String) -> Result<()> {
+    let replica = replica_of(alloc, 1, &RECORDS)?;
+    tell_horizon(&replica, out)?;
+    tell_wave(alloc, &replica, out)?;
+    let found = found_at_16(&replica)?.is_dominant();
+    writeln!(out, "at tick 16 it finds the line dominant: {found}")?;
+    Ok(())
 }
 
-/// Returns what node 0 finds at tick 16, if that is known.
+/// Writes how many changes are known without a gap, and the tick below which the node's level is known.
+fn tell_horizon(replica: &Replica, out: &mut String) -> Result<()>
+    requires { replica.now.nodes ≡ 1 }
+{
+    let (changes, horizon) = (replica.run_length(0), replica.horizon(0));
+    writeln!(
+        out,
+        "node 0: {changes} changes in order, known below tick {horizon}"
+    )?;
+    Ok(())
+}
+
+/// Writes the level at tick 15, which is below the horizon, and how many intervals of the node's wave end after that tick.
+fn tell_wave(alloc: Global, replica: &Replica, out: &mut String) -> Result<()>
+    requires { replica.now.nodes ≡ 1 }
+{
+    let is_dominant = replica.wave(alloc, 0)?.at(15).is_dominant();
+    writeln!(out, "at tick 15 it drives dominant: {is_dominant}")?;
+    let intervals = replica.wave_after(alloc, 0, 15)?.as_slice().len();
+    writeln!(
+        out,
+        "intervals of its wave that end after tick 15: {intervals}"
+    )?;
+    Ok(())
+}
+
+/// Returns what node 0 finds at tick 16 on a line of its own, on which a level takes a tick, if that is known.
 fn found_at_16(replica: &Replica) -> Result<Level>
     requires { replica.now.nodes ≡ 1 }
 {
@@ -40,34 +80,4 @@ fn found_at_16(replica: &Replica) -> Result<Level>
         bail!("a line that is known up to tick 16");
     }
     Ok(replica.seen(&topology, 0, 16))
-}
-
-/// Asks a replica that knows a change at tick 10, the next at tick 20, and silence after these two up to tick 50.
-pub fn known(alloc: Global) -> Result<KnownNode> {
-    let records = [
-        Record::Edge {
-            node: 0,
-            seq: 0,
-            tick: 10,
-        },
-        Record::Edge {
-            node: 0,
-            seq: 1,
-            tick: 20,
-        },
-        Record::Silence {
-            node: 0,
-            count: 2,
-            until: 50,
-        },
-    ];
-    let replica = replica_of(alloc, 1, &records)?;
-    let wave = replica.wave(alloc, 0)?;
-    Ok(KnownNode {
-        run_length: replica.run_length(0),
-        horizon: replica.horizon(0),
-        is_dominant_at_15: wave.at(15).is_dominant(),
-        intervals_after_15: replica.wave_after(alloc, 0, 15)?.as_slice().len(),
-        found_at_16: found_at_16(&replica)?,
-    })
 }

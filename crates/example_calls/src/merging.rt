@@ -49,9 +49,17 @@ pub fn replica_of(alloc: Global, nodes: u8, records: &[Record]) -> Result<Replic
 }
 
 /// Returns what both know, each record once and in order.
-pub fn merged(alloc: Global) -> Result<Vec<Record>> {
+fn merged(alloc: Global) -> Result<Vec<Record>> {
     let mut all = replica_of(alloc, 1, &FIRST)?;
     let other = replica_of(alloc, 1, &SECOND)?;
     all.join(&other)?;
     Ok(all.canonical(alloc)?)
+}
+
+/// Writes what both know.
+pub fn tell(alloc: Global, out: &mut String) -> Result<()> {
+    for record in merged(alloc)?.as_slice() {
+        writeln!(out, "{record}")?;
+    }
+    Ok(())
 }

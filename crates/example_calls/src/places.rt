@@ -22,8 +22,35 @@ fn topology() -> Result<Topology> {
     Ok(Topology::new(&[near, far], 1).context("two places")?)
 }
 
+/// Writes up to which tick the lines at the places are known, with node 1 still up to this tick, and what nodes find at ticks.
+pub fn tell(alloc: Global, still: u64, asked: &[(u8, u64)], out: &mut String) -> Result<()> {
+    let replica = two_known(alloc, still)?;
+    tell_horizons(&replica, still, out)?;
+    for (node, tick) in asked {
+        let is_dominant = found(&replica, *node, *tick)?.is_dominant();
+        writeln!(
+            out,
+            "at tick {tick} node {node} finds the line dominant: {is_dominant}"
+        )?;
+    }
+    Ok(())
+}
+
+/// Writes up to which tick the lines at both places are known.
+fn tell_horizons(replica: &Replica, still: u64, out: &mut String) -> Result<()>
+    requires { replica.now.nodes ≡ 2 }
+{
+    let (first, second) = (known_until(replica, 0)?, known_until(replica, 1)?);
+    write!(out, "with node 1 still up to {still}: ")?;
+    writeln!(
+        out,
+        "the lines at the places are known below {first} and {second}"
+    )?;
+    Ok(())
+}
+
 /// Returns the tick up to which the line at node j's place is known.
-pub fn known_until(replica: &Replica, j: u8) -> Result<u64>
+fn known_until(replica: &Replica, j: u8) -> Result<u64>
     requires { replica.now.nodes ≡ 2 }
 {
     let topology = topology()?;
@@ -34,7 +61,7 @@ pub fn known_until(replica: &Replica, j: u8) -> Result<u64>
 }
 
 /// Returns what node j finds at tick t, if that is known.
-pub fn found(replica: &Replica, j: u8, t: u64) -> Result<Level>
+fn found(replica: &Replica, j: u8, t: u64) -> Result<Level>
     requires { replica.now.nodes ≡ 2 }
 {
     let topology = topology()?;
@@ -46,7 +73,7 @@ pub fn found(replica: &Replica, j: u8, t: u64) -> Result<Level>
 
 /// Returns a replica that knows this: node 0 changes at tick 100 and not again before 150; an edge after a gap and a silence after it say
 /// nothing yet. Node 1 keeps still up to this tick.
-pub fn two_known(alloc: Global, still: u64) -> Result<Replica>
+fn two_known(alloc: Global, still: u64) -> Result<Replica>
     ensures nodes { IfOk result (λ replica. replica.nodes ≡ 2) }
 {
     replica_of(

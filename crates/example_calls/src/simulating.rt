@@ -31,44 +31,58 @@ fn place(x: u32) -> Place {
     }
 }
 
-/// Returns two nodes 50 ticks apart. The first sends a frame of identifier 0, from its first quantum on; the second only listens.
-fn plan(alloc: Global) -> Result<Plan> {
+/// Returns a frame of identifier 0, to be sent from the first quantum on.
+fn first_frame() -> Result<Queued> {
+    let frame = Frame::base(0, false, 0, &[]).context("an empty frame")?;
+    Ok(Queued { frame, ready: 0 })
+}
+
+/// Returns two nodes: the first sends that frame, the second only listens.
+fn nodes(alloc: Global) -> Result<Listed<NodeSetup>> {
     let mut queue: Queue = Listed::new(alloc);
-    queue.push(Queued {
-        frame: Frame::base(0, false, 0, &[]).context("an empty frame")?,
-        ready: 0,
-    })?;
+    queue.push(first_frame()?)?;
     let mut nodes = Listed::new(alloc);
     nodes.push(node(queue)?)?;
     nodes.push(node(Listed::new(alloc))?)?;
+    Ok(nodes)
+}
+
+/// Returns a plan of these two nodes at some places.
+fn plan(alloc: Global, places: &[Place]) -> Result<Plan> {
+    let topology = Topology::new(places, 1).context("a cable")?;
     Ok(Plan {
-        nodes,
-        topology: Topology::new(&[place(0), place(50)], 1).context("two places")?,
+        nodes: nodes(alloc)?,
+        topology,
         disturbances: Listed::new(alloc),
         end: 70_000,
     })
 }
 
-/// Returns what refuses that plan with one place, which no plan text can ask for.
-pub fn one_place(alloc: Global) -> Result<String> {
-    let mut plan = plan(alloc)?;
-    plan.topology = Topology::new(&[place(0)], 1).context("a place")?;
-    match plan.check() {
+/// Returns what refuses the plan with one place, which no plan text can ask for.
+fn one_place(alloc: Global) -> Result<String> {
+    match plan(alloc, &[place(0)])?.check() {
         Ok(()) => bail!("two nodes at one place"),
         Err(fault) => Ok(fault.to_string(alloc)?),
     }
 }
 
-/// What is made of a simulation.
-#[derive(Drop)]
-pub struct Simulated {
-    /// The report.
-    pub report: String,
-    /// How many records say when each node changed its drive, and that it didn't after that.
-    pub records: usize,
+/// Returns the simulation of the plan with its two places, which are 50 ticks apart. `run_serial` owes an answer for a plan that passed its
+/// check, and for no other.
+fn simulated(alloc: Global) -> Result<Outcome> {
+    let plan = plan(alloc, &[place(0), place(50)])?;
+    plan.check().context("a plan that can be run")?;
+    Ok(run_serial(alloc, &plan)?)
 }
 
-/// Returns how many records an outcome has. `records_of` asks for one that records can tell, and `recordable` is the test.
+/// Returns the report of an outcome.
+fn report_of(alloc: Global, outcome: &Outcome) -> Result<String> {
+    String::from_utf8(report(alloc, outcome)?)
+        .ok()
+        .context("reports are letters and digits")
+}
+
+/// Returns how many records say when each node changed its drive, and that it didn't after that. `records_of` asks for an outcome that
+/// records can tell, and `recordable` is the test.
 fn record_count(alloc: Global, outcome: &Outcome) -> Result<usize> {
     if !outcome.recordable() {
         bail!("an outcome that records can tell");
@@ -76,16 +90,16 @@ fn record_count(alloc: Global, outcome: &Outcome) -> Result<usize> {
     Ok(records_of(alloc, outcome)?.len())
 }
 
-/// Returns the report of the plan's simulation, and the number of its records. `run_serial` owes an answer for a plan that passed its
-/// check, and for no other.
-pub fn two_nodes(alloc: Global) -> Result<Simulated> {
-    let plan = plan(alloc)?;
-    plan.check().context("a plan that can be run")?;
-    let outcome = run_serial(alloc, &plan)?;
-    let records = record_count(alloc, &outcome)?;
-    let text = report(alloc, &outcome)?;
-    let report = String::from_utf8(text)
-        .ok()
-        .context("reports are letters and digits")?;
-    Ok(Simulated { report, records })
+/// Writes the report of the plan's simulation, the number of its records, and what refuses the plan with one place.
+pub fn tell(alloc: Global, out: &mut String) -> Result<()> {
+    let outcome = simulated(alloc)?;
+    writeln!(out, "{}", report_of(alloc, &outcome)?.as_str())?;
+    writeln!(out, "records of it: {}", record_count(alloc, &outcome)?)?;
+    let refusal = one_place(alloc)?;
+    writeln!(
+        out,
+        "with one place for its two nodes: {}",
+        refusal.as_str()
+    )?;
+    Ok(())
 }

@@ -1,59 +1,86 @@
 //! Frames: `frame`, `crc`, `bits` and `stuffed`, then `data` or `remote`, identifier in hexadecimal (eight digits: extended), data length
 //! code, and bytes in hexadecimal; `same_frames` and two of them with `is` between; and lists of bits: `stuff`, `register`, `read` and `arbitration`.
 
-use crate::words::{Stop, Told, hexadecimal, levels, write_levels};
+use crate::answer::{Answer, after, word};
 use std::alloc::Global;
 use wl_frame::checksum::crc15;
 use wl_frame::frame::{Frame, FrameFault};
 use wl_frame::{places, stuffing};
 use wl_level::Level;
 
-pub fn tell(alloc: Global, subject: &str, words: &[&str], out: &mut String) -> Told {
-    let frame = match made(alloc, words)? {
-        Ok(frame) => frame,
-        Err(fault) => return Ok(write!(out, "{fault}")?),
-    };
-    let bits = frame.bits();
-    let read = Frame::from_bits(bits.as_slice());
+/// True if the subject is one of this module's.
+pub fn tell(alloc: Global, subject: &str, words: &[&str], answer: &mut Answer) -> bool {
     match subject {
-        "frame" if read != frame => Ok(out.push_str("otherwise read")?),
-        "frame" => write_frame(out, &read),
-        "crc" => {
-            let covered = bits.as_slice().len().saturating_sub(15);
-            let crc = crc15(&bits.as_slice()[..covered]);
-            Ok(write!(out, "{crc:04x}")?)
+        "frame" | "crc" | "bits" | "stuffed" => match made(alloc, words, answer) {
+            Ok(frame) => tell_of(&frame, subject, answer),
+            Err(fault) => answer.show(&fault),
+        },
+        "same_frames" => tell_same(alloc, words, answer),
+        "stuff" | "register" | "read" | "arbitration" => {
+            let levels = answer.levels_of(alloc, words);
+            tell_bits(subject, levels.as_slice(), answer);
         }
-        "bits" => write_levels(out, bits.as_slice()),
-        _ => write_levels(out, frame.stuffed().as_slice()),
+        _ => return false,
+    }
+    true
+}
+
+/// Writes what is asked of a frame.
+fn tell_of(frame: &Frame, subject: &str, answer: &mut Answer) {
+    match subject {
+        "frame" => tell_frame(frame, answer),
+        "crc" => tell_crc(frame.bits().as_slice(), answer),
+        "bits" => answer.levels(frame.bits().as_slice()),
+        _ => answer.levels(frame.stuffed().as_slice()),
     }
 }
 
-/// Returns whether two frames, with `is` between them, are the same.
-pub fn tell_same(alloc: Global, words: &[&str], out: &mut String) -> Told {
-    let place = words.iter().position(|w| *w == "is").ok_or(Stop::Unread)?;
-    let (first, second) = words.split_at_checked(place).ok_or(Stop::Unread)?;
-    let [_, second @ ..] = second else {
-        return Err(Stop::Unread);
-    };
-    let is_same = made(alloc, first)? == made(alloc, second)?;
-    Ok(write!(out, "{is_same}")?)
+/// Writes a frame as it is read from its bits.
+fn tell_frame(frame: &Frame, answer: &mut Answer) {
+    let read = Frame::from_bits(frame.bits().as_slice());
+    if read == *frame {
+        show_frame(&read, answer);
+    } else {
+        answer.say("otherwise read");
+    }
+}
+
+/// Writes the CRC sequence of what comes before it.
+fn tell_crc(bits: &[Level], answer: &mut Answer) {
+    let covered = bits.len().saturating_sub(15);
+    answer.hexadecimal(crc15(&bits[..covered]));
+}
+
+/// Writes whether two frames, with `is` between them, are the same.
+fn tell_same(alloc: Global, words: &[&str], answer: &mut Answer) {
+    let place = words.iter().position(|w| *w == "is").unwrap_or(words.len());
+    let (first, second) = words.split_at_checked(place).unwrap_or((words, &[]));
+    let first = made(alloc, first, answer);
+    let is_same = first == made(alloc, after(second, 1), answer);
+    answer.show(&is_same);
 }
 
 /// Returns the frame that words say, or why there is none.
-pub fn made(alloc: Global, words: &[&str]) -> Result<Result<Frame, FrameFault>, Stop> {
-    let [kind, id, dlc, rest @ ..] = words else {
-        return Err(Stop::Unread);
-    };
-    let remote = match *kind {
+fn made(alloc: Global, words: &[&str], answer: &mut Answer) -> Result<Frame, FrameFault> {
+    let remote = is_remote(word(words, 0), answer);
+    let dlc = answer.read(word(words, 2).parse::<u32>());
+    let mut bytes: Vec<u8> = Vec::new(alloc);
+    for word in after(words, 3) {
+        let byte = answer.read(u8::from_str_radix(word, 16));
+        answer.add(&mut bytes, byte, 1);
+    }
+    frame_of(word(words, 1), remote, dlc, bytes.as_slice(), answer)
+}
+
+fn is_remote(word: &str, answer: &mut Answer) -> bool {
+    match word {
         "data" => false,
         "remote" => true,
-        _ => return Err(Stop::Unread),
-    };
-    let mut bytes: Vec<u8> = Vec::new(alloc);
-    for word in rest {
-        bytes.push(u8::from_str_radix(word, 16)?)?;
+        _ => {
+            answer.unread();
+            false
+        }
     }
-    frame_of(id, remote, dlc.parse::<u32>()?, bytes.as_slice())
 }
 
 /// Returns the frame of an identifier as it is written: one of eight digits is extended, as logs of frames have it.
@@ -62,75 +89,66 @@ pub fn frame_of(
     remote: bool,
     dlc: u32,
     bytes: &[u8],
-) -> Result<Result<Frame, FrameFault>, Stop> {
-    let number = hexadecimal(id)?;
-    Ok(if id.len() == 8 {
+    answer: &mut Answer,
+) -> Result<Frame, FrameFault> {
+    let number = answer.read(u32::from_str_radix(id, 16));
+    if id.len() == 8 {
         Frame::extended(number, remote, dlc, bytes)
     } else {
         Frame::base(number, remote, dlc, bytes)
-    })
-}
-
-/// Writes the identifier of a frame: three digits, or eight if it is extended.
-pub fn write_id(out: &mut String, frame: &Frame) -> Told {
-    if frame.is_extended() {
-        Ok(write!(out, "{:08x}", frame.id())?)
-    } else {
-        Ok(write!(out, "{:03x}", frame.id())?)
     }
 }
 
 /// Writes kind, identifier, data length code and bytes.
-pub fn write_frame(out: &mut String, frame: &Frame) -> Told {
-    let kind = if frame.remote() { "remote" } else { "data" };
-    write!(out, "{kind} ")?;
-    write_id(out, frame)?;
-    write!(out, " {} ", frame.dlc())?;
+pub fn show_frame(frame: &Frame, answer: &mut Answer) {
+    answer.say(if frame.remote() { "remote " } else { "data " });
+    answer.identifier(frame);
+    answer.say(" ");
+    answer.show(&frame.dlc());
     for byte in frame.bytes() {
-        write!(out, "{byte:02x} ")?;
+        answer.byte(*byte);
     }
-    Ok(())
 }
 
-pub fn tell_bits(alloc: Global, subject: &str, words: &[&str], out: &mut String) -> Told {
-    let levels = levels(alloc, words)?;
-    let bits = levels.as_slice();
+/// Writes what is asked of bits.
+fn tell_bits(subject: &str, bits: &[Level], answer: &mut Answer) {
     match subject {
-        "stuff" => {
-            if bits.len() > 128 {
-                return Err(Stop::Unread);
-            }
-            write_levels(out, stuffing::stuff(bits).as_slice())
-        }
-        "register" => Ok(write!(out, "{:04x}", crc15(bits))?),
-        "read" => read(bits, out),
-        _ => arbitration(bits, out),
+        "stuff" => stuff(bits, answer),
+        "register" => answer.hexadecimal(crc15(bits)),
+        "read" => read(bits, answer),
+        _ => arbitration(bits, answer),
     }
 }
 
-/// Returns the first front that is a whole frame, whether its CRC sequence is right, and what it says.
-fn read(bits: &[Level], out: &mut String) -> Told {
-    for count in 0..bits.len() {
-        if places::is_whole(&bits[..count]) {
-            return Ok(write!(out, "whole at {count} of {}", bits.len())?);
-        }
+fn stuff(bits: &[Level], answer: &mut Answer) {
+    if bits.len() > 128 {
+        answer.unread();
+    } else {
+        answer.levels(stuffing::stuff(bits).as_slice());
     }
-    if !places::is_whole(bits) {
-        return Ok(out.push_str("not whole")?);
-    }
-    if !places::is_crc_right(bits) {
-        return Ok(out.push_str("wrong crc")?);
-    }
-    write_frame(out, &Frame::from_bits(bits))
 }
 
-/// Returns the place of the RTR bit, and the places at which a sender may lose.
-fn arbitration(bits: &[Level], out: &mut String) -> Told {
-    write!(out, "rtr {} loses", places::rtr_place(bits))?;
+/// Writes the first front that is a whole frame, whether its CRC sequence is right, and what it says.
+fn read(bits: &[Level], answer: &mut Answer) {
+    if let Some(count) = (0..bits.len()).find(|count| places::is_whole(&bits[..*count])) {
+        answer.name("whole at", &count);
+        answer.name("of", &bits.len());
+    } else if !places::is_whole(bits) {
+        answer.say("not whole");
+    } else if !places::is_crc_right(bits) {
+        answer.say("wrong crc");
+    } else {
+        show_frame(&Frame::from_bits(bits), answer);
+    }
+}
+
+/// Writes the place of the RTR bit, and the places at which a sender may lose.
+fn arbitration(bits: &[Level], answer: &mut Answer) {
+    answer.name("rtr", &places::rtr_place(bits));
+    answer.say("loses ");
     for place in 0..40usize {
         if places::is_arbitration(bits, place) {
-            write!(out, " {place}")?;
+            answer.show(&place);
         }
     }
-    Ok(())
 }

@@ -1,55 +1,79 @@
 //! Words of lattices, two joined: `max 3 5` with `-` for the least, `flat 100 101` with `-` for nothing and `x` for a clash, `pair MAX FLAT MAX FLAT` and
 //! `array`, two arrays of three flat words; `same_max`, `same_flat`, `same_pair`, and `same_array` of two flat words each.
 
-use crate::words::{Stop, Told, number};
+use crate::answer::{Answer, word};
 use wl_lattice::{FlatWord, Join, MaxWord};
 
-pub fn tell(subject: &str, words: &[&str], out: &mut String) -> Told {
-    match (subject, words) {
-        ("max", [left, right]) => tell_max(left, right, out),
-        ("flat", [left, right]) => tell_flat(left, right, out),
-        ("pair", [most, value, other, second]) => tell_pair((most, value), (other, second), out),
-        ("array", [a, b, c, x, y, z]) => tell_array([a, b, c], [x, y, z], out),
-        _ => tell_same(subject, words, out),
+/// True if the subject is one of this module's.
+pub fn tell(subject: &str, words: &[&str], answer: &mut Answer) -> bool {
+    match subject {
+        "max" => tell_max(words, answer),
+        "flat" => tell_flat(words, answer),
+        "pair" => tell_pair(words, answer),
+        "array" => tell_array(words, answer),
+        "same_max" => same_max(words, answer),
+        "same_flat" => same_flat(words, answer),
+        "same_pair" => same_pair(words, answer),
+        "same_array" => same_array(words, answer),
+        _ => return false,
     }
+    true
 }
 
-/// Returns whether two words are the same.
-fn tell_same(subject: &str, words: &[&str], out: &mut String) -> Told {
-    let is_same = match (subject, words) {
-        ("same_max", [left, right]) => max(left)?.same(&max(right)?),
-        ("same_flat", [left, right]) => flat(left)?.same(&flat(right)?),
-        ("same_pair", [most, value, other, second]) => {
-            pair((most, value))?.same(&pair((other, second))?)
-        }
-        ("same_array", [a, b, x, y]) => two([a, b])?.same(&two([x, y])?),
-        _ => return Err(Stop::Unread),
-    };
-    Ok(write!(out, "{is_same}")?)
+fn tell_max(words: &[&str], answer: &mut Answer) {
+    answer.takes(words, 2);
+    let joined = joined(max(words, 0, answer), &max(words, 1, answer));
+    answer.show(&joined.word);
 }
 
-fn tell_max(left: &str, right: &str, out: &mut String) -> Told {
-    let joined = joined(max(left)?, &max(right)?);
-    Ok(write!(out, "{}", joined.word)?)
+fn tell_flat(words: &[&str], answer: &mut Answer) {
+    answer.takes(words, 2);
+    let joined = joined(flat(words, 0, answer), &flat(words, 1, answer));
+    show_flat(joined, answer);
 }
 
-fn tell_flat(left: &str, right: &str, out: &mut String) -> Told {
-    let joined = joined(flat(left)?, &flat(right)?);
-    write_flat(out, joined)
+fn tell_pair(words: &[&str], answer: &mut Answer) {
+    answer.takes(words, 4);
+    let (most, value) = joined(pair(words, 0, 1, answer), &pair(words, 2, 3, answer));
+    answer.show(&most.word);
+    show_flat(value, answer);
 }
 
-fn tell_pair(left: (&str, &str), right: (&str, &str), out: &mut String) -> Told {
-    let joined = joined(pair(left)?, &pair(right)?);
-    write!(out, "{} ", joined.0.word)?;
-    write_flat(out, joined.1)
+fn tell_array(words: &[&str], answer: &mut Answer) {
+    answer.takes(words, 6);
+    let [a, b, c] = joined(
+        three(words, [0, 1, 2], answer),
+        &three(words, [3, 4, 5], answer),
+    );
+    show_flat(a, answer);
+    show_flat(b, answer);
+    show_flat(c, answer);
 }
 
-fn tell_array(left: [&str; 3], right: [&str; 3], out: &mut String) -> Told {
-    let (left, right) = (three(left)?, three(right)?);
-    for word in joined(left, &right) {
-        write_flat(out, word)?;
-    }
-    Ok(())
+fn same_max(words: &[&str], answer: &mut Answer) {
+    answer.takes(words, 2);
+    let is_same = max(words, 0, answer).same(&max(words, 1, answer));
+    answer.show(&is_same);
+}
+
+fn same_flat(words: &[&str], answer: &mut Answer) {
+    answer.takes(words, 2);
+    let is_same = flat(words, 0, answer).same(&flat(words, 1, answer));
+    answer.show(&is_same);
+}
+
+fn same_pair(words: &[&str], answer: &mut Answer) {
+    answer.takes(words, 4);
+    let is_same = pair(words, 0, 1, answer).same(&pair(words, 2, 3, answer));
+    answer.show(&is_same);
+}
+
+fn same_array(words: &[&str], answer: &mut Answer) {
+    answer.takes(words, 4);
+    let left = [flat(words, 0, answer), flat(words, 1, answer)];
+    let right = [flat(words, 2, answer), flat(words, 3, answer)];
+    let is_same = left.same(&right);
+    answer.show(&is_same);
 }
 
 /// Returns two words joined, by what every lattice has.
@@ -60,43 +84,40 @@ fn joined<W: Join + Drop>(left: W, right: &W) -> W {
     all
 }
 
-fn max(word: &str) -> Result<MaxWord, Stop> {
-    match word {
-        "-" => Ok(MaxWord::bottom()),
-        _ => Ok(MaxWord {
-            word: number(word)?,
-        }),
+fn max(words: &[&str], place: usize, answer: &mut Answer) -> MaxWord {
+    match word(words, place) {
+        "-" => MaxWord::bottom(),
+        word => MaxWord {
+            word: answer.number(word),
+        },
     }
 }
 
-fn flat(word: &str) -> Result<FlatWord, Stop> {
-    match word {
-        "-" => Ok(FlatWord::Nothing),
-        "x" => Ok(FlatWord::Clash),
-        _ => Ok(FlatWord::Value(number(word)?)),
+fn flat(words: &[&str], place: usize, answer: &mut Answer) -> FlatWord {
+    match word(words, place) {
+        "-" => FlatWord::Nothing,
+        "x" => FlatWord::Clash,
+        word => FlatWord::Value(answer.number(word)),
     }
 }
 
-fn pair(words: (&str, &str)) -> Result<(MaxWord, FlatWord), Stop> {
-    let (most, value) = words;
-    Ok((max(most)?, flat(value)?))
+fn pair(words: &[&str], most: usize, value: usize, answer: &mut Answer) -> (MaxWord, FlatWord) {
+    (max(words, most, answer), flat(words, value, answer))
 }
 
-fn two(words: [&str; 2]) -> Result<[FlatWord; 2], Stop> {
-    let [a, b] = words;
-    Ok([flat(a)?, flat(b)?])
+fn three(words: &[&str], places: [usize; 3], answer: &mut Answer) -> [FlatWord; 3] {
+    let [a, b, c] = places;
+    [
+        flat(words, a, answer),
+        flat(words, b, answer),
+        flat(words, c, answer),
+    ]
 }
 
-fn three(words: [&str; 3]) -> Result<[FlatWord; 3], Stop> {
-    let [a, b, c] = words;
-    Ok([flat(a)?, flat(b)?, flat(c)?])
-}
-
-fn write_flat(out: &mut String, word: FlatWord) -> Told {
+fn show_flat(word: FlatWord, answer: &mut Answer) {
     match word {
-        FlatWord::Nothing => out.push_str("- ")?,
-        FlatWord::Value(value) => write!(out, "{value} ")?,
-        FlatWord::Clash => out.push_str("x ")?,
+        FlatWord::Nothing => answer.say("- "),
+        FlatWord::Value(value) => answer.show(&value),
+        FlatWord::Clash => answer.say("x "),
     }
-    Ok(())
 }

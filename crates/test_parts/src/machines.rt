@@ -7,9 +7,9 @@
 //! `head=ID` and `mode=Off` give it another head, and a mode that isn't its counters'. The answer has what happened, with the number of the
 //! machine and of the sample, and the counters after it.
 
-use crate::counters::write_counters;
-use crate::frames::{frame_of, write_id};
-use crate::words::{Stop, Told, bit, levels};
+use crate::answer::{Answer, after, bit};
+use crate::counters::show_counters;
+use crate::frames::frame_of;
 use std::alloc::Global;
 use wl_confine::{Counters, Happened, Mode};
 use wl_frame::frame::Frame;
@@ -57,46 +57,92 @@ impl Station {
         self.machine.bus_off();
         self.drive = Level::Recessive;
     }
+
+    /// Gives the machine another head or another mode.
+    fn set(&mut self, what: &str, value: &str, answer: &mut Answer) {
+        match what {
+            "head" => self.head = head(value, answer),
+            "mode" => self.given = mode(value, answer),
+            _ => answer.unread(),
+        }
+    }
+
+    /// Writes what is asked.
+    fn tell(&self, word: &str, answer: &mut Answer) {
+        match word {
+            "counters" => show_counters(&self.counters, answer),
+            "silence" => self.tell_silence(answer),
+            "drive" => asked(word, bit(self.drive), answer),
+            "idle" => asked(word, truth(self.machine.idle()), answer),
+            _ => asked(word, truth(self.machine.awaits_start()), answer),
+        }
+    }
+
+    /// Writes for how many samples more the machine is silent: with heads, and without.
+    fn tell_silence(&self, answer: &mut Answer) {
+        answer.say("silence(");
+        answer.show(&self.machine.silence(true));
+        answer.put(&self.machine.silence(false));
+        answer.say(") ");
+    }
+}
+
+/// Writes what was asked, and what it is.
+fn asked(what: &str, said: &str, answer: &mut Answer) {
+    answer.say(what);
+    answer.say("(");
+    answer.say(said);
+    answer.say(") ");
+}
+
+fn truth(holds: bool) -> &'static str {
+    if holds { "true" } else { "false" }
+}
+
+fn mode(word: &str, answer: &mut Answer) -> Option<Mode> {
+    match word {
+        "Active" => Some(Mode::Active),
+        "Passive" => Some(Mode::Passive),
+        "Off" => Some(Mode::Off),
+        _ => {
+            answer.unread();
+            None
+        }
+    }
 }
 
 /// Writes what happened, if something did, and the counters after it.
-fn write_happened(
-    out: &mut String,
+fn show_happened(
     number: usize,
     sample: u64,
     happened: Happened,
     counters: &Counters,
-) -> Told {
-    if happened == Happened::Nothing {
-        return Ok(());
+    answer: &mut Answer,
+) {
+    if happened != Happened::Nothing {
+        answer.happened(number, happened);
+        answer.show(&sample);
+        show_counters(counters, answer);
     }
-    write!(out, "{number}.{happened:?}@{sample} ")?;
-    write_counters(out, counters)
 }
 
 /// Writes which frame was completed, if one was.
-fn write_done(out: &mut String, number: usize, sample: u64, done: &Done) -> Told {
+fn show_done(number: usize, sample: u64, done: &Done, answer: &mut Answer) {
     match done {
         Done::Nothing => {}
-        Done::Sent => write!(out, "{number}.sent@{sample} ")?,
+        Done::Sent => {
+            answer.put(&number);
+            answer.say(".sent@");
+            answer.show(&sample);
+        }
         Done::Received(frame) => {
-            write!(out, "{number}.received(")?;
-            write_id(out, frame)?;
-            write!(out, ")@{sample} ")?;
+            answer.put(&number);
+            answer.say(".received(");
+            answer.identifier(frame);
+            answer.say(")@");
+            answer.show(&sample);
         }
     }
-    Ok(())
-}
-
-/// Writes for how many samples more a machine is silent: with heads, and without.
-fn write_silence(out: &mut String, machine: &Machine) -> Told {
-    write!(
-        out,
-        "silence({} {}) ",
-        machine.silence(true),
-        machine.silence(false)
-    )?;
-    Ok(())
 }
 
 /// Machines on one wire, and how many samples were counted.
@@ -106,65 +152,77 @@ struct Wire {
     samples: u64,
 }
 
-pub fn tell(alloc: Global, words: &[&str], out: &mut String) -> Told {
-    let mut stations = Vec::new(alloc);
-    let colon = words.iter().position(|w| *w == ":").ok_or(Stop::Unread)?;
-    for word in words.iter().take(colon) {
-        stations.push(Station::new(head(word)?))?;
-    }
+pub fn tell(alloc: Global, words: &[&str], answer: &mut Answer) {
+    let colon = words.iter().position(|w| *w == ":").unwrap_or(words.len());
     let mut wire = Wire {
-        stations,
+        stations: stations(alloc, words, colon, answer),
         samples: 0,
     };
-    for word in words.iter().skip(colon).skip(1) {
-        wire.obey(alloc, word, out)?;
+    for word in after(words, colon.saturating_add(1)) {
+        wire.obey(alloc, word, answer);
     }
-    Ok(())
 }
 
-fn head(word: &str) -> Result<Option<Frame>, Stop> {
-    if word == "-" {
-        return Ok(None);
+/// Returns a station for each of the first words.
+fn stations(alloc: Global, words: &[&str], count: usize, answer: &mut Answer) -> Vec<Station> {
+    let mut stations = Vec::new(alloc);
+    for word in words.iter().take(count) {
+        if stations.push(Station::new(head(word, answer))).is_err() {
+            answer.full();
+        }
     }
-    let (id, remote) = match word.strip_prefix('r') {
-        Some(id) => (id, true),
-        None => (word, false),
-    };
-    match frame_of(id, remote, 0, &[])? {
-        Ok(frame) => Ok(Some(frame)),
-        Err(_) => Err(Stop::Unread),
+    stations
+}
+
+fn head(word: &str, answer: &mut Answer) -> Option<Frame> {
+    match word.strip_prefix('r') {
+        Some(id) => frame(id, true, answer),
+        None => if word == "-" {
+            None
+        } else {
+            frame(word, false, answer)
+        },
     }
+}
+
+fn frame(id: &str, remote: bool, answer: &mut Answer) -> Option<Frame> {
+    let made = frame_of(id, remote, 0, &[], answer);
+    if made.is_err() {
+        answer.unread();
+    }
+    made.ok()
 }
 
 impl Wire {
     /// Does what a word says.
-    fn obey(&mut self, alloc: Global, word: &str, out: &mut String) -> Told {
-        if word == "count" {
-            self.samples = 0;
-            return Ok(());
+    fn obey(&mut self, alloc: Global, word: &str, answer: &mut Answer) {
+        match word {
+            "count" => self.samples = 0,
+            "drive" | "idle" | "awaits" | "counters" | "silence" => self.ask(word, answer),
+            "off" => self.off(answer),
+            _ => self.act(alloc, word, answer),
         }
-        if word == "drive"
-            || word == "idle"
-            || word == "awaits"
-            || word == "counters"
-            || word == "silence"
-        {
-            return self.ask(word, out);
-        }
-        if let Some(("own", count)) = word.split_once('*') {
-            for _ in 0..count.parse::<u32>()? {
-                let level = self.level();
-                self.sample(level, out)?;
+    }
+
+    /// Does what a word of several parts says.
+    fn act(&mut self, alloc: Global, word: &str, answer: &mut Answer) {
+        if let Some((what, value)) = word.split_once('=') {
+            self.set(what, value, answer);
+        } else if let Some(count) = word.strip_prefix("own*") {
+            self.own(answer.read(count.parse::<u32>()), answer);
+        } else {
+            for level in answer.levels_of(alloc, &[word]) {
+                self.sample(level, answer);
             }
-            return Ok(());
         }
-        if word == "off" || word.contains('=') {
-            return self.set(word);
+    }
+
+    /// Takes samples of what the machines drive.
+    fn own(&mut self, count: u32, answer: &mut Answer) {
+        for _ in 0..count {
+            let level = self.level();
+            self.sample(level, answer);
         }
-        for level in levels(alloc, &[word])? {
-            self.sample(level, out)?;
-        }
-        Ok(())
     }
 
     /// Returns dominant if some machine drives dominant.
@@ -177,44 +235,38 @@ impl Wire {
     }
 
     /// Takes one sample of all machines.
-    fn sample(&mut self, level: Level, out: &mut String) -> Told {
+    fn sample(&mut self, level: Level, answer: &mut Answer) {
         self.samples = self.samples.saturating_add(1);
         let samples = self.samples;
         for (k, station) in self.stations.iter_mut().enumerate() {
             let turn = station.sample(level);
             let number = k.saturating_add(1);
-            write_happened(out, number, samples, turn.happened, &station.counters)?;
-            write_done(out, number, samples, &turn.done)?;
+            show_happened(number, samples, turn.happened, &station.counters, answer);
+            show_done(number, samples, &turn.done, answer);
         }
-        Ok(())
     }
 
-    /// Returns what each machine drives, whether the bus is idle to it, whether it awaits a start of frame, its counters, or for how many
+    /// Writes what each machine drives, whether the bus is idle to it, whether it awaits a start of frame, its counters, or for how many
     /// samples more it is silent.
-    fn ask(&self, word: &str, out: &mut String) -> Told {
+    fn ask(&self, word: &str, answer: &mut Answer) {
         for station in &self.stations {
-            match word {
-                "drive" => write!(out, "drive({}) ", bit(station.drive))?,
-                "idle" => write!(out, "idle({}) ", station.machine.idle())?,
-                "awaits" => write!(out, "awaits({}) ", station.machine.awaits_start())?,
-                "silence" => write_silence(out, &station.machine)?,
-                _ => write_counters(out, &station.counters)?,
-            }
+            station.tell(word, answer);
         }
-        Ok(())
     }
 
-    /// Takes the first machine off the bus, or gives it another head or another mode.
-    fn set(&mut self, word: &str) -> Told {
-        let station = self.stations.first_mut().ok_or(Stop::Unread)?;
-        match word.split_once('=') {
-            None => station.off(),
-            Some(("head", id)) => station.head = head(id)?,
-            Some(("mode", "Active")) => station.given = Some(Mode::Active),
-            Some(("mode", "Passive")) => station.given = Some(Mode::Passive),
-            Some(("mode", "Off")) => station.given = Some(Mode::Off),
-            Some(_) => return Err(Stop::Unread),
+    /// Takes the first machine off the bus.
+    fn off(&mut self, answer: &mut Answer) {
+        match self.stations.first_mut() {
+            Some(station) => station.off(),
+            None => answer.unread(),
         }
-        Ok(())
+    }
+
+    /// Gives the first machine another head or another mode.
+    fn set(&mut self, what: &str, value: &str, answer: &mut Answer) {
+        match self.stations.first_mut() {
+            Some(station) => station.set(what, value, answer),
+            None => answer.unread(),
+        }
     }
 }

@@ -4,6 +4,7 @@
 //! the answer; a row that can't be read is answered `unread`.
 #![tactic(auto)]
 
+mod answer;
 mod clocks;
 mod counters;
 mod frames;
@@ -14,66 +15,62 @@ mod segments;
 mod sets;
 mod syncs;
 mod topologies;
-mod words;
 
-use std::alloc::Global;
+use answer::Answer;
+use std::alloc::{AllocError, Global};
 use std::io;
-use words::{Stop, Told};
 
 /// Writes the answer to a row.
-fn tell(alloc: Global, words: &[&str], out: &mut String) -> Told {
+fn tell(alloc: Global, words: &[&str], answer: &mut Answer) {
     let [subject, rest @ ..] = words else {
-        return Err(Stop::Unread);
+        return answer.unread();
     };
-    match *subject {
-        "max" | "flat" | "pair" | "array" => lattice::tell(subject, rest, out),
-        "same_max" | "same_flat" | "same_pair" | "same_array" => lattice::tell(subject, rest, out),
-        "set" => sets::tell(alloc, rest, out),
-        "set_faults" => sets::faults(out),
-        "topology" | "same_cables" | "delay" | "place_delay" => topologies::tell(
-            alloc, subject, rest, out,
-        ),
-        "clock" | "ppm" | "rates" => clocks::tell(alloc, subject, rest, out),
-        "segments" | "tolerance" | "point" => segments::tell(subject, rest, out),
-        "sync" => syncs::tell(alloc, rest, out),
-        "frame" | "crc" | "bits" | "stuffed" => frames::tell(alloc, subject, rest, out),
-        "same_frames" => frames::tell_same(alloc, rest, out),
-        "stuff" | "register" | "read" | "arbitration" => frames::tell_bits(
-            alloc, subject, rest, out,
-        ),
-        "counters" | "is_error" => counters::tell(subject, rest, out),
-        "machines" => machines::tell(alloc, rest, out),
-        "nodes" => nodes::tell(alloc, rest, out),
-        _ => Err(Stop::Unread),
+    let is_told = tell_value(alloc, subject, rest, answer)
+        || tell_bus(alloc, subject, rest, answer);
+    if !is_told {
+        answer.unread();
     }
 }
 
-/// Returns an answer, or the word for none.
-fn or_nothing(said: &str) -> &str {
-    if said.is_empty() { "nothing" } else { said }
+/// True if a row is about a value.
+fn tell_value(alloc: Global, subject: &str, words: &[&str], answer: &mut Answer) -> bool {
+    lattice::tell(subject, words, answer)
+        || sets::tell(alloc, subject, words, answer)
+        || topologies::tell(alloc, subject, words, answer)
+        || clocks::tell(alloc, subject, words, answer)
+        || segments::tell(subject, words, answer)
 }
 
-/// Returns a line with its answer.
-fn answer(alloc: Global, line: &str) -> Result<String, Stop> {
-    let mut out = String::from_str(alloc, line)?;
+/// True if a row is about what happens on a bus.
+fn tell_bus(alloc: Global, subject: &str, words: &[&str], answer: &mut Answer) -> bool {
+    match subject {
+        "sync" => syncs::tell(alloc, words, answer),
+        "machines" => machines::tell(alloc, words, answer),
+        "nodes" => nodes::tell(alloc, words, answer),
+        _ => {
+            return frames::tell(alloc, subject, words, answer)
+                || counters::tell(subject, words, answer);
+        }
+    }
+    true
+}
+
+/// Returns a line with its answer, if there is memory for it.
+fn answered(alloc: Global, line: &str) -> Result<String, AllocError> {
     if line.is_empty() || line.starts_with('#') {
-        return Ok(out);
+        return String::from_str(alloc, line);
     }
-    out.push_str(" = ")?;
     let words: Vec<&str> = line.split_whitespace().collect(alloc)?;
-    let mut said = String::new(alloc);
-    match tell(alloc, words.as_slice(), &mut said) {
-        Ok(()) => out.push_str(or_nothing(said.as_str().trim_end()))?,
-        Err(Stop::Unread) => out.push_str("unread")?,
-        Err(Stop::Memory) => return Err(Stop::Memory),
-    }
-    Ok(out)
+    let mut answer = Answer::new(alloc);
+    tell(alloc, words.as_slice(), &mut answer);
+    let told = answer.told().ok_or(AllocError)?;
+    format!(in alloc; "{line} = {told}")
 }
 
 fn main(rt: HostRuntime) -> io::Result<()> {
     let alloc = rt.alloc();
     for line in rt.lines(alloc) {
-        match answer(alloc, line?.as_str()) {
+        match answered(alloc, line?.as_str()) {
             Ok(said) => println!(rt; "{said}")?,
             Err(_) => println!(rt; "out of memory")?,
         }

@@ -6,14 +6,15 @@
 //! change of a drive and of a mode from here on, with the number of the node and of the quantum. `readers`, `phases`, `frames` and
 //! `samples` ask all nodes; `quiet` for how many quanta more each is sure to keep its drive, and `quiet>=8` whether that is at least 8.
 
-use crate::counters::write_counters;
-use crate::frames::write_frame;
-use crate::words::{Stop, Told, bit, levels, number};
+use crate::answer::{Answer, after, bit};
+use crate::counters::{mode_name, show_counters};
+use crate::frames::show_frame;
 use std::alloc::Global;
 use wl_clock::Clock;
+use wl_confine::Mode;
 use wl_frame::frame::Frame;
 use wl_level::{Level, Listed};
-use wl_node::{Node, NodeSetup, Queued};
+use wl_node::{Node, NodeSetup, Queue, Queued};
 use wl_segments::Segments;
 
 /// More than any row runs.
@@ -27,81 +28,106 @@ struct Line {
     modes: bool,
 }
 
-pub fn tell(alloc: Global, words: &[&str], out: &mut String) -> Told {
-    let mut nodes = Vec::new(alloc);
-    let colon = words.iter().position(|w| *w == ":").ok_or(Stop::Unread)?;
-    for word in words.iter().take(colon) {
-        nodes.push(node(alloc, word)?)?;
-    }
+pub fn tell(alloc: Global, words: &[&str], answer: &mut Answer) {
+    let colon = words.iter().position(|w| *w == ":").unwrap_or(words.len());
     let mut line = Line {
-        nodes,
+        nodes: nodes(alloc, words, colon, answer),
         changes: false,
         modes: false,
     };
-    for word in words.iter().skip(colon).skip(1) {
-        line.obey(alloc, word, out)?;
+    for word in after(words, colon.saturating_add(1)) {
+        line.obey(alloc, word, answer);
     }
-    Ok(())
 }
 
-fn node(alloc: Global, word: &str) -> Result<Node, Stop> {
-    let mut queue = Listed::new(alloc);
-    if let Some((frames, ready)) = word.split_once('@') {
-        let ready = number(ready)?;
-        for id in 0..frames.parse::<u32>()? {
-            let frame = Frame::base(id, false, 0, &[]).ok().ok_or(Stop::Unread)?;
-            queue.push(Queued { frame, ready })?;
+/// Returns a node for each of the first words.
+fn nodes(alloc: Global, words: &[&str], count: usize, answer: &mut Answer) -> Vec<Node> {
+    let mut nodes = Vec::new(alloc);
+    for word in words.iter().take(count) {
+        match node(alloc, queue(alloc, word, answer)) {
+            Some(node) => if nodes.push(node).is_err() {
+                answer.full();
+            },
+            None => answer.full(),
         }
     }
+    nodes
+}
+
+/// Returns the frames that a node has to send.
+fn queue(alloc: Global, word: &str, answer: &mut Answer) -> Queue {
+    let mut queue = Listed::new(alloc);
+    if let Some((frames, ready)) = word.split_once('@') {
+        let ready = answer.number(ready);
+        for id in 0..answer.read(frames.parse::<u32>()) {
+            match Frame::base(id, false, 0, &[]) {
+                Ok(frame) => if queue.push(Queued { frame, ready }).is_err() {
+                    answer.full();
+                },
+                Err(_) => answer.unread(),
+            }
+        }
+    }
+    queue
+}
+
+/// Returns a node, if there is memory for it.
+fn node(alloc: Global, queue: Queue) -> Option<Node> {
     let setup = NodeSetup {
-        clock: Clock::new(0, 100, 1).ok().ok_or(Stop::Unread)?,
-        segments: Segments::new(3, 3, 3, 2).ok().ok_or(Stop::Unread)?,
+        clock: Clock::new(0, 100, 1).ok()?,
+        segments: Segments::new(3, 3, 3, 2).ok()?,
         queue,
     };
-    Ok(Node::new(alloc, setup)?)
+    Node::new(alloc, setup).ok()
 }
 
 impl Line {
     /// Does what a word says.
-    fn obey(&mut self, alloc: Global, word: &str, out: &mut String) -> Told {
+    fn obey(&mut self, alloc: Global, word: &str, answer: &mut Answer) {
         match word {
             "changes" => self.changes = true,
             "modes" => self.modes = true,
-            "readers" | "phases" | "frames" | "samples" | "quiet" => {
-                for node in &self.nodes {
-                    ask(alloc, node, word, out)?;
-                }
-            }
-            _ => match word.strip_prefix("quiet>=") {
-                Some(least) => return self.are_quiet(least.parse::<u32>()?, out),
-                None => return self.quanta(alloc, word, out),
-            },
+            "readers" | "phases" | "frames" | "samples" | "quiet" => self.ask(alloc, word, answer),
+            _ => self.act(alloc, word, answer),
         }
-        Ok(())
     }
 
-    /// Returns whether each node is sure to keep its drive for at least `N` quanta more, where the word is `quiet>=N`.
-    fn are_quiet(&self, least: u32, out: &mut String) -> Told {
+    /// Does what a word of several parts says.
+    fn act(&mut self, alloc: Global, word: &str, answer: &mut Answer) {
+        if let Some(least) = word.strip_prefix("quiet>=") {
+            self.are_quiet(answer.read(least.parse::<u32>()), answer);
+        } else if let Some(count) = word.strip_prefix("own*") {
+            self.own(answer.read(count.parse::<u32>()), answer);
+        } else {
+            for level in answer.levels_of(alloc, &[word]) {
+                self.quantum(level, answer);
+            }
+        }
+    }
+
+    fn ask(&self, alloc: Global, word: &str, answer: &mut Answer) {
         for node in &self.nodes {
-            let said = if least <= node.quiet() { "yes" } else { "no" };
-            write!(out, "{said}; ")?;
+            ask(alloc, node, word, answer);
         }
-        Ok(())
     }
 
-    /// Returns quanta of what the nodes drive, or of these levels.
-    fn quanta(&mut self, alloc: Global, word: &str, out: &mut String) -> Told {
-        if let Some(("own", count)) = word.split_once('*') {
-            for _ in 0..count.parse::<u32>()? {
-                let level = self.level();
-                self.quantum(level, out)?;
-            }
-            return Ok(());
+    /// Writes whether each node is sure to keep its drive for at least `N` quanta more, where the word is `quiet>=N`.
+    fn are_quiet(&self, least: u32, answer: &mut Answer) {
+        for node in &self.nodes {
+            answer.say(if least <= node.quiet() {
+                "yes; "
+            } else {
+                "no; "
+            });
         }
-        for level in levels(alloc, &[word])? {
-            self.quantum(level, out)?;
+    }
+
+    /// Runs quanta of what the nodes drive.
+    fn own(&mut self, count: u32, answer: &mut Answer) {
+        for _ in 0..count {
+            let level = self.level();
+            self.quantum(level, answer);
         }
-        Ok(())
     }
 
     /// Returns dominant if some node drives dominant.
@@ -114,64 +140,95 @@ impl Line {
     }
 
     /// Runs one quantum of all nodes.
-    fn quantum(&mut self, level: Level, out: &mut String) -> Told {
+    fn quantum(&mut self, level: Level, answer: &mut Answer) {
         let (changes, modes) = (self.changes, self.modes);
         for (k, node) in self.nodes.iter_mut().enumerate() {
-            let quantum = node.quanta();
-            if quantum >= MOST_QUANTA {
-                return Err(Stop::Unread);
-            }
+            let (quantum, drive, mode) = (node.quanta(), node.drive(), node.counters().mode());
+            run(node, level, answer);
             let number = k.saturating_add(1);
-            let (drive, mode) = (node.drive(), node.counters().mode());
-            node.quantum(level)?;
             if changes && !node.drive().is(drive) {
-                let bit = bit(node.drive());
-                write!(out, "{number}.drive({bit})@{quantum} ")?;
+                show_drive(number, node.drive(), quantum, answer);
             }
-            let after = node.counters().mode();
-            if modes && after != mode {
-                write!(out, "{number}.{after:?}@{quantum} ")?;
+            if modes && node.counters().mode() != mode {
+                show_mode(number, node.counters().mode(), quantum, answer);
             }
         }
-        Ok(())
     }
 }
 
-/// Returns what a node answers.
-fn ask(alloc: Global, node: &Node, word: &str, out: &mut String) -> Told {
+/// Runs one quantum of a node.
+fn run(node: &mut Node, level: Level, answer: &mut Answer) {
+    if node.quanta() >= MOST_QUANTA {
+        answer.unread();
+    } else if node.quantum(level).is_err() {
+        answer.full();
+    }
+}
+
+fn show_drive(number: usize, drive: Level, quantum: u64, answer: &mut Answer) {
+    answer.put(&number);
+    answer.say(".drive(");
+    answer.say(bit(drive));
+    answer.say(")@");
+    answer.show(&quantum);
+}
+
+fn show_mode(number: usize, mode: Mode, quantum: u64, answer: &mut Answer) {
+    answer.put(&number);
+    answer.say(".");
+    answer.say(mode_name(mode));
+    answer.say("@");
+    answer.show(&quantum);
+}
+
+/// Writes what a node answers.
+fn ask(alloc: Global, node: &Node, word: &str, answer: &mut Answer) {
     match word {
-        "readers" => write_readers(node, out)?,
-        "phases" => {
-            for (quantum, error) in node.phases() {
-                write!(out, "{error}@{quantum} ")?;
-            }
-        }
-        "frames" => write_frames(node, out)?,
-        "quiet" => write!(out, "{}", node.quiet())?,
-        _ => {
-            for (quantum, level) in node.samples(alloc)?.list(alloc)?.as_slice() {
-                write!(out, "{}@{quantum} ", bit(*level))?;
+        "readers" => show_readers(node, answer),
+        "phases" => show_phases(node, answer),
+        "frames" => show_frames(node, answer),
+        "quiet" => answer.put(&node.quiet()),
+        _ => show_samples(alloc, node, answer),
+    }
+    answer.say("; ");
+}
+
+fn show_phases(node: &Node, answer: &mut Answer) {
+    for (quantum, error) in node.phases() {
+        answer.put(error);
+        answer.say("@");
+        answer.show(quantum);
+    }
+}
+
+fn show_samples(alloc: Global, node: &Node, answer: &mut Answer) {
+    if let Some(samples) = answer.kept(node.samples(alloc)) {
+        if let Some(list) = answer.kept(samples.list(alloc)) {
+            for (quantum, level) in list.as_slice() {
+                answer.say(bit(*level));
+                answer.say("@");
+                answer.show(quantum);
             }
         }
     }
-    Ok(out.push_str("; ")?)
 }
 
 /// Writes a node's counters, and how many of what it had.
-fn write_readers(node: &Node, out: &mut String) -> Told {
-    write_counters(out, &node.counters())?;
-    write!(out, "quanta {} drive {} ", node.quanta(), bit(node.drive()))?;
-    write!(out, "errors {} hards {} ", node.errors(), node.hards())?;
-    let (samples, unsent) = (node.sample_count(), node.unsent());
-    Ok(write!(out, "samples {samples} unsent {unsent} ")?)
+fn show_readers(node: &Node, answer: &mut Answer) {
+    show_counters(&node.counters(), answer);
+    answer.name("quanta", &node.quanta());
+    answer.name("drive", &bit(node.drive()));
+    answer.name("errors", &node.errors());
+    answer.name("hards", &node.hards());
+    answer.name("samples", &node.sample_count());
+    answer.name("unsent", &node.unsent());
 }
 
 /// Writes the frames that passed a node.
-fn write_frames(node: &Node, out: &mut String) -> Told {
+fn show_frames(node: &Node, answer: &mut Answer) {
     for passed in node.frames() {
-        let what = if passed.sent { "sent" } else { "received" };
-        write!(out, "{what}@{} ", passed.quantum)?;
-        write_frame(out, &passed.frame)?;
+        answer.say(if passed.sent { "sent@" } else { "received@" });
+        answer.show(&passed.quantum);
+        show_frame(&passed.frame, answer);
     }
-    Ok(())
 }

@@ -2,87 +2,108 @@
 //! `at TICK`, `next_change TICK`. An answer says of each refused push why, of each question the answer, and at last the
 //! intervals. `set_faults` asks for all faults as they are shown.
 
-use crate::words::{Stop, Told, bit, number};
+use crate::answer::{Answer, bit, word};
 use std::alloc::Global;
 use wl_intervals::{Intervals, IntervalsFault};
 
-pub fn tell(alloc: Global, words: &[&str], out: &mut String) -> Told {
+/// True if the subject is one of this module's.
+pub fn tell(alloc: Global, subject: &str, words: &[&str], answer: &mut Answer) -> bool {
+    match subject {
+        "set" => tell_set(alloc, words, answer),
+        "set_faults" => faults(answer),
+        _ => return false,
+    }
+    true
+}
+
+fn tell_set(alloc: Global, words: &[&str], answer: &mut Answer) {
     let mut set = Intervals::new(alloc);
     for pair in words.chunks(2) {
-        let [what, word] = pair else {
-            return Err(Stop::Unread);
-        };
-        match *what {
-            "push" => push(&mut set, word, out)?,
-            "join" => join(alloc, &mut set, word, out)?,
-            "at" | "next_change" => ask(&set, what, number(word)?, out)?,
-            _ => set = made_of(alloc, set, what, number(word)?)?,
-        }
+        obey(alloc, &mut set, word(pair, 0), word(pair, 1), answer);
     }
-    for (from, to) in set.clone_in(alloc)?.as_slice() {
-        write!(out, "{from}..{to} ")?;
+    for (from, to) in set.as_slice() {
+        answer.put(from);
+        answer.say("..");
+        answer.show(to);
     }
-    Ok(())
+}
+
+/// Does what a word says.
+fn obey(alloc: Global, set: &mut Intervals, what: &str, word: &str, answer: &mut Answer) {
+    match what {
+        "push" => push(set, word, answer),
+        "join" => join(alloc, set, word, answer),
+        "at" => at(set, answer.number(word), answer),
+        "next_change" => next_change(set, answer.number(word), answer),
+        "join_shifted" => join_shifted(alloc, set, answer.number(word), answer),
+        "shift" => shift(alloc, set, answer.number(word), answer),
+        "cut" => cut(alloc, set, answer.number(word), answer),
+        _ => answer.unread(),
+    }
+}
+
+fn push(set: &mut Intervals, word: &str, answer: &mut Answer) {
+    let (from, to) = answer.parts(word, "..");
+    match set.push(answer.number(from), answer.number(to)) {
+        Ok(()) => {}
+        Err(IntervalsFault::Memory) => answer.full(),
+        Err(fault) => answer.show(&fault),
+    }
 }
 
 /// Joins an interval to a set.
-fn join(alloc: Global, set: &mut Intervals, word: &str, out: &mut String) -> Told {
+fn join(alloc: Global, set: &mut Intervals, word: &str, answer: &mut Answer) {
     let mut other = Intervals::new(alloc);
-    push(&mut other, word, out)?;
-    Ok(set.join(&other)?)
+    push(&mut other, word, answer);
+    let joined = set.join(&other);
+    answer.kept(joined);
 }
 
-/// Returns what a set says of a tick.
-fn ask(set: &Intervals, what: &str, tick: u64, out: &mut String) -> Told {
-    if what == "at" {
-        return Ok(write!(out, "{} ", bit(set.at(tick)))?);
-    }
+fn at(set: &Intervals, tick: u64, answer: &mut Answer) {
+    answer.say(bit(set.at(tick)));
+    answer.say(" ");
+}
+
+fn next_change(set: &Intervals, tick: u64, answer: &mut Answer) {
     match set.next_change(tick) {
-        Some(next) => Ok(write!(out, "{next} ")?),
-        None => Ok(out.push_str("none ")?),
+        Some(next) => answer.show(&next),
+        None => answer.say("none "),
     }
 }
 
-/// Returns the set that a word and a number of ticks make of a set.
-fn made_of(alloc: Global, set: Intervals, what: &str, ticks: u64) -> Result<Intervals, Stop> {
-    match what {
-        "join_shifted" => {
-            let later = shifted(alloc, &set, ticks)?;
-            let mut set = set;
-            set.join(&later)?;
-            Ok(set)
-        }
-        "shift" => shifted(alloc, &set, ticks),
-        "cut" => Ok(set.cut(alloc, ticks)?),
-        _ => Err(Stop::Unread),
+fn join_shifted(alloc: Global, set: &mut Intervals, d: u64, answer: &mut Answer) {
+    if let Some(later) = shifted(alloc, set, d, answer) {
+        let joined = set.join(&later);
+        answer.kept(joined);
+    }
+}
+
+fn shift(alloc: Global, set: &mut Intervals, d: u64, answer: &mut Answer) {
+    if let Some(later) = shifted(alloc, set, d, answer) {
+        *set = later;
+    }
+}
+
+fn cut(alloc: Global, set: &mut Intervals, tick: u64, answer: &mut Answer) {
+    if let Some(rest) = answer.kept(set.cut(alloc, tick)) {
+        *set = rest;
     }
 }
 
 /// Returns the set with each tick later by `d`, if its end may be so late.
-fn shifted(alloc: Global, set: &Intervals, d: u64) -> Result<Intervals, Stop> {
+fn shifted(alloc: Global, set: &Intervals, d: u64, answer: &mut Answer) -> Option<Intervals> {
     if let Some(end) = set.end() {
         if end > u64::MAX - d {
-            return Err(Stop::Unread);
+            answer.unread();
+            return None;
         }
     }
-    Ok(set.shift(alloc, d)?)
+    answer.kept(set.shift(alloc, d))
 }
 
-/// Returns the faults of a set, in the order in which they apply.
-pub fn faults(out: &mut String) -> Told {
-    let (empty, late, memory) = (
-        IntervalsFault::Empty,
-        IntervalsFault::NotAfterLast,
-        IntervalsFault::Memory,
-    );
-    Ok(write!(out, "{empty} {late} {memory}")?)
-}
-
-fn push(set: &mut Intervals, word: &str, out: &mut String) -> Told {
-    let (from, to) = word.split_once("..").ok_or(Stop::Unread)?;
-    match set.push(number(from)?, number(to)?) {
-        Ok(()) => Ok(()),
-        Err(IntervalsFault::Memory) => Err(Stop::Memory),
-        Err(fault) => Ok(write!(out, "{fault} ")?),
-    }
+/// Writes the faults of a set, in the order in which they apply.
+fn faults(answer: &mut Answer) {
+    answer.show(&IntervalsFault::Empty);
+    answer.show(&IntervalsFault::NotAfterLast);
+    answer.show(&IntervalsFault::Memory);
 }

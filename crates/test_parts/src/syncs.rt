@@ -4,8 +4,8 @@
 //! the node; `awaits` if the next edge may be a start of frame to it; `driving` if it drives dominant. The answer has each quantum that
 //! begins a bit, samples one, or synchronises one.
 
+use crate::answer::{Answer, after, bit, word};
 use crate::segments::made;
-use crate::words::{Stop, Told, bit, levels};
 use std::alloc::Global;
 use wl_level::Level;
 use wl_segments::{Segments, SyncRules};
@@ -19,60 +19,81 @@ struct Stays {
     driving: bool,
 }
 
-pub fn tell(alloc: Global, words: &[&str], out: &mut String) -> Told {
-    let [prop, ps1, ps2, sjw, rest @ ..] = words else {
-        return Err(Stop::Unread);
-    };
-    let segments = match made(prop, ps1, ps2, sjw)? {
-        Ok(segments) => segments,
-        Err(_) => return Err(Stop::Unread),
-    };
-    let (is_book, rest) = taken("book", rest);
-    let (idle, rest) = taken("idle", rest);
+pub fn tell(alloc: Global, words: &[&str], answer: &mut Answer) {
+    match made(words, answer) {
+        Ok(segments) => tell_rules(alloc, segments, after(words, 4), answer),
+        Err(_) => answer.unread(),
+    }
+}
+
+fn tell_rules(alloc: Global, segments: Segments, words: &[&str], answer: &mut Answer) {
+    if word(words, 0) == "book" {
+        let segments = segments.with_sync(SyncRules::Book);
+        tell_words(alloc, segments, after(words, 1), answer);
+    } else {
+        tell_words(alloc, segments, words, answer);
+    }
+}
+
+fn tell_words(alloc: Global, segments: Segments, words: &[&str], answer: &mut Answer) {
+    let (idle, rest) = taken("idle", words);
     let (awaits, rest) = taken("awaits", rest);
     let (driving, rest) = taken("driving", rest);
-    let segments = if is_book {
-        segments.with_sync(SyncRules::Book)
-    } else {
-        segments
-    };
     let stays = Stays {
         idle,
         awaits,
         driving,
     };
-    tell_of(segments, stays, &levels(alloc, rest)?, out)
+    let levels = answer.levels_of(alloc, rest);
+    tell_of(segments, stays, levels.as_slice(), answer);
 }
 
 /// Returns whether the words begin with this one, and the words after it.
-fn taken<'a, 'b>(word: &str, words: &'a [&'b str]) -> (bool, &'a [&'b str]) {
-    match words {
-        [first, rest @ ..] => if *first == word {
-            (true, rest)
-        } else {
-            (false, words)
-        },
-        [] => (false, words),
+fn taken<'a, 'b>(first: &str, words: &'a [&'b str]) -> (bool, &'a [&'b str]) {
+    if word(words, 0) == first {
+        (true, after(words, 1))
+    } else {
+        (false, words)
     }
 }
 
-fn tell_of(segments: Segments, stays: Stays, seen: &[Level], out: &mut String) -> Told {
+fn tell_of(segments: Segments, stays: Stays, seen: &[Level], answer: &mut Answer) {
     let mut clock = BitClock::new(segments);
     for (quantum, level) in seen.iter().enumerate() {
         let (beat, sync) = clock.step(*level, stays.idle, stays.awaits, stays.driving);
-        match sync {
-            Some(Sync::Hard) => write!(out, "{quantum}:hard ")?,
-            Some(Sync::Error(error)) => write!(out, "{quantum}:error({error}) ")?,
-            None => {}
-        }
-        match beat {
-            Beat::Start => write!(out, "{quantum}:start ")?,
-            Beat::Sample(level) => {
-                let bit = bit(level);
-                write!(out, "{quantum}:sample({bit}) ")?;
-            }
-            Beat::Plain => {}
-        }
+        tell_sync(quantum, sync, answer);
+        tell_beat(quantum, beat, answer);
     }
-    Ok(())
+}
+
+fn tell_sync(quantum: usize, sync: Option<Sync>, answer: &mut Answer) {
+    match sync {
+        Some(Sync::Hard) => {
+            answer.put(&quantum);
+            answer.say(":hard ");
+        }
+        Some(Sync::Error(error)) => {
+            answer.put(&quantum);
+            answer.say(":error(");
+            answer.put(&error);
+            answer.say(") ");
+        }
+        None => {}
+    }
+}
+
+fn tell_beat(quantum: usize, beat: Beat, answer: &mut Answer) {
+    match beat {
+        Beat::Start => {
+            answer.put(&quantum);
+            answer.say(":start ");
+        }
+        Beat::Sample(level) => {
+            answer.put(&quantum);
+            answer.say(":sample(");
+            answer.say(bit(level));
+            answer.say(") ");
+        }
+        Beat::Plain => {}
+    }
 }

@@ -1,79 +1,87 @@
 //! Topologies: `topology PER PLACE..`, `same_cables PER PER PLACE..`, `delay FROM TO PER PLACE..` and `place_delay X TO PER PLACE..`, a place being `X,OUT,IN`, and
 //! `X,OUT,IN*16` sixteen of them.
 
-use crate::words::{Stop, Told, number, repeated};
+use crate::answer::{Answer, after, word};
 use std::alloc::Global;
 use wl_topology::{Place, Topology, TopologyFault};
 
-pub fn tell(alloc: Global, subject: &str, words: &[&str], out: &mut String) -> Told {
-    match (subject, words) {
-        ("topology", [per, places @ ..]) => tell_of(made(alloc, per, places)?, out),
-        ("same_cables", [per, other, places @ ..]) => {
-            let is_same = made(alloc, per, places)? == made(alloc, other, places)?;
-            Ok(write!(out, "{is_same}")?)
-        }
-        ("delay", [from, to, per, places @ ..]) => {
-            let delay = delay(&read(alloc, per, places)?, from, to)?;
-            Ok(write!(out, "{delay}")?)
-        }
-        ("place_delay", [x, to, per, places @ ..]) => {
-            let delay = place_delay(&read(alloc, per, places)?, x, to)?;
-            Ok(write!(out, "{delay}")?)
-        }
-        _ => Err(Stop::Unread),
+/// True if the subject is one of this module's.
+pub fn tell(alloc: Global, subject: &str, words: &[&str], answer: &mut Answer) -> bool {
+    match subject {
+        "topology" => tell_of(made(alloc, word(words, 0), after(words, 1), answer), answer),
+        "same_cables" => same_cables(alloc, words, answer),
+        "delay" => delay(alloc, words, answer),
+        "place_delay" => place_delay(alloc, words, answer),
+        _ => return false,
     }
+    true
 }
 
-fn tell_of(made: Result<Topology, TopologyFault>, out: &mut String) -> Told {
+fn tell_of(made: Result<Topology, TopologyFault>, answer: &mut Answer) {
     match made {
         Ok(topology) => {
-            let (nodes, least) = (topology.nodes(), topology.least_delay());
-            Ok(write!(out, "nodes {nodes} least {least}")?)
+            answer.name("nodes", &topology.nodes());
+            answer.name("least", &topology.least_delay());
         }
-        Err(fault) => Ok(write!(out, "{fault}")?),
+        Err(fault) => answer.show(&fault),
     }
 }
 
-fn delay(topology: &Topology, from: &str, to: &str) -> Result<u64, Stop> {
-    let (from, to) = (from.parse::<u8>()?, to.parse::<u8>()?);
-    if from >= topology.nodes() || to >= topology.nodes() {
-        return Err(Stop::Unread);
+fn same_cables(alloc: Global, words: &[&str], answer: &mut Answer) {
+    let places = after(words, 2);
+    let one = made(alloc, word(words, 0), places, answer);
+    let is_same = one == made(alloc, word(words, 1), places, answer);
+    answer.show(&is_same);
+}
+
+fn delay(alloc: Global, words: &[&str], answer: &mut Answer) {
+    let from = answer.read(word(words, 0).parse::<u8>());
+    let to = answer.read(word(words, 1).parse::<u8>());
+    match made(alloc, word(words, 2), after(words, 3), answer) {
+        Ok(topology) => if from < topology.nodes() && to < topology.nodes() {
+            answer.show(&topology.delay(from, to));
+        } else {
+            answer.unread();
+        },
+        Err(_) => answer.unread(),
     }
-    Ok(topology.delay(from, to))
 }
 
-fn place_delay(topology: &Topology, x: &str, to: &str) -> Result<u128, Stop> {
-    let to = to.parse::<u8>()?;
-    if to >= topology.nodes() {
-        return Err(Stop::Unread);
+fn place_delay(alloc: Global, words: &[&str], answer: &mut Answer) {
+    let x = answer.read(word(words, 0).parse::<u32>());
+    let to = answer.read(word(words, 1).parse::<u8>());
+    match made(alloc, word(words, 2), after(words, 3), answer) {
+        Ok(topology) => if to < topology.nodes() {
+            answer.show(&topology.place_delay(x, to));
+        } else {
+            answer.unread();
+        },
+        Err(_) => answer.unread(),
     }
-    Ok(topology.place_delay(x.parse::<u32>()?, to))
 }
 
-/// Returns a topology that there is.
-fn read(alloc: Global, per: &str, words: &[&str]) -> Result<Topology, Stop> {
-    made(alloc, per, words)?.ok().ok_or(Stop::Unread)
-}
-
-fn made(alloc: Global, per: &str, words: &[&str]) -> Result<Result<Topology, TopologyFault>, Stop> {
+fn made(
+    alloc: Global,
+    per: &str,
+    words: &[&str],
+    answer: &mut Answer,
+) -> Result<Topology, TopologyFault> {
     let mut places: Vec<Place> = Vec::new(alloc);
     for word in words {
-        let (word, count) = repeated(word)?;
-        let place = place(word)?;
-        for _ in 0..count {
-            places.push(place)?;
-        }
+        let (word, count) = answer.repeated(word);
+        let place = place(word, answer);
+        answer.add(&mut places, place, count);
     }
-    Ok(Topology::new(places.as_slice(), number(per)?))
+    Topology::new(places.as_slice(), answer.number(per))
 }
 
-fn place(word: &str) -> Result<Place, Stop> {
-    let (x, delays) = word.split_once(',').ok_or(Stop::Unread)?;
-    let (out_delay, in_delay) = delays.split_once(',').ok_or(Stop::Unread)?;
-    Ok(Place {
-        x: x.parse::<u32>()?,
-        out_delay: number(out_delay)?,
-        in_delay: number(in_delay)?,
+fn place(word: &str, answer: &mut Answer) -> Place {
+    let (x, delays) = answer.parts(word, ",");
+    let (out_delay, in_delay) = answer.parts(delays, ",");
+    Place {
+        x: answer.read(x.parse::<u32>()),
+        out_delay: answer.number(out_delay),
+        in_delay: answer.number(in_delay),
         listens: false,
-    })
+    }
 }
