@@ -6,7 +6,7 @@ use Rattle.wl_sync.specs.Running.{clock_after}
 use Rattle.wl_sync.specs.Skips.{free_quanta}
 use Rattle.wl_node.specs.declared.setup.NodeSetup.{NodeSetup}
 use Rattle.wl_node.specs.History.{history_of}
-use Rattle.wl_trace.specs.declared.shown.Shown.{Shown}
+use Rattle.wl_trace.specs.declared.snapshot.NodeSnapshot.{NodeSnapshot}
 use Rattle.wl_trace.specs.Starts.{starts_of}
 use Rattle.wl_trace.specs.States.{node_state_of}
 
@@ -15,8 +15,8 @@ abbrev pub mark : ℕ → Bool
 mark zero = false
 mark (suc n) = not (mark n)
 
-abbrev pub shown_of : NodeSetup → List Level → Shown
-shown_of setup levels = record {
+abbrev pub snapshot_of : NodeSetup → List Level → NodeSnapshot
+snapshot_of setup levels = record {
   drive = (history_of setup levels).drive;
   sampled = mark (length (history_of setup levels).samples);
   started = mark (length (starts_of setup levels));

@@ -1,4 +1,4 @@
-//! What a waveform shows of a node.
+//! A snapshot of a node: what a waveform shows of it.
 use wl_confine::Mode;
 use wl_level::Level;
 use wl_machine::Doing;
@@ -12,13 +12,13 @@ pub struct NodeState {
     pub rec: u64,
     /// The mode that they give.
     pub mode: Mode,
-    /// Returns what it does.
+    /// What it does.
     pub doing: Doing,
 }
 
-/// What a waveform shows of a node after the quanta that it saw.
+/// A snapshot of a node after the quanta that it saw: what a waveform shows of it.
 #[derive(Clone, Copy, Debug, PartialEq, Eq)]
-pub struct Shown {
+pub struct NodeSnapshot {
     /// The level that it drives.
     pub drive: Level,
     /// Low at first, and turned at each of its samples.

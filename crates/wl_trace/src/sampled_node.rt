@@ -11,7 +11,7 @@ ghost use Rattle.wl_machine.specs.Judged.{drive_of, role_of, stretch_of};
 ghost use Rattle.wl_machine.specs.Reached.{IsMachine};
 ghost use Rattle.wl_node.specs.declared.setup.NodeSetup.{NodeSetup};
 ghost use Rattle.wl_node.specs.History.{is_sent, passed_frames, switched_off};
-ghost use Rattle.wl_trace.specs.Replay.{IsController, SampledPast, head_at, head_then, judged_then, no_past, past_after};
+ghost use Rattle.wl_trace.specs.Replay.{IsSampledNode, SampledPast, head_at, head_then, judged_then, no_past, past_after};
 ghost use Rattle.wl_confine.specs.Counts.{counts_after};
 
 use wl_confine::{Counters, Mode};
@@ -21,10 +21,10 @@ use wl_machine::{Doing, Done, Machine, Turn};
 use wl_node::NodeSetup;
 use wl_segments::SyncRules;
 
-/// A node's machine, error counters and queue, sample by sample (Bosch CAN 2.0 part B, sections 3, 6 and 8). It knows no ticks. No call takes
+/// A node as its samples leave it: machine, error counters and queue (Bosch CAN 2.0 part B, sections 3, 6 and 8). It knows no ticks. No call takes
 /// memory or is refused.
 #[derive(Drop)]
-pub struct Controller {
+pub struct SampledNode {
     pub(crate) machine: Machine,
     pub(crate) counters: Counters,
     /// What the node drives from its next bit start on.
@@ -70,13 +70,13 @@ pub(crate) fn goes_off(before: Mode, after: Mode) -> bool
     }
 }
 
-impl Controller {
+impl SampledNode {
     /// Returns a node before its first sample.
-    pub fn new() -> Controller
-        ensures past { IsController result no_past }
+    pub fn new() -> SampledNode
+        ensures past { IsSampledNode result no_past }
         ensures sent { result.sent ≡ 0 }
     {
-        Controller {
+        SampledNode {
             machine: Machine::new(),
             counters: Counters::new(),
             pending: Level::Recessive,
@@ -86,11 +86,11 @@ impl Controller {
 
     /// Takes the sample of this quantum, which has this level, and returns what the node does after it; `setup` is the node's.
     pub fn take(&mut self, setup: &NodeSetup, quantum: u64, level: Level) -> Doing
-        ensures past { (p : SampledPast) → count_by is_sent p.frames < 2 ^ 64 - 1 → IsController self.old p
-            → IsController self.new (past_after setup.now p (quantum, level)) }
-        ensures doing { (p : SampledPast) → count_by is_sent p.frames < 2 ^ 64 - 1 → IsController self.old p
+        ensures past { (p : SampledPast) → count_by is_sent p.frames < 2 ^ 64 - 1 → IsSampledNode self.old p
+            → IsSampledNode self.new (past_after setup.now p (quantum, level)) }
+        ensures doing { (p : SampledPast) → count_by is_sent p.frames < 2 ^ 64 - 1 → IsSampledNode self.old p
             → result ≡ doing_of (stretch_of (past_after setup.now p (quantum, level)).inputs) }
-        ensures sent { (p : SampledPast) → count_by is_sent p.frames < 2 ^ 64 - 1 → IsController self.old p
+        ensures sent { (p : SampledPast) → count_by is_sent p.frames < 2 ^ 64 - 1 → IsSampledNode self.old p
             → count_by is_sent (past_after setup.now p (quantum, level)).frames ≤ count_by is_sent p.frames + 1 }
     {
         self.sample_at(setup, quantum, level);
@@ -99,8 +99,8 @@ impl Controller {
 
     /// Takes the sample of this quantum, which has this level; `setup` is the node's.
     pub(crate) fn sample_at(&mut self, setup: &NodeSetup, quantum: u64, level: Level)
-        ensures past { (p : SampledPast) → self.old.sent < 2 ^ 64 - 1 → IsController self.old p
-            → IsController self.new (past_after setup.now p (quantum, level)) }
+        ensures past { (p : SampledPast) → self.old.sent < 2 ^ 64 - 1 → IsSampledNode self.old p
+            → IsSampledNode self.new (past_after setup.now p (quantum, level)) }
         ensures sent { self.new.sent ≤ self.old.sent + 1 }
     {
         if self.keep(level) {
@@ -113,12 +113,12 @@ impl Controller {
     /// Takes a sample of this level if nothing comes of it but that the machine has it; else returns false, and nothing changes.
     pub(crate) fn keep(&mut self, level: Level) -> bool
         ensures past { result ≡ true → (setup : NodeSetup) (p : SampledPast) (quantum : ℕ)
-            → IsController self.old p → IsController self.new (past_after setup p (quantum, level)) }
+            → IsSampledNode self.old p → IsSampledNode self.new (past_after setup p (quantum, level)) }
         ensures judged { result ≡ true → (setup : NodeSetup) (p : SampledPast) (quantum : ℕ)
-            → IsController self.old p → judged_then setup p quantum level ≡ continues Happened.Nothing }
-        ensures receives { result ≡ true → (p : SampledPast) → IsController self.old p
+            → IsSampledNode self.old p → judged_then setup p quantum level ≡ continues Happened.Nothing }
+        ensures receives { result ≡ true → (p : SampledPast) → IsSampledNode self.old p
             → role_of (stretch_of p.inputs) ≡ Role.Rx }
-        ensures same { result ≡ false → (p : SampledPast) → IsController self.old p → IsController self.new p }
+        ensures same { result ≡ false → (p : SampledPast) → IsSampledNode self.old p → IsSampledNode self.new p }
         ensures sent { self.new.sent ≡ self.old.sent }
     {
         self.machine.keep(level)
@@ -128,13 +128,13 @@ impl Controller {
     pub(crate) fn sample(&mut self, level: Level, head: Option<&Frame>) -> Turn
         ensures past { (setup : NodeSetup) (p : SampledPast) (quantum : ℕ)
             → option_copied head.entry ≡ head_then setup p quantum level → self.old.sent < 2 ^ 64 - 1
-            → IsController self.old p → IsController self.new (past_after setup p (quantum, level)) }
+            → IsSampledNode self.old p → IsSampledNode self.new (past_after setup p (quantum, level)) }
         ensures happened { (setup : NodeSetup) (p : SampledPast) (quantum : ℕ)
             → option_copied head.entry ≡ head_then setup p quantum level
-            → IsController self.old p → result.happened ≡ (judged_then setup p quantum level).happened }
+            → IsSampledNode self.old p → result.happened ≡ (judged_then setup p quantum level).happened }
         ensures done { (setup : NodeSetup) (p : SampledPast) (quantum : ℕ)
             → option_copied head.entry ≡ head_then setup p quantum level
-            → IsController self.old p → result.done ≡ done_of (judged_then setup p quantum level).ended }
+            → IsSampledNode self.old p → result.done ≡ done_of (judged_then setup p quantum level).ended }
         ensures counters { self.new.counters ≡ counts_after self.old.counters result.happened }
         ensures sent { self.new.sent ≤ self.old.sent + 1 }
     {

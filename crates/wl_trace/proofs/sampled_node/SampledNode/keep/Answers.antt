@@ -2,14 +2,14 @@ use Rattle.std.proofs.Common.{◌∙◌, refl, sym}
 use Rattle.wl_machine.specs.Judged.{stretch_of}
 use Rattle.wl_machine.specs.Stretch.{Sampled, Stretch}
 use Rattle.wl_trace.specs.Replay.{sampled_then}
-use Rattle.wl_trace.specs.declared.controller.Controller.{Controller}
+use Rattle.wl_trace.specs.declared.sampled_node.SampledNode.{SampledNode}
 use Rattle.wl_trace.proofs.Kept.{kept, receives_by}
-use Rattle.wl_trace.proofs.controller.Controller.keep.Goals as goal
+use Rattle.wl_trace.proofs.sampled_node.SampledNode.keep.Goals as goal
 
 pub returns-clause-past : goal.returns-clause-past
 returns-clause-past c e setup p quantum old =
     let x : Sampled = sampled_then setup p quantum c.args.level in
-    let now : Controller = record {
+    let now : SampledNode = record {
       machine = c.keep.new.self;
       counters = c.args.self.now.counters;
       pending = c.args.self.now.pending;

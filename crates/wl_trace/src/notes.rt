@@ -10,7 +10,7 @@ ghost use Rattle.wl_machine.specs.States.{done_of};
 ghost use Rattle.wl_trace.specs.Events.{error_event, error_events, flag_events, frame_events, judged_events, lost_events, mode_events};
 ghost use Rattle.wl_trace.specs.Running.{ComesNext, KeepsStretch};
 
-use crate::event::{Event, FlagForm, Noted};
+use crate::event::{FlagForm, NodeEvent, Noted};
 use crate::stretch::{NextStretch, RunningStretch, StretchKind};
 use std::alloc::AllocError;
 use wl_confine::{Counters, ErrorKind, Happened, Mode};
@@ -29,7 +29,7 @@ impl Notes {
     ghost use Rattle.wl_trace.specs.Notes.{Adds};
 
     /// Adds an event.
-    fn push(&mut self, event: Event) -> Result<(), AllocError>
+    fn push(&mut self, event: NodeEvent) -> Result<(), AllocError>
         ensures { OnOk result (Adds self.old self.new (event ∷ [])) }
     {
         self.events.push(Noted {
@@ -46,7 +46,7 @@ impl Notes {
             → OnOk result (Adds self.old self.new (lost_events s level)) }
     {
         if stretch.loses(level) {
-            self.push(Event::ArbitrationLost(stretch.place()))?;
+            self.push(NodeEvent::ArbitrationLost(stretch.place()))?;
         }
         Ok(())
     }
@@ -61,7 +61,7 @@ impl Notes {
         ensures { (s : Stretch) → KeepsStretch stretch.now s
             → OnOk result (Adds self.old self.new (error_event s sends kind ∷ [])) }
     {
-        self.push(Event::Error {
+        self.push(NodeEvent::Error {
             kind,
             sends,
             stuff: stretch.is_at_stuff(),
@@ -100,12 +100,12 @@ impl Notes {
                 } else {
                     FlagForm::Active
                 };
-                self.push(Event::Flag(form))
+                self.push(NodeEvent::Flag(form))
             }
             NextStretch::Begins {
                 kind: StretchKind::PassiveFlag { .. },
                 ..
-            } => self.push(Event::Flag(FlagForm::Passive)),
+            } => self.push(NodeEvent::Flag(FlagForm::Passive)),
             _ => Ok(()),
         }
     }
@@ -118,9 +118,9 @@ impl Notes {
     {
         match done {
             Done::Nothing => Ok(()),
-            Done::Received(frame) => self.push(Event::Received(frame)),
+            Done::Received(frame) => self.push(NodeEvent::Received(frame)),
             Done::Sent => match stretch.head() {
-                Some(frame) => self.push(Event::Sent(frame)),
+                Some(frame) => self.push(NodeEvent::Sent(frame)),
                 None => Ok(()),
             },
         }
@@ -133,7 +133,7 @@ impl Notes {
         if old.mode() == new.mode() {
             return Ok(());
         }
-        self.push(Event::ModeChanged(new))
+        self.push(NodeEvent::ModeChanged(new))
     }
 
     /// Notes all that a sample of this level did: what happened and was completed, what comes next, and the counters before and after it.

@@ -14,8 +14,8 @@ use Rattle.wl_machine.specs.Judged.{judged, stretch_of}
 use Rattle.wl_machine.specs.States.{done_of, sample_of}
 use Rattle.wl_node.specs.declared.setup.NodeSetup.{NodeSetup}
 use Rattle.wl_node.specs.History.{passed_frames, is_sent, switched_off}
-use Rattle.wl_trace.specs.Replay.{IsController, SampledPast, head_then, past_judged, sampled_then}
-use Rattle.wl_trace.proofs.controller.Controller.sample.Goals as goal
+use Rattle.wl_trace.specs.Replay.{IsSampledNode, SampledPast, head_then, past_judged, sampled_then}
+use Rattle.wl_trace.proofs.sampled_node.SampledNode.sample.Goals as goal
 
 -- the past after a sample, by what was answered of it
 abbrev made : SampledPast → ℕ → Sampled → Happened → Ended → Mode → SampledPast
@@ -55,7 +55,7 @@ returns-clause-past c setup p quantum ready few r =
     let counted = c.apply.ensures.whole p.happened r.counters in
     let ended : Ended = j.ended in
     let one = c.sent_with.ensures.most in
-    let code : IsController c.switch_off.new.self (made p quantum x c.bit-turn.result.happened ended c.mode-after.result) = record {
+    let code : IsSampledNode c.switch_off.new.self (made p quantum x c.bit-turn.result.happened ended c.mode-after.result) = record {
       machine = c.switch_off.ensures.machine (p.inputs ++ Sample x ∷ []) (c.bit-turn.ensures.machine p.inputs r.machine);
       counters = c.switch_off.ensures.counters ∙ counted;
       pending = c.switch_off.ensures.pending (p.inputs ++ Sample x ∷ []) (c.bit-turn.ensures.drive p.inputs r.machine);
@@ -67,6 +67,6 @@ returns-clause-past c setup p quantum ready few r =
           ∙ sym (sum_by-append (λ k. cond (is_sent k) 1 0) p.frames (passed_frames quantum ended));
     } in
     let after : c.mode-after.result ≡ mode_of (counts_of (p.happened ++ c.bit-turn.result.happened ∷ [])) = c.mode-after.ensures ∙ ap mode_of counted in
-    let placed = subst (λ (m : Mode). IsController c.switch_off.new.self (made p quantum x c.bit-turn.result.happened ended m)) after code in
-    let told = subst (λ (y : Happened). IsController c.switch_off.new.self (made p quantum x y ended (mode_of (counts_of (p.happened ++ y ∷ []))))) happened placed in
-    subst (λ (y : Sampled). IsController c.switch_off.new.self (past_judged p quantum y (judged s y))) same told
+    let placed = subst (λ (m : Mode). IsSampledNode c.switch_off.new.self (made p quantum x c.bit-turn.result.happened ended m)) after code in
+    let told = subst (λ (y : Happened). IsSampledNode c.switch_off.new.self (made p quantum x y ended (mode_of (counts_of (p.happened ++ y ∷ []))))) happened placed in
+    subst (λ (y : Sampled). IsSampledNode c.switch_off.new.self (past_judged p quantum y (judged s y))) same told

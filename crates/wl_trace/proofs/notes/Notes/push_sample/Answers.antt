@@ -2,11 +2,11 @@ use Rattle.std.proofs.Common.{◌≡◌, ◌∙◌, ap, subst, ◌++◌}
 use Rattle.wl_confine.specs.declared.Mode.{Mode}
 use Rattle.wl_confine.specs.declared.Happened.{Happened}
 use Rattle.wl_confine.specs.Counts.{Counts, counts_after, mode_of}
-use Rattle.wl_trace.specs.declared.noting.Notes.{Notes}
+use Rattle.wl_trace.specs.declared.notes.Notes.{Notes}
 use Rattle.wl_trace.specs.Events.{lost_events, error_events, flag_events, frame_events, mode_events, judged_events}
 use Rattle.wl_trace.specs.Notes.{Adds}
 use Rattle.wl_trace.proofs.Added.{adds_both, on_ok}
-use Rattle.wl_trace.proofs.noting.Notes.push_sample.Goals as goal
+use Rattle.wl_trace.proofs.notes.Notes.push_sample.Goals as goal
 
 pub returns : goal.returns
 returns c s j r h d n f =

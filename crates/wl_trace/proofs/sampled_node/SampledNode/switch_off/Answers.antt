@@ -6,7 +6,7 @@ use Rattle.wl_machine.specs.Stretch.Input.{SwitchedOff}
 use Rattle.wl_machine.specs.Judged.{drive_of, stretch_of}
 use Rattle.wl_machine.proofs.Callers.{stretch_next}
 use Rattle.wl_node.specs.History.{switched_off}
-use Rattle.wl_trace.proofs.controller.Controller.switch_off.Goals as goal
+use Rattle.wl_trace.proofs.sampled_node.SampledNode.switch_off.Goals as goal
 
 pub returns-then-goes_off-clause-pending : goal.returns-then-goes_off-clause-pending
 returns-then-goes_off-clause-pending c past r =
