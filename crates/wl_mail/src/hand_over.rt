@@ -1,4 +1,4 @@
-//! Records that a group takes, and whether they say something new to it.
+//! The hand-over of records to a group, and whether they say something new to it.
 ghost use Rattle.std.specs.Prelude.{◌≡◌, ◌≢◌, ℕ, IfOk, MatchBool, OnErr, OnOk, [], ◌∷◌, take};
 ghost use Rattle.wl_plan.specs.PlanLine.{IsTrueOfPlan};
 ghost use Rattle.wl_group.specs.GroupValue.{with_records};

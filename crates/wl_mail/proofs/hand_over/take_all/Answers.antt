@@ -2,7 +2,7 @@ use Rattle.std.proofs.Common.{◌∷◌, ◌<◌, [], get_or, length, take, ap, 
 use Rattle.wl_record_core.specs.declared.record.Record.TheVariants.{Edge}
 use Rattle.wl_group.specs.GroupValue.{with_records}
 use Rattle.wl_mail.proofs.Taken.{with_both, one_longer, changed_more}
-use Rattle.wl_mail.proofs.taking.take_all.Goals as goal
+use Rattle.wl_mail.proofs.hand_over.take_all.Goals as goal
 
 pub loop-i-preserved : goal.loop-i-preserved
 loop-i-preserved c =

@@ -1,4 +1,4 @@
-//! The ways from a worker to all other workers.
+//! The senders of a worker: one to each other worker.
 ghost use Rattle.std.specs.Prelude.{◌≡◌, ◌≢◌, ℕ, ◌-◌, ◌<◌, Err, IfOk, MatchBool, OnOk, OnErr, map, replicate, length};
 ghost use Rattle.wl_mail.specs.Ways.{one_letter_more, one_letter_more_to};
 ghost use Rattle.wl_mail.specs.declared.fault.MailFault.TheVariants.{Foreign, Gone, Memory};
@@ -10,26 +10,26 @@ use std::alloc::{AllocError, Global};
 use std::marker::Model;
 use std::sync::Wait;
 
-/// The way to another worker.
+/// A sender to another worker, which counts its letters.
 #[derive(Drop)]
-struct Way {
+struct CountedSender {
     to: Sender<Letter>,
-    // How many letters went that way; at 2^64 - 1 it stays.
+    // How many letters it sent; at 2^64 - 1 it stays.
     letters: u64,
 }
 
-/// The ways to all other workers. Contracts see how many letters went each way.
+/// The senders to all other workers. Contracts see how many letters each sent.
 #[derive(Drop)]
-pub(crate) struct Ways {
-    ways: Vec<Way>,
+pub(crate) struct Senders {
+    all: Vec<CountedSender>,
 }
 
-impl Model for Ways {
+impl Model for Senders {
     ghost use Rattle.std.specs.Prelude.{List, ℕ, map};
 
     ghost Value = { List ℕ };
 
-    ghost view = { λ ways. map (λ way. way.letters) ways.ways.items };
+    ghost view = { λ senders. map (λ sender. sender.letters) senders.all.items };
 }
 
 /// Returns why a letter came back: there was no memory for its place, or its receiver was given up.
@@ -43,8 +43,8 @@ fn fault_of(is_out_of_memory: bool) -> MailFault
     }
 }
 
-impl Way {
-    /// Sends a letter that way.
+impl CountedSender {
+    /// Sends a letter.
     fn send<R: Wait>(&mut self, rt: &R, letter: Letter) -> Result<(), MailFault>
         ensures ok { OnOk result (self.new.letters ≡ one_letter_more self.old.letters) }
         ensures err { OnErr result (self.new.letters ≡ self.old.letters) }
@@ -58,38 +58,38 @@ impl Way {
     }
 }
 
-impl Ways {
-    /// Sends a letter every way. Refused, it may have gone the first ways.
+impl Senders {
+    /// Sends a letter by each sender. Refused, it may have gone by the first ones.
     pub(crate) fn send<R: Wait>(&mut self, rt: &R, letter: &Letter) -> Result<(), MailFault>
         ensures all { OnOk result (self.new ≡ map one_letter_more self.old) }
         ensures some { (k : ℕ) × (self.new ≡ one_letter_more_to k self.old) }
         ensures cause { result ≢ Err Foreign }
     {
-        for i in 0..self.ways.len() {
+        for i in 0..self.all.len() {
             let same = letter.share()?;
-            self.ways[i].send(rt, same)?;
+            self.all[i].send(rt, same)?;
         }
         Ok(())
     }
 }
 
-/// Returns the ways of a worker, by where each worker's letters are sent to.
-pub(crate) fn ways_of(
+/// Returns the senders of a worker, by where each worker's letters are sent to.
+pub(crate) fn senders_of(
     alloc: Global,
     senders: &[Sender<Letter>],
     worker: usize,
-) -> Result<Ways, AllocError>
+) -> Result<Senders, AllocError>
     requires { worker < length senders.now }
-    ensures { IfOk result (λ ways. ways ≡ replicate (length senders.now - 1) 0) }
+    ensures { IfOk result (λ all. all ≡ replicate (length senders.now - 1) 0) }
 {
-    let mut ways = Vec::new(alloc);
+    let mut others = Vec::new(alloc);
     for i in 0..senders.len() {
         if i != worker {
-            ways.push(Way {
+            others.push(CountedSender {
                 to: senders[i].clone()?,
                 letters: 0,
             })?;
         }
     }
-    Ok(Ways { ways })
+    Ok(Senders { all: others })
 }

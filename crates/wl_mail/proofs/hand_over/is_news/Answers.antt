@@ -1,5 +1,5 @@
 use Rattle.wl_mail.proofs.News.{edge_found, clash_found, silence_found}
-use Rattle.wl_mail.proofs.taking.is_news.Goals as goal
+use Rattle.wl_mail.proofs.hand_over.is_news.Goals as goal
 
 pub returns-in-Edge-Edge : goal.returns-in-Edge-Edge
 returns-in-Edge-Edge c = edge_found c.taking_is_joining.ensures c.states_join_slot_by_slot.ensures c.slots_of_states.ensures c.args.known.now c.nodes.ensures.records c.args.entry c.slot.result c.slot-2.result
