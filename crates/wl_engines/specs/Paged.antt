@@ -17,7 +17,7 @@ use Rattle.wl_setup.specs.declared.fault.SetupFault.TheVariants as setup
 use Rattle.wl_traffic.specs.Traffic.{traffic_text}
 use Rattle.wl_views.specs.declared.tick.Tick.{Tick}
 use Rattle.wl_views.specs.Ticks.{tick_picoseconds}
-use Rattle.wl_views.specs.Trace.{trace_text}
+use Rattle.wl_views.specs.TraceText.{trace_text}
 use Rattle.wl_views.specs.Vcd.{vcd_text}
 use Rattle.wl_engines.specs.Explained.{bus_answer}
 use Rattle.wl_engines.specs.Ran.{Ran}

@@ -12,7 +12,7 @@ use Rattle.wl_report.specs.Report.{report_text}
 use Rattle.wl_views.specs.declared.tick.Tick.{Tick}
 use Rattle.wl_views.specs.Candump.{log_text}
 use Rattle.wl_views.specs.Vcd.{vcd_text}
-use Rattle.wl_views.specs.Trace.{trace_text}
+use Rattle.wl_views.specs.TraceText.{trace_text}
 use Rattle.wl_setup.specs.declared.fault.SetupFault.TheVariants as setup
 use Rattle.wl_setup.specs.Plans.{GivesPlan}
 use Rattle.wl_engines.specs.declared.fault.RunFault.{RunFault}

@@ -1,7 +1,7 @@
 //! Views of a plan's simulation in the formats of other tools.
 ghost use Rattle.std.specs.Prelude.{◌≡◌, IfOk};
 ghost use Rattle.wl_views.specs.Candump.{log_text};
-ghost use Rattle.wl_views.specs.Trace.{trace_text};
+ghost use Rattle.wl_views.specs.TraceText.{trace_text};
 ghost use Rattle.wl_engines.specs.Plans.{RunsPlan, IsCandumpOutput, IsTraceOutput, IsVcdOutput};
 
 use crate::fault::RunFault;

@@ -1,4 +1,4 @@
--- Letters that were counted, way by way.
+-- Letters that were counted, sender by sender.
 use Rattle.std.proofs.Common.{◌≡◌, ℕ, zero, suc, ◌<◌, ◌≤◌, ◌+◌, List, [], ◌∷◌, length, map, get_or, slice_set, add-one, refl, sym, ap, ◌∙◌, arith}
 use Rattle.std.proofs.lemmas.List.{length-map}
 use Rattle.wl_mail.specs.Ways.{one_letter_more, one_letter_more_to}
@@ -18,12 +18,12 @@ count_stays zero counts = refl
 count_stays (suc k) [] = refl
 count_stays (suc k) (n ∷ counts) = ap suc (count_stays k counts)
 
--- as many ways as there are counts
-pub as_many : {A : Type 0} (f : A → ℕ) (ways : List A) (counts : List ℕ) → map f ways ≡ counts → length ways ≡ length counts
-as_many f ways counts e = sym (length-map ways f) ∙ ap length e
+-- as many senders as there are counts
+pub as_many : {A : Type 0} (f : A → ℕ) (senders : List A) (counts : List ℕ) → map f senders ≡ counts → length senders ≡ length counts
+as_many f senders counts e = sym (length-map senders f) ∙ ap length e
 
-pub still_as_many : {A : Type 0} (f : A → ℕ) (ways : List A) (k : ℕ) (counts : List ℕ) → map f ways ≡ one_letter_more_to k counts → length ways ≡ length counts
-still_as_many f ways k counts e = as_many f ways (one_letter_more_to k counts) e ∙ count_stays k counts
+pub still_as_many : {A : Type 0} (f : A → ℕ) (senders : List A) (k : ℕ) (counts : List ℕ) → map f senders ≡ one_letter_more_to k counts → length senders ≡ length counts
+still_as_many f senders k counts e = as_many f senders (one_letter_more_to k counts) e ∙ count_stays k counts
 
 -- so one more, where the number at that place is raised
 pub counted_more : (counts xs : List ℕ) (i n m end : ℕ) → xs ≡ one_letter_more_to i counts → i < end → end ≡ length counts → m ≡ get_or xs i 0 → n ≡ one_letter_more m

@@ -7,7 +7,7 @@ ghost use Rattle.wl_mail.specs.Handed.{Took, TellsNews};
 ghost use Rattle.wl_mail.specs.declared.fault.MailFault.TheVariants.{Foreign, Gone};
 
 use crate::fault::MailFault;
-use crate::taking::take_all;
+use crate::hand_over::take_all;
 use std::alloc::{AllocError, Global};
 use std::sync::Arc;
 use wl_group::Group;

@@ -2,11 +2,11 @@
 #![tactic(auto)]
 
 mod fault;
+mod hand_over;
 mod laws;
 mod letter;
 mod post;
-mod taking;
-mod ways;
+mod senders;
 
 pub use fault::MailFault;
 pub use laws::taking_laws;

@@ -9,7 +9,7 @@ ghost use Rattle.wl_mail.specs.declared.fault.MailFault.TheVariants.{Foreign, Go
 
 use crate::fault::MailFault;
 use crate::letter::Letter;
-use crate::ways::{Ways, ways_of};
+use crate::senders::{Senders, senders_of};
 use crossbeam_channel::{Receiver, unbounded};
 use std::alloc::{AllocError, Global};
 use std::marker::Model;
@@ -24,7 +24,7 @@ use wl_record_core::Record;
 /// has handed out since it began or was last rewound.
 #[derive(Drop)]
 pub struct Post {
-    ways: Ways,
+    senders: Senders,
     from: Receiver<Letter>,
     kept: Vec<Letter>,
     handed: usize,
@@ -36,7 +36,7 @@ impl Model for Post {
 
     ghost Value = { PostValue };
 
-    ghost view = { λ post. record { sent = post.ways; kept = post.kept.items; handed = post.handed } };
+    ghost view = { λ post. record { sent = post.senders; kept = post.kept.items; handed = post.handed } };
 
     ghost invariant = { λ post. post.handed ≤ length post.kept.items };
 }
@@ -63,7 +63,7 @@ impl Post {
         ensures cause { result ≢ Err Foreign }
     {
         let letter = Letter::new(alloc, plan, records)?;
-        self.ways.send(rt, &letter)
+        self.senders.send(rt, &letter)
     }
 
     /// Sends a letter of a plan that the letters of many calls share, as `send` does.
@@ -80,7 +80,7 @@ impl Post {
         ensures cause { result ≢ Err Foreign }
     {
         let letter = Letter::of(alloc, plan, records)?;
-        self.ways.send(rt, &letter)
+        self.senders.send(rt, &letter)
     }
 
     /// Lets the group take the records of the next letter, and returns whether that changed what the group knows. The next letter is the
@@ -92,7 +92,7 @@ impl Post {
     pub fn receive<R: Wait>(
         &mut self,
         rt: &R,
-        alloc: Global,
+        _alloc: Global,
         group: &mut Group,
     ) -> Result<bool, MailFault>
         ensures kept { KeepsLetters self.old self.new }
@@ -104,7 +104,6 @@ impl Post {
         ensures gone { result ≡ Err Gone → self.new ≡ self.old × (self.old.handed ≡ length self.old.kept) }
         ensures memory { result ≡ Err Memory → self.new.handed ≡ self.old.handed }
     {
-        let _ = alloc;
         wl_replica::joining_is_a_join();
         self.await_next(rt)?;
         match self.kept[self.handed].hand_to(group) {
@@ -181,7 +180,7 @@ pub fn posts(alloc: Global, workers: u8) -> Result<(Vec<Post>, Hold), AllocError
     for worker in 0..workers {
         let at = usize::from(worker);
         posts.push(Post {
-            ways: ways_of(alloc, &senders, at)?,
+            senders: senders_of(alloc, &senders, at)?,
             from: receivers[at].clone()?,
             kept: Vec::new(alloc),
             handed: 0,

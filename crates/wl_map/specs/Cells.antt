@@ -6,7 +6,7 @@ use Rattle.wl_setup.specs.declared.fault.SetupFault.{SetupFault}
 use Rattle.wl_setup.specs.declared.plan_text.PlanText.{PlanText}
 use Rattle.wl_setup.specs.Names.{has_repeat, names_of}
 use Rattle.wl_setup.specs.Plans.{plan_of_text}
-use Rattle.wl_views.specs.Trace.{first_error_text}
+use Rattle.wl_views.specs.TraceText.{first_error_text}
 use Rattle.wl_sweep.specs.declared.finding.Finding.{Finding}
 use Rattle.wl_sweep.specs.declared.sweep.Sweep.{Sweep}
 use Rattle.wl_sweep.specs.declared.tally.Tally.{Tally}

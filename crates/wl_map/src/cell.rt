@@ -7,7 +7,7 @@ ghost use Rattle.wl_setup.specs.Names.{names_of};
 ghost use Rattle.wl_setup.specs.Plans.{plan_of_text};
 ghost use Rattle.wl_sweep.specs.Findings.{is_clean};
 ghost use Rattle.wl_sweep.specs.Sweeps.{all_findings, is_small};
-ghost use Rattle.wl_views.specs.Trace.{first_error_text};
+ghost use Rattle.wl_views.specs.TraceText.{first_error_text};
 
 use std::alloc::{AllocError, Global};
 use std::thread::Threads;

@@ -1,12 +1,12 @@
 -- Notes that were added one after the other.
 use Rattle.std.proofs.Common.{◌∙◌, ap, ap₂, sym, ℕ, List, ◌++◌, map, append_assoc, Result, Ok, Err, OnOk}
 use Rattle.std.proofs.lemmas.List.{map-append}
-use Rattle.wl_trace.specs.declared.event.Event.{Event}
-use Rattle.wl_trace.specs.declared.noting.Notes.{Notes}
+use Rattle.wl_trace.specs.declared.event.NodeEvent.{NodeEvent}
+use Rattle.wl_trace.specs.declared.notes.Notes.{Notes}
 use Rattle.wl_trace.specs.Events.{noted}
 use Rattle.wl_trace.specs.Notes.{Adds}
 
-pub adds_both : (a b c : Notes) (xs ys : List Event) → Adds a b xs → Adds b c ys → Adds a c (xs ++ ys)
+pub adds_both : (a b c : Notes) (xs ys : List NodeEvent) → Adds a b xs → Adds b c ys → Adds a c (xs ++ ys)
 adds_both a b c xs ys p q = record {
   events =
       q.events

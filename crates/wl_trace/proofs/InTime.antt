@@ -8,7 +8,7 @@ use Rattle.wl_sync.specs.declared.Beat.TheVariants as beats
 use Rattle.wl_sync.specs.Bits.{beat_of}
 use Rattle.wl_node.specs.declared.setup.NodeSetup.{NodeSetup}
 use Rattle.wl_node.specs.History.{History, no_history, history_after, seen_next}
-use Rattle.wl_trace.specs.declared.event.Event.{Event}
+use Rattle.wl_trace.specs.declared.event.NodeEvent.{NodeEvent}
 use Rattle.wl_trace.specs.declared.event.Noted.{Noted}
 use Rattle.wl_trace.proofs.Syncing.{one_more}
 use Rattle.wl_trace.specs.Events.{noted, beat_events, events_at, traced_after, events_of}
@@ -19,7 +19,7 @@ Before n es = All (λ e. e.quantum < n) es
 later : (n : ℕ) (es : List Noted) → Before n es → Before (suc n) es
 later n es h = λ k d b. let q = h k d b in omega arith
 
-noted_before : (n bit : ℕ) (es : List Event) → Before (suc n) (map (noted n bit) es)
+noted_before : (n bit : ℕ) (es : List NodeEvent) → Before (suc n) (map (noted n bit) es)
 noted_before n bit es = All-map (λ (e : Noted). e.quantum < suc n) (noted n bit) es (λ k d b. let q : n < suc n = omega arith in q)
 
 module _ (setup : NodeSetup) where

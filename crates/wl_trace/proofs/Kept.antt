@@ -17,10 +17,10 @@ use Rattle.wl_machine.specs.Keeps.{keeps_by, keeps_in_frame}
 use Rattle.wl_machine.specs.Reached.{IsMachine}
 use Rattle.wl_node.specs.declared.setup.NodeSetup.{NodeSetup}
 use Rattle.wl_node.specs.History.{switched_off}
-use Rattle.wl_trace.specs.declared.controller.Controller.{Controller}
-use Rattle.wl_trace.specs.declared.event.Event.{Event}
+use Rattle.wl_trace.specs.declared.sampled_node.SampledNode.{SampledNode}
+use Rattle.wl_trace.specs.declared.event.NodeEvent.{NodeEvent}
 use Rattle.wl_trace.specs.Events.{flag_events, is_transmitter, judged_events, lost_events, mode_events, is_same_mode}
-use Rattle.wl_trace.specs.Replay.{IsController, SampledPast, judged_then, past_after, past_judged, sampled_then, then_events}
+use Rattle.wl_trace.specs.Replay.{IsSampledNode, SampledPast, judged_then, past_after, past_judged, sampled_then, then_events}
 
 -- it is a receiver's
 receives_in : (r : Role) (end : Option ℕ) (own : List Level) (level : Level) → keeps_in_frame r end own level ≡ true → r ≡ Rx
@@ -64,9 +64,9 @@ flag_none Off = refl
 mode_none : (counts : Counts) → mode_events counts counts ≡ []
 mode_none counts = rw (same_mode (mode_of counts)) refl
 
-all_none : (a b c : List Event) → a ≡ [] → b ≡ [] → c ≡ [] → (a ++ [] ++ b ++ [] ++ c) ≡ []
+all_none : (a b c : List NodeEvent) → a ≡ [] → b ≡ [] → c ≡ [] → (a ++ [] ++ b ++ [] ++ c) ≡ []
 all_none a b c p q r =
-    ap (λ (x : List Event). x ++ [] ++ b ++ [] ++ c) p ∙ ap (λ (x : List Event). [] ++ [] ++ x ++ [] ++ c) q ∙ ap (λ (x : List Event). [] ++ [] ++ [] ++ [] ++ x) r
+    ap (λ (x : List NodeEvent). x ++ [] ++ b ++ [] ++ c) p ∙ ap (λ (x : List NodeEvent). [] ++ [] ++ x ++ [] ++ c) q ∙ ap (λ (x : List NodeEvent). [] ++ [] ++ [] ++ [] ++ x) r
 
 module _ (setup : NodeSetup) (p : SampledPast) (quantum : ℕ) (level : Level) (judged_is : judged_then setup p quantum level ≡ continues Nothing) where
   abbrev x : Sampled
@@ -96,10 +96,10 @@ module _ (setup : NodeSetup) (p : SampledPast) (quantum : ℕ) (level : Level) (
         samples = p.samples ++ (quantum, level) ∷ [];
       }
 
-  pub kept : (old new : Controller) → IsController old p → new.counters ≡ old.counters → new.pending ≡ old.pending → new.sent ≡ old.sent
+  pub kept : (old new : SampledNode) → IsSampledNode old p → new.counters ≡ old.counters → new.pending ≡ old.pending → new.sent ≡ old.sent
       → drive_of (stretch_of p.inputs) ≡ drive_of (stretch_of (p.inputs ++ Sample x ∷ [])) → IsMachine new.machine (p.inputs ++ Sample x ∷ [])
-      → IsController new (past_after setup p (quantum, level))
-  kept old new is counters pending sent drive machine = subst (IsController new) (sym past_is) (record {
+      → IsSampledNode new (past_after setup p (quantum, level))
+  kept old new is counters pending sent drive machine = subst (IsSampledNode new) (sym past_is) (record {
     machine = machine;
     counters = counters ∙ is.counters ∙ sym counts_same;
     pending = pending ∙ is.pending ∙ drive;

@@ -10,10 +10,10 @@ use Rattle.wl_machine.specs.Judged.{stretch_of}
 use Rattle.wl_node.specs.declared.setup.NodeSetup.{NodeSetup}
 use Rattle.wl_node.specs.History.{History, history_of, seen_next}
 use Rattle.wl_trace.specs.Replay.{SampledPast}
-use Rattle.wl_trace.specs.Shown.{mark, shown_of}
+use Rattle.wl_trace.specs.Snapshot.{mark, snapshot_of}
 use Rattle.wl_trace.specs.Starts.{is_start, starts_of, with_start}
 use Rattle.wl_confine.specs.Counts.{counts_of}
-use Rattle.wl_trace.specs.declared.shown.NodeState.{NodeState}
+use Rattle.wl_trace.specs.declared.snapshot.NodeState.{NodeState}
 use Rattle.wl_trace.specs.States.{state_by}
 use Rattle.wl_trace.proofs.Skipping.{IsSkippable, IsSkipped, all_skipped, seen_same}
 use Rattle.wl_trace.proofs.Starting.{starts_more}
@@ -58,7 +58,7 @@ abbrev state_past : SampledPast → NodeState
 state_past p = state_by (counts_of p.happened) (stretch_of p.inputs)
 
 pub shown_same : (setup : NodeSetup) (levels : List Level) (level : Level) (m : ℕ) → IsPassed setup levels level m
-    → shown_of setup (levels ++ replicate m level) ≡ shown_of setup levels
+    → snapshot_of setup (levels ++ replicate m level) ≡ snapshot_of setup levels
 shown_same setup levels level m is i = record {
   drive = is.same.drive i;
   sampled = ap (λ (p : SampledPast). mark (length p.samples)) is.same.past i;

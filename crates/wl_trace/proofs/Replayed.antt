@@ -11,7 +11,7 @@ use Rattle.wl_node.specs.History.{History, no_history, history_of, history_after
 use Rattle.wl_trace.specs.declared.event.Noted.{Noted}
 use Rattle.wl_trace.specs.Events.{noted, beat_events, events_at, traced_after, events_of}
 use Rattle.wl_trace.specs.Replay.{IsReplay, SampledPast, no_past, past_after, past_of, then_events}
-use Rattle.wl_trace.specs.declared.noting.Notes.{Notes}
+use Rattle.wl_trace.specs.declared.notes.Notes.{Notes}
 use Rattle.wl_trace.specs.declared.replay.Replay.{Replay}
 use Rattle.wl_trace.specs.Notes.{Adds}
 

@@ -12,7 +12,7 @@ use Rattle.wl_sync.specs.declared.Sync.TheVariants.{Hard, Error}
 use Rattle.wl_sync.specs.Bits.{sync_of}
 use Rattle.wl_node.specs.declared.setup.NodeSetup.{NodeSetup}
 use Rattle.wl_node.specs.History.{History, no_history, history_of, history_after, seen_next, syncs_at, is_hard, phase_of, hards_of, phases_of}
-use Rattle.wl_trace.specs.declared.event.Event.TheVariants as events
+use Rattle.wl_trace.specs.declared.event.NodeEvent.TheVariants as events
 use Rattle.wl_trace.specs.declared.event.Noted.{Noted}
 use Rattle.wl_trace.specs.Events.{noted}
 use Rattle.wl_trace.specs.Synced.{sync_event, sync_next, with_next, synced_after, syncs_of}

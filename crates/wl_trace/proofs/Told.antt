@@ -23,15 +23,15 @@ use Rattle.wl_machine.specs.Roles.{loses}
 use Rattle.wl_node.specs.declared.setup.NodeSetup.{NodeSetup}
 use Rattle.wl_node.specs.declared.setup.Passed.{Passed}
 use Rattle.wl_node.specs.History.{History, no_history, history_of, history_after, by_beat, sampled_next, seen_next, passed_frames, error_count}
-use Rattle.wl_trace.specs.declared.event.Event.{Event}
-use Rattle.wl_trace.specs.declared.event.Event.TheVariants as events
+use Rattle.wl_trace.specs.declared.event.NodeEvent.{NodeEvent}
+use Rattle.wl_trace.specs.declared.event.NodeEvent.TheVariants as events
 use Rattle.wl_trace.specs.declared.event.Noted.{Noted}
 use Rattle.wl_trace.specs.Places.{next_place}
 use Rattle.wl_trace.specs.Events.{lost_events, error_events, flag_in, flag_events, frame_events, is_same_mode, mode_events, judged_events, noted, sample_events, beat_events, events_at, traced_after, events_of}
 use Rattle.wl_trace.specs.Laws.{tells_error, told_frames}
 
 -- a list of events tells so many errors, and these frames
-record Tells (quantum : ℕ) (es : List Event) (errors : ℕ) (frames : List Passed) : Type 0 where
+record Tells (quantum : ℕ) (es : List NodeEvent) (errors : ℕ) (frames : List Passed) : Type 0 where
   counted : (bit : ℕ) → count_by tells_error (map (noted quantum bit) es) ≡ errors
   passed : (bit : ℕ) → flat_map told_frames (map (noted quantum bit) es) ≡ frames
 
@@ -42,7 +42,7 @@ module _ (quantum : ℕ) where
   none : Tells quantum [] 0 []
   none = record { counted = λ bit. refl; passed = λ bit. refl }
 
-  both : (xs ys : List Event) (m n : ℕ) (fs gs : List Passed) → Tells quantum xs m fs → Tells quantum ys n gs → Tells quantum (xs ++ ys) (m + n) (fs ++ gs)
+  both : (xs ys : List NodeEvent) (m n : ℕ) (fs gs : List Passed) → Tells quantum xs m fs → Tells quantum ys n gs → Tells quantum (xs ++ ys) (m + n) (fs ++ gs)
   both xs ys m n fs gs p q = record {
     counted = λ bit.
         ap (count_by tells_error) (map-append (noted quantum bit) xs ys)
@@ -54,7 +54,7 @@ module _ (quantum : ℕ) where
         ∙ ap₂ (λ (a b : List Passed). a ++ b) (p.passed bit) (q.passed bit);
   }
 
-  if_tells : (b : Bool) (xs ys : List Event) (n : ℕ) (fs : List Passed) → Tells quantum xs n fs → Tells quantum ys n fs → Tells quantum (cond b xs ys) n fs
+  if_tells : (b : Bool) (xs ys : List NodeEvent) (n : ℕ) (fs : List Passed) → Tells quantum xs n fs → Tells quantum ys n fs → Tells quantum (cond b xs ys) n fs
   if_tells true xs ys n fs p q = p
   if_tells false xs ys n fs p q = q
 

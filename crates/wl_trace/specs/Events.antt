@@ -22,8 +22,8 @@ use Rattle.wl_machine.specs.Judged.{judged, stretch_of, role_of}
 use Rattle.wl_machine.specs.Roles.{loses}
 use Rattle.wl_node.specs.declared.setup.NodeSetup.{NodeSetup}
 use Rattle.wl_node.specs.History.{History, no_history, history_after, sampled_next, seen_next}
-use Rattle.wl_trace.specs.declared.event.Event.{Event}
-use Rattle.wl_trace.specs.declared.event.Event.TheVariants as events
+use Rattle.wl_trace.specs.declared.event.NodeEvent.{NodeEvent}
+use Rattle.wl_trace.specs.declared.event.NodeEvent.TheVariants as events
 use Rattle.wl_trace.specs.declared.event.FlagForm.{FlagForm}
 use Rattle.wl_trace.specs.declared.event.FlagForm.TheVariants as forms
 use Rattle.wl_trace.specs.declared.event.Noted.{Noted}
@@ -34,7 +34,7 @@ is_transmitter Tx = true
 is_transmitter Rx = false
 
 -- a transmitter loses the arbitration with this sample (Bosch CAN 2.0 part B, sections 2 and 3.2.1)
-abbrev pub lost_events : Stretch → Level → List Event
+abbrev pub lost_events : Stretch → Level → List NodeEvent
 lost_events s level = if is_transmitter (role_of s) then (if loses s level then events.ArbitrationLost (next_place s) ∷ [] else []) else []
 
 -- An error that leaves the counter of a transmitter alone: of a stuff bit in the arbitration, or, after all that is stuffed, a missing
@@ -50,11 +50,11 @@ free_kind_by sort own = Stuff
 abbrev pub free_kind : Stretch → ErrorKind
 free_kind s = free_kind_by s.sort s.own
 
-abbrev pub error_event : Stretch → (sends : Bool) → ErrorKind → Event
+abbrev pub error_event : Stretch → (sends : Bool) → ErrorKind → NodeEvent
 error_event s sends kind = events.Error kind sends (is_at_stuff s) (next_place s)
 
 -- the error that a sample found, if it found one (section 7.1)
-abbrev pub error_events : Stretch → Happened → List Event
+abbrev pub error_events : Stretch → Happened → List NodeEvent
 error_events s (happens.RxError kind) = error_event s false kind ∷ []
 error_events s (happens.TxError kind) = error_event s true kind ∷ []
 error_events s happens.TxFree = error_event s true (free_kind s) ∷ []
@@ -65,18 +65,18 @@ form_of ActiveFlag = forms.Active
 form_of OverloadFlag = forms.Overload
 form_of (PassiveFlag unacknowledged) = forms.Passive
 
-abbrev pub flag_in : Sort → List Event
+abbrev pub flag_in : Sort → List NodeEvent
 flag_in (Flagging flag role) = events.Flag (form_of flag) ∷ []
 flag_in sort = []
 
 -- the flag that a sample begins, but for a node that is bus off after it (sections 3.2.3 and 3.2.4)
-abbrev pub flag_events : Mode → Option Stretch → List Event
+abbrev pub flag_events : Mode → Option Stretch → List NodeEvent
 flag_events modes.Off next = []
 flag_events mode None = []
 flag_events mode (Some next) = flag_in next.sort
 
 -- the frame that a sample completes (section 5)
-abbrev pub frame_events : Ended → List Event
+abbrev pub frame_events : Ended → List NodeEvent
 frame_events NoFrame = []
 frame_events (Sent frame) = events.Sent frame ∷ []
 frame_events (Received frame) = events.Received frame ∷ []
@@ -88,16 +88,16 @@ is_same_mode modes.Off modes.Off = true
 is_same_mode old new = false
 
 -- the counters, where they give another mode than before (section 8, rules 9 to 12)
-abbrev pub mode_events : Counts → Counts → List Event
+abbrev pub mode_events : Counts → Counts → List NodeEvent
 mode_events old new = if is_same_mode (mode_of old) (mode_of new) then [] else events.ModeChanged new ∷ []
 
 -- what a sample does, by the stretch that it comes in, the counters before it and the judgement
-abbrev pub judged_events : Stretch → Level → Counts → Judgement → List Event
+abbrev pub judged_events : Stretch → Level → Counts → Judgement → List NodeEvent
 judged_events s level counts j =
     lost_events s level ++ error_events s j.happened ++ flag_events (mode_of (counts_after counts j.happened)) j.next
     ++ frame_events j.ended ++ mode_events counts (counts_after counts j.happened)
 
-abbrev pub noted : ℕ → ℕ → Event → Noted
+abbrev pub noted : ℕ → ℕ → NodeEvent → Noted
 noted quantum bit event = record { quantum = quantum; bit = bit; event = event }
 
 -- what the next quantum does, if it is a sample of this level

@@ -5,13 +5,13 @@ use Rattle.wl_level.specs.declared.Level.{Level}
 use Rattle.wl_node.specs.declared.setup.NodeSetup.{NodeSetup}
 use Rattle.wl_node.specs.declared.setup.Passed.{Passed}
 use Rattle.wl_node.specs.History.{history_of, error_count, hards_of, phases_of}
-use Rattle.wl_trace.specs.declared.event.Event.{Event}
-use Rattle.wl_trace.specs.declared.event.Event.TheVariants as events
+use Rattle.wl_trace.specs.declared.event.NodeEvent.{NodeEvent}
+use Rattle.wl_trace.specs.declared.event.NodeEvent.TheVariants as events
 use Rattle.wl_trace.specs.declared.event.Noted.{Noted}
 use Rattle.wl_trace.specs.Events.{events_of}
 use Rattle.wl_trace.specs.Synced.{syncs_of}
 
-abbrev pub is_error_event : Event → Bool
+abbrev pub is_error_event : NodeEvent → Bool
 is_error_event (events.Error kind sends stuff place) = true
 is_error_event event = false
 
@@ -19,7 +19,7 @@ is_error_event event = false
 abbrev pub tells_error : Noted → Bool
 tells_error n = is_error_event n.event
 
-abbrev pub passed_by : ℕ → Event → List Passed
+abbrev pub passed_by : ℕ → NodeEvent → List Passed
 passed_by quantum (events.Sent frame) = record { sent = true; quantum = quantum; frame = frame } ∷ []
 passed_by quantum (events.Received frame) = record { sent = false; quantum = quantum; frame = frame } ∷ []
 passed_by quantum event = []
@@ -28,7 +28,7 @@ passed_by quantum event = []
 abbrev pub told_frames : Noted → List Passed
 told_frames n = passed_by n.quantum n.event
 
-abbrev pub is_hard_event : Event → Bool
+abbrev pub is_hard_event : NodeEvent → Bool
 is_hard_event events.HardSynchronised = true
 is_hard_event event = false
 
@@ -36,7 +36,7 @@ is_hard_event event = false
 abbrev pub tells_hard : Noted → Bool
 tells_hard n = is_hard_event n.event
 
-abbrev pub phase_by : ℕ → Event → List (ℕ × ℤ)
+abbrev pub phase_by : ℕ → NodeEvent → List (ℕ × ℤ)
 phase_by quantum (events.Resynchronised error) = (quantum, error) ∷ []
 phase_by quantum event = []
 

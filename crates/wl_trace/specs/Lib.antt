@@ -7,5 +7,5 @@ pub mod Replay
 pub mod Notes
 pub mod States
 pub mod Starts
-pub mod Shown
+pub mod Snapshot
 pub mod Rerun

@@ -11,8 +11,8 @@ use Rattle.wl_frame.specs.Grammar.{Content}
 use Rattle.wl_node.specs.declared.setup.NodeSetup.{NodeSetup}
 use Rattle.wl_node.specs.declared.setup.Passed.{Passed}
 use Rattle.wl_node.specs.History.{History, handed, ready_head, passed_frames, is_sent, switched_off}
-use Rattle.wl_trace.specs.declared.event.Event.{Event}
-use Rattle.wl_trace.specs.declared.controller.Controller.{Controller}
+use Rattle.wl_trace.specs.declared.event.NodeEvent.{NodeEvent}
+use Rattle.wl_trace.specs.declared.sampled_node.SampledNode.{SampledNode}
 use Rattle.wl_trace.specs.declared.replay.Replay.{Replay}
 use Rattle.wl_trace.specs.Events.{judged_events}
 use Rattle.wl_trace.specs.Running.{KeepsStretch}
@@ -62,11 +62,11 @@ abbrev pub past_after : NodeSetup → SampledPast → ℕ × Level → SampledPa
 past_after setup p (quantum, level) = past_judged p quantum (sampled_then setup p quantum level) (judged_then setup p quantum level)
 
 -- what a sample does
-abbrev pub then_events : NodeSetup → SampledPast → ℕ → Level → List Event
+abbrev pub then_events : NodeSetup → SampledPast → ℕ → Level → List NodeEvent
 then_events setup p quantum level = judged_events (stretch_of p.inputs) level (counts_of p.happened) (judged_then setup p quantum level)
 
 -- machine, counters and queue are those of this past
-pub record IsController (kept : Controller) (p : SampledPast) : Type 0 where
+pub record IsSampledNode (kept : SampledNode) (p : SampledPast) : Type 0 where
   pub machine : IsMachine kept.machine p.inputs
   pub counters : kept.counters ≡ counts_of p.happened
   pub pending : kept.pending ≡ drive_of (stretch_of p.inputs)
@@ -74,5 +74,5 @@ pub record IsController (kept : Controller) (p : SampledPast) : Type 0 where
 
 -- and so is the running stretch
 pub record IsReplay (kept : Replay) (p : SampledPast) : Type 0 where
-  pub controller : IsController kept.controller p
+  pub sampled_node : IsSampledNode kept.sampled_node p
   pub stretch : KeepsStretch kept.stretch (stretch_of p.inputs)

@@ -8,8 +8,8 @@ use Rattle.wl_node.specs.declared.setup.NodeSetup.{NodeSetup}
 use Rattle.wl_node.specs.History.{History, history_of}
 use Rattle.wl_trace.specs.declared.rerun.Rerun.{Rerun}
 use Rattle.wl_trace.specs.declared.event.Noted.{Noted}
-use Rattle.wl_trace.specs.Replay.{IsController, past_of}
-use Rattle.wl_trace.specs.Shown.{mark}
+use Rattle.wl_trace.specs.Replay.{IsSampledNode, past_of}
+use Rattle.wl_trace.specs.Snapshot.{mark}
 use Rattle.wl_trace.specs.Starts.{starts_of}
 use Rattle.wl_trace.specs.Synced.{syncs_of}
 
@@ -21,7 +21,7 @@ starts_with (beats.Sample _) n = n
 
 -- all but the bit clock is that of this history, in which so many bits have begun
 pub record RunsTo (kept : Rerun) (h : History) (starts : ℕ) : Type 0 where
-  pub controller : IsController kept.controller (past_of h)
+  pub sampled_node : IsSampledNode kept.sampled_node (past_of h)
   pub drive : kept.drive ≡ h.drive
   pub bits : kept.bits ≡ length h.samples
   pub sampled : kept.sampled ≡ mark (length h.samples)
@@ -31,7 +31,7 @@ pub record RunsTo (kept : Rerun) (h : History) (starts : ℕ) : Type 0 where
 pub record IsRerun (setup : NodeSetup) (levels : List Level) (kept : Rerun) : Type 0 where
   pub clock : kept.clock ≡ clock_after setup.segments (history_of setup levels).seen
   pub run : RunsTo kept (history_of setup levels) (length (starts_of setup levels))
-  pub few : kept.controller.sent ≤ length levels
+  pub few : kept.sampled_node.sent ≤ length levels
   pub fewer : kept.bits ≤ length levels
 
 -- the same, but that it may have begun any number of bits
@@ -39,7 +39,7 @@ pub record RunsAgain (setup : NodeSetup) (levels : List Level) (kept : Rerun) : 
   pub starts : ℕ
   pub clock : kept.clock ≡ clock_after setup.segments (history_of setup levels).seen
   pub run : RunsTo kept (history_of setup levels) starts
-  pub few : kept.controller.sent ≤ length levels
+  pub few : kept.sampled_node.sent ≤ length levels
   pub fewer : kept.bits ≤ length levels
 
 -- From one node to another so many quanta of this level have run, of which the first has this number, and how their edges synchronised it was added to a list.

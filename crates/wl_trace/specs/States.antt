@@ -4,7 +4,7 @@ use Rattle.wl_machine.specs.Doing.{doing_of}
 use Rattle.wl_machine.specs.Stretch.{Stretch}
 use Rattle.wl_machine.specs.Judged.{stretch_of}
 use Rattle.wl_node.specs.History.{History}
-use Rattle.wl_trace.specs.declared.shown.NodeState.{NodeState}
+use Rattle.wl_trace.specs.declared.snapshot.NodeState.{NodeState}
 
 -- by the counters and the stretch
 abbrev pub state_by : Counts → Stretch → NodeState

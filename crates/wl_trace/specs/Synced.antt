@@ -6,12 +6,12 @@ use Rattle.wl_sync.specs.declared.Sync.TheVariants.{Hard, Error}
 use Rattle.wl_sync.specs.Bits.{sync_of}
 use Rattle.wl_node.specs.declared.setup.NodeSetup.{NodeSetup}
 use Rattle.wl_node.specs.History.{History, no_history, history_after, seen_next}
-use Rattle.wl_trace.specs.declared.event.Event.{Event}
-use Rattle.wl_trace.specs.declared.event.Event.TheVariants as events
+use Rattle.wl_trace.specs.declared.event.NodeEvent.{NodeEvent}
+use Rattle.wl_trace.specs.declared.event.NodeEvent.TheVariants as events
 use Rattle.wl_trace.specs.declared.event.Noted.{Noted}
 use Rattle.wl_trace.specs.Events.{noted}
 
-abbrev pub sync_event : Sync → Event
+abbrev pub sync_event : Sync → NodeEvent
 sync_event Hard = events.HardSynchronised
 sync_event (Error error) = events.Resynchronised error
 

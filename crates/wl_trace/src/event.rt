@@ -39,9 +39,9 @@ pub enum FrameField {
     FlagDelimiter,
 }
 
-/// A bit of a field.
+/// A place in a frame: a bit of a field.
 #[derive(Clone, Copy, Debug, PartialEq, Eq)]
-pub struct Place {
+pub struct FramePlace {
     /// The field.
     pub field: FrameField,
     /// Which of its bits, counted from 0 in the order in which they are sent.
@@ -61,9 +61,9 @@ pub enum FlagForm {
 
 /// What one sample of a node did, or how an edge synchronised it.
 #[derive(Clone, Copy, Debug)]
-pub enum Event {
+pub enum NodeEvent {
     /// The node sent a recessive bit of the arbitration, found it dominant, and is a receiver from then on.
-    ArbitrationLost(Place),
+    ArbitrationLost(FramePlace),
     /// An error was found.
     Error {
         /// Its kind.
@@ -73,7 +73,7 @@ pub enum Event {
         /// Whether it is in the stuff bit after the place, and not in the place.
         stuff: bool,
         /// Where it is.
-        place: Place,
+        place: FramePlace,
     },
     /// A flag begins with the next bit.
     Flag(FlagForm),
@@ -97,5 +97,5 @@ pub struct Noted {
     /// How many samples there were before that quantum.
     pub bit: u64,
     /// What happened there.
-    pub event: Event,
+    pub event: NodeEvent,
 }

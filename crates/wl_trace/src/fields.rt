@@ -8,7 +8,7 @@ ghost use Rattle.wl_frame.specs.Header.{fields_of, is_extended, value_in, width_
 ghost use Rattle.wl_frame.specs.Header.Name.{DataLengthCode, RemoteRequest};
 ghost use Rattle.wl_trace.specs.Places.{base_place, extended_place, frame_place, header_place, tail_place};
 
-use crate::event::{FrameField, Place};
+use crate::event::{FrameField, FramePlace};
 use crate::stretch::level_at;
 use wl_frame::places::rtr_place;
 use wl_level::Level;
@@ -25,18 +25,18 @@ const HEADER: usize = 19;
 const EXTENDED_HEADER: usize = 39;
 
 /// Returns the bit of a field whose first place is this.
-fn place_from(field: FrameField, first: usize, k: usize) -> Place
+fn place_from(field: FrameField, first: usize, k: usize) -> FramePlace
     requires { first ≤ k }
     ensures { result ≡ record { field = field; bit = k - first } }
 {
-    Place {
+    FramePlace {
         field,
         bit: k - first,
     }
 }
 
 /// Returns bit `k` of the header of a base frame.
-fn base_place(k: usize) -> Place
+fn base_place(k: usize) -> FramePlace
     ensures { result ≡ base_place k }
 {
     match k {
@@ -50,7 +50,7 @@ fn base_place(k: usize) -> Place
 }
 
 /// Returns bit `k` of the header of an extended frame.
-fn extended_place(k: usize) -> Place
+fn extended_place(k: usize) -> FramePlace
     ensures { result ≡ extended_place k }
 {
     match k {
@@ -67,7 +67,7 @@ fn extended_place(k: usize) -> Place
 }
 
 /// Returns bit `k` of the header of a frame of this format.
-fn header_place(extended: bool, k: usize) -> Place
+fn header_place(extended: bool, k: usize) -> FramePlace
     ensures { result ≡ header_place extended k }
 {
     if extended {
@@ -141,7 +141,7 @@ fn byte_count(bits: &[Level], extended: bool) -> usize
 }
 
 /// Returns bit `k` of a frame that begins so, whose header is there if the bit is after it.
-pub(crate) fn frame_place(bits: &[Level], k: usize) -> Place
+pub(crate) fn frame_place(bits: &[Level], k: usize) -> FramePlace
     requires { (layout_of bits.now).header ≤ k → (layout_of bits.now).header ≤ length bits.now }
     ensures { result ≡ frame_place bits.now k }
 {
@@ -159,7 +159,7 @@ pub(crate) fn frame_place(bits: &[Level], k: usize) -> Place
 }
 
 /// Returns bit `n` of those after all that is stuffed.
-pub(crate) fn tail_place(n: usize) -> Place
+pub(crate) fn tail_place(n: usize) -> FramePlace
     ensures { result ≡ tail_place n }
 {
     match n {

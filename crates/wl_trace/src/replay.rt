@@ -10,9 +10,9 @@ ghost use Rattle.wl_trace.specs.Running.{KeepsStretch};
 ghost use Rattle.wl_trace.specs.Notes.{Adds};
 ghost use Rattle.wl_trace.specs.Replay.{IsReplay, SampledPast, no_past, past_after, then_events};
 
-use crate::controller::{Controller, goes_off, head_at};
 use crate::event::Noted;
-use crate::noting::Notes;
+use crate::notes::Notes;
+use crate::sampled_node::{SampledNode, goes_off, head_at};
 use crate::stretch::RunningStretch;
 use std::alloc::{AllocError, Global};
 use wl_confine::Mode;
@@ -22,7 +22,7 @@ use wl_node::NodeSetup;
 /// What is kept of a node's samples so far, with the running stretch.
 #[derive(Drop)]
 pub(crate) struct Replay {
-    pub(crate) controller: Controller,
+    pub(crate) sampled_node: SampledNode,
     pub(crate) stretch: RunningStretch,
 }
 
@@ -30,10 +30,10 @@ impl Replay {
     /// Returns what is kept before the first sample.
     pub(crate) fn new(alloc: Global) -> Replay
         ensures past { IsReplay result no_past }
-        ensures sent { result.controller.sent ≡ 0 }
+        ensures sent { result.sampled_node.sent ≡ 0 }
     {
         Replay {
-            controller: Controller::new(),
+            sampled_node: SampledNode::new(),
             stretch: RunningStretch::new(alloc),
         }
     }
@@ -45,12 +45,12 @@ impl Replay {
         level: Level,
         notes: &mut Notes,
     ) -> Result<(), AllocError>
-        requires { self.old.controller.sent < 2 ^ 64 - 1 }
+        requires { self.old.sampled_node.sent < 2 ^ 64 - 1 }
         ensures past { (p : SampledPast) → IsReplay self.old p
             → OnOk result (IsReplay self.new (past_after setup.now p (notes.old.quantum, level))) }
         ensures notes { (p : SampledPast) → IsReplay self.old p
             → OnOk result (Adds notes.old notes.new (then_events setup.now p notes.old.quantum level)) }
-        ensures sent { self.new.controller.sent ≤ self.old.controller.sent + 1 }
+        ensures sent { self.new.sampled_node.sent ≤ self.old.sampled_node.sent + 1 }
     {
         if self.keep(level)? {
             return Ok(());
@@ -66,9 +66,9 @@ impl Replay {
             → IsReplay self.old p → then_events setup p quantum level ≡ []) }
         ensures same { IfOk result (λ kept. kept ≡ false → (p : SampledPast)
             → IsReplay self.old p → IsReplay self.new p) }
-        ensures sent { self.new.controller.sent ≡ self.old.controller.sent }
+        ensures sent { self.new.sampled_node.sent ≡ self.old.sampled_node.sent }
     {
-        if !self.controller.keep(level) {
+        if !self.sampled_node.keep(level) {
             return Ok(false);
         }
         self.stretch.take(level)?;
@@ -82,19 +82,19 @@ impl Replay {
         level: Level,
         notes: &mut Notes,
     ) -> Result<(), AllocError>
-        requires { self.old.controller.sent < 2 ^ 64 - 1 }
+        requires { self.old.sampled_node.sent < 2 ^ 64 - 1 }
         ensures past { (p : SampledPast) → IsReplay self.old p
             → OnOk result (IsReplay self.new (past_after setup.now p (notes.old.quantum, level))) }
         ensures notes { (p : SampledPast) → IsReplay self.old p
             → OnOk result (Adds notes.old notes.new (then_events setup.now p notes.old.quantum level)) }
-        ensures sent { self.new.controller.sent ≤ self.old.controller.sent + 1 }
+        ensures sent { self.new.sampled_node.sent ≤ self.old.sampled_node.sent + 1 }
     {
         wl_machine::laws::a_sent_frame_is_the_head_that_began_its_stretch();
-        let old = self.controller.counters;
+        let old = self.sampled_node.counters;
         let mode = old.mode();
-        let head = head_at(setup, self.controller.sent, notes.quantum, level);
-        let turn = self.controller.sample(level, head);
-        let new = self.controller.counters;
+        let head = head_at(setup, self.sampled_node.sent, notes.quantum, level);
+        let turn = self.sampled_node.sample(level, head);
+        let new = self.sampled_node.counters;
         let next = self.stretch.next(level, head, mode, turn.happened);
         notes.push_sample(
             &self.stretch,
@@ -114,7 +114,7 @@ impl Replay {
     fn switch_off(&mut self, before: Mode, after: Mode)
         ensures stretch { (past : List Input) → KeepsStretch self.old.stretch (stretch_of past)
             → KeepsStretch self.new.stretch (stretch_of (past ++ switched_off before after)) }
-        ensures controller { self.new.controller ≡ self.old.controller }
+        ensures sampled_node { self.new.sampled_node ≡ self.old.sampled_node }
     {
         if goes_off(before, after) {
             self.stretch.switch_off();

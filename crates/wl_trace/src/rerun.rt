@@ -5,12 +5,12 @@ ghost use Rattle.wl_node.specs.declared.setup.NodeSetup.{NodeSetup};
 ghost use Rattle.wl_node.specs.History.{History, by_beat, history_of};
 ghost use Rattle.wl_trace.specs.Events.{noted};
 ghost use Rattle.wl_trace.specs.Rerun.{IsRerun, RunsAgain, RunsOver, RunsTo, starts_with};
-ghost use Rattle.wl_trace.specs.Shown.{plain_quanta, shown_of};
+ghost use Rattle.wl_trace.specs.Snapshot.{plain_quanta, snapshot_of};
 ghost use Rattle.wl_trace.specs.Synced.{sync_event, sync_next, syncs_of, with_next};
 
-use crate::controller::Controller;
-use crate::event::{Event, Noted};
-use crate::shown::{NodeState, Shown};
+use crate::event::{NodeEvent, Noted};
+use crate::sampled_node::SampledNode;
+use crate::snapshot::{NodeSnapshot, NodeState};
 use std::alloc::AllocError;
 use wl_level::Level;
 use wl_node::NodeSetup;
@@ -22,7 +22,7 @@ use wl_sync::{Beat, BitClock, Sync};
 #[derive(Drop)]
 pub struct Rerun {
     pub(crate) clock: BitClock,
-    pub(crate) controller: Controller,
+    pub(crate) sampled_node: SampledNode,
     pub(crate) drive: Level,
     /// How many samples it has had.
     pub(crate) bits: u64,
@@ -33,12 +33,12 @@ pub struct Rerun {
 }
 
 /// Returns the event of an edge.
-fn sync_event(sync: Sync) -> Event
+fn sync_event(sync: Sync) -> NodeEvent
     ensures { result ≡ sync_event sync }
 {
     match sync {
-        Sync::Hard => Event::HardSynchronised,
-        Sync::Error(error) => Event::Resynchronised(error),
+        Sync::Hard => NodeEvent::HardSynchronised,
+        Sync::Error(error) => NodeEvent::Resynchronised(error),
     }
 }
 
@@ -61,7 +61,7 @@ fn push_noted(
     events: &mut Vec<Noted>,
     quantum: u64,
     bit: u64,
-    event: Event,
+    event: NodeEvent,
 ) -> Result<(), AllocError>
     ensures { OnOk result (events.new.items ≡ events.old.items ++ noted quantum bit event ∷ []) }
 {
@@ -90,7 +90,7 @@ impl Rerun {
     {
         Rerun {
             clock: BitClock::new(segments),
-            controller: Controller::new(),
+            sampled_node: SampledNode::new(),
             drive: Level::Recessive,
             bits: 0,
             sampled: false,
@@ -99,12 +99,12 @@ impl Rerun {
     }
 
     /// Returns what a waveform shows of it after the quanta that it has seen.
-    pub fn shown(&self) -> Shown
+    pub fn snapshot(&self) -> NodeSnapshot
         ensures { (setup : NodeSetup) (levels : List Level) → IsRerun setup levels self.now
-            → result ≡ shown_of setup levels }
+            → result ≡ snapshot_of setup levels }
     {
-        let kept = &self.controller;
-        Shown {
+        let kept = &self.sampled_node;
+        NodeSnapshot {
             drive: self.drive,
             sampled: self.sampled,
             started: self.started,
@@ -129,8 +129,8 @@ impl Rerun {
             → IsRerun setup.now levels self.old → IsRerun setup.now (levels ++ level ∷ []) self.new }
     {
         let bit = self.bits;
-        let idle = self.controller.machine.idle();
-        let awaits = self.controller.machine.awaits_start();
+        let idle = self.sampled_node.machine.idle();
+        let awaits = self.sampled_node.machine.awaits_start();
         let (beat, sync) = self
             .clock
             .step(level, idle, awaits, self.drive.is_dominant());
@@ -141,20 +141,20 @@ impl Rerun {
     /// Does what the quantum of this number does by its beat, if it is of this level.
     fn obey(&mut self, setup: &NodeSetup, quantum: u64, level: Level, beat: Beat)
         ensures run { (h : History) (starts : ℕ) → quantum ≡ length h.seen
-            → self.old.controller.sent < 2 ^ 64 - 1 → self.old.bits < 2 ^ 64 - 1 → RunsTo self.old h starts
+            → self.old.sampled_node.sent < 2 ^ 64 - 1 → self.old.bits < 2 ^ 64 - 1 → RunsTo self.old h starts
             → RunsTo self.new (by_beat setup.now h level beat) (starts_with beat starts) }
         ensures clock { self.new.clock ≡ self.old.clock }
-        ensures sent { self.new.controller.sent ≤ self.old.controller.sent + 1 }
+        ensures sent { self.new.sampled_node.sent ≤ self.old.sampled_node.sent + 1 }
         ensures bits { self.new.bits ≤ self.old.bits + 1 }
     {
         match beat {
             Beat::Plain => {}
             Beat::Start => {
-                self.drive = self.controller.pending;
+                self.drive = self.sampled_node.pending;
                 self.started = !self.started;
             }
             Beat::Sample(_) => {
-                self.controller.sample_at(setup, quantum, level);
+                self.sampled_node.sample_at(setup, quantum, level);
                 self.bits = self.bits.saturating_add(1);
                 self.sampled = !self.sampled;
             }
@@ -169,7 +169,7 @@ impl Rerun {
         ensures run { (setup : NodeSetup) (levels : List Level) → IsRerun setup levels self.old
             → IsRerun setup (levels ++ replicate result level) self.new }
         ensures same { (setup : NodeSetup) (levels : List Level) → IsRerun setup levels self.old
-            → (m : ℕ) → m ≤ result → shown_of setup (levels ++ replicate m level) ≡ shown_of setup levels }
+            → (m : ℕ) → m ≤ result → snapshot_of setup (levels ++ replicate m level) ≡ snapshot_of setup levels }
         ensures syncs { (setup : NodeSetup) (levels : List Level) → IsRerun setup levels self.old
             → syncs_of setup (levels ++ replicate result level) ≡ syncs_of setup levels }
         ensures few { result ≤ most }
@@ -191,7 +191,7 @@ impl Rerun {
             → syncs_of setup (levels ++ replicate result level) ≡ syncs_of setup levels }
         ensures few { result ≤ most }
     {
-        let settled = self.drive.is(self.controller.pending);
+        let settled = self.drive.is(self.sampled_node.pending);
         let free = self.clock.free_quanta(level, settled);
         let quanta = most.min(free as u64);
         if 0 < quanta {

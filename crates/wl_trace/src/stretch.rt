@@ -20,7 +20,7 @@ ghost use Rattle.wl_trace.specs.Events.{free_kind, is_transmitter};
 ghost use Rattle.wl_trace.specs.Places.{is_at_stuff, known_bits, next_place, stuffed_place};
 ghost use Rattle.wl_trace.specs.Running.{ComesNext, KeepsSent, KeepsStretch, error_kind, first_samples, way_of};
 
-use crate::event::{FrameField, Place};
+use crate::event::{FrameField, FramePlace};
 use crate::fields::{frame_place, tail_place};
 use std::alloc::{AllocError, Global};
 use wl_confine::{ErrorKind, Happened, Mode};
@@ -537,7 +537,7 @@ impl RunningStretch {
     }
 
     /// Returns where its next sample falls.
-    pub(crate) fn place(&self) -> Place
+    pub(crate) fn place(&self) -> FramePlace
         ensures { (s : Stretch) → KeepsStretch self.now s → result ≡ next_place s }
     {
         let count = self.own.len();
@@ -548,7 +548,7 @@ impl RunningStretch {
                 sends,
                 end: None,
             } => self.stuffed_place(head, sends),
-            _ => Place {
+            _ => FramePlace {
                 field: FrameField::FlagDelimiter,
                 bit: count,
             },
@@ -556,7 +556,7 @@ impl RunningStretch {
     }
 
     /// Returns the place in a frame at which its next sample falls, up to the end of what is stuffed.
-    fn stuffed_place(&self, head: Option<Frame>, sends: bool) -> Place
+    fn stuffed_place(&self, head: Option<Frame>, sends: bool) -> FramePlace
         ensures { (own : List Level) → self.now.own.items ≡ own → self.now.bits.items ≡ destuffed_bits own (length own)
             → result ≡ stuffed_place (is_stuff own (length own))
             (known_bits (way_of sends) head (destuffed_bits own (length own)))

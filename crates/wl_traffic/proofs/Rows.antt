@@ -4,8 +4,8 @@ use Rattle.std.specs.Fmt.{digits}
 use Rattle.wl_confine.specs.declared.ErrorKind.TheVariants.{Bit}
 use Rattle.wl_machine.specs.declared.doing.Doing.{Doing}
 use Rattle.wl_machine.specs.declared.doing.Doing.TheVariants.{Integrating, Idle, Receiving, Intermission, Suspended, OffBus}
-use Rattle.wl_trace.specs.declared.event.Event.{Event}
-use Rattle.wl_trace.specs.declared.event.Event.TheVariants as events
+use Rattle.wl_trace.specs.declared.event.NodeEvent.{NodeEvent}
+use Rattle.wl_trace.specs.declared.event.NodeEvent.TheVariants as events
 use Rattle.wl_trace.specs.declared.event.FrameField.{FrameField}
 use Rattle.wl_trace.specs.declared.event.FrameField.TheVariants.{Identifier, AckSlot, FlagDelimiter}
 use Rattle.wl_trace.specs.declared.event.Noted.{Noted}
@@ -48,10 +48,10 @@ second_of_equals = refl
 never_idle : quieter nothing_found (found_in (span Receiving 100 ∷ [])) ≡ record { busy = 100; idle = 0; gap = 0; off = false }
 never_idle = refl
 
-abbrev noted : ℕ → Event → Noted
+abbrev noted : ℕ → NodeEvent → Noted
 noted quantum event = record { quantum = quantum; bit = 0; event = event }
 
-abbrev error_in : FrameField → Event
+abbrev error_in : FrameField → NodeEvent
 error_in field = events.Error Bit true false (record { field = field; bit = 0 })
 
 -- Frames were sent at quanta 100 and 300. What fails at quantum 100 itself is of the first frame, at 101 to 300 of the second, later of the third. An error in a

@@ -8,8 +8,8 @@ use Rattle.wl_node.specs.History.{is_sent}
 use Rattle.wl_plan.specs.declared.plan.Plan.{Plan}
 use Rattle.wl_plan.specs.PlanLine.{setup_at}
 use Rattle.wl_serial.specs.Outcome.{node_outcome_of}
-use Rattle.wl_trace.specs.declared.event.Event.{Event}
-use Rattle.wl_trace.specs.declared.event.Event.TheVariants as events
+use Rattle.wl_trace.specs.declared.event.NodeEvent.{NodeEvent}
+use Rattle.wl_trace.specs.declared.event.NodeEvent.TheVariants as events
 use Rattle.wl_trace.specs.declared.event.FrameField.{FrameField}
 use Rattle.wl_trace.specs.declared.event.FrameField.TheVariants.{FlagDelimiter}
 use Rattle.wl_trace.specs.declared.event.Noted.{Noted}
@@ -33,7 +33,7 @@ abbrev pub attempt : ℕ → Bool → List Attempt
 attempt place broken = record { place = place; broken = broken } ∷ []
 
 -- an attempt loses the arbitration, or its transmitter finds an error in the frame; one in the delimiter of a flag is of no frame
-abbrev pub attempt_by : ℕ → Event → List Attempt
+abbrev pub attempt_by : ℕ → NodeEvent → List Attempt
 attempt_by place (events.ArbitrationLost at) = attempt place false
 attempt_by place (events.Error kind sends stuff at) = if sends && not (is_delimiter at.field) then attempt place true else []
 attempt_by place event = []

@@ -4,7 +4,7 @@ ghost use Rattle.wl_traffic.specs.Attempts.{attempt_by, attempts_of, sent_quanta
 
 use std::alloc::{AllocError, Global};
 use wl_node::Passed;
-use wl_trace::{Event, FrameField, Noted};
+use wl_trace::{FrameField, NodeEvent, Noted};
 
 /// An attempt to send a frame that failed.
 #[derive(Clone, Copy, Debug)]
@@ -42,17 +42,21 @@ fn tried_at(sent: &[u64], quantum: u64) -> usize
 }
 
 /// Adds the attempt that an event ends, if it does.
-fn push_attempt(attempts: &mut Vec<Attempt>, place: usize, event: Event) -> Result<(), AllocError>
+fn push_attempt(
+    attempts: &mut Vec<Attempt>,
+    place: usize,
+    event: NodeEvent,
+) -> Result<(), AllocError>
     ensures { OnOk result (attempts.new.items ≡ attempts.old.items ++ attempt_by place event) }
 {
     match event {
-        Event::ArbitrationLost(_) => {
+        NodeEvent::ArbitrationLost(_) => {
             attempts.push(Attempt {
                 place,
                 broken: false,
             })?;
         }
-        Event::Error {
+        NodeEvent::Error {
             sends,
             place: at,
             ..

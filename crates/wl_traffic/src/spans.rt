@@ -7,7 +7,7 @@ use std::alloc::{AllocError, Global};
 use wl_level::Level;
 use wl_machine::Doing;
 use wl_node::NodeSetup;
-use wl_trace::Controller;
+use wl_trace::SampledNode;
 
 /// What a node does after a sample, and for how many ticks: up to its next sample, or up to the end.
 #[derive(Clone, Copy, Debug)]
@@ -40,7 +40,7 @@ pub(crate) fn spans(
     requires { All (λ s. s.0 ≤ 2 ^ 21) samples.now }
     ensures { IfOk result (λ spans. spans.items ≡ spans_of setup.now end samples.now) }
 {
-    let mut kept = Controller::new();
+    let mut kept = SampledNode::new();
     let mut spans = Vec::new(alloc);
     for k in 0..samples.len() {
         let (quantum, level) = samples[k];

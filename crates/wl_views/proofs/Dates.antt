@@ -5,12 +5,12 @@ use Rattle.std.proofs.lemmas.Bool.{cases_eq, cases_lt}
 use Rattle.wl_plan.specs.declared.plan.Plan.{Plan}
 use Rattle.wl_plan.specs.Limits.{latest_end}
 use Rattle.wl_views.specs.declared.calendar.Calendar.{Calendar}
-use Rattle.wl_views.specs.declared.watched.Watched.{Watched}
+use Rattle.wl_views.specs.declared.probe.Probe.{Probe}
 use Rattle.wl_views.specs.Calendar.{IsFirst, date_at}
-use Rattle.wl_views.specs.Held.{IsCalendarOf, Watches}
+use Rattle.wl_views.specs.Probe.{IsCalendarOf, Watches}
 
 -- what is known holds beyond its tick
-pub lasts_on : (plan : Plan) (i t : ℕ) (w : Watched) → Watches plan i t w → t < w.until
+pub lasts_on : (plan : Plan) (i t : ℕ) (w : Probe) → Watches plan i t w → t < w.until
 lasts_on plan i t w h =
     let p = h.hears.cable.later in
     let r = h.hears.disturbance.later in
@@ -19,7 +19,7 @@ lasts_on plan i t w h =
     omega arith
 
 -- a date is put where what is known of a node is
-pub put_date : (end i : ℕ) (all : List Watched) (old new : Calendar) (w : Watched) → i < length all → length all ≤ 16 → IsCalendarOf end all old
+pub put_date : (end i : ℕ) (all : List Probe) (old new : Calendar) (w : Probe) → i < length all → length all ≤ 16 → IsCalendarOf end all old
     → date_at new.tree (16 + i) ≡ min w.until end * 16 + i → ((k : ℕ) → k < 16 → k ≢ i → date_at new.tree (16 + k) ≡ date_at old.tree (16 + k))
     → IsCalendarOf end (set all i w) new
 put_date end i all old new w room few is here others =
@@ -28,13 +28,13 @@ put_date end i all old new w room few is here others =
       each = λ k d b. elim (cases_eq k i) [
         | inl same ↦
             (let put : get_or (set all i w) i d ≡ w = get_or-set_same all i w d room in
-            let e = ap (λ (v : Watched). v.until) put in
+            let e = ap (λ (v : Probe). v.until) put in
             let f = ap (λ (m : ℕ). (get_or (set all i w) m d).until) same in
             let g = ap (λ (m : ℕ). date_at new.tree (16 + m)) same in
             omega arith)
         | inr apart ↦
             (let put : get_or (set all i w) k d ≡ get_or all k d = get_or-set_other all i k w d apart in
-            let e = ap (λ (v : Watched). v.until) put in
+            let e = ap (λ (v : Probe). v.until) put in
             let f = is.each k d (omega arith) in
             let g = others k (omega arith) apart in
             omega arith)
@@ -45,10 +45,10 @@ put_date end i all old new w room few is here others =
           omega arith;
     }
 
-module _ (end t : ℕ) (all : List Watched) (calendar : Calendar) (is : IsCalendarOf end all calendar) (first : ℕ × ℕ) (dated : IsFirst calendar.tree first)
+module _ (end t : ℕ) (all : List Probe) (calendar : Calendar) (is : IsCalendarOf end all calendar) (first : ℕ × ℕ) (dated : IsFirst calendar.tree first)
     (early : t < end) (ends : end ≤ latest_end) (few : length all ≤ 16) where
   -- the first date is that of a node, if it has come
-  pub first_known : (d : Watched) → first.0 ≤ t → (first.1 < length all) × ((get_or all first.1 d).until ≡ first.0)
+  pub first_known : (d : Probe) → first.0 ≤ t → (first.1 < length all) × ((get_or all first.1 d).until ≡ first.0)
   first_known d come =
       let k : ℕ = dated.some.0 in
       let below : k < 16 = dated.some.1 in
@@ -64,14 +64,14 @@ module _ (end t : ℕ) (all : List Watched) (calendar : Calendar) (is : IsCalend
       ]
 
   -- no node's is before it
-  pub none_before : (k : ℕ) (d : Watched) → k < length all → first.0 * 16 + first.1 ≤ min (get_or all k d).until end * 16 + k
+  pub none_before : (k : ℕ) (d : Probe) → k < length all → first.0 * 16 + first.1 ≤ min (get_or all k d).until end * 16 + k
   none_before k d b =
       let e = is.each k d b in
       let less = dated.least k (omega arith) in
       omega arith
 
   -- and it is later than a tick, if all are
-  pub later_first : (d : Watched) → ((k : ℕ) → k < length all → t < (get_or all k d).until) → t < first.0
+  pub later_first : (d : Probe) → ((k : ℕ) → k < length all → t < (get_or all k d).until) → t < first.0
   later_first d each = elim (cases_lt t first.0) [
     | inl later ↦ later
     | inr come ↦

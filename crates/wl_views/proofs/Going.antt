@@ -14,10 +14,11 @@ use Rattle.wl_plan.specs.PlanLine.{line_of, no_setup, setup_at}
 use Rattle.wl_plan.specs.Simulation.{AreInside, level, ran, seen}
 use Rattle.wl_plan.specs.SimulationLaws.{SimulationLaws}
 use Rattle.wl_plan.specs.Sound.{IsSound}
-use Rattle.wl_trace.specs.Shown.{shown_of}
+use Rattle.wl_trace.specs.Snapshot.{snapshot_of}
 use Rattle.wl_pulse.specs.declared.pulse.Pulse.{Pulse}
-use Rattle.wl_views.specs.Held.{Lasts, next_of, no_tick}
-use Rattle.wl_views.specs.Signals.{shown_then}
+use Rattle.wl_views.specs.PlaceLine.{Lasts}
+use Rattle.wl_views.specs.Probe.{next_of, no_tick}
+use Rattle.wl_views.specs.Signals.{snapshot_then}
 use Rattle.wl_views.proofs.Seeing.{few_more, later, seen_more}
 
 snoc : {A : Type 0} (xs : List A) (x : A) (n : ℕ) → xs ++ replicate (n + 1) x ≡ (xs ++ replicate n x) ++ x ∷ []
@@ -114,8 +115,8 @@ module _ (laws : SimulationLaws) (plan : Plan) (sound : IsSound (line_of plan)) 
     | inr few ↦ few
   ]
 
-  shown_ran : (u : ℕ) → shown_then plan i u ≡ shown_of (setup_at plan i) (seen (line_of plan) i (ran (line_of plan) i (suc u)))
-  shown_ran u = ap (shown_of (setup_at plan i)) (laws.history_seen (line_of plan) i (suc u) sound.causal b)
+  shown_ran : (u : ℕ) → snapshot_then plan i u ≡ snapshot_of (setup_at plan i) (seen (line_of plan) i (ran (line_of plan) i (suc u)))
+  shown_ran u = ap (snapshot_of (setup_at plan i)) (laws.history_seen (line_of plan) i (suc u) sound.causal b)
 
   -- on a line that stays all quanta see the same
   module _ (t : ℕ) (held : Pulse) (line : Lasts (found (line_of plan) (level (line_of plan)) i) t held) (k : ℕ) where
@@ -135,7 +136,7 @@ module _ (laws : SimulationLaws) (plan : Plan) (sound : IsSound (line_of plan)) 
     -- and where they leave what is shown, that stays up to the next one
     module _ (n : ℕ) (inside : AreInside (line_of plan) i k) (begun : (q : ℕ) → q < k → at q ≤ t) (after : t < next k)
         (during : (q : ℕ) → k ≤ q → q < k + n → (at q < held.until) × (at q < plan.end))
-        (plain : (m : ℕ) → m ≤ n → shown_of (setup_at plan i) (seen (line_of plan) i k ++ replicate m (level_of held.dominant)) ≡ shown_of (setup_at plan i) (seen (line_of plan) i k)) where
+        (plain : (m : ℕ) → m ≤ n → snapshot_of (setup_at plan i) (seen (line_of plan) i k ++ replicate m (level_of held.dominant)) ≡ snapshot_of (setup_at plan i) (seen (line_of plan) i k)) where
       pub in_time : (q : ℕ) → k ≤ q → q < k + n → (t ≤ at q) × (at q < held.until)
       in_time q from below =
           let here = during q from below in
@@ -150,18 +151,18 @@ module _ (laws : SimulationLaws) (plan : Plan) (sound : IsSound (line_of plan)) 
         | inr high ↦ (during q high below).1
       ]
 
-      pub shown_upto : (m : ℕ) → m ≤ n → shown_of (setup_at plan i) (seen (line_of plan) i (k + m)) ≡ shown_of (setup_at plan i) (seen (line_of plan) i k)
+      pub shown_upto : (m : ℕ) → m ≤ n → snapshot_of (setup_at plan i) (seen (line_of plan) i (k + m)) ≡ snapshot_of (setup_at plan i) (seen (line_of plan) i k)
       shown_upto m less =
-          ap (shown_of (setup_at plan i)) (same_seen m (λ q from below. in_time q from (omega arith))) ∙ plain m less
+          ap (snapshot_of (setup_at plan i)) (same_seen m (λ q from below. in_time q from (omega arith))) ∙ plain m less
 
       pub shown_stays : (u : ℕ) → t ≤ u → u < next (k + n)
-          → shown_then plan i u ≡ shown_of (setup_at plan i) (seen (line_of plan) i (k + n))
+          → snapshot_then plan i u ≡ snapshot_of (setup_at plan i) (seen (line_of plan) i (k + n))
       shown_stays u from below =
           let r : ℕ = ran (line_of plan) i (suc u) in
           let least : k ≤ r = run_at_least k u inside (λ q less. let p = begun q less in omega arith) in
           let most : r ≤ k + n = run_at_most (k + n) u below in
           let split : k + (r - k) ≡ r = omega arith in
           shown_ran u
-          ∙ ap (λ (m : ℕ). shown_of (setup_at plan i) (seen (line_of plan) i m)) (sym split)
+          ∙ ap (λ (m : ℕ). snapshot_of (setup_at plan i) (seen (line_of plan) i m)) (sym split)
           ∙ shown_upto (r - k) (omega arith)
           ∙ sym (shown_upto n (omega arith))

@@ -25,7 +25,7 @@ use Rattle.wl_plan.specs.Sound.{IsSound}
 use Rattle.wl_serial.specs.declared.outcome.NodeOutcome.{NodeOutcome}
 use Rattle.wl_serial.specs.Outcome.{node_outcome_of, outcome_of}
 use Rattle.wl_trace.proofs.Callers.{one_more}
-use Rattle.wl_views.specs.Sent.{AreInTime, sent_by}
+use Rattle.wl_views.specs.SentFrames.{AreInTime, sent_by}
 
 -- each of these frames was completed before quantum n
 abbrev Before : ℕ → List Passed → Type 0

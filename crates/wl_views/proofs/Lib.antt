@@ -9,7 +9,7 @@ mod Walk
 mod PlanRows
 mod Rows
 mod Telling
-mod WaveRows
+mod VcdRows
 mod Watching
 mod Going
 mod Calendars

@@ -8,7 +8,7 @@ use Rattle.wl_clock.specs.Timing.{Timing, tick_of}
 use Rattle.wl_node.specs.declared.setup.Passed.{Passed}
 use Rattle.wl_node.specs.History.{is_sent}
 use Rattle.wl_views.specs.Digits.{digits_of}
-use Rattle.wl_views.specs.Sent.{sent_by}
+use Rattle.wl_views.specs.SentFrames.{sent_by}
 
 pub no_digit : (base k n : ℕ) → k ≡ 0 → digits_of base k n ≡ []
 unfolding digits_of

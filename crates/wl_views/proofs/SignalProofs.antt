@@ -13,8 +13,8 @@ use Rattle.wl_serial.specs.declared.outcome.Outcome.{Outcome}
 use Rattle.wl_serial.specs.Heard.{drove}
 use Rattle.wl_serial.specs.Outcome.{node_outcome_of, outcome_of}
 use Rattle.wl_pulse.specs.declared.pulse.Pulse.{Pulse}
-use Rattle.wl_views.specs.Held.{Lasts}
-use Rattle.wl_views.specs.Signals.{shown_then}
+use Rattle.wl_views.specs.PlaceLine.{Lasts}
+use Rattle.wl_views.specs.Signals.{snapshot_then}
 use Rattle.wl_level.specs.declared.Level.{Level}
 use Rattle.wl_level.specs.Levels.{is_dominant}
 use Rattle.wl_node.specs.History.{history_of}
@@ -44,7 +44,7 @@ module _ (laws : SimulationLaws) (plan : Plan) (sound : IsSound (line_of plan)) 
 
 -- what a node drives at a tick, by what it has seen up to it
 pub driven_then : SimulationLaws → (plan : Plan) → IsSound (line_of plan) → (i : ℕ) → i < length plan.nodes → (t : ℕ)
-    → level (line_of plan) i t ≡ is_dominant (shown_then plan i t).drive
+    → level (line_of plan) i t ≡ is_dominant (snapshot_then plan i t).drive
 driven_then laws plan sound i b t =
     laws.level_is (line_of plan) i t sound.causal b
     ∙ ap (λ (ls : List Level). is_dominant (history_of (setup_at plan i) ls).drive) (sym (laws.history_seen (line_of plan) i (suc t) sound.causal b))

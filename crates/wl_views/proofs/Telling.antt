@@ -12,7 +12,7 @@ use Rattle.wl_plan.specs.SimulationLaws.{SimulationLaws}
 use Rattle.wl_plan.specs.Sound.{IsSound}
 use Rattle.wl_trace.specs.declared.event.Noted.{Noted}
 use Rattle.wl_trace.specs.Laws.{TraceLaws}
-use Rattle.wl_views.specs.Trace.{all_told, events_at_end, syncs_at_end, told_at_end, told_by}
+use Rattle.wl_views.specs.TraceText.{all_told, events_at_end, syncs_at_end, told_at_end, told_by}
 use Rattle.wl_level.proofs.Callers.{range_more}
 use Rattle.wl_views.proofs.InTime.{few, inside, within}
 

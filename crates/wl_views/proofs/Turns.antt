@@ -2,7 +2,7 @@
 use Rattle.std.proofs.Common.{◌≡◌, ◌∙◌, refl, sym, subst, ℕ, ◌<◌, ◌≤◌, Bool, false}
 use Rattle.wl_pulse.specs.declared.pulse.Pulse.{Pulse}
 use Rattle.wl_pulse.specs.Pulses.{IsPulse}
-use Rattle.wl_views.specs.Held.{Lasts}
+use Rattle.wl_views.specs.PlaceLine.{Lasts}
 
 -- what is known from this tick on
 pub known_from : (f : ℕ → Bool) (t : ℕ) (held : Pulse) → held.from ≡ t → t < held.until → IsPulse f held → Lasts f t held

@@ -6,7 +6,7 @@ use Rattle.std.proofs.lemmas.Slice.Eq.{bytes_eq-Decides}
 use Rattle.wl_views.specs.declared.tick.Tick.{Tick}
 use Rattle.wl_views.specs.declared.signals.NodeSignals.{NodeSignals}
 use Rattle.wl_report.specs.Lines.{mode_word}
-use Rattle.wl_trace.specs.declared.shown.NodeState.{NodeState}
+use Rattle.wl_trace.specs.declared.snapshot.NodeState.{NodeState}
 use Rattle.wl_views.specs.Vcd.{change_line, changes_from, doing_word, level_changes, line_changes, node_changes, number_change, number_line, state_changes, tick_lines, time_line, under, word_change, word_line}
 
 pub no_change : (letter : List ℕ) (i : ℕ) (b : Bool) → change_line letter i b b ≡ []

@@ -12,13 +12,14 @@ use Rattle.wl_plan.specs.declared.plan.Plan.{Plan}
 use Rattle.wl_plan.specs.PlanLine.{line_of, setup_at}
 use Rattle.wl_plan.specs.SimulationLaws.{SimulationLaws}
 use Rattle.wl_plan.specs.Sound.{IsSound}
-use Rattle.wl_trace.specs.declared.shown.Shown.{Shown}
+use Rattle.wl_trace.specs.declared.snapshot.NodeSnapshot.{NodeSnapshot}
 use Rattle.wl_pulse.specs.declared.pulse.Pulse.{Pulse}
 use Rattle.wl_views.specs.declared.signals.NodeSignals.{NodeSignals}
 use Rattle.wl_views.specs.declared.place_line.PlaceLine.{PlaceLine}
-use Rattle.wl_views.specs.declared.watched.Watched.{Watched}
-use Rattle.wl_views.specs.Held.{Awaits, Comes, Hears, Lasts, Remembers, Watches, heard_until, not_held, signals_by}
-use Rattle.wl_views.specs.Signals.{node_signals, shown_then, signals}
+use Rattle.wl_views.specs.declared.probe.Probe.{Probe}
+use Rattle.wl_views.specs.PlaceLine.{Comes, Hears, Lasts, Remembers, heard_until, not_held}
+use Rattle.wl_views.specs.Probe.{Awaits, Watches, signals_by}
+use Rattle.wl_views.specs.Signals.{node_signals, snapshot_then, signals}
 use Rattle.wl_views.specs.Vcd.{changes_from, node_changes}
 use Rattle.wl_clock.specs.Timing.{tick_of}
 use Rattle.wl_views.proofs.Going.{begun_earlier}
@@ -50,7 +51,7 @@ remembers_on plan i t u l h from = record {
 }
 
 -- what is known goes on as long as it stays
-pub on : (plan : Plan) (i t u : ℕ) (w : Watched) → Watches plan i t w → t ≤ u → u < w.until → Watches plan i u w
+pub on : (plan : Plan) (i t u : ℕ) (w : Probe) → Watches plan i t w → t ≤ u → u < w.until → Watches plan i u w
 on plan i t u w h from below = record {
   runs = h.runs;
   hears = hears_on plan i t u w.line h.hears from (omega (arith, h.until));
@@ -63,24 +64,24 @@ on plan i t u w h from below = record {
 }
 
 module _ (laws : SimulationLaws) (plan : Plan) (sound : IsSound (line_of plan)) (i : ℕ) (b : i < length plan.nodes) where
-  pub stays : (t u : ℕ) (w : Watched) → Watches plan i t w → t ≤ u → u < w.until
-      → node_signals plan u i ≡ signals_by w.shown w.line.cable.dominant w.line.disturbance.dominant
+  pub stays : (t u : ℕ) (w : Probe) → Watches plan i t w → t ≤ u → u < w.until
+      → node_signals plan u i ≡ signals_by w.snapshot w.line.cable.dominant w.line.disturbance.dominant
   unfolding node_signals
   stays t u w h from below =
-      let same : shown_then plan i u ≡ w.shown = h.same u from below in
+      let same : snapshot_then plan i u ≡ w.snapshot = h.same u from below in
       let e = h.until in
       λ x. record {
-        tx = ap not (driven_then laws plan sound i b u ∙ ap (λ (s : Shown). is_dominant s.drive) same) x;
+        tx = ap not (driven_then laws plan sound i b u ∙ ap (λ (s : NodeSnapshot). is_dominant s.drive) same) x;
         rx = ap₂ (λ d e. not (d || e)) (h.hears.cable.same u from (omega arith)) (h.hears.disturbance.same u from (omega arith)) x;
         cable = ap not (h.hears.cable.same u from (omega arith)) x;
         disturbance = h.hears.disturbance.same u from (omega arith) x;
-        sample = ap (λ (s : Shown). s.sampled) same x;
-        start = ap (λ (s : Shown). s.started) same x;
-        state = ap (λ (s : Shown). s.state) same x;
+        sample = ap (λ (s : NodeSnapshot). s.sampled) same x;
+        start = ap (λ (s : NodeSnapshot). s.started) same x;
+        state = ap (λ (s : NodeSnapshot). s.state) same x;
       }
 
-  pub now : (t : ℕ) (w : Watched) → Watches plan i t w
-      → node_signals plan t i ≡ signals_by w.shown w.line.cable.dominant w.line.disturbance.dominant
+  pub now : (t : ℕ) (w : Probe) → Watches plan i t w
+      → node_signals plan t i ≡ signals_by w.snapshot w.line.cable.dominant w.line.disturbance.dominant
   now t w h =
       let p = h.hears.cable.later in
       let r = h.hears.disturbance.later in
@@ -89,7 +90,7 @@ module _ (laws : SimulationLaws) (plan : Plan) (sound : IsSound (line_of plan)) 
       stays t t w h (omega arith) (omega arith)
 
   -- what it has seen began before the line changes, and before its next quantum
-  begun_before : (t : ℕ) (w : Watched) → 0 < t → Watches plan i (t - 1) w → w.until ≤ t → (k : ℕ) → k < w.quanta → tick_of (setup_at plan i).clock k < t
+  begun_before : (t : ℕ) (w : Probe) → 0 < t → Watches plan i (t - 1) w → w.until ≤ t → (k : ℕ) → k < w.quanta → tick_of (setup_at plan i).clock k < t
   begun_before t w some h past k less = elim (cases_lt (heard_until w.line) (t + 1)) [
     | inl run_out ↦ (let m = h.before k less in omega arith)
     | inr stays ↦
@@ -98,11 +99,11 @@ module _ (laws : SimulationLaws) (plan : Plan) (sound : IsSound (line_of plan)) 
         let n = h.next in omega arith)
   ]
 
-  pub remembered : (t : ℕ) (w : Watched) → Watches plan i (t - 1) w → Remembers plan i t w.line
+  pub remembered : (t : ℕ) (w : Probe) → Watches plan i (t - 1) w → Remembers plan i t w.line
   remembered t w h = remembers_on plan i (t - 1) t w.line h.hears (omega arith)
 
   -- where what is known runs out, it is for the line or for the next quantum: all that began before was seen
-  pub awaited : (t : ℕ) (w : Watched) → 0 < t → Watches plan i (t - 1) w → w.until ≤ t → Awaits plan i t w
+  pub awaited : (t : ℕ) (w : Probe) → 0 < t → Watches plan i (t - 1) w → w.until ≤ t → Awaits plan i t w
   awaited t w some h past =
       let q = h.later in
       let e = h.until in
@@ -138,13 +139,13 @@ node_more plan s t k b =
     ∙ ap₂ (λ x y. changes_from 0 (take k (signals plan s)) (take k (signals plan t)) ++ node_changes k x y) was now
 
 -- one of them
-pub some_of : (all : List Watched) → 0 < length all → Watched
+pub some_of : (all : List Probe) → 0 < length all → Probe
 some_of [] some = absurd (omega arith)
 some_of (w ∷ all) some = w
 
 -- what is known of the nodes up to one, of which it is put in place
-pub known_more : (P : ℕ → Watched → Type 0) (all : List Watched) (i : ℕ) (w : Watched) → i < length all
-    → ((k : ℕ) (d : Watched) → k < i → P k (get_or all k d)) → P i w → (k : ℕ) (d : Watched) → k < i + 1 → P k (get_or (set all i w) k d)
+pub known_more : (P : ℕ → Probe → Type 0) (all : List Probe) (i : ℕ) (w : Probe) → i < length all
+    → ((k : ℕ) (d : Probe) → k < i → P k (get_or all k d)) → P i w → (k : ℕ) (d : Probe) → k < i + 1 → P k (get_or (set all i w) k d)
 known_more P all i w room below here k d =
     below_more (λ m. P m (get_or (set all i w) m d)) i
     (λ m h. let ne : m ≢ i = omega arith in subst (P m) (sym (get_or-set_other all i m w d ne)) (below m d h))
@@ -152,18 +153,18 @@ known_more P all i w room below here k d =
     k
 
 -- and of the others, which stay as they are
-pub others_stay : (P : ℕ → Watched → Type 0) (all : List Watched) (i n : ℕ) (w : Watched)
-    → ((k : ℕ) (d : Watched) → i ≤ k → k < n → P k (get_or all k d)) → (k : ℕ) (d : Watched) → i + 1 ≤ k → k < n → P k (get_or (set all i w) k d)
+pub others_stay : (P : ℕ → Probe → Type 0) (all : List Probe) (i n : ℕ) (w : Probe)
+    → ((k : ℕ) (d : Probe) → i ≤ k → k < n → P k (get_or all k d)) → (k : ℕ) (d : Probe) → i + 1 ≤ k → k < n → P k (get_or (set all i w) k d)
 others_stay P all i n w others k d from inside =
     let ne : k ≢ i = omega arith in subst (P k) (sym (get_or-set_other all i k w d ne)) (others k d (omega arith) inside)
 
 -- and of one more behind them
-pub known_behind : (P : ℕ → Watched → Type 0) (all : List Watched) (i : ℕ) (w : Watched) → length all ≡ i
-    → ((k : ℕ) (d : Watched) → k < i → P k (get_or all k d)) → P i w → (k : ℕ) (d : Watched) → k < i + 1 → P k (get_or (all ++ w ∷ []) k d)
+pub known_behind : (P : ℕ → Probe → Type 0) (all : List Probe) (i : ℕ) (w : Probe) → length all ≡ i
+    → ((k : ℕ) (d : Probe) → k < i → P k (get_or all k d)) → P i w → (k : ℕ) (d : Probe) → k < i + 1 → P k (get_or (all ++ w ∷ []) k d)
 known_behind P all i w long below here k d =
     below_more (λ m. P m (get_or (all ++ w ∷ []) m d)) i
     (λ m h. let inside : m < length all = omega arith in subst (P m) (sym (get_or-append all (w ∷ []) d m inside)) (below m d h))
-    (subst (λ (x : Watched). P i x) (sym (ap (λ (n : ℕ). get_or (all ++ w ∷ []) n d) (sym long) ∙ get_or-append_seam all w [] d)) here)
+    (subst (λ (x : Probe). P i x) (sym (ap (λ (n : ℕ). get_or (all ++ w ∷ []) n d) (sym long) ∙ get_or-append_seam all w [] d)) here)
     k
 
 -- nodes whose signals stay have no lines

@@ -9,7 +9,7 @@ use Rattle.wl_report.specs.Report.{id_digits}
 use Rattle.wl_views.specs.declared.tick.Tick.{Tick}
 use Rattle.wl_views.specs.Ticks.{microseconds}
 use Rattle.wl_views.specs.Digits.{digits_of}
-use Rattle.wl_views.specs.Sent.{all_sent}
+use Rattle.wl_views.specs.SentFrames.{all_sent}
 use Rattle.wl_level.specs.ByTick.{by_tick}
 
 -- a data length code above 8, after the 8 that it means

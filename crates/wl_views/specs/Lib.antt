@@ -1,10 +1,12 @@
+pub mod Limits
 pub mod Ticks
 pub mod Digits
-pub mod Sent
+pub mod SentFrames
 pub mod Candump
 pub mod Signals
-pub mod Held
+pub mod PlaceLine
+pub mod Probe
 pub mod Vcd
 pub mod Streams
-pub mod Trace
+pub mod TraceText
 pub mod Calendar

@@ -9,8 +9,8 @@ use Rattle.wl_plan.specs.declared.plan.Plan.{Plan}
 use Rattle.wl_plan.specs.Line.{found}
 use Rattle.wl_plan.specs.PlanLine.{disturbed, setup_at, line_of}
 use Rattle.wl_plan.specs.Simulation.{history, level}
-use Rattle.wl_trace.specs.declared.shown.Shown.{Shown}
-use Rattle.wl_trace.specs.Shown.{shown_of}
+use Rattle.wl_trace.specs.declared.snapshot.NodeSnapshot.{NodeSnapshot}
+use Rattle.wl_trace.specs.Snapshot.{snapshot_of}
 use Rattle.wl_views.specs.declared.signals.NodeSignals.{NodeSignals}
 
 -- the levels that node i has seen up to tick t, in a quantum of that tick too
@@ -18,8 +18,8 @@ abbrev pub levels_then : Plan → ℕ → ℕ → List Level
 levels_then plan i t = (history (line_of plan) (suc t)).seen i
 
 -- what a waveform shows of it then
-abbrev pub shown_then : Plan → ℕ → ℕ → Shown
-shown_then plan i t = shown_of (setup_at plan i) (levels_then plan i t)
+abbrev pub snapshot_then : Plan → ℕ → ℕ → NodeSnapshot
+snapshot_then plan i t = snapshot_of (setup_at plan i) (levels_then plan i t)
 
 -- whether some node's drive is dominant on the cable at node i's place
 abbrev pub driven_at : Plan → ℕ → ℕ → Bool
@@ -33,9 +33,9 @@ node_signals plan t i = record {
   rx = not (found (line_of plan) (level (line_of plan)) i t);
   cable = not (driven_at plan i t);
   disturbance = disturbed plan i t;
-  sample = (shown_then plan i t).sampled;
-  start = (shown_then plan i t).started;
-  state = (shown_then plan i t).state;
+  sample = (snapshot_then plan i t).sampled;
+  start = (snapshot_then plan i t).started;
+  state = (snapshot_then plan i t).state;
 }
 
 -- all nodes

@@ -8,7 +8,7 @@ use Rattle.wl_plan.specs.Simulation.{differs}
 use Rattle.wl_report.specs.Lines.{mode_word}
 use Rattle.wl_machine.specs.declared.doing.Doing.{Doing}
 use Rattle.wl_machine.specs.declared.doing.Doing.TheVariants.{Integrating, Idle, Receiving, Transmitting, ActiveFlag, PassiveFlag, OverloadFlag, Waiting, Delimiting, Intermission, Suspended, OffBus}
-use Rattle.wl_trace.specs.declared.shown.NodeState.{NodeState}
+use Rattle.wl_trace.specs.declared.snapshot.NodeState.{NodeState}
 use Rattle.wl_views.specs.declared.tick.TimeUnit.{TimeUnit}
 use Rattle.wl_views.specs.declared.tick.TimeUnit.TheVariants.{Picosecond, Nanosecond, Microsecond}
 use Rattle.wl_views.specs.declared.tick.Tick.{Tick}

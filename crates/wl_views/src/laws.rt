@@ -1,6 +1,6 @@
 //! Laws of what other tools read, as contracts of functions with an empty body.
 
-ghost use Rattle.wl_views.specs.Sent.{SentInTime};
+ghost use Rattle.wl_views.specs.SentFrames.{SentInTime};
 
 /// Law: each frame of the outcome of a plan that passed its check was completed at a quantum that its node's clock knows, and
 /// below the end.

@@ -3,8 +3,10 @@ ghost use Rattle.std.specs.Prelude.{◌≡◌, ◌+◌, ◌≤◌, [], ◌∷◌
 ghost use Rattle.std.specs.Fmt.{decimal};
 ghost use Rattle.arrayvec.specs.ArrayVec.{array_vec_len};
 ghost use Rattle.wl_plan.specs.Limits.{latest_end};
+ghost use Rattle.wl_views.specs.Limits.{longest_id, longest_level_changes, longest_level_line, longest_line_changes, longest_mark_changes, longest_node_changes, longest_number, longest_number_line, longest_state_changes, longest_time_line, longest_word, longest_word_line, piece_room};
 ghost use Rattle.wl_views.specs.Vcd.{change_line, level_changes, line_changes, mark_changes, node_changes, number_change, signal_id, state_changes, time_line, value_line, word_change};
 
+use crate::limits::{LONGEST_NUMBER, PIECE_ROOM};
 use crate::signals::NodeSignals;
 use crate::stamp::Stamp;
 use crate::tick::Tick;
@@ -13,15 +15,12 @@ use arrayvec::ArrayVec;
 use itoa::write_digits;
 use wl_trace::NodeState;
 
-/// How many bytes there is room for.
-pub(crate) const ROOM: usize = 16_384;
-
-/// A text in that room.
-pub(crate) type Lines = ArrayVec<u8, ROOM>;
+/// A text in the room of a piece.
+pub(crate) type Lines = ArrayVec<u8, PIECE_ROOM>;
 
 /// Adds these bytes.
 pub(crate) fn push_bytes(text: &mut Lines, bytes: &[u8])
-    requires { array_vec_len text.old + length bytes.now ≤ 16384 }
+    requires { array_vec_len text.old + length bytes.now ≤ piece_room }
     ensures bytes { text.new.items ≡ text.old.items ++ bytes.now }
     ensures len { array_vec_len text.new ≡ array_vec_len text.old + length bytes.now }
 {
@@ -31,20 +30,20 @@ pub(crate) fn push_bytes(text: &mut Lines, bytes: &[u8])
 
 /// Adds a number.
 pub(crate) fn push_number(text: &mut Lines, number: u64)
-    requires { array_vec_len text.old + 20 ≤ 16384 }
+    requires { array_vec_len text.old + longest_number ≤ piece_room }
     ensures bytes { text.new.items ≡ text.old.items ++ decimal number }
-    ensures grown { array_vec_len text.new ≤ array_vec_len text.old + 20 }
+    ensures grown { array_vec_len text.new ≤ array_vec_len text.old + longest_number }
 {
-    let mut digits = [0u8; 20];
-    let at = write_digits(number, &mut digits, 20);
+    let mut digits = [0u8; LONGEST_NUMBER];
+    let at = write_digits(number, &mut digits, LONGEST_NUMBER);
     push_bytes(text, &digits[at..]);
 }
 
 /// Adds a number that mostly has one digit or two.
 fn push_small(text: &mut Lines, number: u64)
-    requires { array_vec_len text.old + 20 ≤ 16384 }
+    requires { array_vec_len text.old + longest_number ≤ piece_room }
     ensures bytes { text.new.items ≡ text.old.items ++ decimal number }
-    ensures grown { array_vec_len text.new ≤ array_vec_len text.old + 20 }
+    ensures grown { array_vec_len text.new ≤ array_vec_len text.old + longest_number }
 {
     if number < 10 {
         text.push(b'0' + number as u8);
@@ -60,9 +59,9 @@ fn push_small(text: &mut Lines, number: u64)
 
 /// Adds the name of a signal of node `i`: its letter and the node's number.
 fn push_id(text: &mut Lines, letter: u8, i: usize)
-    requires { array_vec_len text.old + 21 ≤ 16384 }
+    requires { array_vec_len text.old + longest_id ≤ piece_room }
     ensures bytes { text.new.items ≡ text.old.items ++ signal_id (letter ∷ []) i }
-    ensures grown { array_vec_len text.new ≤ array_vec_len text.old + 21 }
+    ensures grown { array_vec_len text.new ≤ array_vec_len text.old + longest_id }
 {
     text.push(letter);
     push_small(text, i as u64);
@@ -70,10 +69,10 @@ fn push_id(text: &mut Lines, letter: u8, i: usize)
 
 /// Adds the time of a tick. `stamp` has the digits of an earlier one.
 pub(crate) fn push_time(text: &mut Lines, stamp: &mut Stamp, tick: Tick, t: u64)
-    requires room { array_vec_len text.old + 22 ≤ 16384 }
+    requires room { array_vec_len text.old + longest_time_line ≤ piece_room }
     requires early { t ≤ latest_end }
     ensures line { text.new.items ≡ text.old.items ++ time_line tick t }
-    ensures grown { array_vec_len text.new ≤ array_vec_len text.old + 22 }
+    ensures grown { array_vec_len text.new ≤ array_vec_len text.old + longest_time_line }
 {
     text.push(b'#');
     stamp.push(text, t * u64::from(tick.count));
@@ -82,9 +81,9 @@ pub(crate) fn push_time(text: &mut Lines, stamp: &mut Stamp, tick: Tick, t: u64)
 
 /// Adds the level of a signal of node `i`.
 fn push_value(text: &mut Lines, letter: u8, i: usize, high: bool)
-    requires room { array_vec_len text.old + 23 ≤ 16384 }
+    requires room { array_vec_len text.old + longest_level_line ≤ piece_room }
     ensures line { text.new.items ≡ text.old.items ++ value_line (letter ∷ []) i high }
-    ensures grown { array_vec_len text.new ≤ array_vec_len text.old + 23 }
+    ensures grown { array_vec_len text.new ≤ array_vec_len text.old + longest_level_line }
 {
     text.push(if high { b'1' } else { b'0' });
     push_id(text, letter, i);
@@ -93,9 +92,9 @@ fn push_value(text: &mut Lines, letter: u8, i: usize, high: bool)
 
 /// Adds the level of a signal of node `i`, if it is another than before.
 fn push_change(text: &mut Lines, letter: u8, i: usize, was: bool, now: bool)
-    requires room { array_vec_len text.old + 23 ≤ 16384 }
+    requires room { array_vec_len text.old + longest_level_line ≤ piece_room }
     ensures line { text.new.items ≡ text.old.items ++ change_line (letter ∷ []) i was now }
-    ensures grown { array_vec_len text.new ≤ array_vec_len text.old + 23 }
+    ensures grown { array_vec_len text.new ≤ array_vec_len text.old + longest_level_line }
 {
     if was != now {
         push_value(text, letter, i, now);
@@ -104,9 +103,9 @@ fn push_change(text: &mut Lines, letter: u8, i: usize, was: bool, now: bool)
 
 /// Adds a number of node `i`, if it is another than before.
 fn push_number_change(text: &mut Lines, letter: u8, i: usize, was: u64, now: u64)
-    requires room { array_vec_len text.old + 44 ≤ 16384 }
+    requires room { array_vec_len text.old + longest_number_line ≤ piece_room }
     ensures line { text.new.items ≡ text.old.items ++ number_change (letter ∷ []) i was now }
-    ensures grown { array_vec_len text.new ≤ array_vec_len text.old + 44 }
+    ensures grown { array_vec_len text.new ≤ array_vec_len text.old + longest_number_line }
 {
     if was == now {
         return;
@@ -120,10 +119,10 @@ fn push_number_change(text: &mut Lines, letter: u8, i: usize, was: u64, now: u64
 
 /// Adds a word of node `i`, if it is another than before.
 fn push_word_change(text: &mut Lines, letter: u8, i: usize, was: &str, now: &str)
-    requires room { array_vec_len text.old + 37 ≤ 16384 }
-    requires word { length now.now ≤ 13 }
+    requires room { array_vec_len text.old + longest_word_line ≤ piece_room }
+    requires word { length now.now ≤ longest_word }
     ensures line { text.new.items ≡ text.old.items ++ word_change (letter ∷ []) i was.now now.now }
-    ensures grown { array_vec_len text.new ≤ array_vec_len text.old + 37 }
+    ensures grown { array_vec_len text.new ≤ array_vec_len text.old + longest_word_line }
 {
     if was == now {
         return;
@@ -137,9 +136,9 @@ fn push_word_change(text: &mut Lines, letter: u8, i: usize, was: &str, now: &str
 
 /// Adds the lines of node `i`'s drive and of the line at its place that changed.
 fn push_line_changes(text: &mut Lines, i: usize, was: NodeSignals, now: NodeSignals)
-    requires { array_vec_len text.old + 92 ≤ 16384 }
+    requires { array_vec_len text.old + longest_line_changes ≤ piece_room }
     ensures lines { text.new.items ≡ text.old.items ++ line_changes i was now }
-    ensures grown { array_vec_len text.new ≤ array_vec_len text.old + 92 }
+    ensures grown { array_vec_len text.new ≤ array_vec_len text.old + longest_line_changes }
 {
     push_change(text, b't', i, was.tx, now.tx);
     push_change(text, b'r', i, was.rx, now.rx);
@@ -149,9 +148,9 @@ fn push_line_changes(text: &mut Lines, i: usize, was: NodeSignals, now: NodeSign
 
 /// Adds the marks of node `i` that changed.
 fn push_mark_changes(text: &mut Lines, i: usize, was: NodeSignals, now: NodeSignals)
-    requires { array_vec_len text.old + 46 ≤ 16384 }
+    requires { array_vec_len text.old + longest_mark_changes ≤ piece_room }
     ensures lines { text.new.items ≡ text.old.items ++ mark_changes i was now }
-    ensures grown { array_vec_len text.new ≤ array_vec_len text.old + 46 }
+    ensures grown { array_vec_len text.new ≤ array_vec_len text.old + longest_mark_changes }
 {
     push_change(text, b's', i, was.sample, now.sample);
     push_change(text, b'b', i, was.start, now.start);
@@ -159,9 +158,9 @@ fn push_mark_changes(text: &mut Lines, i: usize, was: NodeSignals, now: NodeSign
 
 /// Adds the levels of node `i` that changed.
 fn push_level_changes(text: &mut Lines, i: usize, was: NodeSignals, now: NodeSignals)
-    requires { array_vec_len text.old + 138 ≤ 16384 }
+    requires { array_vec_len text.old + longest_level_changes ≤ piece_room }
     ensures lines { text.new.items ≡ text.old.items ++ level_changes i was now }
-    ensures grown { array_vec_len text.new ≤ array_vec_len text.old + 138 }
+    ensures grown { array_vec_len text.new ≤ array_vec_len text.old + longest_level_changes }
 {
     push_line_changes(text, i, was, now);
     push_mark_changes(text, i, was, now);
@@ -169,9 +168,9 @@ fn push_level_changes(text: &mut Lines, i: usize, was: NodeSignals, now: NodeSig
 
 /// Adds the lines of node `i`'s counters, mode and state that changed.
 fn push_state_changes(text: &mut Lines, i: usize, was: NodeState, now: NodeState)
-    requires { array_vec_len text.old + 162 ≤ 16384 }
+    requires { array_vec_len text.old + longest_state_changes ≤ piece_room }
     ensures lines { text.new.items ≡ text.old.items ++ state_changes i was now }
-    ensures grown { array_vec_len text.new ≤ array_vec_len text.old + 162 }
+    ensures grown { array_vec_len text.new ≤ array_vec_len text.old + longest_state_changes }
 {
     if was == now {
         return;
@@ -184,9 +183,9 @@ fn push_state_changes(text: &mut Lines, i: usize, was: NodeState, now: NodeState
 
 /// Adds those signals of node `i` that changed.
 pub(crate) fn push_node_changes(text: &mut Lines, i: usize, was: NodeSignals, now: NodeSignals)
-    requires { array_vec_len text.old + 300 ≤ 16384 }
+    requires { array_vec_len text.old + longest_node_changes ≤ piece_room }
     ensures lines { text.new.items ≡ text.old.items ++ node_changes i was now }
-    ensures grown { array_vec_len text.new ≤ array_vec_len text.old + 300 }
+    ensures grown { array_vec_len text.new ≤ array_vec_len text.old + longest_node_changes }
 {
     push_level_changes(text, i, was, now);
     push_state_changes(text, i, was.state, now.state);

@@ -4,11 +4,11 @@ ghost use Rattle.std.specs.List.{flat_map};
 ghost use Rattle.wl_report.specs.Report.{id_digits};
 ghost use Rattle.wl_views.specs.Candump.{content_word, code_word, log_line, log_of, time_word, wanted_word};
 ghost use Rattle.wl_views.specs.Digits.{Extends, digits_of};
-ghost use Rattle.wl_views.specs.Sent.{AreInTime};
+ghost use Rattle.wl_views.specs.SentFrames.{AreInTime};
 ghost use Rattle.wl_views.specs.Ticks.{microseconds};
 
 use crate::digits::push_digits;
-use crate::sent::sent_by_tick;
+use crate::sent_frames::sent_by_tick;
 use crate::tick::Tick;
 use std::alloc::{AllocError, Global};
 use wl_frame::frame::Frame;

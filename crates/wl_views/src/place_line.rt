@@ -1,14 +1,13 @@
 //! What is known of the line at a node's place from a tick on.
-ghost use Rattle.std.specs.Prelude.{◌≡◌, ◌||◌, ◌≤◌, ◌<◌, ℕ, length};
+ghost use Rattle.std.specs.Prelude.{◌≡◌, ◌||◌, ◌≤◌, ◌<◌, ℕ, Bool, length, min};
 ghost use Rattle.wl_plan.specs.declared.plan.Plan.{Plan};
 ghost use Rattle.wl_plan.specs.Limits.{latest_end};
 ghost use Rattle.wl_plan.specs.Line.{found};
 ghost use Rattle.wl_plan.specs.PlanLine.{line_of};
 ghost use Rattle.wl_plan.specs.Simulation.{level};
 ghost use Rattle.wl_serial.specs.Outcome.{outcome_of};
-ghost use Rattle.wl_views.specs.Held.{Hears, Lasts, Remembers, heard_until};
+ghost use Rattle.wl_views.specs.PlaceLine.{Hears, Lasts, Remembers, heard_until};
 
-use crate::held::either;
 use crate::signals::driven;
 use wl_plan::CheckedPlan;
 use wl_pulse::{Pulse, SILENCE, disturbed_at};
@@ -26,6 +25,20 @@ pub(crate) struct PlaceLine {
     pub(crate) sources: [Pulse; MOST_NODES],
     /// How many changes of each node had come there when its drive was last asked for: that speeds up the next time, and decides nothing.
     come: [usize; MOST_NODES],
+}
+
+/// Returns whether one of two things is dominant, for as long as both stay.
+fn either(one: Pulse, other: Pulse) -> Pulse
+    ensures both { (f g : ℕ → Bool) (t : ℕ) → Lasts f t one → Lasts g t other
+        → Lasts (λ u. f u || g u) t result }
+    ensures dominant { result.dominant ≡ (one.dominant || other.dominant) }
+    ensures until { result.until ≡ min one.until other.until }
+{
+    Pulse {
+        from: one.from.max(other.from),
+        until: one.until.min(other.until),
+        dominant: one.dominant || other.dominant,
+    }
 }
 
 impl PlaceLine {

@@ -10,13 +10,15 @@ ghost use Rattle.wl_plan.specs.PlanLine.{disturbed, is_at, line_of};
 ghost use Rattle.wl_plan.specs.Simulation.{level};
 ghost use Rattle.wl_serial.specs.Heard.{comes};
 ghost use Rattle.wl_serial.specs.Outcome.{outcome_of};
-ghost use Rattle.wl_views.specs.Held.{AllWatched, IsCalendarOf, Comes, Lasts, Watches};
+ghost use Rattle.wl_views.specs.Limits.{longest_node_changes, longest_tick_changes, piece_room};
+ghost use Rattle.wl_views.specs.PlaceLine.{Comes, Lasts};
+ghost use Rattle.wl_views.specs.Probe.{AllWatched, IsCalendarOf, Watches};
 ghost use Rattle.wl_views.specs.Signals.{driven_at, node_signals, signals};
 ghost use Rattle.wl_views.specs.Vcd.{changes_from, node_changes};
 
 use crate::calendar::Calendar;
 use crate::lines::{Lines, push_node_changes};
-use crate::watched::Watched;
+use crate::probe::Probe;
 use std::alloc::{AllocError, Global};
 use wl_plan::CheckedPlan;
 use wl_pulse::Pulse;
@@ -107,82 +109,82 @@ pub(crate) fn driven(
     }
 }
 
-/// Returns what is known of each node's signals from tick 0 on. Refused only if memory runs out.
-pub(crate) fn watch_all(
+/// Returns a probe of each node, from tick 0 on. Refused only if memory runs out.
+pub(crate) fn all_probes(
     alloc: Global,
     plan: &CheckedPlan,
     outcome: &Outcome,
-) -> Result<Vec<Watched>, AllocError>
+) -> Result<Vec<Probe>, AllocError>
     requires outcome { outcome.now ≡ outcome_of plan.now }
-    ensures { IfOk result (λ watched. AllWatched plan.now 0 watched.items) }
+    ensures { IfOk result (λ probes. AllWatched plan.now 0 probes.items) }
 {
     let nodes = plan.nodes.len();
-    let mut watched = Vec::with_capacity(alloc, nodes)?;
+    let mut probes = Vec::with_capacity(alloc, nodes)?;
     for i in 0..nodes {
-        let mut node = Watched::new(plan, i);
+        let mut node = Probe::new(plan, i);
         node.go(plan, outcome, i, 0);
-        watched.push(node)?;
+        probes.push(node)?;
     }
-    Ok(watched)
+    Ok(probes)
 }
 
-/// Returns the signals of all nodes at tick 0, by what is known of each. Refused only if memory runs out.
+/// Returns the signals of all nodes at tick 0, by their probes. Refused only if memory runs out.
 pub(crate) fn first_signals(
     alloc: Global,
     plan: &CheckedPlan,
-    watched: &[Watched],
+    probes: &[Probe],
 ) -> Result<Vec<NodeSignals>, AllocError>
-    requires watched { AllWatched plan.now 0 watched.now }
+    requires probes { AllWatched plan.now 0 probes.now }
     ensures { IfOk result (λ now. now.items ≡ signals plan.now 0) }
 {
     plan.laws();
     wl_plan::simulation_laws();
-    let mut now = Vec::with_capacity(alloc, watched.len())?;
-    for i in 0..watched.len() {
-        now.push(watched[i].signals())?;
+    let mut now = Vec::with_capacity(alloc, probes.len())?;
+    for i in 0..probes.len() {
+        now.push(probes[i].signals())?;
     }
     Ok(now)
 }
 
 /// Returns when the turn of each node comes: its signals stay up to then.
-pub(crate) fn calendar_of(plan: &CheckedPlan, watched: &[Watched]) -> Calendar
-    requires watched { AllWatched plan.now 0 watched.now }
-    ensures { IsCalendarOf plan.now.end watched.now result }
+pub(crate) fn calendar_of(plan: &CheckedPlan, probes: &[Probe]) -> Calendar
+    requires probes { AllWatched plan.now 0 probes.now }
+    ensures { IsCalendarOf plan.now.end probes.now result }
 {
     plan.laws();
     let mut calendar = Calendar::new();
-    for i in 0..watched.len() {
-        calendar.put(i, watched[i].until.min(plan.end));
+    for i in 0..probes.len() {
+        calendar.put(i, probes[i].until.min(plan.end));
     }
     calendar
 }
 
-/// Adds those signals of node `i` that change at tick `t`, at which what was known of it runs out, and notes what is known from then on.
+/// Adds those signals of node `i` that change at tick `t`, up to which they stayed. Its probe is at that tick afterwards.
 fn push_node(
     text: &mut Lines,
     plan: &CheckedPlan,
     outcome: &Outcome,
     i: usize,
     t: u64,
-    known: &mut Watched,
+    probe: &mut Probe,
 )
     requires outcome { outcome.now ≡ outcome_of plan.now }
     requires node { i < length plan.now.nodes }
     requires some { 0 < t }
     requires early { t ≤ latest_end }
-    requires was { Watches plan.now i (t - 1) known.old }
-    requires past { known.old.until ≤ t }
-    requires room { array_vec_len text.old + 300 ≤ 16384 }
+    requires was { Watches plan.now i (t - 1) probe.old }
+    requires past { probe.old.until ≤ t }
+    requires room { array_vec_len text.old + longest_node_changes ≤ piece_room }
     ensures lines { text.new.items ≡ text.old.items
         ++ node_changes i (node_signals plan.now (t - 1) i) (node_signals plan.now t i) }
-    ensures grown { array_vec_len text.new ≤ array_vec_len text.old + 300 }
-    ensures watches { Watches plan.now i t known.new }
+    ensures grown { array_vec_len text.new ≤ array_vec_len text.old + longest_node_changes }
+    ensures watches { Watches plan.now i t probe.new }
 {
     plan.laws();
     wl_plan::simulation_laws();
-    let was = known.signals();
-    known.go(plan, outcome, i, t);
-    push_node_changes(text, i, was, known.signals());
+    let was = probe.signals();
+    probe.go(plan, outcome, i, t);
+    push_node_changes(text, i, was, probe.signals());
 }
 
 /// Adds those signals of all nodes that change at tick `t`, and returns a later tick up to which none of them changes again. Only nodes whose
@@ -192,31 +194,31 @@ pub(crate) fn push_changes(
     plan: &CheckedPlan,
     outcome: &Outcome,
     t: u64,
-    watched: &mut [Watched],
+    probes: &mut [Probe],
     calendar: &mut Calendar,
 ) -> u64
     requires outcome { outcome.now ≡ outcome_of plan.now }
     requires some { 0 < t }
     requires early { t < plan.now.end }
-    requires watched { AllWatched plan.now (t - 1) watched.old }
-    requires calendar { IsCalendarOf plan.now.end watched.old calendar.old }
-    requires room { array_vec_len text.old + 4800 ≤ 16384 }
+    requires probes { AllWatched plan.now (t - 1) probes.old }
+    requires calendar { IsCalendarOf plan.now.end probes.old calendar.old }
+    requires room { array_vec_len text.old + longest_tick_changes ≤ piece_room }
     ensures lines { text.new.items ≡ text.old.items ++ changes_from 0 (signals plan.now (t - 1)) (signals plan.now t) }
-    ensures grown { array_vec_len text.new ≤ array_vec_len text.old + 4800 }
+    ensures grown { array_vec_len text.new ≤ array_vec_len text.old + longest_tick_changes }
     ensures later { t < result }
     ensures inside { result ≤ plan.now.end }
     ensures stays { (u : ℕ) → t ≤ u → u < result → signals plan.now u ≡ signals plan.now t }
-    ensures watched { AllWatched plan.now (result - 1) watched.new }
-    ensures calendar { IsCalendarOf plan.now.end watched.new calendar.new }
+    ensures probes { AllWatched plan.now (result - 1) probes.new }
+    ensures calendar { IsCalendarOf plan.now.end probes.new calendar.new }
 {
     plan.laws();
     wl_plan::simulation_laws();
     let mut next = 0;
     let mut first = calendar.first();
-    while next < watched.len() && first.0 <= t {
+    while next < probes.len() && first.0 <= t {
         let i = first.1;
-        push_node(text, plan, outcome, i, t, &mut watched[i]);
-        calendar.put(i, watched[i].until.min(plan.end));
+        push_node(text, plan, outcome, i, t, &mut probes[i]);
+        calendar.put(i, probes[i].until.min(plan.end));
         next = i + 1;
         first = calendar.first();
     }

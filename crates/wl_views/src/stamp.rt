@@ -3,7 +3,9 @@ ghost use Rattle.std.specs.Prelude.{◌≡◌, ◌+◌, ◌<◌, ◌≤◌, ◌^
 ghost use Rattle.std.specs.Fmt.{decimal};
 ghost use Rattle.arrayvec.specs.ArrayVec.{array_vec_len};
 ghost use Rattle.wl_views.specs.Digits.{four_digits};
+ghost use Rattle.wl_views.specs.Limits.{longest_number, piece_room};
 
+use crate::limits::LONGEST_NUMBER;
 use crate::lines::{Lines, push_bytes, push_number};
 use itoa::write_digits;
 
@@ -12,16 +14,16 @@ use itoa::write_digits;
 pub(crate) struct Stamp {
     /// The number that they spell.
     front: u64,
-    digits: [u8; 20],
+    digits: [u8; LONGEST_NUMBER],
     /// Where they begin.
     at: usize,
-    ghost fits: { at ≤ 20 },
+    ghost fits: { at ≤ longest_number },
     ghost spelled: { drop at digits ≡ decimal front },
 }
 
 /// Adds the last four digits of a number.
 fn push_four(text: &mut Lines, number: u64)
-    requires { array_vec_len text.old + 4 ≤ 16384 }
+    requires { array_vec_len text.old + 4 ≤ piece_room }
     ensures bytes { text.new.items ≡ text.old.items ++ four_digits number }
     ensures grown { array_vec_len text.new ≡ array_vec_len text.old + 4 }
 {
@@ -36,8 +38,8 @@ impl Stamp {
     pub(crate) fn new() -> Stamp {
         Stamp {
             front: 0,
-            digits: [b'0'; 20],
-            at: 19,
+            digits: [b'0'; LONGEST_NUMBER],
+            at: LONGEST_NUMBER - 1,
         }
     }
 
@@ -46,22 +48,22 @@ impl Stamp {
         ensures { self.new.front ≡ front }
     {
         self.front = front;
-        self.at = write_digits(front, &mut self.digits, 20);
+        self.at = write_digits(front, &mut self.digits, LONGEST_NUMBER);
     }
 
     /// Returns the digits of the front.
     fn spelled(&self) -> &[u8]
         ensures value { result.now ≡ decimal self.now.front }
-        ensures short { length result.now ≤ 20 }
+        ensures short { length result.now ≤ longest_number }
     {
         &self.digits[self.at..]
     }
 
     /// Adds a time.
     pub(crate) fn push(&mut self, text: &mut Lines, time: u64)
-        requires { array_vec_len text.old + 20 ≤ 16384 }
+        requires { array_vec_len text.old + longest_number ≤ piece_room }
         ensures bytes { text.new.items ≡ text.old.items ++ decimal time }
-        ensures grown { array_vec_len text.new ≤ array_vec_len text.old + 20 }
+        ensures grown { array_vec_len text.new ≤ array_vec_len text.old + longest_number }
     {
         let front = time / 10_000;
         if front == 0 {

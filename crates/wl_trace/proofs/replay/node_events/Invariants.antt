@@ -9,5 +9,5 @@ invariant-loop-bit l = record {
   past : IsReplay l.replay (replay_of l.setup (take l.bit l.samples)).0;
   events : l.notes.events.items ≡ (replay_of l.setup (take l.bit l.samples)).1;
   counted : length (replay_of l.setup (take l.bit l.samples)).0.samples ≡ l.bit;
-  sent : l.replay.controller.sent ≤ l.bit;
+  sent : l.replay.sampled_node.sent ≤ l.bit;
 }

@@ -8,7 +8,7 @@ use Rattle.wl_machine.specs.Doing.{doing_of}
 use Rattle.wl_machine.specs.Judged.{stretch_of}
 use Rattle.wl_node.specs.declared.setup.NodeSetup.{NodeSetup}
 use Rattle.wl_node.specs.History.{is_sent}
-use Rattle.wl_trace.specs.Replay.{IsController, SampledPast, no_past, past_after}
+use Rattle.wl_trace.specs.Replay.{IsSampledNode, SampledPast, no_past, past_after}
 use Rattle.wl_traffic.specs.declared.spans.Span.{Span}
 use Rattle.wl_traffic.specs.States.{doing_at, past_of_samples, sample_tick, span_at}
 use Rattle.wl_traffic.proofs.spans.spans.Goals as goal
@@ -32,7 +32,7 @@ loop-k-preserved c =
           c.in_ok-push.ensures.items
           ∙ ap₂ (λ (xs : List Span) (s : Span). xs ++ s ∷ []) c.loop-k.invariant.spans (λ i. record { doing = doing i; ticks = ticks i })
           ∙ sym (map-range_with_len_more (span_at setup end samples) 0 k k (zero-add k));
-      past = subst (IsController c.take-doing.new.self) (sym more) (c.take-doing.ensures.past front few c.loop-k.invariant.past);
+      past = subst (IsSampledNode c.take-doing.new.self) (sym more) (c.take-doing.ensures.past front few c.loop-k.invariant.past);
       sent = subst (λ (p : SampledPast). count_by is_sent p.frames ≤ k + 1) (sym more)
           (let now = c.take-doing.ensures.sent front few c.loop-k.invariant.past in let old = c.loop-k.invariant.sent in omega arith);
     }

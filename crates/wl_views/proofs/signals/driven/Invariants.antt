@@ -1,6 +1,6 @@
 use Rattle.std.proofs.Common.{◌≡◌, ℕ, ◌<◌, ◌≤◌, false, length}
 use Rattle.wl_serial.specs.Heard.{comes}
-use Rattle.wl_views.specs.Held.{Comes}
+use Rattle.wl_views.specs.PlaceLine.{Comes}
 use Rattle.wl_views.proofs.signals.driven.Given as goal
 
 -- none of the nodes so far is dominant there

@@ -9,9 +9,9 @@ use Rattle.wl_plan.specs.PlanLine.{line_of}
 use Rattle.wl_plan.specs.SimulationLaws.{SimulationLaws}
 use Rattle.wl_plan.specs.Sound.{IsSound}
 use Rattle.wl_views.specs.declared.calendar.Calendar.{Calendar}
-use Rattle.wl_views.specs.declared.watched.Watched.{Watched}
+use Rattle.wl_views.specs.declared.probe.Probe.{Probe}
 use Rattle.wl_views.specs.Calendar.{IsFirst}
-use Rattle.wl_views.specs.Held.{IsCalendarOf, Watches}
+use Rattle.wl_views.specs.Probe.{IsCalendarOf, Watches}
 use Rattle.wl_views.specs.Signals.{node_signals, signals}
 use Rattle.wl_views.specs.Vcd.{changes_from, node_changes}
 use Rattle.wl_views.proofs.Dates.{first_known, lasts_on, later_first, none_before, put_date}
@@ -20,19 +20,19 @@ use Rattle.wl_views.proofs.signals.push_changes.Goals as goal
 use Rattle.wl_views.proofs.signals.push_changes.Goals.{then-loop-next-test+else-first-t, else-loop-next-test}
 
 -- Some nodes were looked at at this tick, and the others at the one before. The first date is this one.
-record LooksAt (plan : Plan) (t next : ℕ) (all : List Watched) (calendar : Calendar) (first : ℕ × ℕ) : Type 0 where
+record LooksAt (plan : Plan) (t next : ℕ) (all : List Probe) (calendar : Calendar) (first : ℕ × ℕ) : Type 0 where
   some : 0 < t
   early : t < plan.end
   ends : plan.end ≤ latest_end
   few : length plan.nodes ≤ 16
   long : length all ≡ length plan.nodes
-  known : (k : ℕ) (d : Watched) → k < next → Watches plan k t (get_or all k d)
-  others : (k : ℕ) (d : Watched) → next ≤ k → k < length plan.nodes → Watches plan k (t - 1) (get_or all k d)
+  known : (k : ℕ) (d : Probe) → k < next → Watches plan k t (get_or all k d)
+  others : (k : ℕ) (d : Probe) → next ≤ k → k < length plan.nodes → Watches plan k (t - 1) (get_or all k d)
   is : IsCalendarOf plan.end all calendar
   dated : IsFirst calendar.tree first
 
-module _ (laws : SimulationLaws) (plan : Plan) (sound : IsSound (line_of plan)) (t next : ℕ) (all : List Watched) (calendar : Calendar) (first : ℕ × ℕ)
-    (h : LooksAt plan t next all calendar first) (d : Watched) where
+module _ (laws : SimulationLaws) (plan : Plan) (sound : IsSound (line_of plan)) (t next : ℕ) (all : List Probe) (calendar : Calendar) (first : ℕ × ℕ)
+    (h : LooksAt plan t next all calendar first) (d : Probe) where
   -- what is known of a node runs out at this tick or later
   from_now : (k : ℕ) → k < length plan.nodes → t ≤ (get_or all k d).until
   from_now k b = elim (cases_lt k next) [
@@ -82,7 +82,7 @@ module _ (laws : SimulationLaws) (plan : Plan) (sound : IsSound (line_of plan)) 
         let s = h.some in
         let below : k < first.1 = omega arith in
         let b : k < length plan.nodes = omega arith in
-        let w : Watched = get_or all k d in
+        let w : Probe = get_or all k d in
         stays laws plan sound k b (t - 1) t w (h.others k d high b) (omega arith) (later_before k below) ∙ sym (now laws plan sound k b (t - 1) w (h.others k d high b))
 
     lines_before : changes_from 0 (take next (signals plan (t - 1))) (take next (signals plan t))
@@ -138,11 +138,11 @@ module _ (laws : SimulationLaws) (plan : Plan) (sound : IsSound (line_of plan)) 
         let m = until_first k b in
         stays laws plan sound k b t u (get_or all k d) (known_all k b) from (omega arith) ∙ sym (now laws plan sound k b t (get_or all k d) (known_all k b)))
 
-pub bounds-watched-i : goal.bounds-watched-i
-bounds-watched-i c =
+pub bounds-probes-i : goal.bounds-probes-i
+bounds-probes-i c =
     let inv = c.loop-next.invariant in
-    let d : Watched = some_of c.loop-next.watched (let e = c.loop-next-test.true in omega arith) in
-    (found c.simulation_laws.ensures c.args.plan.now c.laws.ensures.sound c.args.t c.loop-next.next c.loop-next.watched c.loop-next.calendar c.loop-next.first
+    let d : Probe = some_of c.loop-next.probes (let e = c.loop-next-test.true in omega arith) in
+    (found c.simulation_laws.ensures c.args.plan.now c.laws.ensures.sound c.args.t c.loop-next.next c.loop-next.probes c.loop-next.calendar c.loop-next.first
     (record {
       some = c.requires.some;
       early = c.requires.early;
@@ -158,8 +158,8 @@ bounds-watched-i c =
 pub push_node-requires-clause-node : goal.push_node-requires-clause-node
 push_node-requires-clause-node c =
     let inv = c.loop-next.invariant in
-    let d : Watched = some_of c.loop-next.watched (let e = c.loop-next-test.true in omega arith) in
-    node_there c.simulation_laws.ensures c.args.plan.now c.laws.ensures.sound c.args.t c.loop-next.next c.loop-next.watched c.loop-next.calendar c.loop-next.first
+    let d : Probe = some_of c.loop-next.probes (let e = c.loop-next-test.true in omega arith) in
+    node_there c.simulation_laws.ensures c.args.plan.now c.laws.ensures.sound c.args.t c.loop-next.next c.loop-next.probes c.loop-next.calendar c.loop-next.first
     (record {
       some = c.requires.some;
       early = c.requires.early;
@@ -175,7 +175,7 @@ push_node-requires-clause-node c =
 pub push_node-requires-clause-was : goal.push_node-requires-clause-was
 push_node-requires-clause-was c =
     let inv = c.loop-next.invariant in
-    here_before c.simulation_laws.ensures c.args.plan.now c.laws.ensures.sound c.args.t c.loop-next.next c.loop-next.watched c.loop-next.calendar c.loop-next.first
+    here_before c.simulation_laws.ensures c.args.plan.now c.laws.ensures.sound c.args.t c.loop-next.next c.loop-next.probes c.loop-next.calendar c.loop-next.first
     (record {
       some = c.requires.some;
       early = c.requires.early;
@@ -186,12 +186,12 @@ push_node-requires-clause-was c =
       others = inv.others;
       is = inv.calendar;
       dated = inv.first;
-    }) c.index-watched-i.result c.if-first-t.true
+    }) c.index-probes-i.result c.if-first-t.true
 
 pub push_node-requires-clause-past : goal.push_node-requires-clause-past
 push_node-requires-clause-past c =
     let inv = c.loop-next.invariant in
-    let e = its_date c.simulation_laws.ensures c.args.plan.now c.laws.ensures.sound c.args.t c.loop-next.next c.loop-next.watched c.loop-next.calendar c.loop-next.first
+    let e = its_date c.simulation_laws.ensures c.args.plan.now c.laws.ensures.sound c.args.t c.loop-next.next c.loop-next.probes c.loop-next.calendar c.loop-next.first
     (record {
       some = c.requires.some;
       early = c.requires.early;
@@ -202,14 +202,14 @@ push_node-requires-clause-past c =
       others = inv.others;
       is = inv.calendar;
       dated = inv.first;
-    }) c.index-watched-i.result c.if-first-t.true in
+    }) c.index-probes-i.result c.if-first-t.true in
     omega arith
 
-pub bounds-watched-i-then-first-t : goal.bounds-watched-i-then-first-t
-bounds-watched-i-then-first-t c =
+pub bounds-probes-i-then-first-t : goal.bounds-probes-i-then-first-t
+bounds-probes-i-then-first-t c =
     let inv = c.loop-next.invariant in
     let i : ℕ = c.loop-next.first.1 in
-    let all : List Watched = c.loop-next.watched in
+    let all : List Probe = c.loop-next.probes in
     let there : i < length all = (found c.simulation_laws.ensures c.args.plan.now c.laws.ensures.sound c.args.t c.loop-next.next all c.loop-next.calendar c.loop-next.first
     (record {
       some = c.requires.some;
@@ -221,16 +221,16 @@ bounds-watched-i-then-first-t c =
       others = inv.others;
       is = inv.calendar;
       dated = inv.first;
-    }) c.index-watched-i.result c.if-first-t.true).0 in
-    let same = length-set all i c.push_node.new.known in
-    let inside : i < length (set all i c.push_node.new.known) = omega arith in
+    }) c.index-probes-i.result c.if-first-t.true).0 in
+    let same = length-set all i c.push_node.new.probe in
+    let inside : i < length (set all i c.push_node.new.probe) = omega arith in
     inside
 
-pub bounds-watched-i-then-first-t-2 : goal.bounds-watched-i-then-first-t-2
-bounds-watched-i-then-first-t-2 c =
+pub bounds-probes-i-then-first-t-2 : goal.bounds-probes-i-then-first-t-2
+bounds-probes-i-then-first-t-2 c =
     let inv = c.loop-next.invariant in
     let i : ℕ = c.loop-next.first.1 in
-    let all : List Watched = c.loop-next.watched in
+    let all : List Probe = c.loop-next.probes in
     let there : i < length all = (found c.simulation_laws.ensures c.args.plan.now c.laws.ensures.sound c.args.t c.loop-next.next all c.loop-next.calendar c.loop-next.first
     (record {
       some = c.requires.some;
@@ -242,15 +242,15 @@ bounds-watched-i-then-first-t-2 c =
       others = inv.others;
       is = inv.calendar;
       dated = inv.first;
-    }) c.index-watched-i.result c.if-first-t.true).0 in
-    let same = length-set all i c.push_node.new.known in
-    let inside : i < length (set all i c.push_node.new.known) = omega arith in
+    }) c.index-probes-i.result c.if-first-t.true).0 in
+    let same = length-set all i c.push_node.new.probe in
+    let inside : i < length (set all i c.push_node.new.probe) = omega arith in
     inside
 
 pub loop-next-smaller : goal.loop-next-smaller
 loop-next-smaller c =
     let inv = c.loop-next.invariant in
-    let h : LooksAt c.args.plan.now c.args.t c.loop-next.next c.loop-next.watched c.loop-next.calendar c.loop-next.first = record {
+    let h : LooksAt c.args.plan.now c.args.t c.loop-next.next c.loop-next.probes c.loop-next.calendar c.loop-next.first = record {
       some = c.requires.some;
       early = c.requires.early;
       ends = c.laws.ensures.checked.ends;
@@ -261,8 +261,8 @@ loop-next-smaller c =
       is = inv.calendar;
       dated = inv.first;
     } in
-    let there = node_there c.simulation_laws.ensures c.args.plan.now c.laws.ensures.sound c.args.t c.loop-next.next c.loop-next.watched c.loop-next.calendar c.loop-next.first h c.index-watched-i.result c.if-first-t.true in
-    let to = not_looked_at c.simulation_laws.ensures c.args.plan.now c.laws.ensures.sound c.args.t c.loop-next.next c.loop-next.watched c.loop-next.calendar c.loop-next.first h c.index-watched-i.result c.if-first-t.true in
+    let there = node_there c.simulation_laws.ensures c.args.plan.now c.laws.ensures.sound c.args.t c.loop-next.next c.loop-next.probes c.loop-next.calendar c.loop-next.first h c.index-probes-i.result c.if-first-t.true in
+    let to = not_looked_at c.simulation_laws.ensures c.args.plan.now c.laws.ensures.sound c.args.t c.loop-next.next c.loop-next.probes c.loop-next.calendar c.loop-next.first h c.index-probes-i.result c.if-first-t.true in
     omega arith
 
 pub loop-next-preserved : goal.loop-next-preserved
@@ -270,13 +270,13 @@ loop-next-preserved c =
     let plan : Plan = c.args.plan.now in
     let t : ℕ = c.args.t in
     let next : ℕ = c.loop-next.next in
-    let all : List Watched = c.loop-next.watched in
+    let all : List Probe = c.loop-next.probes in
     let i : ℕ = c.loop-next.first.1 in
     let inv = c.loop-next.invariant in
     let laws = c.simulation_laws.ensures in
     let sound = c.laws.ensures.sound in
-    let d : Watched = c.index-watched-i.result in
-    let w : Watched = c.push_node.new.known in
+    let d : Probe = c.index-probes-i.result in
+    let w : Probe = c.push_node.new.probe in
     let h : LooksAt plan t next all c.loop-next.calendar c.loop-next.first = record {
       some = c.requires.some;
       early = c.requires.early;
@@ -294,8 +294,8 @@ loop-next-preserved c =
     let long = inv.long in
     let room : i < length all = omega arith in
     let ends : c.deref.result.now.end ≡ plan.end = ap (λ (p : Plan). p.end) c.deref.ensures.0 in
-    let put : get_or (set all i w) i c.index-watched-i-in-loop-next.result ≡ w = get_or-set_same all i w c.index-watched-i-in-loop-next.result room in
-    let dated = ap (λ (v : Watched). v.until) put in
+    let put : get_or (set all i w) i c.index-probes-i-in-loop-next.result ≡ w = get_or-set_same all i w c.index-probes-i-in-loop-next.result room in
+    let dated = ap (λ (v : Probe). v.until) put in
     record {
       lines =
           c.push_node.ensures.lines
@@ -319,7 +319,7 @@ past_it c k from b = elim c.loop-next-test.branch [
   | else-loop-next-test w ↦ absurd (let e = w.loop-next-test.false in let long = c.loop-next.invariant.long in omega arith)
 ]
 
-looked : (c : goal.After-min-2) → LooksAt c.args.plan.now c.args.t c.loop-next.next c.loop-next.watched c.loop-next.calendar c.loop-next.first
+looked : (c : goal.After-min-2) → LooksAt c.args.plan.now c.args.t c.loop-next.next c.loop-next.probes c.loop-next.calendar c.loop-next.first
 looked c =
     let inv = c.loop-next.invariant in
     record {
@@ -334,8 +334,8 @@ looked c =
       dated = inv.first;
     }
 
-some_watched : (c : goal.After-min-2) → Watched
-some_watched c = some_of c.loop-next.watched (let long = c.loop-next.invariant.long in let some = c.laws.ensures.checked.some_node in omega arith)
+some_watched : (c : goal.After-min-2) → Probe
+some_watched c = some_of c.loop-next.probes (let long = c.loop-next.invariant.long in let some = c.laws.ensures.checked.some_node in omega arith)
 
 -- the end is that of the plan
 ends : (c : goal.After-min-2) → c.min-2.result ≡ min c.loop-next.first.0 c.args.plan.now.end
@@ -345,7 +345,7 @@ pub returns-clause-later : goal.returns-clause-later
 returns-clause-later c =
     let e = ends c in
     let early = c.requires.early in
-    let later = first_later c.simulation_laws.ensures c.args.plan.now c.laws.ensures.sound c.args.t c.loop-next.next c.loop-next.watched c.loop-next.calendar c.loop-next.first (looked c) (some_watched c) (past_it c) in
+    let later = first_later c.simulation_laws.ensures c.args.plan.now c.laws.ensures.sound c.args.t c.loop-next.next c.loop-next.probes c.loop-next.calendar c.loop-next.first (looked c) (some_watched c) (past_it c) in
     omega arith
 
 pub returns-clause-lines : goal.returns-clause-lines
@@ -361,12 +361,12 @@ returns-clause-lines c =
     let all : changes_from 0 (take next (signals plan (t - 1))) (take next (signals plan t)) ≡ changes_from 0 (take n (signals plan (t - 1))) (take n (signals plan t)) =
     sym (none_changed plan (t - 1) t next (n - next) (omega arith)
     (λ k from below.
-    let d : Watched = some_watched c in
+    let d : Probe = some_watched c in
     let b : k < n = omega arith in
     let w = h.others k d from b in
-    let more = later_all c.simulation_laws.ensures plan c.laws.ensures.sound t next c.loop-next.watched c.loop-next.calendar c.loop-next.first h d (past_it c) k b in
-    stays c.simulation_laws.ensures plan c.laws.ensures.sound k b (t - 1) t (get_or c.loop-next.watched k d) w (omega arith) more
-    ∙ sym (now c.simulation_laws.ensures plan c.laws.ensures.sound k b (t - 1) (get_or c.loop-next.watched k d) w)))
+    let more = later_all c.simulation_laws.ensures plan c.laws.ensures.sound t next c.loop-next.probes c.loop-next.calendar c.loop-next.first h d (past_it c) k b in
+    stays c.simulation_laws.ensures plan c.laws.ensures.sound k b (t - 1) t (get_or c.loop-next.probes k d) w (omega arith) more
+    ∙ sym (now c.simulation_laws.ensures plan c.laws.ensures.sound k b (t - 1) (get_or c.loop-next.probes k d) w)))
     ∙ ap (λ (k : ℕ). changes_from 0 (take k (signals plan (t - 1))) (take k (signals plan t))) {x = next + (n - next)} {y = n} (omega arith)
     in
     c.loop-next.invariant.lines ∙ ap (λ ys. c.args.text.now.items ++ ys) all
@@ -375,20 +375,20 @@ returns-clause-lines c =
 pub returns-clause-stays : goal.returns-clause-stays
 returns-clause-stays c u from below =
     let e = ends c in
-    stay_all c.simulation_laws.ensures c.args.plan.now c.laws.ensures.sound c.args.t c.loop-next.next c.loop-next.watched c.loop-next.calendar c.loop-next.first (looked c) (some_watched c) (past_it c)
+    stay_all c.simulation_laws.ensures c.args.plan.now c.laws.ensures.sound c.args.t c.loop-next.next c.loop-next.probes c.loop-next.calendar c.loop-next.first (looked c) (some_watched c) (past_it c)
     u from (omega arith)
 
-pub returns-clause-watched : goal.returns-clause-watched
-returns-clause-watched c =
+pub returns-clause-probes : goal.returns-clause-probes
+returns-clause-probes c =
     let plan = c.args.plan.now in
     let t : ℕ = c.args.t in
     let e = ends c in
     let early = c.requires.early in
-    let later = first_later c.simulation_laws.ensures plan c.laws.ensures.sound t c.loop-next.next c.loop-next.watched c.loop-next.calendar c.loop-next.first (looked c) (some_watched c) (past_it c) in
+    let later = first_later c.simulation_laws.ensures plan c.laws.ensures.sound t c.loop-next.next c.loop-next.probes c.loop-next.calendar c.loop-next.first (looked c) (some_watched c) (past_it c) in
     record {
       nodes = c.loop-next.invariant.long;
       each = λ k d b.
-          let w = known_all c.simulation_laws.ensures plan c.laws.ensures.sound t c.loop-next.next c.loop-next.watched c.loop-next.calendar c.loop-next.first (looked c) d (past_it c) k b in
-          let less = until_first c.simulation_laws.ensures plan c.laws.ensures.sound t c.loop-next.next c.loop-next.watched c.loop-next.calendar c.loop-next.first (looked c) d (past_it c) k b in
-          on plan k t (c.min-2.result - 1) (get_or c.loop-next.watched k d) w (omega arith) (omega arith);
+          let w = known_all c.simulation_laws.ensures plan c.laws.ensures.sound t c.loop-next.next c.loop-next.probes c.loop-next.calendar c.loop-next.first (looked c) d (past_it c) k b in
+          let less = until_first c.simulation_laws.ensures plan c.laws.ensures.sound t c.loop-next.next c.loop-next.probes c.loop-next.calendar c.loop-next.first (looked c) d (past_it c) k b in
+          on plan k t (c.min-2.result - 1) (get_or c.loop-next.probes k d) w (omega arith) (omega arith);
     }

@@ -1,8 +1,9 @@
 use Rattle.std.proofs.Common.{◌≡◌, ℕ, ◌+◌, ◌-◌, ◌*◌, ◌<◌, ◌≤◌, ◌++◌, length, get_or, take}
 use Rattle.arrayvec.specs.ArrayVec.{array_vec_len}
-use Rattle.wl_views.specs.declared.watched.Watched.{Watched}
+use Rattle.wl_views.specs.declared.probe.Probe.{Probe}
 use Rattle.wl_views.specs.Calendar.{IsFirst}
-use Rattle.wl_views.specs.Held.{IsCalendarOf, Watches}
+use Rattle.wl_views.specs.Limits.{longest_node_changes}
+use Rattle.wl_views.specs.Probe.{IsCalendarOf, Watches}
 use Rattle.wl_views.specs.Signals.{signals}
 use Rattle.wl_views.specs.Vcd.{changes_from}
 use Rattle.wl_views.proofs.signals.push_changes.Given as goal
@@ -11,12 +12,12 @@ use Rattle.wl_views.proofs.signals.push_changes.Given as goal
 abbrev pub invariant-loop-next : goal.invariant-loop-next
 invariant-loop-next l = record {
   lines : l.text.items ≡ l.fn.text.items ++ changes_from 0 (take l.next (signals l.plan (l.t - 1))) (take l.next (signals l.plan l.t));
-  room : array_vec_len l.text ≤ array_vec_len l.fn.text + l.next * 300;
+  room : array_vec_len l.text ≤ array_vec_len l.fn.text + l.next * longest_node_changes;
   inside : l.next ≤ length l.plan.nodes;
-  long : length l.watched ≡ length l.plan.nodes;
-  known : (k : ℕ) (d : Watched) → k < l.next → Watches l.plan k l.t (get_or l.watched k d);
-  others : (k : ℕ) (d : Watched) → l.next ≤ k → k < length l.plan.nodes → Watches l.plan k (l.t - 1) (get_or l.watched k d);
-  calendar : IsCalendarOf l.plan.end l.watched l.calendar;
+  long : length l.probes ≡ length l.plan.nodes;
+  known : (k : ℕ) (d : Probe) → k < l.next → Watches l.plan k l.t (get_or l.probes k d);
+  others : (k : ℕ) (d : Probe) → l.next ≤ k → k < length l.plan.nodes → Watches l.plan k (l.t - 1) (get_or l.probes k d);
+  calendar : IsCalendarOf l.plan.end l.probes l.calendar;
   first : IsFirst l.calendar.tree l.first;
 }
 

@@ -16,9 +16,9 @@ returns-clause-past c e setup p quantum r =
     let level : Level = c.args.level in
     let s : Stretch = stretch_of p.inputs in
     let x : Sampled = sampled_then setup p quantum level in
-    let judged : judged_then setup p quantum level ≡ continues Nothing = c.keep.ensures.judged c.if-not-keep.false setup p quantum r.controller in
+    let judged : judged_then setup p quantum level ≡ continues Nothing = c.keep.ensures.judged c.if-not-keep.false setup p quantum r.sampled_node in
     record {
-      controller = c.keep.ensures.past c.if-not-keep.false setup p quantum r.controller;
+      sampled_node = c.keep.ensures.past c.if-not-keep.false setup p quantum r.sampled_node;
       stretch =
           subst (λ (q : SampledPast). KeepsStretch c.take.new.self (stretch_of q.inputs)) (sym (past_is setup p quantum level judged))
           (subst (KeepsStretch c.take.new.self) (sym (stretch_next p.inputs (Sample x)))
@@ -28,7 +28,7 @@ returns-clause-past c e setup p quantum r =
 pub returns-clause-none : goal.returns-clause-none
 returns-clause-none c e setup p quantum r =
     nothing_noted setup p quantum c.args.level
-    (c.keep.ensures.judged c.if-not-keep.false setup p quantum r.controller) (c.keep.ensures.receives c.if-not-keep.false p r.controller)
+    (c.keep.ensures.judged c.if-not-keep.false setup p quantum r.sampled_node) (c.keep.ensures.receives c.if-not-keep.false p r.sampled_node)
 
 pub returns-then-not-keep-clause-same : goal.returns-then-not-keep-clause-same
-returns-then-not-keep-clause-same c e p r = record { controller = c.keep.ensures.same c.if-not-keep.true p r.controller; stretch = r.stretch }
+returns-then-not-keep-clause-same c e p r = record { sampled_node = c.keep.ensures.same c.if-not-keep.true p r.sampled_node; stretch = r.stretch }

@@ -11,7 +11,7 @@ use Rattle.wl_trace.proofs.rerun.Rerun.new.Goals as goal
 
 pub returns : goal.returns
 returns c setup e =
-    let kept : Rerun = record { clock = c.new.result; controller = c.new-2.result; drive = Recessive; bits = 0; sampled = false; started = false } in
+    let kept : Rerun = record { clock = c.new.result; sampled_node = c.new-2.result; drive = Recessive; bits = 0; sampled = false; started = false } in
     record {
       clock =
           c.new.ensures ∙ ap (λ (l : Lengths). clock_after l []) (sym e)
@@ -19,7 +19,7 @@ returns c setup e =
       run =
           subst (λ (h : History). RunsTo kept h (length (starts_of setup []))) (sym (history_first setup))
           (subst (λ (qs : List ℕ). RunsTo kept no_history (length qs)) (sym (starts_first setup))
-          (record { controller = c.new-2.ensures.past; drive = refl; bits = refl; sampled = refl; started = refl }));
+          (record { sampled_node = c.new-2.ensures.past; drive = refl; bits = refl; sampled = refl; started = refl }));
       few = omega (arith, c.new-2.ensures.sent);
       fewer = omega arith;
     }

@@ -5,9 +5,9 @@ use Rattle.wl_sync.specs.Bits.{Seen}
 use Rattle.wl_sync.specs.Running.{clock_after}
 use Rattle.wl_sync.specs.Skips.{IsPlain, free_quanta}
 use Rattle.wl_node.specs.History.{History, history_of, seen_next}
-use Rattle.wl_trace.specs.Replay.{IsController, SampledPast}
+use Rattle.wl_trace.specs.Replay.{IsSampledNode, SampledPast}
 use Rattle.wl_trace.specs.Rerun.{IsRerun}
-use Rattle.wl_trace.specs.Shown.{mark, shown_of}
+use Rattle.wl_trace.specs.Snapshot.{mark, snapshot_of}
 use Rattle.wl_trace.specs.Synced.{syncs_of}
 use Rattle.wl_trace.proofs.Passing.{all_passed, plain_skippable, shown_same}
 use Rattle.wl_trace.proofs.Skipping.{none_synced}
@@ -28,7 +28,7 @@ returns-then-quanta-gt0-clause-run c setup levels r =
     record {
       clock = c.skip.ensures.clock setup.segments h.seen r.clock x refl ∙ ap (clock_after setup.segments) (sym is.same.seen);
       run = record {
-        controller = subst (IsController c.args.self.now.controller) (sym is.same.past) r.run.controller;
+        sampled_node = subst (IsSampledNode c.args.self.now.sampled_node) (sym is.same.past) r.run.sampled_node;
         drive = r.run.drive ∙ sym is.same.drive;
         bits = r.run.bits ∙ ap (λ (p : SampledPast). length p.samples) (sym is.same.past);
         sampled = r.run.sampled ∙ ap (λ (p : SampledPast). mark (length p.samples)) (sym is.same.past);
@@ -56,7 +56,7 @@ returns-else-quanta-gt0-clause-run c setup levels r =
 pub returns-else-quanta-gt0-clause-same : goal.returns-else-quanta-gt0-clause-same
 returns-else-quanta-gt0-clause-same c setup levels r m less =
     let none : m ≡ 0 = omega (arith, c.if-quanta-gt0.false, less) in
-    ap (λ (k : ℕ). shown_of setup (levels ++ replicate k c.args.level)) none ∙ ap (shown_of setup) (append-nil levels)
+    ap (λ (k : ℕ). snapshot_of setup (levels ++ replicate k c.args.level)) none ∙ ap (snapshot_of setup) (append-nil levels)
 
 pub returns-then-quanta-gt0-clause-syncs : goal.returns-then-quanta-gt0-clause-syncs
 returns-then-quanta-gt0-clause-syncs c setup levels r =

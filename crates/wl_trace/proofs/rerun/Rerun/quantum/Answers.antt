@@ -31,8 +31,8 @@ returns-clause-running c levels n r =
     let h : History = history_of setup levels in
     let x : Seen = seen_next h level in
     let told : Seen = record { level = level; idle = c.idle-idle.result; awaits = c.awaits_start-awaits.result; driving = c.is_dominant.result } in
-    let e : told ≡ x = seen_is h level c.args.self.now.drive c.idle-idle.result c.awaits_start-awaits.result c.is_dominant.result (c.idle-idle.ensures h.inputs r.run.controller.machine)
-    (c.awaits_start-awaits.ensures h.inputs r.run.controller.machine) c.is_dominant.ensures r.run.drive in
+    let e : told ≡ x = seen_is h level c.args.self.now.drive c.idle-idle.result c.awaits_start-awaits.result c.is_dominant.result (c.idle-idle.ensures h.inputs r.run.sampled_node.machine)
+    (c.awaits_start-awaits.ensures h.inputs r.run.sampled_node.machine) c.is_dominant.ensures r.run.drive in
     let beat : c.step-beat.result.0 ≡ beat_of setup.segments h.seen x = c.step-beat.ensures.beat setup.segments h.seen r.clock ∙ ap (beat_of setup.segments h.seen) e in
     let long : length levels ≡ length h.seen = sym (all_seen setup levels) in
     let bound = r.few in
@@ -40,10 +40,10 @@ returns-clause-running c levels n r =
     let few = c.requires.few in
     let size = length-append levels (level ∷ []) in
     let ran : RunsTo c.obey.new.self (by_beat setup h level c.step-beat.result.0) (starts_with c.step-beat.result.0 r.starts) =
-    c.obey.ensures.run h r.starts (sym n ∙ long) (omega arith) (omega arith) (record { controller = r.run.controller; drive = r.run.drive; bits = r.run.bits; sampled = r.run.sampled; started = r.run.started }) in
+    c.obey.ensures.run h r.starts (sym n ∙ long) (omega arith) (omega arith) (record { sampled_node = r.run.sampled_node; drive = r.run.drive; bits = r.run.bits; sampled = r.run.sampled; started = r.run.started }) in
     let so = subst (λ (b : Beat). RunsTo c.obey.new.self (by_beat setup h level b) (starts_with b r.starts)) beat ran in
     let after : RunsTo c.obey.new.self (history_after setup h level) (starts_with (beat_of setup.segments h.seen x) r.starts) =
-    record { controller = so.controller; drive = so.drive; bits = so.bits; sampled = so.sampled; started = so.started } in
+    record { sampled_node = so.sampled_node; drive = so.drive; bits = so.bits; sampled = so.sampled; started = so.started } in
     record {
       starts = starts_with (beat_of setup.segments h.seen x) r.starts;
       clock =
@@ -80,8 +80,8 @@ returns-clause-sync c levels n r =
     let h : History = history_of setup levels in
     let x : Seen = seen_next h level in
     let told : Seen = record { level = level; idle = c.idle-idle.result; awaits = c.awaits_start-awaits.result; driving = c.is_dominant.result } in
-    let e : told ≡ x = seen_is h level c.args.self.now.drive c.idle-idle.result c.awaits_start-awaits.result c.is_dominant.result (c.idle-idle.ensures h.inputs r.run.controller.machine)
-    (c.awaits_start-awaits.ensures h.inputs r.run.controller.machine) c.is_dominant.ensures r.run.drive in
+    let e : told ≡ x = seen_is h level c.args.self.now.drive c.idle-idle.result c.awaits_start-awaits.result c.is_dominant.result (c.idle-idle.ensures h.inputs r.run.sampled_node.machine)
+    (c.awaits_start-awaits.ensures h.inputs r.run.sampled_node.machine) c.is_dominant.ensures r.run.drive in
     let sync : c.step-beat.result.1 ≡ sync_of setup.segments h.seen x = c.step-beat.ensures.sync setup.segments h.seen r.clock ∙ ap (sync_of setup.segments h.seen) e in
     c.noted_sync.ensures
     ∙ ap (λ (o : Option Sync). option_map (λ s. noted c.args.quantum c.args.self.now.bits (sync_event s)) o) sync

@@ -7,9 +7,9 @@ use Rattle.wl_sync.specs.Running.{clock_after}
 use Rattle.wl_sync.specs.Skips.{IsPlain, free_quanta}
 use Rattle.wl_node.specs.History.{History, history_of, seen_next}
 use Rattle.wl_node.specs.Quiet.{pending_of}
-use Rattle.wl_trace.specs.Replay.{IsController, SampledPast}
+use Rattle.wl_trace.specs.Replay.{IsSampledNode, SampledPast}
 use Rattle.wl_trace.specs.Rerun.{RunsAgain}
-use Rattle.wl_trace.specs.Shown.{mark}
+use Rattle.wl_trace.specs.Snapshot.{mark}
 use Rattle.wl_trace.specs.Synced.{syncs_of}
 use Rattle.wl_trace.proofs.Skipping.{IsSkippable, all_skipped, none_synced, settled_starts}
 use Rattle.wl_trace.proofs.rerun.Rerun.skip.Goals as goal
@@ -23,7 +23,7 @@ returns-then-quanta-gt0-clause-running c setup levels r =
     let b : Bool = c.is-settled.result in
     let few : n ≤ free_quanta b c.args.self.now.clock level = omega (arith, c.min-quanta.ensures, c.free_quanta-free.ensures) in
     let wants : b ≡ true → h.drive ≡ pending_of h = λ e.
-    sym r.run.drive ∙ same_equal c.args.self.now.drive c.args.self.now.controller.pending (sym c.is-settled.ensures ∙ e) ∙ r.run.controller.pending in
+    sym r.run.drive ∙ same_equal c.args.self.now.drive c.args.self.now.sampled_node.pending (sym c.is-settled.ensures ∙ e) ∙ r.run.sampled_node.pending in
     let plain : b ≡ false → IsPlain setup.segments h.seen x n = λ e.
     c.skip.ensures.plain (subst (λ (d : Bool). n ≤ free_quanta d c.args.self.now.clock level) e few) setup.segments h.seen r.clock x refl in
     let able : IsSkippable setup h level n = record {
@@ -38,7 +38,7 @@ returns-then-quanta-gt0-clause-running c setup levels r =
       starts = r.starts;
       clock = c.skip.ensures.clock setup.segments h.seen r.clock x refl ∙ ap (clock_after setup.segments) (sym is.seen);
       run = record {
-        controller = subst (IsController c.args.self.now.controller) (sym is.past) r.run.controller;
+        sampled_node = subst (IsSampledNode c.args.self.now.sampled_node) (sym is.past) r.run.sampled_node;
         drive = r.run.drive ∙ sym is.drive;
         bits = r.run.bits ∙ ap (λ (p : SampledPast). length p.samples) (sym is.past);
         sampled = r.run.sampled ∙ ap (λ (p : SampledPast). mark (length p.samples)) (sym is.past);
@@ -57,7 +57,7 @@ returns-then-quanta-gt0-clause-syncs c setup levels r =
     let b : Bool = c.is-settled.result in
     let few : n ≤ free_quanta b c.args.self.now.clock level = omega (arith, c.min-quanta.ensures, c.free_quanta-free.ensures) in
     let wants : b ≡ true → h.drive ≡ pending_of h = λ e.
-    sym r.run.drive ∙ same_equal c.args.self.now.drive c.args.self.now.controller.pending (sym c.is-settled.ensures ∙ e) ∙ r.run.controller.pending in
+    sym r.run.drive ∙ same_equal c.args.self.now.drive c.args.self.now.sampled_node.pending (sym c.is-settled.ensures ∙ e) ∙ r.run.sampled_node.pending in
     let plain : b ≡ false → IsPlain setup.segments h.seen x n = λ e.
     c.skip.ensures.plain (subst (λ (d : Bool). n ≤ free_quanta d c.args.self.now.clock level) e few) setup.segments h.seen r.clock x refl in
     let able : IsSkippable setup h level n = record {

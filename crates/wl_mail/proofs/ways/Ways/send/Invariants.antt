@@ -1,6 +1,0 @@
-use Rattle.std.proofs.Common.{◌≡◌, map}
-use Rattle.wl_mail.specs.Ways.{one_letter_more_to}
-use Rattle.wl_mail.proofs.ways.Ways.send.Given as goal
-
-abbrev pub invariant-loop-i : goal.invariant-loop-i
-invariant-loop-i g l = map (λ way. way.letters) l.self-inside.ways.items ≡ one_letter_more_to l.i l.fn.self

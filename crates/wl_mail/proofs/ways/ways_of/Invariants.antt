@@ -1,5 +1,0 @@
-use Rattle.std.proofs.Common.{◌≡◌, ◌-◌, nat_lt, if◌then◌else◌, map, replicate}
-use Rattle.wl_mail.proofs.ways.ways_of.Given as goal
-
-abbrev pub invariant-loop-i : goal.invariant-loop-i
-invariant-loop-i l = map (λ way. way.letters) l.ways.items ≡ replicate (if nat_lt l.worker l.i then l.i - 1 else l.i) 0

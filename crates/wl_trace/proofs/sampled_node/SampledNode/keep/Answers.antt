@@ -1,0 +1,38 @@
+use Rattle.std.proofs.Common.{◌∙◌, refl, sym}
+use Rattle.wl_machine.specs.Judged.{stretch_of}
+use Rattle.wl_machine.specs.Stretch.{Sampled, Stretch}
+use Rattle.wl_trace.specs.Replay.{sampled_then}
+use Rattle.wl_trace.specs.declared.sampled_node.SampledNode.{SampledNode}
+use Rattle.wl_trace.proofs.Kept.{kept, receives_by}
+use Rattle.wl_trace.proofs.sampled_node.SampledNode.keep.Goals as goal
+
+pub returns-clause-past : goal.returns-clause-past
+returns-clause-past c e setup p quantum old =
+    let x : Sampled = sampled_then setup p quantum c.args.level in
+    let now : SampledNode = record {
+      machine = c.keep.new.self;
+      counters = c.args.self.now.counters;
+      pending = c.args.self.now.pending;
+      sent = c.args.self.now.sent;
+    } in
+    kept setup p quantum c.args.level (c.keep.ensures.judged e p.inputs old.machine x.head x.mode) c.args.self.now now old refl refl refl
+    (c.keep.ensures.before e p.inputs old.machine ∙ sym (c.keep.ensures.after e p.inputs old.machine x.head x.mode))
+    (c.keep.ensures.machine e p.inputs old.machine x.head x.mode)
+
+pub returns-clause-judged : goal.returns-clause-judged
+returns-clause-judged c e setup p quantum old =
+    let x : Sampled = sampled_then setup p quantum c.args.level in
+    c.keep.ensures.judged e p.inputs old.machine x.head x.mode
+
+pub returns-clause-receives : goal.returns-clause-receives
+returns-clause-receives c e p old =
+    let s : Stretch = stretch_of p.inputs in
+    receives_by s.sort s.own c.args.level (sym (c.keep.ensures.value p.inputs old.machine) ∙ e)
+
+pub returns-clause-same : goal.returns-clause-same
+returns-clause-same c e p old = record {
+  machine = c.keep.ensures.stays e p.inputs old.machine;
+  counters = old.counters;
+  pending = old.pending;
+  sent = old.sent;
+}

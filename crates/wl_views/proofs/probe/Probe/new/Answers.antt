@@ -1,0 +1,30 @@
+use Rattle.std.proofs.Common.{◌≡◌, ◌∙◌, ap, sym, arith, []}
+use Rattle.wl_node.specs.declared.setup.NodeSetup.{NodeSetup}
+use Rattle.wl_plan.specs.declared.plan.Plan.{Plan}
+use Rattle.wl_plan.specs.PlanLine.{setup_at}
+use Rattle.wl_plan.specs.Simulation.{seen}
+use Rattle.wl_views.specs.Probe.{next_of}
+use Rattle.wl_views.proofs.Going.{setup_is}
+use Rattle.wl_views.proofs.probe.Probe.new.Goals as goal
+
+pub returns-clause-awaits : goal.returns-clause-awaits
+unfolding seen
+returns-clause-awaits c =
+    let setup : c.index-as_slice-i.result ≡ setup_at c.args.plan.now c.args.i =
+    c.index-as_slice-i.is ∙ setup_is c.args.plan.now c.as_slice.result.now c.args.i c.index-as_slice-i.result
+    (c.as_slice.ensures ∙ ap (λ (p : Plan). p.nodes) c.deref.ensures.0) c.requires.node
+    in
+    record {
+      runs = record {
+        node = c.new-node.ensures (setup_at c.args.plan.now c.args.i) (ap (λ (s : NodeSetup). s.segments) (sym setup));
+        snapshot = c.snapshot-snapshot.ensures (setup_at c.args.plan.now c.args.i) [] (c.new-node.ensures (setup_at c.args.plan.now c.args.i) (ap (λ (s : NodeSetup). s.segments) (sym setup)));
+        inside = λ m below. absurd (omega arith);
+      };
+      next = c.next_tick.ensures ∙ ap (λ (s : NodeSetup). next_of s.clock c.deref-2.result.now.end 0) setup
+          ∙ ap (λ (p : Plan). next_of (setup_at c.args.plan.now c.args.i).clock p.end 0) c.deref-2.ensures.0;
+      before = λ q below. absurd (omega arith);
+      here = omega arith;
+    }
+
+pub returns-clause-remembers : goal.returns-clause-remembers
+returns-clause-remembers c = c.new.ensures c.args.plan.now c.args.i
