@@ -19,7 +19,7 @@ use Rattle.wl_bound.specs.Oscillators.{Pace, shortest_of, longest_of}
 use Rattle.wl_bound.specs.Conditions.{plain, pair_failure}
 use Rattle.wl_bound.specs.Verdicts.{outside_of, without_book}
 use Rattle.wl_margin.specs.Pieces.{joined, each_below}
-use Rattle.wl_margin.specs.Margins.{paces_of, failure_line, no_clock_words, outside_reason, TellsReach}
+use Rattle.wl_margin.specs.Margins.{paces_of, failure_line, no_clock_words, outside_reason, TellsHeadroom}
 use Rattle.wl_explain.specs.Figures.{quanta_begun, ticks_of}
 use Rattle.wl_explain.specs.Doubts.{difference, greatest_difference}
 use Rattle.wl_explain.specs.Words.{bit_rate, unlike_words, doubts_with, node_doubts, room_doubts, timing_figures, figures_line}
@@ -122,7 +122,7 @@ abbrev pub timing_lines : Plan → List (List ℕ) → List ℕ
 timing_lines plan names = each_below (timing_line plan names) (length plan.nodes)
 
 abbrev pub TellsFigures : Plan → List (List ℕ) → Option ℕ → Option Buses → List ℕ → List ℕ → Type 0
-TellsFigures plan names None (Some f) old new = TellsReach f (old ++ timing_lines plan names) new
+TellsFigures plan names None (Some f) old new = TellsHeadroom f (old ++ timing_lines plan names) new
 TellsFigures plan names None None old new = new ≡ old ++ timing_lines plan names
 TellsFigures plan names (Some i) family old new = new ≡ old ++ each_below (figures_line plan names) (length plan.nodes)
 

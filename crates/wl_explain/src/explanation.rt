@@ -6,7 +6,7 @@ use crate::condition::push_family;
 use crate::words::{push_all_figures, push_nodes, push_pairs, push_room, push_timing};
 use std::alloc::{AllocError, Global};
 use wl_bound::{Family, Outside, cause_outside, first_without_book};
-use wl_margin::{oscillators, push_reach, push_reason};
+use wl_margin::{oscillators, push_headroom, push_reason};
 use wl_plan::CheckedPlan;
 use wl_setup::{Bus, Names};
 
@@ -124,7 +124,7 @@ fn push_figures_of(
     }
     push_timing_lines(text, plan, names)?;
     match family {
-        Some(family) => push_reach(text, family),
+        Some(family) => push_headroom(text, family),
         None => Ok(()),
     }
 }

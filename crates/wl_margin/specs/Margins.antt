@@ -26,8 +26,8 @@ use Rattle.wl_bound.specs.declared.verdict.Verdict.{Verdict}
 use Rattle.wl_bound.specs.declared.verdict.Verdict.TheVariants.{ForAny, ForOne, DoesNotHold, NoBound}
 use Rattle.wl_room.specs.Rooms.{leaves_room}
 use Rattle.wl_margin.specs.Pieces.{joined, each_below}
-use Rattle.wl_margin.specs.declared.found.Found.{Found}
-use Rattle.wl_margin.specs.declared.found.Reach.{Reach}
+use Rattle.wl_margin.specs.declared.searches.SearchResults.{SearchResults}
+use Rattle.wl_margin.specs.declared.searches.Headroom.{Headroom}
 use Rattle.wl_margin.specs.declared.margin.Proved.{Proved}
 use Rattle.wl_margin.specs.Sentences.{measure_of, spare_words, failure_words}
 
@@ -148,9 +148,9 @@ abbrev pub figure_words : List ℕ → Option ℕ → List ℕ
 figure_words unit None = codes "none"
 figure_words unit (Some n) = decimal n ++ unit
 
-abbrev pub growth_words : List ℕ → List ℕ → Reach → List ℕ
-growth_words what unit reach =
-    joined (what ∷ codes ": one sender at a time " ∷ figure_words unit reach.one ∷ codes ", any senders " ∷ figure_words unit reach.any
+abbrev pub growth_words : List ℕ → List ℕ → Headroom → List ℕ
+growth_words what unit headroom =
+    joined (what ∷ codes ": one sender at a time " ∷ figure_words unit headroom.one ∷ codes ", any senders " ∷ figure_words unit headroom.any
     ∷ codes "\n" ∷ [])
 
 -- what a change by a quantum is
@@ -168,34 +168,34 @@ abbrev pub help_words : Option Change → Option Change → List ℕ
 help_words one any = help_line (change_words one) (change_words any)
 
 -- how much longer the cable may be, in units of length, and how much wider every tolerance
-abbrev pub reach_words : Reach → Reach → List ℕ
-reach_words longer wider =
+abbrev pub headroom_words : Headroom → Headroom → List ℕ
+headroom_words longer wider =
     growth_words (codes "cable") (codes " units longer") longer ++ growth_words (codes "tolerance") (codes " ppm wider") wider
 
 -- the searches found these
-pub record IsReached (f : Buses) (longer wider : Reach) : Type 0 where
+pub record IsHeadroom (f : Buses) (longer wider : Headroom) : Type 0 where
   pub longer_one : IsLongerCable f One longer.one
   pub longer_any : IsLongerCable f Any longer.any
   pub wider_one : IsWiderTolerance f One wider.one
   pub wider_any : IsWiderTolerance f Any wider.any
 
 -- a text with them after it
-abbrev pub TellsReach : Buses → List ℕ → List ℕ → Type 0
-TellsReach f old new = (longer : Reach) × (wider : Reach) × IsReached f longer wider × (new ≡ old ++ reach_words longer wider)
+abbrev pub TellsHeadroom : Buses → List ℕ → List ℕ → Type 0
+TellsHeadroom f old new = (longer : Headroom) × (wider : Headroom) × IsHeadroom f longer wider × (new ≡ old ++ headroom_words longer wider)
 
 -- these, and which change helps most
-abbrev pub found_words : Found → List ℕ
-found_words found = reach_words found.longer found.wider ++ help_words found.help_one found.help_any
+abbrev pub results_words : SearchResults → List ℕ
+results_words found = headroom_words found.longer found.wider ++ help_words found.help_one found.help_any
 
-pub record IsFound (f : Buses) (found : Found) : Type 0 where
-  pub reached : IsReached f found.longer found.wider
+pub record AreSearchResults (f : Buses) (found : SearchResults) : Type 0 where
+  pub reached : IsHeadroom f found.longer found.wider
   pub help_one : found.help_one ≡ (best_change f One).change
   pub help_any : found.help_any ≡ (best_change f Any).change
 
 -- the text of a family: of a plan of which the condition says nothing there is nothing to search
 abbrev pub IsTextAfter : Verdict → List ℕ → Buses → List ℕ → Type 0
 IsTextAfter (NoBound cause) said f text = text ≡ said
-IsTextAfter verdict said f text = (found : Found) × IsFound f found × (text ≡ said ++ found_words found)
+IsTextAfter verdict said f text = (found : SearchResults) × AreSearchResults f found × (text ≡ said ++ results_words found)
 
 abbrev pub IsFamilyText : ℕ → Bool → Plan → List (List ℕ) → Buses → List ℕ → Type 0
 IsFamilyText tick steady plan names f text =

@@ -4,12 +4,12 @@
 //! tolerances may be.
 #![tactic(auto)]
 
-mod found;
 mod margin;
 mod numbers;
+mod searches;
 mod sentences;
 mod units;
 
-pub use found::{Reach, push_reach};
 pub use margin::{margin_text, oscillators, push_failure_line, push_reason};
 pub use numbers::{Hundredths, Thousandths};
+pub use searches::{Headroom, push_headroom};

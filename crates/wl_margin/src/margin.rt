@@ -8,7 +8,7 @@ ghost use Rattle.wl_margin.specs.Sentences.{failure_words, measure_of, rest_word
 ghost use Rattle.wl_margin.specs.Pieces.{each_below};
 ghost use Rattle.wl_margin.specs.Margins.{IsFamilyText, IsMarginText, all_pairs, any_failure, any_lead, are_steady, failure_line, is_proved_for_any, is_proved_for_one, lone_words, mute_words, one_lead, outside_lead, outside_reason, outside_words, paces_of, pair_line, pair_words, pairs_of, proved_of, shared_words, spare_of, unheard_words, verdict_words};
 
-use crate::found::{push_found, search};
+use crate::searches::{push_results, search};
 use crate::sentences::{Rest, Spare, push_failure};
 use crate::units::Units;
 use std::alloc::{AllocError, Global};
@@ -420,7 +420,7 @@ fn family_text(
     if let Verdict::NoBound(_) = verdict {
         return Ok(text);
     }
-    push_found(&mut text, search(family))?;
+    push_results(&mut text, search(family))?;
     Ok(text)
 }
 

@@ -1,14 +1,14 @@
 //! What the searches over a family find, and its text.
 ghost use Rattle.std.specs.Prelude.{◌≡◌, ◌++◌, string_bytes, OnOk};
-ghost use Rattle.wl_margin.specs.Margins.{IsFound, IsReached, TellsReach, change_words, figure_words, found_words, growth_words, help_line, help_words, reach_words};
+ghost use Rattle.wl_margin.specs.Margins.{AreSearchResults, IsHeadroom, TellsHeadroom, change_words, figure_words, results_words, growth_words, help_line, help_words, headroom_words};
 
 use std::alloc::AllocError;
 use std::fmt;
 use wl_bound::{Change, Family, Senders};
 
-/// How far something may grow; `None` if it may not.
+/// The headroom of a cable's length or of a tolerance: how much it may grow; `None` if it may not.
 #[derive(Clone, Copy, Debug)]
-pub struct Reach {
+pub struct Headroom {
     /// For one sender at a time.
     pub one: Option<u32>,
     /// For any senders.
@@ -17,11 +17,11 @@ pub struct Reach {
 
 /// What the searches find.
 #[derive(Clone, Copy, Debug)]
-pub(crate) struct Found {
+pub(crate) struct SearchResults {
     /// How much longer the cable may be, in units of length.
-    longer: Reach,
+    longer: Headroom,
     /// How much wider every tolerance, in parts per million.
-    wider: Reach,
+    wider: Headroom,
     /// Which change helps most for one sender at a time.
     help_one: Option<Change>,
     /// And for any senders.
@@ -29,14 +29,14 @@ pub(crate) struct Found {
 }
 
 /// Returns how much longer the cable may be, and how much wider every tolerance.
-fn reaches(family: &Family) -> (Reach, Reach)
-    ensures { IsReached family.now result.0 result.1 }
+fn headrooms(family: &Family) -> (Headroom, Headroom)
+    ensures { IsHeadroom family.now result.0 result.1 }
 {
-    let longer = Reach {
+    let longer = Headroom {
         one: family.longer_cable(Senders::One),
         any: family.longer_cable(Senders::Any),
     };
-    let wider = Reach {
+    let wider = Headroom {
         one: family.wider_tolerance(Senders::One),
         any: family.wider_tolerance(Senders::Any),
     };
@@ -44,11 +44,11 @@ fn reaches(family: &Family) -> (Reach, Reach)
 }
 
 /// Returns what the searches over a family find.
-pub(crate) fn search(family: &Family) -> Found
-    ensures { IsFound family.now result }
+pub(crate) fn search(family: &Family) -> SearchResults
+    ensures { AreSearchResults family.now result }
 {
-    let (longer, wider) = reaches(family);
-    Found {
+    let (longer, wider) = headrooms(family);
+    SearchResults {
         longer,
         wider,
         help_one: family.first_help(Senders::One),
@@ -81,15 +81,20 @@ impl fmt::Display for Figure<'_> {
 }
 
 /// Adds the line of what may grow.
-fn push_growth(text: &mut String, what: &str, unit: &str, reach: Reach) -> Result<(), AllocError>
-    ensures { OnOk result (string_bytes text.new ≡ string_bytes text.old ++ growth_words what.now unit.now reach) }
+fn push_growth(
+    text: &mut String,
+    what: &str,
+    unit: &str,
+    headroom: Headroom,
+) -> Result<(), AllocError>
+    ensures { OnOk result (string_bytes text.new ≡ string_bytes text.old ++ growth_words what.now unit.now headroom) }
 {
     let one = Figure {
-        number: reach.one,
+        number: headroom.one,
         unit,
     };
     let any = Figure {
-        number: reach.any,
+        number: headroom.any,
         unit,
     };
     writeln!(
@@ -99,8 +104,12 @@ fn push_growth(text: &mut String, what: &str, unit: &str, reach: Reach) -> Resul
 }
 
 /// Adds the lines of a cable and of tolerances.
-fn push_reach_lines(text: &mut String, longer: Reach, wider: Reach) -> Result<(), AllocError>
-    ensures { OnOk result (string_bytes text.new ≡ string_bytes text.old ++ reach_words longer wider) }
+fn push_headroom_lines(
+    text: &mut String,
+    longer: Headroom,
+    wider: Headroom,
+) -> Result<(), AllocError>
+    ensures { OnOk result (string_bytes text.new ≡ string_bytes text.old ++ headroom_words longer wider) }
 {
     push_growth(text, "cable", " units longer", longer)?;
     push_growth(text, "tolerance", " ppm wider", wider)
@@ -134,17 +143,17 @@ fn push_help(text: &mut String, one: Option<Change>, any: Option<Change>) -> Res
 }
 
 /// Adds what the searches found.
-pub(crate) fn push_found(text: &mut String, found: Found) -> Result<(), AllocError>
-    ensures { OnOk result (string_bytes text.new ≡ string_bytes text.old ++ found_words found) }
+pub(crate) fn push_results(text: &mut String, found: SearchResults) -> Result<(), AllocError>
+    ensures { OnOk result (string_bytes text.new ≡ string_bytes text.old ++ results_words found) }
 {
-    push_reach_lines(text, found.longer, found.wider)?;
+    push_headroom_lines(text, found.longer, found.wider)?;
     push_help(text, found.help_one, found.help_any)
 }
 
 /// Adds how much longer the cable of a family may be, and how much wider every tolerance, a line each.
-pub fn push_reach(text: &mut String, family: &Family) -> Result<(), AllocError>
-    ensures { OnOk result (TellsReach family.now (string_bytes text.old) (string_bytes text.new)) }
+pub fn push_headroom(text: &mut String, family: &Family) -> Result<(), AllocError>
+    ensures { OnOk result (TellsHeadroom family.now (string_bytes text.old) (string_bytes text.new)) }
 {
-    let (longer, wider) = reaches(family);
-    push_reach_lines(text, longer, wider)
+    let (longer, wider) = headrooms(family);
+    push_headroom_lines(text, longer, wider)
 }

@@ -1,7 +1,7 @@
 use Rattle.std.proofs.Common.{ap₂, string_bytes}
 use Rattle.wl_margin.specs.Margins.{help_line}
 use Rattle.wl_margin.proofs.Said.{said}
-use Rattle.wl_margin.proofs.found.push_help.Goals as goal
+use Rattle.wl_margin.proofs.searches.push_help.Goals as goal
 
 pub returns : goal.returns
 returns c =
