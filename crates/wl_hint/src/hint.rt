@@ -7,23 +7,23 @@ use std::fmt;
 use wl_explain::{column_number, line_number};
 use wl_setup::Text;
 
-/// A place of a text.
+/// A place of a text, for a reader: a line and a column.
 #[derive(Clone, Copy, Debug, PartialEq, Eq)]
-pub struct Place {
+pub struct TextPlace {
     /// The line, from 1.
     pub line: u64,
     /// The column in that line, from 1, in characters.
     pub column: u64,
 }
 
-impl Place {
+impl TextPlace {
     /// Returns the line and the column of a place of a text, which is counted in bytes.
-    pub(crate) fn of(text: &[u8], at: usize) -> Place
+    pub(crate) fn of(text: &[u8], at: usize) -> TextPlace
         requires { at ≤ length text.now }
         ensures { IsPlaceOf text.now result }
     {
         let before = &text[..at];
-        Place {
+        TextPlace {
             line: line_number(before),
             column: column_number(before),
         }
@@ -34,7 +34,7 @@ impl Place {
 #[derive(Debug, Drop)]
 pub struct Hint {
     /// Where in the input the fault is.
-    pub place: Option<Place>,
+    pub place: Option<TextPlace>,
     /// What is wrong there, and what to change. Nothing that could steer a terminal is shown as it is.
     pub said: Text,
 }

@@ -13,7 +13,7 @@ mod remarks;
 mod scan;
 mod table;
 
-pub use hint::{Hint, Place};
+pub use hint::{Hint, TextPlace};
 pub use plan::hint_of_plan;
 pub use records::hint_of_records;
 pub use table::{FREE_MEMORY, READ, READ_FILE, THREADS, WRITE, WRITE_FILE};

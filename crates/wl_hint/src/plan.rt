@@ -2,7 +2,7 @@
 ghost use Rattle.std.specs.Prelude.{◌≤◌, IfOk, length, None, Some, option_map};
 ghost use Rattle.wl_hint.specs.Hints.{PointsInto};
 
-use crate::hint::{Hint, Place};
+use crate::hint::{Hint, TextPlace};
 use crate::place::place_of;
 use crate::remarks::remark;
 use crate::scan::{key_end, value_behind, value_end};
@@ -148,7 +148,7 @@ fn no_document(alloc: Global, text: &[u8], at: usize) -> Result<Hint, AllocError
     let (cause, remedy) = (cause(&SetupFault::Toml), remedy(&SetupFault::Toml));
     let said = format!(in alloc; ": {cause}. {remedy}")?;
     Ok(Hint {
-        place: Some(Place::of(text, at)),
+        place: Some(TextPlace::of(text, at)),
         said: Text::new(alloc, said.as_str())?,
     })
 }
@@ -182,7 +182,7 @@ fn in_table(
         Some(at) => {
             let written = written(alloc, text, at)?;
             Ok(Hint {
-                place: Some(Place::of(text, at)),
+                place: Some(TextPlace::of(text, at)),
                 said: said_of(alloc, top, spot, fault, written.as_str())?,
             })
         }

@@ -12,7 +12,7 @@ use Rattle.wl_setup.specs.declared.plan_text.ClockText.{ClockText}
 use Rattle.wl_setup.specs.declared.plan_text.ClockText.TheVariants as text
 use Rattle.wl_sweep.specs.declared.change.SweptKey.TheVariants as key
 use Rattle.wl_sweep.specs.declared.change.Side.TheVariants.{Own, Slow, Fast}
-use Rattle.wl_sweep.specs.declared.draws.Draws.TheVariants.{Number, Words}
+use Rattle.wl_sweep.specs.declared.digit_source.DigitSource.TheVariants.{Number, Words}
 use Rattle.wl_sweep.specs.declared.finding.Finding.TheVariants.{Clean, Faulty, Off, Early, Missed, Refused}
 use Rattle.wl_sweep.specs.declared.options.Options.{Options}
 use Rattle.wl_sweep.specs.declared.range.SweptRange.{SweptRange}

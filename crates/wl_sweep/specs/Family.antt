@@ -10,20 +10,20 @@ use Rattle.wl_setup.specs.declared.plan_text.ClockText.{ClockText}
 use Rattle.wl_setup.specs.declared.plan_text.ClockText.TheVariants as text
 use Rattle.wl_setup.specs.Plans.{plan_of_text}
 use Rattle.wl_sweep.specs.declared.options.Options.{Options}
-use Rattle.wl_sweep.specs.declared.draws.Draws.{Draws}
-use Rattle.wl_sweep.specs.declared.draws.Draws.TheVariants.{Number, Words}
+use Rattle.wl_sweep.specs.declared.digit_source.DigitSource.{DigitSource}
+use Rattle.wl_sweep.specs.declared.digit_source.DigitSource.TheVariants.{Number, Words}
 use Rattle.wl_sweep.specs.declared.family.Choice.{Choice}
 use Rattle.wl_sweep.specs.declared.change.Side.{Side}
 use Rattle.wl_sweep.specs.declared.change.Side.TheVariants.{Own, Slow, Fast}
 use Rattle.wl_sweep.specs.Changes.{moved_node}
 
 -- the next digit below a radix of 2 or more: of a number the least one, of a generator a word as a part of 2^64, times the radix
-abbrev pub digit_of : ℕ → Draws → ℕ × Draws
+abbrev pub digit_of : ℕ → DigitSource → ℕ × DigitSource
 digit_of radix (Number n) = (n % radix, Number (n / radix))
 digit_of radix (Words state) = ((mix_u64 state).0 * radix / 2 ^ 64, Words (mix_u64 state).1)
 
 -- below 2 it is 0, and nothing is taken
-abbrev pub drawn : ℕ → Draws → ℕ × Draws
+abbrev pub drawn : ℕ → DigitSource → ℕ × DigitSource
 drawn radix draws = if nat_lt radix 2 then (0, draws) else digit_of radix draws
 
 -- the ticks of a quantum at a rate, rounded down, at least one
@@ -76,7 +76,7 @@ abbrev pub widely_capped : ℕ → ℕ
 widely_capped n = min n (2 ^ 128 - 1)
 
 -- by how much a node begins later, and on which side its clock is, and what the others draw from
-abbrev pub chosen : Options → ℕ → ℕ × NodeText → Draws → Choice × Draws
+abbrev pub chosen : Options → ℕ → ℕ × NodeText → DigitSource → Choice × DigitSource
 chosen options step m draws =
     let place = drawn (offset_count options step m) draws in
     let sign = drawn (sign_count options m.1) place.1 in
@@ -104,11 +104,11 @@ run_seed options run = (options.seed * 2 ^ 32 + run) % 2 ^ 64
 
 -- What a run's digits are taken from: its number, where all members are run; else the first run has all digits 0, and each other
 -- draws from a generator of its own.
-abbrev pub draws_of : Options → ℕ → ℕ → Draws
+abbrev pub draws_of : Options → ℕ → ℕ → DigitSource
 draws_of options count run = if nat_le count options.runs || (run == 0) then Number run else Words (run_seed options run)
 
 -- the nodes of a member
-abbrev pub member_nodes : Options → ℕ → Draws → List (ℕ × NodeText) → List NodeText
+abbrev pub member_nodes : Options → ℕ → DigitSource → List (ℕ × NodeText) → List NodeText
 member_nodes options step draws [] = []
 member_nodes options step draws (m ∷ ms) =
     let made = chosen options step m draws in

@@ -5,7 +5,7 @@ use Rattle.std.specs.Fmt.{decimal, signed_decimal}
 use Rattle.wl_setup.specs.declared.plan_text.PlanText.{PlanText}
 use Rattle.wl_setup.specs.declared.plan_text.NodeText.{NodeText}
 use Rattle.wl_sweep.specs.declared.options.Options.{Options}
-use Rattle.wl_sweep.specs.declared.draws.Draws.{Draws}
+use Rattle.wl_sweep.specs.declared.digit_source.DigitSource.{DigitSource}
 use Rattle.wl_sweep.specs.declared.change.Side.{Side}
 use Rattle.wl_sweep.specs.declared.change.Side.TheVariants.{Own, Slow, Fast}
 use Rattle.wl_sweep.specs.declared.family.Choice.{Choice}
@@ -62,7 +62,7 @@ side_words node (Fast ppm) = codes ", " ++ node.name ++ codes ".ppm = -" ++ deci
 abbrev pub choice_words : NodeText → Choice → List ℕ
 choice_words node choice = offset_words node choice.by ++ side_words node choice.side
 
-abbrev pub choices_words : Options → ℕ → Draws → List (ℕ × NodeText) → List ℕ
+abbrev pub choices_words : Options → ℕ → DigitSource → List (ℕ × NodeText) → List ℕ
 choices_words options step draws [] = []
 choices_words options step draws (m ∷ ms) =
     let made = chosen options step m draws in choice_words m.1 made.0 ++ choices_words options step made.1 ms

@@ -5,7 +5,7 @@ ghost use Rattle.wl_setup.specs.Plans.{plan_of_text};
 ghost use Rattle.wl_sweep.specs.Family.{bit_in, choice_count, chosen, draws_of, kept, least_quantum, member_count, member_of, member_nodes, offset_count, offset_step, quantum_at, quantum_in, run_count, side_of, sign_count, varied};
 
 use crate::change::{Side, moved_node, text_again};
-use crate::draws::Draws;
+use crate::digit_source::DigitSource;
 use crate::options::Options;
 use rand_core::SeedableRng;
 use rand_xoshiro::SplitMix64;
@@ -122,7 +122,7 @@ pub(crate) fn choose(
     step: u64,
     i: usize,
     node: &NodeText,
-    draws: &mut Draws,
+    draws: &mut DigitSource,
 ) -> Choice
     ensures { (result, draws.new) ≡ chosen options step (i, node.now) draws.old }
 {
@@ -176,9 +176,9 @@ fn varied(alloc: Global, options: Options, text: &PlanText) -> Result<Options, A
     }
 }
 
-/// A family of plan texts: what its members are made of.
+/// A family of plan texts: the text that its members are made of, and what is varied.
 #[derive(Drop)]
-pub(crate) struct Family {
+pub(crate) struct TextFamily {
     /// The text as it is.
     pub(crate) text: PlanText,
     pub(crate) options: Options,
@@ -190,16 +190,20 @@ pub(crate) struct Family {
     pub(crate) ghost count_is: { count ≡ member_count options text },
 }
 
-impl Family {
+impl TextFamily {
     /// Returns the family of a text.
-    pub(crate) fn new(alloc: Global, text: PlanText, options: Options) -> Result<Family, AllocError>
+    pub(crate) fn new(
+        alloc: Global,
+        text: PlanText,
+        options: Options,
+    ) -> Result<TextFamily, AllocError>
         ensures text { IfOk result (λ family. family.text ≡ text) }
         ensures options { IfOk result (λ family. family.options ≡ options) }
     {
         let free = varied(alloc, options, &text)?;
         let step = offset_step(options, &text);
         let count = choice_count(free, step, text.node.as_slice());
-        Ok(Family {
+        Ok(TextFamily {
             text,
             options,
             free,
@@ -237,14 +241,14 @@ impl Family {
     }
 
     /// Returns what the digits of a run are taken from.
-    pub(crate) fn draws(&self, run: u32) -> Draws
+    pub(crate) fn draws(&self, run: u32) -> DigitSource
         ensures { result ≡ draws_of self.now.options (member_count self.now.options self.now.text) run }
     {
         if self.count <= u128::from(self.options.runs) || run == 0 {
-            Draws::Number(u64::from(run))
+            DigitSource::Number(u64::from(run))
         } else {
             let seed = (u64::from(self.options.seed) << 32) + u64::from(run);
-            Draws::Words(SplitMix64::seed_from_u64(seed))
+            DigitSource::Words(SplitMix64::seed_from_u64(seed))
         }
     }
 

@@ -5,7 +5,7 @@
 #![tactic(auto)]
 
 mod change;
-mod draws;
+mod digit_source;
 mod family;
 mod finding;
 mod options;

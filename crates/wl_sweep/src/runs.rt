@@ -2,7 +2,7 @@
 ghost use Rattle.std.specs.Prelude.{◌≡◌, ◌-◌, ◌^◌, ◌<◌, ◌≤◌, IfOk};
 ghost use Rattle.wl_sweep.specs.Tallies.{ArePartTallies, IsPartTally, finding_at, findings_from, findings_of, part_start, tally_of};
 
-use crate::family::Family;
+use crate::family::TextFamily;
 use crate::finding::{Finding, finding_of_text};
 use crate::tally::Tally;
 use std::alloc::{AllocError, Global};
@@ -18,9 +18,9 @@ const FIRST: u64 = 1000;
 /// How long after a line of progress the next one comes, at the earliest, in milliseconds.
 const PAUSE: u64 = 200;
 
-/// How far a sweep is, for lines of progress. No clause speaks of it.
+/// The progress of a sweep: how far it is, for lines on standard error. No clause speaks of it.
 #[derive(Clone, Copy, Debug)]
-pub(crate) struct Progress {
+pub(crate) struct SweepProgress {
     /// The row, counted from 1.
     row: u64,
     /// How many rows there are.
@@ -31,11 +31,11 @@ pub(crate) struct Progress {
     next: Duration,
 }
 
-impl Progress {
+impl SweepProgress {
     /// Begins to report on this many rows, if there is a clock.
-    pub(crate) fn begin<R: Clock>(rt: &R, rows: u64) -> Option<Progress> {
+    pub(crate) fn begin<R: Clock>(rt: &R, rows: u64) -> Option<SweepProgress> {
         let begun = Instant::now(rt).ok()?;
-        Some(Progress {
+        Some(SweepProgress {
             row: 0,
             rows,
             begun,
@@ -72,7 +72,7 @@ fn part_start(from: u32, to: u32, size: u32, w: usize) -> u32
     u64::from(from).saturating_add(before).min(u64::from(to)) as u32
 }
 
-impl Family {
+impl TextFamily {
     /// Returns what is found of the member that a run is of.
     pub(crate) fn finding(&self, alloc: Global, run: u32) -> Result<Finding, AllocError>
         ensures { IfOk result (λ found. found ≡ finding_at self.now.options self.now.text run) }
@@ -161,7 +161,7 @@ impl Family {
         rt: &R,
         alloc: Global,
         workers: u8,
-        progress: &mut Option<Progress>,
+        progress: &mut Option<SweepProgress>,
     ) -> Result<Tally, AllocError>
         ensures { IfOk result (λ tally. tally ≡ tally_of (findings_of self.now.options self.now.text)) }
     {

@@ -7,10 +7,10 @@ ghost use Rattle.wl_sweep.specs.Rows.{row_count, row_text};
 ghost use Rattle.wl_sweep.specs.Tallies.{findings_of, tally_of};
 ghost use Rattle.wl_sweep.specs.Sweeps.{all_findings, first_line, is_small, located, member_at, member_in_row, members_in, row_findings, rows_findings, rows_lines, rows_members, sweep_text};
 
-use crate::family::Family;
+use crate::family::TextFamily;
 use crate::options::Options;
 use crate::range::{SweptRange, row_count, row_text};
-use crate::runs::Progress;
+use crate::runs::SweepProgress;
 use crate::tally::Tally;
 use crate::text::{push_change, push_member, push_members, push_row, push_tally_line};
 use std::alloc::{AllocError, Global};
@@ -58,18 +58,18 @@ impl Sweep {
     }
 
     /// Returns the family of a row.
-    fn family(&self, alloc: Global, row: u64) -> Result<Family, AllocError>
+    fn family(&self, alloc: Global, row: u64) -> Result<TextFamily, AllocError>
         ensures text { IfOk result (λ family. family.text ≡ row_text row self.now.ranges self.now.text) }
         ensures options { IfOk result (λ family. family.options ≡ self.now.options) }
     {
         let text = row_text(alloc, &self.text, self.ranges.as_slice(), row)?;
-        Family::new(alloc, text, self.options)
+        TextFamily::new(alloc, text, self.options)
     }
 
     /// Returns how far the sweep is, if lines of progress are asked for.
-    fn progress<R: Clock>(&self, rt: &R, workers: Workers) -> Option<Progress> {
+    fn progress<R: Clock>(&self, rt: &R, workers: Workers) -> Option<SweepProgress> {
         if workers.progress {
-            Progress::begin(rt, row_count(self.ranges.as_slice()))
+            SweepProgress::begin(rt, row_count(self.ranges.as_slice()))
         } else {
             None
         }
@@ -82,7 +82,7 @@ impl Sweep {
         alloc: Global,
         row: u64,
         workers: u8,
-        progress: &mut Option<Progress>,
+        progress: &mut Option<SweepProgress>,
         text: &mut String,
     ) -> Result<Sum, AllocError>
         ensures tally { IfOk result (λ sum. sum.tally ≡ tally_of (row_findings self.now row)) }

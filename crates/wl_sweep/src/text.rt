@@ -7,8 +7,8 @@ ghost use Rattle.wl_sweep.specs.Rows.{row_text};
 ghost use Rattle.wl_sweep.specs.Words.{change_words, count_words, choice_words, choices_words, early_words, faulty_words, finding_words, members_line, row_line, row_words, settings_words, side_words, tally_line, tally_words, member_words};
 
 use crate::change::Side;
-use crate::draws::Draws;
-use crate::family::{Choice, Family, choose};
+use crate::digit_source::DigitSource;
+use crate::family::{Choice, TextFamily, choose};
 use crate::finding::Finding;
 use crate::options::Options;
 use crate::range::{SweptRange, row_value};
@@ -141,7 +141,7 @@ fn push_choices(
     text: &mut String,
     options: Options,
     step: u64,
-    draws: Draws,
+    draws: DigitSource,
     nodes: &[NodeText],
 ) -> Result<(), AllocError>
     ensures { OnOk result (GrowsBy text.old text.new (choices_words options step draws (enumerate_from 0 nodes.now))) }
@@ -187,7 +187,7 @@ pub(crate) fn push_change(
     text: &mut String,
     ranges: &[SweptRange],
     row: u64,
-    family: &Family,
+    family: &TextFamily,
     run: u32,
 ) -> Result<(), AllocError>
     ensures { OnOk result (GrowsBy text.old text.new
@@ -208,7 +208,7 @@ pub(crate) fn push_member(
     text: &mut String,
     ranges: &[SweptRange],
     row: u64,
-    family: &Family,
+    family: &TextFamily,
     run: u32,
     finding: &Finding,
 ) -> Result<(), AllocError>

@@ -16,7 +16,7 @@ use Rattle.wl_plan.specs.declared.plan.Plan.{Plan}
 use Rattle.wl_report.specs.Lines.{hexadecimal}
 use Rattle.wl_traffic.specs.declared.attempts.Attempt.{Attempt}
 use Rattle.wl_traffic.specs.Attempts.{entries_by, entry_in, sent_quanta}
-use Rattle.wl_traffic.specs.Bus.{finding_of, nothing_found, quieter}
+use Rattle.wl_traffic.specs.Bus.{load_at, no_load, quieter}
 use Rattle.wl_traffic.specs.Known.{IsKnown, IsKnownQuantum}
 
 -- what one element more gives
@@ -38,11 +38,11 @@ last_hexadecimal (suc k) n some =
 
 -- the bus by one node more
 pub bus_more : (plan : Plan) (i : ℕ)
-    → fold quieter nothing_found (map (finding_of plan) (range_with_len 0 (i + 1)))
-    ≡ quieter (fold quieter nothing_found (map (finding_of plan) (range_with_len 0 i))) (finding_of plan i)
+    → fold quieter no_load (map (load_at plan) (range_with_len 0 (i + 1)))
+    ≡ quieter (fold quieter no_load (map (load_at plan) (range_with_len 0 i))) (load_at plan i)
 bus_more plan i =
-    ap (fold quieter nothing_found) (map-range_with_len_more (finding_of plan) 0 i i (zero-add i))
-    ∙ fold-append quieter nothing_found (map (finding_of plan) (range_with_len 0 i)) (finding_of plan i ∷ [])
+    ap (fold quieter no_load) (map-range_with_len_more (load_at plan) 0 i i (zero-add i))
+    ∙ fold-append quieter no_load (map (load_at plan) (range_with_len 0 i)) (load_at plan i ∷ [])
 
 -- a quantum among known ones is known
 get_known : (xs : List ℕ) (k : ℕ) → All (λ q. q ≤ 2 ^ 21) xs → IsKnownQuantum (slice_get xs k)

@@ -19,7 +19,7 @@ use Rattle.wl_plan.specs.Sound.{IsSound}
 use Rattle.wl_serial.specs.declared.outcome.NodeOutcome.{NodeOutcome}
 use Rattle.wl_serial.specs.Outcome.{node_outcome_of, outcome_of}
 use Rattle.wl_trace.proofs.Callers.{one_more}
-use Rattle.wl_views.specs.Sent.{SentInTime}
+use Rattle.wl_views.specs.SentFrames.{SentInTime}
 use Rattle.wl_views.proofs.Callers.{few, node_is, nodes_all, within}
 use Rattle.wl_traffic.specs.Known.{AreKnown}
 

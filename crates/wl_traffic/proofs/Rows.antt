@@ -13,8 +13,8 @@ use Rattle.wl_traffic.specs.declared.entries.Entry.{Entry}
 use Rattle.wl_traffic.specs.declared.reason.Reason.TheVariants.{Works, Errors, EndsTooEarly, BusOff, Deaf}
 use Rattle.wl_traffic.specs.declared.spans.Span.{Span}
 use Rattle.wl_traffic.specs.Attempts.{attempts_of, no_queued}
-use Rattle.wl_traffic.specs.Bus.{found_in, nothing_found, quieter, share_of}
-use Rattle.wl_traffic.specs.Messages.{spread_words}
+use Rattle.wl_traffic.specs.Bus.{load_in, no_load, quieter, share_of}
+use Rattle.wl_traffic.specs.Messages.{statistics_words}
 use Rattle.wl_traffic.specs.Reasons.{first_reason}
 use Rattle.wl_traffic.specs.Waits.{most_waiting, quanta_waited}
 
@@ -25,7 +25,7 @@ span doing ticks = record { doing = doing; ticks = ticks }
 abbrev a_bus : List Span
 a_bus = span Integrating 22000 ∷ span Idle 20000 ∷ span Receiving 100000 ∷ span Intermission 6000 ∷ span Idle 8000 ∷ span Suspended 12000 ∷ []
 
-found : found_in a_bus ≡ record { busy = 106000; idle = 40000; gap = 20000; off = false }
+found : load_in a_bus ≡ record { busy = 106000; idle = 40000; gap = 20000; off = false }
 found = refl
 
 -- 106,000 of 168,000 ticks are 63.095 %
@@ -36,7 +36,7 @@ load_of_nothing : share_of 0 0 ≡ 0
 load_of_nothing = refl
 
 -- a node that is bus off doesn't find the bus idle, so the other one's finding is taken; that a node was off stays
-off_node : quieter (found_in a_bus) (found_in (span Idle 30000 ∷ span OffBus 138000 ∷ [])) ≡ record { busy = 106000; idle = 40000; gap = 20000; off = true }
+off_node : quieter (load_in a_bus) (load_in (span Idle 30000 ∷ span OffBus 138000 ∷ [])) ≡ record { busy = 106000; idle = 40000; gap = 20000; off = true }
 off_node = refl
 
 -- of equals the second
@@ -45,7 +45,7 @@ second_of_equals : quieter (record { busy = 5; idle = 7; gap = 3; off = false })
 second_of_equals = refl
 
 -- a node to which the bus is never idle is told of too
-never_idle : quieter nothing_found (found_in (span Receiving 100 ∷ [])) ≡ record { busy = 100; idle = 0; gap = 0; off = false }
+never_idle : quieter no_load (load_in (span Receiving 100 ∷ [])) ≡ record { busy = 100; idle = 0; gap = 0; off = false }
 never_idle = refl
 
 abbrev noted : ℕ → NodeEvent → Noted
@@ -85,11 +85,11 @@ waited : quanta_waited (entry 100 500 ∷ left 600 ∷ entry 500 800 ∷ []) ≡
 waited = refl
 
 -- the mean of 400, 300 and 301 is 333.666
-spread : spread_words (400 ∷ 300 ∷ 301 ∷ []) ≡ codes "least 300 mean 333.66 greatest 400"
+spread : statistics_words (400 ∷ 300 ∷ 301 ∷ []) ≡ codes "least 300 mean 333.66 greatest 400"
 unfolding digits
 spread = refl
 
-no_spread : spread_words [] ≡ codes "least - mean - greatest -"
+no_spread : statistics_words [] ≡ codes "least - mean - greatest -"
 no_spread = refl
 
 -- bus off comes before errors, those before frames that are left, and those before missed frames

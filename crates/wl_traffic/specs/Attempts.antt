@@ -13,7 +13,7 @@ use Rattle.wl_trace.specs.declared.event.NodeEvent.TheVariants as events
 use Rattle.wl_trace.specs.declared.event.FrameField.{FrameField}
 use Rattle.wl_trace.specs.declared.event.FrameField.TheVariants.{FlagDelimiter}
 use Rattle.wl_trace.specs.declared.event.Noted.{Noted}
-use Rattle.wl_views.specs.Trace.{events_at_end}
+use Rattle.wl_views.specs.TraceText.{events_at_end}
 use Rattle.wl_traffic.specs.declared.attempts.Attempt.{Attempt}
 use Rattle.wl_traffic.specs.declared.entries.Entry.{Entry}
 

@@ -7,7 +7,7 @@ use Rattle.wl_machine.specs.declared.doing.Doing.TheVariants as doings
 use Rattle.wl_plan.specs.declared.plan.Plan.{Plan}
 use Rattle.wl_plan.specs.PlanLine.{setup_at}
 use Rattle.wl_serial.specs.Outcome.{node_outcome_of}
-use Rattle.wl_traffic.specs.declared.bus.Found.{Found}
+use Rattle.wl_traffic.specs.declared.bus.BusLoad.{BusLoad}
 use Rattle.wl_traffic.specs.declared.spans.Span.{Span}
 use Rattle.wl_traffic.specs.States.{spans_of}
 
@@ -48,28 +48,28 @@ gap_after (run, longest) s =
 abbrev pub longest_gap : List Span → ℕ
 longest_gap spans = (fold gap_after (0, 0) spans).1
 
--- the bus as a node finds it
-abbrev pub found_in : List Span → Found
-found_in spans = record {
+-- the load of the bus as a node finds it
+abbrev pub load_in : List Span → BusLoad
+load_in spans = record {
   busy = time_in is_busy_doing spans;
   idle = time_in is_idle_doing spans;
   gap = longest_gap spans;
   off = list_any (λ s. is_off_doing s.doing) spans;
 }
 
-abbrev pub finding_of : Plan → ℕ → Found
-finding_of plan i = found_in (spans_of (setup_at plan i) plan.end (node_outcome_of plan i).samples)
+abbrev pub load_at : Plan → ℕ → BusLoad
+load_at plan i = load_in (spans_of (setup_at plan i) plan.end (node_outcome_of plan i).samples)
 
--- of two findings that of the node to which the bus is idle longer, the second of equals; some node was bus off
-abbrev pub quieter : Found → Found → Found
+-- of two loads that of the node to which the bus is idle longer, the second of equals; some node was bus off
+abbrev pub quieter : BusLoad → BusLoad → BusLoad
 quieter a b = record (if nat_le a.idle b.idle then b else a) { off = a.off || b.off }
 
-abbrev pub nothing_found : Found
-nothing_found = record { busy = 0; idle = 0; gap = 0; off = false }
+abbrev pub no_load : BusLoad
+no_load = record { busy = 0; idle = 0; gap = 0; off = false }
 
--- the bus as the node finds it to which it is idle longest, the last of equals
-abbrev pub bus_found : Plan → Found
-bus_found plan = fold quieter nothing_found (map (finding_of plan) (range_with_len 0 (length plan.nodes)))
+-- the load of the bus as the node finds it to which it is idle longest, the last of equals
+abbrev pub bus_load : Plan → BusLoad
+bus_load plan = fold quieter no_load (map (load_at plan) (range_with_len 0 (length plan.nodes)))
 
 -- the share of a time in the whole, in hundredths of a per cent; a time is no longer than the whole
 abbrev pub share_of : ℕ → ℕ → ℕ

@@ -26,8 +26,8 @@ greatest_of values = fold max (slice_index values 0) values
 abbrev pub mean_hundredths : List ℕ → ℕ
 mean_hundredths values = sum values * 100 / length values
 
-abbrev pub spread_words : List ℕ → List ℕ
-spread_words values =
+abbrev pub statistics_words : List ℕ → List ℕ
+statistics_words values =
     if length values == 0 then codes "least - mean - greatest -"
     else joined (codes "least " ∷ decimal (least_of values) ∷ codes " mean " ∷ hundredths (mean_hundredths values) ∷ codes " greatest "
     ∷ decimal (greatest_of values) ∷ [])
@@ -60,7 +60,7 @@ message_counts last mine =
 -- how long they waited
 abbrev pub wait_words : Tick → Timing → List Entry → List ℕ
 wait_words tick clock mine =
-    joined (codes " quanta " ∷ spread_words (quanta_waited mine) ∷ codes " us " ∷ spread_words (time_waited tick clock mine) ∷ codes "\n" ∷ [])
+    joined (codes " quanta " ∷ statistics_words (quanta_waited mine) ∷ codes " us " ∷ statistics_words (time_waited tick clock mine) ∷ codes "\n" ∷ [])
 
 -- a node and an identifier
 abbrev pub message_words : List (List ℕ) → ℕ → Content → List ℕ

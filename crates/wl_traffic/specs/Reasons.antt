@@ -4,7 +4,7 @@ use Rattle.std.specs.List.{list_any}
 use Rattle.wl_plan.specs.declared.plan.Plan.{Plan}
 use Rattle.wl_serial.specs.declared.outcome.NodeOutcome.{NodeOutcome}
 use Rattle.wl_serial.specs.Outcome.{outcome_of}
-use Rattle.wl_traffic.specs.Bus.{bus_found}
+use Rattle.wl_traffic.specs.Bus.{bus_load}
 use Rattle.wl_traffic.specs.declared.reason.Reason.{Reason}
 use Rattle.wl_traffic.specs.declared.reason.Reason.TheVariants.{Works, Errors, EndsTooEarly, BusOff, Deaf}
 
@@ -39,7 +39,7 @@ reason_by off nodes =
     first_reason off (list_any has_errors nodes) (list_any has_unsent nodes) (list_any (misses_frames (most_passed nodes)) nodes)
 
 abbrev pub reason_of : Plan → Reason
-reason_of plan = reason_by (bus_found plan).off (outcome_of plan).nodes
+reason_of plan = reason_by (bus_load plan).off (outcome_of plan).nodes
 
 abbrev pub reason_word : Reason → List ℕ
 reason_word Works = codes "works"

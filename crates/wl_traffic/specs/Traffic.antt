@@ -5,14 +5,14 @@ use Rattle.wl_margin.specs.Pieces.{hundredths, joined}
 use Rattle.wl_plan.specs.declared.plan.Plan.{Plan}
 use Rattle.wl_views.specs.declared.tick.Tick.{Tick}
 use Rattle.wl_views.specs.Ticks.{microseconds}
-use Rattle.wl_traffic.specs.Bus.{bus_found, share_of}
+use Rattle.wl_traffic.specs.Bus.{bus_load, share_of}
 use Rattle.wl_traffic.specs.Messages.{all_messages}
 use Rattle.wl_traffic.specs.Reasons.{reason_of, reason_word}
-use Rattle.wl_traffic.specs.declared.bus.Found.{Found}
+use Rattle.wl_traffic.specs.declared.bus.BusLoad.{BusLoad}
 use Rattle.wl_traffic.specs.declared.reason.Reason.{Reason}
 
 -- how busy the bus was, and the longest time for which it was idle, in whole microseconds
-abbrev pub bus_line : Tick → (end : ℕ) → Found → List ℕ
+abbrev pub bus_line : Tick → (end : ℕ) → BusLoad → List ℕ
 bus_line tick end bus =
     joined (codes "bus load " ∷ hundredths (share_of bus.busy end) ∷ codes " % gap " ∷ decimal (microseconds tick (min bus.gap end)) ∷ codes " us\n" ∷ [])
 
@@ -21,4 +21,4 @@ verdict_words reason = joined (codes "verdict " ∷ reason_word reason ∷ codes
 
 -- the bus, the messages of each node, and the reason
 abbrev pub traffic_text : Tick → Plan → List (List ℕ) → List ℕ
-traffic_text tick plan names = bus_line tick plan.end (bus_found plan) ++ all_messages tick plan names ++ verdict_words (reason_of plan)
+traffic_text tick plan names = bus_line tick plan.end (bus_load plan) ++ all_messages tick plan names ++ verdict_words (reason_of plan)

@@ -1,7 +1,7 @@
 //! How busy the bus was.
 ghost use Rattle.std.specs.Prelude.{◌≡◌, ◌<◌, ◌≤◌, length, IfOk};
 ghost use Rattle.wl_serial.specs.Outcome.{outcome_of};
-ghost use Rattle.wl_traffic.specs.Bus.{bus_found, finding_of, found_in, is_busy_doing, is_idle_doing, is_off_doing, longest_gap, quieter, share_of, ticks_in, time_in};
+ghost use Rattle.wl_traffic.specs.Bus.{bus_load, is_busy_doing, is_idle_doing, is_off_doing, load_at, load_in, longest_gap, quieter, share_of, ticks_in, time_in};
 
 use crate::nodes::{node_at, quanta_are_known};
 use crate::spans::{Span, spans};
@@ -10,9 +10,9 @@ use wl_machine::Doing;
 use wl_plan::CheckedPlan;
 use wl_serial::Outcome;
 
-/// The bus as a node finds it, in ticks.
+/// The load of the bus as a node finds it, in ticks.
 #[derive(Clone, Copy, Debug)]
-pub struct Found {
+pub struct BusLoad {
     /// For how long it isn't idle.
     pub(crate) busy: u128,
     /// For how long it is idle.
@@ -95,16 +95,16 @@ fn longest_gap(spans: &[Span]) -> u128
 
 /// True if the node was bus off at some time.
 fn was_off(spans: &[Span]) -> bool
-    ensures { result ≡ (found_in spans.now).off }
+    ensures { result ≡ (load_in spans.now).off }
 {
     spans.iter().any(|span| span.doing == Doing::OffBus)
 }
 
-/// Returns the bus as a node finds it.
-fn found_in(spans: &[Span]) -> Found
-    ensures { result ≡ found_in spans.now }
+/// Returns the load of the bus as a node finds it.
+fn load_in(spans: &[Span]) -> BusLoad
+    ensures { result ≡ load_in spans.now }
 {
-    Found {
+    BusLoad {
         busy: busy_time(spans),
         idle: idle_time(spans),
         gap: longest_gap(spans),
@@ -112,46 +112,50 @@ fn found_in(spans: &[Span]) -> Found
     }
 }
 
-/// Returns the bus as node `i` finds it.
-fn finding_of(
+/// Returns the load of the bus as node `i` finds it.
+fn load_at(
     alloc: Global,
     plan: &CheckedPlan,
     outcome: &Outcome,
     i: usize,
-) -> Result<Found, AllocError>
+) -> Result<BusLoad, AllocError>
     requires outcome { outcome.now ≡ outcome_of plan.now }
     requires node { i < length plan.now.nodes }
-    ensures { IfOk result (λ found. found ≡ finding_of plan.now i) }
+    ensures { IfOk result (λ load. load ≡ load_at plan.now i) }
 {
     quanta_are_known(plan);
     let (setup, node) = node_at(plan, outcome, i);
     let samples = node.samples.list(alloc)?;
     let spans = spans(alloc, setup, plan.end, samples.as_slice())?;
-    Ok(found_in(&spans))
+    Ok(load_in(&spans))
 }
 
-/// Returns of two findings that of the node to which the bus is idle longer, the second of equals.
-fn quieter(a: Found, b: Found) -> Found
+/// Returns of two loads that of the node to which the bus is idle longer, the second of equals.
+fn quieter(a: BusLoad, b: BusLoad) -> BusLoad
     ensures { result ≡ quieter a b }
 {
     let off = a.off || b.off;
     let longer = if a.idle <= b.idle { b } else { a };
-    Found { off, ..longer }
+    BusLoad { off, ..longer }
 }
 
-/// Returns the bus as the node finds it to which it is idle longest, the last of equals, and whether some node was bus off.
-pub(crate) fn bus(alloc: Global, plan: &CheckedPlan, outcome: &Outcome) -> Result<Found, AllocError>
+/// Returns the load of the bus as the node finds it to which it is idle longest, the last of equals, and whether some node was bus off.
+pub(crate) fn bus(
+    alloc: Global,
+    plan: &CheckedPlan,
+    outcome: &Outcome,
+) -> Result<BusLoad, AllocError>
     requires outcome { outcome.now ≡ outcome_of plan.now }
-    ensures { IfOk result (λ bus. bus ≡ bus_found plan.now) }
+    ensures { IfOk result (λ bus. bus ≡ bus_load plan.now) }
 {
-    let mut bus = Found {
+    let mut bus = BusLoad {
         busy: 0,
         idle: 0,
         gap: 0,
         off: false,
     };
     for i in 0..plan.nodes.len() {
-        bus = quieter(bus, finding_of(alloc, plan, outcome, i)?);
+        bus = quieter(bus, load_at(alloc, plan, outcome, i)?);
     }
     Ok(bus)
 }

@@ -9,7 +9,7 @@ mod messages;
 mod nodes;
 mod reason;
 mod spans;
-mod spread;
+mod statistics;
 mod text;
 mod waits;
 

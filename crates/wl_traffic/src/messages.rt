@@ -10,7 +10,7 @@ ghost use Rattle.wl_traffic.specs.Messages.{all_messages, message_counts, has_id
 use crate::entries::{Entry, entries};
 use crate::hexadecimal::push_hexadecimal;
 use crate::nodes::node_at;
-use crate::spread::push_spread;
+use crate::statistics::push_statistics;
 use crate::waits::{final_sample, most_waiting, quanta_waited, time_waited};
 use std::alloc::{AllocError, Global};
 use wl_clock::Clock;
@@ -146,9 +146,9 @@ fn push_waits(
     let quanta = quanta_waited(alloc, mine)?;
     let times = time_waited(alloc, tick, clock, mine)?;
     text.push_str(" quanta ")?;
-    push_spread(text, &quanta)?;
+    push_statistics(text, &quanta)?;
     text.push_str(" us ")?;
-    push_spread(text, &times)?;
+    push_statistics(text, &times)?;
     text.push_str("\n")
 }
 

@@ -5,11 +5,11 @@ ghost use Rattle.wl_serial.specs.Outcome.{outcome_of};
 ghost use Rattle.wl_traffic.specs.Reasons.{reason_of};
 ghost use Rattle.wl_traffic.specs.Traffic.{bus_line, traffic_text, verdict_words};
 
-use crate::bus::{Found, bus, share};
+use crate::bus::{BusLoad, bus, share};
 use crate::messages::push_messages;
 use crate::reason::{Reason, reason_by};
-use crate::spread::Hundredths;
 use std::alloc::{AllocError, Global};
+use wl_margin::Hundredths;
 use wl_plan::CheckedPlan;
 use wl_serial::Outcome;
 use wl_setup::Names;
@@ -25,7 +25,7 @@ pub struct Traffic {
 }
 
 /// Adds the line of the bus.
-fn push_bus(text: &mut String, tick: Tick, end: u64, bus: Found) -> Result<(), AllocError>
+fn push_bus(text: &mut String, tick: Tick, end: u64, bus: BusLoad) -> Result<(), AllocError>
     ensures { OnOk result (GrowsBy text.old text.new (bus_line tick end bus)) }
 {
     let load = Hundredths(share(bus.busy, end));

@@ -10,7 +10,7 @@ use Rattle.wl_plan.specs.Simulation.{history}
 use Rattle.wl_serial.specs.declared.outcome.NodeOutcome.{NodeOutcome}
 use Rattle.wl_serial.specs.Outcome.{history_at_end, node_outcome_of}
 use Rattle.wl_trace.specs.Events.{events_of}
-use Rattle.wl_views.specs.Trace.{events_at_end}
+use Rattle.wl_views.specs.TraceText.{events_at_end}
 use Rattle.wl_traffic.specs.Attempts.{attempts_of, entries_by, sent_quanta}
 use Rattle.wl_traffic.specs.Known.{IsKnown}
 use Rattle.wl_traffic.proofs.Growing.{entries_known}

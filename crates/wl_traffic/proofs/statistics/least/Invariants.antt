@@ -1,5 +1,5 @@
 use Rattle.std.proofs.Common.{◌≡◌, take, fold, min, slice_index}
-use Rattle.wl_traffic.proofs.spread.least.Given as goal
+use Rattle.wl_traffic.proofs.statistics.least.Given as goal
 
 -- that of the numbers so far
 abbrev pub invariant-loop-value : goal.invariant-loop-value

@@ -1,29 +1,10 @@
 //! The least, the mean and the greatest of some numbers.
 ghost use Rattle.std.specs.Prelude.{◌≡◌, ◌<◌, ◌≤◌, ◌*◌, sum, length, OnOk};
 ghost use Rattle.wl_report.specs.Lines.{GrowsBy};
-ghost use Rattle.wl_traffic.specs.Messages.{greatest_of, least_of, mean_hundredths, spread_words};
+ghost use Rattle.wl_traffic.specs.Messages.{greatest_of, least_of, mean_hundredths, statistics_words};
 
 use std::alloc::AllocError;
-use std::fmt;
-
-/// A number of hundredths, shown with a point: 150 as 1.50.
-#[derive(Clone, Copy)]
-pub(crate) struct Hundredths(pub(crate) u128);
-
-impl fmt::Display for Hundredths {
-    ghost use Rattle.std.specs.Prelude.{Some};
-    ghost use Rattle.wl_margin.specs.Pieces.{hundredths};
-
-    ghost output = { λ n. Some (hundredths n.0) };
-
-    fn fmt<W: fmt::Write>(&self, f: &mut fmt::Formatter<W>) -> fmt::Result {
-        let number = self.0;
-        let whole = number / 100;
-        let tenth = number / 10 % 10;
-        let hundredth = number % 10;
-        write!(f, "{whole}.{tenth}{hundredth}")
-    }
-}
+use wl_margin::Hundredths;
 
 /// Returns the least of some numbers.
 fn least(values: &[u64]) -> u64
@@ -72,8 +53,8 @@ fn mean(values: &[u64]) -> u128
 }
 
 /// Adds the least, the mean and the greatest of some numbers.
-pub(crate) fn push_spread(text: &mut String, values: &[u64]) -> Result<(), AllocError>
-    ensures { OnOk result (GrowsBy text.old text.new (spread_words values.now)) }
+pub(crate) fn push_statistics(text: &mut String, values: &[u64]) -> Result<(), AllocError>
+    ensures { OnOk result (GrowsBy text.old text.new (statistics_words values.now)) }
 {
     if values.is_empty() {
         return text.push_str("least - mean - greatest -");

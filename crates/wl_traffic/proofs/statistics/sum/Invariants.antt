@@ -1,5 +1,5 @@
 use Rattle.std.proofs.Common.{◌≡◌, ◌*◌, ◌≤◌, take, sum}
-use Rattle.wl_traffic.proofs.spread.sum.Given as goal
+use Rattle.wl_traffic.proofs.statistics.sum.Given as goal
 
 -- the sum so far, and that it is far from the type's end
 abbrev pub invariant-loop-value : goal.invariant-loop-value

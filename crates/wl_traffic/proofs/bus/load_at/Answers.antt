@@ -2,7 +2,7 @@ use Rattle.std.proofs.Common.{◌∙◌, ◌≤◌, ◌^◌, ℕ, ap, sym, subst
 use Rattle.std.specs.List.{All}
 use Rattle.wl_level.specs.declared.Level.{Level}
 use Rattle.wl_serial.specs.declared.outcome.NodeOutcome.{NodeOutcome}
-use Rattle.wl_traffic.proofs.bus.finding_of.Goals as goal
+use Rattle.wl_traffic.proofs.bus.load_at.Goals as goal
 
 pub spans-requires : goal.spans-requires
 spans-requires c =

@@ -1,6 +1,6 @@
 use Rattle.std.proofs.Common.{arith}
 use Rattle.wl_sweep.proofs.Found.{tally_up}
-use Rattle.wl_sweep.proofs.family.Family.tally.Goals as goal
+use Rattle.wl_sweep.proofs.family.TextFamily.tally.Goals as goal
 
 pub loop-done-preserved-in-Some : goal.loop-done-preserved-in-Some
 loop-done-preserved-in-Some g c = record {

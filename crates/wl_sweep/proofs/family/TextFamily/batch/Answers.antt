@@ -2,7 +2,7 @@ use Rattle.std.proofs.Common.{◌≡◌, ◌∙◌, ◌-◌, ◌<◌, ap, arith}
 use Rattle.std.specs.Int.{div_ceil}
 use Rattle.wl_sweep.specs.Tallies.{findings_from, part_start, tally_of}
 use Rattle.wl_sweep.proofs.Parts.{parts_all, parts_more}
-use Rattle.wl_sweep.proofs.family.Family.batch.Goals as goal
+use Rattle.wl_sweep.proofs.family.TextFamily.batch.Goals as goal
 
 pub loop-w-preserved : goal.loop-w-preserved
 loop-w-preserved g c =

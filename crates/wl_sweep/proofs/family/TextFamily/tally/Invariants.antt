@@ -1,6 +1,6 @@
 use Rattle.std.proofs.Common.{◌≡◌, ◌-◌, ◌≤◌}
 use Rattle.wl_sweep.specs.Tallies.{findings_from, tally_of}
-use Rattle.wl_sweep.proofs.family.Family.tally.Given as goal
+use Rattle.wl_sweep.proofs.family.TextFamily.tally.Given as goal
 
 abbrev pub invariant-loop-done : goal.invariant-loop-done
 invariant-loop-done g l = record {

@@ -1,7 +1,7 @@
 use Rattle.std.proofs.Common.{◌∙◌, ◌∷◌, [], ap, arith}
 use Rattle.wl_sweep.specs.Tallies.{tally_of}
 use Rattle.wl_sweep.proofs.Found.{tally_more}
-use Rattle.wl_sweep.proofs.family.Family.part.Goals as goal
+use Rattle.wl_sweep.proofs.family.TextFamily.part.Goals as goal
 
 pub loop-run-preserved : goal.loop-run-preserved
 loop-run-preserved c =
