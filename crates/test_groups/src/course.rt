@@ -3,29 +3,57 @@ ghost use Rattle.std.specs.Prelude.{◌≡◌, ◌↔◌, ◌<◌, All, IsTrue, 
 ghost use Rattle.wl_group.specs.GroupValue.{belongs};
 
 use anyhow::{Result, bail};
-use std::alloc::Global;
+use std::alloc::{AllocError, Global};
 use wl_group::{Advance, Group, first_silence};
 use wl_plan::CheckedPlan;
+use wl_record_core::Record;
+
+/// What was written, if there was memory for it.
+type Told = Result<(), AllocError>;
 
 /// Runs groups of a plan's nodes, and writes what they answer.
 pub fn of_plan(alloc: Global, plan: &CheckedPlan) -> Result<String> {
     let mut told = String::new(alloc);
-    let mut all = group_of_all(alloc, plan)?;
-    for i in 0..plan.nodes() {
-        tell_alone(alloc, plan, i, &mut told)?;
-    }
-    tell_first(&mut all, &mut told)?;
-    tell_rest(alloc, &mut all, &mut told)?;
-    tell_rest(alloc, &mut all, &mut told)?;
-    for i in 0..plan.nodes() {
-        tell_node(alloc, &all, i, &mut told)?;
-        tell_joined(alloc, plan, &all, i, &mut told)?;
-    }
-    tell_rows(alloc, plan, &mut told)?;
-    all.restart()?;
-    let emitted = all.emitted().len();
-    writeln!(told, "begun again: {emitted} told, first {:?}", all.ready())?;
+    tell_each_alone(alloc, plan, &mut told)?;
+    tell_groups(alloc, plan, &mut told)?;
     Ok(told)
+}
+
+fn tell_each_alone(alloc: Global, plan: &CheckedPlan, told: &mut String) -> Told {
+    for i in 0..plan.nodes() {
+        tell_alone(alloc, plan, i, told)?;
+    }
+    Ok(())
+}
+
+/// Runs two groups of all nodes, and begins with the first again.
+fn tell_groups(alloc: Global, plan: &CheckedPlan, told: &mut String) -> Result<()> {
+    let mut all = group_of_all(alloc, plan)?;
+    tell_run(alloc, plan, &mut all, told)?;
+    let mut other = group_of_all(alloc, plan)?;
+    tell_rows(alloc, plan, &mut other, told)?;
+    Ok(tell_again(&mut all, told)?)
+}
+
+/// Runs a group of all nodes to its end.
+fn tell_run(alloc: Global, plan: &CheckedPlan, all: &mut Group, told: &mut String) -> Told
+    requires plan { all.old.plan ≡ plan.now }
+{
+    tell_first(all, told)?;
+    tell_rest(alloc, all, told)?;
+    tell_rest(alloc, all, told)?;
+    tell_ends(alloc, plan, all, told)
+}
+
+/// Writes where each node is in a group of all, and what a group of it alone does with that.
+fn tell_ends(alloc: Global, plan: &CheckedPlan, all: &Group, told: &mut String) -> Told
+    requires plan { all.now.plan ≡ plan.now }
+{
+    for i in 0..plan.nodes() {
+        tell_node(alloc, all, i, told)?;
+        tell_joined(alloc, plan, all, i, told)?;
+    }
+    Ok(())
 }
 
 /// No plan has more rows of quanta here.
@@ -33,8 +61,18 @@ const MOST_ROWS: u32 = 10_000;
 
 /// Runs a group of all nodes in rows, each of the least member that may run. Writes how many rows that were, how many records the group has
 /// emitted, and where each node is in the end.
-fn tell_rows(alloc: Global, plan: &CheckedPlan, told: &mut String) -> Result<()> {
-    let mut all = group_of_all(alloc, plan)?;
+fn tell_rows(alloc: Global, plan: &CheckedPlan, all: &mut Group, told: &mut String) -> Told {
+    let rows = run_rows(all)?;
+    let (emitted, ready) = (all.emitted().len(), all.ready());
+    writeln!(told, "in {rows} rows: {emitted} told, then {ready:?}")?;
+    for i in 0..plan.nodes() {
+        tell_node(alloc, all, i, told)?;
+    }
+    Ok(())
+}
+
+/// Runs a group in rows, and returns how many that were.
+fn run_rows(all: &mut Group) -> Result<u32, AllocError> {
     let mut rows = 0u32;
     for _ in 0..MOST_ROWS {
         let Some(i) = all.ready() else {
@@ -44,16 +82,14 @@ fn tell_rows(alloc: Global, plan: &CheckedPlan, told: &mut String) -> Result<()>
             rows = rows.saturating_add(1);
         }
     }
-    let emitted = all.emitted().len();
-    writeln!(
-        told,
-        "in {rows} rows: {emitted} told, then {:?}",
-        all.ready()
-    )?;
-    for i in 0..plan.nodes() {
-        tell_node(alloc, &all, i, told)?;
-    }
-    Ok(())
+    Ok(rows)
+}
+
+/// Begins a group again, and writes what it has emitted and which member may run.
+fn tell_again(all: &mut Group, told: &mut String) -> Told {
+    all.restart()?;
+    let (emitted, ready) = (all.emitted().len(), all.ready());
+    writeln!(told, "begun again: {emitted} told, first {ready:?}")
 }
 
 /// True if each of the numbers is that of a node.
@@ -75,23 +111,22 @@ fn group_of_all(alloc: Global, plan: &CheckedPlan) -> Result<Group>
     if !each_is_a_node(plan, members.as_slice()) {
         bail!("a number that is no node");
     }
-    let group = Group::new(alloc, plan, members.as_slice())?;
-    Ok(group)
+    Ok(Group::new(alloc, plan, members.as_slice())?)
 }
 
 /// Returns what node `i` may do next in a group.
 fn state(group: &Group, i: u8) -> &'static str {
     if group.can_advance(i) {
-        return "may run";
+        "may run"
+    } else if group.has_ended(i) {
+        "is at the end"
+    } else {
+        "waits"
     }
-    if group.has_ended(i) {
-        return "is at the end";
-    }
-    "waits"
 }
 
 /// Writes whether node `i` may run by itself, and whether it may once it has taken the other nodes' first silences.
-fn tell_alone(alloc: Global, plan: &CheckedPlan, i: u8, told: &mut String) -> Result<()>
+fn tell_alone(alloc: Global, plan: &CheckedPlan, i: u8, told: &mut String) -> Told
     requires node { i < length plan.now.nodes }
 {
     let mut alone = Group::new(alloc, plan, &[i])?;
@@ -100,81 +135,68 @@ fn tell_alone(alloc: Global, plan: &CheckedPlan, i: u8, told: &mut String) -> Re
         alone.take(first_silence(plan, j))?;
     }
     let after = state(&alone, i);
-    writeln!(told, "alone {i} {before}, with the first silences {after}")?;
-    Ok(())
+    writeln!(told, "alone {i} {before}, with the first silences {after}")
 }
 
 /// Runs the least member that may run, and writes what it emitted.
-fn tell_first(group: &mut Group, told: &mut String) -> Result<()>
+fn tell_first(group: &mut Group, told: &mut String) -> Told
     ensures { group.new.plan ≡ group.old.plan }
 {
     let Some(i) = group.ready() else {
-        told.push_str("none may run\n")?;
-        return Ok(());
+        return told.push_str("none may run\n");
     };
     match group.advance(i)? {
-        Advance::Emitted(emission) => {
-            for record in emission.as_slice() {
-                writeln!(told, "{i} says {record}")?;
-            }
-        }
-        Advance::Blocked => told.push_str("blocked\n")?,
-        Advance::Ended => told.push_str("ended\n")?,
+        Advance::Emitted(emission) => tell_records(i, emission.as_slice(), told),
+        Advance::Blocked => told.push_str("blocked\n"),
+        Advance::Ended => told.push_str("ended\n"),
+    }
+}
+
+/// Writes the records that a member emitted.
+fn tell_records(i: u8, records: &[Record], told: &mut String) -> Told {
+    for record in records {
+        writeln!(told, "{i} says {record}")?;
     }
     Ok(())
 }
 
 /// Runs all that may run, and writes how many records that emitted and how many the group has emitted by now.
-fn tell_rest(alloc: Global, group: &mut Group, told: &mut String) -> Result<()>
+fn tell_rest(alloc: Global, group: &mut Group, told: &mut String) -> Told
     ensures { group.new.plan ≡ group.old.plan }
 {
     let said = group.advance_all(alloc)?.len();
-    let emitted = group.emitted().len();
-    writeln!(
-        told,
-        "all: {said} more, {emitted} told, then {:?}",
-        group.ready()
-    )?;
-    Ok(())
+    let (emitted, ready) = (group.emitted().len(), group.ready());
+    writeln!(told, "all: {said} more, {emitted} told, then {ready:?}")
 }
 
 /// Writes where node `i` is in a group, and at which ticks it changed.
-fn tell_node(alloc: Global, group: &Group, i: u8, told: &mut String) -> Result<()> {
+fn tell_node(alloc: Global, group: &Group, i: u8, told: &mut String) -> Told {
     if !group.has(i) {
-        writeln!(told, "node {i} is no member")?;
-        return Ok(());
+        return writeln!(told, "node {i} is no member");
     }
-    let quanta = group.node(i).quanta();
-    write!(
-        told,
-        "node {i} {} after {quanta} quanta, changes",
-        state(group, i)
-    )?;
-    for tick in group.changes(alloc, i)?.as_slice() {
+    let (state, quanta) = (state(group, i), group.node(i).quanta());
+    write!(told, "node {i} {state} after {quanta} quanta, changes")?;
+    tell_changes(group.changes(alloc, i)?.as_slice(), told)
+}
+
+fn tell_changes(changes: &[u64], told: &mut String) -> Told {
+    for tick in changes {
         write!(told, " {tick}")?;
     }
-    told.push_str("\n")?;
-    Ok(())
+    told.push_str("\n")
 }
 
 /// Writes how far a group of node `i` alone comes that knows what a group of all does.
-fn tell_joined(
-    alloc: Global,
-    plan: &CheckedPlan,
-    all: &Group,
-    i: u8,
-    told: &mut String,
-) -> Result<()>
+fn tell_joined(alloc: Global, plan: &CheckedPlan, all: &Group, i: u8, told: &mut String) -> Told
     requires node { i < length plan.now.nodes }
     requires plan { all.now.plan ≡ plan.now }
 {
     let mut alone = Group::new(alloc, plan, &[i])?;
     alone.join(all.replica())?;
     let said = alone.advance_all(alloc)?.len();
+    let state = state(&alone, i);
     writeln!(
         told,
-        "alone {i} with all that is known: {said} told, {}",
-        state(&alone, i)
-    )?;
-    Ok(())
+        "alone {i} with all that is known: {said} told, {state}"
+    )
 }
