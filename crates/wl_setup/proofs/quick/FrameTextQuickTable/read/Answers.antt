@@ -1,5 +1,4 @@
-use Rattle.std.proofs.Common.{◌≡◌, Bool, sym, ◌∙◌, subst}
-use Rattle.wl_tables.specs.Tables.{Pairs}
+use Rattle.std.proofs.Common.{◌∙◌, subst}
 use Rattle.wl_setup.specs.Quick.{HasKeys, frame_pair_keys}
 use Rattle.wl_setup.proofs.QuickLemmas.{frame_fits, frame_same}
 use Rattle.wl_setup.proofs.quick.FrameTextQuickTable.read.Goals as goal
