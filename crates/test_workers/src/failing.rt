@@ -64,7 +64,7 @@ impl<'s> Link for Failing<'s> {
 
     fn rewind(&mut self) {}
 
-    fn wait(&mut self) -> Option<u8> {
+    fn wait(&mut self, _until: u64) -> Option<u8> {
         u8::try_from(self.stopped.load(Ordering::SeqCst)).ok()
     }
 

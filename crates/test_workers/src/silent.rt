@@ -35,7 +35,7 @@ impl Link for Silent {
 
     fn rewind(&mut self) {}
 
-    fn wait(&mut self) -> Option<u8> {
+    fn wait(&mut self, _until: u64) -> Option<u8> {
         None
     }
 

@@ -98,9 +98,9 @@ impl<'c, L: Link + Drop> Link for Watched<'c, L> {
         self.link.rewind()
     }
 
-    fn wait(&mut self) -> Option<u8> {
+    fn wait(&mut self, until: u64) -> Option<u8> {
         self.counts.waits.fetch_add(1, Ordering::SeqCst);
-        self.link.wait()
+        self.link.wait(until)
     }
 
     fn stop(&mut self) {

@@ -4,12 +4,13 @@ use std::alloc::{AllocError, Global};
 use std::hint::spin_loop;
 use std::sync::atomic::{AtomicU64, Ordering};
 use std::sync::{Condvar, Mutex, Wait};
+use wl_record_core::Record;
 
 /// The most workers of a run.
 pub const MOST_WORKERS: usize = 8;
 
 /// How often a waiting worker looks before it sleeps.
-const LOOKS: u32 = 100;
+const LOOKS: u32 = 10;
 
 /// How often a bell had rung when it was asked, and for the worker itself since then. Only a bell makes one, and says so of that moment.
 #[derive(Clone, Copy, Drop)]
@@ -26,8 +27,16 @@ impl Rings {
     }
 }
 
-/// What workers wait at: how often each of them gave something, and which one stopped first. No record passes through it, and no promise
-/// rests on it.
+/// For what a worker sleeps, and what wakes it.
+#[derive(Drop)]
+struct Sleeper {
+    // The tick up to which all nodes have to be promised; 0 if the worker is awake, or sleeps for a ring.
+    until: AtomicU64,
+    woken: Condvar,
+}
+
+/// What workers wait at: how often each of them gave something, how far each node is promised, and which worker stopped first. No record
+/// passes through it, and no promise rests on it.
 #[derive(Drop)]
 pub struct Bell {
     // The first worker that stopped.
@@ -37,23 +46,25 @@ pub struct Bell {
     gives: Vec<AtomicU64>,
     // How often the bell rang.
     rings: AtomicU64,
-    // How many workers sleep, or are about to.
+    // How many workers sleep until it rings, or are about to.
     sleepers: AtomicU64,
+    // For each node, the tick up to which what was given promises it.
+    promised: Vec<AtomicU64>,
+    // For each worker, for which promises it sleeps.
+    waiting: Vec<Sleeper>,
 }
 
 impl Bell {
-    /// Returns a bell for this many workers, at which none gave anything or stopped. Refused only when out of memory.
-    pub fn new(alloc: Global, workers: u8) -> Result<Bell, AllocError> {
-        let mut gives = Vec::new(alloc);
-        for _ in 0..workers {
-            gives.push(AtomicU64::new(0))?;
-        }
+    /// Returns a bell for this many workers and nodes, at which none gave or promised anything or stopped. Refused only when out of memory.
+    pub fn new(alloc: Global, workers: u8, nodes: u8) -> Result<Bell, AllocError> {
         Ok(Bell {
             stopped: Mutex::new(None),
             rang: Condvar::new(),
-            gives,
+            gives: counts(alloc, workers)?,
             rings: AtomicU64::new(0),
             sleepers: AtomicU64::new(0),
+            promised: counts(alloc, nodes)?,
+            waiting: awake(alloc, workers)?,
         })
     }
 
@@ -75,7 +86,37 @@ impl Bell {
         given
     }
 
-    /// Notes that a worker gave what `given` means, and wakes all that wait.
+    /// Notes up to where these records promise their nodes; they were given.
+    pub fn promise(&self, records: &[Record], given: &Given) {
+        let _ = given;
+        for i in 0..records.len() {
+            match records[i] {
+                Record::Silence { node, until, .. } => self.promise_node(node, until),
+                Record::Edge { node, tick, .. } => self.promise_node(node, tick.saturating_add(1)),
+                Record::Clash { .. } => (),
+            }
+        }
+    }
+
+    // Notes that a node is promised up to a tick. Only one worker promises it, so nobody else does at the same time.
+    fn promise_node(&self, node: u8, until: u64) {
+        if let Some(promised) = self.promised.get(usize::from(node)) {
+            if promised.load(Ordering::SeqCst) < until {
+                promised.store(until, Ordering::SeqCst);
+            }
+        }
+    }
+
+    // Returns the tick up to which all nodes are promised; 2^64 - 1 if there are none.
+    fn all_promised(&self) -> u64 {
+        let mut least = u64::MAX;
+        for node in 0..self.promised.len() {
+            least = least.min(self.promised[node].load(Ordering::SeqCst));
+        }
+        least
+    }
+
+    /// Notes that a worker gave what `given` means. Wakes all that wait for a ring, and those that wait for promises which are there by now.
     pub fn give<R: Wait>(&self, rt: &R, worker: u8, given: Given) {
         let _ = given;
         if let Some(count) = self.gives.get(usize::from(worker)) {
@@ -83,10 +124,27 @@ impl Bell {
         }
         self.rings.fetch_add(1, Ordering::SeqCst);
         if self.sleepers.load(Ordering::SeqCst) > 0 {
-            // Under the lock, so that no one who looked before it sleeps through it.
-            let _stopped = self.stopped.lock(rt);
+            self.let_sleep(rt);
             self.rang.notify_all();
         }
+        let least = self.all_promised();
+        for other in 0..self.waiting.len() {
+            self.wake_at(rt, &self.waiting[other], least);
+        }
+    }
+
+    // Wakes a worker if it sleeps until all nodes are promised up to this tick, or up to one before it.
+    fn wake_at<R: Wait>(&self, rt: &R, sleeper: &Sleeper, least: u64) {
+        let until = sleeper.until.load(Ordering::SeqCst);
+        if until > 0 && until <= least {
+            self.let_sleep(rt);
+            sleeper.woken.notify_all();
+        }
+    }
+
+    // Takes the lock once. Who looked before and is about to sleep has the lock until it sleeps, so it doesn't sleep through what comes next.
+    fn let_sleep<R: Wait>(&self, rt: &R) {
+        let _stopped = self.stopped.lock(rt);
     }
 
     /// Notes that a worker stopped, and wakes all that wait. The first one stays.
@@ -97,6 +155,9 @@ impl Bell {
         }
         self.rings.fetch_add(1, Ordering::SeqCst);
         self.rang.notify_all();
+        for other in 0..self.waiting.len() {
+            self.waiting[other].woken.notify_all();
+        }
     }
 
     /// Returns the first worker that stopped, if any.
@@ -104,8 +165,34 @@ impl Bell {
         *self.stopped.lock(rt)
     }
 
+    /// Waits until all nodes are promised up to a tick, or some worker stopped. Returns the first one that stopped. It looks ten times before
+    /// it sleeps. A number that no worker has doesn't wait.
+    pub fn wait_until<R: Wait>(&self, rt: &R, worker: u8, until: u64) -> Option<u8> {
+        for _ in 0..LOOKS {
+            if self.all_promised() >= until {
+                return self.stopped(rt);
+            }
+            spin_loop();
+        }
+        match self.waiting.get(usize::from(worker)) {
+            Some(own) => self.sleep_until(rt, own, until),
+            None => self.stopped(rt),
+        }
+    }
+
+    // Sleeps until all nodes are promised up to a tick, or some worker stopped.
+    fn sleep_until<R: Wait>(&self, rt: &R, own: &Sleeper, until: u64) -> Option<u8> {
+        // Before the look under the lock: either it sees a promise, or who made it sees this.
+        own.until.store(until, Ordering::SeqCst);
+        let stopped = own.woken.wait_while(rt, self.stopped.lock(rt), |stopped| {
+            stopped.is_none() && self.all_promised() < until
+        });
+        own.until.store(0, Ordering::SeqCst);
+        *stopped
+    }
+
     /// Waits until the bell has rung again since `heard` for another worker, or some worker stopped. Returns the first one that stopped. It
-    /// looks a hundred times before it sleeps.
+    /// looks ten times before it sleeps.
     pub fn wait_past<R: Wait>(&self, rt: &R, heard: Rings) -> Option<u8> {
         for _ in 0..LOOKS {
             if self.has_rung(heard) {
@@ -131,4 +218,25 @@ impl Bell {
         });
         *stopped
     }
+}
+
+/// Returns this many counts of nothing.
+fn counts(alloc: Global, number: u8) -> Result<Vec<AtomicU64>, AllocError> {
+    let mut counts = Vec::new(alloc);
+    for _ in 0..number {
+        counts.push(AtomicU64::new(0))?;
+    }
+    Ok(counts)
+}
+
+/// Returns the states of this many workers, which are all awake.
+fn awake(alloc: Global, workers: u8) -> Result<Vec<Sleeper>, AllocError> {
+    let mut waiting = Vec::new(alloc);
+    for _ in 0..workers {
+        waiting.push(Sleeper {
+            until: AtomicU64::new(0),
+            woken: Condvar::new(),
+        })?;
+    }
+    Ok(waiting)
 }

@@ -58,6 +58,21 @@ impl Heard {
             None => bell.stopped(rt),
         }
     }
+
+    /// Waits until all nodes are promised up to a tick, or some worker stopped; without a look it doesn't wait. Returns the first one that
+    /// stopped.
+    pub(crate) fn wait_until<R: Wait>(
+        self,
+        rt: &R,
+        bell: &Bell,
+        worker: u8,
+        until: u64,
+    ) -> Option<u8> {
+        match self.rings {
+            Some(_) => bell.wait_until(rt, worker, until),
+            None => bell.stopped(rt),
+        }
+    }
 }
 
 /// Returns how many letters the workers other than this one have sent, by a bell that had rung so often before; 2^64 - 1 means more.

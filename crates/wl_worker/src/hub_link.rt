@@ -23,7 +23,7 @@ pub struct HubLink<'h, R: Wait> {
     pass: Pass<PlanName>,
     bell: &'h Bell,
     worker: u8,
-    // How often the bell had rung when the last fetch began, and for this worker since; nothing after a rewind.
+    // How often the bell had rung when the last fetch began; nothing after a rewind.
     heard: Heard,
     // For each node, how many of its changes were handed over; none after a rewind.
     handed: Handed,
@@ -82,8 +82,8 @@ impl<'h, R: Wait> Link for HubLink<'h, R> {
     fn give(&mut self, alloc: Global, records: &[Record]) -> Result<(), LinkFault> {
         let _ = alloc;
         let given = give_words(self.hub, &mut self.pass, records);
+        self.bell.promise(records, &given);
         self.bell.give(self.rt, self.worker, given);
-        self.heard = self.heard.after_own();
         Ok(())
     }
 
@@ -113,8 +113,10 @@ impl<'h, R: Wait> Link for HubLink<'h, R> {
         self.handed = nothing_handed();
     }
 
-    fn wait(&mut self) -> Option<u8> {
-        self.heard.wait(self.rt, self.bell)
+    /// Waits until all nodes are promised up to a tick, or some worker stopped.
+    fn wait(&mut self, until: u64) -> Option<u8> {
+        self.heard
+            .wait_until(self.rt, self.bell, self.worker, until)
     }
 
     fn stop(&mut self) {

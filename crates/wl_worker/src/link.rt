@@ -132,9 +132,9 @@ pub trait Link {
         ensures number { number self.new ≡ number self.old }
         ensures rewound { is_rewound self.new };
 
-    /// Waits until another worker gave something after this link's last `fetch` began, or some worker stopped. Returns the first one that
-    /// stopped, if any.
-    fn wait(&mut self) -> Option<u8>
+    /// Waits until all nodes are promised up to a tick, or some worker stopped; or only until another worker gave something after this
+    /// link's last `fetch` began. Returns the first one that stopped, if any.
+    fn wait(&mut self, until: u64) -> Option<u8>
         ensures same { (p : GivenPlan) → is_of self.old p → is_of self.new p }
         ensures number { number self.new ≡ number self.old };
 

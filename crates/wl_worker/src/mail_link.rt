@@ -122,7 +122,10 @@ impl<'h, R: Wait> Link for MailLink<'h, R> {
         self.heard = Heard::nothing();
     }
 
-    fn wait(&mut self) -> Option<u8> {
+    /// Waits until another worker gave something after the last `fetch` began, or some worker stopped. By the promises a letter that is
+    /// waited for could be the next one still, since one that isn't counted yet was taken in its place.
+    fn wait(&mut self, until: u64) -> Option<u8> {
+        let _ = until;
         self.heard.wait(self.rt, self.bell)
     }
 

@@ -1,5 +1,5 @@
 //! One worker: its turns, from the first silences of its members to their end.
-ghost use Rattle.std.specs.Prelude.{◌≡◌, ◌≢◌, ◌+◌, ◌<◌, false, IsTrue, IfOk, IfErr, IfSome, IfNone, OnOk};
+ghost use Rattle.std.specs.Prelude.{◌≡◌, ◌≢◌, ◌+◌, ◌<◌, true, false, None, IsTrue, IfOk, IfErr, IfSome, IfNone, OnOk};
 ghost use Rattle.wl_plan.specs.declared.plan.Plan.{Plan as GivenPlan};
 ghost use Rattle.wl_group.specs.GroupValue.{belongs, may_run, initial_group};
 ghost use Rattle.wl_worker.specs.Handed.{AreTrueOfPlan};
@@ -23,8 +23,8 @@ const MOST_ROWS: u32 = 32;
 /// Runs a group to its end, with what comes by its link.
 ///
 /// The worker gives its members' first silences. Then in each turn it asks the gate, fetches, runs its members, each time the one with the
-/// least promise, and gives what they said, if anything. It waits if that one may not run. It ends when all its members are at the end. If
-/// it fails, it lets the others know by `stop`.
+/// least promise, and gives what they said, if anything. It waits if that one may not run, until it has the least promise of all nodes. It
+/// ends when all its members are at the end. If it fails, it lets the others know by `stop`.
 ///
 /// If the gate asks a restart of a turn, the group begins again before it: fresh nodes that know nothing, to which the link hands again
 /// what it handed, and which give their first silences again.
@@ -78,13 +78,14 @@ fn run<L: Link, G: Gate>(
             begin_anew(alloc, group, link).map_err(|fault| fault_of(fault, worker))?;
         }
         let waits = step(alloc, group, link).map_err(|fault| fault_of(fault, worker))?;
-        if least_promised(group).is_none() {
+        let least = least_promised(group);
+        let Some(least) = least else {
             return Ok(());
-        }
+        };
         if !waits {
             continue;
         }
-        if let Some(stopped) = link.wait() {
+        if let Some(stopped) = link.wait(awaited_by(group, least)) {
             return Err(Fault::Worker(stopped));
         }
     }
@@ -257,6 +258,7 @@ fn hand<L: Link>(
 #[tactic(auto, using(crate::proofs::Promises::least_of_all, crate::proofs::Promises::none_of_all))]
 fn least_promised(group: &Group) -> Option<u8>
     ensures least { IfSome result (IsLeastPromised group.now) }
+    ensures node { IfSome result (λ i. i < group.now.replica.nodes) }
     ensures ended { IfNone result (MembersEnded group.now) }
 {
     wl_group::value_laws();
@@ -267,6 +269,15 @@ fn least_promised(group: &Group) -> Option<u8>
     least
 }
 
+/// Returns the tick up to which all nodes have to be promised before a blocked worker runs again: up to where its member `i` with the least
+/// promise is, or to the end. So it waits until it is the one with the least promise of all, which may run. Before that it could run too, if
+/// only a little, and then wait again.
+fn awaited_by(group: &Group, i: u8) -> u64
+    requires { i < group.now.replica.nodes }
+{
+    group.replica().horizon(i).min(group.plan().end)
+}
+
 /// Returns the one of the nodes up to `i` with the least promise, by the one of those before it.
 #[tactic(auto, using(crate::proofs::Promises::left_out, crate::proofs::Promises::first_one))]
 fn least_with(group: &Group, least: Option<u8>, i: u8) -> Option<u8>
@@ -274,14 +285,30 @@ fn least_with(group: &Group, least: Option<u8>, i: u8) -> Option<u8>
     requires node { i < group.now.replica.nodes }
     ensures { IsLeastOf group.now (i + 1) result }
 {
-    if !group.has(i) || group.has_ended(i) {
+    if !group.has(i) {
         return least;
     }
     let Some(first) = least else {
-        return Some(i);
+        return first_with(group, i);
     };
     if group.replica().horizon(first) <= group.replica().horizon(i) {
         return Some(first);
+    }
+    if group.has_ended(i) {
+        return Some(first);
+    }
+    Some(i)
+}
+
+/// Returns a member if it isn't at its end: the first one that isn't.
+#[tactic(auto, using(crate::proofs::Promises::left_out, crate::proofs::Promises::first_one))]
+fn first_with(group: &Group, i: u8) -> Option<u8>
+    requires before { IsLeastOf group.now i None }
+    requires member { belongs group.now i ≡ true }
+    ensures { IsLeastOf group.now (i + 1) result }
+{
+    if group.has_ended(i) {
+        return None;
     }
     Some(i)
 }
