@@ -118,7 +118,7 @@ if ! env PATH=/usr/bin:/bin bash -c 'command -v rt' > /dev/null; then
   ends 1 build && is "no toolchain, said once" [ "$(grep -c "no command 'rt'" "$room/err")" = 1 ]
 fi
 ends 2 help && is "help without a build" cmp -s "$room/err" tools/help.txt
-cp crates/wl_sim/src/command.rt "$tree/crates/wl_sim/src"
+cp crates/wl_sim/src/subcommands.rt "$tree/crates/wl_sim/src"
 "$program" --version 2> "$room/wanted" < /dev/null
 ends 2 --version && is "the version without a build" cmp -s "$room/err" "$room/wanted"
 cat > "$stub/rt" << 'STUB'

@@ -1,3 +1,5 @@
+mod Alone
+mod Found
 mod Rows
 mod Words
 mod Written

@@ -1,5 +1,5 @@
 -- What clap makes of the command line of the program.
-use Rattle.std.proofs.Common.{◌≡◌, ◌∙◌, refl, sym, subst, ap, ap₂, inl, inr, arith, ℕ, ◌==◌, ◌+◌, ◌*◌, ◌^◌, ◌&&◌, nat_lt, Bool, true, false, [], ◌∷◌, List, length, map, string_bytes, slice_index, if◌then◌else◌, Option, Some, None, option_map, option_and_then, unwrap_or, codes}
+use Rattle.std.proofs.Common.{◌≡◌, ◌∙◌, refl, sym, subst, ap, ap₂, inl, arith, ℕ, ◌==◌, ◌+◌, ◌*◌, ◌^◌, ◌&&◌, nat_lt, Bool, true, false, [], ◌∷◌, List, length, map, string_bytes, slice_index, if◌then◌else◌, Option, Some, None, option_map, option_and_then, unwrap_or, codes}
 use Rattle.std.specs.Char.{digit_value}
 use Rattle.std.specs.List.{list_all}
 use Rattle.std.specs.Option.{option_map_or}
@@ -8,10 +8,8 @@ use Rattle.std.specs.Result.{result_unwrap_or}
 use Rattle.std.specs.Box.{box_value}
 use Rattle.std.specs.Str.Parse.{AllDigits, ParsesUnsigned, digits_value, without_leading_plus}
 use Rattle.std.proofs.lemmas.Bool.{lt-ltb, ltb-true}
-use Rattle.clap.specs.Words.{App, HasKind, Text, fault_of, first_value, kind_of, matched_of, raw_values, rows_of, is_simple, is_simple_and_free, subcommand_rows}
+use Rattle.clap.specs.Words.{Text, first_value, matched_of, raw_values, rows_of, subcommand_rows}
 use Rattle.clap.specs.Walk.{byte_or_zero}
-use Rattle.clap.specs.declared.error.Error.{Error}
-use Rattle.clap.specs.declared.error.kind.ErrorKind.TheVariants.{OutOfMemory}
 use Rattle.clap.specs.declared.parser.matches.ArgMatches.TheViews.{out-SubCommand}
 use Rattle.clap.specs.declared.parser.matches.Found.{Found}
 use Rattle.clap.specs.declared.parser.matches.SubCommand.{SubCommand}
@@ -30,7 +28,7 @@ use Rattle.wl_views.specs.declared.tick.Tick.{Tick}
 use Rattle.wl_views.specs.declared.tick.TimeUnit.TheVariants.{Nanosecond}
 use Rattle.wl_views.specs.Ticks.{read_tick}
 use Rattle.wl_sim.specs.Tasks.{Does, DoesSweep, IsCount, run_status}
-use Rattle.wl_sim.specs.Orders.{Asks, Ends, EndsPlainly, Performs, ReadsFrom, ReadsOrder}
+use Rattle.wl_sim.specs.Orders.{Asks, Ends, EndsPlainly, Performs, ReadsFrom, ReadsOrder, RunsWords}
 use Rattle.wl_files.specs.Files.{Standing}
 use Rattle.wl_formats.specs.declared.formats.Format.{Format}
 use Rattle.wl_sim.specs.declared.answer.Done.{Done}
@@ -43,14 +41,6 @@ use Rattle.wl_sim.specs.declared.command.Task.{Task}
 use Rattle.wl_sim.specs.declared.command.Task.TheVariants.{Merge, Horizon, Check, Records, Run, Explain, Trace, Candump, Vcd, Page, Margin, Traffic, Settings, Sweep}
 use Rattle.wl_sim.specs.declared.sweep.Swept.{Swept}
 use Rattle.wl_sim.specs.declared.values.Values.{Values}
-
-pub program_is_simple : is_simple program ≡ true
-unfolding clap_on_literals
-program_is_simple = refl
-
-pub program_is_free : is_simple_and_free program ≡ true
-unfolding clap_on_literals
-program_is_free = refl
 
 -- the word of a task enters its subcommand, without a fault
 word_enters : (t : Task) (name : Text) → HasValues (Some plain_values) t → Enters t (name ∷ task_word t ∷ [])
@@ -124,16 +114,6 @@ pub name_in_front : {Z : Type 0} (o : Option (Box SubCommand Z))
     → option_map (λ b. (out-SubCommand (box_value b)).name.now) o ≡ option_map (λ p. p.0) (subcommand_rows o)
 name_in_front None = refl
 name_in_front (Some b) = refl
-
--- of words that enter a task, clap says no error but one of memory
-pub memory_alone : (a : App) (words : List Text) (e : Error) → a ≡ program → (is_simple_and_free a ≡ true → HasKind (fault_of a words) e)
-    → (t : Task) → Enters t words → kind_of e ≡ OutOfMemory
-memory_alone a words e is fails t enters =
-    let has : HasKind [] e = subst (λ ks. HasKind ks e) (ap (λ (b : App). fault_of b words) is ∙ enters.1) (fails (ap is_simple_and_free is ∙ program_is_free)) in
-    elim has [
-      | inl memory ↦ memory
-      | inr none ↦ absurd none
-    ]
 
 -- the tick of an option, by its text
 pub tick_text : (f : Found) → tick_among (rows_of f) ≡ option_and_then read_tick (first_value f (codes "tick"))
@@ -301,7 +281,7 @@ module _ {S T F R W : Type 0} (gives : S → Answer → S → Type 0) (takes : T
   plain_reads (Some x) output format task ranges r i o p h = cc
 
   -- the task that was read is the one that the words name
-  pub named_is_done : (words : List Text) (order : Order) (task : Task) (r : Result Done Fault) (status : ℕ) → Asks order words
+  named_is_done : (words : List Text) (order : Order) (task : Task) (r : Result Done Fault) (status : ℕ) → Asks order words
       → NamesTask task words → Performs gives takes file_gives file_takes opens stands holds s s' t t' f f' order r → status ≡ run_status r
       → EndsPlainly gives takes file_gives file_takes opens stands holds s s' t t' f f' task status
   named_is_done words order task r status asked named done is =
@@ -314,11 +294,22 @@ module _ {S T F R W : Type 0} (gives : S → Answer → S → Type 0) (takes : T
       ((r, subst (λ rs. Does gives takes s s' t t' task rs r) (asked.5 ∙ none.2) of_task, is), plain.1)
 
   -- words that name a task are refused only when out of memory
-  pub named_is_refused : (words : List Text) (refusal : Refusal) (task : Task) (status : ℕ) → ReadsOrder words (Err refusal)
+  named_is_refused : (words : List Text) (refusal : Refusal) (task : Task) (status : ℕ) → ReadsOrder words (Err refusal)
       → NamesTask task words → Ends gives takes file_gives file_takes opens stands holds s s' t t' f f' (Err refusal) status
       → EndsPlainly gives takes file_gives file_takes opens stands holds s s' t t' f f' task status
   named_is_refused words Words task status none named h = absurd (none task (names_enters task words named))
   named_is_refused words Memory task status none named h = ((Err (fault.Run run.Memory), does_nothing gives takes s s' t t' task h.1, h.3), h.2)
+
+  named_ends : (words : List Text) (read : Result Order Refusal) (task : Task) (status : ℕ) → ReadsOrder words read → NamesTask task words
+      → Ends gives takes file_gives file_takes opens stands holds s s' t t' f f' read status
+      → EndsPlainly gives takes file_gives file_takes opens stands holds s s' t t' f f' task status
+  named_ends words (Ok order) task status reads named ends = named_is_done words order task ends.0 status reads named ends.1 ends.2
+  named_ends words (Err refusal) task status reads named ends = named_is_refused words refusal task status reads named ends
+
+  -- whatever was read of words that name a task, that task ends
+  pub runs_named : (words : List Text) (status : ℕ) → RunsWords gives takes file_gives file_takes opens stands holds s s' t t' f f' words status
+      → (task : Task) → NamesTask task words → EndsPlainly gives takes file_gives file_takes opens stands holds s s' t t' f f' task status
+  runs_named words status runs task named = named_ends words runs.0 task status runs.1 named runs.2
 
 pub of_ok : {A E : Type 0} (r : Result A E) (x : A) (P : A → Type 0) → r ≡ Ok x → P x → IfOk r P
 of_ok r x P is h = subst (λ r. IfOk r P) (sym is) h

@@ -1,11 +1,14 @@
 -- The words of the command line (this project's profile).
-use Rattle.std.specs.Prelude.{◌≡◌, ◌^◌, ◌-◌, ◌&&◌, nat_lt, ℕ, Bool, true, false, List, [], ◌∷◌, length, codes, pos, Option, Some, None, is_some, unwrap_or, if◌then◌else◌, option_and_then, option_map}
+use Rattle.std.specs.Prelude.{◌≡◌, ◌^◌, ◌-◌, ◌&&◌, nat_lt, ℕ, Bool, true, false, List, [], ◌∷◌, length, codes, pos, fold, Option, Some, None, is_some, unwrap_or, if◌then◌else◌, option_and_then, option_map}
 use Rattle.std.specs.Char.{digit_value}
-use Rattle.std.specs.List.{list_all}
+use Rattle.std.specs.List.{list_all, list_any}
 use Rattle.std.specs.Option.{option_map_or}
 use Rattle.std.specs.Str.{bytes_eq}
 use Rattle.std.specs.Str.Parse.{digits_value, without_leading_plus}
-use Rattle.clap.specs.Words.{App, Row, Rule, Text, all_of, first_of, new_app, new_rule, with_rule, with_subcommand, subcommand_of, fault_of}
+use Rattle.clap.specs.Words.{App, Row, Rule, Text, all_of, first_of, new_app, new_rule, with_rule, with_subcommand, subcommand_of, subcommand_rows_of, fault_of, kind_of}
+use Rattle.clap.specs.declared.error.Error.{Error}
+use Rattle.clap.specs.declared.error.kind.ErrorKind.TheVariants.{OutOfMemory}
+use Rattle.clap.specs.declared.parser.matches.ArgMatches.{ArgMatches}
 use Rattle.clap.specs.Walk.{byte_or_zero}
 use Rattle.clap.specs.declared.builder.action.ArgAction.TheVariants.{Append, SetTrue}
 use Rattle.clap.specs.declared.builder.value_parser.ValueParser.TheVariants.{Signed, Unsigned}
@@ -58,17 +61,13 @@ abbrev pub filed : Text → App
 filed word =
     with_rule (with_rule (with_rule (with_rule (new_app word) input_rule) output_rule) (flag_rule (codes "hint"))) (flag_rule (codes "progress"))
 
--- a command with one subcommand more, which has that alone
-abbrev pub with_task : App → Task → App
-with_task a t = with_subcommand a (filed (task_word t)).top
-
 -- the option `--tick`, which is `1ns` where it isn't given
 abbrev pub tick_rule : Rule
 tick_rule = record (new_rule (codes "tick")) { long = Some (codes "tick"); value_names = 1; defaults = codes "1ns" ∷ [] }
 
 -- a subcommand that has this option
-abbrev pub timed : Text → App
-timed word = with_rule (filed word) tick_rule
+abbrev pub timed_app : App → App
+timed_app app = with_rule app tick_rule
 
 -- the option `--format`, which is `text` where it isn't given
 abbrev pub format_rule : Rule
@@ -83,17 +82,17 @@ abbrev pub from_rule : Rule
 from_rule =
     record (new_rule (codes "from")) { long = Some (codes "from"); value_names = 1; defaults = codes "0" ∷ []; parser = Some (Signed (pos 0) (pos (2 ^ 32 - 1))) }
 
--- the subcommand `candump`, with its options
-abbrev pub candump_app : App
-candump_app = with_rule (timed (codes "candump")) from_rule
+-- a subcommand with the options of `candump`
+abbrev pub candump_app : App → App
+candump_app app = with_rule (timed_app app) from_rule
 
--- the subcommand `margin`, with its options
-abbrev pub margin_app : App
-margin_app = formatted_app (timed (codes "margin"))
+-- of `margin`
+abbrev pub margin_app : App → App
+margin_app app = formatted_app (timed_app app)
 
--- the subcommand `traffic`, with its options
-abbrev pub traffic_app : App
-traffic_app = formatted_app (with_rule (timed (codes "traffic")) (flag_rule (codes "strict")))
+-- of `traffic`
+abbrev pub traffic_app : App → App
+traffic_app app = formatted_app (with_rule (timed_app app) (flag_rule (codes "strict")))
 
 -- the option `--workers`, a number from 1 to 8, which is 1 where it isn't given
 abbrev pub workers_rule : Rule
@@ -104,17 +103,17 @@ workers_rule =
 abbrev pub link_rule : Rule
 link_rule = record (new_rule (codes "link")) { long = Some (codes "link"); value_names = 1; defaults = codes "hub" ∷ [] }
 
--- the subcommand `run`, with its options
-abbrev pub run_app : App
-run_app = formatted_app (with_rule (with_rule (filed (codes "run")) workers_rule) link_rule)
+-- a subcommand with the options of `run`
+abbrev pub run_app : App → App
+run_app app = formatted_app (with_rule (with_rule app workers_rule) link_rule)
 
 -- the options of `settings`: how many are listed, a number above 0, and that the plan of the best one is written
 abbrev pub best_rule : Rule
 best_rule = record (new_rule (codes "best")) { long = Some (codes "best"); value_names = 1; parser = Some (Signed (pos 1) (pos (2 ^ 32 - 1))) }
 
--- the subcommand `settings`
-abbrev pub settings_app : App
-settings_app = with_rule (with_rule (timed (codes "settings")) best_rule) (flag_rule (codes "plan"))
+-- a subcommand with the options of `settings`
+abbrev pub settings_app : App → App
+settings_app app = with_rule (with_rule (timed_app app) best_rule) (flag_rule (codes "plan"))
 
 -- the options of `sweep`, of which `--vary` may come several times; the members that are run are 1000 at most, and drawn by seed 1, where nothing else is said
 abbrev pub vary_rule : Rule
@@ -147,34 +146,61 @@ swept_app app =
     with_rule (with_rule (with_rule (with_rule (with_rule (counted_app app) (flag_rule (codes "keep-offsets"))) (flag_rule (codes "keep-ppm"))) (flag_rule (codes "worst"))) print_rule)
     (flag_rule (codes "page"))
 
--- the subcommand `sweep`
-abbrev pub sweep_app : App
-sweep_app = formatted_app (swept_app (filed (codes "sweep")))
+-- a subcommand with the options of `sweep`
+abbrev pub sweep_app : App → App
+sweep_app app = formatted_app (swept_app app)
 
--- the command line of most tasks without a tick: one of the tasks has to be named
-abbrev pub untimed_program : App
-untimed_program =
-    with_subcommand (with_subcommand (with_task (with_subcommand (with_task (with_task
-    (on_top (λ s. record s { subcommand_required = true }) (on_top (λ s. record s { has_version = true }) (new_app (codes "wl_sim"))))
-    Merge) Horizon) (formatted_app (filed (codes "check"))).top) Records) run_app.top) (formatted_app (filed (codes "explain"))).top
+-- a subcommand with the options that its word has beside those of each
+abbrev pub optioned_app : Text → App → App
+optioned_app word app =
+    if bytes_eq word (codes "check") then formatted_app app else (if bytes_eq word (codes "explain") then formatted_app app else
+    (if bytes_eq word (codes "trace") then formatted_app app else (if bytes_eq word (codes "run") then run_app app else
+    (if bytes_eq word (codes "vcd") then timed_app app else (if bytes_eq word (codes "page") then timed_app app else
+    (if bytes_eq word (codes "candump") then candump_app app else (if bytes_eq word (codes "margin") then margin_app app else
+    (if bytes_eq word (codes "traffic") then traffic_app app else (if bytes_eq word (codes "settings") then settings_app app else
+    (if bytes_eq word (codes "sweep") then sweep_app app else app))))))))))
 
--- the command line of single runs: after those, the trace and the tasks with one
-abbrev pub single_program : App
-single_program =
-    with_subcommand (with_subcommand (with_subcommand (with_subcommand (with_subcommand (with_subcommand untimed_program
-    (formatted_app (filed (codes "trace"))).top) candump_app.top) (timed (codes "vcd")).top) (timed (codes "page")).top) margin_app.top) traffic_app.top
+-- the subcommand of a word
+abbrev pub subcommand_app : Text → App
+subcommand_app word = optioned_app word (filed word)
 
--- and with the search for settings
-abbrev pub search_program : App
-search_program = with_subcommand single_program settings_app.top
+-- a command with the subcommand of this word
+abbrev pub with_word : App → Text → App
+with_word a word = with_subcommand a (subcommand_app word).top
 
--- the program's command line: after those, the sweep
+-- the program's command line without its subcommands: one of them has to be named
+abbrev pub bare_program : App
+bare_program = on_top (λ s. record s { subcommand_required = true }) (on_top (λ s. record s { has_version = true }) (new_app (codes "wl_sim")))
+
+-- the words of the subcommands, in the order of the help
+abbrev pub task_words : List Text
+task_words =
+    codes "merge" ∷ codes "horizon" ∷ codes "check" ∷ codes "records" ∷ codes "run" ∷ codes "explain" ∷ codes "trace" ∷ codes "candump" ∷ codes "vcd"
+    ∷ codes "page" ∷ codes "margin" ∷ codes "traffic" ∷ codes "settings" ∷ codes "sweep" ∷ []
+
+-- the program's command line
 abbrev pub program : App
-program = with_subcommand search_program sweep_app.top
+program = fold with_word bare_program task_words
 
 -- the subcommand that clap enters at these words, with what it finds there
 abbrev pub entered : List Text → Option (Text × List Row)
 entered words = subcommand_of program words
+
+-- the word names a subcommand
+abbrev pub is_task_word : Text → Bool
+is_task_word word = list_any (bytes_eq word) task_words
+
+-- the command line with the subcommand of this word alone
+abbrev pub program_alone : Text → App
+program_alone word = with_word bare_program word
+
+-- these matches are those of the words, which have no fault
+abbrev pub MatchesWords : List Text → ArgMatches → Type 0
+MatchesWords words m = (subcommand_rows_of m ≡ entered words) × (fault_of program words ≡ [])
+
+-- of words without a fault, clap says no error but one of memory
+abbrev pub FailsByMemory : List Text → Error → Type 0
+FailsByMemory words e = fault_of program words ≡ [] → kind_of e ≡ OutOfMemory
 
 abbrev pub word_in : Option (Text × List Row) → Option Text
 word_in found = option_map (λ p. p.0) found

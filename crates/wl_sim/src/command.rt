@@ -1,19 +1,17 @@
 //! The command line.
-ghost use Rattle.std.specs.Prelude.{◌≡◌, ◌≢◌, ◌↔◌, map, string_bytes, codes, IfOk, IfErr, false, Some, option_map};
-ghost use Rattle.clap.specs.Words.{app_of, kind_of, new_app, rule_of, subcommand_rows_of, with_rule};
-ghost use Rattle.clap.specs.declared.builder.command.Command.TheViews.{out-Command};
-ghost use Rattle.wl_sim.specs.CommandLine.{untimed_program, single_program, search_program, program, settings_app, sweep_app, Enters, FoundTask, NamedTask};
-ghost use Rattle.wl_sim.specs.CommandLine.{file_in, has_flag, ranges_in};
-ghost use Rattle.wl_sim.specs.CommandLine.{best_rule, candump_app, filed, flag_rule, from_rule, format_rule, formatted_app, input_rule, link_rule, margin_app, output_rule, run_app, tick_rule, traffic_app, workers_rule};
+ghost use Rattle.std.specs.Prelude.{◌≡◌, ◌≢◌, ◌↔◌, map, string_bytes, codes, IfOk, IfErr, Some, option_map};
+ghost use Rattle.clap.specs.Words.{kind_of, subcommand_rows_of};
+ghost use Rattle.wl_sim.specs.CommandLine.{Enters, FoundTask, NamedTask, file_in, has_flag, ranges_in};
 ghost use Rattle.wl_sim.specs.Orders.{FindsOrder, ReadsOrder};
 
-use crate::sweep::{Swept, with_sweep_options};
+use crate::subcommands::matches_of;
+use crate::sweep::Swept;
 use crate::values::{
     Values, file_of_subcommand, flag_of_subcommand, format_of_subcommand, ranges_of_subcommand,
     values_of_subcommand,
 };
 use clap::error::ErrorKind;
-use clap::{Arg, ArgAction, ArgMatches, Command, Error, value_parser};
+use clap::{ArgMatches, Error};
 use std::alloc::{AllocError, Global};
 use std::io;
 use std::rt::Env;
@@ -22,12 +20,6 @@ use wl_formats::Format;
 use wl_settings::Shown;
 use wl_setup::Text;
 use wl_views::Tick;
-
-/// What the help says of the script that finds or makes a build.
-const SCRIPT: &str = "The script ./wireline hands its words to the program. It has two words more:
-  ./wireline build              proves and builds the program, once
-  ./wireline completions SHELL  the completions of these words for bash, zsh or fish
-docs/use/first-hour.md leads from a data sheet to a report.";
 
 /// What the program is asked to do.
 #[derive(Clone, Copy, Debug, PartialEq, Eq)]
@@ -92,383 +84,6 @@ pub enum Refusal {
     Memory,
 }
 
-/// Returns the argument that names the file to read.
-fn input_argument<'a>(alloc: Global) -> Arg<'a>
-    ensures rule { rule_of result ≡ input_rule }
-    ensures local { result.global ≡ false }
-{
-    Arg::new(alloc, "input")
-        .value_name("FILE")
-        .help("The file to read; without it, or for -, standard input")
-}
-
-/// Returns the option that names the file to write.
-fn output_option<'a>(alloc: Global) -> Arg<'a>
-    ensures rule { rule_of result ≡ output_rule }
-    ensures local { result.global ≡ false }
-{
-    Arg::new(alloc, "output").short('o').value_name("FILE").help(
-        "The file to write, which changes only when the output is whole; without it, or for -, standard output",
-    )
-}
-
-/// Returns the option that asks for a hint after a fault.
-fn hint_option<'a>(alloc: Global) -> Arg<'a>
-    ensures rule { rule_of result ≡ flag_rule (codes "hint") }
-    ensures local { result.global ≡ false }
-{
-    Arg::new(alloc, "hint")
-        .long("hint")
-        .action(ArgAction::SetTrue)
-        .help("Says after a fault where in the input it is, and what to change")
-}
-
-/// Returns the option that asks for lines on a run that takes long.
-fn progress_option<'a>(alloc: Global) -> Arg<'a>
-    ensures rule { rule_of result ≡ flag_rule (codes "progress") }
-    ensures local { result.global ≡ false }
-{
-    Arg::new(alloc, "progress")
-        .long("progress")
-        .action(ArgAction::SetTrue)
-        .help("Says each second how long the run has taken, or of a sweep how far it is")
-}
-
-/// Returns a subcommand with the arguments that each has.
-fn filed<'a>(alloc: Global, word: &'a str, about: &'a str) -> Result<Command<'a>, AllocError>
-    ensures app { IfOk result (λ sub. app_of sub ≡ filed word.now) }
-    ensures local { IfOk result (λ sub. (out-Command sub).has_globals ≡ false) }
-{
-    let named = Command::new(alloc, word).about(about);
-    let read = named.arg(input_argument(alloc))?;
-    let written = read.arg(output_option(alloc))?;
-    let hinted = written.arg(hint_option(alloc))?;
-    let told = hinted.arg(progress_option(alloc))?;
-    Ok(told)
-}
-
-/// Returns the option that says how long a tick takes.
-fn tick_option<'a>(alloc: Global) -> Arg<'a>
-    ensures rule { rule_of result ≡ tick_rule }
-    ensures local { result.global ≡ false }
-{
-    Arg::new(alloc, "tick")
-        .long("tick")
-        .value_name("TIME")
-        .help("How long a tick of the plan takes: 1 to 999 and ps, ns or us, as 125ps")
-        .default_value("1ns")
-}
-
-/// Returns the option that says which format the output has.
-fn format_option<'a>(alloc: Global) -> Arg<'a>
-    ensures rule { rule_of result ≡ format_rule }
-    ensures local { result.global ≡ false }
-{
-    Arg::new(alloc, "format")
-        .long("format")
-        .value_name("FORMAT")
-        .help("The format of the output: text, json or csv")
-        .default_value("text")
-}
-
-/// Returns a subcommand that has this option too.
-fn formatted<'a>(alloc: Global, sub: Command<'a>) -> Result<Command<'a>, AllocError>
-    requires { (out-Command sub).has_globals ≡ false }
-    ensures app { IfOk result (λ all. app_of all ≡ formatted_app (app_of sub.entry)) }
-    ensures local { IfOk result (λ all. (out-Command all).has_globals ≡ false) }
-{
-    sub.arg(format_option(alloc))
-}
-
-/// Returns a subcommand with the arguments that each has, and with this option.
-fn filed_formatted<'a>(
-    alloc: Global,
-    word: &'a str,
-    about: &'a str,
-) -> Result<Command<'a>, AllocError>
-    ensures app { IfOk result (λ sub. app_of sub ≡ formatted_app (filed word.now)) }
-    ensures local { IfOk result (λ sub. (out-Command sub).has_globals ≡ false) }
-{
-    let sub = filed(alloc, word, about)?;
-    formatted(alloc, sub)
-}
-
-/// Returns the option that says how many workers simulate the plan.
-fn workers_option<'a>(alloc: Global) -> Arg<'a>
-    ensures rule { rule_of result ≡ workers_rule }
-    ensures local { result.global ≡ false }
-{
-    Arg::new(alloc, "workers")
-        .long("workers")
-        .value_name("N")
-        .help("How many workers simulate the plan, each on a thread of its own: 1 to 8")
-        .value_parser(value_parser!(u8).range(1..=8))
-        .default_value("1")
-}
-
-/// Returns the option that says what workers hand records over by.
-fn link_option<'a>(alloc: Global) -> Arg<'a>
-    ensures rule { rule_of result ≡ link_rule }
-    ensures local { result.global ≡ false }
-{
-    Arg::new(alloc, "link")
-        .long("link")
-        .value_name("LINK")
-        .help(
-            "What several workers hand records over by: hub, words that they share, or mail, letters",
-        )
-        .default_value("hub")
-}
-
-/// Returns a subcommand that has this option.
-fn optioned<'a>(
-    alloc: Global,
-    word: &'a str,
-    about: &'a str,
-    option: Arg<'a>,
-) -> Result<Command<'a>, AllocError>
-    requires { option.global ≡ false }
-    ensures app { IfOk result (λ sub. app_of sub ≡ with_rule (filed word.now) (rule_of option.entry)) }
-    ensures local { IfOk result (λ sub. (out-Command sub).has_globals ≡ false) }
-{
-    let sub = filed(alloc, word, about)?;
-    sub.arg(option)
-}
-
-/// Returns the subcommand `run`, with its options.
-fn run_command<'a>(alloc: Global) -> Result<Command<'a>, AllocError>
-    ensures app { IfOk result (λ sub. app_of sub ≡ run_app) }
-    ensures local { IfOk result (λ sub. (out-Command sub).has_globals ≡ false) }
-{
-    let run = optioned(
-        alloc,
-        "run",
-        "Simulates the plan, and writes the report of its nodes and frames",
-        workers_option(alloc),
-    )?;
-    let linked = run.arg(link_option(alloc))?;
-    formatted(alloc, linked)
-}
-
-/// Returns the program's command with the subcommands that have no tick, each with one line of help.
-fn untimed<'a>(alloc: Global) -> Result<Command<'a>, AllocError>
-    ensures { IfOk result (λ all. app_of all ≡ untimed_program) }
-{
-    let merge = filed(
-        alloc,
-        "merge",
-        "Writes the canonical text of the records that standard input has",
-    )?;
-    let horizon = filed(
-        alloc,
-        "horizon",
-        "Writes what the records tell of each node, and up to which tick",
-    )?;
-    let check = filed_formatted(
-        alloc,
-        "check",
-        "Tests the plan, and writes what its bit segments allow and how long its cable takes",
-    )?;
-    let records = filed(
-        alloc,
-        "records",
-        "Simulates the plan, and writes each change of what a node drives and the silence after it",
-    )?;
-    let run = run_command(alloc)?;
-    let explain = filed_formatted(
-        alloc,
-        "explain",
-        "Tests the plan, and writes what is wrong or doubtful and the figures of its nodes",
-    )?;
-    let all = Command::new(alloc, "wl_sim")
-        .version("0.1.0")
-        .about("Simulates CAN 2.0 buses at the level of time quanta")
-        .after_help(SCRIPT)
-        .subcommand_required(true)
-        .subcommand(merge)?
-        .subcommand(horizon)?
-        .subcommand(check)?
-        .subcommand(records)?
-        .subcommand(run)?
-        .subcommand(explain)?;
-    Ok(all)
-}
-
-/// Returns the subcommand `sweep`, with its options.
-fn sweep_command<'a>(alloc: Global) -> Result<Command<'a>, AllocError>
-    ensures app { IfOk result (λ sub. app_of sub ≡ sweep_app) }
-    ensures local { IfOk result (λ sub. (out-Command sub).has_globals ≡ false) }
-{
-    let sub = filed(
-        alloc,
-        "sweep",
-        "Simulates the plan over phases, clocks and values of keys, and writes how often the bus is clean",
-    )?;
-    let swept = with_sweep_options(alloc, sub)?;
-    formatted(alloc, swept)
-}
-
-/// Returns the option that makes the status say whether the run works.
-fn strict_option<'a>(alloc: Global) -> Arg<'a>
-    ensures rule { rule_of result ≡ flag_rule (codes "strict") }
-    ensures local { result.global ≡ false }
-{
-    Arg::new(alloc, "strict")
-        .long("strict")
-        .action(ArgAction::SetTrue)
-        .help("Ends with status 1 if the verdict is another than works")
-}
-
-/// Returns the subcommand `traffic`, with its options.
-fn traffic_command<'a>(alloc: Global) -> Result<Command<'a>, AllocError>
-    ensures app { IfOk result (λ sub. app_of sub ≡ traffic_app) }
-    ensures local { IfOk result (λ sub. (out-Command sub).has_globals ≡ false) }
-{
-    let traffic = optioned(
-        alloc,
-        "traffic",
-        "Simulates the plan, and writes how busy the bus was, how long messages waited, and whether it works",
-        tick_option(alloc),
-    )?;
-    let strict = traffic.arg(strict_option(alloc))?;
-    formatted(alloc, strict)
-}
-
-/// Returns the option that says at which second a log begins.
-fn from_option<'a>(alloc: Global) -> Arg<'a>
-    ensures rule { rule_of result ≡ from_rule }
-    ensures local { result.global ≡ false }
-{
-    Arg::new(alloc, "from")
-        .long("from")
-        .value_name("SECONDS")
-        .help("The second of tick 0, up to 4294967295; log2asc wants one above 0")
-        .value_parser(value_parser!(u32))
-        .default_value("0")
-}
-
-/// Returns the subcommand `candump`, with its options.
-fn candump_command<'a>(alloc: Global) -> Result<Command<'a>, AllocError>
-    ensures app { IfOk result (λ sub. app_of sub ≡ candump_app) }
-    ensures local { IfOk result (λ sub. (out-Command sub).has_globals ≡ false) }
-{
-    let candump = optioned(
-        alloc,
-        "candump",
-        "Simulates the plan, and writes the frames that were sent as can-utils logs them",
-        tick_option(alloc),
-    )?;
-    candump.arg(from_option(alloc))
-}
-
-/// Returns the subcommand `margin`, with its options.
-fn margin_command<'a>(alloc: Global) -> Result<Command<'a>, AllocError>
-    ensures app { IfOk result (λ sub. app_of sub ≡ margin_app) }
-    ensures local { IfOk result (λ sub. (out-Command sub).has_globals ≡ false) }
-{
-    let margin = optioned(
-        alloc,
-        "margin",
-        "Tests the plan, and writes whether its bus works at all phases and clocks, and with how much to spare",
-        tick_option(alloc),
-    )?;
-    formatted(alloc, margin)
-}
-
-/// Returns the command line of single runs: after those, the trace and the subcommands that have a tick.
-fn without_sweep<'a>(alloc: Global) -> Result<Command<'a>, AllocError>
-    ensures { IfOk result (λ all. app_of all ≡ single_program) }
-{
-    let trace = filed_formatted(
-        alloc,
-        "trace",
-        "Simulates the plan, and writes what happened to each node: errors, flags, frames, modes",
-    )?;
-    let candump = candump_command(alloc)?;
-    let vcd = optioned(
-        alloc,
-        "vcd",
-        "Simulates the plan, and writes the waveform of its nodes as a Value Change Dump",
-        tick_option(alloc),
-    )?;
-    let page = optioned(
-        alloc,
-        "page",
-        "Simulates the plan, and writes one page of HTML that shows all of it in a browser",
-        tick_option(alloc),
-    )?;
-    let margin = margin_command(alloc)?;
-    let traffic = traffic_command(alloc)?;
-    let all = untimed(alloc)?
-        .subcommand(trace)?
-        .subcommand(candump)?
-        .subcommand(vcd)?
-        .subcommand(page)?
-        .subcommand(margin)?
-        .subcommand(traffic)?;
-    Ok(all)
-}
-
-/// Returns the option that says how many settings are listed.
-fn best_option<'a>(alloc: Global) -> Arg<'a>
-    ensures rule { rule_of result ≡ best_rule }
-    ensures local { result.global ≡ false }
-{
-    Arg::new(alloc, "best")
-        .long("best")
-        .value_name("N")
-        .help("The most settings of a controller that are listed; without it all")
-        .value_parser(value_parser!(u32).range(1..))
-}
-
-/// Returns the flag that asks for the plan of the best setting.
-fn plan_option<'a>(alloc: Global) -> Arg<'a>
-    ensures rule { rule_of result ≡ flag_rule (codes "plan") }
-    ensures local { result.global ≡ false }
-{
-    Arg::new(alloc, "plan")
-        .long("plan")
-        .action(ArgAction::SetTrue)
-        .help(
-            "Writes the plan of the first controller's first setting: two nodes at the ends of the cable",
-        )
-}
-
-/// Returns the subcommand `settings`, with its options.
-fn settings_command<'a>(alloc: Global) -> Result<Command<'a>, AllocError>
-    ensures app { IfOk result (λ sub. app_of sub ≡ settings_app) }
-    ensures local { IfOk result (λ sub. (out-Command sub).has_globals ≡ false) }
-{
-    let timed = optioned(
-        alloc,
-        "settings",
-        "Finds the bit timings with which a bus works for a clock, a bit rate and a cable, the best first",
-        tick_option(alloc),
-    )?;
-    let counted = timed.arg(best_option(alloc))?;
-    counted.arg(plan_option(alloc))
-}
-
-/// Returns the command line without the sweep: single runs, and the search for settings.
-fn with_search<'a>(alloc: Global) -> Result<Command<'a>, AllocError>
-    ensures { IfOk result (λ all. app_of all ≡ search_program) }
-{
-    let settings = settings_command(alloc)?;
-    let single = without_sweep(alloc)?;
-    let all = single.subcommand(settings)?;
-    Ok(all)
-}
-
-/// Returns the whole command line: after those, the sweep.
-fn command<'a>(alloc: Global) -> Result<Command<'a>, AllocError>
-    ensures { IfOk result (λ all. app_of all ≡ program) }
-{
-    let sweep = sweep_command(alloc)?;
-    let searching = with_search(alloc)?;
-    let all = searching.subcommand(sweep)?;
-    Ok(all)
-}
-
 /// Returns the task of a subcommand, by its name and the values of its options.
 fn task_named(name: Option<&str>, values: Option<Values>) -> Option<Task>
     ensures { (task : Task) → (result ≡ Some task) ↔ NamedTask (option_map (λ s. s.now) name.entry) values task }
@@ -523,8 +138,10 @@ fn order_for(
     ensures input { IfOk result (λ order. order.input ≡ file_in (codes "input") (subcommand_rows_of matches.now)) }
     ensures output { IfOk result (λ order. order.output ≡ file_in (codes "output") (subcommand_rows_of matches.now)) }
     ensures hint { IfOk result (λ order. order.hint ≡ has_flag (codes "hint") (subcommand_rows_of matches.now)) }
-    ensures progress { IfOk result (λ order. order.progress ≡ has_flag (codes "progress") (subcommand_rows_of matches.now)) }
-    ensures ranges { IfOk result (λ order. map string_bytes order.ranges.items ≡ ranges_in (subcommand_rows_of matches.now)) }
+    ensures progress { IfOk result (λ order. order.progress
+        ≡ has_flag (codes "progress") (subcommand_rows_of matches.now)) }
+    ensures ranges { IfOk result (λ order. map string_bytes order.ranges.items
+        ≡ ranges_in (subcommand_rows_of matches.now)) }
     ensures format { IfOk result (λ order. order.format ≡ format) }
 {
     let input = file_of_subcommand(alloc, matches, "input")?;
@@ -547,7 +164,7 @@ fn order_of(alloc: Global, words: &[String]) -> Result<Option<Order>, Error>
     ensures memory { IfErr result (λ e. (task : Task) → Enters task (map string_bytes words.now)
         → kind_of e ≡ ErrorKind.OutOfMemory) }
 {
-    let matches = command(alloc)?.try_get_matches_from(words)?;
+    let matches = matches_of(alloc, words)?;
     match task_in(&matches) {
         Some(task) => match format_of_subcommand(&matches) {
             Some(format) => {

@@ -15,7 +15,7 @@
 //! - `sweep` writes how many members of a family of plans are clean.
 #![tactic(auto)]
 
-ghost use Rattle.std.specs.Prelude.{◌≡◌, ◌≢◌, ◌≤◌, map, string_bytes, IfOk, IfErr, Err, option_map};
+ghost use Rattle.std.specs.Prelude.{◌≡◌, ◌≢◌, ◌≤◌, map, string_bytes, IfOk, IfErr, Ok, Err, option_map};
 ghost use Rattle.std.specs.IoError.{error_kind};
 ghost use Rattle.std.specs.Process.{exit_status};
 ghost use Rattle.wl_sim.specs.declared.command.Task.{Task};
@@ -44,6 +44,7 @@ mod command;
 mod formats;
 mod hints;
 mod progress;
+mod subcommands;
 mod sweep;
 mod values;
 
@@ -127,26 +128,57 @@ fn run_words<
         → Ends R.gives W.takes F.Reader.gives F.Writer.takes F.opens F.stands F.holds
         reader.old reader.new writer.old writer.new folder.old folder.new (Err Refusal.Words) (exit_status result)) }
 {
-    let words = match words {
-        Ok(words) => words,
+    match words {
+        Ok(words) => run_given(rt, alloc, words.as_slice(), reader, writer, folder),
         Err(error) => {
             let refusal = unread(&error);
             say_unread(rt, refusal);
-            return refused(rt, refusal);
+            refused(rt, refusal)
         }
-    };
-    match command::read(rt, alloc, words.as_slice()) {
-        Ok(order) => {
-            let ticker = progress::begin(rt, alloc, &order);
-            let answer = perform(rt, alloc, &order, reader, writer, folder);
-            progress::end(rt, ticker);
-            if let Err(fault) = &answer {
-                hints::say_fault(rt, alloc, &order, fault, folder);
-            }
-            status_of(&answer)
-        }
+    }
+}
+
+/// Does what these words ask for, as `run_words`.
+fn run_given<
+    H: Eprint + Threads + Wait + Clock + Clone + Drop + Send + Sync + 'static,
+    R: Source,
+    W: Sink,
+    F: Folder,
+>(
+    rt: &H,
+    alloc: Global,
+    words: &[String],
+    reader: &mut R,
+    writer: &mut W,
+    folder: &mut F,
+) -> ExitCode
+    ensures { RunsWords R.gives W.takes F.Reader.gives F.Writer.takes F.opens F.stands F.holds
+        reader.old reader.new writer.old writer.new folder.old folder.new
+        (map string_bytes words.now) (exit_status result) }
+{
+    match command::read(rt, alloc, words) {
+        Ok(order) => run_order(rt, alloc, &order, reader, writer, folder),
         Err(refusal) => refused(rt, refusal),
     }
+}
+
+/// Does what an order asks for, says how long it takes and why it wasn't done, and returns the status.
+fn run_order<
+    H: Eprint + Threads + Wait + Clock + Clone + Drop + Send + Sync + 'static,
+    R: Source,
+    W: Sink,
+    F: Folder,
+>(rt: &H, alloc: Global, order: &Order, reader: &mut R, writer: &mut W, folder: &mut F) -> ExitCode
+    ensures { Ends R.gives W.takes F.Reader.gives F.Writer.takes F.opens F.stands F.holds
+        reader.old reader.new writer.old writer.new folder.old folder.new (Ok order.now) (exit_status result) }
+{
+    let ticker = progress::begin(rt, alloc, order);
+    let answer = perform(rt, alloc, order, reader, writer, folder);
+    progress::end(rt, ticker);
+    if let Err(fault) = &answer {
+        hints::say_fault(rt, alloc, order, fault, folder);
+    }
+    status_of(&answer)
 }
 
 /// Does the task of an order over the file to read that the order names, or over the reader if it names none. A file that can't be opened
@@ -190,7 +222,8 @@ fn write_to<H: Threads + Wait + Sync + Eprint + Clock, R: Source, W: Sink, F: Fo
     folder: &mut F,
 ) -> Result<Done, Fault>
     ensures { WritesTo R.gives W.takes F.Writer.takes F.stands F.holds reader.old reader.new writer.old writer.new
-        folder.old folder.new work.entry.format work.entry.task (map string_bytes work.entry.ranges.now) (option_map (λ n. n.now) output.entry) result }
+        folder.old folder.new work.entry.format work.entry.task (map string_bytes work.entry.ranges.now)
+        (option_map (λ n. n.now) output.entry) result }
 {
     match output {
         None => run_as(rt, alloc, work, reader, writer),

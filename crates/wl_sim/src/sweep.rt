@@ -1,12 +1,25 @@
 //! The options of a sweep.
-ghost use Rattle.std.specs.Prelude.{◌≡◌, IfOk, codes, false};
+ghost use Rattle.std.specs.Prelude.{◌≡◌, IfOk, false};
 ghost use Rattle.clap.specs.Words.{app_of, rule_of};
 ghost use Rattle.clap.specs.declared.builder.command.Command.TheViews.{out-Command};
-ghost use Rattle.wl_sim.specs.CommandLine.{counted_app, flag_rule, print_rule, runs_rule, seed_rule, step_rule, swept_app, threads_rule, vary_rule};
+ghost use Rattle.wl_sim.specs.CommandLine.{counted_app, print_rule, runs_rule, seed_rule, step_rule, swept_app, threads_rule, vary_rule};
 
+use crate::subcommands::{flag_option, with};
 use clap::{Arg, ArgAction, Command, value_parser};
 use std::alloc::{AllocError, Global};
 use wl_sweep_engine::Asked;
+
+/// What the help says of `--keep-offsets`.
+const KEEP_OFFSETS: &str = "Leaves the offsets as the plan has them";
+
+/// What the help says of `--keep-ppm`.
+const KEEP_PPM: &str = "Leaves the rates of the clocks as the plan has them";
+
+/// What the help says of `--worst`.
+const WORST: &str = "Adds to each sender a frame whose edges are ten bits apart";
+
+/// What the help says of `--page`.
+const PAGE: &str = "Writes one page of HTML: a map of the rows of the first two ranges";
 
 /// What is asked of a sweep beside its plan and its ranges.
 #[derive(Clone, Copy, Debug, PartialEq, Eq)]
@@ -101,62 +114,17 @@ fn print_option<'a>(alloc: Global) -> Arg<'a>
         .value_parser(value_parser!(u64))
 }
 
-/// Returns the flag that keeps offsets as the plan has them.
-fn keep_offsets_option<'a>(alloc: Global) -> Arg<'a>
-    ensures rule { rule_of result ≡ flag_rule (codes "keep-offsets") }
-    ensures local { result.global ≡ false }
-{
-    Arg::new(alloc, "keep-offsets")
-        .long("keep-offsets")
-        .action(ArgAction::SetTrue)
-        .help("Leaves the offsets as the plan has them")
-}
-
-/// Returns the flag that keeps the rates of clocks as the plan has them.
-fn keep_ppm_option<'a>(alloc: Global) -> Arg<'a>
-    ensures rule { rule_of result ≡ flag_rule (codes "keep-ppm") }
-    ensures local { result.global ≡ false }
-{
-    Arg::new(alloc, "keep-ppm")
-        .long("keep-ppm")
-        .action(ArgAction::SetTrue)
-        .help("Leaves the rates of the clocks as the plan has them")
-}
-
-/// Returns the flag that adds the frame that tests clocks.
-fn worst_option<'a>(alloc: Global) -> Arg<'a>
-    ensures rule { rule_of result ≡ flag_rule (codes "worst") }
-    ensures local { result.global ≡ false }
-{
-    Arg::new(alloc, "worst")
-        .long("worst")
-        .action(ArgAction::SetTrue)
-        .help("Adds to each sender a frame whose edges are ten bits apart")
-}
-
-/// Returns the flag that asks for a page.
-fn page_option<'a>(alloc: Global) -> Arg<'a>
-    ensures rule { rule_of result ≡ flag_rule (codes "page") }
-    ensures local { result.global ≡ false }
-{
-    Arg::new(alloc, "page")
-        .long("page")
-        .action(ArgAction::SetTrue)
-        .help("Writes one page of HTML: a map of the rows of the first two ranges")
-}
-
 /// Returns a subcommand with the options of a sweep that say what is run.
 fn with_counts<'a>(alloc: Global, sub: Command<'a>) -> Result<Command<'a>, AllocError>
     requires { (out-Command sub).has_globals ≡ false }
     ensures app { IfOk result (λ all. app_of all ≡ counted_app (app_of sub.entry)) }
     ensures local { IfOk result (λ all. (out-Command all).has_globals ≡ false) }
 {
-    let ranged = sub.arg(vary_option(alloc))?;
-    let stepped = ranged.arg(step_option(alloc))?;
-    let bounded = stepped.arg(runs_option(alloc))?;
-    let seeded = bounded.arg(seed_option(alloc))?;
-    let shared = seeded.arg(threads_option(alloc))?;
-    Ok(shared)
+    let ranged = with(sub, vary_option(alloc))?;
+    let stepped = with(ranged, step_option(alloc))?;
+    let bounded = with(stepped, runs_option(alloc))?;
+    let seeded = with(bounded, seed_option(alloc))?;
+    with(seeded, threads_option(alloc))
 }
 
 /// Returns a subcommand with the options of a sweep.
@@ -169,10 +137,9 @@ pub(crate) fn with_sweep_options<'a>(
     ensures local { IfOk result (λ all. (out-Command all).has_globals ≡ false) }
 {
     let counted = with_counts(alloc, sub)?;
-    let placed = counted.arg(keep_offsets_option(alloc))?;
-    let signed = placed.arg(keep_ppm_option(alloc))?;
-    let tested = signed.arg(worst_option(alloc))?;
-    let printed = tested.arg(print_option(alloc))?;
-    let mapped = printed.arg(page_option(alloc))?;
-    Ok(mapped)
+    let placed = with(counted, flag_option(alloc, "keep-offsets", KEEP_OFFSETS))?;
+    let signed = with(placed, flag_option(alloc, "keep-ppm", KEEP_PPM))?;
+    let tested = with(signed, flag_option(alloc, "worst", WORST))?;
+    let printed = with(tested, print_option(alloc))?;
+    with(printed, flag_option(alloc, "page", PAGE))
 }

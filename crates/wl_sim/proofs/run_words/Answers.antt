@@ -1,22 +1,33 @@
-use Rattle.std.proofs.Common.{ap, sym, subst, map, refl, string_bytes, List}
+use Rattle.std.proofs.Common.{subst, map, string_bytes, List}
+use Rattle.std.specs.Process.{exit_status}
 use Rattle.clap.specs.Words.{Text}
 use Rattle.wl_sim.specs.CommandLine.{NamesTask}
-use Rattle.wl_sim.proofs.Words.{named_is_done, named_is_refused, of_ok}
+use Rattle.wl_sim.specs.Orders.{EndsPlainly, RunsWords}
+use Rattle.wl_sim.specs.declared.command.Task.{Task}
+use Rattle.wl_sim.proofs.Words.{of_ok, runs_named}
 use Rattle.wl_sim.proofs.run_words.Goals as goal
 
-pub returns-in-Ok-read-clause-named : goal.returns-in-Ok-read-clause-named
-returns-in-Ok-read-clause-named g c =
-    let words : List Text = map string_bytes c.as_slice.result.now in
-    of_ok c.args.words c.in-Ok.words _ c.in-Ok.is (λ task n.
-    named_is_done g.R.Source.gives g.W.Sink.takes g.F.Reader.Source.gives g.F.Writer.Sink.takes g.F.Folder.opens g.F.Folder.stands g.F.Folder.holds
-    c.args.reader.now c.perform-answer.new.reader c.args.writer.now c.perform-answer.new.writer c.args.folder.now c.perform-answer.new.folder
-    words c.in-Ok-read.order task c.perform-answer.result _ c.in-Ok-read.ensures
-    (subst (λ ws. NamesTask task ws) (ap (map string_bytes) (sym c.as_slice.ensures.value)) n) c.perform-answer.ensures c.status_of.ensures)
+pub returns-in-Ok-clause-words : goal.returns-in-Ok-clause-words
+returns-in-Ok-clause-words g c =
+    let runs : List Text → Type 0 = λ words.
+    RunsWords g.R.Source.gives g.W.Sink.takes g.F.Reader.Source.gives g.F.Writer.Sink.takes g.F.Folder.opens g.F.Folder.stands g.F.Folder.holds
+    c.args.reader.now c.run_given.new.reader c.args.writer.now c.run_given.new.writer c.args.folder.now c.run_given.new.folder
+    words (exit_status c.run_given.result) in
+    let done = subst (λ items. runs (map string_bytes items)) c.as_slice.ensures.value c.run_given.ensures in
+    of_ok c.args.words c.in-Ok.words (λ given. runs (map string_bytes given.items)) c.in-Ok.is done
 
-pub returns-clause-named : goal.returns-clause-named
-returns-clause-named g c =
-    let words : List Text = map string_bytes c.as_slice.result.now in
-    of_ok c.args.words c.in-Ok.words _ c.in-Ok.is (λ task n.
-    named_is_refused g.R.Source.gives g.W.Sink.takes g.F.Reader.Source.gives g.F.Writer.Sink.takes g.F.Folder.opens g.F.Folder.stands g.F.Folder.holds
-    c.args.reader.now c.args.reader.now c.args.writer.now c.args.writer.now c.args.folder.now c.args.folder.now words c.in-Err-read.refusal task _
-    c.in-Err-read.ensures (subst (λ ws. NamesTask task ws) (ap (map string_bytes) (sym c.as_slice.ensures.value)) n) (refl, refl, refl, c.refused-in-Err-read.ensures))
+pub returns-in-Ok-clause-named : goal.returns-in-Ok-clause-named
+returns-in-Ok-clause-named g c =
+    let runs : List Text → Type 0 = λ words.
+    RunsWords g.R.Source.gives g.W.Sink.takes g.F.Reader.Source.gives g.F.Writer.Sink.takes g.F.Folder.opens g.F.Folder.stands g.F.Folder.holds
+    c.args.reader.now c.run_given.new.reader c.args.writer.now c.run_given.new.writer c.args.folder.now c.run_given.new.folder
+    words (exit_status c.run_given.result) in
+    let done = subst (λ items. runs (map string_bytes items)) c.as_slice.ensures.value c.run_given.ensures in
+    let ends : Task → Type 0 = λ task.
+    EndsPlainly g.R.Source.gives g.W.Sink.takes g.F.Reader.Source.gives g.F.Writer.Sink.takes g.F.Folder.opens g.F.Folder.stands g.F.Folder.holds
+    c.args.reader.now c.run_given.new.reader c.args.writer.now c.run_given.new.writer c.args.folder.now c.run_given.new.folder
+    task (exit_status c.run_given.result) in
+    of_ok c.args.words c.in-Ok.words (λ given. (task : Task) → NamesTask task (map string_bytes given.items) → ends task) c.in-Ok.is (λ task named.
+    runs_named g.R.Source.gives g.W.Sink.takes g.F.Reader.Source.gives g.F.Writer.Sink.takes g.F.Folder.opens g.F.Folder.stands g.F.Folder.holds
+    c.args.reader.now c.run_given.new.reader c.args.writer.now c.run_given.new.writer c.args.folder.now c.run_given.new.folder
+    (map string_bytes c.in-Ok.words.items) (exit_status c.run_given.result) done task named)

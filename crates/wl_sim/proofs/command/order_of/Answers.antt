@@ -1,18 +1,16 @@
 use Rattle.std.proofs.Common.{◌≡◌, ◌∙◌, ap, sym, subst, map, codes, string_bytes, List, Option, Some, None, true, false}
 use Rattle.std.specs.Prelude.{is_some}
-use Rattle.clap.specs.Words.{App, Text, fault_of, is_simple, is_simple_and_free, subcommand_of}
+use Rattle.clap.specs.Words.{Text}
 use Rattle.clap.proofs.TakesLemmas.{passed_up}
 use Rattle.wl_formats.specs.declared.formats.Format.{Format}
 use Rattle.wl_sim.specs.CommandLine.{Enters, FoundTask, file_in, format_in, has_flag, ranges_in}
-use Rattle.wl_sim.proofs.Words.{memory_alone, program_is_free, program_is_simple}
 use Rattle.wl_sim.proofs.command.order_of.Goals as goal
 
 pub returns-in-Some-format_of_subcommand-clause-order : goal.returns-in-Some-format_of_subcommand-clause-order
 returns-in-Some-format_of_subcommand-clause-order c =
     let words : List Text = map string_bytes c.args.words.now in
-    let is = c.in_ok-command.ensures in
-    let rows = (c.in_ok-matches.ensures.matches (ap is_simple is ∙ program_is_simple)).1 ∙ ap (λ (a : App). subcommand_of a words) is in
-    let clean = ap (λ (a : App). fault_of a words) (sym is) ∙ c.in_ok-matches.ensures.kinds (ap is_simple_and_free is ∙ program_is_free) in
+    let rows = c.in_ok-matches.ensures.found.0 in
+    let clean = c.in_ok-matches.ensures.found.1 in
     let found = (c.task_in.ensures c.in-Some.task).0 c.in-Some.is in
     let format = ap format_in (sym rows) ∙ (sym c.format_of_subcommand.ensures ∙ c.in-Some-format_of_subcommand.is) in
     let enters : Enters c.in-Some.task words = (subst (λ o. FoundTask o c.in-Some.task) rows found, clean, ap is_some format) in (
@@ -32,8 +30,7 @@ no_format o none some = let no : false ≡ true = sym (ap is_some none) ∙ some
 pub returns-in-Some-clause-order : goal.returns-in-Some-clause-order
 returns-in-Some-clause-order c =
     let words : List Text = map string_bytes c.args.words.now in
-    let is = c.in_ok-command.ensures in
-    let rows = (c.in_ok-matches.ensures.matches (ap is_simple is ∙ program_is_simple)).1 ∙ ap (λ (a : App). subcommand_of a words) is in
+    let rows = c.in_ok-matches.ensures.found.0 in
     let none = ap format_in (sym rows) ∙ (sym c.format_of_subcommand.ensures ∙ c.in-None-format_of_subcommand.is) in
     λ task enters. no_format _ none enters.2
 
@@ -43,11 +40,10 @@ none_is_some o x none some = let no : None ≡ Some x = sym none ∙ some in cc
 pub returns-clause-order : goal.returns-clause-order
 returns-clause-order c =
     let words : List Text = map string_bytes c.args.words.now in
-    let is = c.in_ok-command.ensures in
-    let rows = (c.in_ok-matches.ensures.matches (ap is_simple is ∙ program_is_simple)).1 ∙ ap (λ (a : App). subcommand_of a words) is in
+    let rows = c.in_ok-matches.ensures.found.0 in
     λ task enters. none_is_some c.task_in.result task c.in-None.is ((c.task_in.ensures task).1 (subst (λ o. FoundTask o task) (sym rows) enters.0))
 
 pub returns-in_err-matches-clause-memory : goal.returns-in_err-matches-clause-memory
 returns-in_err-matches-clause-memory c =
-    passed_up c.from_residual-in_err-matches.result c.in_err-matches.field-0.0 _ c.from_residual-in_err-matches.ensures.1
-    (memory_alone _ (map string_bytes c.args.words.now) c.in_err-matches.field-0.0 c.in_ok-command.ensures c.in_err-matches.ensures.kinds)
+    passed_up c.from_residual.result c.in_err-matches.field-0.0 _ c.from_residual.ensures.1
+    (λ task enters. c.in_err-matches.ensures.memory enters.1)

@@ -1,0 +1,407 @@
+//! The subcommands of the command line, with their options.
+ghost use Rattle.std.specs.Prelude.{◌≡◌, map, string_bytes, IfSome, IfOk, IfErr, false, fold};
+ghost use Rattle.clap.specs.Words.{app_of, rule_of, with_rule};
+ghost use Rattle.clap.specs.declared.builder.command.Command.TheViews.{out-Command};
+ghost use Rattle.wl_sim.specs.CommandLine.{FailsByMemory, MatchesWords, bare_program, is_task_word, optioned_app, program, program_alone, subcommand_app, with_word};
+ghost use Rattle.wl_sim.specs.CommandLine.{best_rule, candump_app, filed, flag_rule, format_rule, formatted_app, from_rule, input_rule, link_rule, margin_app, output_rule, run_app, settings_app, sweep_app, tick_rule, timed_app, traffic_app, workers_rule};
+
+use crate::sweep::with_sweep_options;
+use clap::{Arg, ArgAction, ArgMatches, Command, Error, value_parser};
+use std::alloc::{AllocError, Global};
+
+/// What the help says of the script that finds or makes a build.
+const SCRIPT: &str = "The script ./wireline hands its words to the program. It has two words more:
+  ./wireline build              proves and builds the program, once
+  ./wireline completions SHELL  the completions of these words for bash, zsh or fish
+docs/use/first-hour.md leads from a data sheet to a report.";
+
+/// What the help says of `--hint`.
+const HINT: &str = "Says after a fault where in the input it is, and what to change";
+
+/// What the help says of `--progress`.
+const PROGRESS: &str = "Says each second how long the run has taken, or of a sweep how far it is";
+
+/// What the help says of `--strict`.
+const STRICT: &str = "Ends with status 1 if the verdict is another than works";
+
+/// What the help says of `--plan`.
+const PLAN: &str =
+    "Writes the plan of the first controller's first setting: two nodes at the ends of the cable";
+
+/// Returns the argument that names the file to read.
+fn input_argument<'a>(alloc: Global) -> Arg<'a>
+    ensures rule { rule_of result ≡ input_rule }
+    ensures local { result.global ≡ false }
+{
+    Arg::new(alloc, "input")
+        .value_name("FILE")
+        .help("The file to read; without it, or for -, standard input")
+}
+
+/// Returns the option that names the file to write.
+fn output_option<'a>(alloc: Global) -> Arg<'a>
+    ensures rule { rule_of result ≡ output_rule }
+    ensures local { result.global ≡ false }
+{
+    Arg::new(alloc, "output").short('o').value_name("FILE").help(
+        "The file to write, which changes only when the output is whole; without it, or for -, standard output",
+    )
+}
+
+/// Returns the flag of this name.
+pub(crate) fn flag_option<'a>(alloc: Global, name: &'a str, help: &'a str) -> Arg<'a>
+    ensures rule { rule_of result ≡ flag_rule name.now }
+    ensures local { result.global ≡ false }
+{
+    Arg::new(alloc, name)
+        .long(name)
+        .action(ArgAction::SetTrue)
+        .help(help)
+}
+
+/// Returns a subcommand with one option more.
+pub(crate) fn with<'a>(sub: Command<'a>, option: Arg<'a>) -> Result<Command<'a>, AllocError>
+    requires sub { (out-Command sub).has_globals ≡ false }
+    requires option { option.global ≡ false }
+    ensures app { IfOk result (λ all. app_of all ≡ with_rule (app_of sub.entry) (rule_of option.entry)) }
+    ensures local { IfOk result (λ all. (out-Command all).has_globals ≡ false) }
+{
+    sub.arg(option)
+}
+
+/// Returns a subcommand with the arguments that each has.
+fn filed<'a>(alloc: Global, word: &'a str) -> Result<Command<'a>, AllocError>
+    ensures app { IfOk result (λ sub. app_of sub ≡ filed word.now) }
+    ensures local { IfOk result (λ sub. (out-Command sub).has_globals ≡ false) }
+{
+    let named = Command::new(alloc, word).about(about(word));
+    let read = with(named, input_argument(alloc))?;
+    let written = with(read, output_option(alloc))?;
+    let hinted = with(written, flag_option(alloc, "hint", HINT))?;
+    with(hinted, flag_option(alloc, "progress", PROGRESS))
+}
+
+/// Returns what the help says of a subcommand.
+fn about(word: &str) -> &'static str {
+    match word {
+        "merge" => "Writes the canonical text of the records that standard input has",
+        "horizon" => "Writes what the records tell of each node, and up to which tick",
+        "check" =>
+            "Tests the plan, and writes what its bit segments allow and how long its cable takes",
+        "records" =>
+            "Simulates the plan, and writes each change of what a node drives and the silence after it",
+        "run" => "Simulates the plan, and writes the report of its nodes and frames",
+        "explain" =>
+            "Tests the plan, and writes what is wrong or doubtful and the figures of its nodes",
+        "trace" =>
+            "Simulates the plan, and writes what happened to each node: errors, flags, frames, modes",
+        "candump" =>
+            "Simulates the plan, and writes the frames that were sent as can-utils logs them",
+        "vcd" => "Simulates the plan, and writes the waveform of its nodes as a Value Change Dump",
+        "page" =>
+            "Simulates the plan, and writes one page of HTML that shows all of it in a browser",
+        "margin" =>
+            "Tests the plan, and writes whether its bus works at all phases and clocks, and with how much to spare",
+        "traffic" =>
+            "Simulates the plan, and writes how busy the bus was, how long messages waited, and whether it works",
+        "settings" =>
+            "Finds the bit timings with which a bus works for a clock, a bit rate and a cable, the best first",
+        "sweep" =>
+            "Simulates the plan over phases, clocks and values of keys, and writes how often the bus is clean",
+        _ => "",
+    }
+}
+
+/// Returns the option that says how long a tick takes.
+fn tick_option<'a>(alloc: Global) -> Arg<'a>
+    ensures rule { rule_of result ≡ tick_rule }
+    ensures local { result.global ≡ false }
+{
+    Arg::new(alloc, "tick")
+        .long("tick")
+        .value_name("TIME")
+        .help("How long a tick of the plan takes: 1 to 999 and ps, ns or us, as 125ps")
+        .default_value("1ns")
+}
+
+/// Returns the option that says which format the output has.
+fn format_option<'a>(alloc: Global) -> Arg<'a>
+    ensures rule { rule_of result ≡ format_rule }
+    ensures local { result.global ≡ false }
+{
+    Arg::new(alloc, "format")
+        .long("format")
+        .value_name("FORMAT")
+        .help("The format of the output: text, json or csv")
+        .default_value("text")
+}
+
+/// Returns the option that says how many workers simulate the plan.
+fn workers_option<'a>(alloc: Global) -> Arg<'a>
+    ensures rule { rule_of result ≡ workers_rule }
+    ensures local { result.global ≡ false }
+{
+    Arg::new(alloc, "workers")
+        .long("workers")
+        .value_name("N")
+        .help("How many workers simulate the plan, each on a thread of its own: 1 to 8")
+        .value_parser(value_parser!(u8).range(1..=8))
+        .default_value("1")
+}
+
+/// Returns the option that says what workers hand records over by.
+fn link_option<'a>(alloc: Global) -> Arg<'a>
+    ensures rule { rule_of result ≡ link_rule }
+    ensures local { result.global ≡ false }
+{
+    Arg::new(alloc, "link")
+        .long("link")
+        .value_name("LINK")
+        .help(
+            "What several workers hand records over by: hub, words that they share, or mail, letters",
+        )
+        .default_value("hub")
+}
+
+/// Returns the option that says at which second a log begins.
+fn from_option<'a>(alloc: Global) -> Arg<'a>
+    ensures rule { rule_of result ≡ from_rule }
+    ensures local { result.global ≡ false }
+{
+    Arg::new(alloc, "from")
+        .long("from")
+        .value_name("SECONDS")
+        .help("The second of tick 0, up to 4294967295; log2asc wants one above 0")
+        .value_parser(value_parser!(u32))
+        .default_value("0")
+}
+
+/// Returns the option that says how many settings are listed.
+fn best_option<'a>(alloc: Global) -> Arg<'a>
+    ensures rule { rule_of result ≡ best_rule }
+    ensures local { result.global ≡ false }
+{
+    Arg::new(alloc, "best")
+        .long("best")
+        .value_name("N")
+        .help("The most settings of a controller that are listed; without it all")
+        .value_parser(value_parser!(u32).range(1..))
+}
+
+/// Returns a subcommand with the option of a format.
+fn formatted<'a>(alloc: Global, sub: Command<'a>) -> Result<Command<'a>, AllocError>
+    requires { (out-Command sub).has_globals ≡ false }
+    ensures app { IfOk result (λ all. app_of all ≡ formatted_app (app_of sub.entry)) }
+    ensures local { IfOk result (λ all. (out-Command all).has_globals ≡ false) }
+{
+    with(sub, format_option(alloc))
+}
+
+/// Returns a subcommand with the option of a tick.
+fn timed<'a>(alloc: Global, sub: Command<'a>) -> Result<Command<'a>, AllocError>
+    requires { (out-Command sub).has_globals ≡ false }
+    ensures app { IfOk result (λ all. app_of all ≡ timed_app (app_of sub.entry)) }
+    ensures local { IfOk result (λ all. (out-Command all).has_globals ≡ false) }
+{
+    with(sub, tick_option(alloc))
+}
+
+/// Returns a subcommand with the options of `run`.
+fn with_run_options<'a>(alloc: Global, sub: Command<'a>) -> Result<Command<'a>, AllocError>
+    requires { (out-Command sub).has_globals ≡ false }
+    ensures app { IfOk result (λ all. app_of all ≡ run_app (app_of sub.entry)) }
+    ensures local { IfOk result (λ all. (out-Command all).has_globals ≡ false) }
+{
+    let several = with(sub, workers_option(alloc))?;
+    let linked = with(several, link_option(alloc))?;
+    formatted(alloc, linked)
+}
+
+/// Returns a subcommand with the options of `candump`.
+fn with_log_options<'a>(alloc: Global, sub: Command<'a>) -> Result<Command<'a>, AllocError>
+    requires { (out-Command sub).has_globals ≡ false }
+    ensures app { IfOk result (λ all. app_of all ≡ candump_app (app_of sub.entry)) }
+    ensures local { IfOk result (λ all. (out-Command all).has_globals ≡ false) }
+{
+    let timed = timed(alloc, sub)?;
+    with(timed, from_option(alloc))
+}
+
+/// Returns a subcommand with the options of `margin`.
+fn with_margin_options<'a>(alloc: Global, sub: Command<'a>) -> Result<Command<'a>, AllocError>
+    requires { (out-Command sub).has_globals ≡ false }
+    ensures app { IfOk result (λ all. app_of all ≡ margin_app (app_of sub.entry)) }
+    ensures local { IfOk result (λ all. (out-Command all).has_globals ≡ false) }
+{
+    let timed = timed(alloc, sub)?;
+    formatted(alloc, timed)
+}
+
+/// Returns a subcommand with the options of `traffic`.
+fn with_traffic_options<'a>(alloc: Global, sub: Command<'a>) -> Result<Command<'a>, AllocError>
+    requires { (out-Command sub).has_globals ≡ false }
+    ensures app { IfOk result (λ all. app_of all ≡ traffic_app (app_of sub.entry)) }
+    ensures local { IfOk result (λ all. (out-Command all).has_globals ≡ false) }
+{
+    let timed = timed(alloc, sub)?;
+    let strict = with(timed, flag_option(alloc, "strict", STRICT))?;
+    formatted(alloc, strict)
+}
+
+/// Returns a subcommand with the options of `settings`.
+fn with_settings_options<'a>(alloc: Global, sub: Command<'a>) -> Result<Command<'a>, AllocError>
+    requires { (out-Command sub).has_globals ≡ false }
+    ensures app { IfOk result (λ all. app_of all ≡ settings_app (app_of sub.entry)) }
+    ensures local { IfOk result (λ all. (out-Command all).has_globals ≡ false) }
+{
+    let timed = timed(alloc, sub)?;
+    let counted = with(timed, best_option(alloc))?;
+    with(counted, flag_option(alloc, "plan", PLAN))
+}
+
+/// Returns a subcommand with the options of `sweep`.
+fn with_all_sweep_options<'a>(alloc: Global, sub: Command<'a>) -> Result<Command<'a>, AllocError>
+    requires { (out-Command sub).has_globals ≡ false }
+    ensures app { IfOk result (λ all. app_of all ≡ sweep_app (app_of sub.entry)) }
+    ensures local { IfOk result (λ all. (out-Command all).has_globals ≡ false) }
+{
+    let swept = with_sweep_options(alloc, sub)?;
+    formatted(alloc, swept)
+}
+
+/// Returns a subcommand with the options that its word has beside those of each.
+fn optioned<'a>(alloc: Global, word: &str, sub: Command<'a>) -> Result<Command<'a>, AllocError>
+    requires { (out-Command sub).has_globals ≡ false }
+    ensures app { IfOk result (λ all. app_of all ≡ optioned_app word.now (app_of sub.entry)) }
+    ensures local { IfOk result (λ all. (out-Command all).has_globals ≡ false) }
+{
+    match word {
+        "check" => formatted(alloc, sub),
+        "explain" => formatted(alloc, sub),
+        "trace" => formatted(alloc, sub),
+        "run" => with_run_options(alloc, sub),
+        "vcd" => timed(alloc, sub),
+        "page" => timed(alloc, sub),
+        "candump" => with_log_options(alloc, sub),
+        "margin" => with_margin_options(alloc, sub),
+        "traffic" => with_traffic_options(alloc, sub),
+        "settings" => with_settings_options(alloc, sub),
+        "sweep" => with_all_sweep_options(alloc, sub),
+        _ => Ok(sub),
+    }
+}
+
+/// Returns the subcommand of this word, with its options.
+fn subcommand<'a>(alloc: Global, word: &'a str) -> Result<Command<'a>, AllocError>
+    ensures app { IfOk result (λ sub. app_of sub ≡ subcommand_app word.now) }
+    ensures local { IfOk result (λ sub. (out-Command sub).has_globals ≡ false) }
+{
+    let sub = filed(alloc, word)?;
+    optioned(alloc, word, sub)
+}
+
+/// Returns a command with the subcommand of this word.
+fn with_word<'a>(alloc: Global, all: Command<'a>, word: &'a str) -> Result<Command<'a>, AllocError>
+    ensures { IfOk result (λ more. app_of more ≡ with_word (app_of all.entry) word.now) }
+{
+    let sub = subcommand(alloc, word)?;
+    all.subcommand(sub)
+}
+
+/// Returns the program's command without its subcommands.
+fn bare<'a>(alloc: Global) -> Command<'a>
+    ensures { app_of result ≡ bare_program }
+{
+    Command::new(alloc, "wl_sim")
+        .version("0.1.0")
+        .about("Simulates CAN 2.0 buses at the level of time quanta")
+        .after_help(SCRIPT)
+        .subcommand_required(true)
+}
+
+/// Returns a command with the subcommands of these words.
+fn with_words<'a>(
+    alloc: Global,
+    mut all: Command<'a>,
+    words: &[&'a str],
+) -> Result<Command<'a>, AllocError>
+    ensures { IfOk result (λ more. app_of more ≡ fold with_word (app_of all.entry) (map (λ w. w.now) words.now)) }
+{
+    for word in words {
+        all = with_word(alloc, all, word)?;
+    }
+    Ok(all)
+}
+
+/// Returns the whole command line.
+fn command<'a>(alloc: Global) -> Result<Command<'a>, AllocError>
+    ensures { IfOk result (λ all. app_of all ≡ program) }
+{
+    with_words(
+        alloc,
+        bare(alloc),
+        &[
+            "merge", "horizon", "check", "records", "run", "explain", "trace", "candump", "vcd",
+            "page", "margin", "traffic", "settings", "sweep",
+        ],
+    )
+}
+
+/// Returns the command line with the subcommand of this word alone.
+fn alone<'a>(alloc: Global, word: &'a str) -> Result<Command<'a>, AllocError>
+    ensures { IfOk result (λ all. app_of all ≡ program_alone word.now) }
+{
+    with_word(alloc, bare(alloc), word)
+}
+
+/// True if a word names a subcommand.
+fn is_task(word: &str) -> bool
+    ensures { result ≡ is_task_word word.now }
+{
+    match word {
+        "merge"
+        | "horizon"
+        | "check"
+        | "records"
+        | "run"
+        | "explain"
+        | "trace"
+        | "candump"
+        | "vcd"
+        | "page"
+        | "margin"
+        | "traffic"
+        | "settings"
+        | "sweep" => true,
+        _ => false,
+    }
+}
+
+/// Returns what clap finds at words that name a subcommand, by that one alone; `None` if they name none, it finds a fault in them, or memory
+/// ran out.
+fn matches_alone<'a>(alloc: Global, words: &'a [String]) -> Option<ArgMatches<'a>>
+    ensures { IfSome result (MatchesWords (map string_bytes words.now)) }
+{
+    let word = words.get(1)?.as_str();
+    if !is_task(word) {
+        return None;
+    }
+    match alone(alloc, word) {
+        Ok(all) => match all.try_get_matches_from(words) {
+            Ok(matches) => Some(matches),
+            Err(_) => None,
+        },
+        Err(_) => None,
+    }
+}
+
+/// Returns what clap finds at these words; an error that isn't out of memory is what it says to them.
+pub(crate) fn matches_of<'a>(alloc: Global, words: &'a [String]) -> Result<ArgMatches<'a>, Error>
+    ensures found { IfOk result (MatchesWords (map string_bytes words.now)) }
+    ensures memory { IfErr result (FailsByMemory (map string_bytes words.now)) }
+{
+    match matches_alone(alloc, words) {
+        Some(matches) => Ok(matches),
+        None => command(alloc)?.try_get_matches_from(words),
+    }
+}
