@@ -35,7 +35,7 @@ impl<'h, R: Wait> HubLink<'h, R> {
     /// memory.
     pub fn new(
         rt: &'h R,
-        alloc: Global,
+        _alloc: Global,
         hub: &'h Hub<PlanName>,
         pass: Pass<PlanName>,
         bell: &'h Bell,
@@ -46,7 +46,6 @@ impl<'h, R: Wait> HubLink<'h, R> {
             → IsOfPlan link.hub.now link.pass plan) }
         ensures number { IfOk result (λ link. link.worker ≡ worker) }
     {
-        let _ = alloc;
         Ok(HubLink {
             rt,
             hub,
@@ -79,8 +78,7 @@ impl<'h, R: Wait> Link for HubLink<'h, R> {
     }
 
     /// Gives records to the hub's words, and then rings the bell. The pass's list grows by exactly these records.
-    fn give(&mut self, alloc: Global, records: &[Record]) -> Result<(), LinkFault> {
-        let _ = alloc;
+    fn give(&mut self, _alloc: Global, records: &[Record]) -> Result<(), LinkFault> {
         let given = give_words(self.hub, &mut self.pass, records);
         self.bell.promise(records, &given);
         self.bell.give(self.rt, self.worker, given);
@@ -89,7 +87,7 @@ impl<'h, R: Wait> Link for HubLink<'h, R> {
 
     /// Takes what the hub has of the nodes that are no members. If the group has the first changes of a node that were handed over, it then
     /// has all that the pass has seen of it.
-    fn fetch(&mut self, alloc: Global, group: &mut Group) -> Result<bool, LinkFault>
+    fn fetch(&mut self, _alloc: Global, group: &mut Group) -> Result<bool, LinkFault>
         requires { IsOfPlan self.old.hub.now self.old.pass group.old.plan }
         ensures same { (p : GivenPlan) → IsOfPlan self.old.hub.now self.old.pass p
             → IsOfPlan self.new.hub.now self.new.pass p }
@@ -100,7 +98,6 @@ impl<'h, R: Wait> Link for HubLink<'h, R> {
         ensures known { OnOk result
             (HandsSeen self.new.hub.now self.new.pass self.old.handed self.new.handed group.old group.new) }
     {
-        let _ = alloc;
         let rings = self.bell.rings();
         let (came, heard) = learn_all(self.hub, &mut self.pass, group, &mut self.handed, rings)?;
         self.heard = heard;

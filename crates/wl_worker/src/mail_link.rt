@@ -124,8 +124,7 @@ impl<'h, R: Wait> Link for MailLink<'h, R> {
 
     /// Waits until another worker gave something after the last `fetch` began, or some worker stopped. By the promises a letter that is
     /// waited for could be the next one still, since one that isn't counted yet was taken in its place.
-    fn wait(&mut self, until: u64) -> Option<u8> {
-        let _ = until;
+    fn wait(&mut self, _until: u64) -> Option<u8> {
         self.heard.wait(self.rt, self.bell)
     }
 
