@@ -388,8 +388,7 @@ module _ (ps : Pairs) (lines : FrameLines) (id dlc : ℕ) (id_is : lines.id ≡ 
 
 -- a number from 1 on
 pub positive_number : (d : Data) (n : ℕ) → number_in largest_number d ≡ Some n → 0 < n → positive_in d ≡ Some n
-positive_number d zero is some = absurd (omega arith)
-positive_number d (suc n) is some = rw is refl
+positive_number d n is some = rw is (rw (le-leb 1 n (omega (arith, some))) refl)
 
 -- a number of a kind
 pub number_said : (most n : ℕ) → n ≤ most → number_in most (integer (pos n)) ≡ Some n
