@@ -20,13 +20,13 @@ HEADERS = {"frame": "[[node.frame]]", "rate": "[[node.rates]]"}
 
 
 def refused_text(rng):
-    """A text that is TOML and refused, with its document and its first fault; None if it is none."""
+    """A text that is TOML within the reader's limits and refused, with its document and its first fault; None if it is none."""
     text = strangers.text_of(rng, "plans")
     try:
         top = tomllib.loads(text.decode())
         plain.read_plan(text)
     except plain.Fault as fault:
-        return text, top, str(fault)
+        return None if strangers.goes_beyond(text) else (text, top, str(fault))
     except (ValueError, RecursionError):
         pass
     return None
