@@ -17,7 +17,7 @@ use crate::plan_text::{ClockText, DisturbanceText, FrameText, NodeText, PlanText
 use crate::spot::{PlacedFault, Spot};
 use crate::tables::{check_required, check_table};
 use crate::values::{
-    bytes_at, elements_at, name_at, number_at, positive_at, ppm_at, small_at, some_name_at,
+    bytes_at, elements_at, elements_in, name_at, number_at, positive_at, ppm_at, small_at, some_name_at,
     sync_choice_at, tolerance_at, truth_at, value_at,
 };
 use std::alloc::Global;
@@ -76,19 +76,6 @@ fn rows<T: Row>(
     Ok(rows)
 }
 
-/// Returns the elements of the array that a value is, none if it is none.
-fn elements(value: Option<&Value>) -> &[Value]
-    ensures { map view result.now ≡ elements_said (value_data value.entry) }
-{
-    match value {
-        Some(value) => match value.as_array() {
-            Some(array) => array.as_slice(),
-            None => &[],
-        },
-        None => &[],
-    }
-}
-
 /// Returns the tables in the array that a value is. Returns nothing if one has a fault, or if memory was refused.
 pub(crate) fn tables_in_line<T: Row>(
     alloc: Global,
@@ -98,7 +85,7 @@ pub(crate) fn tables_in_line<T: Row>(
     ensures fault { IfSome result (λ _. first_in (T.fault version 0) (tables_said (value_data value.entry)) ≡ None) }
     ensures tables { IfSome result (λ ts. ts ≡ map (T.make version) (tables_said (value_data value.entry))) }
 {
-    match rows(alloc, version, 0, elements(value)) {
+    match rows(alloc, version, 0, elements_in(value)) {
         Ok(tables) => Some(tables),
         Err(_) => None,
     }

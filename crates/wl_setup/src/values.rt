@@ -287,7 +287,7 @@ pub fn name_at<K: TableKey>(alloc: Global, table: &Table, key: K) -> Result<Text
 }
 
 /// Returns the elements of the array that a value is, none if it is none.
-fn elements_in(value: Option<&Value>) -> &[Value]
+pub(crate) fn elements_in(value: Option<&Value>) -> &[Value]
     ensures { map view result.now ≡ elements_said (value_data value.entry) }
 {
     match value {
