@@ -25,7 +25,7 @@ use Rattle.wl_machine.specs.Stretch.Sort.{Idle, Framing, Flagging, Intermission}
 use Rattle.wl_machine.specs.Stretch.Input.{Sample}
 use Rattle.wl_machine.specs.Flags.{error_flag, fails}
 use Rattle.wl_machine.specs.Frames.{differing, drive_up_to, frame_role, framing, framing_by, framing_received, framing_sent, is_lost, sent_at, stuffed_drive, stuffed_end, tail_drive}
-use Rattle.wl_machine.specs.Quiet.{idle_on}
+use Rattle.wl_machine.specs.BetweenFrames.{idle_on}
 use Rattle.wl_machine.specs.Judged.{drive_of, head_of, judged, judged_by, or_next, stretch_after, stretch_of}
 use Rattle.wl_machine.specs.Laws.{FoundSent}
 use Rattle.wl_machine.specs.States.{stretch_by}

@@ -21,7 +21,7 @@ use Rattle.wl_machine.specs.Stretch.{Sampled, Stretch, begins}
 use Rattle.wl_machine.specs.Stretch.Sort.{Framing, Idle}
 use Rattle.wl_machine.specs.Stretch.Input.{Sample as Given}
 use Rattle.wl_machine.specs.Frames.{stuffed_end}
-use Rattle.wl_machine.specs.Quiet.{idle_on}
+use Rattle.wl_machine.specs.BetweenFrames.{idle_on}
 use Rattle.wl_machine.specs.Judged.{awaits_by, awaits_start, drive_of, is_idle_sort, judged, judged_by, or_next, stretch_after, stretch_of}
 use Rattle.wl_machine.specs.States.{stretch_by}
 use Rattle.wl_machine.proofs.Callers.{stretch_next}

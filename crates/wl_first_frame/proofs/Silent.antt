@@ -25,7 +25,7 @@ use Rattle.wl_machine.specs.Stretch.{Judgement, Sampled, Stretch, begins, contin
 use Rattle.wl_machine.specs.Stretch.Sort.{Idle, Integration}
 use Rattle.wl_machine.specs.Stretch.Ended.{NoFrame}
 use Rattle.wl_machine.specs.Stretch.Input.{Sample}
-use Rattle.wl_machine.specs.Quiet.{idle_on}
+use Rattle.wl_machine.specs.BetweenFrames.{idle_on}
 use Rattle.wl_machine.specs.Judged.{drive_by, drive_of, judged, judged_by, or_next, stretch_after, stretch_of}
 use Rattle.wl_machine.specs.States.{sample_of, stretch_by}
 use Rattle.wl_machine.proofs.Callers.{stretch_next}

@@ -14,7 +14,7 @@ use Rattle.wl_frame.proofs.Callers.{kept_old, length_more}
 use Rattle.wl_machine.specs.declared.state.Role.{Role}
 use Rattle.wl_machine.specs.declared.state.Role.TheVariants.{Rx, Tx}
 use Rattle.wl_machine.specs.Stretch.{Ended, Judgement, Sampled, Stretch, begins, continues, free}
-use Rattle.wl_machine.specs.Quiet.{after_intermission}
+use Rattle.wl_machine.specs.BetweenFrames.{after_intermission}
 use Rattle.wl_confine.specs.declared.Mode.TheVariants.{Active}
 use Rattle.wl_machine.specs.Stretch.Ended.{NoFrame, Received, Sent}
 use Rattle.wl_machine.specs.Stretch.Input.{Sample}

@@ -13,7 +13,7 @@ use Rattle.wl_machine.specs.declared.progress.Step.{Step}
 use Rattle.wl_machine.specs.declared.state.State.TheVariants as states
 use Rattle.wl_machine.specs.Stretch.{Sampled, continues, begins, free}
 use Rattle.wl_machine.specs.Stretch.Sort.{Integration, OffBus}
-use Rattle.wl_machine.specs.Quiet.{recessive_runs}
+use Rattle.wl_machine.specs.BetweenFrames.{recessive_runs}
 use Rattle.wl_machine.specs.States.{IsIn, IsBusOff, Meets, stretch_by}
 use Rattle.wl_machine.proofs.Steps.{says, meets_on, meets_end}
 

@@ -16,7 +16,7 @@ use Rattle.wl_machine.specs.Stretch.Flag.{ActiveFlag, OverloadFlag, PassiveFlag}
 use Rattle.wl_machine.specs.Stretch.Sort.{Integration, Idle, Framing, Flagging, Waiting, Delimiting, Intermission, Suspension, OffBus}
 use Rattle.wl_machine.specs.Stretch.Ended.{Sent, Received}
 use Rattle.wl_machine.specs.Flags.{error_of, error_flag, fails, dominant_flag, flagging, waiting, delimiting}
-use Rattle.wl_machine.specs.Quiet.{integration, idle, idle_on, intermission, begun_head, after_intermission, suspension, off_bus}
+use Rattle.wl_machine.specs.BetweenFrames.{integration, idle, idle_on, intermission, begun_head, after_intermission, suspension, off_bus}
 use Rattle.wl_machine.specs.Frames.{stuffed_end, frame_role, differing, unanswered, sent_tail, received_tail, framing_sent, framing_received, framing_by}
 use Rattle.wl_machine.specs.States.{stretch_by}
 use Rattle.wl_machine.specs.Judged.{judged_by, judged, head_of}

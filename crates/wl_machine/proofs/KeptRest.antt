@@ -16,7 +16,7 @@ use Rattle.wl_machine.specs.Stretch.{Sort, Stretch}
 use Rattle.wl_machine.specs.Stretch.Flag.{PassiveFlag}
 use Rattle.wl_machine.specs.Stretch.Sort.{Integration, Idle, Framing, Flagging, Waiting, Delimiting, Intermission, Suspension, OffBus}
 use Rattle.wl_machine.specs.Frames.{stuffed_end, frame_role}
-use Rattle.wl_machine.specs.Rest.{recessive_run, rest_at, rest_in_frame, rest_by, rest_of, state_rest}
+use Rattle.wl_machine.specs.RecessiveStay.{recessive_run, rest_at, rest_in_frame, rest_by, rest_of, state_rest}
 use Rattle.wl_machine.specs.States.{IsIn, IsAtState, IsTail, flag_of}
 use Rattle.wl_machine.proofs.KeptSilence.{silence_at}
 

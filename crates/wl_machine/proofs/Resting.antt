@@ -19,10 +19,10 @@ use Rattle.wl_machine.specs.Stretch.Flag.{ActiveFlag, OverloadFlag, PassiveFlag}
 use Rattle.wl_machine.specs.Stretch.Sort.{Integration, Idle, Framing, Flagging, Waiting, Delimiting, Intermission, Suspension, OffBus}
 use Rattle.wl_machine.specs.Stretch.Input.{Sample, SwitchedOff}
 use Rattle.wl_machine.specs.Frames.{stuffed_end, frame_role, frame_drive, drive_up_to, tail_drive, framing, sent_tail, received_tail}
-use Rattle.wl_machine.specs.Quiet.{recessive_runs, after_intermission, idle_on}
+use Rattle.wl_machine.specs.BetweenFrames.{recessive_runs, after_intermission, idle_on}
 use Rattle.wl_machine.specs.Judged.{judged, or_next, stretch_after, stretch_of, drive_of}
 use Rattle.wl_machine.specs.Silence.{silence_in_frame, silence_of}
-use Rattle.wl_machine.specs.Rest.{RestsFor, IsRecessive, rest_at, rest_in_frame, rest_by, rest_of}
+use Rattle.wl_machine.specs.RecessiveStay.{RestsFor, IsRecessive, rest_at, rest_in_frame, rest_by, rest_of}
 use Rattle.wl_machine.specs.States.{IsTail, sample_of, stretch_by}
 use Rattle.wl_machine.proofs.Between.{run_recessive, runs_same, runs_one}
 use Rattle.wl_machine.proofs.Framed.{role_receives, tail_next, tail_bits, tail_sends}

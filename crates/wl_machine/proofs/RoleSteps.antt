@@ -19,7 +19,7 @@ use Rattle.wl_machine.specs.Stretch.Sort.{Integration, Idle, Framing, Flagging, 
 use Rattle.wl_machine.specs.Stretch.Input.{Sample, SwitchedOff}
 use Rattle.wl_machine.specs.Stretch.Ended.{Sent, Received}
 use Rattle.wl_machine.specs.Flags.{error_of, flag_bit_of, long_of, error_flag, fails, dominant_flag, flagging, waiting, delimiting, is_after_flag}
-use Rattle.wl_machine.specs.Quiet.{integration, idle, idle_on, intermission, begun_head, after_intermission, suspension, off_bus}
+use Rattle.wl_machine.specs.BetweenFrames.{integration, idle, idle_on, intermission, begun_head, after_intermission, suspension, off_bus}
 use Rattle.wl_machine.specs.Frames.{stuffed_end, sent_at, frame_role, differing, unanswered, sent_tail, received_tail, framing_sent, framing_received, framing_by}
 use Rattle.wl_machine.specs.States.{stretch_by}
 use Rattle.wl_machine.specs.Judged.{judged_by, judged, or_next, stretch_after, stretch_of, role_by, role_of}

@@ -15,8 +15,8 @@ use Rattle.wl_machine.specs.Stretch.Flag.{PassiveFlag}
 use Rattle.wl_machine.specs.Stretch.Ended.{Sent, Received}
 use Rattle.wl_machine.specs.Stretch.Input.{Sample, SwitchedOff}
 use Rattle.wl_machine.specs.Judged.{awaits_start, judged, stretch_of, stretch_after, drive_of, role_of}
-use Rattle.wl_machine.specs.Quiet.{begun_head}
-use Rattle.wl_machine.specs.Rest.{rest_by, rest_of}
+use Rattle.wl_machine.specs.BetweenFrames.{begun_head}
+use Rattle.wl_machine.specs.RecessiveStay.{rest_by, rest_of}
 
 abbrev heard : Level → Sampled
 heard level = record { level = level; head = None; mode = Active }

@@ -22,7 +22,7 @@ use Rattle.wl_machine.specs.Stretch.Sort.{Integration, Idle, Framing, Flagging, 
 use Rattle.wl_machine.specs.Stretch.Input.{Sample}
 use Rattle.wl_machine.specs.Flags.{fails, long_from, dominant_run, is_after_flag, is_each_eighth}
 use Rattle.wl_machine.specs.Frames.{stuffed_end, frame_role, frame_drive, drive_up_to, stuffed_drive, tail_drive}
-use Rattle.wl_machine.specs.Quiet.{recessive_runs, idle_on}
+use Rattle.wl_machine.specs.BetweenFrames.{recessive_runs, idle_on}
 use Rattle.wl_machine.specs.Judged.{judged, or_next, stretch_after, drive_of}
 use Rattle.wl_machine.specs.Silence.{silence_in_frame, silence_by, silence_of}
 use Rattle.wl_machine.specs.States.{stretch_by}

@@ -11,7 +11,7 @@ use Rattle.wl_machine.specs.Stretch.Flag.{ActiveFlag, OverloadFlag}
 use Rattle.wl_machine.specs.Stretch.Input.{Sample, SwitchedOff}
 use Rattle.wl_machine.specs.Frames.{framing, frame_role, frame_drive}
 use Rattle.wl_machine.specs.Flags.{flagging, waiting, delimiting}
-use Rattle.wl_machine.specs.Quiet.{integration, idle, intermission, suspension, off_bus}
+use Rattle.wl_machine.specs.BetweenFrames.{integration, idle, intermission, suspension, off_bus}
 
 -- what a sample does, by the sort of the stretch that it comes in and the samples of that stretch before it
 abbrev pub judged_by : Sort → List Level → Sampled → Judgement

@@ -1,13 +1,13 @@
 pub mod Stretch
 pub mod Flags
-pub mod Quiet
+pub mod BetweenFrames
 pub mod Frames
 pub mod Judged
 pub mod Silence
 pub mod States
 pub mod Keeps
 pub mod Reached
-pub mod Rest
+pub mod RecessiveStay
 pub mod Roles
 pub mod Laws
 pub mod Doing

@@ -16,7 +16,7 @@ use Rattle.wl_machine.specs.Stretch.Flag.{PassiveFlag}
 use Rattle.wl_machine.specs.Stretch.Sort.{Integration, Idle, Framing, Flagging, Waiting, Suspension, OffBus}
 use Rattle.wl_machine.specs.Stretch.Input.{Sample, SwitchedOff}
 use Rattle.wl_machine.specs.Frames.{stuffed_end, frame_role}
-use Rattle.wl_machine.specs.Quiet.{recessive_runs}
+use Rattle.wl_machine.specs.BetweenFrames.{recessive_runs}
 use Rattle.wl_machine.specs.Judged.{stretch_after, drive_of}
 
 -- A receiver in the stuffed part of a frame: it finds an error only with the sixth equal bit, and acknowledges no frame before its last bit, of which the bits

@@ -26,7 +26,7 @@ use Rattle.wl_machine.specs.Stretch.Input.{Sample}
 use Rattle.wl_machine.specs.Stretch.Ended.{NoFrame, Sent, Received}
 use Rattle.wl_machine.specs.Frames.{stuffed_end, frame_role}
 use Rattle.wl_machine.specs.Flags.{long_from, dominant_run, is_after_flag}
-use Rattle.wl_machine.specs.Quiet.{recessive_runs}
+use Rattle.wl_machine.specs.BetweenFrames.{recessive_runs}
 use Rattle.wl_machine.specs.Judged.{judged, stretch_after, stretch_of}
 
 -- a count of the samples of a stretch

@@ -97,21 +97,21 @@ impl Progress {
     pub fn passive_flag(
         &mut self,
         role: Role,
-        is_owed: bool,
+        counts_missing_ack: bool,
         last: Level,
         run: u8,
         level: Level,
     ) -> Step
         requires { run < 6 }
         ensures { (own : List Level) (head : Option Content) (mode : Mode) (unacknowledged : Bool)
-            → IsPassive is_owed unacknowledged last run own
+            → IsPassive counts_missing_ack unacknowledged last run own
             → Meets self.new result (stretch_by (FlaggingSort (PassiveSort unacknowledged) role) own) (sample_of level head mode) }
     {
         let run = if level.is(last) { run + 1 } else { 1 };
         self.state = if run < 6 {
             State::PassiveFlag {
                 role,
-                is_owed: is_owed & !level.is_dominant(),
+                counts_missing_ack: counts_missing_ack & !level.is_dominant(),
                 last: level,
                 run,
             }
@@ -122,7 +122,7 @@ impl Progress {
                 until_long: LONG_AFTER_PASSIVE_FLAG,
             }
         };
-        let counts = is_owed & level.is_dominant();
+        let counts = counts_missing_ack & level.is_dominant();
         plain(if counts {
             Happened::PassiveAck
         } else {

@@ -239,7 +239,7 @@ impl Progress {
             Mode::Passive => {
                 self.state = State::PassiveFlag {
                     role: Role::Tx,
-                    is_owed: true,
+                    counts_missing_ack: true,
                     last: Level::Recessive,
                     run: 0,
                 };

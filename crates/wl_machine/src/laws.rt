@@ -13,7 +13,7 @@ ghost use Rattle.wl_machine.specs.Stretch.Ended.{Sent as SentFrame};
 ghost use Rattle.wl_machine.specs.Frames.{stuffed_end};
 ghost use Rattle.wl_machine.specs.Judged.{judged, stretch_of, stretch_after, head_of};
 ghost use Rattle.wl_machine.specs.Laws.{HeadLaws, NoneEnds, FoundSent, longer_stretch};
-ghost use Rattle.wl_machine.specs.Rest.{RestLaws};
+ghost use Rattle.wl_machine.specs.RecessiveStay.{RestLaws};
 ghost use Rattle.wl_machine.specs.Roles.{RoleLaws};
 ghost use Rattle.wl_machine.specs.Silence.{SilenceLaws};
 ghost use Rattle.wl_machine.specs.States.{stretch_by};

@@ -11,14 +11,14 @@ use wl_confine::{Happened, Mode};
 use wl_frame::frame::{Frame, FrameBits};
 use wl_level::Level;
 
+mod between_frames;
 mod copy;
 mod doing;
 mod flags;
 mod framing;
 pub mod laws;
 mod progress;
-mod quiet;
-mod rest;
+mod recessive_stay;
 mod silence;
 mod state;
 
@@ -66,7 +66,7 @@ impl Machine {
     ghost use Rattle.wl_machine.specs.Judged.{awaits_start, judged, stretch_of, drive_of, is_free_sort, is_idle_sort};
     ghost use Rattle.wl_machine.specs.States.{sample_of, done_of};
     ghost use Rattle.wl_machine.specs.Keeps.{keeps};
-    ghost use Rattle.wl_machine.specs.Rest.{rest_of, IsRecessive};
+    ghost use Rattle.wl_machine.specs.RecessiveStay.{rest_of, IsRecessive};
     ghost use Rattle.wl_machine.specs.Silence.{silence_of};
     ghost use Rattle.wl_machine.specs.Stretch.{Sampled, continues};
     ghost use Rattle.wl_frame.specs.Grammar.{Content};

@@ -122,7 +122,7 @@ impl Progress {
         } else {
             State::PassiveFlag {
                 role,
-                is_owed: false,
+                counts_missing_ack: false,
                 last: Level::Recessive,
                 run: 0,
             }
@@ -164,10 +164,10 @@ impl Progress {
             } => self.dominant_flag(cause, role, count, run, level),
             State::PassiveFlag {
                 role,
-                is_owed,
+                counts_missing_ack,
                 last,
                 run,
-            } => self.passive_flag(role, is_owed, last, run, level),
+            } => self.passive_flag(role, counts_missing_ack, last, run, level),
             State::Wait {
                 role,
                 is_late,

@@ -52,10 +52,10 @@ pub enum State {
         count: u8,
         run: u8,
     },
-    /// A passive flag: `run` samples are equal to `last`; `is_owed`: its first dominant sample is still to count.
+    /// A passive flag: `run` samples are equal to `last`; `counts_missing_ack`: its first dominant sample is still to count.
     PassiveFlag {
         role: Role,
-        is_owed: bool,
+        counts_missing_ack: bool,
         last: Level,
         run: u8,
     },

@@ -10,7 +10,7 @@ use Rattle.wl_sync.specs.Running.{clock_after}
 use Rattle.wl_sync.specs.Skips.{IsSampledAfter}
 use Rattle.wl_node.specs.declared.setup.NodeSetup.{NodeSetup}
 use Rattle.wl_node.specs.declared.traffic.Traffic.{Traffic}
-use Rattle.wl_node.specs.declared.progress.Progress.{Progress}
+use Rattle.wl_node.specs.declared.progress.NodeProgress.{NodeProgress}
 use Rattle.wl_node.specs.History.{History, history_of, history_after, history_after_sample, seen_next, by_beat, syncs_at}
 use Rattle.wl_node.specs.Kept.{IsProgress, IsTraffic, FitsHistory}
 use Rattle.wl_node.specs.Quiet.{pending_of}
@@ -62,7 +62,7 @@ module _ (setup : NodeSetup) (levels : List Level) (level : Level) (n : ℕ)
       (ap (λ s. h.syncs ++ syncs_at (length up_to.seen) s) (is.unmoved n (omega arith)) ∙ append-nil h.syncs)
 
   -- where it puts what a node keeps
-  pub heard_place : (old new : Progress) → IsProgress setup old levels → new.clock ≡ clock_after setup.segments (h.seen ++ replicate (suc n) x) → new.drive ≡ old.drive
+  pub heard_place : (old new : NodeProgress) → IsProgress setup old levels → new.clock ≡ clock_after setup.segments (h.seen ++ replicate (suc n) x) → new.drive ≡ old.drive
       → new.syncs ≡ old.syncs → new.quanta ≡ old.quanta + suc n → IsTraffic setup new.traffic (history_after_sample setup up_to level)
       → IsProgress setup new (levels ++ replicate (suc n) level)
   heard_place old new was clock drive syncs quanta traffic =

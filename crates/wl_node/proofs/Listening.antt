@@ -5,7 +5,7 @@ use Rattle.wl_level.specs.declared.Level.{Level}
 use Rattle.wl_sync.specs.declared.Beat.TheVariants.{Sample}
 use Rattle.wl_sync.specs.Bits.{beat_of, sync_of}
 use Rattle.wl_node.specs.declared.setup.NodeSetup.{NodeSetup}
-use Rattle.wl_node.specs.declared.progress.Progress.{Progress}
+use Rattle.wl_node.specs.declared.progress.NodeProgress.{NodeProgress}
 use Rattle.wl_node.specs.History.{History, history_of, history_after, seen_next, syncs_at}
 use Rattle.wl_node.specs.Kept.{HasProgressedBy, KeepsDrive}
 use Rattle.wl_node.specs.Quiet.{pending_of}
@@ -13,7 +13,7 @@ use Rattle.wl_node.proofs.Gone.{joined}
 use Rattle.wl_node.proofs.Skipped.{nothing_done}
 
 -- so many quanta, and so many more
-module _ (setup : NodeSetup) (level : Level) (a b : ℕ) (old mid new : Progress) (first : HasProgressedBy setup level a old mid) where
+module _ (setup : NodeSetup) (level : Level) (a b : ℕ) (old mid new : NodeProgress) (first : HasProgressedBy setup level a old mid) where
   pub progressed_more : HasProgressedBy setup level b mid new → HasProgressedBy setup level (a + b) old new
   progressed_more second levels is =
       (let more = second (levels ++ replicate a level) (first levels is) in rw (sym (joined levels level a b)) more)

@@ -13,7 +13,7 @@ use Rattle.wl_machine.specs.Stretch.{Stretch, Sampled, Judgement, continues}
 use Rattle.wl_machine.specs.Stretch.Input.{Sample}
 use Rattle.wl_machine.specs.Stretch.Sort.{Idle}
 use Rattle.wl_machine.specs.Judged.{judged, judged_by, or_next, stretch_of, drive_by, drive_of, head_of, is_free_sort}
-use Rattle.wl_machine.specs.Quiet.{idle_on}
+use Rattle.wl_machine.specs.BetweenFrames.{idle_on}
 use Rattle.wl_machine.specs.Reached.{IsMachine}
 use Rattle.wl_machine.specs.States.{sample_of}
 use Rattle.wl_machine.proofs.Callers.{free_sort, stretch_next}

@@ -12,10 +12,10 @@ use Rattle.wl_sync.specs.Skips.{IsRestingBit}
 use Rattle.wl_machine.specs.Reached.{IsMachine}
 use Rattle.wl_node.specs.declared.setup.NodeSetup.{NodeSetup}
 use Rattle.wl_node.specs.declared.traffic.Traffic.{Traffic}
-use Rattle.wl_node.specs.declared.progress.Progress.{Progress}
+use Rattle.wl_node.specs.declared.progress.NodeProgress.{NodeProgress}
 use Rattle.wl_node.specs.History.{History, history_of, history_after, history_after_sample, ready_head, seen_next, unsent_of, sampled_next, by_beat, syncs_at}
 use Rattle.wl_node.specs.Kept.{AreSyncs, IsProgress, FitsHistory}
-use Rattle.wl_node.specs.Rest.{AlwaysRests, IsRest}
+use Rattle.wl_node.specs.IdleBits.{AlwaysRests, IsRest}
 use Rattle.wl_node.specs.Runs.{samples_by, samples_from}
 use Rattle.wl_node.proofs.Gone.{joined}
 use Rattle.wl_node.proofs.Rested.{IsApart, apart, rests_apart}
@@ -24,17 +24,17 @@ use Rattle.wl_node.proofs.Skipped.{seen_more, same_history, IsIdleFor, history_s
 use Rattle.wl_node.proofs.Turns.{history_next}
 
 -- a node is where its history puts it, but for its samples and quanta
-pub record IsBeside (setup : NodeSetup) (kept : Progress) (h : History) : Type 0 where
+pub record IsBeside (setup : NodeSetup) (kept : NodeProgress) (h : History) : Type 0 where
   pub clock : kept.clock ≡ clock_after setup.segments h.seen
   pub drive : kept.drive ≡ h.drive
   pub syncs : AreSyncs kept.syncs h.syncs
   pub apart : IsApart setup kept.traffic h
 
-pub beside : (setup : NodeSetup) (kept : Progress) (h : History) → FitsHistory setup kept h → IsBeside setup kept h
+pub beside : (setup : NodeSetup) (kept : NodeProgress) (h : History) → FitsHistory setup kept h → IsBeside setup kept h
 beside setup kept h is = record { clock = is.clock; drive = is.drive; syncs = is.syncs; apart = apart setup kept.traffic h is.traffic }
 
 -- where no frame is ready at the sample
-pub rests_here : (setup : NodeSetup) (h : History) (kept : Progress) (n : ℕ) → AlwaysRests kept n → IsBeside setup kept h
+pub rests_here : (setup : NodeSetup) (h : History) (kept : NodeProgress) (n : ℕ) → AlwaysRests kept n → IsBeside setup kept h
     → ready_head (drop kept.traffic.sent setup.queue) (length h.seen + n - 1) ≡ None → IsRest setup kept h n
 rests_here setup h kept n rests is none =
     let bit : IsRestingBit setup.segments h.seen (seen_next h Recessive) n = rests.bit setup.segments h.seen is.clock (seen_next h Recessive) refl in
@@ -49,7 +49,7 @@ rests_here setup h kept n rests is none =
     }
 
 -- one bit
-module _ (setup : NodeSetup) (levels : List Level) (kept : Progress) (n : ℕ) (is : IsBeside setup kept (history_of setup levels)) (rest : IsRest setup kept (history_of setup levels) n) where
+module _ (setup : NodeSetup) (levels : List Level) (kept : NodeProgress) (n : ℕ) (is : IsBeside setup kept (history_of setup levels)) (rest : IsRest setup kept (history_of setup levels) n) where
   abbrev h : History
   h = history_of setup levels
 
@@ -137,7 +137,7 @@ module _ (setup : NodeSetup) (levels : List Level) (kept : Progress) (n : ℕ) (
   ]
 
 -- bit after bit, as long as no frame is ready
-module _ (setup : NodeSetup) (kept : Progress) (n : ℕ) (some : 0 < n) (rests : AlwaysRests kept n) (levels : List Level) (old : IsProgress setup kept levels) where
+module _ (setup : NodeSetup) (kept : NodeProgress) (n : ℕ) (some : 0 < n) (rests : AlwaysRests kept n) (levels : List Level) (old : IsProgress setup kept levels) where
   abbrev at : ℕ → List Level
   at k = levels ++ replicate (k * n) Recessive
 

@@ -16,7 +16,7 @@ use Rattle.wl_machine.specs.Stretch.{Stretch, Sampled, Input}
 use Rattle.wl_machine.specs.Stretch.Input.{Sample as Given, SwitchedOff}
 use Rattle.wl_machine.specs.Judged.{judged, or_next, stretch_of, stretch_after, head_of}
 use Rattle.wl_machine.specs.Laws.{HeadLaws}
-use Rattle.wl_machine.specs.Rest.{RestLaws, RestsFor, rest_of}
+use Rattle.wl_machine.specs.RecessiveStay.{RestLaws, RestsFor, rest_of}
 use Rattle.wl_machine.specs.Silence.{SilenceLaws}
 use Rattle.wl_machine.proofs.Callers.{stretch_next}
 use Rattle.wl_node.specs.declared.setup.Queued.{Queued}

@@ -13,7 +13,7 @@ use Rattle.wl_node.specs.declared.setup.Queued.{Queued}
 use Rattle.wl_node.specs.declared.setup.NodeSetup.{NodeSetup}
 use Rattle.wl_node.specs.declared.syncs.Syncs.{Syncs}
 use Rattle.wl_node.specs.declared.traffic.Traffic.{Traffic}
-use Rattle.wl_node.specs.declared.progress.Progress.{Progress}
+use Rattle.wl_node.specs.declared.progress.NodeProgress.{NodeProgress}
 use Rattle.wl_node.specs.History.{History, history_of, is_sent, unsent_of, error_count, phase_of, is_hard}
 use Rattle.wl_node.specs.Runs.{samples_by}
 
@@ -39,7 +39,7 @@ pub record IsTraffic (setup : NodeSetup) (kept : Traffic) (h : History) : Type 0
   pub sends : (frame : Content) → head_of (stretch_of h.inputs).sort ≡ Some frame → first_frame (unsent_of setup h) ≡ Some frame
 
 -- a node is where its history puts it
-pub record FitsHistory (setup : NodeSetup) (kept : Progress) (h : History) : Type 0 where
+pub record FitsHistory (setup : NodeSetup) (kept : NodeProgress) (h : History) : Type 0 where
   pub clock : kept.clock ≡ clock_after setup.segments h.seen
   pub drive : kept.drive ≡ h.drive
   pub quanta : kept.quanta ≡ length h.seen
@@ -47,34 +47,34 @@ pub record FitsHistory (setup : NodeSetup) (kept : Progress) (h : History) : Typ
   pub traffic : IsTraffic setup kept.traffic h
 
 -- a node is where these levels put it, one for each of its quanta
-pub record IsProgress (setup : NodeSetup) (kept : Progress) (levels : List Level) : Type 0 where
+pub record IsProgress (setup : NodeSetup) (kept : NodeProgress) (levels : List Level) : Type 0 where
   pub counted : length (history_of setup levels).seen ≡ length levels
   pub place : FitsHistory setup kept (history_of setup levels)
 
 -- the same of every setup with these segments, before any level
-abbrev pub HasSeenNothing : Lengths → Progress → Type 0
+abbrev pub HasSeenNothing : Lengths → NodeProgress → Type 0
 HasSeenNothing segments kept = (setup : NodeSetup) → setup.segments ≡ segments → IsProgress setup kept []
 
 -- whatever setup and levels put the old one where it is, put the new one where that is
-abbrev pub IsSameProgress : Progress → Progress → Type 0
+abbrev pub IsSameProgress : NodeProgress → NodeProgress → Type 0
 IsSameProgress old new = (setup : NodeSetup) (levels : List Level) → IsProgress setup old levels → IsProgress setup new levels
 
 -- at one quantum more, a node of this setup has seen this level
-abbrev pub HasProgressed : NodeSetup → Level → Progress → Progress → Type 0
+abbrev pub HasProgressed : NodeSetup → Level → NodeProgress → NodeProgress → Type 0
 HasProgressed setup level old new = (levels : List Level) → IsProgress setup old levels → IsProgress setup new (levels ++ level ∷ [])
 
 -- at so many quanta more, a node of this setup has seen this level
-abbrev pub HasProgressedBy : NodeSetup → Level → ℕ → Progress → Progress → Type 0
+abbrev pub HasProgressedBy : NodeSetup → Level → ℕ → NodeProgress → NodeProgress → Type 0
 HasProgressedBy setup level n old new = (levels : List Level) → IsProgress setup old levels → IsProgress setup new (levels ++ replicate n level)
 
 -- before the last of so many quanta of this level, a node of this setup drives what it drove before them
-abbrev pub KeepsDrive : NodeSetup → Level → ℕ → Progress → Type 0
+abbrev pub KeepsDrive : NodeSetup → Level → ℕ → NodeProgress → Type 0
 KeepsDrive setup level n kept =
     (m : ℕ) → m < n → (levels : List Level) → IsProgress setup kept levels
     → (history_of setup (levels ++ replicate m level)).drive ≡ (history_of setup levels).drive
 
 -- there is room for what one more quantum stores
-pub record IsRoomy (kept : Progress) : Type 0 where
+pub record IsRoomy (kept : NodeProgress) : Type 0 where
   pub samples : vec_len kept.traffic.samples.runs < vec_capacity kept.traffic.samples.runs
   pub frames : vec_len kept.traffic.frames < vec_capacity kept.traffic.frames
   pub phases : vec_len kept.syncs.phases < vec_capacity kept.syncs.phases

@@ -6,7 +6,7 @@ pub mod Limits
 pub mod Marks
 pub mod Quiet
 pub mod Reached
-pub mod Rest
+pub mod IdleBits
 pub mod Runs
 pub mod Same
 pub mod Stays

@@ -4,7 +4,7 @@ use Rattle.wl_level.specs.Levels.{is_dominant}
 use Rattle.wl_segments.specs.Lengths.{least_way}
 use Rattle.wl_sync.specs.SampleLaws.{quanta_to_sample}
 use Rattle.wl_machine.specs.Judged.{stretch_of, is_free_sort}
-use Rattle.wl_machine.specs.Rest.{rest_of}
+use Rattle.wl_machine.specs.RecessiveStay.{rest_of}
 use Rattle.wl_node.specs.declared.setup.Queued.{Queued}
 use Rattle.wl_node.specs.declared.setup.NodeSetup.{NodeSetup}
 use Rattle.wl_node.specs.History.{History, unsent_of}

@@ -7,7 +7,7 @@ use wl_level::Level;
 impl Node {
     ghost use Rattle.std.specs.Prelude.{◌≡◌, ℕ, ◌+◌, ◌*◌, ◌<◌, ◌≤◌, OnErr, IfOk, None, drop, vec_len, vec_capacity};
     ghost use Rattle.wl_node.specs.History.{ready_head};
-    ghost use Rattle.wl_node.specs.Rest.{AlwaysRests};
+    ghost use Rattle.wl_node.specs.IdleBits.{AlwaysRests};
     ghost use Rattle.wl_node.specs.Limits.{most_run_quanta};
     ghost use Rattle.wl_node.specs.Reached.{quanta_of, HasGone, HasStopped, StandsFor, TurnsAfter};
 

@@ -6,11 +6,11 @@ ghost use Rattle.wl_sync.specs.Skips.{quanta_before_sample, IsSampleAhead};
 ghost use Rattle.wl_node.specs.Kept.{HasProgressedBy, KeepsDrive};
 ghost use Rattle.wl_node.specs.Limits.{most_run_quanta};
 
-use crate::progress::Progress;
+use crate::progress::NodeProgress;
 use crate::setup::NodeSetup;
 use wl_level::Level;
 
-impl Progress {
+impl NodeProgress {
     /// Runs quanta of this level up to and including the next sample, in a node that drives what its machine wants. If the sample comes
     /// later than `most` quanta, it runs `most`. If an edge comes, or if there is no room, it runs none. Returns how many.
     #[inline(always)]

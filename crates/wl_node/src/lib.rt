@@ -4,6 +4,7 @@
 mod ahead;
 mod go;
 mod hear;
+mod idle_bits;
 mod laws;
 mod limits;
 mod listen;
@@ -11,7 +12,6 @@ mod mark;
 mod node;
 mod progress;
 mod quiet;
-mod rest;
 mod samples;
 pub mod setup;
 mod stays;

@@ -7,11 +7,11 @@ ghost use Rattle.wl_node.specs.declared.setup.NodeSetup.{NodeSetup};
 ghost use Rattle.wl_node.specs.Kept.{HasProgressedBy, KeepsDrive};
 ghost use Rattle.wl_node.specs.Limits.{most_run_quanta};
 
-use crate::progress::Progress;
+use crate::progress::NodeProgress;
 use wl_level::Level;
 use wl_sync::Beat;
 
-impl Progress {
+impl NodeProgress {
     /// Runs quanta of this level as long as the machine only keeps what is sampled: at most `most`. The first of them may find an edge. It
     /// runs none if there is no room. Returns how many.
     #[inline(always)]

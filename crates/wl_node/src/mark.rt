@@ -67,7 +67,7 @@ impl Node {
     }
 }
 
-impl crate::progress::Progress {
+impl crate::progress::NodeProgress {
     ghost use Rattle.std.specs.Prelude.{◌≡◌, ◌++◌, List};
     ghost use Rattle.wl_level.specs.declared.Level.{Level};
     ghost use Rattle.wl_node.specs.declared.setup.NodeSetup.{NodeSetup};

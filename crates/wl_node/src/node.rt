@@ -4,7 +4,7 @@ ghost use Rattle.std.specs.Prelude.{◌≤◌, List, ℕ};
 ghost use Rattle.wl_level.specs.declared.Level.{Level};
 ghost use Rattle.wl_node.specs.Kept.{IsProgress};
 
-use crate::progress::Progress;
+use crate::progress::NodeProgress;
 use crate::samples::Samples;
 use crate::setup::{NodeSetup, Passed};
 use std::alloc::{AllocError, Global};
@@ -19,7 +19,7 @@ use wl_level::{Level, Listed};
 #[derive(Drop)]
 pub struct Node {
     pub(crate) setup: NodeSetup,
-    pub(crate) progress: Progress,
+    pub(crate) progress: NodeProgress,
     ghost few_hards: { progress.syncs.hards ≤ progress.quanta },
     ghost few_errors: { progress.traffic.errors ≤ progress.quanta },
     ghost few_samples: { progress.traffic.samples.count ≤ progress.quanta },
@@ -50,7 +50,7 @@ impl Node {
         ensures node { IfOk result (λ node. IsNode [] node) }
         ensures setup { IfOk result (λ node. node_setup node ≡ setup) }
     {
-        let progress = Progress::new(alloc, setup.segments)?;
+        let progress = NodeProgress::new(alloc, setup.segments)?;
         Ok(Node { setup, progress })
     }
 

@@ -21,7 +21,7 @@ use wl_sync::{Beat, BitClock};
 
 /// What a node keeps beside its setup.
 #[derive(Drop)]
-pub struct Progress {
+pub struct NodeProgress {
     pub clock: BitClock,
     pub drive: Level,
     pub quanta: u64,
@@ -32,14 +32,14 @@ pub struct Progress {
 /// For how many samples, frames and phase errors there is room at first.
 const FIRST_ROOM: usize = 8;
 
-impl Progress {
+impl NodeProgress {
     /// Returns what a node keeps before the first quantum: it drives recessive.
-    pub fn new(alloc: Global, segments: Segments) -> Result<Progress, AllocError>
+    pub fn new(alloc: Global, segments: Segments) -> Result<NodeProgress, AllocError>
         ensures place { IfOk result (HasSeenNothing segments) }
         ensures none { IfOk result (λ kept. (kept.syncs.hards ≡ 0) × (kept.traffic.errors ≡ 0)) }
         ensures no_samples { IfOk result (λ kept. kept.traffic.samples.count ≡ 0) }
     {
-        Ok(Progress {
+        Ok(NodeProgress {
             clock: BitClock::new(segments),
             drive: Level::Recessive,
             quanta: 0,

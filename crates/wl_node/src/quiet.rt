@@ -7,11 +7,11 @@ ghost use Rattle.wl_node.specs.Limits.{most_quiet};
 ghost use Rattle.wl_node.specs.Quiet.{floor_by, floor_and_silence, until_ready, quiet_of};
 
 use crate::limits::MOST_QUIET;
-use crate::progress::Progress;
+use crate::progress::NodeProgress;
 use crate::setup::{NodeSetup, Queued};
 use wl_machine::Machine;
 
-impl Progress {
+impl NodeProgress {
     /// Returns for how many quanta more the drive is sure to stay, in a node of this setup.
     pub fn quiet(&self, setup: &NodeSetup) -> u32
         ensures value { (levels : List Level) → IsProgress setup.now self.now levels

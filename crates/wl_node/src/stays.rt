@@ -8,12 +8,12 @@ ghost use Rattle.wl_node.specs.Limits.{most_run_quanta};
 ghost use Rattle.wl_node.specs.Stays.{until_frame, free_stay, stay_at};
 
 use crate::limits::MOST_RUN_QUANTA;
-use crate::progress::Progress;
+use crate::progress::NodeProgress;
 use crate::quiet::{floor, longer};
 use crate::setup::{NodeSetup, Queued};
 use wl_level::Level;
 
-impl Progress {
+impl NodeProgress {
     /// Returns for how many quanta more the drive stays, in a node of this setup, if each of them is recessive.
     pub fn stays(&self, setup: &NodeSetup) -> u64
         ensures value { (levels : List Level) → IsProgress setup.now self.now levels

@@ -17,7 +17,7 @@ use Rattle.wl_confine.specs.declared.Mode.TheVariants.{Active}
 use Rattle.wl_frame.specs.Grammar.{Content}
 use Rattle.wl_machine.specs.Stretch.{Stretch, Sampled, continues, begins, free}
 use Rattle.wl_machine.specs.Stretch.Sort.{Integration, Idle, Framing}
-use Rattle.wl_machine.specs.Quiet.{idle_on}
+use Rattle.wl_machine.specs.BetweenFrames.{idle_on}
 use Rattle.wl_machine.specs.Judged.{awaits_start, judged, or_next, drive_of}
 use Rattle.wl_machine.specs.States.{stretch_by}
 use Rattle.wl_node.specs.declared.setup.NodeSetup.{NodeSetup}

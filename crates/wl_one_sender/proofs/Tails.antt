@@ -19,7 +19,7 @@ use Rattle.wl_machine.specs.Stretch.Flag.{OverloadFlag}
 use Rattle.wl_machine.specs.Stretch.Ended.{Received, Sent as SentFrame}
 use Rattle.wl_machine.specs.Flags.{fails}
 use Rattle.wl_machine.specs.Frames.{stuffed_end, frame_role, framing_by, framing_sent, framing_received, received_tail, sent_tail, drive_up_to, tail_drive}
-use Rattle.wl_machine.specs.Quiet.{after_intermission, begun_head}
+use Rattle.wl_machine.specs.BetweenFrames.{after_intermission, begun_head}
 use Rattle.wl_machine.specs.Judged.{judged, or_next, drive_of}
 use Rattle.wl_machine.specs.States.{stretch_by}
 use Rattle.wl_machine.proofs.Callers.{end_stays, tail_sends}

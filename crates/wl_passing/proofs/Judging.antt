@@ -21,7 +21,7 @@ use Rattle.wl_machine.specs.Stretch.Input.{Sample as Given}
 use Rattle.wl_machine.specs.Stretch.Sort.{Flagging, Framing, Idle, Intermission}
 use Rattle.wl_machine.specs.Flags.{error_flag, error_of, fails}
 use Rattle.wl_machine.specs.Frames.{differing, frame_role, framing_by, framing_received, framing_sent, receiving, sending, sent_at, stuffed_end}
-use Rattle.wl_machine.specs.Quiet.{after_intermission, begun_head, idle_on}
+use Rattle.wl_machine.specs.BetweenFrames.{after_intermission, begun_head, idle_on}
 use Rattle.wl_machine.specs.Judged.{judged, judged_by, or_next, stretch_after}
 use Rattle.wl_machine.specs.States.{stretch_by}
 use Rattle.wl_first_frame.proofs.Callers.{TakesOn, goes_idle}

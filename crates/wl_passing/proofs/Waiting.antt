@@ -22,7 +22,7 @@ use Rattle.wl_frame.specs.Grammar.{Content, bits_of}
 use Rattle.wl_machine.specs.Stretch.{Sampled, Stretch, begins, free}
 use Rattle.wl_machine.specs.Stretch.Sort.{Framing, Idle}
 use Rattle.wl_machine.specs.Stretch.Input.{Sample as Given}
-use Rattle.wl_machine.specs.Quiet.{idle_on}
+use Rattle.wl_machine.specs.BetweenFrames.{idle_on}
 use Rattle.wl_machine.specs.Judged.{drive_by, drive_of, judged, judged_by, or_next, stretch_after, stretch_of}
 use Rattle.wl_machine.specs.States.{stretch_by}
 use Rattle.wl_machine.proofs.Callers.{stretch_next}

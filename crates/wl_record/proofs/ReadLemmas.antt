@@ -19,7 +19,7 @@ use Rattle.wl_device.specs.Devices.{Answer, moved, ended, again, failed, moved_b
 use Rattle.wl_device.specs.Readings.{at_end, broken_off, going_on}
 use Rattle.wl_record.specs.Faults.{HasNoNewline, Stands, IsFirstFault}
 use Rattle.wl_device.specs.Readings.{ReadsBy}
-use Rattle.wl_record.specs.Reading.{Progress, HasRead, RecordsOf, FaultOf, beginning}
+use Rattle.wl_record.specs.Reading.{ReadProgress, HasRead, RecordsOf, FaultOf, beginning}
 use Rattle.wl_record.specs.Parsing.{TakesLines, TakesPiece, StopsAt, IsPieceFault, stop_fault, past_len}
 use Rattle.wl_device.proofs.Runs.{run_more, goes_more, moved_bytes-append, all_append}
 
@@ -115,7 +115,7 @@ one_past true bytes full fits = omega (arith, full refl)
 one_past false bytes full fits = omega (arith, fits refl)
 
 module _ {S : Type 0} (gives : S → Answer → S → Type 0) where
-  module _ (s : S) (answers : List Answer) (told : List Record) (p : Progress) (t : S) (h : HasRead gives s answers told p t) where
+  module _ (s : S) (answers : List Answer) (told : List Record) (p : ReadProgress) (t : S) (h : HasRead gives s answers told p t) where
     nothing_moved : (a : Answer) → moved_bytes (a ∷ []) ≡ [] → moved_bytes (answers ++ a ∷ []) ≡ moved_bytes answers
     nothing_moved a none = moved_bytes-append answers (a ∷ []) ∙ (ap (λ z. moved_bytes answers ++ z) none ∙ append-nil (moved_bytes answers))
 

@@ -25,17 +25,17 @@ FaultOf gives s Memory t = (text : List ℕ) × Reads gives s text going_on t ×
 FaultOf gives s fault t = (text : List ℕ) × (e : Ending) × Reads gives s text e t × (length text ≤ most_record_bytes + 1) × IsFirstFault text e fault
 
 -- what a reading by pieces keeps between its steps: the calls, bytes and lines so far, and the part of a line
-pub record Progress : Type 0 where
+pub record ReadProgress : Type 0 where
   pub calls : ℕ
   pub bytes : ℕ
   pub lines : ℕ
   pub begun : List ℕ
 
-abbrev pub beginning : Progress
+abbrev pub beginning : ReadProgress
 beginning = record { calls = 0; bytes = 0; lines = 0; begun = [] }
 
 -- The reader made these answers, after which it goes on, and gave the lines of these records and the part of a line.
-pub record HasRead {S : Type 0} (gives : S → Answer → S → Type 0) (s : S) (answers : List Answer) (rs : List Record) (p : Progress) (t : S) : Type 0 where
+pub record HasRead {S : Type 0} (gives : S → Answer → S → Type 0) (s : S) (answers : List Answer) (rs : List Record) (p : ReadProgress) (t : S) : Type 0 where
   pub run : Run gives s answers t
   pub goes : AllGoOn answers
   pub calls : length answers ≡ p.calls
@@ -44,7 +44,7 @@ pub record HasRead {S : Type 0} (gives : S → Answer → S → Type 0) (s : S) 
   pub stands : Stands (moved_bytes answers) rs p.begun []
 
 -- A step of reading: wherever it began, these records came, and reading goes on or was the whole of the text.
-abbrev pub GoesOnWith : {S : Type 0} → (S → Answer → S → Type 0) → Progress → S → Came → List Record → Progress → S → Type 0
+abbrev pub GoesOnWith : {S : Type 0} → (S → Answer → S → Type 0) → ReadProgress → S → Came → List Record → ReadProgress → S → Type 0
 GoesOnWith {S} gives p t came rs q u = AllByRecursion IsWithin rs × ((s : S) (answers : List Answer) (told : List Record) → HasRead gives s answers told p t → ComesTo s (told ++ rs) came)
   where
     ComesTo : S → List Record → Came → Type 0
@@ -52,14 +52,14 @@ GoesOnWith {S} gives p t came rs q u = AllByRecursion IsWithin rs × ((s : S) (a
     ComesTo s told All = RecordsOf gives s told u
 
 -- a step that ends in a fault: wherever reading began, it is that of all that the reader gave
-abbrev pub FaultsWith : {S : Type 0} → (S → Answer → S → Type 0) → Progress → S → TextFault → S → Type 0
+abbrev pub FaultsWith : {S : Type 0} → (S → Answer → S → Type 0) → ReadProgress → S → TextFault → S → Type 0
 FaultsWith {S} gives p t fault u = (s : S) (answers : List Answer) (told : List Record) → HasRead gives s answers told p t → FaultOf gives s fault u
 
 -- all calls are made, or reading is over
-abbrev pub IsSpent : Progress → Type 0
+abbrev pub IsSpent : ReadProgress → Type 0
 IsSpent p = p.calls ≡ most_calls
 
 -- a step after which reading goes on makes one call, and the last one leaves none
-abbrev pub CountsCalls : Came → Progress → Progress → Type 0
+abbrev pub CountsCalls : Came → ReadProgress → ReadProgress → Type 0
 CountsCalls More p q = (q.calls ≡ p.calls + 1) × (q.calls ≤ most_calls)
 CountsCalls All p q = IsSpent q

@@ -109,9 +109,9 @@ impl Model for RecordReader {
     ghost use Rattle.std.specs.Prelude.{◌+◌, ◌^◌, ◌<◌, ◌≤◌, length, take};
     ghost use Rattle.wl_device.specs.Limits.{most_calls};
     ghost use Rattle.wl_record.specs.Limits.{most_record_bytes, most_line};
-    ghost use Rattle.wl_record.specs.Reading.{Progress};
+    ghost use Rattle.wl_record.specs.Reading.{ReadProgress};
 
-    ghost Value = { Progress };
+    ghost Value = { ReadProgress };
 
     ghost view = { λ r. record {
       calls = r.calls;

@@ -13,7 +13,7 @@ ghost use Rattle.wl_machine.specs.Stretch.Sort.{Integration as IntegrationSort, 
 ghost use Rattle.wl_machine.specs.States.{stretch_by};
 ghost use Rattle.wl_machine.specs.Flags.{delimiting, dominant_flag, error_flag, passive_flag, waiting};
 ghost use Rattle.wl_machine.specs.Frames.{framing, frame_role, is_lost, received_tail, receiving, sending, sent_tail, stuffed_end};
-ghost use Rattle.wl_machine.specs.Quiet.{idle, integration, intermission, off_bus, suspension};
+ghost use Rattle.wl_machine.specs.BetweenFrames.{idle, integration, intermission, off_bus, suspension};
 ghost use Rattle.wl_machine.specs.Judged.{head_of, judged, role_of, stretch_after};
 ghost use Rattle.wl_machine.specs.Roles.{loses};
 ghost use Rattle.wl_trace.specs.Events.{free_kind, is_transmitter};

@@ -17,7 +17,7 @@ use Rattle.wl_machine.specs.Stretch.{Sort, Stretch, Sampled, Judgement, Ended, c
 use Rattle.wl_machine.specs.Stretch.Sort.{Integration, Idle, Framing, Flagging, Waiting, Delimiting, Intermission, Suspension, OffBus}
 use Rattle.wl_machine.specs.Stretch.Ended.{NoFrame}
 use Rattle.wl_machine.specs.Stretch.Input.{Sample}
-use Rattle.wl_machine.specs.Quiet.{after_intermission, begun_head}
+use Rattle.wl_machine.specs.BetweenFrames.{after_intermission, begun_head}
 use Rattle.wl_machine.specs.Frames.{differing}
 use Rattle.wl_machine.specs.Judged.{judged, judged_by, stretch_after, or_next, drive_of, drive_by}
 use Rattle.wl_machine.specs.States.{sample_of, stretch_by}

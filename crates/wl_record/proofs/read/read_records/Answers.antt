@@ -1,7 +1,7 @@
 use Rattle.std.proofs.Common.{[], sym, subst, List, arith}
 use Rattle.wl_record_core.specs.declared.record.Record.{Record}
 use Rattle.wl_device.proofs.Runs.{nothing_given}
-use Rattle.wl_record.specs.Reading.{HasRead, Progress}
+use Rattle.wl_record.specs.Reading.{HasRead, ReadProgress}
 use Rattle.wl_record.proofs.ReadLemmas.{nothing_read}
 use Rattle.wl_record.proofs.read.read_records.Goals as goal
 
@@ -11,5 +11,5 @@ returns-in_default-clause-fault g c = ([], nothing_given g.R.Source.gives c.args
 pub loop-records-init : goal.loop-records-init
 loop-records-init g c =
     let gives = g.R.Source.gives in
-    let P : List Record → Progress → Type 0 = λ told p. HasRead gives c.args.reader.now [] told p c.args.reader.now in
+    let P : List Record → ReadProgress → Type 0 = λ told p. HasRead gives c.args.reader.now [] told p c.args.reader.now in
     ([], subst (λ told. P told c.in-Ok.text) (sym c.new-records.ensures.items) (subst (P []) (sym c.in-Ok.ensures) (nothing_read gives c.args.reader.now)))

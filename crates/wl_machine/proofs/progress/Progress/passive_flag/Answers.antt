@@ -14,14 +14,14 @@ returns c own head mode u p =
       | then-is w ↦ omega (arith, w.run-is)
       | else-is w ↦ omega (arith, w.run-is)
     ] in
-    let happened : c.if-counts.plain ≡ acknowledged (c.args.is_owed && is_dominant c.args.level) = elim c.if-counts.branch [
-      | then-counts w ↦ w.plain-is ∙ ap acknowledged (sym w.if-counts.true ∙ ap (λ b. c.args.is_owed && b) c.is_dominant-2.ensures)
-      | else-counts w ↦ w.plain-is ∙ ap acknowledged (sym w.if-counts.false ∙ ap (λ b. c.args.is_owed && b) c.is_dominant-2.ensures)
+    let happened : c.if-counts.plain ≡ acknowledged (c.args.counts_missing_ack && is_dominant c.args.level) = elim c.if-counts.branch [
+      | then-counts w ↦ w.plain-is ∙ ap acknowledged (sym w.if-counts.true ∙ ap (λ b. c.args.counts_missing_ack && b) c.is_dominant-2.ensures)
+      | else-counts w ↦ w.plain-is ∙ ap acknowledged (sym w.if-counts.false ∙ ap (λ b. c.args.counts_missing_ack && b) c.is_dominant-2.ensures)
     ] in
     elim c.if-run-lt6.branch [
       | then-run-lt6 w ↦
-          passive_on _ _ _ own _ c.args.is_owed u c.args.last c.args.run c.if-is.run _ _ p run_now w.if-run-lt6.true
-          (ap (λ b. c.args.is_owed && not b) w.is_dominant.ensures) happened c.plain.ensures w.self-is
+          passive_on _ _ _ own _ c.args.counts_missing_ack u c.args.last c.args.run c.if-is.run _ _ p run_now w.if-run-lt6.true
+          (ap (λ b. c.args.counts_missing_ack && not b) w.is_dominant.ensures) happened c.plain.ensures w.self-is
       | else-run-lt6 w ↦
-          passive_ends _ _ _ own _ c.args.is_owed u c.args.last c.args.run _ _ p (omega arith ∙ run_now) w.is_late.ensures happened c.plain.ensures w.self-is
+          passive_ends _ _ _ own _ c.args.counts_missing_ack u c.args.last c.args.run _ _ p (omega arith ∙ run_now) w.is_late.ensures happened c.plain.ensures w.self-is
     ]

@@ -33,7 +33,7 @@ pub dominant_flag-requires-clause-short : goal.dominant_flag-requires-clause-sho
 dominant_flag-requires-clause-short c = flag_short c.args.self.now c.in-Flag.cause c.in-Flag.role c.in-Flag.count c.in-Flag.run' c.in-Flag.is c.requires
 
 pub passive_flag-requires : goal.passive_flag-requires
-passive_flag-requires c = passive_small c.args.self.now c.in-PassiveFlag.role c.in-PassiveFlag.is_owed c.in-PassiveFlag.last c.in-PassiveFlag.run' c.in-PassiveFlag.is c.requires
+passive_flag-requires c = passive_small c.args.self.now c.in-PassiveFlag.role c.in-PassiveFlag.counts_missing_ack c.in-PassiveFlag.last c.in-PassiveFlag.run' c.in-PassiveFlag.is c.requires
 
 pub waiting-requires : goal.waiting-requires
 waiting-requires c = wait_left c.args.self.now c.in-Wait.role c.in-Wait.is_late c.in-Wait.until_long c.in-Wait.is c.requires
@@ -90,7 +90,7 @@ returns-in-Flag c s i =
 
 pub returns-in-PassiveFlag : goal.returns-in-PassiveFlag
 returns-in-PassiveFlag c s i =
-    let h = at_state c.args.self.now (states.PassiveFlag c.in-PassiveFlag.role c.in-PassiveFlag.is_owed c.in-PassiveFlag.last c.in-PassiveFlag.run') s c.in-PassiveFlag.is i in
+    let h = at_state c.args.self.now (states.PassiveFlag c.in-PassiveFlag.role c.in-PassiveFlag.counts_missing_ack c.in-PassiveFlag.last c.in-PassiveFlag.run') s c.in-PassiveFlag.is i in
     by_sort _ _ s _ _ h.1 (c.passive_flag.ensures s.own _ c.args.mode h.0 h.2)
 
 pub returns-in-Wait : goal.returns-in-Wait

@@ -4,7 +4,7 @@ use Rattle.wl_device.specs.Limits.{most_calls-is}
 use Rattle.wl_record.specs.Limits.{most_record_bytes-is}
 use Rattle.wl_record.specs.declared.limits.TheConstants.{MOST_BYTES}
 use Rattle.wl_device.specs.Devices.{moved, again}
-use Rattle.wl_record.specs.Reading.{Progress, HasRead, RecordsOf}
+use Rattle.wl_record.specs.Reading.{ReadProgress, HasRead, RecordsOf}
 use Rattle.wl_record.specs.Parsing.{TakesPiece, IsPieceFault}
 use Rattle.wl_record.proofs.ReadLemmas.{read_again, read_piece, read_all, read_truncated, read_failed, read_fault, read_out, kept_call, kept_spent, kept_piece, piece_count, piece_bytes, past_means}
 use Rattle.wl_record.proofs.read.RecordReader.next.Goals as goal
@@ -59,7 +59,7 @@ returns-in-Again-clause-came g c = (
 )
 
 pub returns-in-Again-clause-steps : goal.returns-in-Again-clause-steps
-returns-in-Again-clause-steps g c = (ap (λ (p : Progress). p.calls + 1) c.self.view_is, omega (arith, c.if-self-ge-MOST_CALLS.false, most_calls-is))
+returns-in-Again-clause-steps g c = (ap (λ (p : ReadProgress). p.calls + 1) c.self.view_is, omega (arith, c.if-self-ge-MOST_CALLS.false, most_calls-is))
 
 pub returns-in-Failed-clause-fault : goal.returns-in-Failed-clause-fault
 returns-in-Failed-clause-fault g c = λ s answers told h.
@@ -125,25 +125,25 @@ returns-in-Ok-clause-came g c =
     )
 
 pub returns-in-Ok-clause-steps : goal.returns-in-Ok-clause-steps
-returns-in-Ok-clause-steps g c = (ap (λ (p : Progress). p.calls + 1) c.self.view_is, omega (arith, c.if-self-ge-MOST_CALLS.false, most_calls-is))
+returns-in-Ok-clause-steps g c = (ap (λ (p : ReadProgress). p.calls + 1) c.self.view_is, omega (arith, c.if-self-ge-MOST_CALLS.false, most_calls-is))
 
 pub returns-in-Again-clause-over : goal.returns-in-Again-clause-over
-returns-in-Again-clause-over g c = λ is. absurd (omega (arith, is, ap (λ (p : Progress). p.calls) c.self.view_is, c.if-self-ge-MOST_CALLS.false, most_calls-is))
+returns-in-Again-clause-over g c = λ is. absurd (omega (arith, is, ap (λ (p : ReadProgress). p.calls) c.self.view_is, c.if-self-ge-MOST_CALLS.false, most_calls-is))
 
 pub returns-in-Failed-clause-over : goal.returns-in-Failed-clause-over
-returns-in-Failed-clause-over g c = λ is. absurd (omega (arith, is, ap (λ (p : Progress). p.calls) c.self.view_is, c.if-self-ge-MOST_CALLS.false, most_calls-is))
+returns-in-Failed-clause-over g c = λ is. absurd (omega (arith, is, ap (λ (p : ReadProgress). p.calls) c.self.view_is, c.if-self-ge-MOST_CALLS.false, most_calls-is))
 
 pub returns-then-self-gt0-clause-over : goal.returns-then-self-gt0-clause-over
-returns-then-self-gt0-clause-over g c = λ is. absurd (omega (arith, is, ap (λ (p : Progress). p.calls) c.self.view_is, c.if-self-ge-MOST_CALLS.false, most_calls-is))
+returns-then-self-gt0-clause-over g c = λ is. absurd (omega (arith, is, ap (λ (p : ReadProgress). p.calls) c.self.view_is, c.if-self-ge-MOST_CALLS.false, most_calls-is))
 
 pub returns-else-self-gt0-clause-over : goal.returns-else-self-gt0-clause-over
-returns-else-self-gt0-clause-over g c = λ is. absurd (omega (arith, is, ap (λ (p : Progress). p.calls) c.self.view_is, c.if-self-ge-MOST_CALLS.false, most_calls-is))
+returns-else-self-gt0-clause-over g c = λ is. absurd (omega (arith, is, ap (λ (p : ReadProgress). p.calls) c.self.view_is, c.if-self-ge-MOST_CALLS.false, most_calls-is))
 
 pub returns-in-Err-clause-over : goal.returns-in-Err-clause-over
-returns-in-Err-clause-over g c = λ is. absurd (omega (arith, is, ap (λ (p : Progress). p.calls) c.self.view_is, c.if-self-ge-MOST_CALLS.false, most_calls-is))
+returns-in-Err-clause-over g c = λ is. absurd (omega (arith, is, ap (λ (p : ReadProgress). p.calls) c.self.view_is, c.if-self-ge-MOST_CALLS.false, most_calls-is))
 
 pub returns-in-Ok-clause-over : goal.returns-in-Ok-clause-over
-returns-in-Ok-clause-over g c = λ is. absurd (omega (arith, is, ap (λ (p : Progress). p.calls) c.self.view_is, c.if-self-ge-MOST_CALLS.false, most_calls-is))
+returns-in-Ok-clause-over g c = λ is. absurd (omega (arith, is, ap (λ (p : ReadProgress). p.calls) c.self.view_is, c.if-self-ge-MOST_CALLS.false, most_calls-is))
 
 pub returns-in-Failed-clause-spent : goal.returns-in-Failed-clause-spent
 returns-in-Failed-clause-spent g c = sym most_calls-is
@@ -158,4 +158,4 @@ pub returns-else-self-gt0-clause-steps : goal.returns-else-self-gt0-clause-steps
 returns-else-self-gt0-clause-steps g c = sym most_calls-is
 
 pub returns-then-self-ge-MOST_CALLS-clause-spent : goal.returns-then-self-ge-MOST_CALLS-clause-spent
-returns-then-self-ge-MOST_CALLS-clause-spent g c = omega (arith, ap (λ (p : Progress). p.calls) c.self.view_is, c.self.invariant.3, c.if-self-ge-MOST_CALLS.true, most_calls-is)
+returns-then-self-ge-MOST_CALLS-clause-spent g c = omega (arith, ap (λ (p : ReadProgress). p.calls) c.self.view_is, c.self.invariant.3, c.if-self-ge-MOST_CALLS.true, most_calls-is)

@@ -1,0 +1,29 @@
+use Rattle.std.proofs.Common.{◌∙◌, [], length, refl, sym, ap, subst}
+use Rattle.wl_sync.specs.Running.{clock_after}
+use Rattle.wl_node.specs.History.{History, no_history}
+use Rattle.wl_node.specs.Kept.{FitsHistory}
+use Rattle.wl_node.proofs.Turns.{history_first}
+use Rattle.wl_node.proofs.progress.NodeProgress.new.Goals as goal
+
+pub returns-clause-place : goal.returns-clause-place
+returns-clause-place c setup e =
+    let place : FitsHistory setup _ no_history = record {
+      clock = c.new.ensures ∙ ap (λ l. clock_after l []) (sym e);
+      drive = refl;
+      quanta = refl;
+      syncs = record { phases = c.in_ok-with_capacity.ensures.items; hards = refl };
+      traffic = record {
+        machine = c.new-2.ensures;
+        counters = c.new-3.ensures;
+        pending = refl;
+        sent = refl;
+        errors = refl;
+        samples = c.in_ok-new.ensures.samples;
+        frames = c.in_ok-with_capacity-2.ensures.items;
+        sends = λ frame h. cc;
+      };
+    } in
+    record {
+      counted = ap (λ (h : History). length h.seen) (history_first setup);
+      place = subst (FitsHistory setup _) (sym (history_first setup)) place;
+    }

@@ -1,0 +1,42 @@
+-- A recessive drive of a machine at rest stands for as long as it rests, and up to the frame that is ready next.
+use Rattle.std.proofs.Common.{◌≡◌, ◌∙◌, List, length, drop, Some, true, cond, sym, ap, arith}
+use Rattle.wl_level.specs.declared.Level.{Level}
+use Rattle.wl_level.specs.Levels.{is_dominant}
+use Rattle.wl_segments.specs.Lengths.{least_way}
+use Rattle.wl_sync.specs.SampleLaws.{quanta_to_sample}
+use Rattle.wl_machine.specs.Judged.{stretch_of}
+use Rattle.wl_machine.specs.RecessiveStay.{rest_of}
+use Rattle.wl_node.specs.declared.setup.NodeSetup.{NodeSetup}
+use Rattle.wl_node.specs.History.{History, history_of, unsent_of}
+use Rattle.wl_node.specs.Kept.{IsProgress, FitsHistory}
+use Rattle.wl_node.specs.Quiet.{floor_by, floor_and_silence}
+use Rattle.wl_node.specs.Stays.{until_frame, rest_stay, stay_by, stay_at}
+use Rattle.wl_node.proofs.progress.NodeProgress.stays.Goals.{After-max}
+use Rattle.wl_node.proofs.progress.NodeProgress.stays.Goals as goal
+
+stay_is : (c : After-max) (levels : List Level) → IsProgress c.args.setup.now c.args.self.now levels → c.max.result ≡ stay_at c.args.setup.now (history_of c.args.setup.now levels)
+stay_is c levels old =
+    let setup : NodeSetup = c.args.setup.now in
+    let h : History = history_of setup levels in
+    let p : FitsHistory setup c.args.self.now h = old.place in
+    let place : c.least_way-place.result ≡ least_way setup.segments = c.least_way-place.ensures.way in
+    let least : c.floor-least.result ≡ floor_by (quanta_to_sample setup.segments h.seen) true (least_way setup.segments) =
+    c.floor-least.ensures.value ∙ ap (λ o. floor_by o true c.least_way-place.result) (c.before_sample.ensures setup.segments h.seen p.clock)
+    ∙ ap (floor_by (quanta_to_sample setup.segments h.seen) true) place in
+    let samples : c.longer-samples.result ≡ rest_stay (Some c.in-Some.rest) setup h =
+    c.longer-samples.ensures ∙ ap (λ n. floor_and_silence n c.in-Some.rest c.least_way-place.result) least
+    ∙ ap (floor_and_silence (floor_by (quanta_to_sample setup.segments h.seen) true (least_way setup.segments)) c.in-Some.rest) place in
+    let frame : c.until_frame.result ≡ until_frame (unsent_of setup h) (length h.seen) =
+    c.until_frame.ensures
+    ∙ ap (λ q. until_frame (drop c.args.self.now.traffic.sent q) c.args.self.now.quanta) c.as_slice.ensures
+    ∙ ap (λ n. until_frame (drop n setup.queue) c.args.self.now.quanta) p.traffic.sent
+    ∙ ap (until_frame (unsent_of setup h)) p.quanta in
+    let recessive : is_dominant h.drive ≡ is_dominant c.args.self.now.drive = ap is_dominant (sym p.drive) in
+    let rest : rest_of (stretch_of h.inputs) ≡ Some c.in-Some.rest = sym (c.rest.ensures.value h.inputs p.traffic.machine) ∙ c.in-Some.is in
+    let by : c.max.result ≡ stay_by (Some c.in-Some.rest) setup h = omega (arith, c.max.ensures, samples, frame) in
+    by ∙ sym (ap (λ b. cond b 0 (stay_by (rest_of (stretch_of h.inputs)) setup h)) (recessive ∙ (sym c.is_dominant.ensures ∙ c.if-is_dominant.false))
+    ∙ ap (λ o. stay_by o setup h) rest)
+
+pub returns-clause-stands : goal.returns-clause-stands
+returns-clause-stands c m less levels old =
+    c.drive_laws.ensures.stays c.args.setup.now levels m (let e = stay_is (goal.at.returns-clause-stands c).After-max levels old in omega arith)
