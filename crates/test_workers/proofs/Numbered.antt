@@ -1,7 +1,7 @@
 -- Links of workers 0, 1 and so on, and one more.
 use Rattle.std.proofs.Common.{◌≡◌, ℕ, ◌+◌, List, [], ◌∷◌, ◌++◌, length, slice_index_or, below_more, refl, sym, subst, ap, ◌∙◌, arith}
 use Rattle.std.proofs.lemmas.List.{get_or_append_left, get_or_push, length-append}
-use Rattle.wl_worker.specs.Shared.{AreNumbered}
+use Rattle.wl_worker.specs.PlanName.{AreNumbered}
 
 pub numbered_more : {X : Type 0} (number : X → ℕ) (xs ys : List X) (x : X) → ys ≡ xs ++ x ∷ [] → AreNumbered number xs → number x ≡ length xs → AreNumbered number ys
 numbered_more {X} number xs ys x e h n w d b =

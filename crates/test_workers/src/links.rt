@@ -1,7 +1,7 @@
 //! Runs over links that are made here.
 ghost use Rattle.std.specs.Prelude.{◌≤◌, All, IfOk, IfSome, IsTrue, length};
 ghost use Rattle.wl_plan.specs.PlanLine.{IsTrueOfPlan};
-ghost use Rattle.wl_worker.specs.Shared.{AreNumbered};
+ghost use Rattle.wl_worker.specs.PlanName.{AreNumbered};
 
 use crate::handed::{horizon_of, tell_handed};
 use crate::watched::{Counts, watch_all};

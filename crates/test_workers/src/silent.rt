@@ -1,6 +1,6 @@
 //! Links by which nothing comes: workers over them learn nothing of one another.
 ghost use Rattle.std.specs.Prelude.{IfOk};
-ghost use Rattle.wl_worker.specs.Shared.{AreNumbered};
+ghost use Rattle.wl_worker.specs.PlanName.{AreNumbered};
 
 use std::alloc::{AllocError, Global};
 use wl_group::Group;

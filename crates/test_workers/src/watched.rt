@@ -1,6 +1,6 @@
 //! Links that count what workers do.
 ghost use Rattle.std.specs.Prelude.{◌≡◌, All, IfOk};
-ghost use Rattle.wl_worker.specs.Shared.{AreNumbered};
+ghost use Rattle.wl_worker.specs.PlanName.{AreNumbered};
 
 use std::alloc::{AllocError, Global};
 use std::fmt;

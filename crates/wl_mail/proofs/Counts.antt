@@ -1,7 +1,7 @@
 -- Letters that were counted, sender by sender.
 use Rattle.std.proofs.Common.{◌≡◌, ℕ, zero, suc, ◌<◌, ◌≤◌, ◌+◌, List, [], ◌∷◌, length, map, get_or, slice_set, add-one, refl, sym, ap, ◌∙◌, arith}
 use Rattle.std.proofs.lemmas.List.{length-map}
-use Rattle.wl_mail.specs.Ways.{one_letter_more, one_letter_more_to}
+use Rattle.wl_mail.specs.Senders.{one_letter_more, one_letter_more_to}
 
 counted_next : (k : ℕ) (counts : List ℕ) (d : ℕ) → k < length counts → slice_set (one_letter_more_to k counts) k (one_letter_more (get_or (one_letter_more_to k counts) k d)) ≡ one_letter_more_to (suc k) counts
 counted_next zero [] d b = absurd (omega arith)

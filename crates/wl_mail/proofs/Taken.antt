@@ -8,7 +8,7 @@ use Rattle.wl_plan.specs.declared.plan.Plan.{Plan}
 use Rattle.wl_group.specs.GroupValue.{GroupValue, with_records}
 use Rattle.wl_mail.specs.Truth.{AreTrueOfPlan}
 use Rattle.wl_mail.specs.Handed.{Took, TellsNews, IsNews}
-use Rattle.wl_mail.specs.Taking.{TakingLaws}
+use Rattle.wl_mail.specs.Laws.{TakingLaws}
 
 -- ---- nothing, and more of them
 

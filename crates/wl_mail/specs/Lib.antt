@@ -1,5 +1,5 @@
 pub mod Handed
+pub mod Laws
 pub mod Posts
-pub mod Taking
+pub mod Senders
 pub mod Truth
-pub mod Ways

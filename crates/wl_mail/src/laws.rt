@@ -1,5 +1,5 @@
 //! Laws of what groups take.
-ghost use Rattle.wl_mail.specs.Taking.{TakingLaws};
+ghost use Rattle.wl_mail.specs.Laws.{TakingLaws};
 
 /// Law: a group that takes no record is as it was. To take some records and then others is to take both, and that changed what the group
 /// knows if one of the two did.

@@ -4,7 +4,7 @@ ghost use Rattle.std.specs.Arc.{arc_value};
 ghost use Rattle.wl_mail.specs.Truth.{AreTrueOfPlan};
 ghost use Rattle.wl_mail.specs.Handed.{Took, TellsNews};
 ghost use Rattle.wl_mail.specs.Posts.{initial_post, with_sent, rewound, KeepsLetters, HandedOut};
-ghost use Rattle.wl_mail.specs.Ways.{one_letter_more, one_letter_more_to};
+ghost use Rattle.wl_mail.specs.Senders.{one_letter_more, one_letter_more_to};
 ghost use Rattle.wl_mail.specs.declared.fault.MailFault.TheVariants.{Foreign, Gone, Memory};
 
 use crate::fault::MailFault;

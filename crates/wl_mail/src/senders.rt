@@ -1,6 +1,6 @@
 //! The senders of a worker: one to each other worker.
 ghost use Rattle.std.specs.Prelude.{◌≡◌, ◌≢◌, ℕ, ◌-◌, ◌<◌, Err, IfOk, MatchBool, OnOk, OnErr, map, replicate, length};
-ghost use Rattle.wl_mail.specs.Ways.{one_letter_more, one_letter_more_to};
+ghost use Rattle.wl_mail.specs.Senders.{one_letter_more, one_letter_more_to};
 ghost use Rattle.wl_mail.specs.declared.fault.MailFault.TheVariants.{Foreign, Gone, Memory};
 
 use crate::fault::MailFault;

@@ -5,8 +5,8 @@ use Rattle.clap.specs.Words.{Text, fault_of}
 use Rattle.clap.proofs.OnLiterals.{clap_on_literals}
 use Rattle.wl_sim.specs.CommandLine.{program, entered, file_in, has_flag, plainly_swept, ranges_in, rows_in, swept_among, tick_among, workers_among, link_among, Enters}
 use Rattle.wl_sim.specs.declared.sweep.Swept.{Swept}
-use Rattle.wl_worker.specs.declared.kinds.LinkKind.{LinkKind}
-use Rattle.wl_worker.specs.declared.kinds.LinkKind.TheVariants.{Hub, Mail}
+use Rattle.wl_worker.specs.declared.by_links.LinkKind.{LinkKind}
+use Rattle.wl_worker.specs.declared.by_links.LinkKind.TheVariants.{Hub, Mail}
 use Rattle.wl_views.specs.declared.tick.Tick.{Tick}
 use Rattle.wl_views.specs.declared.tick.TimeUnit.TheVariants.{Picosecond, Microsecond}
 use Rattle.wl_sim.specs.declared.command.Task.{Task}

@@ -22,8 +22,8 @@ use Rattle.wl_settings.specs.declared.fault.SettingsFault.TheVariants as setting
 use Rattle.wl_settings.specs.declared.said.Shown.{Shown}
 use Rattle.wl_settings.specs.declared.said.Shown.TheVariants.{Best}
 use Rattle.wl_sim.specs.CommandLine.{program, task_word, tick_among, workers_among, read_link, link_among, entered, file_among, file_in, file_named, format_among, format_in, read_format, is_flagged, is_set, number_among, number_or_zero, plain_values, plainly_swept, ranges_among, ranges_in, values_among, word_in, Enters, NamedTask, HasValues, NamesTask}
-use Rattle.wl_worker.specs.declared.kinds.LinkKind.{LinkKind}
-use Rattle.wl_worker.specs.declared.kinds.LinkKind.TheVariants.{Hub}
+use Rattle.wl_worker.specs.declared.by_links.LinkKind.{LinkKind}
+use Rattle.wl_worker.specs.declared.by_links.LinkKind.TheVariants.{Hub}
 use Rattle.wl_views.specs.declared.tick.Tick.{Tick}
 use Rattle.wl_views.specs.declared.tick.TimeUnit.TheVariants.{Nanosecond}
 use Rattle.wl_views.specs.Ticks.{read_tick}

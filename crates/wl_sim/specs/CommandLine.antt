@@ -17,8 +17,8 @@ use Rattle.wl_formats.specs.declared.formats.Format.{Format}
 use Rattle.wl_formats.specs.declared.formats.Format.TheVariants.{Json, Csv}
 use Rattle.wl_settings.specs.declared.said.Shown.{Shown}
 use Rattle.wl_settings.specs.declared.said.Shown.TheVariants.{Best, Plan}
-use Rattle.wl_worker.specs.declared.kinds.LinkKind.{LinkKind}
-use Rattle.wl_worker.specs.declared.kinds.LinkKind.TheVariants.{Hub, Mail}
+use Rattle.wl_worker.specs.declared.by_links.LinkKind.{LinkKind}
+use Rattle.wl_worker.specs.declared.by_links.LinkKind.TheVariants.{Hub, Mail}
 use Rattle.wl_sim.specs.declared.command.Task.{Task}
 use Rattle.wl_sim.specs.declared.command.Task.TheVariants.{Merge, Horizon, Check, Records, Run, Explain, Trace, Candump, Vcd, Page, Margin, Traffic, Settings, Sweep}
 use Rattle.wl_sim.specs.declared.sweep.Swept.{Swept}

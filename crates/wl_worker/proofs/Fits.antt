@@ -21,7 +21,7 @@ use Rattle.wl_plan.specs.Simulation.{changes}
 use Rattle.wl_plan.specs.SimulationLaws.{SimulationLaws}
 use Rattle.wl_hub.specs.Words.{IsInShape}
 use Rattle.wl_worker.specs.Handed.{AreTrueOfPlan}
-use Rattle.wl_worker.specs.Shared.{IsShapeOf}
+use Rattle.wl_worker.specs.PlanName.{IsShapeOf}
 
 -- ---- the words of a node
 

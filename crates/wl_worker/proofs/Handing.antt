@@ -6,7 +6,7 @@ use Rattle.std.specs.Arc.{arc_value}
 use Rattle.wl_group.specs.GroupValue.{GroupValue, with_records}
 use Rattle.wl_mail.specs.declared.letter.Letter.{Letter}
 use Rattle.wl_mail.specs.Posts.{PostValue, KeepsLetters, HandedOut}
-use Rattle.wl_mail.specs.Taking.{TakingLaws}
+use Rattle.wl_mail.specs.Laws.{TakingLaws}
 use Rattle.wl_worker.specs.Letters.{records_of_letters, HandsAll}
 
 records_more : (ls : List Letter) (l : Letter) → records_of_letters (ls ++ l ∷ []) ≡ records_of_letters ls ++ (arc_value l.records).items

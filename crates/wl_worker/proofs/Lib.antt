@@ -2,10 +2,10 @@ mod Faults
 mod Fits
 mod Handing
 mod Named
+mod NodesOfWorker
 mod PassLists
 mod Promises
 mod Seen
-mod Shares
 mod Steps
 mod Told
 mod Took

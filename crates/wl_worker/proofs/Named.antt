@@ -4,9 +4,9 @@ use Rattle.wl_group.specs.GroupValue.{GroupValue}
 use Rattle.wl_hub.specs.declared.hub.Hub.{Hub}
 use Rattle.wl_hub.specs.declared.hub.Pass.{Pass}
 use Rattle.wl_hub.specs.Passes.{pass_name}
-use Rattle.wl_worker.specs.declared.shared.PlanName.{PlanName}
+use Rattle.wl_worker.specs.declared.plan_name.PlanName.{PlanName}
 use Rattle.wl_worker.specs.Handed.{Took}
-use Rattle.wl_worker.specs.Shared.{IsOfPlan}
+use Rattle.wl_worker.specs.PlanName.{IsOfPlan}
 use Rattle.wl_worker.proofs.Steps.{took_of}
 
 pub still_of : (hub : Hub PlanName) (before after : Pass PlanName) (old new : GroupValue) → Took old new → pass_name after ≡ pass_name before

@@ -2,7 +2,7 @@
 use Rattle.std.proofs.Common.{◌≡◌, ℕ, zero, suc, ◌+◌, ◌<◌, List, [], ◌∷◌, length, take, get_or, add-one, refl, arith}
 use Rattle.wl_record_core.specs.declared.record.Record.{Record}
 use Rattle.wl_hub.specs.Passes.{with_edge, with_silence}
-use Rattle.wl_worker.specs.Shared.{with_edges, with_silences}
+use Rattle.wl_worker.specs.PlanName.{with_edges, with_silences}
 
 edges_on : (gs rs : List Record) (i : ℕ) (d : Record) → i < length rs → with_edges gs (take (suc i) rs) ≡ with_edge (with_edges gs (take i rs)) (get_or rs i d)
 edges_on gs [] i d b = absurd (omega arith)

@@ -20,9 +20,9 @@ use Rattle.wl_hub.specs.declared.hub.Pass.{Pass}
 use Rattle.wl_hub.specs.Words.{HasWord}
 use Rattle.wl_hub.specs.Passes.{shape_of, seen}
 use Rattle.wl_segments.specs.Lengths.{least_way}
-use Rattle.wl_worker.specs.declared.shared.PlanName.{PlanName}
+use Rattle.wl_worker.specs.declared.plan_name.PlanName.{PlanName}
 use Rattle.wl_worker.specs.Handed.{Took}
-use Rattle.wl_worker.specs.Shared.{IsShapeOf, IsOfPlan}
+use Rattle.wl_worker.specs.PlanName.{IsShapeOf, IsOfPlan}
 use Rattle.wl_worker.specs.Seen.{IsUnseen, SawOnlyOf, HasChanges, HasSeenOf}
 use Rattle.wl_worker.proofs.Steps.{took_members}
 use Rattle.wl_worker.proofs.Took.{either_there}

@@ -12,7 +12,7 @@ use Rattle.wl_replica.specs.SlotsOf.{SlotsOfStates}
 use Rattle.wl_plan.specs.PlanLine.{IsTrueOfPlan}
 use Rattle.wl_group.specs.GroupValue.{GroupValue, with_records}
 use Rattle.wl_worker.specs.Handed.{Took, TellsNews}
-use Rattle.wl_mail.specs.Taking.{TakingLaws}
+use Rattle.wl_mail.specs.Laws.{TakingLaws}
 
 -- ---- nothing, one record, and more of them
 

@@ -3,8 +3,8 @@ pub mod Finished
 pub mod Given
 pub mod Handed
 pub mod Letters
+pub mod NodesOfWorker
+pub mod PlanName
 pub mod Promised
 pub mod Seen
-pub mod Shared
-pub mod Shares
 pub mod Waiting

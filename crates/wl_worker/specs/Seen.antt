@@ -11,7 +11,7 @@ use Rattle.wl_hub.specs.declared.hub.Hub.{Hub}
 use Rattle.wl_hub.specs.declared.hub.Pass.{Pass}
 use Rattle.wl_hub.specs.Words.{HasWord}
 use Rattle.wl_hub.specs.Passes.{shape_of, seen}
-use Rattle.wl_worker.specs.declared.shared.PlanName.{PlanName}
+use Rattle.wl_worker.specs.declared.plan_name.PlanName.{PlanName}
 
 -- the hub has no word for a slot, or the pass has seen nothing of it
 abbrev pub IsUnseen : Hub PlanName → Pass PlanName → Slot → Type 0

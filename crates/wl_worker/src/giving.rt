@@ -4,12 +4,12 @@ ghost use Rattle.std.specs.Arc.{arc_value};
 ghost use Rattle.wl_plan.specs.declared.plan.Plan.{Plan as GivenPlan};
 ghost use Rattle.wl_hub.specs.Passes.{IsPassOf, pass_name};
 ghost use Rattle.wl_mail.specs.Posts.{with_sent};
-ghost use Rattle.wl_mail.specs.Ways.{one_letter_more, one_letter_more_to};
+ghost use Rattle.wl_mail.specs.Senders.{one_letter_more, one_letter_more_to};
 ghost use Rattle.wl_mail.specs.declared.fault.MailFault.TheVariants.{Foreign};
 ghost use Rattle.wl_worker.specs.Handed.{AreTrueOfPlan};
-ghost use Rattle.wl_worker.specs.Shared.{IsOfPlan, PassGave};
+ghost use Rattle.wl_worker.specs.PlanName.{IsOfPlan, PassGave};
 
-use crate::shared::PlanName;
+use crate::plan_name::PlanName;
 use std::alloc::Global;
 use std::sync::{Arc, Wait};
 use wl_hub::{Hub, Pass};

@@ -2,13 +2,13 @@
 ghost use Rattle.std.specs.Prelude.{◌≡◌, IfOk};
 ghost use Rattle.wl_plan.specs.declared.plan.Plan.{Plan as GivenPlan};
 ghost use Rattle.wl_hub.specs.Passes.{IsPassOf};
-ghost use Rattle.wl_worker.specs.Shared.{IsOfPlan};
+ghost use Rattle.wl_worker.specs.PlanName.{IsOfPlan};
 
 use crate::bell::Bell;
-use crate::coming::{Handed, Heard, learn_all, nothing_handed};
+use crate::fetch::{Handed, RingCount, learn_all, nothing_handed};
 use crate::giving::give_words;
 use crate::link::{Link, LinkFault};
-use crate::shared::PlanName;
+use crate::plan_name::PlanName;
 use std::alloc::{AllocError, Global};
 use std::sync::Wait;
 use wl_group::Group;
@@ -24,7 +24,7 @@ pub struct HubLink<'h, R: Wait> {
     bell: &'h Bell,
     worker: u8,
     // How often the bell had rung when the last fetch began; nothing after a rewind.
-    heard: Heard,
+    rings_seen: RingCount,
     // For each node, how many of its changes were handed over; none after a rewind.
     handed: Handed,
     pub ghost here: { IsPassOf hub.now pass },
@@ -52,7 +52,7 @@ impl<'h, R: Wait> HubLink<'h, R> {
             pass,
             bell,
             worker,
-            heard: Heard::nothing(),
+            rings_seen: RingCount::nothing(),
             handed: nothing_handed(),
         })
     }
@@ -63,13 +63,13 @@ impl<'h, R: Wait> Link for HubLink<'h, R> {
     ghost use Rattle.wl_plan.specs.declared.plan.Plan.{Plan as GivenPlan};
     ghost use Rattle.wl_worker.specs.Handed.{AreTrueOfPlan, Took, TellsNews};
     ghost use Rattle.wl_worker.specs.Seen.{HandsSeen};
-    ghost use Rattle.wl_worker.specs.Shared.{IsOfPlan, PassGave};
+    ghost use Rattle.wl_worker.specs.PlanName.{IsOfPlan, PassGave};
 
     ghost is_of = { λ link plan. IsOfPlan link.hub.now link.pass plan };
 
     ghost number = { λ link. link.worker };
 
-    ghost is_rewound = { λ link. (link.heard.rings ≡ None) × All (λ count. count ≡ 0) link.handed };
+    ghost is_rewound = { λ link. (link.rings_seen.rings ≡ None) × All (λ count. count ≡ 0) link.handed };
 
     ghost gave = { λ old new records. PassGave old.pass new.pass records };
 
@@ -94,25 +94,31 @@ impl<'h, R: Wait> Link for HubLink<'h, R> {
         ensures number { self.new.worker ≡ self.old.worker }
         ensures took { Took group.old group.new }
         ensures changed { IfOk result (λ b. TellsNews group.old group.new b) }
-        ensures heard { OnOk result (IsSome self.new.heard.rings) }
+        ensures heard { OnOk result (IsSome self.new.rings_seen.rings) }
         ensures known { OnOk result
             (HandsSeen self.new.hub.now self.new.pass self.old.handed self.new.handed group.old group.new) }
     {
         let rings = self.bell.rings();
-        let (came, heard) = learn_all(self.hub, &mut self.pass, group, &mut self.handed, rings)?;
-        self.heard = heard;
+        let (came, rings_seen) = learn_all(
+            self.hub,
+            &mut self.pass,
+            group,
+            &mut self.handed,
+            rings,
+        )?;
+        self.rings_seen = rings_seen;
         Ok(came)
     }
 
     /// Begins again: the next fetch hands over all that the pass has seen, and a wait before it ends at once.
     fn rewind(&mut self) {
-        self.heard = Heard::nothing();
+        self.rings_seen = RingCount::nothing();
         self.handed = nothing_handed();
     }
 
     /// Waits until all nodes are promised up to a tick, or some worker stopped.
     fn wait(&mut self, until: u64) -> Option<u8> {
-        self.heard
+        self.rings_seen
             .wait_until(self.rt, self.bell, self.worker, until)
     }
 

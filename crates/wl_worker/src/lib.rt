@@ -2,28 +2,28 @@
 #![tactic(auto)]
 
 mod bell;
-mod coming;
-mod crew;
+mod by_links;
+mod fetch;
 mod giving;
 mod hub_link;
-mod kinds;
 mod laws;
 mod link;
 mod mail_link;
+mod nodes_of_worker;
 mod over_hub;
 mod over_mail;
-mod share;
-mod shared;
+mod plan_name;
+mod threads;
 mod turns;
 
 pub use bell::{Bell, MOST_WORKERS, Rings};
-pub use crew::simulate_over;
+pub use by_links::{LinkKind, simulate, simulate_by};
 pub use giving::Given;
 pub use hub_link::HubLink;
-pub use kinds::{LinkKind, simulate, simulate_by};
 pub use laws::{blocked_workers_have_ended, nothing_is_taken};
 pub use link::{Fault, Gate, Link, LinkFault};
 pub use mail_link::{MailLink, mail_links};
 pub use over_hub::hub_links;
-pub use shared::{PlanName, shape_of_plan};
+pub use plan_name::{PlanName, shape_of_plan};
+pub use threads::simulate_over;
 pub use turns::work;

@@ -3,10 +3,10 @@ ghost use Rattle.std.specs.Prelude.{◌≡◌, ◌≤◌, All, IfOk, OnOk, vec_l
 ghost use Rattle.std.specs.Arc.{arc_value};
 ghost use Rattle.wl_worker.specs.Handed.{Took, TellsNews};
 ghost use Rattle.wl_worker.specs.Letters.{HandsAll};
-ghost use Rattle.wl_worker.specs.Shared.{AreNumbered};
+ghost use Rattle.wl_worker.specs.PlanName.{AreNumbered};
 
 use crate::bell::Bell;
-use crate::coming::{Heard, sent_by_others};
+use crate::fetch::{RingCount, sent_by_others};
 use crate::giving::give_letter;
 use crate::link::{Link, LinkFault};
 use std::alloc::{AllocError, Global};
@@ -26,7 +26,7 @@ pub struct MailLink<'h, R: Wait> {
     bell: &'h Bell,
     worker: u8,
     // How often the bell had rung when the last fetch began, and for this worker since; nothing after a rewind.
-    heard: Heard,
+    rings_seen: RingCount,
 }
 
 impl From<MailFault> for LinkFault {
@@ -65,7 +65,7 @@ impl<'h, R: Wait> MailLink<'h, R> {
             plan: Arc::new(alloc, plan.clone_in(alloc)?)?,
             bell,
             worker,
-            heard: Heard::nothing(),
+            rings_seen: RingCount::nothing(),
         })
     }
 }
@@ -75,7 +75,7 @@ impl<'h, R: Wait> Link for MailLink<'h, R> {
     ghost use Rattle.std.specs.Arc.{arc_value};
     ghost use Rattle.wl_plan.specs.declared.plan.Plan.{Plan as GivenPlan};
     ghost use Rattle.wl_mail.specs.Posts.{with_sent};
-    ghost use Rattle.wl_mail.specs.Ways.{one_letter_more};
+    ghost use Rattle.wl_mail.specs.Senders.{one_letter_more};
     ghost use Rattle.wl_worker.specs.Handed.{AreTrueOfPlan, Took, TellsNews};
     ghost use Rattle.wl_worker.specs.Letters.{HandsAll};
 
@@ -95,7 +95,7 @@ impl<'h, R: Wait> Link for MailLink<'h, R> {
     fn give(&mut self, alloc: Global, records: &[Record]) -> Result<(), LinkFault> {
         let given = give_letter(self.rt, alloc, &mut self.post, &self.plan, records)?;
         self.bell.give(self.rt, self.worker, given);
-        self.heard = self.heard.after_own();
+        self.rings_seen = self.rings_seen.after_own();
         Ok(())
     }
 
@@ -107,25 +107,25 @@ impl<'h, R: Wait> Link for MailLink<'h, R> {
         ensures number { self.new.worker ≡ self.old.worker }
         ensures took { Took group.old group.new }
         ensures changed { IfOk result (λ b. TellsNews group.old group.new b) }
-        ensures heard { OnOk result (IsSome self.new.heard.rings) }
+        ensures heard { OnOk result (IsSome self.new.rings_seen.rings) }
         ensures letters { OnOk result (HandsAll self.old.post self.new.post group.old group.new) }
     {
         let rings = self.bell.rings();
-        let (sent, heard) = sent_by_others(self.bell, self.worker, rings);
-        self.heard = heard;
+        let (sent, rings_seen) = sent_by_others(self.bell, self.worker, rings);
+        self.rings_seen = rings_seen;
         let came = receive_all(self.rt, alloc, &mut self.post, group, sent)?;
         Ok(came)
     }
 
     fn rewind(&mut self) {
         self.post.rewind();
-        self.heard = Heard::nothing();
+        self.rings_seen = RingCount::nothing();
     }
 
     /// Waits until another worker gave something after the last `fetch` began, or some worker stopped. By the promises a letter that is
     /// waited for could be the next one still, since one that isn't counted yet was taken in its place.
     fn wait(&mut self, _until: u64) -> Option<u8> {
-        self.heard.wait(self.rt, self.bell)
+        self.rings_seen.wait(self.rt, self.bell)
     }
 
     fn stop(&mut self) {

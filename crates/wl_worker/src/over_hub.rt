@@ -3,13 +3,13 @@ ghost use Rattle.std.specs.Prelude.{◌≡◌, ◌<◌, ◌⊎◌, ◌↔◌, Al
 ghost use Rattle.wl_hub.specs.Passes.{IsPassOf};
 ghost use Rattle.wl_plan.specs.declared.plan.Plan.{Plan as GivenPlan};
 ghost use Rattle.wl_serial.specs.Outcome.{outcome_of};
-ghost use Rattle.wl_worker.specs.Shared.{AreNumbered, IsOfPlan};
+ghost use Rattle.wl_worker.specs.PlanName.{AreNumbered, IsOfPlan};
 
 use crate::bell::{Bell, MOST_WORKERS};
-use crate::crew::simulate_links;
 use crate::hub_link::HubLink;
 use crate::link::{Fault, Gate};
-use crate::shared::{PlanName, shape_of_plan};
+use crate::plan_name::{PlanName, shape_of_plan};
+use crate::threads::simulate_links;
 use std::alloc::{AllocError, Global};
 use std::sync::Wait;
 use std::thread::Threads;

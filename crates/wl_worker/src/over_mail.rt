@@ -3,9 +3,9 @@ ghost use Rattle.std.specs.Prelude.{◌≡◌, ◌<◌, ◌⊎◌, ◌↔◌, Er
 ghost use Rattle.wl_serial.specs.Outcome.{outcome_of};
 
 use crate::bell::{Bell, MOST_WORKERS};
-use crate::crew::simulate_links;
 use crate::link::{Fault, Gate};
 use crate::mail_link::mail_links;
+use crate::threads::simulate_links;
 use std::alloc::Global;
 use std::sync::Wait;
 use std::thread::Threads;

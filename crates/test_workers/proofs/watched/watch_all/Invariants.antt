@@ -1,6 +1,6 @@
 use Rattle.std.proofs.Common.{◌≡◌, ℕ, ◌+◌, ◌<◌, All, get_or, length, vec_items}
 use Rattle.std.specs.Vec.Iter.{into_iter_items}
-use Rattle.wl_worker.specs.Shared.{AreNumbered}
+use Rattle.wl_worker.specs.PlanName.{AreNumbered}
 use Rattle.test_workers.proofs.watched.watch_all.Given as goal
 
 abbrev pub invariant-loop-link : goal.invariant-loop-link

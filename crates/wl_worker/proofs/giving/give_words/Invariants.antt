@@ -1,6 +1,6 @@
 use Rattle.std.proofs.Common.{◌≡◌, take}
 use Rattle.wl_hub.specs.Passes.{IsPassOf, pass_name, given_edges, given_silences}
-use Rattle.wl_worker.specs.Shared.{with_edges, with_silences}
+use Rattle.wl_worker.specs.PlanName.{with_edges, with_silences}
 use Rattle.wl_worker.proofs.giving.give_words.Given as goal
 
 abbrev pub invariant-loop-i : goal.invariant-loop-i

@@ -1,7 +1,7 @@
 use Rattle.std.proofs.Common.{◌≡◌, All, length, min, sym, subst, vec_items, vec_len, ◌∙◌, arith}
 use Rattle.std.proofs.lemmas.List.Elements.{All-push}
 use Rattle.std.specs.Arc.{arc_value}
-use Rattle.wl_worker.proofs.Shares.{one_behind}
+use Rattle.wl_worker.proofs.NodesOfWorker.{one_behind}
 use Rattle.wl_worker.proofs.mail_link.mail_links.Goals as goal
 
 pub loop-post-preserved : goal.loop-post-preserved

@@ -1,7 +1,7 @@
 -- Each link has a pass of the hub's name.
 use Rattle.std.proofs.Common.{◌≡◌, ◌∙◌, length, arith}
-use Rattle.wl_worker.specs.Shared.{IsOfPlan}
-use Rattle.wl_worker.proofs.Shares.{one_behind}
+use Rattle.wl_worker.specs.PlanName.{IsOfPlan}
+use Rattle.wl_worker.proofs.NodesOfWorker.{one_behind}
 use Rattle.wl_worker.proofs.over_hub.hub_links.Goals as goal
 
 pub loop-worker-preserved : goal.loop-worker-preserved

@@ -1,7 +1,7 @@
 use Rattle.std.proofs.Common.{◌≡◌, ℕ, ◌<◌, ◌≤◌, get_or, length, vec_len, vec_capacity}
 use Rattle.wl_hub.specs.Passes.{IsPassOf, pass_name}
 use Rattle.wl_plan.specs.declared.plan.Plan.{Plan}
-use Rattle.wl_worker.specs.Shared.{AreNumbered, IsOfPlan}
+use Rattle.wl_worker.specs.PlanName.{AreNumbered, IsOfPlan}
 use Rattle.wl_worker.proofs.over_hub.hub_links.Given as goal
 
 abbrev pub invariant-loop-worker : goal.invariant-loop-worker

@@ -1,5 +1,5 @@
 use Rattle.std.proofs.Common.{◌≡◌, map}
-use Rattle.wl_mail.specs.Ways.{one_letter_more_to}
+use Rattle.wl_mail.specs.Senders.{one_letter_more_to}
 use Rattle.wl_mail.proofs.senders.Senders.send.Given as goal
 
 abbrev pub invariant-loop-i : goal.invariant-loop-i
