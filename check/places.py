@@ -32,9 +32,9 @@ def refused_text(rng):
     return None
 
 
-def is_in_table(lines, spot):
+def is_in_table(lines, path):
     """Whether the last of these lines is below the header of a table, counted from 0."""
-    kind, *numbers = spot
+    kind, *numbers = path
     said = [re.sub(r"\s|#.*", "", line) for line in lines]
     if kind == "plan": return True
     if kind == "disturbance": return said.count("[[disturbance]]") == numbers[0] + 1
@@ -51,8 +51,8 @@ def wrong_of(said, text, top, fault):
     lines = text.decode().split("\n")
     there = (lines + [""])[line - 1][column - 1:]
     if shown and not there.startswith(shown.removesuffix("..").rstrip()): return f"{there!r} is there, and not {shown!r}"
-    spots = [word for word in refusals.spot_of(top, fault) if isinstance(word, tuple)]
-    return "" if not spots or is_in_table(lines[:line], spots[0]) else f"line {line} isn't in {spots[0]}"
+    paths = [word for word in refusals.paths_of(top, fault) if isinstance(word, tuple)]
+    return "" if not paths or is_in_table(lines[:line], paths[0]) else f"line {line} isn't in {paths[0]}"
 
 
 def hints(tally, program, seed, numbers, options):

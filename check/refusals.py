@@ -34,11 +34,11 @@ def tables(top):
 def faulty_table(top):
     """The first table whose keys are wrong."""
     if "version" not in top or not plain.NUMBER(top["version"]): return ("plan",)
-    for spot, table, required, optional in tables(top):
+    for path, table, required, optional in tables(top):
         try:
             plain.test_keys(table, required, optional)
         except plain.Fault:
-            return spot
+            return path
 
 
 CLOCK = ["quantum", "ppm", "num", "den", "rates"]
@@ -48,7 +48,7 @@ KEYS = {
 }
 
 
-def spot_of(top, fault):
+def paths_of(top, fault):
     """Tables, each with the keys that are shown of it."""
     word, _, inner = fault.partition("(")
     numbers = [int(number) for number in re.findall("[0-9]+", re.sub("[A-Za-z]+[0-9]", "", fault))]
@@ -123,7 +123,7 @@ def table_at(top, kind, *numbers):
     return table if kind == "node" else table[{"rate": "rates", "frame": "frame"}[kind]][numbers[1]]
 
 
-def spot_words(top, kind, *numbers):
+def path_words(top, kind, *numbers):
     if kind == "plan": return "the plan"
     if kind == "disturbance": return f"disturbance {numbers[0]}"
     name = table_at(top, "node", numbers[0]).get("name")
@@ -135,7 +135,7 @@ def about(top, fault, words):
     said, table = [], None
     for word in words or [("plan",)]:
         if isinstance(word, tuple):
-            said.append(spot_words(top, *word))
+            said.append(path_words(top, *word))
             table = table_at(top, *word)
         elif fault.startswith("Missing"): said[-1] += f", no {shown(word)}"
         elif word in table: said[-1] += f", {shown(word)} = {value_words(table[word])}{beside(word, table[word])}"
@@ -162,7 +162,7 @@ def refusals(tally, program, seed, numbers, options):
                 fault = str(found)
         tally.tried += 1
         tally.count("refused", fault.split("(")[0])
-        words = [] if fault in ("Toml", "Size", "SameName") else spot_of(tomllib.loads(text.decode()), fault)
+        words = [] if fault in ("Toml", "Size", "SameName") else paths_of(tomllib.loads(text.decode()), fault)
         wanted, (out, error, status) = refusal_text(text, fault, words), asked(program, "explain", text=text)
         out = wanted if re.fullmatch(wanted, out) else out
         tally.compare(f"plan {number} of seed {seed}", "explain", text, (out, error, status), (wanted, f"fault: {shown(fault)}\n", 1))

@@ -5,7 +5,7 @@ use Rattle.wl_setup.specs.declared.bus.Bus.{Bus}
 use Rattle.wl_setup.specs.declared.fault.SetupFault.{SetupFault}
 use Rattle.wl_setup.specs.declared.fault.SetupFault.TheVariants.{Toml}
 use Rattle.wl_setup.specs.Buses.{bus_of_text}
-use Rattle.wl_setup.specs.Document.{fault_spot, plan_text_of}
+use Rattle.wl_setup.specs.Document.{fault_path, plan_text_of}
 use Rattle.wl_setup.specs.Plans.{after}
 use Rattle.wl_setup.specs.Reading.{document_answer, document_of}
 use Rattle.wl_explain.specs.Refusals.{IsDocumentRefusal, IsRefusal, refusal_words, toml_words}
@@ -14,7 +14,7 @@ use Rattle.wl_engines.specs.Explained.{bus_answer}
 pub answer_of : (text : List ℕ) (top : Members) (r : Result Bus SetupFault) → document_of text ≡ Some top → after (plan_text_of top) bus_of_text ≡ r → bus_answer text ≡ r
 answer_of text top r is answer = ap (λ o. after (document_answer o) bus_of_text) is ∙ answer
 
-pub refusal_of : (text : List ℕ) (top : Members) (fault : SetupFault) (said : List ℕ) → document_of text ≡ Some top → said ≡ refusal_words top (fault_spot top) fault → IsRefusal text fault said
+pub refusal_of : (text : List ℕ) (top : Members) (fault : SetupFault) (said : List ℕ) → document_of text ≡ Some top → said ≡ refusal_words top (fault_path top) fault → IsRefusal text fault said
 refusal_of text top fault said is same = subst (λ o. IsDocumentRefusal o text fault said) (sym is) same
 
 pub no_answer : (text : List ℕ) → document_of text ≡ None → bus_answer text ≡ Err Toml

@@ -50,7 +50,7 @@ fn explain_document<W: Sink>(alloc: Global, top: &Table, writer: &mut W) -> Resu
             if let SetupFault::Memory = placed.fault {
                 return Err(RunFault::Memory);
             }
-            let said = explain_fault(alloc, top, placed.spot, &placed.fault)?;
+            let said = explain_fault(alloc, top, placed.path, &placed.fault)?;
             let _ = write_all(said.as_bytes(), writer);
             Err(RunFault::Setup(placed.fault))
         }

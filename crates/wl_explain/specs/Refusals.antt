@@ -18,14 +18,14 @@ use Rattle.wl_setup.specs.declared.keys.Key.{Key}
 use Rattle.wl_setup.specs.declared.keys.Key.TheVariants as key
 use Rattle.wl_setup.specs.declared.fault.SetupFault.{SetupFault}
 use Rattle.wl_setup.specs.declared.fault.SetupFault.TheVariants as fault
-use Rattle.wl_setup.specs.declared.spot.Spot.{Spot}
-use Rattle.wl_setup.specs.declared.spot.Spot.TheVariants.{Top, Node, Rate, Frame, Disturbance}
+use Rattle.wl_setup.specs.declared.table_path.TablePath.{TablePath}
+use Rattle.wl_setup.specs.declared.table_path.TablePath.TheVariants.{Top, Node, Rate, Frame, Disturbance}
 use Rattle.wl_setup.specs.Keys.{key_text}
 use Rattle.wl_setup.specs.Kinds.{list_of, value_at}
 use Rattle.wl_setup.specs.Reading.{document_of}
 use Rattle.wl_setup.specs.Shown.{shown}
-use Rattle.wl_setup.specs.Document.{fault_spot}
-use Rattle.wl_setup.specs.Spots.{table_at}
+use Rattle.wl_setup.specs.Document.{fault_path}
+use Rattle.wl_setup.specs.TablePaths.{table_at}
 use Rattle.wl_explain.specs.Remedies.{cause, remedy}
 
 -- what a value is
@@ -77,16 +77,16 @@ rate_called node n = node ++ codes ", rate " ++ decimal n
 abbrev pub frame_called : List ℕ → ℕ → List ℕ
 frame_called node n = node ++ codes ", frame " ++ decimal n
 
-abbrev pub spot_words : Members → Spot → List ℕ
-spot_words top Top = codes "the plan"
-spot_words top (Node i) = node_called top i
-spot_words top (Rate i n) = rate_called (node_called top i) n
-spot_words top (Frame i n) = frame_called (node_called top i) n
-spot_words top (Disturbance n) = codes "disturbance " ++ decimal n
+abbrev pub path_words : Members → TablePath → List ℕ
+path_words top Top = codes "the plan"
+path_words top (Node i) = node_called top i
+path_words top (Rate i n) = rate_called (node_called top i) n
+path_words top (Frame i n) = frame_called (node_called top i) n
+path_words top (Disturbance n) = codes "disturbance " ++ decimal n
 
 -- a table, and what some of its keys say
-abbrev pub subject_words : Members → Spot → List Key → List ℕ
-subject_words top spot keys = spot_words top spot ++ keys_words keys (table_at spot top)
+abbrev pub subject_words : Members → TablePath → List Key → List ℕ
+subject_words top path keys = path_words top path ++ keys_words keys (table_at path top)
 
 -- the keys that a refused clock, segments and a frame are made of
 abbrev pub keys_of_clock : ClockFault → List Key
@@ -132,31 +132,31 @@ plan_subject top (plan.Disturbance n) = subject_words top (Disturbance n) (key.X
 abbrev pub lacking : List ℕ → List ℕ → List ℕ
 lacking place k = place ++ codes ", no " ++ k
 
-abbrev pub missing_words : Members → Spot → List ℕ → List ℕ
-missing_words top spot k = lacking (spot_words top spot) (shown k)
+abbrev pub missing_words : Members → TablePath → List ℕ → List ℕ
+missing_words top path k = lacking (path_words top path) (shown k)
 
-abbrev pub named_words : Members → Spot → List ℕ → List ℕ
-named_words top spot k = spot_words top spot ++ key_words (shown k) (option_and_then (get_member k) (table_at spot top))
+abbrev pub named_words : Members → TablePath → List ℕ → List ℕ
+named_words top path k = path_words top path ++ key_words (shown k) (option_and_then (get_member k) (table_at path top))
 
 -- what a fault in a table is about; a fault of numbers names its tables itself
-abbrev pub subject : Members → Spot → SetupFault → List ℕ
-subject top spot fault.Version = subject_words top Top (key.Version ∷ [])
-subject top spot (fault.Missing k) = missing_words top spot k
-subject top spot (fault.Kind k) = named_words top spot k
-subject top spot (fault.Unknown k) = named_words top spot k
-subject top spot (fault.NodeClock i f) = subject_words top (Node i) (keys_of_clock f)
-subject top spot (fault.NodeSegments i f) = subject_words top (Node i) (keys_of_segments f)
-subject top spot (fault.NodeFrame i n f) = subject_words top (Frame i n) (keys_of_frame f)
-subject top spot (fault.Topology f) = topology_subject top f
-subject top spot (fault.Plan f) = plan_subject top f
-subject top spot _ = codes "the plan"
+abbrev pub subject : Members → TablePath → SetupFault → List ℕ
+subject top path fault.Version = subject_words top Top (key.Version ∷ [])
+subject top path (fault.Missing k) = missing_words top path k
+subject top path (fault.Kind k) = named_words top path k
+subject top path (fault.Unknown k) = named_words top path k
+subject top path (fault.NodeClock i f) = subject_words top (Node i) (keys_of_clock f)
+subject top path (fault.NodeSegments i f) = subject_words top (Node i) (keys_of_segments f)
+subject top path (fault.NodeFrame i n f) = subject_words top (Frame i n) (keys_of_frame f)
+subject top path (fault.Topology f) = topology_subject top f
+subject top path (fault.Plan f) = plan_subject top f
+subject top path _ = codes "the plan"
 
 -- the two lines
 abbrev pub lines : List ℕ → List ℕ → List ℕ → List ℕ
 lines about wrong change = codes "wrong: " ++ about ++ codes ": " ++ wrong ++ codes "\nchange: " ++ change ++ codes "\n"
 
-abbrev pub refusal_words : Members → Spot → SetupFault → List ℕ
-refusal_words top spot f = lines (subject top spot f) (cause f) (remedy f)
+abbrev pub refusal_words : Members → TablePath → SetupFault → List ℕ
+refusal_words top path f = lines (subject top path f) (cause f) (remedy f)
 
 -- the line of a text's place, and its column in characters, both from 1
 abbrev pub is_newline : ℕ → Bool
@@ -192,7 +192,7 @@ size_words = lines (codes "the plan") (cause fault.Size) (remedy fault.Size)
 -- the text on a document's fault; where there is no document, the text names a place in it
 abbrev pub IsDocumentRefusal : Option Members → List ℕ → SetupFault → List ℕ → Type 0
 IsDocumentRefusal None text f said = (place : ℕ) × (place ≤ length text) × (said ≡ toml_words (take place text))
-IsDocumentRefusal (Some top) text f said = said ≡ refusal_words top (fault_spot top) f
+IsDocumentRefusal (Some top) text f said = said ≡ refusal_words top (fault_path top) f
 
 -- the text on a refused plan's text, by its fault
 abbrev pub IsRefusal : List ℕ → SetupFault → List ℕ → Type 0

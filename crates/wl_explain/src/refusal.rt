@@ -4,8 +4,8 @@ ghost use Rattle.toml.specs.Data.{get_member};
 ghost use Rattle.toml.specs.View.{array_view, view, table_view};
 ghost use Rattle.wl_setup.specs.Kinds.{list_of, value_at};
 ghost use Rattle.wl_setup.specs.Shown.{shown};
-ghost use Rattle.wl_setup.specs.Spots.{table_at};
-ghost use Rattle.wl_explain.specs.Refusals.{begins_letter, beside_words, hexadecimal_words, keys_of_clock, column_behind, column_number, keys_of_frame, frame_called, lacking, rate_called, valued, is_newline, key_words, keys_words, line_number, lines, missing_words, name_words, named_words, node_called, two_nodes, place_words, plan_subject, quanta_words, refusal_words, keys_of_segments, size_words, spot_words, subject, subject_words, toml_words, topology_subject, value_words};
+ghost use Rattle.wl_setup.specs.TablePaths.{table_at};
+ghost use Rattle.wl_explain.specs.Refusals.{begins_letter, beside_words, hexadecimal_words, keys_of_clock, column_behind, column_number, keys_of_frame, frame_called, lacking, rate_called, valued, is_newline, key_words, keys_words, line_number, lines, missing_words, name_words, named_words, node_called, two_nodes, place_words, plan_subject, quanta_words, refusal_words, keys_of_segments, size_words, path_words, subject, subject_words, toml_words, topology_subject, value_words};
 
 use crate::remedies::{cause, remedy};
 use std::alloc::{AllocError, Global};
@@ -15,7 +15,7 @@ use wl_clock::ClockFault;
 use wl_frame::frame::FrameFault;
 use wl_plan::PlanFault;
 use wl_segments::SegmentsFault;
-use wl_setup::{Key, SetupFault, Spot, Text, table_at, value_named};
+use wl_setup::{Key, SetupFault, TablePath, Text, table_at, value_named};
 use wl_topology::TopologyFault;
 
 /// Returns what a value is.
@@ -129,9 +129,9 @@ fn name_words(alloc: Global, value: Option<&Value>) -> Result<String, AllocError
 /// Returns what is at the name of node `i`.
 fn name_of_node(top: &Table, i: u64) -> Option<&Value>
     ensures { option_map (λ v. view v.now) result
-        ≡ option_and_then (value_at Key.Name) (table_at (Spot.Node i) (table_view top.now)) }
+        ≡ option_and_then (value_at Key.Name) (table_at (TablePath.Node i) (table_view top.now)) }
 {
-    match table_at(top, Spot::Node(i)) {
+    match table_at(top, TablePath::Node(i)) {
         Some(node) => value_named(node, Key::Name.text()),
         None => None,
     }
@@ -176,30 +176,35 @@ fn frame_of_node(alloc: Global, node: &str, n: u64) -> Result<String, AllocError
 }
 
 /// Returns a table of the document.
-fn spot_words(alloc: Global, top: &Table, spot: Spot) -> Result<String, AllocError>
-    ensures { IfOk result (λ text. string_bytes text ≡ spot_words (table_view top.now) spot) }
+fn path_words(alloc: Global, top: &Table, path: TablePath) -> Result<String, AllocError>
+    ensures { IfOk result (λ text. string_bytes text ≡ path_words (table_view top.now) path) }
 {
-    match spot {
-        Spot::Top => String::from_str(alloc, "the plan"),
-        Spot::Node(i) => node_called(alloc, top, i),
-        Spot::Rate(i, n) => {
+    match path {
+        TablePath::Top => String::from_str(alloc, "the plan"),
+        TablePath::Node(i) => node_called(alloc, top, i),
+        TablePath::Rate(i, n) => {
             let node = node_called(alloc, top, i)?;
             rate_of_node(alloc, node.as_str(), n)
         }
-        Spot::Frame(i, n) => {
+        TablePath::Frame(i, n) => {
             let node = node_called(alloc, top, i)?;
             frame_of_node(alloc, node.as_str(), n)
         }
-        Spot::Disturbance(n) => format!(in alloc; "disturbance {n}"),
+        TablePath::Disturbance(n) => format!(in alloc; "disturbance {n}"),
     }
 }
 
 /// Returns a table, and what some of its keys say.
-fn subject_words(alloc: Global, top: &Table, spot: Spot, keys: &[Key]) -> Result<String, AllocError>
-    ensures { IfOk result (λ text. string_bytes text ≡ subject_words (table_view top.now) spot keys.now) }
+fn subject_words(
+    alloc: Global,
+    top: &Table,
+    path: TablePath,
+    keys: &[Key],
+) -> Result<String, AllocError>
+    ensures { IfOk result (λ text. string_bytes text ≡ subject_words (table_view top.now) path keys.now) }
 {
-    let place = spot_words(alloc, top, spot)?;
-    let said = keys_words(alloc, keys, table_at(top, spot))?;
+    let place = path_words(alloc, top, path)?;
+    let said = keys_words(alloc, keys, table_at(top, path))?;
     format!(in alloc; "{place}{said}")
 }
 
@@ -241,8 +246,8 @@ fn keys_of_frame(fault: FrameFault) -> &'static [Key]
 fn two_nodes(alloc: Global, top: &Table, i: u64, j: u64) -> Result<String, AllocError>
     ensures { IfOk result (λ text. string_bytes text ≡ two_nodes (table_view top.now) i j) }
 {
-    let from = subject_words(alloc, top, Spot::Node(i), &[Key::X, Key::Out])?;
-    let to = subject_words(alloc, top, Spot::Node(j), &[Key::X, Key::In])?;
+    let from = subject_words(alloc, top, TablePath::Node(i), &[Key::X, Key::Out])?;
+    let to = subject_words(alloc, top, TablePath::Node(j), &[Key::X, Key::In])?;
     format!(in alloc; "{from}; {to}")
 }
 
@@ -252,7 +257,7 @@ fn topology_subject(alloc: Global, top: &Table, fault: TopologyFault) -> Result<
 {
     match fault {
         TopologyFault::NoNodes | TopologyFault::TooManyNodes => {
-            subject_words(alloc, top, Spot::Top, &[Key::Node])
+            subject_words(alloc, top, TablePath::Top, &[Key::Node])
         }
         TopologyFault::ZeroDelay(i, j) | TopologyFault::TooLong(i, j) => {
             two_nodes(alloc, top, i as u64, j as u64)
@@ -264,7 +269,7 @@ fn topology_subject(alloc: Global, top: &Table, fault: TopologyFault) -> Result<
 fn quanta_words(alloc: Global, top: &Table, i: u64) -> Result<String, AllocError>
     ensures { IfOk result (λ text. string_bytes text ≡ quanta_words (table_view top.now) i) }
 {
-    let end = subject_words(alloc, top, Spot::Top, &[Key::End, Key::Sync])?;
+    let end = subject_words(alloc, top, TablePath::Top, &[Key::End, Key::Sync])?;
     let keys = &[
         Key::Offset,
         Key::Quantum,
@@ -273,7 +278,7 @@ fn quanta_words(alloc: Global, top: &Table, i: u64) -> Result<String, AllocError
         Key::Den,
         Key::Rates,
     ];
-    let node = subject_words(alloc, top, Spot::Node(i), keys)?;
+    let node = subject_words(alloc, top, TablePath::Node(i), keys)?;
     format!(in alloc; "{end}; {node}")
 }
 
@@ -282,14 +287,14 @@ fn plan_subject(alloc: Global, top: &Table, fault: PlanFault) -> Result<String, 
     ensures { IfOk result (λ text. string_bytes text ≡ plan_subject (table_view top.now) fault) }
 {
     match fault {
-        PlanFault::Nodes => subject_words(alloc, top, Spot::Top, &[Key::Node]),
-        PlanFault::End => subject_words(alloc, top, Spot::Top, &[Key::End]),
+        PlanFault::Nodes => subject_words(alloc, top, TablePath::Top, &[Key::Node]),
+        PlanFault::End => subject_words(alloc, top, TablePath::Top, &[Key::End]),
         PlanFault::Quanta(i) => quanta_words(alloc, top, i),
-        PlanFault::Queue(i) => subject_words(alloc, top, Spot::Node(i), &[Key::Frame]),
+        PlanFault::Queue(i) => subject_words(alloc, top, TablePath::Node(i), &[Key::Frame]),
         PlanFault::Disturbance(n) => subject_words(
             alloc,
             top,
-            Spot::Disturbance(n),
+            TablePath::Disturbance(n),
             &[Key::X, Key::AtNode, Key::From, Key::To],
         ),
     }
@@ -303,33 +308,43 @@ fn push_missing(text: &mut String, place: &str, key: &Text) -> Result<(), AllocE
 }
 
 /// Returns a table that lacks a key.
-fn missing_words(alloc: Global, top: &Table, spot: Spot, key: &Text) -> Result<String, AllocError>
-    ensures { IfOk result (λ text. string_bytes text ≡ missing_words (table_view top.now) spot key.now) }
+fn missing_words(
+    alloc: Global,
+    top: &Table,
+    path: TablePath,
+    key: &Text,
+) -> Result<String, AllocError>
+    ensures { IfOk result (λ text. string_bytes text ≡ missing_words (table_view top.now) path key.now) }
 {
-    let place = spot_words(alloc, top, spot)?;
+    let place = path_words(alloc, top, path)?;
     let mut text = String::new(alloc);
     push_missing(&mut text, place.as_str(), key)?;
     Ok(text)
 }
 
 /// Returns the value at a key of a table of the document.
-fn value_in<'a>(top: &'a Table, spot: Spot, key: &Text) -> Option<&'a Value>
+fn value_in<'a>(top: &'a Table, path: TablePath, key: &Text) -> Option<&'a Value>
     ensures { option_map (λ v. view v.now) result
-        ≡ option_and_then (get_member key.now) (table_at spot (table_view top.now)) }
+        ≡ option_and_then (get_member key.now) (table_at path (table_view top.now)) }
 {
-    match table_at(top, spot) {
+    match table_at(top, path) {
         Some(table) => value_named(table, key.as_str()),
         None => None,
     }
 }
 
 /// Returns a table, and a key of it with its value.
-fn named_words(alloc: Global, top: &Table, spot: Spot, key: &Text) -> Result<String, AllocError>
-    ensures { IfOk result (λ text. string_bytes text ≡ named_words (table_view top.now) spot key.now) }
+fn named_words(
+    alloc: Global,
+    top: &Table,
+    path: TablePath,
+    key: &Text,
+) -> Result<String, AllocError>
+    ensures { IfOk result (λ text. string_bytes text ≡ named_words (table_view top.now) path key.now) }
 {
-    let place = spot_words(alloc, top, spot)?;
+    let place = path_words(alloc, top, path)?;
     let label = format!(in alloc; "{key}")?;
-    let said = key_words(alloc, label.as_str(), value_in(top, spot, key))?;
+    let said = key_words(alloc, label.as_str(), value_in(top, path, key))?;
     format!(in alloc; "{place}{said}")
 }
 
@@ -337,24 +352,24 @@ fn named_words(alloc: Global, top: &Table, spot: Spot, key: &Text) -> Result<Str
 pub fn subject(
     alloc: Global,
     top: &Table,
-    spot: Spot,
+    path: TablePath,
     fault: &SetupFault,
 ) -> Result<String, AllocError>
-    ensures { IfOk result (λ text. string_bytes text ≡ subject (table_view top.now) spot fault.now) }
+    ensures { IfOk result (λ text. string_bytes text ≡ subject (table_view top.now) path fault.now) }
 {
     match fault {
-        SetupFault::Version => subject_words(alloc, top, Spot::Top, &[Key::Version]),
-        SetupFault::Missing(key) => missing_words(alloc, top, spot, key),
-        SetupFault::Kind(key) => named_words(alloc, top, spot, key),
-        SetupFault::Unknown(key) => named_words(alloc, top, spot, key),
+        SetupFault::Version => subject_words(alloc, top, TablePath::Top, &[Key::Version]),
+        SetupFault::Missing(key) => missing_words(alloc, top, path, key),
+        SetupFault::Kind(key) => named_words(alloc, top, path, key),
+        SetupFault::Unknown(key) => named_words(alloc, top, path, key),
         SetupFault::NodeClock(i, fault) => {
-            subject_words(alloc, top, Spot::Node(*i), keys_of_clock(*fault))
+            subject_words(alloc, top, TablePath::Node(*i), keys_of_clock(*fault))
         }
         SetupFault::NodeSegments(i, fault) => {
-            subject_words(alloc, top, Spot::Node(*i), keys_of_segments(*fault))
+            subject_words(alloc, top, TablePath::Node(*i), keys_of_segments(*fault))
         }
         SetupFault::NodeFrame(i, n, fault) => {
-            subject_words(alloc, top, Spot::Frame(*i, *n), keys_of_frame(*fault))
+            subject_words(alloc, top, TablePath::Frame(*i, *n), keys_of_frame(*fault))
         }
         SetupFault::Topology(fault) => topology_subject(alloc, top, *fault),
         SetupFault::Plan(fault) => plan_subject(alloc, top, *fault),
@@ -383,12 +398,12 @@ fn lines(alloc: Global, about: &str, wrong: &str, change: &str) -> Result<String
 pub fn explain_fault(
     alloc: Global,
     top: &Table,
-    spot: Spot,
+    path: TablePath,
     fault: &SetupFault,
 ) -> Result<String, AllocError>
-    ensures { IfOk result (λ text. string_bytes text ≡ refusal_words (table_view top.now) spot fault.now) }
+    ensures { IfOk result (λ text. string_bytes text ≡ refusal_words (table_view top.now) path fault.now) }
 {
-    let about = subject(alloc, top, spot, fault)?;
+    let about = subject(alloc, top, path, fault)?;
     lines(alloc, about.as_str(), cause(fault), remedy(fault))
 }
 

@@ -2,12 +2,12 @@
 ghost use Rattle.std.specs.Prelude.{◌≤◌, length, IfSome};
 
 use crate::scan::{element_at, is_key, key_end, member_at, skip_blanks, value_behind, value_end};
-use wl_setup::Spot;
+use wl_setup::TablePath;
 
 /// The table that the statements of a text are in, and how many of each kind came before.
 #[derive(Clone, Copy)]
 struct Tables {
-    here: Option<Spot>,
+    here: Option<TablePath>,
     nodes: u64,
     rates: u64,
     frames: u64,
@@ -17,7 +17,7 @@ struct Tables {
 impl Tables {
     fn new() -> Tables {
         Tables {
-            here: Some(Spot::Top),
+            here: Some(TablePath::Top),
             nodes: 0,
             rates: 0,
             frames: 0,
@@ -28,7 +28,7 @@ impl Tables {
     /// Returns the tables after the header `[[node]]`.
     fn node(self) -> Tables {
         Tables {
-            here: Some(Spot::Node(self.nodes)),
+            here: Some(TablePath::Node(self.nodes)),
             nodes: self.nodes.saturating_add(1),
             rates: 0,
             frames: 0,
@@ -43,13 +43,13 @@ impl Tables {
             return self.node();
         }
         if is_key(text, from, end, b"node.rates") {
-            self.here = Some(Spot::Rate(node, self.rates));
+            self.here = Some(TablePath::Rate(node, self.rates));
             self.rates = self.rates.saturating_add(1);
         } else if is_key(text, from, end, b"node.frame") {
-            self.here = Some(Spot::Frame(node, self.frames));
+            self.here = Some(TablePath::Frame(node, self.frames));
             self.frames = self.frames.saturating_add(1);
         } else if is_key(text, from, end, b"disturbance") {
-            self.here = Some(Spot::Disturbance(self.disturbances));
+            self.here = Some(TablePath::Disturbance(self.disturbances));
             self.disturbances = self.disturbances.saturating_add(1);
         } else {
             self.here = None;
@@ -74,20 +74,36 @@ fn element_in(text: &[u8], table: usize, word: &[u8], n: u64) -> Option<usize> {
 }
 
 /// Returns the place of a table that is written in line at a key of the table `here`.
-fn inline_table(text: &[u8], here: Spot, key: usize, equals: usize, wanted: Spot) -> Option<usize> {
+fn inline_table(
+    text: &[u8],
+    here: TablePath,
+    key: usize,
+    equals: usize,
+    wanted: TablePath,
+) -> Option<usize> {
     match (here, wanted) {
-        (Spot::Top, Spot::Node(i)) => element_of(text, key, equals, b"node", i),
-        (Spot::Top, Spot::Disturbance(n)) => element_of(text, key, equals, b"disturbance", n),
-        (Spot::Top, Spot::Rate(i, n)) => {
+        (TablePath::Top, TablePath::Node(i)) => element_of(text, key, equals, b"node", i),
+        (TablePath::Top, TablePath::Disturbance(n)) => element_of(
+            text,
+            key,
+            equals,
+            b"disturbance",
+            n,
+        ),
+        (TablePath::Top, TablePath::Rate(i, n)) => {
             let node = element_of(text, key, equals, b"node", i)?;
             element_in(text, node, b"rates", n)
         }
-        (Spot::Top, Spot::Frame(i, n)) => {
+        (TablePath::Top, TablePath::Frame(i, n)) => {
             let node = element_of(text, key, equals, b"node", i)?;
             element_in(text, node, b"frame", n)
         }
-        (Spot::Node(j), Spot::Rate(i, n)) if i == j => element_of(text, key, equals, b"rates", n),
-        (Spot::Node(j), Spot::Frame(i, n)) if i == j => element_of(text, key, equals, b"frame", n),
+        (TablePath::Node(j), TablePath::Rate(i, n)) if i == j => element_of(
+            text, key, equals, b"rates", n,
+        ),
+        (TablePath::Node(j), TablePath::Frame(i, n)) if i == j => element_of(
+            text, key, equals, b"frame", n,
+        ),
         _ => None,
     }
 }
@@ -95,10 +111,10 @@ fn inline_table(text: &[u8], here: Spot, key: usize, equals: usize, wanted: Spot
 /// Returns the place of the key in a statement of the table `here` that begins at a place: its own, or one in a table in line.
 fn found_in(
     text: &[u8],
-    here: Spot,
+    here: TablePath,
     key: usize,
     equals: usize,
-    wanted: Spot,
+    wanted: TablePath,
     word: &[u8],
 ) -> Option<usize> {
     if here == wanted {
@@ -126,7 +142,7 @@ fn inside(text: &[u8], place: Option<usize>) -> Option<usize>
 
 /// Returns the place of a key in a plan's text, by its table; that of the table if the table hasn't the key. `None` if neither is found, as
 /// of the top table, or of tables with other headers than `[[..]]`.
-pub(crate) fn place_of(text: &[u8], wanted: Spot, word: &[u8]) -> Option<usize>
+pub(crate) fn place_of(text: &[u8], wanted: TablePath, word: &[u8]) -> Option<usize>
     ensures { IfSome result (λ at. at ≤ length text.now) }
 {
     let mut at = skip_blanks(text, 0);

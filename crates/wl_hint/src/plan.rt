@@ -14,7 +14,7 @@ use wl_explain::{cause, remedy, subject as about};
 use wl_frame::frame::FrameFault;
 use wl_plan::PlanFault;
 use wl_segments::SegmentsFault;
-use wl_setup::{NoDocument, SetupFault, Spot, Text, bus_of_document, document_or_place};
+use wl_setup::{NoDocument, SetupFault, TablePath, Text, bus_of_document, document_or_place};
 use wl_topology::TopologyFault;
 
 /// The most bytes of a value that a hint shows.
@@ -51,31 +51,31 @@ fn frame_key(fault: FrameFault) -> &'static str {
 }
 
 /// Returns the table and the key that a fault of a whole plan is about.
-fn plan_subject(fault: PlanFault) -> (Spot, &'static str) {
+fn plan_subject(fault: PlanFault) -> (TablePath, &'static str) {
     match fault {
-        PlanFault::Nodes => (Spot::Top, "node"),
-        PlanFault::End | PlanFault::Quanta(_) => (Spot::Top, "end"),
-        PlanFault::Queue(i) => (Spot::Node(i), "frame"),
-        PlanFault::Disturbance(n) => (Spot::Disturbance(n), ""),
+        PlanFault::Nodes => (TablePath::Top, "node"),
+        PlanFault::End | PlanFault::Quanta(_) => (TablePath::Top, "end"),
+        PlanFault::Queue(i) => (TablePath::Node(i), "frame"),
+        PlanFault::Disturbance(n) => (TablePath::Disturbance(n), ""),
     }
 }
 
 /// Returns the table and the key that a fault of the places is about.
-fn topology_subject(fault: TopologyFault) -> (Spot, &'static str) {
+fn topology_subject(fault: TopologyFault) -> (TablePath, &'static str) {
     match fault {
-        TopologyFault::ZeroDelay(i, _) => (Spot::Node(i as u64), "out"),
-        TopologyFault::TooLong(i, _) => (Spot::Node(i as u64), "x"),
-        _ => (Spot::Top, "node"),
+        TopologyFault::ZeroDelay(i, _) => (TablePath::Node(i as u64), "out"),
+        TopologyFault::TooLong(i, _) => (TablePath::Node(i as u64), "x"),
+        _ => (TablePath::Top, "node"),
     }
 }
 
 /// Returns the table and the key that a fault of numbers is about.
-fn subject(fault: &SetupFault) -> Option<(Spot, &'static str)> {
+fn subject(fault: &SetupFault) -> Option<(TablePath, &'static str)> {
     match fault {
-        SetupFault::Version => Some((Spot::Top, "version")),
-        SetupFault::NodeClock(i, fault) => Some((Spot::Node(*i), clock_key(*fault))),
-        SetupFault::NodeSegments(i, fault) => Some((Spot::Node(*i), segments_key(*fault))),
-        SetupFault::NodeFrame(i, n, fault) => Some((Spot::Frame(*i, *n), frame_key(*fault))),
+        SetupFault::Version => Some((TablePath::Top, "version")),
+        SetupFault::NodeClock(i, fault) => Some((TablePath::Node(*i), clock_key(*fault))),
+        SetupFault::NodeSegments(i, fault) => Some((TablePath::Node(*i), segments_key(*fault))),
+        SetupFault::NodeFrame(i, n, fault) => Some((TablePath::Frame(*i, *n), frame_key(*fault))),
         SetupFault::Topology(fault) => Some(topology_subject(*fault)),
         SetupFault::Plan(fault) => Some(plan_subject(*fault)),
         _ => None,
@@ -83,21 +83,25 @@ fn subject(fault: &SetupFault) -> Option<(Spot, &'static str)> {
 }
 
 /// Returns the table where the first fault of a document is; `None` if it has none.
-fn first_spot(alloc: Global, top: &Table) -> Result<Option<Spot>, AllocError> {
+fn first_path(alloc: Global, top: &Table) -> Result<Option<TablePath>, AllocError> {
     match bus_of_document(alloc, top) {
         Ok(_) => Ok(None),
         Err(placed) => match placed.fault {
             SetupFault::Memory => Err(AllocError),
-            _ => Ok(Some(placed.spot)),
+            _ => Ok(Some(placed.path)),
         },
     }
 }
 
 /// Returns the table that a fault is about.
-fn spot_in(alloc: Global, top: &Table, fault: &SetupFault) -> Result<Option<Spot>, AllocError> {
+fn path_in(
+    alloc: Global,
+    top: &Table,
+    fault: &SetupFault,
+) -> Result<Option<TablePath>, AllocError> {
     match subject(fault) {
-        Some((spot, _)) => Ok(Some(spot)),
-        None => first_spot(alloc, top),
+        Some((path, _)) => Ok(Some(path)),
+        None => first_path(alloc, top),
     }
 }
 
@@ -157,12 +161,12 @@ fn no_document(alloc: Global, text: &[u8], at: usize) -> Result<Hint, AllocError
 fn said_of(
     alloc: Global,
     top: &Table,
-    spot: Spot,
+    path: TablePath,
     fault: &SetupFault,
     written: &str,
 ) -> Result<Text, AllocError> {
-    let about = about(alloc, top, spot, fault)?;
-    let remark = remark(alloc, top, spot, fault)?;
+    let about = about(alloc, top, path, fault)?;
+    let remark = remark(alloc, top, path, fault)?;
     let (cause, remedy) = (cause(fault), remedy(fault));
     let said = format!(in alloc; "{written}{about}: {cause}{remark}. {remedy}")?;
     Text::new(alloc, said.as_str())
@@ -173,22 +177,22 @@ fn in_table(
     alloc: Global,
     text: &[u8],
     top: &Table,
-    spot: Spot,
+    path: TablePath,
     fault: &SetupFault,
 ) -> Result<Hint, AllocError>
     ensures { IfOk result (PointsInto (Some text.now)) }
 {
-    match place_of(text, spot, key_in(fault).as_bytes()) {
+    match place_of(text, path, key_in(fault).as_bytes()) {
         Some(at) => {
             let written = written(alloc, text, at)?;
             Ok(Hint {
                 place: Some(TextPlace::of(text, at)),
-                said: said_of(alloc, top, spot, fault, written.as_str())?,
+                said: said_of(alloc, top, path, fault, written.as_str())?,
             })
         }
         None => Ok(Hint {
             place: None,
-            said: said_of(alloc, top, spot, fault, "")?,
+            said: said_of(alloc, top, path, fault, "")?,
         }),
     }
 }
@@ -202,11 +206,11 @@ fn in_document(
 ) -> Result<Hint, AllocError>
     ensures { IfOk result (PointsInto (Some text.now)) }
 {
-    match spot_in(alloc, top, fault)? {
-        Some(spot) => in_table(alloc, text, top, spot, fault),
+    match path_in(alloc, top, fault)? {
+        Some(path) => in_table(alloc, text, top, path, fault),
         None => Ok(Hint {
             place: None,
-            said: said_of(alloc, top, Spot::Top, fault, "")?,
+            said: said_of(alloc, top, TablePath::Top, fault, "")?,
         }),
     }
 }

@@ -6,7 +6,7 @@ use toml::{Table, Value};
 use wl_clock::Clock;
 use wl_plan::{MOST_QUANTA, MOST_SHORT_QUANTA, PlanFault};
 use wl_segments::SegmentsFault;
-use wl_setup::{SetupFault, Spot, Text, table_at, value_named};
+use wl_setup::{SetupFault, TablePath, Text, table_at, value_named};
 
 /// The keys that plans have.
 #[rattlefmt::skip]
@@ -59,7 +59,7 @@ fn is_short(top: &Table, node: &Table) -> bool {
 
 /// Returns the greatest end that the clock of node `i` allows, if it has one rate.
 fn latest_end(top: &Table, i: u64) -> Option<u64> {
-    let node = table_at(top, Spot::Node(i))?;
+    let node = table_at(top, TablePath::Node(i))?;
     let most = if is_short(top, node) {
         MOST_SHORT_QUANTA
     } else {
@@ -88,9 +88,9 @@ fn of_quanta(alloc: Global, top: &Table, i: u64) -> Result<String, AllocError> {
 }
 
 /// Returns the unit of a key of a table, whose value is a whole number.
-fn unit_of(key: &str, spot: Spot) -> &'static str {
-    match (key, spot) {
-        ("from", Spot::Rate(_, _)) => " (it is in quanta)",
+fn unit_of(key: &str, path: TablePath) -> &'static str {
+    match (key, path) {
+        ("from", TablePath::Rate(_, _)) => " (it is in quanta)",
         ("end" | "offset" | "quantum" | "out" | "in" | "from" | "to", _) => " (it is in ticks)",
         ("ready" | "every" | "prop" | "ps1" | "ps2" | "sjw", _) => " (it is in quanta)",
         ("per", _) => " (it is in ticks a unit of length)",
@@ -100,14 +100,15 @@ fn unit_of(key: &str, spot: Spot) -> &'static str {
 }
 
 /// Returns where a key belongs that is in another table.
-fn home_of(key: &str, spot: Spot) -> &'static str {
-    match (key, spot) {
-        (_, Spot::Top) => "",
+fn home_of(key: &str, path: TablePath) -> &'static str {
+    match (key, path) {
+        (_, TablePath::Top) => "",
         ("version" | "end" | "per" | "sync", _) => " (it belongs above the first `[[node]]`)",
-        ("every" | "count", Spot::Node(_) | Spot::Rate(_, _) | Spot::Disturbance(_)) => {
-            " (it belongs into a frame)"
-        }
-        (_, Spot::Node(_) | Spot::Disturbance(_)) => "",
+        (
+            "every" | "count",
+            TablePath::Node(_) | TablePath::Rate(_, _) | TablePath::Disturbance(_),
+        ) => { " (it belongs into a frame)" }
+        (_, TablePath::Node(_) | TablePath::Disturbance(_)) => "",
         (
             "name"
             | "offset"
@@ -150,15 +151,15 @@ fn of_segments(table: Option<&Table>, fault: SegmentsFault) -> &'static str {
 pub(crate) fn remark(
     alloc: Global,
     top: &Table,
-    spot: Spot,
+    path: TablePath,
     fault: &SetupFault,
 ) -> Result<String, AllocError> {
-    let table = table_at(top, spot);
+    let table = table_at(top, path);
     match fault {
         SetupFault::Missing(_) => of_missing(alloc, table),
         SetupFault::Plan(PlanFault::Quanta(i)) => of_quanta(alloc, top, *i),
-        SetupFault::Kind(key) => String::from_str(alloc, unit_of(key.as_str(), spot)),
-        SetupFault::Unknown(key) => String::from_str(alloc, home_of(key.as_str(), spot)),
+        SetupFault::Kind(key) => String::from_str(alloc, unit_of(key.as_str(), path)),
+        SetupFault::Unknown(key) => String::from_str(alloc, home_of(key.as_str(), path)),
         SetupFault::NodeSegments(_, fault) => {
             String::from_str(alloc, of_segments(table, *fault))
         }

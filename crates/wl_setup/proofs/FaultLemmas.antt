@@ -13,10 +13,10 @@ use Rattle.wl_setup.specs.Keys.{TableKeys, top_keys}
 use Rattle.wl_setup.specs.Kinds.{number_at, tables_at}
 use Rattle.wl_setup.specs.Faults.{first_some, required_fault, setup_fault, table_fault, node_keys, rate_keys, frame_keys, disturbance_keys, is_known_version, version_fault}
 use Rattle.wl_setup.specs.Names.{first_repeat, has_repeat, names_of, same_name_fault}
-use Rattle.wl_setup.specs.declared.spot.PlacedFault.{PlacedFault}
-use Rattle.wl_setup.specs.declared.spot.Spot.{Spot}
-use Rattle.wl_setup.specs.declared.spot.Spot.TheVariants.{Top, Node, Rate, Frame, Disturbance}
-use Rattle.wl_setup.specs.Spots.{fault_at, rate_fault_at, frame_fault_at, disturbance_fault_at, first_in, node_fault_at}
+use Rattle.wl_setup.specs.declared.table_path.PlacedFault.{PlacedFault}
+use Rattle.wl_setup.specs.declared.table_path.TablePath.{TablePath}
+use Rattle.wl_setup.specs.declared.table_path.TablePath.TheVariants.{Top, Node, Rate, Frame, Disturbance}
+use Rattle.wl_setup.specs.TablePaths.{fault_at, rate_fault_at, frame_fault_at, disturbance_fault_at, first_in, node_fault_at}
 use Rattle.wl_setup.specs.Texts.{plan_of}
 use Rattle.wl_setup.specs.Document.{document_fault, first_fault, is_document_fault, unless, OnlyDocumentFaults}
 use Rattle.wl_setup.specs.Reading.{document_answer}
@@ -47,7 +47,7 @@ has f = is_document_fault f ≡ true
 abbrev placed_has : PlacedFault → Type 0
 placed_has f = is_document_fault f.fault ≡ true
 
-placed_of : (at : Spot) (o : Option SetupFault) → IsOfDocument o → IsPlaced (fault_at at o)
+placed_of : (at : TablePath) (o : Option SetupFault) → IsOfDocument o → IsPlaced (fault_at at o)
 placed_of at None own = tt
 placed_of at (Some f) own = own
 

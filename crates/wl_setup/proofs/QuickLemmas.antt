@@ -34,10 +34,10 @@ use Rattle.wl_setup.specs.Kinds.{has_kind, value_at, number_at, tables_at}
 use Rattle.wl_setup.specs.Faults.{first_some, required_fault_of, optional_fault_of, required_fault, fault_at_key, setup_fault, is_value_of, unknown_key, keys_in, least, is_known, table_fault, node_keys, frame_keys, disturbance_keys, has_traffic, rate_fault, frame_fault, disturbance_fault, is_known_version, version_fault}
 use Rattle.wl_setup.specs.Texts.{frame_of, disturbance_of, node_text_of, plan_of}
 use Rattle.wl_setup.specs.Names.{first_repeat, names_of, same_name_fault}
-use Rattle.wl_setup.specs.declared.spot.PlacedFault.{PlacedFault}
-use Rattle.wl_setup.specs.declared.spot.Spot.{Spot}
-use Rattle.wl_setup.specs.declared.spot.Spot.TheVariants as spot
-use Rattle.wl_setup.specs.Spots.{placed, fault_at, rate_fault_at, frame_fault_at, disturbance_fault_at, first_in, node_fault_at}
+use Rattle.wl_setup.specs.declared.table_path.PlacedFault.{PlacedFault}
+use Rattle.wl_setup.specs.declared.table_path.TablePath.{TablePath}
+use Rattle.wl_setup.specs.declared.table_path.TablePath.TheVariants as path
+use Rattle.wl_setup.specs.TablePaths.{placed, fault_at, rate_fault_at, frame_fault_at, disturbance_fault_at, first_in, node_fault_at}
 use Rattle.wl_setup.specs.Document.{document_fault, first_fault}
 use Rattle.wl_setup.specs.Quick.{pair_value, required_pairs, optional_pairs, has_only, HasKeys, frame_pair_keys, disturbance_pair_keys, frame_of_pairs, disturbance_of_pairs, has_rates_among, keys_by, pair_keys, node_of_pairs, members, tables_said, AreTables, AreRates, AreNodeFrames, IsGood, node_of_group, IsNodeText, AreNodes, IsTopRow, plan_of_pairs, Says, number_said}
 use Rattle.wl_setup.proofs.ValueLemmas.{list_of-items_of}
@@ -193,11 +193,11 @@ none_in f g P ok n [] all = refl
 none_in f g P ok n (x ∷ xs) all = pass (f n (close (g x))) _ (ok n x all.0) ∙ none_in f g P ok (n + 1) xs all.1
 
 -- a fault without its place
-unplaced : (at : Spot) (o : Option SetupFault) → option_map (λ f. f.fault) (fault_at at o) ≡ o
+unplaced : (at : TablePath) (o : Option SetupFault) → option_map (λ f. f.fault) (fault_at at o) ≡ o
 unplaced at None = refl
 unplaced at (Some f) = refl
 
-unplaced_none : (at : Spot) (o : Option SetupFault) → fault_at at o ≡ None → o ≡ None
+unplaced_none : (at : TablePath) (o : Option SetupFault) → fault_at at o ≡ None → o ≡ None
 unplaced_none at None h = refl
 unplaced_none at (Some f) h = absurd (none-some (placed at f) (sym h))
 
@@ -211,11 +211,11 @@ none_again f g next n (t ∷ ts) none =
 
 rates_anywhere : (i : ℕ) (ts : List Members) → first_in (rate_fault_at 0) ts ≡ None → first_in (rate_fault_at i) ts ≡ None
 rates_anywhere i ts none =
-    none_again (rate_fault_at 0) (rate_fault_at i) (λ n t h. ap (fault_at (spot.Rate i n)) (unplaced_none (spot.Rate 0 n) (rate_fault t) h)) 0 ts none
+    none_again (rate_fault_at 0) (rate_fault_at i) (λ n t h. ap (fault_at (path.Rate i n)) (unplaced_none (path.Rate 0 n) (rate_fault t) h)) 0 ts none
 
 frames_anywhere : (version i : ℕ) (ts : List Members) → first_in (frame_fault_at version 0) ts ≡ None → first_in (frame_fault_at version i) ts ≡ None
 frames_anywhere version i ts none =
-    none_again (frame_fault_at version 0) (frame_fault_at version i) (λ n t h. ap (fault_at (spot.Frame i n)) (unplaced_none (spot.Frame 0 n) (frame_fault version t) h)) 0 ts none
+    none_again (frame_fault_at version 0) (frame_fault_at version i) (λ n t h. ap (fault_at (path.Frame i n)) (unplaced_none (path.Frame 0 n) (frame_fault version t) h)) 0 ts none
 
 -- what is known of the keys of a node
 frame_known : (rates quantum traffic : Bool) → is_known (keys_by rates quantum traffic) (codes "frame") ≡ true
@@ -309,7 +309,7 @@ module _ (version : ℕ) (ps : Pairs) (rows : List Pairs) (h : IsTable ps) (fit 
   node_none : (rates : List RateText) → AreRates version ps rates → optional_fault M key.Frame ≡ None → ((i : ℕ) → first_in (frame_fault_at version i) (tables_at key.Frame M) ≡ None)
       → (i : ℕ) → node_fault_at version i M ≡ None
   node_none rates are own frames_none i =
-      pass _ _ (ap (λ ks. fault_at (spot.Node i) (table_fault ks M)) keys_same ∙ ap (fault_at (spot.Node i)) (own_none own))
+      pass _ _ (ap (λ ks. fault_at (path.Node i) (table_fault ks M)) keys_same ∙ ap (fault_at (path.Node i)) (own_none own))
       ∙ pass _ _ (rates_none rates are i) ∙ pass _ _ (frames_none i)
 
   node_same : (rates : List RateText) (frames : List FrameText) → AreRates version ps rates → frames ≡ map frame_of (tables_at key.Frame M) → node_of_pairs ps rates frames ≡ node_text_of version M
@@ -348,7 +348,7 @@ module _ (version : ℕ) (ps : Pairs) (rows : List Pairs) (h : IsTable ps) (fit 
 
     frames_none : (i : ℕ) → first_in (frame_fault_at version i) (tables_at key.Frame M) ≡ None
     frames_none i = ap (first_in (frame_fault_at version i)) frames_at
-        ∙ none_in (frame_fault_at version i) nodes_of (λ r. IsTable r × (frame_fault version (members r) ≡ None)) (λ n r p. ap (fault_at (spot.Frame i n)) p.1) 0 rows all
+        ∙ none_in (frame_fault_at version i) nodes_of (λ r. IsTable r × (frame_fault version (members r) ≡ None)) (λ n r p. ap (fault_at (path.Frame i n)) p.1) 0 rows all
 
     frames_read : (frames : List FrameText) → frames ≡ map (λ r. frame_of (members r)) rows → frames ≡ map frame_of (tables_at key.Frame M)
     frames_read frames is = is ∙ map_three frame_of close nodes_of rows ∙ ap (map frame_of) (sym frames_at)
@@ -515,14 +515,14 @@ module _ (ps : Pairs) (first_group : Group) (others : List Group) (rows : List P
   rows_none : first_in (disturbance_fault_at (number_at key.Version P)) (tables_at key.Disturbance P) ≡ None
   rows_none =
       ap (λ v. first_in (disturbance_fault_at v) (tables_at key.Disturbance P)) version_is ∙ ap (first_in (disturbance_fault_at version)) rows_at
-      ∙ none_in (disturbance_fault_at version) nodes_of (λ r. IsTable r × (disturbance_fault version (members r) ≡ None)) (λ n r p. ap (fault_at (spot.Disturbance n)) p.1) 0 rows all
+      ∙ none_in (disturbance_fault_at version) nodes_of (λ r. IsTable r × (disturbance_fault version (members r) ≡ None)) (λ n r p. ap (fault_at (path.Disturbance n)) p.1) 0 rows all
 
-  abbrev at_repeat : Spot
-  at_repeat = spot.Node (first_repeat [] (names_of (plan_of P)))
+  abbrev at_repeat : TablePath
+  at_repeat = path.Node (first_repeat [] (names_of (plan_of P)))
 
   first_same : first_fault P ≡ fault_at at_repeat (same_name_fault (plan_of P))
   first_same =
-      pass _ _ (ap (fault_at spot.Top) version_none) ∙ pass _ _ (ap (fault_at spot.Top) table_top) ∙ pass _ _ nodes_none ∙ pass _ _ rows_none ∙ only _
+      pass _ _ (ap (fault_at path.Top) version_none) ∙ pass _ _ (ap (fault_at path.Top) table_top) ∙ pass _ _ nodes_none ∙ pass _ _ rows_none ∙ only _
 
   fault_same : document_fault P ≡ same_name_fault (plan_of P)
   fault_same = ap (option_map (λ f. f.fault)) first_same ∙ unplaced at_repeat (same_name_fault (plan_of P))

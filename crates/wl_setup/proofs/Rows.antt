@@ -26,11 +26,11 @@ use Rattle.wl_setup.specs.declared.plan_text.DisturbanceText.{DisturbanceText}
 use Rattle.wl_setup.specs.declared.plan_text.ClockText.TheVariants.{Rate}
 use Rattle.wl_segments.specs.declared.SyncRules.TheVariants.{After}
 use Rattle.wl_setup.specs.Limits.{most_bytes, largest_number, largest_small, largest_ppm, largest_tolerance, largest_byte, longest_name, first_version, version_of_rates, version_of_traffic, few_queued}
-use Rattle.wl_setup.specs.declared.spot.Spot.TheVariants as spot
+use Rattle.wl_setup.specs.declared.table_path.TablePath.TheVariants as path
 use Rattle.wl_setup.specs.Faults.{frame_fault, disturbance_fault}
 use Rattle.wl_setup.specs.Names.{first_repeat}
-use Rattle.wl_setup.specs.Spots.{node_fault_at, placed}
-use Rattle.wl_setup.specs.Document.{fault_spot, first_fault}
+use Rattle.wl_setup.specs.TablePaths.{node_fault_at, placed}
+use Rattle.wl_setup.specs.Document.{fault_path, first_fault}
 use Rattle.wl_setup.specs.Texts.{frame_of, disturbance_of, node_text_of}
 use Rattle.wl_setup.specs.Plans.{plan_of_text, queued_of, instances_of, queue_in, queue_of, place_of, disturbance_in}
 
@@ -249,11 +249,11 @@ node-listen_by_rates = refl
 node-says : (node_text_of 3 (listener fraction)).listens ≡ true
 node-says = refl
 
-node-listen_1 : node_fault_at 1 4 (listener fraction) ≡ Some (placed (spot.Node 4) (fault.Unknown (codes "listen")))
+node-listen_1 : node_fault_at 1 4 (listener fraction) ≡ Some (placed (path.Node 4) (fault.Unknown (codes "listen")))
 unfolding largest_number largest_small
 node-listen_1 = refl
 
-node-listen_2 : node_fault_at 2 4 (listener no_rates) ≡ Some (placed (spot.Node 4) (fault.Unknown (codes "listen")))
+node-listen_2 : node_fault_at 2 4 (listener no_rates) ≡ Some (placed (path.Node 4) (fault.Unknown (codes "listen")))
 unfolding largest_number largest_small
 node-listen_2 = refl
 
@@ -267,25 +267,25 @@ node_alone clock = table (listener clock)
 abbrev fraction_with : List Members → Members
 fraction_with frames = numbers ((codes "num", 100) ∷ (codes "den", 1) ∷ []) (member (codes "frame") (array (items_of (map table frames))) no_members)
 
-first-second_node : first_fault (plan_with (node_alone fraction ∷ table no_members ∷ [])) ≡ Some (placed (spot.Node 1) (fault.Missing (codes "name")))
+first-second_node : first_fault (plan_with (node_alone fraction ∷ table no_members ∷ [])) ≡ Some (placed (path.Node 1) (fault.Missing (codes "name")))
 unfolding largest_number largest_small
 first-second_node = refl
 
 first-frame : first_fault (plan_with (node_alone (fraction_with (frame_with [] ∷ frame_with ((codes "every", 0) ∷ []) ∷ [])) ∷ []))
-    ≡ Some (placed (spot.Frame 0 1) (fault.Kind (codes "every")))
+    ≡ Some (placed (path.Frame 0 1) (fault.Kind (codes "every")))
 unfolding largest_number largest_small
 first-frame = refl
 
 first-rate : first_fault (plan_with (node_alone (member (codes "rates") (array (items_of (table no_members ∷ []))) no_members) ∷ []))
-    ≡ Some (placed (spot.Rate 0 0) (fault.Missing (codes "from")))
+    ≡ Some (placed (path.Rate 0 0) (fault.Missing (codes "from")))
 unfolding largest_number largest_small
 first-rate = refl
 
-first-name : first_fault (plan_with (node_alone fraction ∷ node_alone fraction ∷ [])) ≡ Some (placed (spot.Node 1) fault.SameName)
+first-name : first_fault (plan_with (node_alone fraction ∷ node_alone fraction ∷ [])) ≡ Some (placed (path.Node 1) fault.SameName)
 unfolding largest_number largest_small
 first-name = refl
 
-first-top : fault_spot (numbers ((codes "version", 4) ∷ []) no_members) ≡ spot.Top
+first-top : fault_path (numbers ((codes "version", 4) ∷ []) no_members) ≡ path.Top
 unfolding largest_number
 first-top = refl
 

@@ -7,14 +7,14 @@ use Rattle.toml.specs.View.{view}
 use Rattle.toml.specs.declared.value.Value.{Value}
 use Rattle.wl_setup.specs.declared.keys.Key.TheVariants as key
 use Rattle.wl_setup.specs.declared.fault.SetupFault.TheVariants.{Memory}
-use Rattle.wl_setup.specs.declared.spot.PlacedFault.{PlacedFault}
-use Rattle.wl_setup.specs.declared.spot.Spot.TheVariants.{Top, Node}
+use Rattle.wl_setup.specs.declared.table_path.PlacedFault.{PlacedFault}
+use Rattle.wl_setup.specs.declared.table_path.TablePath.TheVariants.{Top, Node}
 use Rattle.wl_setup.specs.Keys.{top_keys}
 use Rattle.wl_setup.specs.Kinds.{number_at, tables_at}
 use Rattle.wl_setup.specs.Faults.{first_some, table_fault, version_fault}
 use Rattle.wl_setup.specs.Names.{first_repeat, names_of, same_name_fault}
 use Rattle.wl_setup.specs.Texts.{plan_of}
-use Rattle.wl_setup.specs.Spots.{disturbance_fault_at, fault_at, first_in, node_fault_at}
+use Rattle.wl_setup.specs.TablePaths.{disturbance_fault_at, fault_at, first_in, node_fault_at}
 use Rattle.wl_setup.specs.Document.{AnswersAt, first_fault, tables_in}
 
 -- the first fault is among the tables from this place on, and what is made of them follows on what was made

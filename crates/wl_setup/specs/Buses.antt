@@ -8,8 +8,8 @@ use Rattle.wl_setup.specs.declared.bus.Bus.{Bus}
 use Rattle.wl_setup.specs.declared.bus.Deviation.{Deviation}
 use Rattle.wl_setup.specs.declared.fault.SetupFault.{SetupFault}
 use Rattle.wl_setup.specs.declared.fault.SetupFault.TheVariants.{Memory}
-use Rattle.wl_setup.specs.declared.spot.PlacedFault.{PlacedFault}
-use Rattle.wl_setup.specs.Document.{fault_spot, plan_text_of}
+use Rattle.wl_setup.specs.declared.table_path.PlacedFault.{PlacedFault}
+use Rattle.wl_setup.specs.Document.{fault_path, plan_text_of}
 use Rattle.wl_setup.specs.declared.plan_text.PlanText.{PlanText}
 use Rattle.wl_setup.specs.declared.plan_text.NodeText.{NodeText}
 use Rattle.wl_setup.specs.declared.plan_text.RateText.{RateText}
@@ -66,4 +66,4 @@ abbrev pub IsBusOf : Members → Result Bus PlacedFault → Type 0
 IsBusOf top answer =
     MatchResult answer
     (λ bus. after (plan_text_of top) bus_of_text ≡ Ok bus)
-    (λ e. e.fault ≢ Memory → (after (plan_text_of top) bus_of_text ≡ Err e.fault) × (e.spot ≡ fault_spot top))
+    (λ e. e.fault ≢ Memory → (after (plan_text_of top) bus_of_text ≡ Err e.fault) × (e.path ≡ fault_path top))

@@ -9,11 +9,11 @@ use Rattle.wl_setup.specs.declared.plan_text.PlanText.{PlanText}
 use Rattle.wl_setup.specs.Keys.{top_keys}
 use Rattle.wl_setup.specs.Kinds.{number_at, tables_at}
 use Rattle.wl_setup.specs.Texts.{plan_of}
-use Rattle.wl_setup.specs.declared.spot.PlacedFault.{PlacedFault}
-use Rattle.wl_setup.specs.declared.spot.Spot.{Spot}
-use Rattle.wl_setup.specs.declared.spot.Spot.TheVariants.{Top, Node}
+use Rattle.wl_setup.specs.declared.table_path.PlacedFault.{PlacedFault}
+use Rattle.wl_setup.specs.declared.table_path.TablePath.{TablePath}
+use Rattle.wl_setup.specs.declared.table_path.TablePath.TheVariants.{Top, Node}
 use Rattle.wl_setup.specs.Faults.{first_some, version_fault, table_fault}
-use Rattle.wl_setup.specs.Spots.{fault_at, first_in, node_fault_at, disturbance_fault_at}
+use Rattle.wl_setup.specs.TablePaths.{fault_at, first_in, node_fault_at, disturbance_fault_at}
 use Rattle.wl_setup.specs.Names.{first_repeat, names_of, same_name_fault}
 
 -- the first fault and its place: of the version, the top table, each node followed by its rates and its frames, the disturbances, the names
@@ -31,8 +31,8 @@ abbrev pub document_fault : Members → Option SetupFault
 document_fault top = option_map (λ f. f.fault) (first_fault top)
 
 -- the table of the first fault; where there is none, the top table
-abbrev pub fault_spot : Members → Spot
-fault_spot top = unwrap_or (option_map (λ f. f.spot) (first_fault top)) Top
+abbrev pub fault_path : Members → TablePath
+fault_path top = unwrap_or (option_map (λ f. f.path) (first_fault top)) Top
 
 -- a value, unless there is a fault
 abbrev pub unless : {T : Type 0} → Option SetupFault → T → Result T SetupFault

@@ -4,7 +4,7 @@ pub mod Kinds
 pub mod Texts
 pub mod Shown
 pub mod Faults
-pub mod Spots
+pub mod TablePaths
 pub mod Names
 pub mod Document
 pub mod Quick

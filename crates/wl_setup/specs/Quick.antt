@@ -27,7 +27,7 @@ use Rattle.wl_setup.specs.Kinds.{number_in, positive_in, byte_in, sync_in, eleme
 use Rattle.wl_setup.specs.Faults.{first_some, required_fault_of, optional_fault_of, is_known, has_traffic, frame_fault, is_known_version}
 use Rattle.wl_setup.specs.Texts.{frame_of, rate_of, node_text_of}
 use Rattle.wl_setup.specs.Names.{same_name_fault}
-use Rattle.wl_setup.specs.Spots.{first_in, rate_fault_at, frame_fault_at, node_fault_at}
+use Rattle.wl_setup.specs.TablePaths.{first_in, rate_fault_at, frame_fault_at, node_fault_at}
 use Rattle.wl_setup.specs.Document.{document_fault}
 use Rattle.wl_setup.specs.Texts.{plan_of}
 

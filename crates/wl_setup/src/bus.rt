@@ -13,7 +13,7 @@ use crate::names::Names;
 use crate::plan::rates;
 use crate::plan_text::{ClockText, NodeText, PlanText, RateText};
 use crate::read::{parse, read_named};
-use crate::spot::{PlacedFault, Spot};
+use crate::table_path::{PlacedFault, TablePath};
 use std::alloc::{AllocError, Global};
 use toml::Table;
 use wl_clock::Rate;
@@ -151,7 +151,7 @@ pub fn bus_of_document(alloc: Global, top: &Table) -> Result<Bus, PlacedFault>
     match text.bus(alloc, names) {
         Ok(bus) => Ok(bus),
         Err(fault) => Err(PlacedFault {
-            spot: Spot::Top,
+            path: TablePath::Top,
             fault,
         }),
     }

@@ -4,7 +4,7 @@ ghost use Rattle.toml.specs.View.{view, table_view};
 ghost use Rattle.wl_setup.specs.declared.keys.Key.TheVariants as key;
 ghost use Rattle.wl_setup.specs.Kinds.{tables_at};
 ghost use Rattle.wl_setup.specs.Faults.{version_fault};
-ghost use Rattle.wl_setup.specs.Spots.{disturbance_fault_at, first_in, frame_fault_at, node_fault_at, rate_fault_at};
+ghost use Rattle.wl_setup.specs.TablePaths.{disturbance_fault_at, first_in, frame_fault_at, node_fault_at, rate_fault_at};
 ghost use Rattle.wl_setup.specs.Texts.{frame_of, disturbance_of, clock_of, rate_of, rates_of, node_text_of};
 ghost use Rattle.wl_setup.specs.Quick.{value_data, elements_said, tables_said};
 ghost use Rattle.wl_setup.specs.Document.{AnswersAt, AnswersEach, Passes, first_fault, named_text_of};
@@ -14,11 +14,11 @@ use crate::keys::{self, Key};
 use crate::limits::{FIRST_VERSION, VERSION_OF_RATES, VERSION_OF_TRAFFIC};
 use crate::names::Names;
 use crate::plan_text::{ClockText, DisturbanceText, FrameText, NodeText, PlanText, RateText};
-use crate::spot::{PlacedFault, Spot};
+use crate::table_path::{PlacedFault, TablePath};
 use crate::tables::{check_required, check_table};
 use crate::values::{
-    bytes_at, elements_at, elements_in, name_at, number_at, positive_at, ppm_at, small_at, some_name_at,
-    sync_choice_at, tolerance_at, truth_at, value_at,
+    bytes_at, elements_at, elements_in, name_at, number_at, positive_at, ppm_at, small_at,
+    some_name_at, sync_choice_at, tolerance_at, truth_at, value_at,
 };
 use std::alloc::Global;
 use toml::{Table, Value};
@@ -38,7 +38,7 @@ fn check_version(alloc: Global, top: &Table) -> Result<(), SetupFault>
 pub(crate) trait Row: Drop {
     ghost use Rattle.std.specs.Prelude.{ℕ, Option};
     ghost use Rattle.toml.specs.Data.{Members};
-    ghost use Rattle.wl_setup.specs.declared.spot.PlacedFault.{PlacedFault};
+    ghost use Rattle.wl_setup.specs.declared.table_path.PlacedFault.{PlacedFault};
 
     /// The first fault of such a table, by the version of the text, the number of its node if it is in one, and its own.
     ghost fault: { ℕ → ℕ → ℕ → Members → Option PlacedFault };
@@ -104,7 +104,7 @@ impl Row for FrameText {
         table: &Table,
     ) -> Result<FrameText, PlacedFault> {
         let keys = keys::frame_keys(version, table);
-        Spot::Frame(node, number).placed(check_table(alloc, table, keys))?;
+        TablePath::Frame(node, number).placed(check_table(alloc, table, keys))?;
         Ok(FrameText {
             id: small_at(table, Key::Id),
             dlc: small_at(table, Key::Dlc),
@@ -131,7 +131,7 @@ impl Row for DisturbanceText {
         table: &Table,
     ) -> Result<DisturbanceText, PlacedFault> {
         let keys = keys::disturbance_keys(version, table);
-        Spot::Disturbance(number).placed(check_table(alloc, table, keys))?;
+        TablePath::Disturbance(number).placed(check_table(alloc, table, keys))?;
         Ok(DisturbanceText {
             node: some_name_at(alloc, table, Key::AtNode)?,
             x: small_at(table, Key::X),
@@ -171,7 +171,7 @@ impl Row for RateText {
         table: &Table,
     ) -> Result<RateText, PlacedFault> {
         let keys = keys::rate_keys(table);
-        Spot::Rate(node, number).placed(check_table(alloc, table, keys))?;
+        TablePath::Rate(node, number).placed(check_table(alloc, table, keys))?;
         Ok(RateText {
             from: number_at(table, Key::From),
             clock: clock(table),
@@ -214,7 +214,7 @@ impl Row for NodeText {
         table: &Table,
     ) -> Result<NodeText, PlacedFault> {
         let keys = keys::node_keys(version, table);
-        Spot::Node(number).placed(check_table(alloc, table, keys))?;
+        TablePath::Node(number).placed(check_table(alloc, table, keys))?;
         let rates = rates(alloc, version, number, table)?;
         let frame = rows(alloc, version, number, elements_at(table, Key::Frame))?;
         Ok(NodeText {
@@ -239,8 +239,8 @@ impl Row for NodeText {
 pub(crate) fn plan_text(alloc: Global, top: &Table) -> Result<(PlanText, Names), PlacedFault>
     ensures { AnswersAt (first_fault (table_view top.now)) (named_text_of (table_view top.now)) result }
 {
-    Spot::Top.placed(check_version(alloc, top))?;
-    Spot::Top.placed(check_table(alloc, top, keys::top_keys()))?;
+    TablePath::Top.placed(check_version(alloc, top))?;
+    TablePath::Top.placed(check_table(alloc, top, keys::top_keys()))?;
     let version = number_at(top, Key::Version);
     let plan = PlanText {
         version,

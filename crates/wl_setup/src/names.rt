@@ -2,14 +2,14 @@
 ghost use Rattle.std.specs.Prelude.{◌≡◌, ◌<◌, ◌↔◌, [], ◌∷◌, ◌++◌, not, false, if◌then◌else◌, length, IsSome, IfOk, OnErr, option_map, slice_get};
 ghost use Rattle.std.specs.List.{list_any};
 ghost use Rattle.std.specs.Str.{bytes_eq};
-ghost use Rattle.wl_setup.specs.declared.spot.Spot.TheVariants.{Node};
+ghost use Rattle.wl_setup.specs.declared.table_path.TablePath.TheVariants.{Node};
 ghost use Rattle.wl_setup.specs.Names.{first_repeat, has_repeat, name_of, names_of, same_name_fault};
-ghost use Rattle.wl_setup.specs.Spots.{fault_at};
+ghost use Rattle.wl_setup.specs.TablePaths.{fault_at};
 ghost use Rattle.wl_setup.specs.Document.{Answers, AnswersAt};
 
 use crate::fault::SetupFault;
 use crate::plan_text::PlanText;
-use crate::spot::{PlacedFault, Spot};
+use crate::table_path::{PlacedFault, TablePath};
 use indexmap::IndexSet;
 use std::alloc::{AllocError, Global};
 use std::marker::Model;
@@ -94,7 +94,7 @@ impl PlanText {
         for node in self.node.as_slice() {
             if !names.add(node.name.as_str())? {
                 return Err(PlacedFault {
-                    spot: Spot::Node(names.len() as u64),
+                    path: TablePath::Node(names.len() as u64),
                     fault: SetupFault::SameName,
                 });
             }

@@ -16,6 +16,6 @@ returns-in_ok-said-in-Err g c text document =
       c.in_default.not-Memory,
       answer_of text top _ document refused.0,
       string_bytes c.in_ok-said-in-Err.said,
-      refusal_of text top fault _ document (c.in_ok-said-in-Err.ensures ∙ ap (λ spot. refusal_words top spot fault) refused.1),
+      refusal_of text top fault _ document (c.in_ok-said-in-Err.ensures ∙ ap (λ path. refusal_words top path fault) refused.1),
       (c.write_all-in-Err.result, writes),
     )

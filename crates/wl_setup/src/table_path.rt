@@ -1,7 +1,7 @@
 //! The tables of a plan's document, and a fault with the table where it is.
 ghost use Rattle.std.specs.Prelude.{◌≡◌, option_map};
 ghost use Rattle.toml.specs.View.{table_view};
-ghost use Rattle.wl_setup.specs.Spots.{answer_at, row_at, table_at};
+ghost use Rattle.wl_setup.specs.TablePaths.{answer_at, row_at, table_at};
 
 use crate::fault::SetupFault;
 use crate::keys::Key;
@@ -11,7 +11,7 @@ use toml::Table;
 
 /// A table of a plan's document. Nodes, rates and frames of a node, and disturbances count from 0, in the order of their tables.
 #[derive(Clone, Copy, Debug, PartialEq, Eq)]
-pub enum Spot {
+pub enum TablePath {
     /// The top table.
     Top,
     /// A node's.
@@ -28,7 +28,7 @@ pub enum Spot {
 #[derive(Debug, Drop)]
 pub struct PlacedFault {
     /// The table.
-    pub spot: Spot,
+    pub path: TablePath,
     /// The fault.
     pub fault: SetupFault,
 }
@@ -41,20 +41,20 @@ impl From<AllocError> for PlacedFault {
 
     fn from(_: AllocError) -> PlacedFault {
         PlacedFault {
-            spot: Spot::Top,
+            path: TablePath::Top,
             fault: SetupFault::Memory,
         }
     }
 }
 
-impl Spot {
+impl TablePath {
     /// Returns the answer of a test of this table, with the table as the place of the fault.
     pub(crate) fn placed(self, answer: Result<(), SetupFault>) -> Result<(), PlacedFault>
         ensures { result ≡ answer_at self answer }
     {
         match answer {
             Ok(()) => Ok(()),
-            Err(fault) => Err(PlacedFault { spot: self, fault }),
+            Err(fault) => Err(PlacedFault { path: self, fault }),
         }
     }
 }
@@ -69,15 +69,15 @@ fn row_at(table: &Table, key: Key, n: u64) -> Option<&Table>
     }
 }
 
-/// Returns the table at a spot, if the document has it.
-pub fn table_at(top: &Table, spot: Spot) -> Option<&Table>
-    ensures { option_map (λ t. table_view t.now) result ≡ table_at spot (table_view top.now) }
+/// Returns the table at a path, if the document has it.
+pub fn table_at(top: &Table, path: TablePath) -> Option<&Table>
+    ensures { option_map (λ t. table_view t.now) result ≡ table_at path (table_view top.now) }
 {
-    match spot {
-        Spot::Top => Some(top),
-        Spot::Node(i) => row_at(top, Key::Node, i),
-        Spot::Rate(i, n) => row_at(row_at(top, Key::Node, i)?, Key::Rates, n),
-        Spot::Frame(i, n) => row_at(row_at(top, Key::Node, i)?, Key::Frame, n),
-        Spot::Disturbance(n) => row_at(top, Key::Disturbance, n),
+    match path {
+        TablePath::Top => Some(top),
+        TablePath::Node(i) => row_at(top, Key::Node, i),
+        TablePath::Rate(i, n) => row_at(row_at(top, Key::Node, i)?, Key::Rates, n),
+        TablePath::Frame(i, n) => row_at(row_at(top, Key::Node, i)?, Key::Frame, n),
+        TablePath::Disturbance(n) => row_at(top, Key::Disturbance, n),
     }
 }

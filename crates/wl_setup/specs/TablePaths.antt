@@ -1,27 +1,27 @@
--- The faults of a document's tables, each with the table where it is, and the table at a spot (this project's profile).
+-- The faults of a document's tables, each with the table where it is, and the table at a path (this project's profile).
 use Rattle.std.specs.Prelude.{ℕ, List, [], ◌∷◌, map, Option, Some, None, option_map, option_and_then, slice_get, Result, Ok, Err}
 use Rattle.std.specs.List.{enumerate_from}
 use Rattle.toml.specs.Data.{Members, as_table}
 use Rattle.wl_setup.specs.declared.keys.Key.{Key}
 use Rattle.wl_setup.specs.declared.keys.Key.TheVariants as key
 use Rattle.wl_setup.specs.declared.fault.SetupFault.{SetupFault}
-use Rattle.wl_setup.specs.declared.spot.PlacedFault.{PlacedFault}
-use Rattle.wl_setup.specs.declared.spot.Spot.{Spot}
-use Rattle.wl_setup.specs.declared.spot.Spot.TheVariants.{Top, Node, Rate, Frame, Disturbance}
+use Rattle.wl_setup.specs.declared.table_path.PlacedFault.{PlacedFault}
+use Rattle.wl_setup.specs.declared.table_path.TablePath.{TablePath}
+use Rattle.wl_setup.specs.declared.table_path.TablePath.TheVariants.{Top, Node, Rate, Frame, Disturbance}
 use Rattle.wl_setup.specs.Kinds.{elements_at, tables_at}
 use Rattle.wl_setup.specs.Faults.{first_some, table_fault, node_keys, rate_fault, frame_fault, disturbance_fault}
 
--- a fault of the table at a spot
-abbrev pub placed : Spot → SetupFault → PlacedFault
-placed spot fault = record { spot = spot; fault = fault }
+-- a fault of the table at a path
+abbrev pub placed : TablePath → SetupFault → PlacedFault
+placed path fault = record { path = path; fault = fault }
 
-abbrev pub fault_at : Spot → Option SetupFault → Option PlacedFault
-fault_at spot fault = option_map (placed spot) fault
+abbrev pub fault_at : TablePath → Option SetupFault → Option PlacedFault
+fault_at path fault = option_map (placed path) fault
 
--- the answer of a test of the table at a spot
-abbrev pub answer_at : {T : Type 0} → Spot → Result T SetupFault → Result T PlacedFault
-answer_at spot (Ok value) = Ok value
-answer_at spot (Err fault) = Err (placed spot fault)
+-- the answer of a test of the table at a path
+abbrev pub answer_at : {T : Type 0} → TablePath → Result T SetupFault → Result T PlacedFault
+answer_at path (Ok value) = Ok value
+answer_at path (Err fault) = Err (placed path fault)
 
 -- of rate n and of frame n of node i, and of disturbance n
 abbrev pub rate_fault_at : ℕ → ℕ → Members → Option PlacedFault
@@ -49,8 +49,8 @@ node_fault_at version i node =
 abbrev pub row_at : Key → ℕ → Members → Option Members
 row_at k n table = option_and_then as_table (slice_get (elements_at k table) n)
 
--- the table at a spot
-abbrev pub table_at : Spot → Members → Option Members
+-- the table at a path, if the document has it
+abbrev pub table_at : TablePath → Members → Option Members
 table_at Top top = Some top
 table_at (Node i) top = row_at key.Node i top
 table_at (Rate i n) top = option_and_then (row_at key.Rates n) (row_at key.Node i top)
