@@ -6,7 +6,7 @@ use Rattle.wl_settings.specs.declared.asked.Asked.{Asked}
 use Rattle.wl_settings.specs.declared.asked.Controller.{Controller}
 use Rattle.wl_settings.specs.declared.asked.Setting.{Setting}
 use Rattle.wl_settings.specs.declared.judged.Refusal.{Refusal}
-use Rattle.wl_settings.specs.declared.judged.Row.{Row}
+use Rattle.wl_settings.specs.declared.judged.WorkingSetting.{WorkingSetting}
 use Rattle.wl_settings.specs.Judged.{IsRefusalOf, IsRow, IsRowOf, IsShortfall, is_failing, works}
 use Rattle.wl_settings.specs.Rankings.{AreFoundRows, AreRefusals, found_one}
 
@@ -17,7 +17,7 @@ passes_more p xs x e = filter-append p xs (x ∷ []) ∙ rw e refl
 fails_more : {X : Type 0} (p : X → Bool) (xs : List X) (x : X) → p x ≡ false → filter p (xs ++ x ∷ []) ≡ filter p xs
 fails_more p xs x e = filter-append p xs (x ∷ []) ∙ (rw e refl ∙ append-nil (filter p xs))
 
-one_row : (a : Asked) (c : Controller) (all : List Setting) (s : Setting) (rows : List Row) (found : Option Row) → AreFoundRows a c all rows
+one_row : (a : Asked) (c : Controller) (all : List Setting) (s : Setting) (rows : List WorkingSetting) (found : Option WorkingSetting) → AreFoundRows a c all rows
     → IsRowOf a c s found → AreFoundRows a c (all ++ s ∷ []) (rows ++ found_one found)
 one_row a c all s rows None so_far is = record {
   settings = ap (map (λ r. r.setting)) (append-nil rows) ∙ (so_far.settings ∙ sym (fails_more (works a c) all s is));
@@ -28,7 +28,7 @@ one_row a c all s rows (Some r) so_far is = record {
   figures = All-push (IsRow a c) rows r so_far.figures is.2;
 }
 
-pub row_more : (a : Asked) (c : Controller) (all : List Setting) (i : ℕ) (d : Setting) (rows new : List Row) (found : Option Row) → i < length all
+pub row_more : (a : Asked) (c : Controller) (all : List Setting) (i : ℕ) (d : Setting) (rows new : List WorkingSetting) (found : Option WorkingSetting) → i < length all
     → AreFoundRows a c (take i all) rows → IsRowOf a c (get_or all i d) found → new ≡ rows ++ found_one found → AreFoundRows a c (take (i + 1) all) new
 row_more a c all i d rows new found within so_far is grown =
     subst (λ ss. AreFoundRows a c ss new) (sym (take_more all i d within))

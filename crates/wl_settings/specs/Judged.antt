@@ -20,7 +20,7 @@ use Rattle.wl_settings.specs.declared.asked.Controller.{Controller}
 use Rattle.wl_settings.specs.declared.asked.Setting.{Setting}
 use Rattle.wl_settings.specs.declared.judged.Reach.{Reach}
 use Rattle.wl_settings.specs.declared.judged.Refusal.{Refusal}
-use Rattle.wl_settings.specs.declared.judged.Row.{Row}
+use Rattle.wl_settings.specs.declared.judged.WorkingSetting.{WorkingSetting}
 use Rattle.wl_settings.specs.Plans.{setting_plan_text}
 
 -- the oscillators of two clocks
@@ -79,17 +79,17 @@ abbrev pub margin : Asked → Reach → Reach → ℕ
 margin a one any = lesser_part a (reach_by a.senders one any)
 
 -- the figures of a row are those of a family
-pub record AreFigures (a : Asked) (f : Buses) (r : Row) : Type 0 where
+pub record AreFigures (a : Asked) (f : Buses) (r : WorkingSetting) : Type 0 where
   pub one : IsReach f One r.one
   pub any : IsReach f Any r.any
   pub margin : r.margin ≡ margin a r.one r.any
 
-abbrev pub AreFiguresIn : Asked → Option Buses → Row → Type 0
+abbrev pub AreFiguresIn : Asked → Option Buses → WorkingSetting → Type 0
 AreFiguresIn a None r = ⊥
 AreFiguresIn a (Some f) r = AreFigures a f r
 
 -- a row tells of its setting what is so
-abbrev pub IsRow : Asked → Controller → Row → Type 0
+abbrev pub IsRow : Asked → Controller → WorkingSetting → Type 0
 IsRow a c r = AreFiguresIn a (family_at a c r.setting) r
 
 -- the bus works with a setting
@@ -97,7 +97,7 @@ abbrev pub works : Asked → Controller → Setting → Bool
 works a c s = holds_for a.senders (family_at a c s)
 
 -- what is found of one setting
-abbrev pub IsRowOf : Asked → Controller → Setting → Option Row → Type 0
+abbrev pub IsRowOf : Asked → Controller → Setting → Option WorkingSetting → Type 0
 IsRowOf a c s None = works a c s ≡ false
 IsRowOf a c s (Some r) = (works a c s ≡ true) × (r.setting ≡ s) × IsRow a c r
 

@@ -3,8 +3,8 @@ use Rattle.std.specs.Prelude.{ℕ, List, [], ◌∷◌, codes}
 use Rattle.wl_setup.specs.declared.keys.Kind.TheVariants as plan_kind
 use Rattle.wl_settings.specs.declared.keys.Key.{Key}
 use Rattle.wl_settings.specs.declared.keys.Key.TheVariants.{Bitrate, Cable, Per, Out, In, Tolerance, Senders, Controller, RateError, Name, Clock, Prescaler, Prop, Ps1, Ps2, Sjw}
-use Rattle.wl_settings.specs.declared.keys.Kind.{Kind}
-use Rattle.wl_settings.specs.declared.keys.Kind.TheVariants as kind
+use Rattle.wl_settings.specs.declared.keys.ValueKind.{ValueKind}
+use Rattle.wl_settings.specs.declared.keys.ValueKind.TheVariants as kind
 
 -- a key as it is written
 abbrev pub key_word : Key → List ℕ
@@ -26,7 +26,7 @@ key_word Ps2 = codes "ps2"
 key_word Sjw = codes "sjw"
 
 -- what its value has to be
-abbrev pub value_kind : Key → Kind
+abbrev pub value_kind : Key → ValueKind
 value_kind Bitrate = kind.Within 1 1000000
 value_kind Cable = kind.Within 1 1048576
 value_kind Per = kind.Within 1 1048576

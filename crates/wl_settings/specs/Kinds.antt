@@ -8,8 +8,8 @@ use Rattle.wl_bound.specs.declared.condition.Senders.TheVariants.{Any, One}
 use Rattle.wl_setup.specs.Kinds.{has_kind, number_within}
 use Rattle.wl_setup.specs.Quick.{elements_said, name_said}
 use Rattle.wl_settings.specs.declared.keys.Key.{Key}
-use Rattle.wl_settings.specs.declared.keys.Kind.{Kind}
-use Rattle.wl_settings.specs.declared.keys.Kind.TheVariants as kind
+use Rattle.wl_settings.specs.declared.keys.ValueKind.{ValueKind}
+use Rattle.wl_settings.specs.declared.keys.ValueKind.TheVariants as kind
 use Rattle.wl_settings.specs.Keys.{key_word, value_kind}
 
 -- who sends, as a word says it
@@ -20,7 +20,7 @@ abbrev pub senders_in : Data → Option Senders
 senders_in d = option_and_then senders_named (as_str d)
 
 -- whether a value is of a kind
-abbrev pub is_of_kind : Kind → Data → Bool
+abbrev pub is_of_kind : ValueKind → Data → Bool
 is_of_kind (kind.Within least most) d = is_some (number_within least most d)
 is_of_kind kind.Senders d = is_some (senders_in d)
 is_of_kind (kind.OfPlan k) d = has_kind k d
@@ -33,7 +33,7 @@ abbrev pub data_at : Key → Members → Option Data
 data_at key table = get_member (key_word key) table
 
 -- what a value says; if the key is absent or its value of another kind, the default
-abbrev pub whole_in : Kind → Option Data → Option ℕ
+abbrev pub whole_in : ValueKind → Option Data → Option ℕ
 whole_in (kind.Within least most) value = option_and_then (number_within least most) value
 whole_in _ value = None
 

@@ -5,7 +5,7 @@ use Rattle.wl_settings.specs.declared.asked.Asked.{Asked}
 use Rattle.wl_settings.specs.declared.asked.Controller.{Controller}
 use Rattle.wl_settings.specs.declared.asked.Setting.{Setting}
 use Rattle.wl_settings.specs.declared.judged.Refusal.{Refusal}
-use Rattle.wl_settings.specs.declared.judged.Row.{Row}
+use Rattle.wl_settings.specs.declared.judged.WorkingSetting.{WorkingSetting}
 use Rattle.wl_settings.specs.declared.listing.Listing.{Listing}
 use Rattle.wl_settings.specs.Judged.{IsShortfall, IsRow, is_failing, works}
 use Rattle.wl_settings.specs.Settings.{possible_settings}
@@ -15,17 +15,17 @@ abbrev pub place_in_order : Setting → ℕ
 place_in_order s = s.prescaler * 2 ^ 32 + s.prop * 2 ^ 24 + s.ps1 * 2 ^ 16 + s.ps2 * 2 ^ 8 + (255 - s.sjw)
 
 -- by how many thousandths a margin is below the greatest that there is, and of like margins the order of settings
-abbrev pub row_rank : Row → ℕ
+abbrev pub row_rank : WorkingSetting → ℕ
 row_rank r = (100000000 - r.margin) * 2 ^ 64 + place_in_order r.setting
 
 -- Rows of exactly these settings, each with what is so of it, the one with most to spare first.
-pub record IsRanking (a : Asked) (c : Controller) (all : List Setting) (rows : List Row) : Type 0 where
+pub record IsRanking (a : Asked) (c : Controller) (all : List Setting) (rows : List WorkingSetting) : Type 0 where
   pub settings : IsPermutation all (map (λ r. r.setting) rows)
   pub figures : All (IsRow a c) rows
   pub order : IsNonDecreasingBy row_rank rows
 
 -- the settings with which the bus works: all of them
-abbrev pub AreRanked : Asked → Controller → List Row → Type 0
+abbrev pub AreRanked : Asked → Controller → List WorkingSetting → Type 0
 AreRanked a c rows = IsRanking a c (filter (works a c) (possible_settings a c)) rows
 
 -- what was found of one setting, as a list
@@ -34,7 +34,7 @@ found_one None = []
 found_one (Some x) = x ∷ []
 
 -- the rows of these settings, in their order
-pub record AreFoundRows (a : Asked) (c : Controller) (all : List Setting) (rows : List Row) : Type 0 where
+pub record AreFoundRows (a : Asked) (c : Controller) (all : List Setting) (rows : List WorkingSetting) : Type 0 where
   pub settings : map (λ r. r.setting) rows ≡ filter (works a c) all
   pub figures : All (IsRow a c) rows
 
@@ -54,7 +54,7 @@ least_refusal [] = None
 least_refusal (r ∷ rs) = Some (lesser_of r (least_refusal rs))
 
 -- if the bus works with no setting, the one that an inequality refuses by least
-abbrev pub IsNearest : Asked → Controller → List Row → Option Refusal → Type 0
+abbrev pub IsNearest : Asked → Controller → List WorkingSetting → Option Refusal → Type 0
 IsNearest a c [] nearest = (refusals : List Refusal) × AreRefusals a c (possible_settings a c) refusals × (nearest ≡ least_refusal refusals)
 IsNearest a c (row ∷ rows) nearest = nearest ≡ None
 

@@ -4,7 +4,7 @@ use Rattle.wl_settings.specs.declared.asked.Asked.{Asked}
 use Rattle.wl_settings.specs.declared.asked.Controller.{Controller}
 use Rattle.wl_settings.specs.declared.fault.SettingsFault.{SettingsFault}
 use Rattle.wl_settings.specs.declared.fault.SettingsFault.TheVariants.{NoSetting}
-use Rattle.wl_settings.specs.declared.judged.Row.{Row}
+use Rattle.wl_settings.specs.declared.judged.WorkingSetting.{WorkingSetting}
 use Rattle.wl_settings.specs.declared.listing.Listing.{Listing}
 use Rattle.wl_settings.specs.declared.read.Wanted.{Wanted}
 use Rattle.wl_settings.specs.declared.said.Shown.{Shown}
@@ -34,7 +34,7 @@ abbrev pub IsListText : ℕ → Wanted → List ℕ → Type 0
 IsListText best w text = AreSaid w.asked best w.controllers text
 
 -- the plan of the first row
-abbrev pub plan_said : Asked → Controller → List Row → Result (List ℕ) SettingsFault
+abbrev pub plan_said : Asked → Controller → List WorkingSetting → Result (List ℕ) SettingsFault
 plan_said a c [] = Err NoSetting
 plan_said a c (r ∷ rs) = Ok (setting_plan_text a c r.setting)
 

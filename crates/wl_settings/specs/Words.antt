@@ -10,7 +10,7 @@ use Rattle.wl_settings.specs.declared.asked.Asked.{Asked}
 use Rattle.wl_settings.specs.declared.asked.Controller.{Controller}
 use Rattle.wl_settings.specs.declared.asked.Setting.{Setting}
 use Rattle.wl_settings.specs.declared.judged.Refusal.{Refusal}
-use Rattle.wl_settings.specs.declared.judged.Row.{Row}
+use Rattle.wl_settings.specs.declared.judged.WorkingSetting.{WorkingSetting}
 use Rattle.wl_settings.specs.declared.listing.Listing.{Listing}
 use Rattle.wl_settings.specs.Plans.{text_of_pieces}
 use Rattle.wl_settings.specs.Settings.{bit_divisor, each_under, setting_quanta}
@@ -51,24 +51,24 @@ words_for_both what asked one any = (((what ++ grown_words asked one) ++ codes "
 abbrev pub head_words : ℕ → Setting → List ℕ
 head_words number s = (text_of_pieces (codes "setting " ∷ decimal number ∷ codes " " ∷ []) ++ setting_words s) ++ words_of_sample s
 
-abbrev pub words_of_spare : Asked → Row → List ℕ
+abbrev pub words_of_spare : Asked → WorkingSetting → List ℕ
 words_of_spare a r =
     (((words_for_both (codes " tolerance ") a.tolerance r.one.wider r.any.wider ++ words_for_both (codes " cable ") a.cable r.one.longer r.any.longer)
     ++ codes " margin ") ++ with_thousandths r.margin) ++ codes "\n"
 
-abbrev pub setting_line : Asked → Controller → ℕ → Row → List ℕ
+abbrev pub setting_line : Asked → Controller → ℕ → WorkingSetting → List ℕ
 setting_line a c number r = (head_words number r.setting ++ error_words a c r.setting) ++ words_of_spare a r
 
 -- the line of the row at a place, from 0 on
-abbrev pub line_or_none : Asked → Controller → ℕ → Option Row → List ℕ
+abbrev pub line_or_none : Asked → Controller → ℕ → Option WorkingSetting → List ℕ
 line_or_none a c number None = []
 line_or_none a c number (Some r) = setting_line a c number r
 
-abbrev pub line_at : Asked → Controller → List Row → ℕ → List ℕ
+abbrev pub line_at : Asked → Controller → List WorkingSetting → ℕ → List ℕ
 line_at a c rows place = line_or_none a c (place + 1) (slice_get rows place)
 
 -- the lines of the rows, up to the last one that is asked for
-abbrev pub row_lines : Asked → Controller → ℕ → List Row → List ℕ
+abbrev pub row_lines : Asked → Controller → ℕ → List WorkingSetting → List ℕ
 row_lines a c best rows = each_under (line_at a c rows) (min best (length rows))
 
 -- a time that is taken, rounded up, and one that there is, rounded down, in picoseconds; no time above 2^80 millionths of a tick is told
@@ -101,7 +101,7 @@ abbrev pub why_words : Asked → ℕ → Option Refusal → List ℕ
 why_words a possible (Some r) = nearest_words a.tick r
 why_words a possible None = none_words a possible
 
-abbrev pub unless_rows : Asked → Listing → List Row → List ℕ
+abbrev pub unless_rows : Asked → Listing → List WorkingSetting → List ℕ
 unless_rows a l [] = why_words a l.possible l.nearest
 unless_rows a l (r ∷ rs) = []
 

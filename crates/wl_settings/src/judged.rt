@@ -20,7 +20,7 @@ pub struct Reach {
 
 /// A setting with which the bus works.
 #[derive(Clone, Copy, Debug, PartialEq, Eq)]
-pub struct Row {
+pub struct WorkingSetting {
     /// The setting.
     pub setting: Setting,
     /// How far the bus may grow if one node sends at a time.
@@ -104,13 +104,13 @@ fn reach_of(family: &Family, senders: Senders) -> Reach
 }
 
 /// Returns the row of a setting and its family.
-fn row_of(asked: &Asked, setting: Setting, family: &Family) -> Row
+fn row_of(asked: &Asked, setting: Setting, family: &Family) -> WorkingSetting
     ensures setting { result.setting ≡ setting }
     ensures figures { AreFigures asked.now family.now result }
 {
     let one = reach_of(family, Senders::One);
     let any = reach_of(family, Senders::Any);
-    Row {
+    WorkingSetting {
         setting,
         one,
         any,
@@ -137,7 +137,7 @@ pub(crate) fn find_row(
     asked: &Asked,
     controller: &Controller,
     setting: Setting,
-) -> Result<Option<Row>, AllocError>
+) -> Result<Option<WorkingSetting>, AllocError>
     ensures { IfOk result (IsRowOf asked.now controller.now setting) }
 {
     let family = match family_of(alloc, asked, controller, setting)? {

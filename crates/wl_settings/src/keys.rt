@@ -4,17 +4,17 @@ ghost use Rattle.wl_settings.specs.Keys.{value_kind};
 
 use crate::values::is_of_kind;
 use toml::Value;
-use wl_setup::{Kind as PlanKind, TableKey};
+use wl_setup::{Kind, TableKey};
 
 /// What the value of a key has to be.
 #[derive(Clone, Copy)]
-pub enum Kind {
+pub enum ValueKind {
     /// A whole number from the first one to the second.
     Within(u32, u32),
     /// `"one"` or `"any"`.
     Senders,
     /// A kind that plans have too.
-    OfPlan(PlanKind),
+    OfPlan(Kind),
 }
 
 /// A key of one of the tables.
@@ -40,21 +40,21 @@ pub enum Key {
 
 impl Key {
     /// Returns what its value has to be.
-    pub(crate) fn kind(self) -> Kind
+    pub(crate) fn kind(self) -> ValueKind
         ensures { result ≡ value_kind self }
     {
         match self {
-            Key::Bitrate => Kind::Within(1, 1_000_000),
-            Key::Cable | Key::Per => Kind::Within(1, 1_048_576),
-            Key::Out | Key::In => Kind::Within(0, 1_048_576),
-            Key::Tolerance | Key::RateError => Kind::Within(0, 100_000),
-            Key::Senders => Kind::Senders,
-            Key::Controller => Kind::OfPlan(PlanKind::Tables),
-            Key::Name => Kind::OfPlan(PlanKind::Name),
-            Key::Clock => Kind::Within(1, 1_000_000_000),
-            Key::Prescaler => Kind::Within(1, 1024),
-            Key::Prop | Key::Ps1 | Key::Ps2 => Kind::Within(1, 8),
-            Key::Sjw => Kind::Within(1, 4),
+            Key::Bitrate => ValueKind::Within(1, 1_000_000),
+            Key::Cable | Key::Per => ValueKind::Within(1, 1_048_576),
+            Key::Out | Key::In => ValueKind::Within(0, 1_048_576),
+            Key::Tolerance | Key::RateError => ValueKind::Within(0, 100_000),
+            Key::Senders => ValueKind::Senders,
+            Key::Controller => ValueKind::OfPlan(Kind::Tables),
+            Key::Name => ValueKind::OfPlan(Kind::Name),
+            Key::Clock => ValueKind::Within(1, 1_000_000_000),
+            Key::Prescaler => ValueKind::Within(1, 1024),
+            Key::Prop | Key::Ps1 | Key::Ps2 => ValueKind::Within(1, 8),
+            Key::Sjw => ValueKind::Within(1, 4),
         }
     }
 }

@@ -19,7 +19,7 @@ mod words;
 
 pub use asked::{Asked, Bounds, Controller, Setting};
 pub use fault::SettingsFault;
-pub use judged::{Reach, Refusal, Row};
+pub use judged::{Reach, Refusal, WorkingSetting};
 pub use listing::{Listing, list};
 pub use plan::plan_text;
 pub use possible::possible_settings;

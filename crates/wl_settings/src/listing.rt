@@ -5,7 +5,7 @@ ghost use Rattle.wl_settings.specs.Rankings.{AreFoundRows, AreRefusals, IsListin
 ghost use Rattle.wl_settings.specs.Settings.{possible_settings};
 
 use crate::asked::{Asked, Controller, Setting};
-use crate::judged::{Refusal, Row, find_refusal, find_row};
+use crate::judged::{Refusal, WorkingSetting, find_refusal, find_row};
 use crate::possible::possible_settings;
 use std::alloc::{AllocError, Global};
 use wl_level::Listed;
@@ -19,13 +19,13 @@ pub struct Listing {
     /// How many settings have the bit rate.
     pub possible: u64,
     /// The settings with which the bus works, the one with most to spare first.
-    pub rows: Listed<Row>,
+    pub rows: Listed<WorkingSetting>,
     /// If there are none, the setting that an inequality refuses by least.
     pub nearest: Option<Refusal>,
 }
 
 /// Adds a row, if there is one.
-fn push_found(rows: &mut Vec<Row>, row: Option<Row>) -> Result<(), AllocError>
+fn push_found(rows: &mut Vec<WorkingSetting>, row: Option<WorkingSetting>) -> Result<(), AllocError>
     ensures { OnOk result (rows.new.items ≡ rows.old.items ++ found_one row) }
 {
     match row {
@@ -56,7 +56,7 @@ fn find_rows(
     asked: &Asked,
     controller: &Controller,
     settings: &[Setting],
-) -> Result<Vec<Row>, AllocError>
+) -> Result<Vec<WorkingSetting>, AllocError>
     ensures { IfOk result (λ rows. AreFoundRows asked.now controller.now settings.now rows.items) }
 {
     let mut rows = Vec::new(alloc);
@@ -97,7 +97,7 @@ fn place_of(setting: Setting) -> u128
 }
 
 /// Returns a number by which the rows are in order.
-fn rank(row: &Row) -> u128
+fn rank(row: &WorkingSetting) -> u128
     ensures { result ≡ row_rank row.now }
 {
     MOST.saturating_sub(row.margin) as u128 * (1 << 64) + place_of(row.setting)
@@ -110,7 +110,7 @@ fn ranked_rows(
     asked: &Asked,
     controller: &Controller,
     settings: &[Setting],
-) -> Result<Listed<Row>, AllocError>
+) -> Result<Listed<WorkingSetting>, AllocError>
     ensures { IfOk result (IsRanking asked.now controller.now
         (filter (works asked.now controller.now) settings.now)) }
 {
@@ -150,7 +150,7 @@ fn nearest(
     asked: &Asked,
     controller: &Controller,
     settings: &[Setting],
-    rows: &[Row],
+    rows: &[WorkingSetting],
 ) -> Result<Option<Refusal>, AllocError>
     requires { settings.now ≡ possible_settings asked.now controller.now }
     ensures { IfOk result (IsNearest asked.now controller.now rows.now) }

@@ -5,7 +5,7 @@ ghost use Rattle.wl_settings.specs.declared.fault.SettingsFault.TheVariants.{Mem
 
 use crate::asked::{Asked, Controller};
 use crate::fault::SettingsFault;
-use crate::judged::Row;
+use crate::judged::WorkingSetting;
 use crate::listing::list;
 use crate::plan::plan_text;
 use crate::read::Wanted;
@@ -73,7 +73,7 @@ fn plan_of_rows(
     alloc: Global,
     asked: &Asked,
     controller: &Controller,
-    rows: &[Row],
+    rows: &[WorkingSetting],
 ) -> Result<String, SettingsFault>
     ensures ok { IfOk result (λ text. plan_said asked.now controller.now rows.now ≡ Ok (string_bytes text)) }
     ensures fault { IfErr result (λ e. e ≢ Memory → plan_said asked.now controller.now rows.now ≡ Err e) }

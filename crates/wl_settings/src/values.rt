@@ -3,7 +3,7 @@ ghost use Rattle.std.specs.Prelude.{◌≡◌, ◌≤◌, ◌<◌, ◌^◌};
 ghost use Rattle.toml.specs.View.{view, table_view};
 ghost use Rattle.wl_settings.specs.Kinds.{is_of_kind, whole_at, segment_at, senders_at, senders_in, senders_named};
 
-use crate::keys::{Key, Kind};
+use crate::keys::{Key, ValueKind};
 use toml::{Table, Value};
 use wl_bound::Senders;
 use wl_setup::{has_kind, number_within, value_at};
@@ -31,13 +31,13 @@ fn senders_in(value: &Value) -> Option<Senders>
 }
 
 /// True if a value is of a kind.
-pub(crate) fn is_of_kind(kind: Kind, value: &Value) -> bool
+pub(crate) fn is_of_kind(kind: ValueKind, value: &Value) -> bool
     ensures { result ≡ is_of_kind kind (view value.now) }
 {
     match kind {
-        Kind::Within(least, most) => number_within(least as u64, most as u64, value).is_some(),
-        Kind::Senders => senders_in(value).is_some(),
-        Kind::OfPlan(kind) => has_kind(kind, value),
+        ValueKind::Within(least, most) => number_within(least as u64, most as u64, value).is_some(),
+        ValueKind::Senders => senders_in(value).is_some(),
+        ValueKind::OfPlan(kind) => has_kind(kind, value),
     }
 }
 
@@ -46,7 +46,7 @@ pub(crate) fn number_at(table: &Table, key: Key, without: u32) -> u32
     ensures { result ≡ whole_at key without (table_view table.now) }
 {
     match (value_at(table, key), key.kind()) {
-        (Some(value), Kind::Within(least, most)) => {
+        (Some(value), ValueKind::Within(least, most)) => {
             match number_within(least as u64, most as u64, value) {
                 Some(n) => n as u32,
                 None => without,

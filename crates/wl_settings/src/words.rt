@@ -3,7 +3,7 @@ ghost use Rattle.std.specs.Prelude.{◌≡◌, ◌++◌, ◌<◌, ◌≤◌, ◌
 ghost use Rattle.wl_settings.specs.Words.{controller_line, grown_words, error_words, failing_words, head_words, words_of_inequality, listing_words, line_at, words_of_spare, nearest_words, none_words, words_for_both, picoseconds_up, picoseconds_down, setting_line, row_lines, words_of_sample, setting_words, with_thousandths, unless_rows};
 
 use crate::asked::{Asked, Controller, Setting};
-use crate::judged::{Refusal, Row};
+use crate::judged::{Refusal, WorkingSetting};
 use crate::listing::Listing;
 use std::alloc::AllocError;
 use wl_bound::{Failure, Inequality};
@@ -105,7 +105,7 @@ fn push_head(text: &mut String, number: u64, setting: Setting) -> Result<(), All
 }
 
 /// Adds the margins of a row.
-fn push_margins(text: &mut String, asked: &Asked, row: &Row) -> Result<(), AllocError>
+fn push_margins(text: &mut String, asked: &Asked, row: &WorkingSetting) -> Result<(), AllocError>
     ensures { OnOk result (string_bytes text.new ≡ string_bytes text.old ++ words_of_spare asked.now row.now) }
 {
     push_pair(
@@ -127,7 +127,7 @@ fn push_row(
     asked: &Asked,
     controller: &Controller,
     number: u64,
-    row: &Row,
+    row: &WorkingSetting,
 ) -> Result<(), AllocError>
     ensures { OnOk result (string_bytes text.new
         ≡ string_bytes text.old ++ setting_line asked.now controller.now number row.now) }
@@ -142,7 +142,7 @@ fn push_row_at(
     text: &mut String,
     asked: &Asked,
     controller: &Controller,
-    rows: &[Row],
+    rows: &[WorkingSetting],
     place: usize,
 ) -> Result<(), AllocError>
     ensures { OnOk result (string_bytes text.new
@@ -160,7 +160,7 @@ fn push_rows(
     asked: &Asked,
     controller: &Controller,
     best: usize,
-    rows: &[Row],
+    rows: &[WorkingSetting],
 ) -> Result<(), AllocError>
     ensures { OnOk result (string_bytes text.new
         ≡ string_bytes text.old ++ row_lines asked.now controller.now best rows.now) }

@@ -17,7 +17,7 @@ use Rattle.wl_node.specs.declared.setup.NodeSetup.{NodeSetup}
 use Rattle.wl_plan.specs.declared.plan.Plan.{Plan}
 use Rattle.std.specs.Fmt.{digits}
 use Rattle.std.specs.Char.{encode_utf8}
-use Rattle.wl_setup.specs.Shown.{shown_letter}
+use Rattle.wl_setup.specs.Shown.{shown_character}
 use Rattle.wl_setup.specs.declared.fault.SetupFault.TheVariants as fault
 use Rattle.wl_setup.specs.declared.plan_text.PlanText.{PlanText}
 use Rattle.wl_setup.specs.declared.plan_text.NodeText.{NodeText}
@@ -377,103 +377,103 @@ plan-at_nobody : plan_of_text (versioned 3 [] (disturbed_at (codes "c") ∷ []))
 unfolding most_quanta tick_of
 plan-at_nobody = refl
 
--- control characters, separators of lines and marks of direction are shown by TOML's escapes, and no other letter is
-shown_escape : shown_letter 27 ≡ codes "\\u001B"
+-- control characters, separators of lines and marks of direction are shown by TOML's escapes, and no other character is
+shown_escape : shown_character 27 ≡ codes "\\u001B"
 unfolding digits encode_utf8
 shown_escape = refl
 
-shown_bell : shown_letter 7 ≡ codes "\\u0007"
+shown_bell : shown_character 7 ≡ codes "\\u0007"
 unfolding digits encode_utf8
 shown_bell = refl
 
-shown_line_end : shown_letter 10 ≡ codes "\\n"
+shown_line_end : shown_character 10 ≡ codes "\\n"
 unfolding digits encode_utf8
 shown_line_end = refl
 
-shown_delete : shown_letter 127 ≡ codes "\\u007F"
+shown_delete : shown_character 127 ≡ codes "\\u007F"
 unfolding digits encode_utf8
 shown_delete = refl
 
-shown_last_control : shown_letter 31 ≡ codes "\\u001F"
+shown_last_control : shown_character 31 ≡ codes "\\u001F"
 unfolding digits encode_utf8
 shown_last_control = refl
 
-shown_c1 : shown_letter 128 ≡ codes "\\u0080"
+shown_c1 : shown_character 128 ≡ codes "\\u0080"
 unfolding digits encode_utf8
 shown_c1 = refl
 
-shown_next_line : shown_letter 133 ≡ codes "\\u0085"
+shown_next_line : shown_character 133 ≡ codes "\\u0085"
 unfolding digits encode_utf8
 shown_next_line = refl
 
-shown_introducer : shown_letter 155 ≡ codes "\\u009B"
+shown_introducer : shown_character 155 ≡ codes "\\u009B"
 unfolding digits encode_utf8
 shown_introducer = refl
 
-shown_last_c1 : shown_letter 159 ≡ codes "\\u009F"
+shown_last_c1 : shown_character 159 ≡ codes "\\u009F"
 unfolding digits encode_utf8
 shown_last_c1 = refl
 
-shown_arabic_mark : shown_letter 1564 ≡ codes "\\u061C"
+shown_arabic_mark : shown_character 1564 ≡ codes "\\u061C"
 unfolding digits encode_utf8
 shown_arabic_mark = refl
 
-shown_left_to_right : shown_letter 8206 ≡ codes "\\u200E"
+shown_left_to_right : shown_character 8206 ≡ codes "\\u200E"
 unfolding digits encode_utf8
 shown_left_to_right = refl
 
-shown_right_to_left : shown_letter 8207 ≡ codes "\\u200F"
+shown_right_to_left : shown_character 8207 ≡ codes "\\u200F"
 unfolding digits encode_utf8
 shown_right_to_left = refl
 
-shown_line_separator : shown_letter 8232 ≡ codes "\\u2028"
+shown_line_separator : shown_character 8232 ≡ codes "\\u2028"
 unfolding digits encode_utf8
 shown_line_separator = refl
 
-shown_override : shown_letter 8238 ≡ codes "\\u202E"
+shown_override : shown_character 8238 ≡ codes "\\u202E"
 unfolding digits encode_utf8
 shown_override = refl
 
-shown_isolate : shown_letter 8294 ≡ codes "\\u2066"
+shown_isolate : shown_character 8294 ≡ codes "\\u2066"
 unfolding digits encode_utf8
 shown_isolate = refl
 
-shown_last_isolate : shown_letter 8297 ≡ codes "\\u2069"
+shown_last_isolate : shown_character 8297 ≡ codes "\\u2069"
 unfolding digits encode_utf8
 shown_last_isolate = refl
 
-shown_no_break_space : shown_letter 160 ≡ 194 ∷ 160 ∷ []
+shown_no_break_space : shown_character 160 ≡ 194 ∷ 160 ∷ []
 unfolding digits encode_utf8
 shown_no_break_space = refl
 
-shown_before_marks : shown_letter 8205 ≡ 226 ∷ 128 ∷ 141 ∷ []
+shown_before_marks : shown_character 8205 ≡ 226 ∷ 128 ∷ 141 ∷ []
 unfolding digits encode_utf8
 shown_before_marks = refl
 
-shown_after_marks : shown_letter 8208 ≡ 226 ∷ 128 ∷ 144 ∷ []
+shown_after_marks : shown_character 8208 ≡ 226 ∷ 128 ∷ 144 ∷ []
 unfolding digits encode_utf8
 shown_after_marks = refl
 
-shown_before_separators : shown_letter 8231 ≡ 226 ∷ 128 ∷ 167 ∷ []
+shown_before_separators : shown_character 8231 ≡ 226 ∷ 128 ∷ 167 ∷ []
 unfolding digits encode_utf8
 shown_before_separators = refl
 
-shown_after_override : shown_letter 8239 ≡ 226 ∷ 128 ∷ 175 ∷ []
+shown_after_override : shown_character 8239 ≡ 226 ∷ 128 ∷ 175 ∷ []
 unfolding digits encode_utf8
 shown_after_override = refl
 
-shown_before_isolates : shown_letter 8293 ≡ 226 ∷ 129 ∷ 165 ∷ []
+shown_before_isolates : shown_character 8293 ≡ 226 ∷ 129 ∷ 165 ∷ []
 unfolding digits encode_utf8
 shown_before_isolates = refl
 
-shown_after_isolates : shown_letter 8298 ≡ 226 ∷ 129 ∷ 170 ∷ []
+shown_after_isolates : shown_character 8298 ≡ 226 ∷ 129 ∷ 170 ∷ []
 unfolding digits encode_utf8
 shown_after_isolates = refl
 
-shown_space : shown_letter 32 ≡ codes " "
+shown_space : shown_character 32 ≡ codes " "
 unfolding digits encode_utf8
 shown_space = refl
 
-shown_backslash : shown_letter 92 ≡ codes "\\"
+shown_backslash : shown_character 92 ≡ codes "\\"
 unfolding digits encode_utf8
 shown_backslash = refl

@@ -20,9 +20,9 @@ abbrev pub escape : ℕ → List ℕ
 escape c =
     codes "\\u" ++ digits 16 true (c / 4096) ++ digits 16 true (c / 256 % 16) ++ digits 16 true (c / 16 % 16) ++ digits 16 true (c % 16)
 
--- what could steer a terminal by its escape, any other letter as it is
-abbrev pub shown_letter : ℕ → List ℕ
-shown_letter c =
+-- what could steer a terminal by its escape, any other character as it is
+abbrev pub shown_character : ℕ → List ℕ
+shown_character c =
     if c == 8 then codes "\\b"
     else (if c == 9 then codes "\\t"
     else (if c == 10 then codes "\\n"
@@ -31,4 +31,4 @@ shown_letter c =
     else (if is_control c || is_direction c then escape c else encode_utf8 c)))))
 
 abbrev pub shown : List ℕ → List ℕ
-shown text = flat_map shown_letter (chars text)
+shown text = flat_map shown_character (chars text)

@@ -34,8 +34,8 @@ fn check_version(alloc: Global, top: &Table) -> Result<(), SetupFault>
     }
 }
 
-/// What the tables of an array are read as.
-pub(crate) trait Row: Drop {
+/// What a table of an array is read as.
+pub(crate) trait TableText: Drop {
     ghost use Rattle.std.specs.Prelude.{ℕ, Option};
     ghost use Rattle.toml.specs.Data.{Members};
     ghost use Rattle.wl_setup.specs.declared.table_path.PlacedFault.{PlacedFault};
@@ -58,7 +58,7 @@ pub(crate) trait Row: Drop {
 }
 
 /// Returns the tables in an array, which is in this node if it is in one. What is no table is passed over.
-fn rows<T: Row>(
+fn rows<T: TableText>(
     alloc: Global,
     version: u64,
     node: u64,
@@ -77,7 +77,7 @@ fn rows<T: Row>(
 }
 
 /// Returns the tables in the array that a value is. Returns nothing if one has a fault, or if memory was refused.
-pub(crate) fn tables_in_line<T: Row>(
+pub(crate) fn tables_in_line<T: TableText>(
     alloc: Global,
     version: u64,
     value: Option<&Value>,
@@ -91,7 +91,7 @@ pub(crate) fn tables_in_line<T: Row>(
     }
 }
 
-impl Row for FrameText {
+impl TableText for FrameText {
     ghost fault = { frame_fault_at };
 
     ghost make = { λ _. frame_of };
@@ -118,7 +118,7 @@ impl Row for FrameText {
     }
 }
 
-impl Row for DisturbanceText {
+impl TableText for DisturbanceText {
     ghost fault = { λ version _. disturbance_fault_at version };
 
     ghost make = { λ _. disturbance_of };
@@ -158,7 +158,7 @@ fn clock(table: &Table) -> ClockText
     }
 }
 
-impl Row for RateText {
+impl TableText for RateText {
     ghost fault = { λ _. rate_fault_at };
 
     ghost make = { λ _. rate_of };
@@ -201,7 +201,7 @@ fn rates(
     Ok(rates)
 }
 
-impl Row for NodeText {
+impl TableText for NodeText {
     ghost fault = { λ version _. node_fault_at version };
 
     ghost make = { node_text_of };

@@ -43,21 +43,21 @@ impl fmt::Debug for Text {
     }
 }
 
-/// A letter of a text that is shown.
+/// A character of a text, as it is shown.
 #[derive(Clone, Copy)]
-struct Letter(char);
+struct ShownCharacter(char);
 
-/// A letter that could steer a terminal is shown as TOML 1.0 escapes it in a basic string, any other as it is: the control characters
+/// A character that could steer a terminal is shown as TOML 1.0 escapes it in a basic string, any other as it is: the control characters
 /// (below 32, 127 to 159), the separators of lines, and the marks of writing direction.
-impl fmt::Display for Letter {
+impl fmt::Display for ShownCharacter {
     ghost use Rattle.std.specs.Prelude.{Some};
-    ghost use Rattle.wl_setup.specs.Shown.{shown_letter};
+    ghost use Rattle.wl_setup.specs.Shown.{shown_character};
 
-    ghost output = { λ l. Some (shown_letter l.0) };
+    ghost output = { λ l. Some (shown_character l.0) };
 
     fn fmt<W: fmt::Write>(&self, f: &mut fmt::Formatter<W>) -> fmt::Result {
-        let letter = self.0;
-        let number = letter as u32;
+        let character = self.0;
+        let number = character as u32;
         match number {
             8 => write!(f, "\\b"),
             9 => write!(f, "\\t"),
@@ -69,12 +69,12 @@ impl fmt::Display for Letter {
                 let (third, fourth) = (number / 16 % 16, number % 16);
                 write!(f, "\\u{first:X}{second:X}{third:X}{fourth:X}")
             }
-            _ => write!(f, "{letter}"),
+            _ => write!(f, "{character}"),
         }
     }
 }
 
-/// The text in one line: no letter of it that could steer a terminal is shown as it is.
+/// The text in one line: no character of it that could steer a terminal is shown as it is.
 impl fmt::Display for Text {
     ghost use Rattle.std.specs.Prelude.{Some};
     ghost use Rattle.wl_setup.specs.Shown.{shown};
@@ -82,9 +82,9 @@ impl fmt::Display for Text {
     ghost output = { λ t. Some (shown t) };
 
     fn fmt<W: fmt::Write>(&self, f: &mut fmt::Formatter<W>) -> fmt::Result {
-        for letter in self.as_str().chars() {
-            let letter = Letter(letter);
-            write!(f, "{letter}")?;
+        for character in self.as_str().chars() {
+            let character = ShownCharacter(character);
+            write!(f, "{character}")?;
         }
         Ok(())
     }
