@@ -73,7 +73,7 @@ impl<'s> Link for Failing<'s> {
     }
 }
 
-/// Returns in how many of ten runs by 2 workers the worker is named whose link is given up at its nth call.
+/// Returns how many of ten runs by 2 workers name worker `failing`. In run n, from 1, its link is gone at its nth call.
 pub fn runs_gone<R: Threads + Wait + Sync>(
     rt: &R,
     alloc: Global,
@@ -89,7 +89,7 @@ pub fn runs_gone<R: Threads + Wait + Sync>(
     Ok(answered)
 }
 
-/// Runs a plan by 2 workers; the link of one is given up at its nth call. Returns whether that worker is named.
+/// Runs a plan by 2 workers; the link of worker `failing` is gone at its nth call. True if the run's fault names that worker.
 fn run_gone<R: Threads + Wait + Sync>(
     rt: &R,
     alloc: Global,

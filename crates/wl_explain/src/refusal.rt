@@ -467,7 +467,8 @@ fn push_place(text: &mut String, line: u64, column: u64) -> Result<(), AllocErro
     write!(text, "line {line}, column {column}")
 }
 
-/// Returns the text on a text that isn't TOML: the same two lines, with the line and the column, from 1, of the place after these bytes of it.
+/// Returns the explanation of a text that isn't TOML: the same two lines, with the line and the column, from 1, of the parser's position.
+/// `before` are the bytes before it.
 pub fn explain_toml(alloc: Global, before: &[u8]) -> Result<String, AllocError>
     ensures { IfOk result (λ text. string_bytes text ≡ toml_words before.now) }
 {

@@ -162,7 +162,7 @@ impl RecordReader {
             return Err(TextFault::Read);
         }
         let calls = self.calls + 1;
-        // Nothing more may be asked, but where this step is seen to go on.
+        // Spent, unless this step succeeds.
         self.calls = MOST_CALLS;
         match read_behind(
             reader,

@@ -45,8 +45,8 @@ pub struct NodeSignals {
     pub state: NodeState,
 }
 
-/// Returns whether the drive of node `i` is dominant as it arrives at node `j` at tick `t`. That is asked again if what was known of it has
-/// run out.
+/// Returns the drive of node `i` as it arrives at node `j` at tick `t`, and up to which tick it stays. That is `held` if `held` reaches beyond
+/// `t`; else it is read from the node's changes, and kept in `held`.
 fn ask_again(
     plan: &CheckedPlan,
     outcome: &Outcome,
