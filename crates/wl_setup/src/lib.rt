@@ -1,4 +1,4 @@
-//! Plans read from TOML, or the first fault of the text; and what a check of a plan prints.
+//! Reads plan texts (TOML) and makes plans from them, or returns the first fault of a text; and writes what a check of a plan prints.
 #![tactic(auto)]
 
 mod bus;
