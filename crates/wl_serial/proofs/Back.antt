@@ -16,7 +16,7 @@ use Rattle.wl_plan.specs.SimulationLaws.{SimulationLaws}
 use Rattle.wl_serial.specs.declared.running_node.Before.{Before}
 use Rattle.wl_serial.specs.declared.running_node.Running.{Running}
 use Rattle.wl_serial.specs.Guess.{AreAsFar, AreBack, AreBefore, AreLater, HasRunBeside, HavePassed, HaveListened, IsBack, IsBefore, RanAlone}
-use Rattle.wl_serial.specs.Heard.{tells}
+use Rattle.wl_serial.specs.LineAt.{tells}
 use Rattle.wl_serial.specs.Running.{AreKnown, AreRunning, HasRun, IsLater, IsNext, ticks_left}
 use Rattle.wl_serial.proofs.Following.{ran_as, tell_alike}
 use Rattle.wl_serial.proofs.Guesses.{IsGuessed}

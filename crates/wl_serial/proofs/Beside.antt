@@ -16,7 +16,7 @@ use Rattle.wl_plan.specs.Guess.{GuessLaws, beside, from_others}
 use Rattle.wl_plan.specs.Sound.{IsSound}
 use Rattle.wl_serial.specs.declared.running_node.Running.{Running}
 use Rattle.wl_serial.specs.Guess.{GoesBeside, HasRunBeside, RanAlone, RanUpTo}
-use Rattle.wl_serial.specs.Heard.{sees, tells}
+use Rattle.wl_serial.specs.LineAt.{sees, tells}
 use Rattle.wl_serial.specs.Running.{AreSomewhere, GoesOn, IsKnownOn, IsLater, IsSomewhere, OwnIsTold}
 use Rattle.wl_serial.specs.Stretch.{HasStretched, TellsTheSame}
 

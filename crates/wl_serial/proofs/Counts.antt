@@ -5,7 +5,7 @@ use Rattle.std.proofs.lemmas.List.Sums.{count_by-le-length}
 use Rattle.std.proofs.lemmas.Option.{slice_get-get_or}
 use Rattle.wl_record_core.specs.Truth.{count_below, odd, IsIncreasing}
 use Rattle.wl_record_core.specs.TableLaws.{TableLaws}
-use Rattle.wl_serial.specs.Heard.{drove}
+use Rattle.wl_serial.specs.LineAt.{drove}
 pub use Rattle.wl_record_core.proofs.Callers.{reached, not_reached, odd_is}
 
 -- the first that doesn't count is after the tick

@@ -6,7 +6,7 @@ use Rattle.wl_plan.specs.declared.plan.Plan.{Plan}
 use Rattle.wl_plan.specs.SimulationLaws.{SimulationLaws}
 use Rattle.wl_serial.specs.declared.running_node.Running.{Running}
 use Rattle.wl_serial.specs.Guess.{AreLater, HasListened, HasRunBeside, HaveListened, RanAlone}
-use Rattle.wl_serial.specs.Heard.{tells}
+use Rattle.wl_serial.specs.LineAt.{tells}
 use Rattle.wl_serial.specs.Running.{AreSomewhere, IsLater, IsSomewhere}
 use Rattle.wl_serial.proofs.Beside.{goes_as, later_none, later_then}
 

@@ -13,7 +13,7 @@ use Rattle.wl_plan.specs.Simulation.{level, changes}
 use Rattle.wl_plan.specs.SimulationLaws.{SimulationLaws}
 use Rattle.wl_plan.specs.Sound.{IsCausal, IsSound}
 use Rattle.wl_serial.specs.declared.running_node.Running.{Running}
-use Rattle.wl_serial.specs.Heard.{comes, drove}
+use Rattle.wl_serial.specs.LineAt.{comes, drove}
 use Rattle.wl_serial.specs.Running.{IsRunning, AreRunning, KnowsOthers, OwnIsTold}
 
 -- the front of a list of changes tells the level up to where it reaches

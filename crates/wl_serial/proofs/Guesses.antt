@@ -14,7 +14,7 @@ use Rattle.wl_plan.specs.Guess.{GuessLaws, IsAsAlone, IsConsistent, alone, besid
 use Rattle.wl_plan.specs.Sound.{IsSound}
 use Rattle.wl_serial.specs.declared.running_node.Running.{Running}
 use Rattle.wl_serial.specs.Guess.{HasRunBeside}
-use Rattle.wl_serial.specs.Heard.{tells}
+use Rattle.wl_serial.specs.LineAt.{tells}
 use Rattle.wl_serial.specs.Running.{AreRunning, IsRunning, RunsOn}
 use Rattle.wl_serial.proofs.Beside.{others_same}
 use Rattle.wl_serial.proofs.Found.{level_by}

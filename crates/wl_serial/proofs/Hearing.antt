@@ -12,9 +12,9 @@ use Rattle.wl_plan.specs.declared.plan.Plan.{Plan}
 use Rattle.wl_plan.specs.PlanLine.{line_of, disturbed}
 use Rattle.wl_plan.specs.SimulationLaws.{SimulationLaws}
 use Rattle.wl_plan.specs.Sound.{IsSound}
-use Rattle.wl_serial.specs.declared.ear.Ear.{Ear}
+use Rattle.wl_serial.specs.declared.line_at.LineAt.{LineAt}
 use Rattle.wl_serial.specs.declared.running_node.Running.{Running}
-use Rattle.wl_serial.specs.Heard.{comes, drove, IsPulseTold, IsHeard, AreHeard, AreSooner, AreSources, HasChanged, sees}
+use Rattle.wl_serial.specs.LineAt.{comes, drove, IsPulseTold, IsHeard, AreHeard, AreSooner, AreSources, HasChanged, sees}
 use Rattle.wl_serial.specs.Running.{AreRunning, KnowsOthers, OwnIsTold, finds}
 use Rattle.wl_serial.proofs.Found.{makes}
 
@@ -56,7 +56,7 @@ next_on rs i m r d b later = elim (cases_eq m i) [
 ]
 
 -- what is heard below the tick at which it comes stays
-pub heard_before : (plan : Plan) (rs : List Running) (i tick m : ℕ) (r : Running) (p q : Ear) → TableLaws → i < length rs → HasChanged i tick rs r
+pub heard_before : (plan : Plan) (rs : List Running) (i tick m : ℕ) (r : Running) (p q : LineAt) → TableLaws → i < length rs → HasChanged i tick rs r
     → IsHeard plan rs m p → q.heard.from ≡ p.heard.from → q.heard.until ≤ p.heard.until → q.heard.until ≤ tick + delay_of plan.topology i m → q.heard.dominant ≡ p.heard.dominant
     → q.shaken ≡ p.shaken → AreSooner i (tick + delay_of plan.topology i m) p.sources q.sources → IsHeard plan (set rs i r) m q
 heard_before plan rs i tick m r p q table b changed is from until comes_then same shaken sooner = record {
@@ -90,7 +90,7 @@ heard_before plan rs i tick m r p q table b changed is from until comes_then sam
     begun d = (let h = is.begun d in let e = next_on rs i m r d b (changed d).1 in omega (arith, h, e, from))
 
 -- a node that told no change leaves all as it was
-pub heard_same : (plan : Plan) (rs : List Running) (i : ℕ) (r : Running) (ears : List Ear) → i < length rs
+pub heard_same : (plan : Plan) (rs : List Running) (i : ℕ) (r : Running) (ears : List LineAt) → i < length rs
     → ((d : Running) → (r.changes ≡ (get_or rs i d).changes) × ((get_or rs i d).next ≤ r.next)) → AreHeard plan rs ears → AreHeard plan (set rs i r) ears
 heard_same plan rs i r ears b same are m e c = record {
   told = λ d t after before.
@@ -110,18 +110,18 @@ heard_same plan rs i r ears b same are m e c = record {
     ]
 
 -- one place heard anew
-pub heard_anew : (plan : Plan) (rs : List Running) (j : ℕ) (ears : List Ear) (e : Ear) → j < length ears → IsHeard plan rs j e → AreHeard plan rs ears → AreHeard plan rs (set ears j e)
+pub heard_anew : (plan : Plan) (rs : List Running) (j : ℕ) (ears : List LineAt) (e : LineAt) → j < length ears → IsHeard plan rs j e → AreHeard plan rs ears → AreHeard plan rs (set ears j e)
 heard_anew plan rs j ears e b is are k d c = elim (cases_eq k j) [
   | inl same ↦ subst (λ n. IsHeard plan rs n (get_or (set ears j e) n d)) (sym same) (subst (IsHeard plan rs j) (sym (get_or-set_same ears j e d b)) is)
   | inr other ↦ subst (IsHeard plan rs k) (sym (get_or-set_other ears j k e d other)) (are k d (subst (λ n. k < n) (length-set ears j e) c))
 ]
 
 -- The first m places know of the new runs, the others of the old ones.
-abbrev pub AreTold : Plan → List Running → List Running → List Ear → ℕ → Type 0
+abbrev pub AreTold : Plan → List Running → List Running → List LineAt → ℕ → Type 0
 AreTold plan old new ears m =
-    (k : ℕ) (d : Ear) → k < length ears → (k < m → IsHeard plan new k (get_or ears k d)) × (m ≤ k → IsHeard plan old k (get_or ears k d))
+    (k : ℕ) (d : LineAt) → k < length ears → (k < m → IsHeard plan new k (get_or ears k d)) × (m ≤ k → IsHeard plan old k (get_or ears k d))
 
-pub told_one_more : (plan : Plan) (old new : List Running) (ears : List Ear) (m : ℕ) (e : Ear) → m < length ears → AreTold plan old new ears m → IsHeard plan new m e
+pub told_one_more : (plan : Plan) (old new : List Running) (ears : List LineAt) (m : ℕ) (e : LineAt) → m < length ears → AreTold plan old new ears m → IsHeard plan new m e
     → AreTold plan old new (set ears m e) (m + 1)
 told_one_more plan old new ears m e b told is k d c =
     let inside : k < length ears = subst (λ n. k < n) (length-set ears m e) c in (

@@ -11,7 +11,7 @@ use Rattle.wl_plan.specs.declared.plan.Plan.{Plan}
 use Rattle.wl_serial.specs.declared.running_node.Running.{Running}
 use Rattle.wl_serial.specs.declared.sources.Sources.{Sources}
 use Rattle.wl_pulse.specs.declared.pulse.Pulse.{Pulse}
-use Rattle.wl_serial.specs.Heard.{drove, passing, AreTallied, IsAhead, IsDriving, AreSooner, AreSources, IsPulseTold}
+use Rattle.wl_serial.specs.LineAt.{drove, passing, AreTallied, IsAhead, IsDriving, AreSooner, AreSources, IsPulseTold}
 use Rattle.wl_topology.proofs.Callers.{any_from, any_same}
 
 -- some number passes where there is one at least that does

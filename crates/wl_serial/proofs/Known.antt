@@ -7,7 +7,7 @@ use Rattle.wl_topology.specs.Delays.{delay_of}
 use Rattle.wl_topology.specs.Limits.{most_places}
 use Rattle.wl_plan.specs.declared.plan.Plan.{Plan}
 use Rattle.wl_serial.specs.declared.running_node.Running.{Running}
-use Rattle.wl_serial.specs.Heard.{AreOthers}
+use Rattle.wl_serial.specs.LineAt.{AreOthers}
 use Rattle.wl_serial.specs.Running.{AreRunning, AreKnown, KnowsOthers, AllKnown, IsNext, OnlyOne}
 
 -- the first i of them are there

@@ -8,10 +8,10 @@ use Rattle.wl_topology.specs.Driven.{any_below}
 use Rattle.wl_topology.specs.Limits.{most_places}
 use Rattle.wl_plan.specs.declared.plan.Plan.{Plan}
 use Rattle.wl_plan.specs.PlanLine.{disturbed}
-use Rattle.wl_serial.specs.declared.ear.Ear.{Ear}
+use Rattle.wl_serial.specs.declared.line_at.LineAt.{LineAt}
 use Rattle.wl_serial.specs.declared.running_node.Running.{Running}
 use Rattle.wl_pulse.specs.Pulses.{IsPulse}
-use Rattle.wl_serial.specs.Heard.{drove, passing, HearsOnly, IsAlone, IsHeard}
+use Rattle.wl_serial.specs.LineAt.{drove, passing, HearsOnly, IsAlone, IsHeard}
 
 -- one of those that pass
 one_passes : (p : ℕ → Bool) (n k : ℕ) → k < n → from_bool (p k) ≤ passing p n
@@ -54,7 +54,7 @@ one_of_all f (suc n) j b none = elim (cases_eq j n) [
 ]
 
 -- no other node is heard, and no disturbance
-pub hears_only : (plan : Plan) (rs : List Running) (j i a t : ℕ) (ear : Ear) → j < length plan.nodes → length plan.nodes ≤ most_places → IsAlone (length plan.nodes) j a ear.sources → t ≤ a
+pub hears_only : (plan : Plan) (rs : List Running) (j i a t : ℕ) (ear : LineAt) → j < length plan.nodes → length plan.nodes ≤ most_places → IsAlone (length plan.nodes) j a ear.sources → t ≤ a
     → IsHeard plan rs i ear → IsPulse (disturbed plan i) ear.shaken → ear.shaken.dominant ≡ false → t ≤ ear.shaken.until
     → HearsOnly plan rs j i t
 hears_only plan rs j i a t ear b few alone less heard shaken calm ends d u after before =

@@ -7,7 +7,7 @@ use Rattle.wl_plan.specs.PlanLine.{line_of, table_of, disturbed}
 use Rattle.wl_plan.specs.SimulationLaws.{SimulationLaws}
 use Rattle.wl_plan.specs.Sound.{IsSound}
 use Rattle.wl_serial.specs.declared.running_node.Running.{Running}
-use Rattle.wl_serial.specs.Heard.{sees}
+use Rattle.wl_serial.specs.LineAt.{sees}
 use Rattle.wl_serial.specs.Running.{AreRunning, GoesOn, HasRun, IsKnownOn, IsRunning, KnowsOthers, RunsOn}
 use Rattle.wl_serial.proofs.Hearing.{sees_it}
 

@@ -19,7 +19,7 @@ use Rattle.wl_plan.specs.Simulation.{level, seen}
 use Rattle.wl_plan.specs.SimulationLaws.{SimulationLaws}
 use Rattle.wl_plan.specs.Sound.{IsSound}
 use Rattle.wl_serial.specs.declared.running_node.Running.{Running}
-use Rattle.wl_serial.specs.Heard.{tells}
+use Rattle.wl_serial.specs.LineAt.{tells}
 use Rattle.wl_serial.specs.Rest.{AreLifted, AreSilent, IsSilent, AllStand, AllStay, NodeStands}
 use Rattle.wl_serial.specs.Running.{HasRun, AreRunning, IsNext}
 use Rattle.wl_serial.proofs.Found.{level_told}

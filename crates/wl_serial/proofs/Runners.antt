@@ -9,9 +9,9 @@ use Rattle.wl_topology.specs.Delays.{delay_of}
 use Rattle.wl_plan.specs.declared.plan.Plan.{Plan}
 use Rattle.wl_serial.specs.declared.running_node.Running.{Running}
 use Rattle.wl_serial.specs.declared.outcome.NodeOutcome.{NodeOutcome}
-use Rattle.wl_serial.specs.declared.ear.Ear.{Ear}
-use Rattle.wl_serial.specs.declared.ear.Found.{Found}
-use Rattle.wl_serial.specs.Heard.{IsEar, AreEars, IsFound, sees}
+use Rattle.wl_serial.specs.declared.line_at.LineAt.{LineAt}
+use Rattle.wl_serial.specs.declared.line_at.Found.{Found}
+use Rattle.wl_serial.specs.LineAt.{IsLineAt, AreLines, IsFound, sees}
 use Rattle.wl_serial.specs.Outcome.{node_outcome_of}
 use Rattle.wl_serial.specs.Running.{IsRunning, AreRunning, AreSomewhere, IsSomewhere, GoesOn, IsKnownOn, IsLater, KnowsOthers, RanBelow, ticks_left}
 use Rattle.wl_serial.specs.Stretch.{HasStretched}
@@ -103,13 +103,13 @@ same_left end (x ∷ xs) zero r d same = omega (arith, same)
 same_left end (x ∷ xs) (suc j) r d same = (let f = same_left end xs j r d same in omega (arith, f))
 
 -- one ear anew
-pub ear_on : (plan : Plan) (j : ℕ) (es : List Ear) (e : Ear) → j < length es → AreEars plan es → IsEar plan j e → AreEars plan (set es j e)
+pub ear_on : (plan : Plan) (j : ℕ) (es : List LineAt) (e : LineAt) → j < length es → AreLines plan es → IsLineAt plan j e → AreLines plan (set es j e)
 ear_on plan j es e b are is = record { all = length-set es j e ∙ are.all; each = each }
   where
-    each : (k : ℕ) (d : Ear) → k < length (set es j e) → IsEar plan k (get_or (set es j e) k d)
+    each : (k : ℕ) (d : LineAt) → k < length (set es j e) → IsLineAt plan k (get_or (set es j e) k d)
     each k d c = elim (cases_eq k j) [
-      | inl same ↦ subst (λ n. IsEar plan n (get_or (set es j e) n d)) (sym same) (subst (IsEar plan j) (sym (get_or-set_same es j e d b)) is)
-      | inr other ↦ subst (IsEar plan k) (sym (get_or-set_other es j k e d other)) (are.each k d (subst (λ n. k < n) (length-set es j e) c))
+      | inl same ↦ subst (λ n. IsLineAt plan n (get_or (set es j e) n d)) (sym same) (subst (IsLineAt plan j) (sym (get_or-set_same es j e d b)) is)
+      | inr other ↦ subst (IsLineAt plan k) (sym (get_or-set_other es j k e d other)) (are.each k d (subst (λ n. k < n) (length-set es j e) c))
     ]
 
 -- a stretch of a level that a node finds is one by what the nodes have told

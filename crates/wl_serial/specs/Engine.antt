@@ -2,13 +2,13 @@
 use Rattle.std.specs.Prelude.{ℕ, ◌<◌}
 use Rattle.wl_plan.specs.declared.plan.Plan.{Plan}
 use Rattle.wl_serial.specs.declared.engine.Engine.{Engine}
-use Rattle.wl_serial.specs.Heard.{AreEars, AreHeard}
+use Rattle.wl_serial.specs.LineAt.{AreLines, AreHeard}
 use Rattle.wl_serial.specs.Running.{AreRunning, AreKnown, IsNext, ticks_left}
 
 -- Each node has run as the simulation does. Each place has heard what they have told. Up to which ticks the drives are known is as the nodes have it.
 pub record IsEngine (plan : Plan) (e : Engine) : Type 0 where
   pub running : AreRunning plan e.nodes.items
-  pub ears : AreEars plan e.ears.items
+  pub ears : AreLines plan e.ears.items
   pub heard : AreHeard plan e.nodes.items e.ears.items
   pub known : AreKnown plan.end e.nodes.items e.known
 

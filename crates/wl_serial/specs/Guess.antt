@@ -9,7 +9,7 @@ use Rattle.wl_plan.specs.PlanLine.{line_of}
 use Rattle.wl_plan.specs.Guess.{beside, from_others}
 use Rattle.wl_serial.specs.declared.running_node.Before.{Before}
 use Rattle.wl_serial.specs.declared.running_node.Running.{Running}
-use Rattle.wl_serial.specs.Heard.{tells}
+use Rattle.wl_serial.specs.LineAt.{tells}
 use Rattle.wl_serial.specs.Running.{IsKnownOn, IsLater, IsSomewhere, OnlyOne, RunsOn}
 
 -- From where it was, node i ran on on each line on which it was there, and beside which is shown to it what comes from the others who drove so.

@@ -1,6 +1,6 @@
 pub mod Engine
 pub mod Guess
-pub mod Heard
+pub mod LineAt
 pub mod Outcome
 pub mod Records
 pub mod Rest

@@ -6,9 +6,9 @@ use Rattle.wl_topology.specs.Driven.{driven}
 use Rattle.wl_plan.specs.declared.plan.Plan.{Plan}
 use Rattle.wl_plan.specs.PlanLine.{line_of, table_of, disturbed}
 use Rattle.wl_plan.specs.Rest.{StandsUpTo}
-use Rattle.wl_serial.specs.declared.ear.Ear.{Ear}
+use Rattle.wl_serial.specs.declared.line_at.LineAt.{LineAt}
 use Rattle.wl_serial.specs.declared.running_node.Running.{Running}
-use Rattle.wl_serial.specs.Heard.{tells, AreHeard}
+use Rattle.wl_serial.specs.LineAt.{tells, AreHeard}
 use Rattle.wl_serial.specs.Running.{HasRun, IsNext, ticks_left}
 
 -- From one tick on and below another one nothing dominant comes to place j, by the changes that the nodes have told and by the disturbances.
@@ -38,6 +38,6 @@ AllStay plan t rs = (i : ℕ) (d : Running) → i < length rs → Stays plan t i
 
 -- The drives are known further: what was heard, which node goes next, and the ticks that are left stay.
 pub record AreLifted (plan : Plan) (old new : List Running) : Type 0 where
-  pub heard : (ears : List Ear) → AreHeard plan old ears → AreHeard plan new ears
+  pub heard : (ears : List LineAt) → AreHeard plan old ears → AreHeard plan new ears
   pub next : (j : ℕ) → IsNext plan.end old j → IsNext plan.end new j
   pub left : ticks_left plan.end new ≤ ticks_left plan.end old

@@ -5,7 +5,7 @@ use Rattle.wl_serial.specs.declared.running_node.Running.{Running}
 use Rattle.wl_level.specs.declared.Level.{Level}
 use Rattle.wl_level.specs.Levels.{level_of}
 use Rattle.wl_serial.specs.Guess.{RanUpTo}
-use Rattle.wl_serial.specs.Heard.{drove, sees}
+use Rattle.wl_serial.specs.LineAt.{drove, sees}
 use Rattle.wl_serial.specs.Running.{IsSomewhere, GoesOn, RanBelow, IsKnownOn, IsLater, by_quanta}
 
 -- Node j alone ran on, below that tick, by what the nodes had told.

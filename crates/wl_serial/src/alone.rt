@@ -2,12 +2,12 @@
 ghost use Rattle.std.specs.Prelude.{◌≡◌, ◌≢◌, ℕ, ◌+◌, ◌-◌, ◌<◌, ◌≤◌, false, IfOk, OnOk, length, slice_index_or};
 ghost use Rattle.wl_record_core.specs.Truth.{count_below, IsIncreasing};
 ghost use Rattle.wl_serial.specs.declared.running_node.Running.{Running as GivenRunning};
-ghost use Rattle.wl_serial.specs.Heard.{AreEars, AreHeard, HearsOnly};
+ghost use Rattle.wl_serial.specs.LineAt.{AreLines, AreHeard, HearsOnly};
 ghost use Rattle.wl_serial.specs.Running.{AreSomewhere, RunsBelow, by_quanta, one_more};
 ghost use Rattle.wl_serial.specs.Stretch.{HasRunAlong, HasStretched, TellsTheSame};
 
 use crate::checked::Checked;
-use crate::ear::{Ear, level_by, tell};
+use crate::line_at::{LineAt, level_by, tell};
 use crate::pulse::{change_at, count_until};
 use crate::running_node::Running;
 use std::alloc::AllocError;
@@ -17,7 +17,7 @@ use std::alloc::AllocError;
 pub(crate) fn run_alone(
     plan: &Checked,
     running: &mut [Running],
-    ears: &mut [Ear],
+    ears: &mut [LineAt],
     j: usize,
     i: usize,
     until: u64,
@@ -26,12 +26,12 @@ pub(crate) fn run_alone(
     requires leader { j < length plan.now.nodes }
     requires other { i ≢ j }
     requires somewhere { AreSomewhere plan.now running.old }
-    requires ears { AreEars plan.now ears.old }
+    requires ears { AreLines plan.now ears.old }
     requires heard { AreHeard plan.now running.old ears.old }
     requires ends { until ≤ plan.now.end }
     requires below { RunsBelow until running.old i }
     requires only { HearsOnly plan.now running.old j i until }
-    ensures ears { OnOk result (AreEars plan.now ears.new) }
+    ensures ears { OnOk result (AreLines plan.now ears.new) }
     ensures heard { OnOk result (AreHeard plan.now running.new ears.new) }
     ensures ran { OnOk result (HasStretched plan.now i until running.old running.new) }
     ensures same { IfOk result (λ changed. changed ≡ false → TellsTheSame i running.old running.new) }

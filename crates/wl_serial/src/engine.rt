@@ -4,12 +4,12 @@ ghost use Rattle.std.specs.List.{range_with_len};
 ghost use Rattle.wl_plan.specs.Checked.{IsChecked};
 ghost use Rattle.wl_serial.specs.Outcome.{node_outcome_of, outcome_of};
 ghost use Rattle.wl_serial.specs.Engine.{GoesNext, IsEngine, IsNearer};
-ghost use Rattle.wl_serial.specs.Heard.{AreEars, AreHeard};
+ghost use Rattle.wl_serial.specs.LineAt.{AreLines, AreHeard};
 ghost use Rattle.wl_serial.specs.Running.{AreRunning, AreKnown, AllKnown, NoneBefore, IsNext};
 
 use crate::checked::Checked;
-use crate::ear::Ear;
 use crate::guess::is_led;
+use crate::line_at::LineAt;
 use crate::outcome::{NodeOutcomes, Outcome};
 use crate::running_node::{Running, Ticks};
 use std::alloc::{AllocError, Global};
@@ -17,11 +17,11 @@ use wl_level::Listed;
 use wl_plan::Plan;
 use wl_topology::MOST_NODES;
 
-/// The nodes of a plan as far as they have run, an ear at each place, and for each node the tick below which its drive is known.
+/// The nodes of a plan as far as they have run, the line at each place, and for each node the tick below which its drive is known.
 #[derive(Drop)]
 pub(crate) struct Engine {
     pub(crate) nodes: Vec<Running>,
-    pub(crate) ears: Vec<Ear>,
+    pub(crate) ears: Vec<LineAt>,
     /// The nodes have these ticks too: here they are read faster.
     pub(crate) known: Ticks,
 }
@@ -53,14 +53,14 @@ fn begin(alloc: Global, plan: &Checked) -> Result<Vec<Running>, AllocError>
     Ok(running)
 }
 
-/// Returns an ear at each place.
-fn listen(alloc: Global, plan: &Checked) -> Result<Vec<Ear>, AllocError>
-    ensures ears { IfOk result (λ ears. AreEars plan.now ears.items) }
+/// Returns the line at each place, before anything is heard.
+fn listen(alloc: Global, plan: &Checked) -> Result<Vec<LineAt>, AllocError>
+    ensures ears { IfOk result (λ ears. AreLines plan.now ears.items) }
     ensures heard { IfOk result (λ ears. (running : List Running) → AreHeard plan.now running ears.items) }
 {
     let mut ears = Vec::new(alloc);
     for j in 0..plan.nodes() {
-        ears.push(Ear::new(plan, j))?;
+        ears.push(LineAt::new(plan, j))?;
     }
     Ok(ears)
 }

@@ -2,18 +2,18 @@
 //! alone up to there, and then each listener runs as far beside what it sent. If none of them changes its drive, all did what they do
 //! (`a_consistent_guess_holds` of `wl_plan`). Else all go back to where they were.
 ghost use Rattle.std.specs.Prelude.{◌≡◌, ◌≢◌, ℕ, ◌<◌, ◌≤◌, false, true, IfOk, OnOk, MatchOption, List, length, slice_index_or};
-ghost use Rattle.wl_serial.specs.declared.ear.Ear.{Ear as GivenEar};
+ghost use Rattle.wl_serial.specs.declared.line_at.LineAt.{LineAt as GivenLineAt};
 ghost use Rattle.wl_serial.specs.declared.running_node.Running.{Running as GivenRunning};
 ghost use Rattle.wl_serial.specs.Guess.{AreAsFar, AreBack, AreBefore, AreLater, HaveListened, HavePassed, RanAlone};
 ghost use Rattle.wl_serial.specs.Engine.{GoesNext, IsEngine, IsNearer};
-ghost use Rattle.wl_serial.specs.Heard.{AreEars, AreHeard};
+ghost use Rattle.wl_serial.specs.LineAt.{AreLines, AreHeard};
 ghost use Rattle.wl_serial.specs.Running.{AreRunning, AreSomewhere, RunsBelow, ticks_left};
 ghost use Rattle.wl_serial.specs.Stretch.{HasStretched, TellsTheSame};
 
 use crate::alone::run_alone;
 use crate::checked::Checked;
-use crate::ear::Ear;
 use crate::engine::{Engine, all_known};
+use crate::line_at::LineAt;
 use crate::running_node::{Before, Running};
 use crate::turn::{run_found, stretch};
 use std::alloc::{AllocError, Global};
@@ -57,7 +57,7 @@ impl Engine {
         wl_record_core::table_laws();
         wl_node::node_laws();
         let nodes: &mut [Running] = &mut self.nodes;
-        let ears: &mut [Ear] = &mut self.ears;
+        let ears: &mut [LineAt] = &mut self.ears;
         let marks = keep(alloc, nodes)?;
         lead(plan, nodes, ears, j)?;
         let until = nodes[j].next.min(plan.end());
@@ -87,15 +87,15 @@ fn keep(alloc: Global, running: &[Running]) -> Result<Vec<Before>, AllocError>
 fn lead(
     plan: &Checked,
     running: &mut [Running],
-    ears: &mut [Ear],
+    ears: &mut [LineAt],
     j: usize,
 ) -> Result<(), AllocError>
     requires node { j < length plan.now.nodes }
     requires somewhere { AreSomewhere plan.now running.old }
-    requires ears { AreEars plan.now ears.old }
+    requires ears { AreLines plan.now ears.old }
     requires heard { AreHeard plan.now running.old ears.old }
     requires below { RunsBelow plan.now.end running.old j }
-    ensures ears { OnOk result (AreEars plan.now ears.new) }
+    ensures ears { OnOk result (AreLines plan.now ears.new) }
     ensures heard { OnOk result (AreHeard plan.now running.new ears.new) }
     ensures ran { OnOk result (RanAlone plan.now j plan.now.end running.old running.new) }
     ensures later { OnOk result ((d : GivenRunning)
@@ -117,16 +117,16 @@ fn lead(
 fn follow(
     plan: &Checked,
     running: &mut [Running],
-    ears: &mut [Ear],
+    ears: &mut [LineAt],
     j: usize,
     until: u64,
 ) -> Result<bool, AllocError>
     requires leader { j < length plan.now.nodes }
     requires somewhere { AreSomewhere plan.now running.old }
-    requires ears { AreEars plan.now ears.old }
+    requires ears { AreLines plan.now ears.old }
     requires heard { AreHeard plan.now running.old ears.old }
     requires ends { until ≤ plan.now.end }
-    ensures ears { OnOk result (AreEars plan.now ears.new) }
+    ensures ears { OnOk result (AreLines plan.now ears.new) }
     ensures heard { OnOk result (AreHeard plan.now running.new ears.new) }
     ensures later { OnOk result (AreLater running.old running.new) }
     ensures listened { IfOk result (λ right. right ≡ true
@@ -146,7 +146,7 @@ fn follow(
 fn listen(
     plan: &Checked,
     running: &mut [Running],
-    ears: &mut [Ear],
+    ears: &mut [LineAt],
     j: usize,
     i: usize,
     until: u64,
@@ -155,10 +155,10 @@ fn listen(
     requires leader { j < length plan.now.nodes }
     requires other { i ≢ j }
     requires somewhere { AreSomewhere plan.now running.old }
-    requires ears { AreEars plan.now ears.old }
+    requires ears { AreLines plan.now ears.old }
     requires heard { AreHeard plan.now running.old ears.old }
     requires ends { until ≤ plan.now.end }
-    ensures ears { OnOk result (AreEars plan.now ears.new) }
+    ensures ears { OnOk result (AreLines plan.now ears.new) }
     ensures heard { OnOk result (AreHeard plan.now running.new ears.new) }
     ensures ran { OnOk result (RanAlone plan.now i until running.old running.new) }
     ensures same { IfOk result (λ right. right ≡ true → TellsTheSame i running.old running.new) }
@@ -180,7 +180,7 @@ fn listen(
 fn stretch_alone(
     plan: &Checked,
     running: &mut [Running],
-    ears: &mut [Ear],
+    ears: &mut [LineAt],
     j: usize,
     i: usize,
     until: u64,
@@ -189,16 +189,16 @@ fn stretch_alone(
     requires leader { j < length plan.now.nodes }
     requires other { i ≢ j }
     requires somewhere { AreSomewhere plan.now running.old }
-    requires ears { AreEars plan.now ears.old }
+    requires ears { AreLines plan.now ears.old }
     requires heard { AreHeard plan.now running.old ears.old }
     requires ends { until ≤ plan.now.end }
     requires below { RunsBelow until running.old i }
-    ensures ears { OnOk result (AreEars plan.now ears.new) }
+    ensures ears { OnOk result (AreLines plan.now ears.new) }
     ensures heard { OnOk result (AreHeard plan.now running.new ears.new) }
     ensures ran { OnOk result (HasStretched plan.now i until running.old running.new) }
     ensures same { IfOk result (λ changed. changed ≡ false → TellsTheSame i running.old running.new) }
 {
-    let found = ears[i].hear(plan, running, i, until);
+    let found = ears[i].level_at(plan, running, i, until);
     let alone = ears[i].alone_until(plan, running, j, i).min(until);
     if running[i].next < alone {
         let changed = run_alone(plan, running, ears, j, i, alone)?;
@@ -212,7 +212,8 @@ fn stretch_alone(
 fn promise_all(plan: &Checked, running: &mut [Running])
     requires running { AreRunning plan.now running.old }
     ensures running { AreRunning plan.now running.new }
-    ensures heard { (ears : List GivenEar) → AreHeard plan.now running.old ears → AreHeard plan.now running.new ears }
+    ensures heard { (ears : List GivenLineAt) → AreHeard plan.now running.old ears
+        → AreHeard plan.now running.new ears }
     ensures left { ticks_left plan.now.end running.new ≤ ticks_left plan.now.end running.old }
 {
     for i in 0..running.len() {
@@ -233,12 +234,12 @@ fn back(alloc: Global, running: &mut [Running], marks: &[Before]) -> Result<(), 
 }
 
 /// Drops all that the places have found.
-fn forget(plan: &Checked, ears: &mut [Ear])
-    requires ears { AreEars plan.now ears.old }
-    ensures ears { AreEars plan.now ears.new }
+fn forget(plan: &Checked, ears: &mut [LineAt])
+    requires ears { AreLines plan.now ears.old }
+    ensures ears { AreLines plan.now ears.new }
     ensures heard { (rs : List GivenRunning) → AreHeard plan.now rs ears.new }
 {
     for j in 0..ears.len() {
-        ears[j] = Ear::new(plan, j);
+        ears[j] = LineAt::new(plan, j);
     }
 }

@@ -3,10 +3,10 @@
 
 mod alone;
 mod checked;
-mod ear;
 mod engine;
 mod guess;
 mod laws;
+mod line_at;
 mod outcome;
 mod pulse;
 mod records;

@@ -2,7 +2,7 @@
 ghost use Rattle.std.specs.Prelude.{◌≡◌, ◌+◌, ◌-◌, ◌<◌, ◌≤◌, ◌^◌, length, slice_index_or};
 ghost use Rattle.wl_record_core.specs.Truth.{count_below, IsIncreasing};
 ghost use Rattle.wl_pulse.specs.Pulses.{IsPulse};
-ghost use Rattle.wl_serial.specs.Heard.{drove};
+ghost use Rattle.wl_serial.specs.LineAt.{drove};
 
 use wl_pulse::Pulse;
 

@@ -1,13 +1,13 @@
 //! A line at rest: all nodes go on at once.
 ghost use Rattle.std.specs.Prelude.{◌≡◌, ℕ, ◌<◌, ◌≤◌, length};
 ghost use Rattle.wl_serial.specs.Engine.{IsEngine};
-ghost use Rattle.wl_serial.specs.Heard.{AreEars, AreHeard};
+ghost use Rattle.wl_serial.specs.LineAt.{AreLines, AreHeard};
 ghost use Rattle.wl_serial.specs.Rest.{AreLifted, AreSilent, AllStand, AllStay};
 ghost use Rattle.wl_serial.specs.Running.{AreRunning, AreKnown};
 
 use crate::checked::Checked;
-use crate::ear::Ear;
 use crate::engine::Engine;
+use crate::line_at::LineAt;
 use crate::running_node::{Running, Ticks};
 
 impl Engine {
@@ -34,9 +34,15 @@ impl Engine {
 /// Returns the tick below which no node changes its drive: the earliest at which a dominant level could arrive anywhere, or a node that has
 /// seen only recessive could drive dominant. It is 0 if that is no later than the tick below which the drive of node `j` is known. `asked`
 /// becomes that tick if all nodes are asked.
-fn rests_until(plan: &Checked, running: &[Running], ears: &[Ear], j: usize, asked: &mut u64) -> u64
+fn rests_until(
+    plan: &Checked,
+    running: &[Running],
+    ears: &[LineAt],
+    j: usize,
+    asked: &mut u64,
+) -> u64
     requires running { AreRunning plan.now running.now }
-    requires ears { AreEars plan.now ears.now }
+    requires ears { AreLines plan.now ears.now }
     requires heard { AreHeard plan.now running.now ears.now }
     requires node { j < length running.now }
     ensures { AllStay plan.now result running.now }
@@ -59,9 +65,9 @@ fn rests_until(plan: &Checked, running: &[Running], ears: &[Ear], j: usize, aske
 }
 
 /// Returns the tick below which nothing dominant arrives at a place from the next quantum of its node on; at most the end.
-fn all_silent_until(plan: &Checked, running: &[Running], ears: &[Ear]) -> u64
+fn all_silent_until(plan: &Checked, running: &[Running], ears: &[LineAt]) -> u64
     requires running { AreRunning plan.now running.now }
-    requires ears { AreEars plan.now ears.now }
+    requires ears { AreLines plan.now ears.now }
     requires heard { AreHeard plan.now running.now ears.now }
     ensures silent { AreSilent plan.now running.now result }
 {

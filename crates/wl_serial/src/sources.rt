@@ -2,7 +2,7 @@
 ghost use Rattle.std.specs.Prelude.{◌≡◌, ◌≢◌, ℕ, ◌<◌, ◌≤◌, ◌^◌, false, length, slice_index_or};
 ghost use Rattle.wl_record_core.specs.Truth.{IsIncreasing};
 ghost use Rattle.wl_topology.specs.Limits.{most_places};
-ghost use Rattle.wl_serial.specs.Heard.{AreDelays, AreTallied, IsAhead, IsAlone, AreSooner, AreSources, IsDriving, IsPulseTold, drove};
+ghost use Rattle.wl_serial.specs.LineAt.{AreDelays, AreTallied, IsAhead, IsAlone, AreSooner, AreSources, IsDriving, IsPulseTold, drove};
 ghost use Rattle.wl_serial.specs.Running.{AreSomewhere};
 
 use crate::checked::Checked;

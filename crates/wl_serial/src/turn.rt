@@ -1,13 +1,13 @@
 //! A node's turn: all its quanta below its horizon.
 ghost use Rattle.std.specs.Prelude.{◌≡◌, ℕ, ◌<◌, ◌≤◌, false, IfOk, OnOk, length};
 ghost use Rattle.wl_serial.specs.Engine.{GoesNext, IsEngine, IsNearer};
-ghost use Rattle.wl_serial.specs.Heard.{AreEars, AreHeard, IsFound};
+ghost use Rattle.wl_serial.specs.LineAt.{AreLines, AreHeard, IsFound};
 ghost use Rattle.wl_serial.specs.Running.{AreRunning, AreSomewhere, KnowsOthers, IsFewer, OnlyOne, RunsBelow};
 ghost use Rattle.wl_serial.specs.Stretch.{HasStretched, TellsTheSame};
 
 use crate::checked::Checked;
-use crate::ear::{Ear, Found, tell};
 use crate::engine::Engine;
+use crate::line_at::{Found, LineAt, tell};
 use crate::running_node::Running;
 use std::alloc::AllocError;
 
@@ -20,7 +20,7 @@ impl Engine {
         ensures nearer { OnOk result (IsNearer plan.now self.old self.new) }
     {
         let nodes: &mut [Running] = &mut self.nodes;
-        let ears: &mut [Ear] = &mut self.ears;
+        let ears: &mut [LineAt] = &mut self.ears;
         let horizon = ears[j].horizon(plan, nodes, &self.known, j);
         run_below(plan, nodes, ears, j, horizon)?;
         nodes[j].promise(plan, j);
@@ -33,18 +33,18 @@ impl Engine {
 fn run_below(
     plan: &Checked,
     running: &mut [Running],
-    ears: &mut [Ear],
+    ears: &mut [LineAt],
     j: usize,
     horizon: u64,
 ) -> Result<(), AllocError>
     requires node { j < length plan.now.nodes }
     requires running { AreRunning plan.now running.old }
-    requires ears { AreEars plan.now ears.old }
+    requires ears { AreLines plan.now ears.old }
     requires heard { AreHeard plan.now running.old ears.old }
     requires known { KnowsOthers plan.now j horizon running.old }
     requires ends { horizon ≤ plan.now.end }
     ensures running { OnOk result (AreRunning plan.now running.new) }
-    ensures ears { OnOk result (AreEars plan.now ears.new) }
+    ensures ears { OnOk result (AreLines plan.now ears.new) }
     ensures heard { OnOk result (AreHeard plan.now running.new ears.new) }
     ensures others { OnOk result (OnlyOne j running.old running.new) }
     ensures fewer { OnOk result (IsFewer plan.now.end horizon j running.old running.new) }
@@ -63,22 +63,22 @@ fn run_below(
 pub(crate) fn stretch(
     plan: &Checked,
     running: &mut [Running],
-    ears: &mut [Ear],
+    ears: &mut [LineAt],
     j: usize,
     until: u64,
 ) -> Result<bool, AllocError>
     requires node { j < length plan.now.nodes }
     requires somewhere { AreSomewhere plan.now running.old }
-    requires ears { AreEars plan.now ears.old }
+    requires ears { AreLines plan.now ears.old }
     requires heard { AreHeard plan.now running.old ears.old }
     requires ends { until ≤ plan.now.end }
     requires below { RunsBelow until running.old j }
-    ensures ears { OnOk result (AreEars plan.now ears.new) }
+    ensures ears { OnOk result (AreLines plan.now ears.new) }
     ensures heard { OnOk result (AreHeard plan.now running.new ears.new) }
     ensures ran { OnOk result (HasStretched plan.now j until running.old running.new) }
     ensures same { IfOk result (λ changed. changed ≡ false → TellsTheSame j running.old running.new) }
 {
-    let found = ears[j].hear(plan, running, j, until);
+    let found = ears[j].level_at(plan, running, j, until);
     let changed = run_found(plan, running, ears, j, found)?;
     Ok(changed)
 }
@@ -89,17 +89,17 @@ pub(crate) fn stretch(
 pub(crate) fn run_found(
     plan: &Checked,
     running: &mut [Running],
-    ears: &mut [Ear],
+    ears: &mut [LineAt],
     j: usize,
     found: Found,
 ) -> Result<bool, AllocError>
     requires node { j < length plan.now.nodes }
     requires somewhere { AreSomewhere plan.now running.old }
-    requires ears { AreEars plan.now ears.old }
+    requires ears { AreLines plan.now ears.old }
     requires heard { AreHeard plan.now running.old ears.old }
     requires ends { found.until ≤ plan.now.end }
     requires found { IsFound plan.now j running.old found }
-    ensures ears { OnOk result (AreEars plan.now ears.new) }
+    ensures ears { OnOk result (AreLines plan.now ears.new) }
     ensures heard { OnOk result (AreHeard plan.now running.new ears.new) }
     ensures ran { OnOk result (HasStretched plan.now j found.until running.old running.new) }
     ensures same { IfOk result (λ changed. changed ≡ false → TellsTheSame j running.old running.new) }

@@ -2,7 +2,7 @@
 use Rattle.std.specs.Prelude.{◌≡◌, ℕ, ◌<◌, ◌≤◌, min, Bool, false, List, length, slice_index_or}
 use Rattle.wl_plan.specs.declared.plan.Plan.{Plan}
 use Rattle.wl_plan.specs.PlanLine.{disturbed}
-use Rattle.wl_serial.specs.Heard.{comes}
+use Rattle.wl_serial.specs.LineAt.{comes}
 use Rattle.wl_pulse.specs.declared.pulse.Pulse.{Pulse}
 use Rattle.wl_views.specs.declared.place_line.PlaceLine.{PlaceLine}
 use Rattle.wl_views.specs.Signals.{driven_at}

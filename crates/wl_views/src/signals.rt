@@ -8,7 +8,7 @@ ghost use Rattle.wl_plan.specs.Limits.{latest_end};
 ghost use Rattle.wl_plan.specs.Line.{found};
 ghost use Rattle.wl_plan.specs.PlanLine.{disturbed, is_at, line_of};
 ghost use Rattle.wl_plan.specs.Simulation.{level};
-ghost use Rattle.wl_serial.specs.Heard.{comes};
+ghost use Rattle.wl_serial.specs.LineAt.{comes};
 ghost use Rattle.wl_serial.specs.Outcome.{outcome_of};
 ghost use Rattle.wl_views.specs.Limits.{longest_node_changes, longest_tick_changes, piece_room};
 ghost use Rattle.wl_views.specs.PlaceLine.{Comes, Lasts};

@@ -1,7 +1,7 @@
 -- The node that ran on is in its place, and the others stay.
 use Rattle.std.proofs.Common.{◌∙◌, ◌<◌, length, get_or, sym, ap, subst, arith}
 use Rattle.std.proofs.lemmas.List.{get_or_default}
-use Rattle.wl_serial.specs.Heard.{AreHeard}
+use Rattle.wl_serial.specs.LineAt.{AreHeard}
 use Rattle.wl_serial.specs.Running.{by_quanta, one_more}
 use Rattle.wl_serial.proofs.Along.{along_few, along_length, along_set, along_stretched}
 use Rattle.wl_serial.proofs.Hearing.{heard_same}

@@ -1,9 +1,9 @@
 use Rattle.std.proofs.Common.{◌≡◌, ℕ, ◌<◌, List, length, slice_index_or}
-use Rattle.wl_serial.specs.declared.ear.Ear.{Ear}
+use Rattle.wl_serial.specs.declared.line_at.LineAt.{LineAt}
 use Rattle.wl_serial.specs.declared.running_node.Running.{Running}
-use Rattle.wl_serial.specs.Heard.{IsEar, IsHeard}
+use Rattle.wl_serial.specs.LineAt.{IsLineAt, IsHeard}
 use Rattle.wl_serial.proofs.engine.listen.Given as goal
 
 abbrev pub invariant-loop-j : goal.invariant-loop-j
-invariant-loop-j l = (length l.ears.items ≡ l.j) × ((i : ℕ) (d : Ear) → i < length l.ears.items → IsEar l.plan i (slice_index_or l.ears.items i d))
-    × ((rs : List Running) (i : ℕ) (d : Ear) → i < length l.ears.items → IsHeard l.plan rs i (slice_index_or l.ears.items i d))
+invariant-loop-j l = (length l.ears.items ≡ l.j) × ((i : ℕ) (d : LineAt) → i < length l.ears.items → IsLineAt l.plan i (slice_index_or l.ears.items i d))
+    × ((rs : List Running) (i : ℕ) (d : LineAt) → i < length l.ears.items → IsHeard l.plan rs i (slice_index_or l.ears.items i d))

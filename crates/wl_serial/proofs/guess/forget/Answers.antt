@@ -3,7 +3,7 @@ use Rattle.std.proofs.Common.{◌<◌, inl, inr, length, get_or, sym, subst, ari
 use Rattle.std.proofs.Math.ListN.{set}
 use Rattle.std.proofs.lemmas.Bool.{cases_eq}
 use Rattle.std.proofs.lemmas.List.{get_or-set_other, get_or-set_same}
-use Rattle.wl_serial.specs.Heard.{IsHeard}
+use Rattle.wl_serial.specs.LineAt.{IsHeard}
 use Rattle.wl_serial.proofs.Runners.{ear_on}
 use Rattle.wl_serial.proofs.guess.forget.Goals as goal
 

@@ -1,14 +1,14 @@
 use Rattle.std.proofs.Common.{◌<◌, ◌≤◌, get_or}
 use Rattle.wl_serial.specs.declared.running_node.Running.{Running}
 use Rattle.wl_serial.specs.Guess.{RanAlone}
-use Rattle.wl_serial.specs.Heard.{AreEars, AreHeard}
+use Rattle.wl_serial.specs.LineAt.{AreLines, AreHeard}
 use Rattle.wl_serial.specs.Running.{AreSomewhere, ticks_left}
 use Rattle.wl_serial.proofs.guess.lead.Given as goal
 
 -- the node has run alone
 abbrev pub invariant-loop-running : goal.invariant-loop-running
 invariant-loop-running l =
-    AreEars l.plan l.ears
+    AreLines l.plan l.ears
     × AreHeard l.plan l.running l.ears
     × AreSomewhere l.plan l.running
     × RanAlone l.plan l.j l.plan.end l.fn.running l.running

@@ -1,5 +1,5 @@
 use Rattle.wl_serial.specs.Guess.{RanAlone}
-use Rattle.wl_serial.specs.Heard.{AreEars, AreHeard}
+use Rattle.wl_serial.specs.LineAt.{AreLines, AreHeard}
 use Rattle.wl_serial.specs.Running.{AreSomewhere, ticks_left}
 use Rattle.wl_serial.specs.Stretch.{TellsTheSame}
 use Rattle.wl_serial.proofs.guess.listen.Given as goal
@@ -7,7 +7,7 @@ use Rattle.wl_serial.proofs.guess.listen.Given as goal
 -- the node has run alone, and told nothing
 abbrev pub invariant-loop-running : goal.invariant-loop-running
 invariant-loop-running l =
-    AreEars l.plan l.ears
+    AreLines l.plan l.ears
     × AreHeard l.plan l.running l.ears
     × AreSomewhere l.plan l.running
     × RanAlone l.plan l.i l.until l.fn.running l.running

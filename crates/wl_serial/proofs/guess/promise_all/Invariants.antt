@@ -1,6 +1,6 @@
 use Rattle.std.proofs.Common.{List, ◌≤◌}
-use Rattle.wl_serial.specs.declared.ear.Ear.{Ear}
-use Rattle.wl_serial.specs.Heard.{AreHeard}
+use Rattle.wl_serial.specs.declared.line_at.LineAt.{LineAt}
+use Rattle.wl_serial.specs.LineAt.{AreHeard}
 use Rattle.wl_serial.specs.Running.{AreRunning, ticks_left}
 use Rattle.wl_serial.proofs.guess.promise_all.Given as goal
 
@@ -8,5 +8,5 @@ use Rattle.wl_serial.proofs.guess.promise_all.Given as goal
 abbrev pub invariant-loop-i : goal.invariant-loop-i
 invariant-loop-i l =
     AreRunning l.plan l.running
-    × ((ears : List Ear) → AreHeard l.plan l.fn.running ears → AreHeard l.plan l.running ears)
+    × ((ears : List LineAt) → AreHeard l.plan l.fn.running ears → AreHeard l.plan l.running ears)
     × (ticks_left l.plan.end l.running ≤ ticks_left l.plan.end l.fn.running)

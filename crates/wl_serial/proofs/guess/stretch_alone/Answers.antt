@@ -6,19 +6,19 @@ use Rattle.wl_serial.proofs.guess.stretch_alone.Goals as goal
 
 pub run_alone-requires-clause-ears : goal.run_alone-requires-clause-ears
 run_alone-requires-clause-ears c =
-    ear_on c.args.plan.now c.args.i c.args.ears.now c.hear-found.new.self (omega (arith, c.requires.node, c.requires.ears.all)) c.requires.ears c.hear-found.ensures.ear
+    ear_on c.args.plan.now c.args.i c.args.ears.now c.level_at-found.new.self (omega (arith, c.requires.node, c.requires.ears.all)) c.requires.ears c.level_at-found.ensures.ear
 
 pub run_alone-requires-clause-heard : goal.run_alone-requires-clause-heard
 run_alone-requires-clause-heard c =
-    heard_anew c.args.plan.now c.args.running.now c.args.i c.args.ears.now c.hear-found.new.self (omega (arith, c.requires.node, c.requires.ears.all)) c.hear-found.ensures.heard c.requires.heard
+    heard_anew c.args.plan.now c.args.running.now c.args.i c.args.ears.now c.level_at-found.new.self (omega (arith, c.requires.node, c.requires.ears.all)) c.level_at-found.ensures.heard c.requires.heard
 
 pub run_found-requires-clause-ears : goal.run_found-requires-clause-ears
 run_found-requires-clause-ears c =
-    ear_on c.args.plan.now c.args.i c.args.ears.now c.hear-found.new.self (omega (arith, c.requires.node, c.requires.ears.all)) c.requires.ears c.hear-found.ensures.ear
+    ear_on c.args.plan.now c.args.i c.args.ears.now c.level_at-found.new.self (omega (arith, c.requires.node, c.requires.ears.all)) c.requires.ears c.level_at-found.ensures.ear
 
 pub run_found-requires-clause-heard : goal.run_found-requires-clause-heard
 run_found-requires-clause-heard c =
-    heard_anew c.args.plan.now c.args.running.now c.args.i c.args.ears.now c.hear-found.new.self (omega (arith, c.requires.node, c.requires.ears.all)) c.hear-found.ensures.heard c.requires.heard
+    heard_anew c.args.plan.now c.args.running.now c.args.i c.args.ears.now c.level_at-found.new.self (omega (arith, c.requires.node, c.requires.ears.all)) c.level_at-found.ensures.heard c.requires.heard
 
 pub returns-then-running-i-clause-ran : goal.returns-then-running-i-clause-ran
 returns-then-running-i-clause-ran c =
@@ -26,4 +26,4 @@ returns-then-running-i-clause-ran c =
 
 pub returns-clause-ran : goal.returns-clause-ran
 returns-clause-ran c =
-    stretched_less c.args.plan.now c.args.i c.hear-found.result.until c.args.until c.args.running.now c.run_found.new.running c.hear-found.ensures.few c.in_ok-changed-2.ensures.ran
+    stretched_less c.args.plan.now c.args.i c.level_at-found.result.until c.args.until c.args.running.now c.run_found.new.running c.level_at-found.ensures.few c.in_ok-changed-2.ensures.ran

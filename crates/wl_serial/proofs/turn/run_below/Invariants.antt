@@ -1,5 +1,5 @@
 use Rattle.std.proofs.Common.{◌≡◌, ◌⊎◌, ◌<◌}
-use Rattle.wl_serial.specs.Heard.{AreEars, AreHeard}
+use Rattle.wl_serial.specs.LineAt.{AreLines, AreHeard}
 use Rattle.wl_serial.specs.Running.{AreRunning, KnowsOthers, OnlyOne, ticks_left}
 use Rattle.wl_serial.proofs.turn.run_below.Given as goal
 
@@ -7,7 +7,7 @@ use Rattle.wl_serial.proofs.turn.run_below.Given as goal
 abbrev pub invariant-loop-running : goal.invariant-loop-running
 invariant-loop-running l =
     AreRunning l.plan l.running
-    × AreEars l.plan l.ears
+    × AreLines l.plan l.ears
     × AreHeard l.plan l.running l.ears
     × OnlyOne l.j l.fn.running l.running
     × KnowsOthers l.plan l.j l.horizon l.running

@@ -6,12 +6,12 @@ use Rattle.wl_serial.proofs.turn.stretch.Goals as goal
 
 pub run_found-requires-clause-ears : goal.run_found-requires-clause-ears
 run_found-requires-clause-ears c =
-    ear_on c.args.plan.now c.args.j c.args.ears.now c.hear-found.new.self (omega (arith, c.requires.node, c.requires.ears.all)) c.requires.ears c.hear-found.ensures.ear
+    ear_on c.args.plan.now c.args.j c.args.ears.now c.level_at-found.new.self (omega (arith, c.requires.node, c.requires.ears.all)) c.requires.ears c.level_at-found.ensures.ear
 
 pub run_found-requires-clause-heard : goal.run_found-requires-clause-heard
 run_found-requires-clause-heard c =
-    heard_anew c.args.plan.now c.args.running.now c.args.j c.args.ears.now c.hear-found.new.self (omega (arith, c.requires.node, c.requires.ears.all)) c.hear-found.ensures.heard c.requires.heard
+    heard_anew c.args.plan.now c.args.running.now c.args.j c.args.ears.now c.level_at-found.new.self (omega (arith, c.requires.node, c.requires.ears.all)) c.level_at-found.ensures.heard c.requires.heard
 
 pub returns-clause-ran : goal.returns-clause-ran
 returns-clause-ran c =
-    stretched_less c.args.plan.now c.args.j c.hear-found.result.until c.args.until c.args.running.now c.run_found.new.running c.hear-found.ensures.few c.in_ok-changed.ensures.ran
+    stretched_less c.args.plan.now c.args.j c.level_at-found.result.until c.args.until c.args.running.now c.run_found.new.running c.level_at-found.ensures.few c.in_ok-changed.ensures.ran

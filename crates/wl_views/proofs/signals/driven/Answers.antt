@@ -4,7 +4,7 @@ use Rattle.std.proofs.lemmas.Bool.{cases_eq, cases_lt}
 use Rattle.wl_topology.proofs.Callers.{any_from, any_none}
 use Rattle.wl_plan.specs.declared.plan.Plan.{Plan}
 use Rattle.wl_pulse.specs.declared.pulse.Pulse.{Pulse}
-use Rattle.wl_serial.specs.Heard.{comes}
+use Rattle.wl_serial.specs.LineAt.{comes}
 use Rattle.wl_views.specs.PlaceLine.{Comes, Lasts, not_held}
 use Rattle.wl_views.proofs.signals.driven.Goals as goal
 

@@ -1,5 +1,5 @@
 use Rattle.std.proofs.Common.{◌≡◌, ℕ, ◌<◌, ◌≤◌, false, length}
-use Rattle.wl_serial.specs.Heard.{comes}
+use Rattle.wl_serial.specs.LineAt.{comes}
 use Rattle.wl_views.specs.PlaceLine.{Comes}
 use Rattle.wl_views.proofs.signals.driven.Given as goal
 

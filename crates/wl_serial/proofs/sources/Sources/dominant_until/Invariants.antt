@@ -1,5 +1,5 @@
 use Rattle.std.proofs.Common.{ℕ, ◌<◌}
-use Rattle.wl_serial.specs.Heard.{IsDriving}
+use Rattle.wl_serial.specs.LineAt.{IsDriving}
 use Rattle.wl_serial.proofs.sources.Sources.dominant_until.Given as goal
 
 -- one of the nodes goes on up to there

@@ -3,7 +3,7 @@ use Rattle.std.proofs.Common.{◌∙◌, ◌<◌, ap, refl, sym, subst, get_or, 
 use Rattle.std.proofs.lemmas.List.{get_or_default}
 use Rattle.wl_record_core.specs.Truth.{IsIncreasing}
 use Rattle.wl_topology.specs.Delays.{delay_of}
-use Rattle.wl_serial.specs.Heard.{drove}
+use Rattle.wl_serial.specs.LineAt.{drove}
 use Rattle.wl_serial.proofs.Kept.{is_node, sources_taken, told_by, until_ahead}
 use Rattle.wl_serial.proofs.sources.Sources.hear.Goals as goal
 use Rattle.wl_serial.proofs.sources.Sources.hear.Goals.{then-self-i, else-self-i}

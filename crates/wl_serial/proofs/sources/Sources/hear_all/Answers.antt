@@ -3,7 +3,7 @@ use Rattle.std.proofs.Common.{◌∙◌, ◌<◌, ap, refl, sym, subst, get_or, 
 use Rattle.std.proofs.lemmas.List.{get_or_default}
 use Rattle.wl_record_core.specs.Truth.{IsIncreasing}
 use Rattle.wl_topology.specs.Delays.{delay_of}
-use Rattle.wl_serial.specs.Heard.{drove}
+use Rattle.wl_serial.specs.LineAt.{drove}
 use Rattle.wl_serial.proofs.Kept.{is_node, sources_taken, others_one_more, told_longer, until_one_more}
 use Rattle.wl_serial.proofs.sources.Sources.hear_all.Goals as goal
 use Rattle.wl_serial.proofs.sources.Sources.hear_all.Goals.{then-self-i, else-self-i}

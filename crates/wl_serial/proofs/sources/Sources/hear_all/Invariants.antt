@@ -1,6 +1,6 @@
 use Rattle.std.proofs.Common.{ℕ, ◌<◌, ◌≤◌, ◌≢◌, length, get_or}
 use Rattle.wl_topology.specs.Limits.{most_places}
-use Rattle.wl_serial.specs.Heard.{AreTallied, AreSources}
+use Rattle.wl_serial.specs.LineAt.{AreTallied, AreSources}
 use Rattle.wl_serial.proofs.sources.Sources.hear_all.Given as goal
 
 -- from the nodes so far nothing more comes before then

@@ -4,7 +4,7 @@ use Rattle.std.proofs.Math.ListN.{set}
 use Rattle.wl_serial.proofs.Expected.{ear_told, heard_told}
 use Rattle.wl_serial.proofs.Hearing.{told_one_more}
 use Rattle.wl_serial.proofs.Runners.{ear_on}
-use Rattle.wl_serial.proofs.ear.tell.Goals as goal
+use Rattle.wl_serial.proofs.line_at.tell.Goals as goal
 
 pub loop-m-init : goal.loop-m-init
 loop-m-init c = (c.requires.ears, λ rs r inside are changed k d b. ((λ none. absurd (omega (arith, none))), (λ later. are k d b)))

@@ -2,7 +2,7 @@
 use Rattle.std.proofs.Common.{◌≡◌, ◌<◌, length, subst, arith}
 use Rattle.std.proofs.lemmas.List.{get_or_default}
 use Rattle.wl_serial.proofs.Known.{IsHorizon, horizon_one_more, knows_others}
-use Rattle.wl_serial.proofs.ear.Ear.horizon.Goals as goal
+use Rattle.wl_serial.proofs.line_at.LineAt.horizon.Goals as goal
 
 pub loop-i-preserved : goal.loop-i-preserved
 loop-i-preserved c =

@@ -2,7 +2,7 @@
 ghost use Rattle.std.specs.Prelude.{◌≡◌, ℕ, ◌+◌, ◌<◌, ◌≤◌, ◌^◌, ◌||◌, List, length, set, slice_index_or};
 ghost use Rattle.wl_level.specs.Levels.{level_of};
 ghost use Rattle.wl_plan.specs.declared.plan.Plan.{Plan as GivenPlan};
-ghost use Rattle.wl_serial.specs.Heard.{AreDelays, AreOthers, AreSooner, IsEar, AreEars, IsFound, IsHeard, AreHeard, HasChanged, HearsOnly};
+ghost use Rattle.wl_serial.specs.LineAt.{AreDelays, AreOthers, AreSooner, IsLineAt, AreLines, IsFound, IsHeard, AreHeard, HasChanged, HearsOnly};
 ghost use Rattle.wl_serial.specs.Rest.{IsSilent};
 ghost use Rattle.wl_serial.specs.Running.{AreRunning, AreSomewhere, AreKnown, KnowsOthers, RunsBelow, AllKnown};
 
@@ -16,7 +16,7 @@ use wl_topology::MOST_NODES;
 /// What a place keeps of the line. It has the delay from each node and from each other node, and what arrives from each node. It has what
 /// the disturbances make, and what the nodes make by the changes that are known.
 #[derive(Drop)]
-pub(crate) struct Ear {
+pub(crate) struct LineAt {
     pub(crate) delays: Ticks,
     pub(crate) others: Ticks,
     pub(crate) sources: Sources,
@@ -31,14 +31,14 @@ pub(crate) struct Found {
     pub(crate) level: Level,
 }
 
-impl Ear {
-    /// Returns the ear of node `j`, which has heard nothing.
-    pub(crate) fn new(plan: &Checked, j: usize) -> Ear
+impl LineAt {
+    /// Returns the line at the place of node `j`, before anything is heard.
+    pub(crate) fn new(plan: &Checked, j: usize) -> LineAt
         requires node { j < length plan.now.nodes }
-        ensures ear { IsEar plan.now j result }
+        ensures ear { IsLineAt plan.now j result }
         ensures heard { (running : List Running) → IsHeard plan.now running j result }
     {
-        Ear {
+        LineAt {
             delays: delays_to(plan, j),
             others: delays_of_others(plan, j),
             sources: Sources::new(plan),
@@ -58,7 +58,7 @@ impl Ear {
         requires running { AreRunning plan.now running.now }
         requires known { AreKnown plan.now.end running.now known.now }
         requires node { j < length plan.now.nodes }
-        requires ear { IsEar plan.now j self.now }
+        requires ear { IsLineAt plan.now j self.now }
         ensures known { KnowsOthers plan.now j result running.now }
         ensures ends { result ≤ plan.now.end }
         ensures later { (t : ℕ) → t < plan.now.end → AllKnown t running.now → t < result }
@@ -72,7 +72,7 @@ impl Ear {
     }
 
     /// Returns what node `j` finds from its next quantum on, below a tick, by the changes that are known.
-    pub(crate) fn hear(
+    pub(crate) fn level_at(
         &mut self,
         plan: &Checked,
         running: &[Running],
@@ -81,18 +81,18 @@ impl Ear {
     ) -> Found
         requires node { j < length plan.now.nodes }
         requires somewhere { AreSomewhere plan.now running.now }
-        requires ear { IsEar plan.now j self.old }
+        requires ear { IsLineAt plan.now j self.old }
         requires ends { until ≤ plan.now.end }
         requires below { RunsBelow until running.now j }
         requires heard { IsHeard plan.now running.now j self.old }
-        ensures ear { IsEar plan.now j self.new }
+        ensures ear { IsLineAt plan.now j self.new }
         ensures heard { IsHeard plan.now running.now j self.new }
         ensures few { result.until ≤ until }
         ensures found { IsFound plan.now j running.now result }
     {
         plan.laws();
         let t = running[j].next;
-        self.hear_anew(plan, running, j, t);
+        self.refresh(plan, running, j, t);
         if self.shaken.until <= t {
             self.shaken = disturbed_at(plan, j, t);
         }
@@ -106,7 +106,7 @@ impl Ear {
     /// disturbances.
     pub(crate) fn silent_until(&self, running: &[Running], j: usize) -> u64
         requires node { j < length running.now }
-        ensures { (plan : GivenPlan) (d : Running) → IsEar plan j self.now → IsHeard plan running.now j self.now
+        ensures { (plan : GivenPlan) (d : Running) → IsLineAt plan j self.now → IsHeard plan running.now j self.now
             → IsSilent plan running.now j (slice_index_or running.now j d).next result }
     {
         if self.heard.dominant || self.shaken.dominant {
@@ -121,7 +121,7 @@ impl Ear {
         requires node { i < length plan.now.nodes }
         requires leader { j < length plan.now.nodes }
         requires all { length running.now ≡ length plan.now.nodes }
-        requires ear { IsEar plan.now i self.now }
+        requires ear { IsLineAt plan.now i self.now }
         requires heard { IsHeard plan.now running.now i self.now }
         ensures { HearsOnly plan.now running.now j i result }
     {
@@ -133,14 +133,14 @@ impl Ear {
     }
 
     /// Asks what arrives from the nodes, if the last answer doesn't say it for tick `t`, at which node `j` has its next quantum.
-    fn hear_anew(&mut self, plan: &Checked, running: &[Running], j: usize, t: u64)
+    fn refresh(&mut self, plan: &Checked, running: &[Running], j: usize, t: u64)
         requires node { j < length plan.now.nodes }
         requires somewhere { AreSomewhere plan.now running.now }
         requires early { t < 2 ^ 63 }
         requires next { (d : Running) → t ≡ (slice_index_or running.now j d).next }
-        requires ear { IsEar plan.now j self.old }
+        requires ear { IsLineAt plan.now j self.old }
         requires heard { IsHeard plan.now running.now j self.old }
-        ensures ear { IsEar plan.now j self.new }
+        ensures ear { IsLineAt plan.now j self.new }
         ensures heard { IsHeard plan.now running.now j self.new }
         ensures from { self.new.heard.from ≤ t }
         ensures until { t < self.new.heard.until }
@@ -199,10 +199,10 @@ fn delays_of_others(plan: &Checked, j: usize) -> Ticks
 }
 
 /// Notes for all places that node `i` changed its drive at this tick.
-pub(crate) fn tell(plan: &Checked, ears: &mut [Ear], i: usize, tick: u64)
-    requires ears { AreEars plan.now ears.old }
+pub(crate) fn tell(plan: &Checked, ears: &mut [LineAt], i: usize, tick: u64)
+    requires ears { AreLines plan.now ears.old }
     requires node { i < length plan.now.nodes }
-    ensures ears { AreEars plan.now ears.new }
+    ensures ears { AreLines plan.now ears.new }
     ensures heard { (rs : List Running) (r : Running) → i < length rs → AreHeard plan.now rs ears.old
         → HasChanged i tick rs r → AreHeard plan.now (set rs i r) ears.new }
 {

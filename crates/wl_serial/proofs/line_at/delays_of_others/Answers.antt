@@ -1,8 +1,8 @@
 -- The delay from each other node stands at its number.
 use Rattle.std.proofs.Common.{◌<◌, length, arith}
 use Rattle.wl_serial.proofs.Known.{others_more, own_left_out}
-use Rattle.wl_serial.proofs.ear.delays_of_others.Goals as goal
-use Rattle.wl_serial.proofs.ear.delays_of_others.Goals.{then-i-j, else-i-j}
+use Rattle.wl_serial.proofs.line_at.delays_of_others.Goals as goal
+use Rattle.wl_serial.proofs.line_at.delays_of_others.Goals.{then-i-j, else-i-j}
 
 pub loop-i-preserved : goal.loop-i-preserved
 loop-i-preserved c =

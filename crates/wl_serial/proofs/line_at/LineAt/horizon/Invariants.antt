@@ -1,5 +1,5 @@
 use Rattle.wl_serial.proofs.Known.{IsHorizon}
-use Rattle.wl_serial.proofs.ear.Ear.horizon.Given as goal
+use Rattle.wl_serial.proofs.line_at.LineAt.horizon.Given as goal
 
 -- what comes from the nodes so far is known below the horizon
 abbrev pub invariant-loop-i : goal.invariant-loop-i

@@ -13,9 +13,9 @@ use Rattle.wl_plan.specs.Line.{found}
 use Rattle.wl_plan.specs.Simulation.{level}
 use Rattle.wl_pulse.specs.declared.pulse.Pulse.{Pulse}
 use Rattle.wl_pulse.specs.Pulses.{IsPulse}
-use Rattle.wl_serial.specs.declared.ear.Ear.{Ear}
+use Rattle.wl_serial.specs.declared.line_at.LineAt.{LineAt}
 use Rattle.wl_serial.specs.declared.sources.Sources.{Sources}
-use Rattle.wl_serial.specs.declared.ear.Found.{Found}
+use Rattle.wl_serial.specs.declared.line_at.Found.{Found}
 use Rattle.wl_serial.specs.declared.running_node.Running.{Running}
 
 -- whether a node with these changes drove dominant a delay before tick t
@@ -58,7 +58,7 @@ abbrev pub IsDriving : ℕ → ℕ → Sources → Type 0
 IsDriving n u s = (i : ℕ) × (i < n) × (slice_index_or s.drives i false ≡ true) × (u < slice_index_or s.nexts i 0)
 
 -- what a place keeps
-pub record IsEar (plan : Plan) (j : ℕ) (ear : Ear) : Type 0 where
+pub record IsLineAt (plan : Plan) (j : ℕ) (ear : LineAt) : Type 0 where
   pub delays : AreDelays plan j ear.delays
   pub sources : AreTallied (length plan.nodes) ear.sources
   pub ahead : IsAhead ear.sources
@@ -66,9 +66,9 @@ pub record IsEar (plan : Plan) (j : ℕ) (ear : Ear) : Type 0 where
   pub shaken : IsPulse (disturbed plan j) ear.shaken
 
 -- of each place
-pub record AreEars (plan : Plan) (ears : List Ear) : Type 0 where
+pub record AreLines (plan : Plan) (ears : List LineAt) : Type 0 where
   pub all : length ears ≡ length plan.nodes
-  pub each : (j : ℕ) (d : Ear) → j < length ears → IsEar plan j (slice_index_or ears j d)
+  pub each : (j : ℕ) (d : LineAt) → j < length ears → IsLineAt plan j (slice_index_or ears j d)
 
 -- whether the changes of node i tell that it drives dominant at tick u
 abbrev pub tells : List Running → Running → ℕ → ℕ → Bool
@@ -95,15 +95,15 @@ pub record AreSooner (i comes : ℕ) (old new : Sources) : Type 0 where
   pub ahead : IsAhead old → IsAhead new
 
 -- What place j has heard, and what it knows of disturbances, from ticks on that are no later than its next quantum.
-pub record IsHeard (plan : Plan) (rs : List Running) (j : ℕ) (ear : Ear) : Type 0 where
+pub record IsHeard (plan : Plan) (rs : List Running) (j : ℕ) (ear : LineAt) : Type 0 where
   pub told : IsPulseTold plan rs j ear.heard
   pub sources : AreSources plan rs j ear.heard.from ear.sources
   pub begun : (d : Running) → ear.heard.from ≤ (slice_index_or rs j d).next
   pub shaken : (d : Running) → ear.shaken.from ≤ (slice_index_or rs j d).next
 
 -- at each place
-abbrev pub AreHeard : Plan → List Running → List Ear → Type 0
-AreHeard plan rs ears = (j : ℕ) (d : Ear) → j < length ears → IsHeard plan rs j (slice_index_or ears j d)
+abbrev pub AreHeard : Plan → List Running → List LineAt → Type 0
+AreHeard plan rs ears = (j : ℕ) (d : LineAt) → j < length ears → IsHeard plan rs j (slice_index_or ears j d)
 
 -- node i has run on, and told one change more, at this tick
 abbrev pub HasChanged : ℕ → ℕ → List Running → Running → Type 0

@@ -1,12 +1,12 @@
 use Rattle.std.proofs.Common.{◌<◌, List, length}
 use Rattle.std.proofs.Math.ListN.{set}
 use Rattle.wl_serial.specs.declared.running_node.Running.{Running}
-use Rattle.wl_serial.specs.Heard.{AreEars, AreHeard, HasChanged}
+use Rattle.wl_serial.specs.LineAt.{AreLines, AreHeard, HasChanged}
 use Rattle.wl_serial.proofs.Hearing.{AreTold}
-use Rattle.wl_serial.proofs.ear.tell.Given as goal
+use Rattle.wl_serial.proofs.line_at.tell.Given as goal
 
 -- the ears so far are told
 abbrev pub invariant-loop-m : goal.invariant-loop-m
 invariant-loop-m l =
-    AreEars l.plan l.ears
+    AreLines l.plan l.ears
     × ((rs : List Running) (r : Running) → l.i < length rs → AreHeard l.plan rs l.fn.ears → HasChanged l.i l.tick rs r → AreTold l.plan rs (set rs l.i r) l.ears l.m)

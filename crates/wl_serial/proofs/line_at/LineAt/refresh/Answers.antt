@@ -1,7 +1,7 @@
 -- What was heard began no later than the next quantum.
 use Rattle.std.proofs.Common.{arith}
 use Rattle.wl_serial.proofs.Known.{one_of}
-use Rattle.wl_serial.proofs.ear.Ear.hear_anew.Goals as goal
+use Rattle.wl_serial.proofs.line_at.LineAt.refresh.Goals as goal
 
 pub returns-else-self-t-clause-from : goal.returns-else-self-t-clause-from
 returns-else-self-t-clause-from c =

@@ -1,7 +1,7 @@
 -- Below that tick nothing else is there.
 use Rattle.std.proofs.Common.{arith, length}
 use Rattle.wl_serial.proofs.Only.{hears_only}
-use Rattle.wl_serial.proofs.ear.Ear.alone_until.Goals as goal
+use Rattle.wl_serial.proofs.line_at.LineAt.alone_until.Goals as goal
 
 pub returns : goal.returns
 returns c =
