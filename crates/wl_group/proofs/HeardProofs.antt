@@ -16,7 +16,7 @@ use Rattle.wl_plan.specs.Simulation.{level, changes}
 use Rattle.wl_plan.specs.Sound.{IsSound}
 use Rattle.wl_pulse.specs.declared.pulse.Pulse.{Pulse}
 use Rattle.wl_group.specs.GroupLaws.{WaveIsLevel}
-use Rattle.wl_group.specs.Heard.{AreNotAfter, HasComeBy, IsShaken, IsStretch, no_stretch, AreStretches, AreShaken}
+use Rattle.wl_group.specs.Heard.{AreNotAfter, HasComeBy, IsDisturbed, IsStretch, no_stretch, AreStretches, AreDisturbed}
 
 -- ---- one node
 
@@ -87,14 +87,14 @@ nothing_at (suc n) (suc i) = nothing_at n i
 empty_stretch : (l : Line) (j : ℕ) → IsStretch l j no_stretch
 empty_stretch l j t from until = absurd (omega arith)
 
-empty_shaken : (plan : Plan) (j : ℕ) → IsShaken plan j no_stretch
-empty_shaken plan j t from until = absurd (omega arith)
+empty_disturbed : (plan : Plan) (j : ℕ) → IsDisturbed plan j no_stretch
+empty_disturbed plan j t from until = absurd (omega arith)
 
 pub nothing_heard : (l : Line) (n : ℕ) → AreStretches l (replicate n no_stretch)
 nothing_heard l n j = subst (IsStretch l j) (sym (nothing_at n j)) (empty_stretch l j)
 
-pub nothing_shaken : (plan : Plan) (n : ℕ) → AreShaken plan (replicate n no_stretch)
-nothing_shaken plan n j = subst (IsShaken plan j) (sym (nothing_at n j)) (empty_shaken plan j)
+pub nothing_disturbed : (plan : Plan) (n : ℕ) → AreDisturbed plan (replicate n no_stretch)
+nothing_disturbed plan n j = subst (IsDisturbed plan j) (sym (nothing_at n j)) (empty_disturbed plan j)
 
 -- with another stretch at one place
 one_set : (P : ℕ → Pulse → Type 0) → ((j : ℕ) → P j no_stretch) → (xs : List Pulse) (i : ℕ) (new : Pulse)
@@ -112,5 +112,5 @@ one_set P empty xs i new are is j = elim (cases_eq j i) [
 pub one_more_heard : (l : Line) (heard : List Pulse) (i : ℕ) (new : Pulse) → AreStretches l heard → IsStretch l i new → AreStretches l (slice_set heard i new)
 one_more_heard l heard i new are is = one_set (IsStretch l) (empty_stretch l) heard i new are is
 
-pub one_more_shaken : (plan : Plan) (shaken : List Pulse) (i : ℕ) (new : Pulse) → AreShaken plan shaken → IsShaken plan i new → AreShaken plan (slice_set shaken i new)
-one_more_shaken plan shaken i new are is = one_set (IsShaken plan) (empty_shaken plan) shaken i new are is
+pub one_more_disturbed : (plan : Plan) (disturbances : List Pulse) (i : ℕ) (new : Pulse) → AreDisturbed plan disturbances → IsDisturbed plan i new → AreDisturbed plan (slice_set disturbances i new)
+one_more_disturbed plan disturbances i new are is = one_set (IsDisturbed plan) (empty_disturbed plan) disturbances i new are is

@@ -45,8 +45,8 @@ abbrev pub IsStretch : Line → ℕ → Pulse → Type 0
 IsStretch l j s = IsPulse (found l (level l) j) s
 
 -- whether it finds a disturbance
-abbrev pub IsShaken : Plan → ℕ → Pulse → Type 0
-IsShaken plan j s = IsPulse (disturbed plan j) s
+abbrev pub IsDisturbed : Plan → ℕ → Pulse → Type 0
+IsDisturbed plan j s = IsPulse (disturbed plan j) s
 
 -- a stretch of no tick
 abbrev pub no_stretch : Pulse
@@ -56,11 +56,11 @@ no_stretch = record { from = 0; until = 0; dominant = false }
 abbrev pub AreStretches : Line → List Pulse → Type 0
 AreStretches l heard = (j : ℕ) → IsStretch l j (slice_index_or heard j no_stretch)
 
-abbrev pub AreShaken : Plan → List Pulse → Type 0
-AreShaken plan shaken = (j : ℕ) → IsShaken plan j (slice_index_or shaken j no_stretch)
+abbrev pub AreDisturbed : Plan → List Pulse → Type 0
+AreDisturbed plan disturbances = (j : ℕ) → IsDisturbed plan j (slice_index_or disturbances j no_stretch)
 
 -- What a group keeps, with what its members found last.
-pub record IsKeptWithStretches (plan : Plan) (cells : List (Option Cell)) (replica : State) (emitted : List Record) (heard shakes : List Pulse) : Type 0 where
+pub record IsKeptWithStretches (plan : Plan) (cells : List (Option Cell)) (replica : State) (emitted : List Record) (heard pulses : List Pulse) : Type 0 where
   pub kept : IsKept plan cells replica emitted
   pub stretches : AreStretches (line_of plan) heard
-  pub shaken : AreShaken plan shakes
+  pub disturbances : AreDisturbed plan pulses

@@ -15,7 +15,7 @@ use crate::advance::{append, make_room, prepare};
 use crate::answer::Emission;
 use crate::cell::Cell;
 use crate::group::Group;
-use crate::heard::{shaken_around, stretch_around};
+use crate::heard::{disturbance_around, stretch_around};
 use crate::laws::{group_laws, value_laws};
 use std::alloc::{AllocError, Global};
 use wl_plan::CheckedPlan;
@@ -104,8 +104,8 @@ impl Group {
         let Some(cell) = &self.cells[i as usize] else {
             unreachable!()
         };
-        let shaken = shaken_around(&self.plan, self.shaken[i as usize], i, tick);
-        self.shaken[i as usize] = shaken;
+        let disturbance = disturbance_around(&self.plan, self.disturbances[i as usize], i, tick);
+        self.disturbances[i as usize] = disturbance;
         let stretch = stretch_around(
             &self.plan,
             &self.replica,
@@ -113,7 +113,7 @@ impl Group {
             &cell.ways,
             &mut self.lead,
             self.heard[i as usize],
-            shaken,
+            disturbance,
             i,
             tick,
         );

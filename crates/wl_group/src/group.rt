@@ -33,7 +33,7 @@ pub struct Group {
     pub(crate) lead: u8,
     pub(crate) come: Come,
     pub(crate) heard: Heard,
-    pub(crate) shaken: Heard,
+    pub(crate) disturbances: Heard,
 }
 
 impl Model for Group {
@@ -49,7 +49,8 @@ impl Model for Group {
 
     ghost view = { λ g. group_value g.plan g.cells.items g.replica g.emitted.items };
 
-    ghost invariant = { λ g. IsKeptWithStretches g.plan g.cells.items g.replica g.emitted.items g.heard g.shaken };
+    ghost invariant = { λ g. IsKeptWithStretches g.plan g.cells.items g.replica g.emitted.items
+        g.heard g.disturbances };
 }
 
 impl Group {
@@ -93,7 +94,7 @@ impl Group {
             lead: 0,
             come: [0; MOST_NODES],
             heard: nothing_heard(),
-            shaken: nothing_heard(),
+            disturbances: nothing_heard(),
         })
     }
 

@@ -10,7 +10,7 @@ ghost use Rattle.wl_replica.specs.Slots.{HoldsTrue};
 ghost use Rattle.wl_plan.specs.Line.{Line};
 ghost use Rattle.wl_plan.specs.PlanLine.{line_of, table_of};
 ghost use Rattle.wl_plan.specs.declared.plan.Plan.{Plan as GivenPlan};
-ghost use Rattle.wl_group.specs.Heard.{AreNotAfter, edge_tick, AreStretches, AreShaken, HasComeBy, IsDrive, IsHeardOf, IsDriven, IsShaken, IsStretch};
+ghost use Rattle.wl_group.specs.Heard.{AreNotAfter, edge_tick, AreStretches, AreDisturbed, HasComeBy, IsDrive, IsHeardOf, IsDriven, IsDisturbed, IsStretch};
 ghost use Rattle.wl_group.specs.Ways.{AreWays, way_in};
 
 use crate::cell::Ways;
@@ -32,7 +32,7 @@ pub(crate) type Heard = [Pulse; MOST_NODES];
 /// Returns the state in which no place has heard anything.
 pub(crate) fn nothing_heard() -> Heard
     ensures heard { (l : Line) → AreStretches l result }
-    ensures shaken { (plan : GivenPlan) → AreShaken plan result }
+    ensures disturbances { (plan : GivenPlan) → AreDisturbed plan result }
 {
     [SILENCE; MOST_NODES]
 }
@@ -305,16 +305,16 @@ pub(crate) fn known_by(replica: &Replica, ways: &Ways) -> u64
 }
 
 /// Returns the stretch of the disturbances at node `j` that has tick `t`: this one, or one that is found again.
-pub(crate) fn shaken_around(plan: &CheckedPlan, shaken: Pulse, j: u8, t: u64) -> Pulse
+pub(crate) fn disturbance_around(plan: &CheckedPlan, disturbance: Pulse, j: u8, t: u64) -> Pulse
     requires node { j < length plan.now.nodes }
     requires early { t < 2 ^ 64 - 1 }
-    requires shaken { IsShaken plan.now j shaken }
+    requires disturbance { IsDisturbed plan.now j disturbance }
     ensures from { result.from ≤ t }
     ensures until { t < result.until }
-    ensures shaken { IsShaken plan.now j result }
+    ensures disturbance { IsDisturbed plan.now j result }
 {
-    if shaken.from <= t && t < shaken.until {
-        return shaken;
+    if disturbance.from <= t && t < disturbance.until {
+        return disturbance;
     }
     disturbed_at(plan, j as usize, t)
 }
@@ -326,7 +326,7 @@ fn found_from(
     come: &mut Come,
     ways: &Ways,
     lead: &mut u8,
-    shaken: Pulse,
+    disturbance: Pulse,
     j: u8,
     t: u64,
 ) -> Pulse
@@ -335,25 +335,25 @@ fn found_from(
     requires place { j < length plan.now.nodes }
     requires known { let l = line_of plan.now in t < place_horizon l.nodes l.delay (slots_of replica.now) j }
     requires early { t < 2 ^ 64 - 1 }
-    requires shaken { IsShaken plan.now j shaken }
-    requires shaken_from { shaken.from ≤ t }
-    requires shaken_until { t < shaken.until }
+    requires disturbance { IsDisturbed plan.now j disturbance }
+    requires disturbance_from { disturbance.from ≤ t }
+    requires disturbance_until { t < disturbance.until }
     requires ways { AreWays plan.now j ways.now }
     ensures from { result.from ≡ t }
     ensures until { t < result.until }
     ensures found { IsStretch (line_of plan.now) j result }
 {
-    if shaken.dominant {
+    if disturbance.dominant {
         return Pulse {
             from: t,
-            until: shaken.until,
+            until: disturbance.until,
             dominant: true,
         };
     }
     let driven = driven_from(plan, replica, come, ways, lead, j, t);
     Pulse {
         from: t,
-        until: driven.until.min(shaken.until),
+        until: driven.until.min(disturbance.until),
         dominant: driven.dominant,
     }
 }
@@ -367,7 +367,7 @@ pub(crate) fn stretch_around(
     ways: &Ways,
     lead: &mut u8,
     heard: Pulse,
-    shaken: Pulse,
+    disturbance: Pulse,
     j: u8,
     t: u64,
 ) -> Pulse
@@ -377,9 +377,9 @@ pub(crate) fn stretch_around(
     requires known { let l = line_of plan.now in t < place_horizon l.nodes l.delay (slots_of replica.now) j }
     requires early { t < 2 ^ 64 - 1 }
     requires heard { IsStretch (line_of plan.now) j heard }
-    requires shaken { IsShaken plan.now j shaken }
-    requires shaken_from { shaken.from ≤ t }
-    requires shaken_until { t < shaken.until }
+    requires disturbance { IsDisturbed plan.now j disturbance }
+    requires disturbance_from { disturbance.from ≤ t }
+    requires disturbance_until { t < disturbance.until }
     requires ways { AreWays plan.now j ways.now }
     ensures from { result.from ≤ t }
     ensures until { t < result.until }
@@ -388,5 +388,5 @@ pub(crate) fn stretch_around(
     if heard.from <= t && t < heard.until {
         return heard;
     }
-    found_from(plan, replica, come, ways, lead, shaken, j, t)
+    found_from(plan, replica, come, ways, lead, disturbance, j, t)
 }

@@ -16,22 +16,22 @@ sooner_by : (plan : Plan) (m i tick : ℕ) (old e : LineAt) → i < length plan.
     → AreSooner i (tick + delay_of plan.topology i m) old.sources e.sources
 sooner_by plan m i tick old e node was sooner = subst (λ n. AreSooner i (tick + n) old.sources e.sources) (was.delays.1 i 0 node) sooner
 
-pub ear_told : (plan : Plan) (m i tick : ℕ) (old e : LineAt) → i < length plan.nodes → IsLineAt plan m old → e.delays ≡ old.delays → e.others ≡ old.others → e.shaken ≡ old.shaken
+pub ear_told : (plan : Plan) (m i tick : ℕ) (old e : LineAt) → i < length plan.nodes → IsLineAt plan m old → e.delays ≡ old.delays → e.others ≡ old.others → e.disturbance ≡ old.disturbance
     → AreSooner i (tick + get_or old.delays i 0) old.sources e.sources → IsLineAt plan m e
-ear_told plan m i tick old e node was delays others shaken sooner = record {
+ear_told plan m i tick old e node was delays others disturbance sooner = record {
   delays = subst (AreDelays plan m) (sym delays) was.delays;
   others = subst (AreOthers plan m) (sym others) was.others;
   sources = kept_sooner (length plan.nodes) i (tick + delay_of plan.topology i m) old.sources e.sources node (sooner_by plan m i tick old e node was sooner) was.sources;
   ahead = sooner.ahead was.ahead;
-  shaken = subst (IsPulse (disturbed plan m)) (sym shaken) was.shaken;
+  disturbance = subst (IsPulse (disturbed plan m)) (sym disturbance) was.disturbance;
 }
 
 pub heard_told : (plan : Plan) (rs : List Running) (m i tick : ℕ) (r : Running) (old e : LineAt) → TableLaws → i < length plan.nodes → i < length rs → HasChanged i tick rs r → IsLineAt plan m old
     → IsHeard plan rs m old → e.heard.from ≡ old.heard.from → e.heard.until ≤ old.heard.until → e.heard.until ≤ tick + get_or old.delays i 0 → e.heard.dominant ≡ old.heard.dominant
-    → e.shaken ≡ old.shaken → AreSooner i (tick + get_or old.delays i 0) old.sources e.sources → IsHeard plan (set rs i r) m e
-heard_told plan rs m i tick r old e table node inside changed was heard from few comes dominant shaken sooner =
+    → e.disturbance ≡ old.disturbance → AreSooner i (tick + get_or old.delays i 0) old.sources e.sources → IsHeard plan (set rs i r) m e
+heard_told plan rs m i tick r old e table node inside changed was heard from few comes dominant disturbance sooner =
     let d : get_or old.delays i 0 ≡ delay_of plan.topology i m = was.delays.1 i 0 node in
-    heard_before plan rs i tick m r old e table inside changed heard from few (omega (arith, d, comes)) dominant shaken (sooner_by plan m i tick old e node was sooner)
+    heard_before plan rs i tick m r old e table inside changed heard from few (omega (arith, d, comes)) dominant disturbance (sooner_by plan m i tick old e node was sooner)
 
 -- what holds of each ear holds with one more
 pub each_more : (P : ℕ → LineAt → Type 0) (xs ys : List LineAt) (x : LineAt) (j : ℕ) → ys ≡ xs ++ x ∷ [] → length xs ≡ j → ((k : ℕ) (d : LineAt) → k < length xs → P k (get_or xs k d)) → P j x

@@ -58,12 +58,12 @@ next_on rs i m r d b later = elim (cases_eq m i) [
 -- what is heard below the tick at which it comes stays
 pub heard_before : (plan : Plan) (rs : List Running) (i tick m : ℕ) (r : Running) (p q : LineAt) → TableLaws → i < length rs → HasChanged i tick rs r
     → IsHeard plan rs m p → q.heard.from ≡ p.heard.from → q.heard.until ≤ p.heard.until → q.heard.until ≤ tick + delay_of plan.topology i m → q.heard.dominant ≡ p.heard.dominant
-    → q.shaken ≡ p.shaken → AreSooner i (tick + delay_of plan.topology i m) p.sources q.sources → IsHeard plan (set rs i r) m q
-heard_before plan rs i tick m r p q table b changed is from until comes_then same shaken sooner = record {
+    → q.disturbance ≡ p.disturbance → AreSooner i (tick + delay_of plan.topology i m) p.sources q.sources → IsHeard plan (set rs i r) m q
+heard_before plan rs i tick m r p q table b changed is from until comes_then same disturbance sooner = record {
   told = told;
   sources = sources;
   begun = begun;
-  shaken = λ d. let h = is.shaken d in let e = next_on rs i m r d b (changed d).1 in let f = ap (λ x. x.from) shaken in omega (arith, h, e, f);
+  disturbance = λ d. let h = is.disturbance d in let e = next_on rs i m r d b (changed d).1 in let f = ap (λ x. x.from) disturbance in omega (arith, h, e, f);
 }
   where
     told : IsPulseTold plan (set rs i r) m q.heard
@@ -98,7 +98,7 @@ heard_same plan rs i r ears b same are m e c = record {
       ∙ (are m e c).told d t after before;
   sources = λ k u d h after before. each k u d ∙ (are m e c).sources k u d h after before;
   begun = λ d. let h = (are m e c).begun d in let f = next_on rs i m r d b (same d).1 in omega (arith, h, f);
-  shaken = λ d. let h = (are m e c).shaken d in let f = next_on rs i m r d b (same d).1 in omega (arith, h, f);
+  disturbance = λ d. let h = (are m e c).disturbance d in let f = next_on rs i m r d b (same d).1 in omega (arith, h, f);
 }
   where
     each : (k t : ℕ) (d : Running) → drove (get_or (set rs i r) k d).changes (delay_of plan.topology k m) t ≡ drove (get_or rs k d).changes (delay_of plan.topology k m) t

@@ -63,7 +63,7 @@ pub record IsLineAt (plan : Plan) (j : ℕ) (ear : LineAt) : Type 0 where
   pub sources : AreTallied (length plan.nodes) ear.sources
   pub ahead : IsAhead ear.sources
   pub others : AreOthers plan j ear.others
-  pub shaken : IsPulse (disturbed plan j) ear.shaken
+  pub disturbance : IsPulse (disturbed plan j) ear.disturbance
 
 -- of each place
 pub record AreLines (plan : Plan) (ears : List LineAt) : Type 0 where
@@ -99,7 +99,7 @@ pub record IsHeard (plan : Plan) (rs : List Running) (j : ℕ) (ear : LineAt) : 
   pub told : IsPulseTold plan rs j ear.heard
   pub sources : AreSources plan rs j ear.heard.from ear.sources
   pub begun : (d : Running) → ear.heard.from ≤ (slice_index_or rs j d).next
-  pub shaken : (d : Running) → ear.shaken.from ≤ (slice_index_or rs j d).next
+  pub disturbance : (d : Running) → ear.disturbance.from ≤ (slice_index_or rs j d).next
 
 -- at each place
 abbrev pub AreHeard : Plan → List Running → List LineAt → Type 0

@@ -20,7 +20,7 @@ pub(crate) struct LineAt {
     pub(crate) delays: Ticks,
     pub(crate) others: Ticks,
     pub(crate) sources: Sources,
-    pub(crate) shaken: Pulse,
+    pub(crate) disturbance: Pulse,
     pub(crate) heard: Pulse,
 }
 
@@ -42,7 +42,7 @@ impl LineAt {
             delays: delays_to(plan, j),
             others: delays_of_others(plan, j),
             sources: Sources::new(plan),
-            shaken: SILENCE,
+            disturbance: SILENCE,
             heard: SILENCE,
         }
     }
@@ -93,12 +93,12 @@ impl LineAt {
         plan.laws();
         let t = running[j].next;
         self.refresh(plan, running, j, t);
-        if self.shaken.until <= t {
-            self.shaken = disturbed_at(plan, j, t);
+        if self.disturbance.until <= t {
+            self.disturbance = disturbed_at(plan, j, t);
         }
         Found {
-            until: self.heard.until.min(self.shaken.until).min(until),
-            level: level_by(self.heard.dominant, self.shaken.dominant),
+            until: self.heard.until.min(self.disturbance.until).min(until),
+            level: level_by(self.heard.dominant, self.disturbance.dominant),
         }
     }
 
@@ -109,10 +109,10 @@ impl LineAt {
         ensures { (plan : GivenPlan) (d : Running) → IsLineAt plan j self.now → IsHeard plan running.now j self.now
             → IsSilent plan running.now j (slice_index_or running.now j d).next result }
     {
-        if self.heard.dominant || self.shaken.dominant {
+        if self.heard.dominant || self.disturbance.dominant {
             return 0;
         }
-        self.heard.until.min(self.shaken.until)
+        self.heard.until.min(self.disturbance.until)
     }
 
     /// Returns the tick below which node `i` finds what node `j` drove, from its next quantum on, by the known changes; 0 if something else
@@ -126,10 +126,10 @@ impl LineAt {
         ensures { HearsOnly plan.now running.now j i result }
     {
         plan.laws();
-        if self.shaken.dominant {
+        if self.disturbance.dominant {
             return 0;
         }
-        self.sources.alone_until(j).min(self.shaken.until)
+        self.sources.alone_until(j).min(self.disturbance.until)
     }
 
     /// Asks what arrives from the nodes, if the last answer doesn't say it for tick `t`, at which node `j` has its next quantum.
@@ -144,7 +144,7 @@ impl LineAt {
         ensures heard { IsHeard plan.now running.now j self.new }
         ensures from { self.new.heard.from ≤ t }
         ensures until { t < self.new.heard.until }
-        ensures shaken { self.new.shaken ≡ self.old.shaken }
+        ensures disturbance { self.new.disturbance ≡ self.old.disturbance }
     {
         if self.heard.until <= t {
             self.heard = self.sources.hear(plan, running, &self.delays, j, t);
@@ -157,7 +157,7 @@ impl LineAt {
         requires nexts { i < length self.old.sources.nexts }
         ensures delays { self.new.delays ≡ self.old.delays }
         ensures others { self.new.others ≡ self.old.others }
-        ensures shaken { self.new.shaken ≡ self.old.shaken }
+        ensures disturbance { self.new.disturbance ≡ self.old.disturbance }
         ensures from { self.new.heard.from ≡ self.old.heard.from }
         ensures few { self.new.heard.until ≤ self.old.heard.until }
         ensures comes { self.new.heard.until ≤ tick + slice_index_or self.old.delays i 0 }

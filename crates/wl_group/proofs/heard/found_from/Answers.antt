@@ -11,5 +11,5 @@ pub returns-clause-found : goal.returns-clause-found
 returns-clause-found c u from until =
     let plan = c.args.plan.now in
     without_disturbance (driven (line_of plan).nodes (delay_of plan.topology) (level (line_of plan)) c.args.j u) (disturbed plan c.args.j u) c.driven_from-driven.result.dominant
-    (c.requires.shaken u (omega (arith, from, c.requires.shaken_from)) (omega (arith, until, c.min.ensures)) ∙ c.if-shaken.false)
+    (c.requires.disturbance u (omega (arith, from, c.requires.disturbance_from)) (omega (arith, until, c.min.ensures)) ∙ c.if-disturbance.false)
     (c.driven_from-driven.ensures.driven u (omega (arith, from, c.driven_from-driven.ensures.from)) (omega (arith, until, c.min.ensures)))

@@ -18,12 +18,12 @@ loop-m-preserved c =
     let e = c.expect.new.self in
     let is = c.expect.ensures in (
       ear_on plan m ears e b c.loop-m.invariant.0
-          (ear_told plan m c.args.i c.args.tick _ e c.requires.node (c.loop-m.invariant.0.each m _ b) is.delays is.others is.shaken is.sources),
+          (ear_told plan m c.args.i c.args.tick _ e c.requires.node (c.loop-m.invariant.0.each m _ b) is.delays is.others is.disturbance is.sources),
       λ rs r inside are changed.
           let told = c.loop-m.invariant.1 rs r inside are changed in
           told_one_more plan rs (set rs c.args.i r) ears m e b told
           (heard_told plan rs m c.args.i c.args.tick r _ e c.table_laws.ensures c.requires.node inside changed (c.loop-m.invariant.0.each m _ b) ((told m _ b).1 (omega arith)) is.from is.few is.comes
-          is.dominant is.shaken is.sources),
+          is.dominant is.disturbance is.sources),
     )
 
 pub returns-clause-heard : goal.returns-clause-heard

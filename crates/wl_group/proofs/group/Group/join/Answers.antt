@@ -10,7 +10,7 @@ invariant_of-self-2 c =
       kept = joined_kept c.value_laws.ensures c.self.inside.plan c.self.inside.cells.items c.self.inside.replica c.join.new.self c.self.inside.emitted.items c.args.other.now c.args.self.now
           c.self.view_is c.self.invariant.kept c.requires.nodes c.nodes.ensures.records c.requires.truth c.in_ok-join.ensures.ok;
       stretches = c.self.invariant.stretches;
-      shaken = c.self.invariant.shaken;
+      disturbances = c.self.invariant.disturbances;
     }
 
 pub returns-clause-after : goal.returns-clause-after

@@ -16,7 +16,7 @@ invariant_of-result c =
           (subst IsChecked (sym (c.of-plan.ensures ∙ c.in_ok-clone_in.ensures)) c.requires.checked) refl c.chosen_of-chosen.ensures
           c.in_ok-cells.ensures.ran c.in_ok-cells.ensures.cells c.in_ok-replica.ensures c.new.ensures.items;
       stretches = c.nothing_heard.ensures.heard (line_of plan);
-      shaken = c.nothing_heard-2.ensures.shaken plan;
+      disturbances = c.nothing_heard-2.ensures.disturbances plan;
     }
 
 pub returns-clause-value : goal.returns-clause-value

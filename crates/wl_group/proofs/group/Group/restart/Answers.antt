@@ -13,7 +13,7 @@ invariant_of-self c =
           c.in_ok-cells.cells.items c.in_ok-replica.replica c.clear.new.self.items c.self.invariant.kept.value.checked refl (λ i. refl)
           c.in_ok-cells.ensures.ran c.in_ok-cells.ensures.cells c.in_ok-replica.ensures c.clear.ensures.items;
       stretches = c.self.invariant.stretches;
-      shaken = c.self.invariant.shaken;
+      disturbances = c.self.invariant.disturbances;
     }
 
 pub returns-clause-ok : goal.returns-clause-ok

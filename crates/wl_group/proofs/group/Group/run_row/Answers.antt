@@ -110,7 +110,7 @@ invariant_of-self c =
       kept = kept_stays c.value_laws.ensures c.checked_is_sound.ensures g.plan g.cells.items g.replica g.emitted.items kept now view i c.in-Some.cell is c.run_over.new.cell c.in_err-said.ensures.stays c.run_over.new.replica c.run_over.new.emitted.items
           c.in_err-said.ensures.not_taken c.in_err-said.ensures.not_emitted;
       stretches = c.self-2.invariant.stretches;
-      shaken = c.self-2.invariant.shaken;
+      disturbances = c.self-2.invariant.disturbances;
     }
 
 pub returns-in_err-said-clause-err : goal.returns-in_err-said-clause-err
@@ -142,7 +142,7 @@ invariant_of-self-2 c =
           g.plan g.cells.items g.replica g.emitted.items kept now view i c.in-Some.cell is c.min-end.result stop far c.run_over.new.cell c.in_ok-said.said.items c.in_ok-said.ensures.gone
           c.run_over.new.replica c.run_over.new.emitted.items c.in_ok-said.ensures.taken c.in_ok-said.ensures.emitted;
       stretches = c.self-2.invariant.stretches;
-      shaken = c.self-2.invariant.shaken;
+      disturbances = c.self-2.invariant.disturbances;
     }
 
 pub returns-clause-gone : goal.returns-clause-gone

@@ -10,7 +10,7 @@ invariant_of-self-2 c =
       kept = taken_kept c.value_laws.ensures c.self.inside.plan c.self.inside.cells.items c.self.inside.replica c.take.new.self c.self.inside.emitted.items c.args.entry c.args.self.now
           c.self.view_is c.self.invariant.kept c.requires c.in_ok-take.ensures.ok;
       stretches = c.self.invariant.stretches;
-      shaken = c.self.invariant.shaken;
+      disturbances = c.self.invariant.disturbances;
     }
 
 pub returns-clause-after : goal.returns-clause-after
