@@ -20,7 +20,7 @@ use Rattle.wl_plan.specs.SimulationLaws.{SimulationLaws}
 use Rattle.wl_plan.specs.Sound.{IsSound}
 use Rattle.wl_serial.specs.declared.running_node.Running.{Running}
 use Rattle.wl_serial.specs.LineAt.{tells}
-use Rattle.wl_serial.specs.Rest.{AreLifted, AreSilent, IsSilent, AllStand, AllStay, NodeStands}
+use Rattle.wl_serial.specs.QuietLine.{AreLifted, AreSilent, IsSilent, AllStand, AllStay, NodeStands}
 use Rattle.wl_serial.specs.Running.{HasRun, AreRunning, IsNext}
 use Rattle.wl_serial.proofs.Found.{level_told}
 use Rattle.wl_serial.proofs.Hearing.{heard_same}

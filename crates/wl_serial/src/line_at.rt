@@ -3,7 +3,7 @@ ghost use Rattle.std.specs.Prelude.{◌≡◌, ℕ, ◌+◌, ◌<◌, ◌≤◌,
 ghost use Rattle.wl_level.specs.Levels.{level_of};
 ghost use Rattle.wl_plan.specs.declared.plan.Plan.{Plan as GivenPlan};
 ghost use Rattle.wl_serial.specs.LineAt.{AreDelays, AreOthers, AreSooner, IsLineAt, AreLines, IsFound, IsHeard, AreHeard, HasChanged, HearsOnly};
-ghost use Rattle.wl_serial.specs.Rest.{IsSilent};
+ghost use Rattle.wl_serial.specs.QuietLine.{IsSilent};
 ghost use Rattle.wl_serial.specs.Running.{AreRunning, AreSomewhere, AreKnown, KnowsOthers, RunsBelow, AllKnown};
 
 use crate::checked::Checked;

@@ -10,7 +10,7 @@ ghost use Rattle.wl_plan.specs.Limits.{most_quanta};
 ghost use Rattle.wl_serial.specs.declared.running_node.Running.{Running as GivenRunning};
 ghost use Rattle.wl_serial.specs.Guess.{IsBefore, IsBack};
 ghost use Rattle.wl_serial.specs.Outcome.{node_outcome_of};
-ghost use Rattle.wl_serial.specs.Rest.{NodeStands, Stays};
+ghost use Rattle.wl_serial.specs.QuietLine.{NodeStands, Stays};
 ghost use Rattle.wl_serial.specs.Running.{IsRunning, IsSomewhere, GoesOn, RanBelow, IsKnownOn, IsLater, by_quanta, one_more};
 ghost use Rattle.wl_serial.specs.Stretch.{HasFollowed, RunsAny};
 

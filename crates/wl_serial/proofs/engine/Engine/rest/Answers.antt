@@ -1,7 +1,7 @@
 -- Where the drives are known further, what was heard stays.
 use Rattle.std.proofs.Common.{◌∙◌, refl, sym, subst, arith}
 use Rattle.wl_serial.specs.LineAt.{AreHeard}
-use Rattle.wl_serial.specs.Rest.{AreLifted, AllStay}
+use Rattle.wl_serial.specs.QuietLine.{AreLifted, AllStay}
 use Rattle.wl_serial.proofs.Slices.{running_of, ears_of, heard_of, known_of, engine_of, whole}
 use Rattle.wl_serial.proofs.engine.Engine.rest.Goals as goal
 

@@ -1,9 +1,9 @@
 -- One place more is silent, and the others are up to an earlier tick too.
 use Rattle.std.proofs.Common.{◌<◌, inl, inr, length, get_or, sym, subst, arith}
 use Rattle.std.proofs.lemmas.Bool.{cases_eq}
-use Rattle.wl_serial.specs.Rest.{IsSilent}
+use Rattle.wl_serial.specs.QuietLine.{IsSilent}
 use Rattle.wl_serial.proofs.Resting.{silent_less}
-use Rattle.wl_serial.proofs.rest.all_silent_until.Goals as goal
+use Rattle.wl_serial.proofs.quiet_line.all_silent_until.Goals as goal
 
 pub loop-j-preserved : goal.loop-j-preserved
 loop-j-preserved c k d b =

@@ -3,7 +3,7 @@ use Rattle.std.proofs.Common.{inl, inr, get_or}
 use Rattle.std.proofs.lemmas.Bool.{cases_lt}
 use Rattle.wl_serial.proofs.Resting.{all_stay, silent_less, stay_none}
 use Rattle.wl_serial.proofs.Runners.{stands_at}
-use Rattle.wl_serial.proofs.rest.rests_until.Goals as goal
+use Rattle.wl_serial.proofs.quiet_line.rests_until.Goals as goal
 
 pub stands_until-requires-clause-running : goal.stands_until-requires-clause-running
 stands_until-requires-clause-running c =

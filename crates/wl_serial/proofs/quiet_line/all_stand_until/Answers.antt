@@ -2,10 +2,10 @@
 use Rattle.std.proofs.Common.{◌<◌, ◌∙◌, inl, inr, length, get_or, sym, subst, arith}
 use Rattle.std.proofs.lemmas.Bool.{cases_eq}
 use Rattle.std.proofs.lemmas.List.{get_or_default}
-use Rattle.wl_serial.specs.Rest.{NodeStands}
+use Rattle.wl_serial.specs.QuietLine.{NodeStands}
 use Rattle.wl_serial.proofs.Resting.{stands_less}
 use Rattle.wl_serial.proofs.Runners.{stands_at}
-use Rattle.wl_serial.proofs.rest.all_stand_until.Goals as goal
+use Rattle.wl_serial.proofs.quiet_line.all_stand_until.Goals as goal
 
 pub stands_until-requires-clause-running : goal.stands_until-requires-clause-running
 stands_until-requires-clause-running c =

@@ -1,7 +1,7 @@
 use Rattle.std.proofs.Common.{ℕ, ◌<◌, ◌≤◌, get_or}
 use Rattle.wl_serial.specs.declared.running_node.Running.{Running}
-use Rattle.wl_serial.specs.Rest.{NodeStands}
-use Rattle.wl_serial.proofs.rest.all_stand_until.Given as goal
+use Rattle.wl_serial.specs.QuietLine.{NodeStands}
+use Rattle.wl_serial.proofs.quiet_line.all_stand_until.Given as goal
 
 -- the nodes so far
 abbrev pub invariant-loop-i : goal.invariant-loop-i

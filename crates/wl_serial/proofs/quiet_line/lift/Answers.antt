@@ -6,7 +6,7 @@ use Rattle.wl_serial.specs.declared.running_node.Running.{Running}
 use Rattle.wl_serial.proofs.Known.{known_on}
 use Rattle.wl_serial.proofs.Resting.{lifted_on, stay_on}
 use Rattle.wl_serial.proofs.Runners.{one_on}
-use Rattle.wl_serial.proofs.rest.lift.Goals as goal
+use Rattle.wl_serial.proofs.quiet_line.lift.Goals as goal
 
 pub lift-requires-clause-running : goal.lift-requires-clause-running
 lift-requires-clause-running c =

@@ -2,7 +2,7 @@
 ghost use Rattle.std.specs.Prelude.{◌≡◌, ℕ, ◌<◌, ◌≤◌, length};
 ghost use Rattle.wl_serial.specs.Engine.{IsEngine};
 ghost use Rattle.wl_serial.specs.LineAt.{AreLines, AreHeard};
-ghost use Rattle.wl_serial.specs.Rest.{AreLifted, AreSilent, AllStand, AllStay};
+ghost use Rattle.wl_serial.specs.QuietLine.{AreLifted, AreSilent, AllStand, AllStay};
 ghost use Rattle.wl_serial.specs.Running.{AreRunning, AreKnown};
 
 use crate::checked::Checked;

@@ -1,6 +1,6 @@
-use Rattle.wl_serial.specs.Rest.{AreLifted, AllStay}
+use Rattle.wl_serial.specs.QuietLine.{AreLifted, AllStay}
 use Rattle.wl_serial.specs.Running.{AreRunning, AreKnown}
-use Rattle.wl_serial.proofs.rest.lift.Given as goal
+use Rattle.wl_serial.proofs.quiet_line.lift.Given as goal
 
 abbrev pub invariant-loop-i : goal.invariant-loop-i
 invariant-loop-i l = AreRunning l.plan l.running × AreKnown l.plan.end l.running l.known × AllStay l.plan l.until l.running × AreLifted l.plan l.fn.running l.running
