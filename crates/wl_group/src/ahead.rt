@@ -109,7 +109,7 @@ impl Group {
         let stretch = stretch_around(
             &self.plan,
             &self.replica,
-            &mut self.come,
+            &mut self.guesses,
             &cell.ways,
             &mut self.lead,
             self.heard[i as usize],

@@ -4,7 +4,7 @@ ghost use Rattle.std.specs.Prelude.{◌≡◌, ◌<◌, ◌≤◌, ℕ, true, Li
 
 use crate::begin::{Chosen, chosen_of, first_replica, fresh_cells};
 use crate::cell::{Cell, Ways};
-use crate::heard::{Come, Heard, nothing_heard};
+use crate::heard::{Guesses, Heard, nothing_heard};
 use crate::laws::value_laws;
 use std::alloc::{AllocError, Global};
 use std::marker::Model;
@@ -31,7 +31,7 @@ pub struct Group {
     pub(crate) far: [u8; MOST_NODES],
     // The number of the node that was found to drive dominant last: a guess, which decides nothing.
     pub(crate) lead: u8,
-    pub(crate) come: Come,
+    pub(crate) guesses: Guesses,
     pub(crate) heard: Heard,
     pub(crate) disturbances: Heard,
 }
@@ -92,7 +92,7 @@ impl Group {
             awaited: [0; MOST_NODES],
             far: [1; MOST_NODES],
             lead: 0,
-            come: [0; MOST_NODES],
+            guesses: [0; MOST_NODES],
             heard: nothing_heard(),
             disturbances: nothing_heard(),
         })

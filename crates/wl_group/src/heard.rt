@@ -24,7 +24,7 @@ use wl_topology::MOST_NODES;
 
 /// For each node a guess how many of its changes have come: the number when a member last asked. It speeds up the next time, and decides
 /// nothing.
-pub(crate) type Come = [u32; MOST_NODES];
+pub(crate) type Guesses = [u32; MOST_NODES];
 
 /// For each node a pulse: of the line where it read it last, or of the disturbances there.
 pub(crate) type Heard = [Pulse; MOST_NODES];
@@ -89,7 +89,7 @@ fn kept_until(replica: &Replica, node: u8, run: u32, count: u32, known: u64) -> 
 }
 
 /// Returns what node `i` drives from tick `t` on, at which that is known: up to its next change, or as far as it is known.
-fn drive_at(plan: &CheckedPlan, replica: &Replica, i: u8, t: u64, come: &mut u32) -> Pulse
+fn drive_at(plan: &CheckedPlan, replica: &Replica, i: u8, t: u64, guess: &mut u32) -> Pulse
     requires nodes { replica.now.nodes ≡ length plan.now.nodes }
     requires truth { HoldsTrue (length plan.now.nodes) (table_of plan.now) (slots_of replica.now) }
     requires from { i < length plan.now.nodes }
@@ -104,8 +104,8 @@ fn drive_at(plan: &CheckedPlan, replica: &Replica, i: u8, t: u64, come: &mut u32
     wl_replica::known_laws();
     true_replicas_agree();
     let run = replica.run_length(i);
-    let count = changes_until(replica, i, run, t, *come);
-    *come = count;
+    let count = changes_until(replica, i, run, t, *guess);
+    *guess = count;
     Pulse {
         from: t,
         until: kept_until(replica, i, run, count, replica.horizon(i)),
@@ -123,7 +123,7 @@ fn heard_at(
     j: u8,
     t: u64,
     delay: u64,
-    come: &mut u32,
+    guess: &mut u32,
 ) -> Pulse
     requires nodes { replica.now.nodes ≡ length plan.now.nodes }
     requires truth { HoldsTrue (length plan.now.nodes) (table_of plan.now) (slots_of replica.now) }
@@ -142,7 +142,7 @@ fn heard_at(
             dominant: false,
         };
     }
-    let own = drive_at(plan, replica, i, t - delay, come);
+    let own = drive_at(plan, replica, i, t - delay, guess);
     Pulse {
         from: t,
         until: own.until.saturating_add(delay),
@@ -180,7 +180,7 @@ fn heard_last(plan: &CheckedPlan, replica: &Replica, ways: &Ways, i: u8, j: u8, 
 fn heard_of(
     plan: &CheckedPlan,
     replica: &Replica,
-    come: &mut Come,
+    guesses: &mut Guesses,
     ways: &Ways,
     i: u8,
     j: u8,
@@ -201,14 +201,14 @@ fn heard_of(
     if replica.run_end(i) + delay <= t + 1 {
         return heard_last(plan, replica, ways, i, j, t);
     }
-    heard_at(plan, replica, i, j, t, delay, &mut come[i as usize])
+    heard_at(plan, replica, i, j, t, delay, &mut guesses[i as usize])
 }
 
 /// Returns what node `j` finds from tick `t` on of the node that was found to drive dominant last, if that one does so again.
 fn driven_again(
     plan: &CheckedPlan,
     replica: &Replica,
-    come: &mut Come,
+    guesses: &mut Guesses,
     ways: &Ways,
     first: u8,
     j: u8,
@@ -230,7 +230,7 @@ fn driven_again(
     if first >= plan.nodes() {
         return None;
     }
-    let one = heard_of(plan, replica, come, ways, first, j, t);
+    let one = heard_of(plan, replica, guesses, ways, first, j, t);
     if one.dominant {
         return Some(one);
     }
@@ -242,7 +242,7 @@ fn driven_again(
 fn driven_from(
     plan: &CheckedPlan,
     replica: &Replica,
-    come: &mut Come,
+    guesses: &mut Guesses,
     ways: &Ways,
     lead: &mut u8,
     j: u8,
@@ -261,12 +261,12 @@ fn driven_from(
     wl_replica::known_laws();
     wl_topology::driven_laws();
     plan.laws();
-    if let Some(again) = driven_again(plan, replica, come, ways, *lead, j, t) {
+    if let Some(again) = driven_again(plan, replica, guesses, ways, *lead, j, t) {
         return again;
     }
     let mut until = u64::MAX;
     for i in 0..plan.nodes() {
-        let one = heard_of(plan, replica, come, ways, i, j, t);
+        let one = heard_of(plan, replica, guesses, ways, i, j, t);
         if one.dominant {
             *lead = i;
             return one;
@@ -323,7 +323,7 @@ pub(crate) fn disturbance_around(plan: &CheckedPlan, disturbance: Pulse, j: u8, 
 fn found_from(
     plan: &CheckedPlan,
     replica: &Replica,
-    come: &mut Come,
+    guesses: &mut Guesses,
     ways: &Ways,
     lead: &mut u8,
     disturbance: Pulse,
@@ -350,7 +350,7 @@ fn found_from(
             dominant: true,
         };
     }
-    let driven = driven_from(plan, replica, come, ways, lead, j, t);
+    let driven = driven_from(plan, replica, guesses, ways, lead, j, t);
     Pulse {
         from: t,
         until: driven.until.min(disturbance.until),
@@ -363,7 +363,7 @@ fn found_from(
 pub(crate) fn stretch_around(
     plan: &CheckedPlan,
     replica: &Replica,
-    come: &mut Come,
+    guesses: &mut Guesses,
     ways: &Ways,
     lead: &mut u8,
     heard: Pulse,
@@ -388,5 +388,5 @@ pub(crate) fn stretch_around(
     if heard.from <= t && t < heard.until {
         return heard;
     }
-    found_from(plan, replica, come, ways, lead, disturbance, j, t)
+    found_from(plan, replica, guesses, ways, lead, disturbance, j, t)
 }
