@@ -1,4 +1,4 @@
--- An ear that is told of a change.
+-- A line that is told of a change.
 use Rattle.std.proofs.Common.{◌≡◌, ℕ, zero, suc, ◌+◌, ◌<◌, ◌≤◌, List, [], ◌∷◌, ◌++◌, length, get_or, sym, subst, arith}
 use Rattle.std.proofs.Math.ListN.{set}
 use Rattle.wl_topology.specs.Delays.{delay_of}
@@ -16,9 +16,9 @@ sooner_by : (plan : Plan) (m i tick : ℕ) (old e : LineAt) → i < length plan.
     → AreSooner i (tick + delay_of plan.topology i m) old.sources e.sources
 sooner_by plan m i tick old e node was sooner = subst (λ n. AreSooner i (tick + n) old.sources e.sources) (was.delays.1 i 0 node) sooner
 
-pub ear_told : (plan : Plan) (m i tick : ℕ) (old e : LineAt) → i < length plan.nodes → IsLineAt plan m old → e.delays ≡ old.delays → e.others ≡ old.others → e.disturbance ≡ old.disturbance
+pub line_told : (plan : Plan) (m i tick : ℕ) (old e : LineAt) → i < length plan.nodes → IsLineAt plan m old → e.delays ≡ old.delays → e.others ≡ old.others → e.disturbance ≡ old.disturbance
     → AreSooner i (tick + get_or old.delays i 0) old.sources e.sources → IsLineAt plan m e
-ear_told plan m i tick old e node was delays others disturbance sooner = record {
+line_told plan m i tick old e node was delays others disturbance sooner = record {
   delays = subst (AreDelays plan m) (sym delays) was.delays;
   others = subst (AreOthers plan m) (sym others) was.others;
   sources = kept_sooner (length plan.nodes) i (tick + delay_of plan.topology i m) old.sources e.sources node (sooner_by plan m i tick old e node was sooner) was.sources;
@@ -33,7 +33,7 @@ heard_told plan rs m i tick r old e table node inside changed was heard from few
     let d : get_or old.delays i 0 ≡ delay_of plan.topology i m = was.delays.1 i 0 node in
     heard_before plan rs i tick m r old e table inside changed heard from few (omega (arith, d, comes)) dominant disturbance (sooner_by plan m i tick old e node was sooner)
 
--- what holds of each ear holds with one more
+-- what holds of each line holds with one more
 pub each_more : (P : ℕ → LineAt → Type 0) (xs ys : List LineAt) (x : LineAt) (j : ℕ) → ys ≡ xs ++ x ∷ [] → length xs ≡ j → ((k : ℕ) (d : LineAt) → k < length xs → P k (get_or xs k d)) → P j x
     → (k : ℕ) (d : LineAt) → k < length ys → P k (get_or ys k d)
 each_more P xs ys x j is here each one k d b =

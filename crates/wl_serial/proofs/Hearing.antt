@@ -90,9 +90,9 @@ heard_before plan rs i tick m r p q table b changed is from until comes_then sam
     begun d = (let h = is.begun d in let e = next_on rs i m r d b (changed d).1 in omega (arith, h, e, from))
 
 -- a node that told no change leaves all as it was
-pub heard_same : (plan : Plan) (rs : List Running) (i : ℕ) (r : Running) (ears : List LineAt) → i < length rs
-    → ((d : Running) → (r.changes ≡ (get_or rs i d).changes) × ((get_or rs i d).next ≤ r.next)) → AreHeard plan rs ears → AreHeard plan (set rs i r) ears
-heard_same plan rs i r ears b same are m e c = record {
+pub heard_same : (plan : Plan) (rs : List Running) (i : ℕ) (r : Running) (lines : List LineAt) → i < length rs
+    → ((d : Running) → (r.changes ≡ (get_or rs i d).changes) × ((get_or rs i d).next ≤ r.next)) → AreHeard plan rs lines → AreHeard plan (set rs i r) lines
+heard_same plan rs i r lines b same are m e c = record {
   told = λ d t after before.
       any_same (length plan.nodes) (λ k. drove (get_or (set rs i r) k d).changes (delay_of plan.topology k m) t) (λ k. drove (get_or rs k d).changes (delay_of plan.topology k m) t) (λ k h. each k t d)
       ∙ (are m e c).told d t after before;
@@ -110,26 +110,26 @@ heard_same plan rs i r ears b same are m e c = record {
     ]
 
 -- one place heard anew
-pub heard_anew : (plan : Plan) (rs : List Running) (j : ℕ) (ears : List LineAt) (e : LineAt) → j < length ears → IsHeard plan rs j e → AreHeard plan rs ears → AreHeard plan rs (set ears j e)
-heard_anew plan rs j ears e b is are k d c = elim (cases_eq k j) [
-  | inl same ↦ subst (λ n. IsHeard plan rs n (get_or (set ears j e) n d)) (sym same) (subst (IsHeard plan rs j) (sym (get_or-set_same ears j e d b)) is)
-  | inr other ↦ subst (IsHeard plan rs k) (sym (get_or-set_other ears j k e d other)) (are k d (subst (λ n. k < n) (length-set ears j e) c))
+pub heard_anew : (plan : Plan) (rs : List Running) (j : ℕ) (lines : List LineAt) (e : LineAt) → j < length lines → IsHeard plan rs j e → AreHeard plan rs lines → AreHeard plan rs (set lines j e)
+heard_anew plan rs j lines e b is are k d c = elim (cases_eq k j) [
+  | inl same ↦ subst (λ n. IsHeard plan rs n (get_or (set lines j e) n d)) (sym same) (subst (IsHeard plan rs j) (sym (get_or-set_same lines j e d b)) is)
+  | inr other ↦ subst (IsHeard plan rs k) (sym (get_or-set_other lines j k e d other)) (are k d (subst (λ n. k < n) (length-set lines j e) c))
 ]
 
 -- The first m places know of the new runs, the others of the old ones.
 abbrev pub AreTold : Plan → List Running → List Running → List LineAt → ℕ → Type 0
-AreTold plan old new ears m =
-    (k : ℕ) (d : LineAt) → k < length ears → (k < m → IsHeard plan new k (get_or ears k d)) × (m ≤ k → IsHeard plan old k (get_or ears k d))
+AreTold plan old new lines m =
+    (k : ℕ) (d : LineAt) → k < length lines → (k < m → IsHeard plan new k (get_or lines k d)) × (m ≤ k → IsHeard plan old k (get_or lines k d))
 
-pub told_one_more : (plan : Plan) (old new : List Running) (ears : List LineAt) (m : ℕ) (e : LineAt) → m < length ears → AreTold plan old new ears m → IsHeard plan new m e
-    → AreTold plan old new (set ears m e) (m + 1)
-told_one_more plan old new ears m e b told is k d c =
-    let inside : k < length ears = subst (λ n. k < n) (length-set ears m e) c in (
+pub told_one_more : (plan : Plan) (old new : List Running) (lines : List LineAt) (m : ℕ) (e : LineAt) → m < length lines → AreTold plan old new lines m → IsHeard plan new m e
+    → AreTold plan old new (set lines m e) (m + 1)
+told_one_more plan old new lines m e b told is k d c =
+    let inside : k < length lines = subst (λ n. k < n) (length-set lines m e) c in (
       λ h. elim (cases_eq k m) [
-        | inl same ↦ subst (λ n. IsHeard plan new n (get_or (set ears m e) n d)) (sym same) (subst (IsHeard plan new m) (sym (get_or-set_same ears m e d b)) is)
-        | inr other ↦ subst (IsHeard plan new k) (sym (get_or-set_other ears m k e d other)) ((told k d inside).0 (omega (arith, h, other)))
+        | inl same ↦ subst (λ n. IsHeard plan new n (get_or (set lines m e) n d)) (sym same) (subst (IsHeard plan new m) (sym (get_or-set_same lines m e d b)) is)
+        | inr other ↦ subst (IsHeard plan new k) (sym (get_or-set_other lines m k e d other)) ((told k d inside).0 (omega (arith, h, other)))
       ],
       λ h.
           let other : k ≢ m = omega (arith, h) in
-          subst (IsHeard plan old k) (sym (get_or-set_other ears m k e d other)) ((told k d inside).1 (omega (arith, h))),
+          subst (IsHeard plan old k) (sym (get_or-set_other lines m k e d other)) ((told k d inside).1 (omega (arith, h))),
     )

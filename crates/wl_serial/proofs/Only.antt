@@ -54,10 +54,10 @@ one_of_all f (suc n) j b none = elim (cases_eq j n) [
 ]
 
 -- no other node is heard, and no disturbance
-pub hears_only : (plan : Plan) (rs : List Running) (j i a t : ℕ) (ear : LineAt) → j < length plan.nodes → length plan.nodes ≤ most_places → IsAlone (length plan.nodes) j a ear.sources → t ≤ a
-    → IsHeard plan rs i ear → IsPulse (disturbed plan i) ear.disturbance → ear.disturbance.dominant ≡ false → t ≤ ear.disturbance.until
+pub hears_only : (plan : Plan) (rs : List Running) (j i a t : ℕ) (line : LineAt) → j < length plan.nodes → length plan.nodes ≤ most_places → IsAlone (length plan.nodes) j a line.sources → t ≤ a
+    → IsHeard plan rs i line → IsPulse (disturbed plan i) line.disturbance → line.disturbance.dominant ≡ false → t ≤ line.disturbance.until
     → HearsOnly plan rs j i t
-hears_only plan rs j i a t ear b few alone less heard disturbance calm ends d u after before =
+hears_only plan rs j i a t line b few alone less heard disturbance calm ends d u after before =
     ap (λ v. v || disturbed plan i u) (one_of_all (λ k. drove (get_or rs k d).changes (delay_of plan.topology k i) u) (length plan.nodes) j b silent)
     ∙ (ap (λ v. drove (get_or rs j d).changes (delay_of plan.topology j i) u || v) still ∙ or-false (drove (get_or rs j d).changes (delay_of plan.topology j i) u))
   where

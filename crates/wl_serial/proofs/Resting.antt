@@ -78,7 +78,7 @@ module _ (rs : List Running) (j : ℕ) (r : Running) (b : j < length rs) (same :
   pub lifted_on : (plan : Plan) (old : List Running) → ((d : Running) → r.changes ≡ (get_or rs j d).changes) → ((d : Running) → (get_or rs j d).known ≤ r.known)
       → AreLifted plan old rs → AreLifted plan old (set rs j r)
   lifted_on plan old changes more was = record {
-    heard = λ ears are. heard_same plan rs j r ears b (λ d. (changes d, (let e = same d in omega (arith, e)))) (was.heard ears are);
+    heard = λ lines are. heard_same plan rs j r lines b (λ d. (changes d, (let e = same d in omega (arith, e)))) (was.heard lines are);
     next = λ k is. next_on k (was.next k is);
     left = (let f = same_left plan.end rs j r r (same r) in let e = was.left in omega (arith, e, f));
   }
@@ -95,7 +95,7 @@ module _ (rs : List Running) (j : ℕ) (r : Running) (b : j < length rs) (same :
       }
 
 pub lifted_none : (plan : Plan) (rs : List Running) → AreLifted plan rs rs
-lifted_none plan rs = record { heard = λ ears are. are; next = λ j is. is; left = omega arith }
+lifted_none plan rs = record { heard = λ lines are. are; next = λ j is. is; left = omega arith }
 
 module _ (plan : Plan) (rs : List Running) (running : AreRunning plan rs) where
   -- how many quanta node i has run, where there is one

@@ -102,9 +102,9 @@ same_left end [] j r d same = omega arith
 same_left end (x ∷ xs) zero r d same = omega (arith, same)
 same_left end (x ∷ xs) (suc j) r d same = (let f = same_left end xs j r d same in omega (arith, f))
 
--- one ear anew
-pub ear_on : (plan : Plan) (j : ℕ) (es : List LineAt) (e : LineAt) → j < length es → AreLines plan es → IsLineAt plan j e → AreLines plan (set es j e)
-ear_on plan j es e b are is = record { all = length-set es j e ∙ are.all; each = each }
+-- one line anew
+pub line_on : (plan : Plan) (j : ℕ) (es : List LineAt) (e : LineAt) → j < length es → AreLines plan es → IsLineAt plan j e → AreLines plan (set es j e)
+line_on plan j es e b are is = record { all = length-set es j e ∙ are.all; each = each }
   where
     each : (k : ℕ) (d : LineAt) → k < length (set es j e) → IsLineAt plan k (get_or (set es j e) k d)
     each k d c = elim (cases_eq k j) [

@@ -8,8 +8,8 @@ use Rattle.wl_serial.specs.Running.{AreRunning, AreKnown, IsNext, ticks_left}
 -- Each node has run as the simulation does. Each place has heard what they have told. Up to which ticks the drives are known is as the nodes have it.
 pub record IsEngine (plan : Plan) (e : Engine) : Type 0 where
   pub running : AreRunning plan e.nodes.items
-  pub ears : AreLines plan e.ears.items
-  pub heard : AreHeard plan e.nodes.items e.ears.items
+  pub lines : AreLines plan e.lines.items
+  pub heard : AreHeard plan e.nodes.items e.lines.items
   pub known : AreKnown plan.end e.nodes.items e.known
 
 -- node j has its next quantum before the end, and what each node drives before that is known

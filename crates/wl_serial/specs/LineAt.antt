@@ -58,17 +58,17 @@ abbrev pub IsDriving : ℕ → ℕ → Sources → Type 0
 IsDriving n u s = (i : ℕ) × (i < n) × (slice_index_or s.drives i false ≡ true) × (u < slice_index_or s.nexts i 0)
 
 -- what a place keeps
-pub record IsLineAt (plan : Plan) (j : ℕ) (ear : LineAt) : Type 0 where
-  pub delays : AreDelays plan j ear.delays
-  pub sources : AreTallied (length plan.nodes) ear.sources
-  pub ahead : IsAhead ear.sources
-  pub others : AreOthers plan j ear.others
-  pub disturbance : IsPulse (disturbed plan j) ear.disturbance
+pub record IsLineAt (plan : Plan) (j : ℕ) (line : LineAt) : Type 0 where
+  pub delays : AreDelays plan j line.delays
+  pub sources : AreTallied (length plan.nodes) line.sources
+  pub ahead : IsAhead line.sources
+  pub others : AreOthers plan j line.others
+  pub disturbance : IsPulse (disturbed plan j) line.disturbance
 
 -- of each place
-pub record AreLines (plan : Plan) (ears : List LineAt) : Type 0 where
-  pub all : length ears ≡ length plan.nodes
-  pub each : (j : ℕ) (d : LineAt) → j < length ears → IsLineAt plan j (slice_index_or ears j d)
+pub record AreLines (plan : Plan) (lines : List LineAt) : Type 0 where
+  pub all : length lines ≡ length plan.nodes
+  pub each : (j : ℕ) (d : LineAt) → j < length lines → IsLineAt plan j (slice_index_or lines j d)
 
 -- whether the changes of node i tell that it drives dominant at tick u
 abbrev pub tells : List Running → Running → ℕ → ℕ → Bool
@@ -95,15 +95,15 @@ pub record AreSooner (i comes : ℕ) (old new : Sources) : Type 0 where
   pub ahead : IsAhead old → IsAhead new
 
 -- What place j has heard, and what it knows of disturbances, from ticks on that are no later than its next quantum.
-pub record IsHeard (plan : Plan) (rs : List Running) (j : ℕ) (ear : LineAt) : Type 0 where
-  pub told : IsPulseTold plan rs j ear.heard
-  pub sources : AreSources plan rs j ear.heard.from ear.sources
-  pub begun : (d : Running) → ear.heard.from ≤ (slice_index_or rs j d).next
-  pub disturbance : (d : Running) → ear.disturbance.from ≤ (slice_index_or rs j d).next
+pub record IsHeard (plan : Plan) (rs : List Running) (j : ℕ) (line : LineAt) : Type 0 where
+  pub told : IsPulseTold plan rs j line.heard
+  pub sources : AreSources plan rs j line.heard.from line.sources
+  pub begun : (d : Running) → line.heard.from ≤ (slice_index_or rs j d).next
+  pub disturbance : (d : Running) → line.disturbance.from ≤ (slice_index_or rs j d).next
 
 -- at each place
 abbrev pub AreHeard : Plan → List Running → List LineAt → Type 0
-AreHeard plan rs ears = (j : ℕ) (d : LineAt) → j < length ears → IsHeard plan rs j (slice_index_or ears j d)
+AreHeard plan rs lines = (j : ℕ) (d : LineAt) → j < length lines → IsHeard plan rs j (slice_index_or lines j d)
 
 -- node i has run on, and told one change more, at this tick
 abbrev pub HasChanged : ℕ → ℕ → List Running → Running → Type 0

@@ -38,6 +38,6 @@ AllStay plan t rs = (i : ℕ) (d : Running) → i < length rs → Stays plan t i
 
 -- The drives are known further: what was heard, which node goes next, and the ticks that are left stay.
 pub record AreLifted (plan : Plan) (old new : List Running) : Type 0 where
-  pub heard : (ears : List LineAt) → AreHeard plan old ears → AreHeard plan new ears
+  pub heard : (lines : List LineAt) → AreHeard plan old lines → AreHeard plan new lines
   pub next : (j : ℕ) → IsNext plan.end old j → IsNext plan.end new j
   pub left : ticks_left plan.end new ≤ ticks_left plan.end old

@@ -17,7 +17,7 @@ use std::alloc::AllocError;
 pub(crate) fn run_alone(
     plan: &Checked,
     running: &mut [Running],
-    ears: &mut [LineAt],
+    lines: &mut [LineAt],
     j: usize,
     i: usize,
     until: u64,
@@ -26,24 +26,24 @@ pub(crate) fn run_alone(
     requires leader { j < length plan.now.nodes }
     requires other { i ≢ j }
     requires somewhere { AreSomewhere plan.now running.old }
-    requires ears { AreLines plan.now ears.old }
-    requires heard { AreHeard plan.now running.old ears.old }
+    requires lines { AreLines plan.now lines.old }
+    requires heard { AreHeard plan.now running.old lines.old }
     requires ends { until ≤ plan.now.end }
     requires below { RunsBelow until running.old i }
     requires only { HearsOnly plan.now running.old j i until }
-    ensures ears { OnOk result (AreLines plan.now ears.new) }
-    ensures heard { OnOk result (AreHeard plan.now running.new ears.new) }
+    ensures lines { OnOk result (AreLines plan.now lines.new) }
+    ensures heard { OnOk result (AreHeard plan.now running.new lines.new) }
     ensures ran { OnOk result (HasStretched plan.now i until running.old running.new) }
     ensures same { IfOk result (λ changed. changed ≡ false → TellsTheSame i running.old running.new) }
 {
     plan.laws();
     wl_plan::simulation_laws();
-    let delay = ears[i].delays[j];
-    let come = ears[i].sources.come[j];
+    let delay = lines[i].delays[j];
+    let come = lines[i].sources.come[j];
     let change = run_along(plan, running, j, i, delay, come, until)?;
     running[i].arrive(plan, i);
     if let Some(tick) = change {
-        tell(plan, ears, i, tick);
+        tell(plan, lines, i, tick);
         return Ok(true);
     }
     Ok(false)

@@ -21,7 +21,7 @@ use wl_topology::MOST_NODES;
 #[derive(Drop)]
 pub(crate) struct Engine {
     pub(crate) nodes: Vec<Running>,
-    pub(crate) ears: Vec<LineAt>,
+    pub(crate) lines: Vec<LineAt>,
     /// The nodes have these ticks too: here they are read faster.
     pub(crate) known: Ticks,
 }
@@ -55,14 +55,14 @@ fn begin(alloc: Global, plan: &Checked) -> Result<Vec<Running>, AllocError>
 
 /// Returns the line at each place, before anything is heard.
 fn listen(alloc: Global, plan: &Checked) -> Result<Vec<LineAt>, AllocError>
-    ensures ears { IfOk result (λ ears. AreLines plan.now ears.items) }
-    ensures heard { IfOk result (λ ears. (running : List Running) → AreHeard plan.now running ears.items) }
+    ensures lines { IfOk result (λ lines. AreLines plan.now lines.items) }
+    ensures heard { IfOk result (λ lines. (running : List Running) → AreHeard plan.now running lines.items) }
 {
-    let mut ears = Vec::new(alloc);
+    let mut lines = Vec::new(alloc);
     for j in 0..plan.nodes() {
-        ears.push(LineAt::new(plan, j))?;
+        lines.push(LineAt::new(plan, j))?;
     }
-    Ok(ears)
+    Ok(lines)
 }
 
 /// Returns up to which ticks the drives are known.
@@ -84,9 +84,13 @@ impl Engine {
         ensures { IfOk result (IsEngine plan.now) }
     {
         let nodes = begin(alloc, plan)?;
-        let ears = listen(alloc, plan)?;
+        let lines = listen(alloc, plan)?;
         let known = all_known(plan, &nodes);
-        Ok(Engine { nodes, ears, known })
+        Ok(Engine {
+            nodes,
+            lines,
+            known,
+        })
     }
 
     /// Runs all quanta before the end.

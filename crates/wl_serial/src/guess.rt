@@ -57,17 +57,17 @@ impl Engine {
         wl_record_core::table_laws();
         wl_node::node_laws();
         let nodes: &mut [Running] = &mut self.nodes;
-        let ears: &mut [LineAt] = &mut self.ears;
+        let lines: &mut [LineAt] = &mut self.lines;
         let marks = keep(alloc, nodes)?;
-        lead(plan, nodes, ears, j)?;
+        lead(plan, nodes, lines, j)?;
         let until = nodes[j].next.min(plan.end());
-        if follow(plan, nodes, ears, j, until)? {
+        if follow(plan, nodes, lines, j, until)? {
             promise_all(plan, nodes);
             self.known = all_known(plan, nodes);
             return Ok(None);
         }
         back(alloc, nodes, &marks)?;
-        forget(plan, ears);
+        forget(plan, lines);
         Ok(Some(until))
     }
 }
@@ -87,16 +87,16 @@ fn keep(alloc: Global, running: &[Running]) -> Result<Vec<Before>, AllocError>
 fn lead(
     plan: &Checked,
     running: &mut [Running],
-    ears: &mut [LineAt],
+    lines: &mut [LineAt],
     j: usize,
 ) -> Result<(), AllocError>
     requires node { j < length plan.now.nodes }
     requires somewhere { AreSomewhere plan.now running.old }
-    requires ears { AreLines plan.now ears.old }
-    requires heard { AreHeard plan.now running.old ears.old }
+    requires lines { AreLines plan.now lines.old }
+    requires heard { AreHeard plan.now running.old lines.old }
     requires below { RunsBelow plan.now.end running.old j }
-    ensures ears { OnOk result (AreLines plan.now ears.new) }
-    ensures heard { OnOk result (AreHeard plan.now running.new ears.new) }
+    ensures lines { OnOk result (AreLines plan.now lines.new) }
+    ensures heard { OnOk result (AreHeard plan.now running.new lines.new) }
     ensures ran { OnOk result (RanAlone plan.now j plan.now.end running.old running.new) }
     ensures later { OnOk result ((d : GivenRunning)
         → (slice_index_or running.old j d).next < (slice_index_or running.new j d).next) }
@@ -104,10 +104,10 @@ fn lead(
     plan.laws();
     wl_plan::simulation_laws();
     wl_plan::a_consistent_guess_holds();
-    stretch(plan, running, ears, j, plan.end())?;
+    stretch(plan, running, lines, j, plan.end())?;
     let mut stop = running[j].sends_until(plan, j);
     while running[j].next < stop {
-        stretch(plan, running, ears, j, stop)?;
+        stretch(plan, running, lines, j, stop)?;
         stop = running[j].sends_until(plan, j);
     }
     Ok(())
@@ -117,24 +117,24 @@ fn lead(
 fn follow(
     plan: &Checked,
     running: &mut [Running],
-    ears: &mut [LineAt],
+    lines: &mut [LineAt],
     j: usize,
     until: u64,
 ) -> Result<bool, AllocError>
     requires leader { j < length plan.now.nodes }
     requires somewhere { AreSomewhere plan.now running.old }
-    requires ears { AreLines plan.now ears.old }
-    requires heard { AreHeard plan.now running.old ears.old }
+    requires lines { AreLines plan.now lines.old }
+    requires heard { AreHeard plan.now running.old lines.old }
     requires ends { until ≤ plan.now.end }
-    ensures ears { OnOk result (AreLines plan.now ears.new) }
-    ensures heard { OnOk result (AreHeard plan.now running.new ears.new) }
+    ensures lines { OnOk result (AreLines plan.now lines.new) }
+    ensures heard { OnOk result (AreHeard plan.now running.new lines.new) }
     ensures later { OnOk result (AreLater running.old running.new) }
     ensures listened { IfOk result (λ right. right ≡ true
         → HaveListened plan.now j until (length plan.now.nodes) running.old running.new) }
 {
     wl_plan::simulation_laws();
     for i in 0..running.len() {
-        if i != j && !listen(plan, running, ears, j, i, until)? {
+        if i != j && !listen(plan, running, lines, j, i, until)? {
             return Ok(false);
         }
     }
@@ -146,7 +146,7 @@ fn follow(
 fn listen(
     plan: &Checked,
     running: &mut [Running],
-    ears: &mut [LineAt],
+    lines: &mut [LineAt],
     j: usize,
     i: usize,
     until: u64,
@@ -155,11 +155,11 @@ fn listen(
     requires leader { j < length plan.now.nodes }
     requires other { i ≢ j }
     requires somewhere { AreSomewhere plan.now running.old }
-    requires ears { AreLines plan.now ears.old }
-    requires heard { AreHeard plan.now running.old ears.old }
+    requires lines { AreLines plan.now lines.old }
+    requires heard { AreHeard plan.now running.old lines.old }
     requires ends { until ≤ plan.now.end }
-    ensures ears { OnOk result (AreLines plan.now ears.new) }
-    ensures heard { OnOk result (AreHeard plan.now running.new ears.new) }
+    ensures lines { OnOk result (AreLines plan.now lines.new) }
+    ensures heard { OnOk result (AreHeard plan.now running.new lines.new) }
     ensures ran { OnOk result (RanAlone plan.now i until running.old running.new) }
     ensures same { IfOk result (λ right. right ≡ true → TellsTheSame i running.old running.new) }
     ensures reached { IfOk result (λ right. right ≡ true
@@ -169,7 +169,7 @@ fn listen(
     wl_plan::simulation_laws();
     wl_plan::a_consistent_guess_holds();
     while running[i].next < until {
-        if stretch_alone(plan, running, ears, j, i, until)? {
+        if stretch_alone(plan, running, lines, j, i, until)? {
             return Ok(false);
         }
     }
@@ -180,7 +180,7 @@ fn listen(
 fn stretch_alone(
     plan: &Checked,
     running: &mut [Running],
-    ears: &mut [LineAt],
+    lines: &mut [LineAt],
     j: usize,
     i: usize,
     until: u64,
@@ -189,22 +189,22 @@ fn stretch_alone(
     requires leader { j < length plan.now.nodes }
     requires other { i ≢ j }
     requires somewhere { AreSomewhere plan.now running.old }
-    requires ears { AreLines plan.now ears.old }
-    requires heard { AreHeard plan.now running.old ears.old }
+    requires lines { AreLines plan.now lines.old }
+    requires heard { AreHeard plan.now running.old lines.old }
     requires ends { until ≤ plan.now.end }
     requires below { RunsBelow until running.old i }
-    ensures ears { OnOk result (AreLines plan.now ears.new) }
-    ensures heard { OnOk result (AreHeard plan.now running.new ears.new) }
+    ensures lines { OnOk result (AreLines plan.now lines.new) }
+    ensures heard { OnOk result (AreHeard plan.now running.new lines.new) }
     ensures ran { OnOk result (HasStretched plan.now i until running.old running.new) }
     ensures same { IfOk result (λ changed. changed ≡ false → TellsTheSame i running.old running.new) }
 {
-    let found = ears[i].level_at(plan, running, i, until);
-    let alone = ears[i].alone_until(plan, running, j, i).min(until);
+    let found = lines[i].level_at(plan, running, i, until);
+    let alone = lines[i].alone_until(plan, running, j, i).min(until);
     if running[i].next < alone {
-        let changed = run_alone(plan, running, ears, j, i, alone)?;
+        let changed = run_alone(plan, running, lines, j, i, alone)?;
         return Ok(changed);
     }
-    let changed = run_found(plan, running, ears, i, found)?;
+    let changed = run_found(plan, running, lines, i, found)?;
     Ok(changed)
 }
 
@@ -212,8 +212,8 @@ fn stretch_alone(
 fn promise_all(plan: &Checked, running: &mut [Running])
     requires running { AreRunning plan.now running.old }
     ensures running { AreRunning plan.now running.new }
-    ensures heard { (ears : List GivenLineAt) → AreHeard plan.now running.old ears
-        → AreHeard plan.now running.new ears }
+    ensures heard { (lines : List GivenLineAt) → AreHeard plan.now running.old lines
+        → AreHeard plan.now running.new lines }
     ensures left { ticks_left plan.now.end running.new ≤ ticks_left plan.now.end running.old }
 {
     for i in 0..running.len() {
@@ -234,12 +234,12 @@ fn back(alloc: Global, running: &mut [Running], marks: &[Before]) -> Result<(), 
 }
 
 /// Drops all that the places have found.
-fn forget(plan: &Checked, ears: &mut [LineAt])
-    requires ears { AreLines plan.now ears.old }
-    ensures ears { AreLines plan.now ears.new }
-    ensures heard { (rs : List GivenRunning) → AreHeard plan.now rs ears.new }
+fn forget(plan: &Checked, lines: &mut [LineAt])
+    requires lines { AreLines plan.now lines.old }
+    ensures lines { AreLines plan.now lines.new }
+    ensures heard { (rs : List GivenRunning) → AreHeard plan.now rs lines.new }
 {
-    for j in 0..ears.len() {
-        ears[j] = LineAt::new(plan, j);
+    for j in 0..lines.len() {
+        lines[j] = LineAt::new(plan, j);
     }
 }

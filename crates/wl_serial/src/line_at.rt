@@ -35,7 +35,7 @@ impl LineAt {
     /// Returns the line at the place of node `j`, before anything is heard.
     pub(crate) fn new(plan: &Checked, j: usize) -> LineAt
         requires node { j < length plan.now.nodes }
-        ensures ear { IsLineAt plan.now j result }
+        ensures line { IsLineAt plan.now j result }
         ensures heard { (running : List Running) → IsHeard plan.now running j result }
     {
         LineAt {
@@ -58,7 +58,7 @@ impl LineAt {
         requires running { AreRunning plan.now running.now }
         requires known { AreKnown plan.now.end running.now known.now }
         requires node { j < length plan.now.nodes }
-        requires ear { IsLineAt plan.now j self.now }
+        requires line { IsLineAt plan.now j self.now }
         ensures known { KnowsOthers plan.now j result running.now }
         ensures ends { result ≤ plan.now.end }
         ensures later { (t : ℕ) → t < plan.now.end → AllKnown t running.now → t < result }
@@ -81,11 +81,11 @@ impl LineAt {
     ) -> Found
         requires node { j < length plan.now.nodes }
         requires somewhere { AreSomewhere plan.now running.now }
-        requires ear { IsLineAt plan.now j self.old }
+        requires line { IsLineAt plan.now j self.old }
         requires ends { until ≤ plan.now.end }
         requires below { RunsBelow until running.now j }
         requires heard { IsHeard plan.now running.now j self.old }
-        ensures ear { IsLineAt plan.now j self.new }
+        ensures line { IsLineAt plan.now j self.new }
         ensures heard { IsHeard plan.now running.now j self.new }
         ensures few { result.until ≤ until }
         ensures found { IsFound plan.now j running.now result }
@@ -121,7 +121,7 @@ impl LineAt {
         requires node { i < length plan.now.nodes }
         requires leader { j < length plan.now.nodes }
         requires all { length running.now ≡ length plan.now.nodes }
-        requires ear { IsLineAt plan.now i self.now }
+        requires line { IsLineAt plan.now i self.now }
         requires heard { IsHeard plan.now running.now i self.now }
         ensures { HearsOnly plan.now running.now j i result }
     {
@@ -138,9 +138,9 @@ impl LineAt {
         requires somewhere { AreSomewhere plan.now running.now }
         requires early { t < 2 ^ 63 }
         requires next { (d : Running) → t ≡ (slice_index_or running.now j d).next }
-        requires ear { IsLineAt plan.now j self.old }
+        requires line { IsLineAt plan.now j self.old }
         requires heard { IsHeard plan.now running.now j self.old }
-        ensures ear { IsLineAt plan.now j self.new }
+        ensures line { IsLineAt plan.now j self.new }
         ensures heard { IsHeard plan.now running.now j self.new }
         ensures from { self.new.heard.from ≤ t }
         ensures until { t < self.new.heard.until }
@@ -199,17 +199,17 @@ fn delays_of_others(plan: &Checked, j: usize) -> Ticks
 }
 
 /// Notes for all places that node `i` changed its drive at this tick.
-pub(crate) fn tell(plan: &Checked, ears: &mut [LineAt], i: usize, tick: u64)
-    requires ears { AreLines plan.now ears.old }
+pub(crate) fn tell(plan: &Checked, lines: &mut [LineAt], i: usize, tick: u64)
+    requires lines { AreLines plan.now lines.old }
     requires node { i < length plan.now.nodes }
-    ensures ears { AreLines plan.now ears.new }
-    ensures heard { (rs : List Running) (r : Running) → i < length rs → AreHeard plan.now rs ears.old
-        → HasChanged i tick rs r → AreHeard plan.now (set rs i r) ears.new }
+    ensures lines { AreLines plan.now lines.new }
+    ensures heard { (rs : List Running) (r : Running) → i < length rs → AreHeard plan.now rs lines.old
+        → HasChanged i tick rs r → AreHeard plan.now (set rs i r) lines.new }
 {
     plan.laws();
     wl_record_core::table_laws();
-    for m in 0..ears.len() {
-        ears[m].expect(i, tick);
+    for m in 0..lines.len() {
+        lines[m].expect(i, tick);
     }
 }
 

@@ -23,7 +23,7 @@ impl Engine {
         if at == *asked {
             return;
         }
-        let until = rests_until(plan, &self.nodes, &self.ears, j, asked);
+        let until = rests_until(plan, &self.nodes, &self.lines, j, asked);
         if until <= at {
             return;
         }
@@ -37,13 +37,13 @@ impl Engine {
 fn rests_until(
     plan: &Checked,
     running: &[Running],
-    ears: &[LineAt],
+    lines: &[LineAt],
     j: usize,
     asked: &mut u64,
 ) -> u64
     requires running { AreRunning plan.now running.now }
-    requires ears { AreLines plan.now ears.now }
-    requires heard { AreHeard plan.now running.now ears.now }
+    requires lines { AreLines plan.now lines.now }
+    requires heard { AreHeard plan.now running.now lines.now }
     requires node { j < length running.now }
     ensures { AllStay plan.now result running.now }
 {
@@ -53,11 +53,11 @@ fn rests_until(
     wl_record_core::table_laws();
     wl_topology::driven_laws();
     let known = running[j].known;
-    if ears[j].silent_until(running, j) <= known || running[j].stands_until(plan, j) <= known {
+    if lines[j].silent_until(running, j) <= known || running[j].stands_until(plan, j) <= known {
         return 0;
     }
     *asked = known;
-    let silent = all_silent_until(plan, running, ears);
+    let silent = all_silent_until(plan, running, lines);
     if silent <= known {
         return 0;
     }
@@ -65,15 +65,15 @@ fn rests_until(
 }
 
 /// Returns the tick below which nothing dominant arrives at a place from the next quantum of its node on; at most the end.
-fn all_silent_until(plan: &Checked, running: &[Running], ears: &[LineAt]) -> u64
+fn all_silent_until(plan: &Checked, running: &[Running], lines: &[LineAt]) -> u64
     requires running { AreRunning plan.now running.now }
-    requires ears { AreLines plan.now ears.now }
-    requires heard { AreHeard plan.now running.now ears.now }
+    requires lines { AreLines plan.now lines.now }
+    requires heard { AreHeard plan.now running.now lines.now }
     ensures silent { AreSilent plan.now running.now result }
 {
     let mut until = plan.end();
-    for j in 0..ears.len() {
-        until = until.min(ears[j].silent_until(running, j));
+    for j in 0..lines.len() {
+        until = until.min(lines[j].silent_until(running, j));
     }
     until
 }

@@ -20,9 +20,9 @@ impl Engine {
         ensures nearer { OnOk result (IsNearer plan.now self.old self.new) }
     {
         let nodes: &mut [Running] = &mut self.nodes;
-        let ears: &mut [LineAt] = &mut self.ears;
-        let horizon = ears[j].horizon(plan, nodes, &self.known, j);
-        run_below(plan, nodes, ears, j, horizon)?;
+        let lines: &mut [LineAt] = &mut self.lines;
+        let horizon = lines[j].horizon(plan, nodes, &self.known, j);
+        run_below(plan, nodes, lines, j, horizon)?;
         nodes[j].promise(plan, j);
         self.known[j] = nodes[j].known;
         Ok(())
@@ -33,19 +33,19 @@ impl Engine {
 fn run_below(
     plan: &Checked,
     running: &mut [Running],
-    ears: &mut [LineAt],
+    lines: &mut [LineAt],
     j: usize,
     horizon: u64,
 ) -> Result<(), AllocError>
     requires node { j < length plan.now.nodes }
     requires running { AreRunning plan.now running.old }
-    requires ears { AreLines plan.now ears.old }
-    requires heard { AreHeard plan.now running.old ears.old }
+    requires lines { AreLines plan.now lines.old }
+    requires heard { AreHeard plan.now running.old lines.old }
     requires known { KnowsOthers plan.now j horizon running.old }
     requires ends { horizon ≤ plan.now.end }
     ensures running { OnOk result (AreRunning plan.now running.new) }
-    ensures ears { OnOk result (AreLines plan.now ears.new) }
-    ensures heard { OnOk result (AreHeard plan.now running.new ears.new) }
+    ensures lines { OnOk result (AreLines plan.now lines.new) }
+    ensures heard { OnOk result (AreHeard plan.now running.new lines.new) }
     ensures others { OnOk result (OnlyOne j running.old running.new) }
     ensures fewer { OnOk result (IsFewer plan.now.end horizon j running.old running.new) }
 {
@@ -53,7 +53,7 @@ fn run_below(
     wl_plan::simulation_laws();
     wl_record_core::table_laws();
     while running[j].next < horizon {
-        stretch(plan, running, ears, j, horizon)?;
+        stretch(plan, running, lines, j, horizon)?;
     }
     Ok(())
 }
@@ -63,23 +63,23 @@ fn run_below(
 pub(crate) fn stretch(
     plan: &Checked,
     running: &mut [Running],
-    ears: &mut [LineAt],
+    lines: &mut [LineAt],
     j: usize,
     until: u64,
 ) -> Result<bool, AllocError>
     requires node { j < length plan.now.nodes }
     requires somewhere { AreSomewhere plan.now running.old }
-    requires ears { AreLines plan.now ears.old }
-    requires heard { AreHeard plan.now running.old ears.old }
+    requires lines { AreLines plan.now lines.old }
+    requires heard { AreHeard plan.now running.old lines.old }
     requires ends { until ≤ plan.now.end }
     requires below { RunsBelow until running.old j }
-    ensures ears { OnOk result (AreLines plan.now ears.new) }
-    ensures heard { OnOk result (AreHeard plan.now running.new ears.new) }
+    ensures lines { OnOk result (AreLines plan.now lines.new) }
+    ensures heard { OnOk result (AreHeard plan.now running.new lines.new) }
     ensures ran { OnOk result (HasStretched plan.now j until running.old running.new) }
     ensures same { IfOk result (λ changed. changed ≡ false → TellsTheSame j running.old running.new) }
 {
-    let found = ears[j].level_at(plan, running, j, until);
-    let changed = run_found(plan, running, ears, j, found)?;
+    let found = lines[j].level_at(plan, running, j, until);
+    let changed = run_found(plan, running, lines, j, found)?;
     Ok(changed)
 }
 
@@ -89,23 +89,23 @@ pub(crate) fn stretch(
 pub(crate) fn run_found(
     plan: &Checked,
     running: &mut [Running],
-    ears: &mut [LineAt],
+    lines: &mut [LineAt],
     j: usize,
     found: Found,
 ) -> Result<bool, AllocError>
     requires node { j < length plan.now.nodes }
     requires somewhere { AreSomewhere plan.now running.old }
-    requires ears { AreLines plan.now ears.old }
-    requires heard { AreHeard plan.now running.old ears.old }
+    requires lines { AreLines plan.now lines.old }
+    requires heard { AreHeard plan.now running.old lines.old }
     requires ends { found.until ≤ plan.now.end }
     requires found { IsFound plan.now j running.old found }
-    ensures ears { OnOk result (AreLines plan.now ears.new) }
-    ensures heard { OnOk result (AreHeard plan.now running.new ears.new) }
+    ensures lines { OnOk result (AreLines plan.now lines.new) }
+    ensures heard { OnOk result (AreHeard plan.now running.new lines.new) }
     ensures ran { OnOk result (HasStretched plan.now j found.until running.old running.new) }
     ensures same { IfOk result (λ changed. changed ≡ false → TellsTheSame j running.old running.new) }
 {
     if let Some(tick) = running[j].go(plan, j, found.level, found.until)? {
-        tell(plan, ears, j, tick);
+        tell(plan, lines, j, tick);
         return Ok(true);
     }
     Ok(false)

@@ -18,7 +18,7 @@ returns-in-Some-clause-ran c =
     let z = c.arrive.ensures in
     along_stretched c.args.plan.now c.args.j _ c.args.i c.args.until c.args.running.now c.run_along.new.running c.index-running-i.result c.arrive.new.self
     (omega (arith, c.requires.node, c.requires.somewhere.all)) c.requires.below c.requires.only is.ran
-    ((c.requires.ears.each c.args.i _ (omega (arith, c.requires.node, c.requires.ears.all))).delays.1 c.args.j _ c.requires.leader) is.later z.node z.changes z.next z.promised z.known
+    ((c.requires.lines.each c.args.i _ (omega (arith, c.requires.node, c.requires.lines.all))).delays.1 c.args.j _ c.requires.leader) is.later z.node z.changes z.next z.promised z.known
 
 pub returns-clause-ran : goal.returns-clause-ran
 returns-clause-ran c =
@@ -26,7 +26,7 @@ returns-clause-ran c =
     let z = c.arrive.ensures in
     along_stretched c.args.plan.now c.args.j _ c.args.i c.args.until c.args.running.now c.run_along.new.running c.index-running-i.result c.arrive.new.self
     (omega (arith, c.requires.node, c.requires.somewhere.all)) c.requires.below c.requires.only is.ran
-    ((c.requires.ears.each c.args.i _ (omega (arith, c.requires.node, c.requires.ears.all))).delays.1 c.args.j _ c.requires.leader) is.later z.node z.changes z.next z.promised z.known
+    ((c.requires.lines.each c.args.i _ (omega (arith, c.requires.node, c.requires.lines.all))).delays.1 c.args.j _ c.requires.leader) is.later z.node z.changes z.next z.promised z.known
 
 pub returns-in-Some-clause-heard : goal.returns-in-Some-clause-heard
 returns-in-Some-clause-heard c =
@@ -37,7 +37,7 @@ returns-in-Some-clause-heard c =
     let is = c.in_ok-change.ensures in
     let b : i < length old = omega (arith, c.requires.node, c.requires.somewhere.all) in
     let all = along_length plan c.args.j _ i c.args.until old new b is.ran in
-    subst (λ xs. AreHeard plan xs c.tell.new.ears) (sym (along_set plan c.args.j _ i c.args.until old new b is.ran c.arrive.new.self))
+    subst (λ xs. AreHeard plan xs c.tell.new.lines) (sym (along_set plan c.args.j _ i c.args.until old new b is.ran c.arrive.new.self))
     (c.tell.ensures.heard old c.arrive.new.self b c.requires.heard
     (λ d. let same = get_or_default new i c.index-running-i.result d (omega (arith, b, all)) in (
       c.arrive.ensures.changes ∙ (ap (λ r. r.changes) same ∙ (is.told d ∙ ap (one_more (get_or old i d).changes) c.in-Some.is)),
@@ -53,8 +53,8 @@ returns-clause-heard c =
     let is = c.in_ok-change.ensures in
     let b : i < length old = omega (arith, c.requires.node, c.requires.somewhere.all) in
     let all = along_length plan c.args.j _ i c.args.until old new b is.ran in
-    subst (λ xs. AreHeard plan xs c.args.ears.now) (sym (along_set plan c.args.j _ i c.args.until old new b is.ran c.arrive.new.self))
-    (heard_same plan old i c.arrive.new.self c.args.ears.now b
+    subst (λ xs. AreHeard plan xs c.args.lines.now) (sym (along_set plan c.args.j _ i c.args.until old new b is.ran c.arrive.new.self))
+    (heard_same plan old i c.arrive.new.self c.args.lines.now b
     (λ d. let same = get_or_default new i c.index-running-i.result d (omega (arith, b, all)) in (
       c.arrive.ensures.changes ∙ (ap (λ r. r.changes) same ∙ (is.told d ∙ ap (one_more (get_or old i d).changes) c.in_default.is)),
       (let e = ap (λ r. (by_quanta plan i r).next) same in let f = is.later d in omega (arith, e, f, c.arrive.ensures.next)),

@@ -5,5 +5,5 @@ use Rattle.wl_serial.specs.LineAt.{IsLineAt, IsHeard}
 use Rattle.wl_serial.proofs.engine.listen.Given as goal
 
 abbrev pub invariant-loop-j : goal.invariant-loop-j
-invariant-loop-j l = (length l.ears.items ≡ l.j) × ((i : ℕ) (d : LineAt) → i < length l.ears.items → IsLineAt l.plan i (slice_index_or l.ears.items i d))
-    × ((rs : List Running) (i : ℕ) (d : LineAt) → i < length l.ears.items → IsHeard l.plan rs i (slice_index_or l.ears.items i d))
+invariant-loop-j l = (length l.lines.items ≡ l.j) × ((i : ℕ) (d : LineAt) → i < length l.lines.items → IsLineAt l.plan i (slice_index_or l.lines.items i d))
+    × ((rs : List Running) (i : ℕ) (d : LineAt) → i < length l.lines.items → IsHeard l.plan rs i (slice_index_or l.lines.items i d))

@@ -5,7 +5,7 @@ use Rattle.wl_serial.proofs.guess.follow.Goals as goal
 use Rattle.wl_serial.proofs.guess.follow.Goals.{else-i-j-via-then-i-j+in_ok-listen+else-not-branch, else-i-j-via-else-i-j}
 
 pub loop-i-init : goal.loop-i-init
-loop-i-init c = (c.requires.ears, c.requires.heard, listened_none c.args.plan.now c.args.j c.args.until c.args.running.now)
+loop-i-init c = (c.requires.lines, c.requires.heard, listened_none c.args.plan.now c.args.j c.args.until c.args.running.now)
 
 pub listen-requires-clause-somewhere : goal.listen-requires-clause-somewhere
 listen-requires-clause-somewhere c =
@@ -28,12 +28,12 @@ loop-i-preserved c =
     elim c.else-i-j.branch [
       | else-i-j-via-then-i-j+in_ok-listen+else-not-branch w ↦
           let inside : i < length rs = omega (arith, c.loop-i-test.true, h.2.all) in
-          rw (w.running-is, w.ears-is) (
-            w.in_ok-listen.ensures.ears,
+          rw (w.running-is, w.lines-is) (
+            w.in_ok-listen.ensures.lines,
             w.in_ok-listen.ensures.heard,
             listened_more plan c.args.j c.args.until old i rs w.listen.new.running c.simulation_laws.ensures w.if-i-j.true h.2 w.in_ok-listen.ensures.ran
                 (λ d. w.in_ok-listen.ensures.same w.if-not-branch.false d inside) (w.in_ok-listen.ensures.reached w.if-not-branch.false),
           )
       | else-i-j-via-else-i-j w ↦
-          rw (w.running-is, w.ears-is) (h.0, h.1, listened_own plan c.args.j c.args.until old i rs w.if-i-j.false h.2)
+          rw (w.running-is, w.lines-is) (h.0, h.1, listened_own plan c.args.j c.args.until old i rs w.if-i-j.false h.2)
     ]

@@ -6,4 +6,4 @@ use Rattle.wl_serial.proofs.guess.forget.Given as goal
 
 -- the places so far have heard nothing
 abbrev pub invariant-loop-j : goal.invariant-loop-j
-invariant-loop-j l = AreLines l.plan l.ears × ((rs : List Running) (k : ℕ) (d : LineAt) → k < l.j → IsHeard l.plan rs k (get_or l.ears k d))
+invariant-loop-j l = AreLines l.plan l.lines × ((rs : List Running) (k : ℕ) (d : LineAt) → k < l.j → IsHeard l.plan rs k (get_or l.lines k d))

@@ -14,7 +14,7 @@ loop-running-init c =
     let b : j < length rs = omega (arith, c.requires.node, c.requires.somewhere.all) in
     let alone = ran_more plan j plan.end c.end.result rs rs c.stretch.new.running c.a_consistent_guess_holds.ensures c.simulation_laws.ensures
     c.laws.ensures.sound c.requires.node b (omega (arith, c.end.ensures)) (omega arith) (ran_none plan j plan.end rs c.requires.somewhere b) ran in (
-      c.in_ok-stretch.ensures.ears,
+      c.in_ok-stretch.ensures.lines,
       c.in_ok-stretch.ensures.heard,
       somewhere_on plan j plan.end rs c.stretch.new.running c.requires.somewhere alone,
       alone,
@@ -34,7 +34,7 @@ loop-running-preserved c =
     let b : j < length rs = omega (arith, c.requires.node, h.2.all) in
     let alone = ran_more plan j plan.end c.loop-running.stop first rs new c.a_consistent_guess_holds.ensures c.simulation_laws.ensures
     c.laws.ensures.sound c.requires.node b h.5 (omega arith) h.3 ran in (
-      c.in_ok-stretch-2.ensures.ears,
+      c.in_ok-stretch-2.ensures.lines,
       c.in_ok-stretch-2.ensures.heard,
       somewhere_on plan j plan.end first new c.requires.somewhere alone,
       alone,

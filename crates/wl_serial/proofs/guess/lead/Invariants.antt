@@ -8,8 +8,8 @@ use Rattle.wl_serial.proofs.guess.lead.Given as goal
 -- the node has run alone
 abbrev pub invariant-loop-running : goal.invariant-loop-running
 invariant-loop-running l =
-    AreLines l.plan l.ears
-    × AreHeard l.plan l.running l.ears
+    AreLines l.plan l.lines
+    × AreHeard l.plan l.running l.lines
     × AreSomewhere l.plan l.running
     × RanAlone l.plan l.j l.plan.end l.fn.running l.running
     × ((d : Running) → (get_or l.fn.running l.j d).next < (get_or l.running l.j d).next)

@@ -7,7 +7,7 @@ use Rattle.wl_serial.proofs.guess.listen.Goals as goal
 
 pub loop-running-init : goal.loop-running-init
 loop-running-init c = (
-  c.requires.ears,
+  c.requires.lines,
   c.requires.heard,
   c.requires.somewhere,
   ran_none c.args.plan.now c.args.i c.args.until c.args.running.now c.requires.somewhere (omega (arith, c.requires.node, c.requires.somewhere.all)),
@@ -34,7 +34,7 @@ loop-running-preserved c =
     let b : i < length rs = omega (arith, c.requires.node, h.2.all) in
     let alone = ran_more plan i c.args.until c.args.until c.args.running.now rs new c.a_consistent_guess_holds.ensures c.simulation_laws.ensures
     c.laws.ensures.sound c.requires.node b (omega arith) c.requires.ends h.3 c.in_ok-stretch_alone.ensures.ran in (
-      c.in_ok-stretch_alone.ensures.ears,
+      c.in_ok-stretch_alone.ensures.lines,
       c.in_ok-stretch_alone.ensures.heard,
       somewhere_on plan i c.args.until c.args.running.now new c.requires.somewhere alone,
       alone,

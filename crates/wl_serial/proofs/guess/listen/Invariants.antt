@@ -7,8 +7,8 @@ use Rattle.wl_serial.proofs.guess.listen.Given as goal
 -- the node has run alone, and told nothing
 abbrev pub invariant-loop-running : goal.invariant-loop-running
 invariant-loop-running l =
-    AreLines l.plan l.ears
-    × AreHeard l.plan l.running l.ears
+    AreLines l.plan l.lines
+    × AreHeard l.plan l.running l.lines
     × AreSomewhere l.plan l.running
     × RanAlone l.plan l.i l.until l.fn.running l.running
     × TellsTheSame l.i l.fn.running l.running

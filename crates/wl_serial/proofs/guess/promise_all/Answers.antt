@@ -23,9 +23,9 @@ loop-i-preserved c =
     let left = same_left plan.end rs i r d c.promise.ensures.next in
     let more = h.2 in (
       one_on plan rs i r b h.0 c.promise.ensures.running,
-      (λ ears was. heard_same plan rs i r ears b (λ e. (
+      (λ lines was. heard_same plan rs i r lines b (λ e. (
         c.promise.ensures.changes ∙ ap (λ x. x.changes) (here e),
         (let f = c.promise.ensures.next in let g = ap (λ x. x.next) (here e) in omega (arith, f, g)),
-      )) (h.1 ears was)),
+      )) (h.1 lines was)),
       omega (arith, left, more),
     )

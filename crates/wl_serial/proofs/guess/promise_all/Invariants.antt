@@ -8,5 +8,5 @@ use Rattle.wl_serial.proofs.guess.promise_all.Given as goal
 abbrev pub invariant-loop-i : goal.invariant-loop-i
 invariant-loop-i l =
     AreRunning l.plan l.running
-    × ((ears : List LineAt) → AreHeard l.plan l.fn.running ears → AreHeard l.plan l.running ears)
+    × ((lines : List LineAt) → AreHeard l.plan l.fn.running lines → AreHeard l.plan l.running lines)
     × (ticks_left l.plan.end l.running ≤ ticks_left l.plan.end l.fn.running)

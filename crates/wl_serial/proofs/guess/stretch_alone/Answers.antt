@@ -1,24 +1,24 @@
 -- The place of the node that ran on is heard anew.
 use Rattle.std.proofs.Common.{arith}
 use Rattle.wl_serial.proofs.Hearing.{heard_anew}
-use Rattle.wl_serial.proofs.Runners.{ear_on, stretched_less}
+use Rattle.wl_serial.proofs.Runners.{line_on, stretched_less}
 use Rattle.wl_serial.proofs.guess.stretch_alone.Goals as goal
 
-pub run_alone-requires-clause-ears : goal.run_alone-requires-clause-ears
-run_alone-requires-clause-ears c =
-    ear_on c.args.plan.now c.args.i c.args.ears.now c.level_at-found.new.self (omega (arith, c.requires.node, c.requires.ears.all)) c.requires.ears c.level_at-found.ensures.ear
+pub run_alone-requires-clause-lines : goal.run_alone-requires-clause-lines
+run_alone-requires-clause-lines c =
+    line_on c.args.plan.now c.args.i c.args.lines.now c.level_at-found.new.self (omega (arith, c.requires.node, c.requires.lines.all)) c.requires.lines c.level_at-found.ensures.line
 
 pub run_alone-requires-clause-heard : goal.run_alone-requires-clause-heard
 run_alone-requires-clause-heard c =
-    heard_anew c.args.plan.now c.args.running.now c.args.i c.args.ears.now c.level_at-found.new.self (omega (arith, c.requires.node, c.requires.ears.all)) c.level_at-found.ensures.heard c.requires.heard
+    heard_anew c.args.plan.now c.args.running.now c.args.i c.args.lines.now c.level_at-found.new.self (omega (arith, c.requires.node, c.requires.lines.all)) c.level_at-found.ensures.heard c.requires.heard
 
-pub run_found-requires-clause-ears : goal.run_found-requires-clause-ears
-run_found-requires-clause-ears c =
-    ear_on c.args.plan.now c.args.i c.args.ears.now c.level_at-found.new.self (omega (arith, c.requires.node, c.requires.ears.all)) c.requires.ears c.level_at-found.ensures.ear
+pub run_found-requires-clause-lines : goal.run_found-requires-clause-lines
+run_found-requires-clause-lines c =
+    line_on c.args.plan.now c.args.i c.args.lines.now c.level_at-found.new.self (omega (arith, c.requires.node, c.requires.lines.all)) c.requires.lines c.level_at-found.ensures.line
 
 pub run_found-requires-clause-heard : goal.run_found-requires-clause-heard
 run_found-requires-clause-heard c =
-    heard_anew c.args.plan.now c.args.running.now c.args.i c.args.ears.now c.level_at-found.new.self (omega (arith, c.requires.node, c.requires.ears.all)) c.level_at-found.ensures.heard c.requires.heard
+    heard_anew c.args.plan.now c.args.running.now c.args.i c.args.lines.now c.level_at-found.new.self (omega (arith, c.requires.node, c.requires.lines.all)) c.level_at-found.ensures.heard c.requires.heard
 
 pub returns-then-running-i-clause-ran : goal.returns-then-running-i-clause-ran
 returns-then-running-i-clause-ran c =

@@ -23,7 +23,7 @@ loop-running-preserved c =
     let run = runs_plain plan rs j c.args.horizon d r c.simulation_laws.ensures c.table_laws.ensures c.laws.ensures.sound h.0 h.4 b
     (ran.goes d) (ran.known d) (ran.later d) in (
       subst (AreRunning plan) (sym ran.is) (one_on plan rs j r b h.0 run),
-      c.in_ok-stretch.ensures.ears,
+      c.in_ok-stretch.ensures.lines,
       c.in_ok-stretch.ensures.heard,
       subst (OnlyOne j c.args.running.now) (sym ran.is) (only_one_on j c.args.running.now rs r h.3),
       subst (KnowsOthers plan j c.args.horizon) (sym ran.is) (horizon_on plan j c.args.horizon rs r h.4),

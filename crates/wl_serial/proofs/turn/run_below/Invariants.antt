@@ -7,8 +7,8 @@ use Rattle.wl_serial.proofs.turn.run_below.Given as goal
 abbrev pub invariant-loop-running : goal.invariant-loop-running
 invariant-loop-running l =
     AreRunning l.plan l.running
-    × AreLines l.plan l.ears
-    × AreHeard l.plan l.running l.ears
+    × AreLines l.plan l.lines
+    × AreHeard l.plan l.running l.lines
     × OnlyOne l.j l.fn.running l.running
     × KnowsOthers l.plan l.j l.horizon l.running
     × ((l.running ≡ l.fn.running) ⊎ (ticks_left l.plan.end l.running < ticks_left l.plan.end l.fn.running))

@@ -26,7 +26,7 @@ returns-clause-ran c =
 pub returns-clause-heard : goal.returns-clause-heard
 returns-clause-heard c =
     let inside : c.args.j < length c.args.running.now = omega (arith, c.requires.node, c.requires.somewhere.all) in
-    heard_same c.args.plan.now c.args.running.now c.args.j c.go.new.self c.args.ears.now inside
+    heard_same c.args.plan.now c.args.running.now c.args.j c.go.new.self c.args.lines.now inside
     (λ d. let same = get_or_default c.args.running.now c.args.j c.index-running-j.result d inside in (
       c.in_ok-tick.ensures.told ∙ (ap (one_more (get_or c.args.running.now c.args.j c.index-running-j.result).changes) c.in_default.is ∙ ap (λ r. r.changes) same),
       (let e = ap (λ r. r.next) same in omega (arith, e, c.in_ok-tick.ensures.later)),

@@ -7,7 +7,7 @@ use Rattle.wl_serial.proofs.Beside.{somewhere_on}
 use Rattle.wl_serial.proofs.Following.{all_later, ran_later}
 use Rattle.wl_serial.proofs.Guesses.{holds}
 use Rattle.wl_serial.proofs.Runners.{somewhere}
-use Rattle.wl_serial.proofs.Slices.{running_of, ears_of, heard_of, known_of, next_of, engine_of, whole}
+use Rattle.wl_serial.proofs.Slices.{running_of, lines_of, heard_of, known_of, next_of, engine_of, whole}
 use Rattle.wl_serial.proofs.engine.Engine.guess.Goals as goal
 
 pub lead-requires-clause-somewhere : goal.lead-requires-clause-somewhere
@@ -15,11 +15,11 @@ lead-requires-clause-somewhere c =
     let rs = c.deref_mut-nodes.result.now in
     somewhere c.args.plan.now rs (running_of c.args.plan.now c.args.self.now rs c.deref_mut-nodes.ensures.value c.requires.engine)
 
-pub lead-requires-clause-ears : goal.lead-requires-clause-ears
-lead-requires-clause-ears c = ears_of c.args.plan.now c.args.self.now _ c.deref_mut-ears.ensures.value c.requires.engine
+pub lead-requires-clause-lines : goal.lead-requires-clause-lines
+lead-requires-clause-lines c = lines_of c.args.plan.now c.args.self.now _ c.deref_mut-lines.ensures.value c.requires.engine
 
 pub lead-requires-clause-heard : goal.lead-requires-clause-heard
-lead-requires-clause-heard c = heard_of c.args.plan.now c.args.self.now _ _ c.deref_mut-nodes.ensures.value c.deref_mut-ears.ensures.value c.requires.engine
+lead-requires-clause-heard c = heard_of c.args.plan.now c.args.self.now _ _ c.deref_mut-nodes.ensures.value c.deref_mut-lines.ensures.value c.requires.engine
 
 pub lead-requires-clause-below : goal.lead-requires-clause-below
 lead-requires-clause-below c = (next_of c.args.plan.now.end c.args.j c.args.self.now.nodes.items _ c.deref_mut-nodes.ensures.value c.requires.next).before
@@ -52,13 +52,13 @@ promise_all-requires c =
 pub returns-then-branch-clause-engine : goal.returns-then-branch-clause-engine
 returns-then-branch-clause-engine c =
     let running = c.promise_all.ensures.running in
-    let ears = c.in_ok-follow.ensures.ears in
+    let lines = c.in_ok-follow.ensures.lines in
     let old = c.requires.engine.running.all in
-    let were = c.requires.engine.ears.all in
-    engine_of c.args.plan.now _ c.promise_all.new.running c.follow.new.ears _
+    let were = c.requires.engine.lines.all in
+    engine_of c.args.plan.now _ c.promise_all.new.running c.follow.new.lines _
     (whole c.args.self.now.nodes.len c.promise_all.new.running c.args.self.now.nodes.items (omega (arith, running.all, old, c.args.self.now.nodes.ok.0)))
-    (whole c.args.self.now.ears.len c.follow.new.ears c.args.self.now.ears.items (omega (arith, ears.all, were, c.args.self.now.ears.ok.0)))
-    refl running ears (c.promise_all.ensures.heard c.follow.new.ears c.in_ok-follow.ensures.heard) c.all_known-self.ensures
+    (whole c.args.self.now.lines.len c.follow.new.lines c.args.self.now.lines.items (omega (arith, lines.all, were, c.args.self.now.lines.ok.0)))
+    refl running lines (c.promise_all.ensures.heard c.follow.new.lines c.in_ok-follow.ensures.heard) c.all_known-self.ensures
 
 pub returns-then-branch-clause-went : goal.returns-then-branch-clause-went
 returns-then-branch-clause-went c =
@@ -98,11 +98,11 @@ returns-clause-engine c =
     let later = all_later rs c.lead.new.running c.follow.new.running (ran_later plan c.args.j plan.end rs c.lead.new.running c.in_ok-lead.ensures.ran) c.in_ok-follow.ensures.later in
     let back = c.in_ok-back.ensures rs (subst (AreBefore rs) (sym c.deref.ensures.value) c.in_ok-marks.ensures) later in
     let old = c.requires.engine.running.all in
-    let were = c.requires.engine.ears.all in
-    engine_of plan _ c.back.new.running c.forget.new.ears _
+    let were = c.requires.engine.lines.all in
+    engine_of plan _ c.back.new.running c.forget.new.lines _
     (whole c.args.self.now.nodes.len c.back.new.running c.args.self.now.nodes.items (omega (arith, back.all, running.all, old, c.args.self.now.nodes.ok.0)))
-    (whole c.args.self.now.ears.len c.forget.new.ears c.args.self.now.ears.items (omega (arith, c.forget.ensures.ears.all, were, c.args.self.now.ears.ok.0)))
-    refl (back_running plan rs c.back.new.running running back) c.forget.ensures.ears (c.forget.ensures.heard c.back.new.running)
+    (whole c.args.self.now.lines.len c.forget.new.lines c.args.self.now.lines.items (omega (arith, c.forget.ensures.lines.all, were, c.args.self.now.lines.ok.0)))
+    refl (back_running plan rs c.back.new.running running back) c.forget.ensures.lines (c.forget.ensures.heard c.back.new.running)
     (back_known plan.end rs c.back.new.running c.args.self.now.known known back)
 
 pub returns-clause-went : goal.returns-clause-went

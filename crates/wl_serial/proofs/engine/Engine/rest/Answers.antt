@@ -2,14 +2,14 @@
 use Rattle.std.proofs.Common.{◌∙◌, refl, sym, subst, arith}
 use Rattle.wl_serial.specs.LineAt.{AreHeard}
 use Rattle.wl_serial.specs.QuietLine.{AreLifted, AllStay}
-use Rattle.wl_serial.proofs.Slices.{running_of, ears_of, heard_of, known_of, engine_of, whole}
+use Rattle.wl_serial.proofs.Slices.{running_of, lines_of, heard_of, known_of, engine_of, whole}
 use Rattle.wl_serial.proofs.engine.Engine.rest.Goals as goal
 
 pub rests_until-until-requires-clause-running : goal.rests_until-until-requires-clause-running
 rests_until-until-requires-clause-running c = running_of c.args.plan.now c.args.self.now _ c.deref.ensures.value c.requires.engine
 
-pub rests_until-until-requires-clause-ears : goal.rests_until-until-requires-clause-ears
-rests_until-until-requires-clause-ears c = ears_of c.args.plan.now c.args.self.now _ c.deref-2.ensures.value c.requires.engine
+pub rests_until-until-requires-clause-lines : goal.rests_until-until-requires-clause-lines
+rests_until-until-requires-clause-lines c = lines_of c.args.plan.now c.args.self.now _ c.deref-2.ensures.value c.requires.engine
 
 pub rests_until-until-requires-clause-heard : goal.rests_until-until-requires-clause-heard
 rests_until-until-requires-clause-heard c = heard_of c.args.plan.now c.args.self.now _ _ c.deref.ensures.value c.deref-2.ensures.value c.requires.engine
@@ -27,11 +27,11 @@ pub returns-clause-engine : goal.returns-clause-engine
 returns-clause-engine c =
     let new = c.lift.ensures.running in
     let old = c.requires.engine.running.all in
-    engine_of c.args.plan.now _ c.lift.new.running c.args.self.now.ears.items c.lift.new.known
+    engine_of c.args.plan.now _ c.lift.new.running c.args.self.now.lines.items c.lift.new.known
     (whole c.args.self.now.nodes.len c.lift.new.running c.args.self.now.nodes.items (omega (arith, new.all, old, c.args.self.now.nodes.ok.0)))
-    refl refl new c.requires.engine.ears
-    (c.lift.ensures.lifted.heard c.args.self.now.ears.items
-    (subst (λ xs. AreHeard c.args.plan.now xs c.args.self.now.ears.items) (sym c.deref_mut.ensures.value) c.requires.engine.heard))
+    refl refl new c.requires.engine.lines
+    (c.lift.ensures.lifted.heard c.args.self.now.lines.items
+    (subst (λ xs. AreHeard c.args.plan.now xs c.args.self.now.lines.items) (sym c.deref_mut.ensures.value) c.requires.engine.heard))
     c.lift.ensures.known
 
 pub returns-clause-lifted : goal.returns-clause-lifted

@@ -6,17 +6,17 @@ use Rattle.wl_serial.specs.Running.{ticks_left}
 use Rattle.wl_serial.proofs.Hearing.{heard_same}
 use Rattle.wl_serial.proofs.Known.{known_on, only_one_on}
 use Rattle.wl_serial.proofs.Runners.{one_on, same_left}
-use Rattle.wl_serial.proofs.Slices.{running_of, ears_of, heard_of, known_of, next_of, engine_of, whole}
+use Rattle.wl_serial.proofs.Slices.{running_of, lines_of, heard_of, known_of, next_of, engine_of, whole}
 use Rattle.wl_serial.proofs.engine.Engine.turn.Goals as goal
 
 pub run_below-requires-clause-running : goal.run_below-requires-clause-running
 run_below-requires-clause-running c = running_of c.args.plan.now c.args.self.now _ c.deref_mut-nodes.ensures.value c.requires.engine
 
-pub run_below-requires-clause-ears : goal.run_below-requires-clause-ears
-run_below-requires-clause-ears c = ears_of c.args.plan.now c.args.self.now _ c.deref_mut-ears.ensures.value c.requires.engine
+pub run_below-requires-clause-lines : goal.run_below-requires-clause-lines
+run_below-requires-clause-lines c = lines_of c.args.plan.now c.args.self.now _ c.deref_mut-lines.ensures.value c.requires.engine
 
 pub run_below-requires-clause-heard : goal.run_below-requires-clause-heard
-run_below-requires-clause-heard c = heard_of c.args.plan.now c.args.self.now _ _ c.deref_mut-nodes.ensures.value c.deref_mut-ears.ensures.value c.requires.engine
+run_below-requires-clause-heard c = heard_of c.args.plan.now c.args.self.now _ _ c.deref_mut-nodes.ensures.value c.deref_mut-lines.ensures.value c.requires.engine
 
 pub promise-requires-clause-running : goal.promise-requires-clause-running
 promise-requires-clause-running c =
@@ -53,15 +53,15 @@ returns-clause-engine c =
     let b : j < length rs = omega (arith, few, new.all, is_node) in
     let was : j < length c.deref_mut-nodes.result.now = omega (arith, few, old.all, is_node) in
     let all = length-set rs j r in
-    let places = c.in_ok-run_below.ensures.ears.all in
-    let were = c.requires.engine.ears.all in
-    engine_of plan _ (set rs j r) c.run_below.new.ears _
+    let places = c.in_ok-run_below.ensures.lines.all in
+    let were = c.requires.engine.lines.all in
+    engine_of plan _ (set rs j r) c.run_below.new.lines _
     (whole c.args.self.now.nodes.len (set rs j r) c.args.self.now.nodes.items (omega (arith, all, new.all, few, c.args.self.now.nodes.ok.0)))
-    (whole c.args.self.now.ears.len c.run_below.new.ears c.args.self.now.ears.items (omega (arith, places, were, c.args.self.now.ears.ok.0)))
+    (whole c.args.self.now.lines.len c.run_below.new.lines c.args.self.now.lines.items (omega (arith, places, were, c.args.self.now.lines.ok.0)))
     refl
     (one_on plan rs j r b new c.promise.ensures.running)
-    c.in_ok-run_below.ensures.ears
-    (heard_same plan rs j r c.run_below.new.ears b
+    c.in_ok-run_below.ensures.lines
+    (heard_same plan rs j r c.run_below.new.lines b
     (λ d. let same = get_or_default rs j c.index-nodes-j.result d b in (
       c.promise.ensures.changes ∙ ap (λ x. x.changes) same,
       (let e = ap (λ x. x.next) same in omega (arith, e, c.promise.ensures.next)),

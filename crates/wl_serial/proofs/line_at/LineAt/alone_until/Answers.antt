@@ -10,4 +10,4 @@ returns c =
     let few = c.laws.ensures.checked.few_nodes in
     let min = c.min.ensures in
     hears_only plan rs c.args.j c.args.i c.alone_until.result c.min.result c.args.self.now c.requires.leader few
-    (c.alone_until.ensures (length plan.nodes) c.requires.leader few c.requires.ear.sources) (omega (arith, min)) c.requires.heard c.requires.ear.disturbance c.if-self.false (omega (arith, min))
+    (c.alone_until.ensures (length plan.nodes) c.requires.leader few c.requires.line.sources) (omega (arith, min)) c.requires.heard c.requires.line.disturbance c.if-self.false (omega (arith, min))

@@ -9,16 +9,16 @@ loop-i-preserved c =
     let known = c.args.known.now in
     let others = c.args.self.now.others in
     let b : c.loop-i.i < length known = omega (arith, c.loop-i-test.true, c.told-known) in
-    let o : c.loop-i.i < length others = omega (arith, c.loop-i-test.true, c.requires.ear.others.all) in
+    let o : c.loop-i.i < length others = omega (arith, c.loop-i-test.true, c.requires.line.others.all) in
     let sum = c.saturating_add.ensures in
     let least = c.min-horizon.ensures in
     let ends = c.laws.ensures.checked.ends in
-    horizon_one_more c.args.plan.now c.args.j c.args.running.now known others c.loop-i.i c.loop-i.horizon c.min-horizon.result c.saturating_add.result _ _ c.requires.known c.requires.ear.others b o
+    horizon_one_more c.args.plan.now c.args.j c.args.running.now known others c.loop-i.i c.loop-i.horizon c.min-horizon.result c.saturating_add.result _ _ c.requires.known c.requires.line.others b o
     (get_or_default known c.loop-i.i 0 _ b) (get_or_default others c.loop-i.i 0 _ o) (omega (arith, sum)) (λ t before early. omega (arith, sum, before, early, ends)) (omega (arith, least))
     (omega (arith, least)) (λ t below early. omega (arith, least, below, early)) c.loop-i.invariant
 
 pub returns-clause-known : goal.returns-clause-known
 returns-clause-known c =
     let all : c.loop-i.i ≡ length c.args.known.now = omega (arith, c.told-known, c.loop-i-test.false, c.loop-i.auto.i-end) in
-    knows_others c.args.plan.now c.args.j c.args.running.now c.args.known.now c.args.self.now.others c.loop-i.horizon c.requires.known c.requires.ear.others c.requires.running.all
+    knows_others c.args.plan.now c.args.j c.args.running.now c.args.known.now c.args.self.now.others c.loop-i.horizon c.requires.known c.requires.line.others c.requires.running.all
     (subst (λ n. IsHorizon c.args.plan.now.end c.args.running.now c.args.known.now c.args.self.now.others n c.loop-i.horizon) all c.loop-i.invariant)
