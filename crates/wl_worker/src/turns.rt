@@ -1,10 +1,10 @@
 //! One worker: its turns, from the first silences of its members to their end.
-ghost use Rattle.std.specs.Prelude.{◌≡◌, ◌≢◌, ◌+◌, ◌<◌, true, false, None, IsTrue, IfOk, IfErr, IfSome, IfNone, OnOk};
+ghost use Rattle.std.specs.Prelude.{◌≡◌, ◌≢◌, ◌+◌, ◌<◌, ◌≤◌, true, false, None, IsTrue, IfOk, IfErr, IfSome, IfNone, OnOk};
 ghost use Rattle.wl_plan.specs.declared.plan.Plan.{Plan as GivenPlan};
 ghost use Rattle.wl_group.specs.GroupValue.{belongs, may_run, initial_group};
 ghost use Rattle.wl_worker.specs.Handed.{AreTrueOfPlan};
 ghost use Rattle.wl_worker.specs.Finished.{MembersEnded, HasFinished};
-ghost use Rattle.wl_worker.specs.Promised.{IsLeastPromised, IsLeastOf, IsBlocked};
+ghost use Rattle.wl_worker.specs.Promised.{IsLeastPromised, IsLeastOf, IsBlocked, promise_of};
 ghost use Rattle.wl_worker.specs.Given.{first_silences_of, Gives, GaveFirst};
 
 use crate::link::{Fault, Gate, Link, LinkFault};
@@ -23,8 +23,8 @@ const MOST_ROWS: u32 = 32;
 /// Runs a group to its end, with what comes by its link.
 ///
 /// The worker gives its members' first silences. Then in each turn it asks the gate, fetches, runs its members, each time the one with the
-/// least promise, and gives what they said, if anything. It waits if that one may not run, until it has the least promise of all nodes. It
-/// ends when all its members are at the end. If it fails, it lets the others know by `stop`.
+/// least promise, and gives what they said, if anything. It waits if that one may not run, until it can run it for half of the least
+/// delay or more. It ends when all its members are at the end. If it fails, it lets the others know by `stop`.
 ///
 /// If the gate asks a restart of a turn, the group begins again before it: fresh nodes that know nothing, to which the link hands again
 /// what it handed, and which give their first silences again.
@@ -66,6 +66,7 @@ fn run<L: Link, G: Gate>(
     ensures fault { IfErr result (λ fault. fault ≢ Fault.Workers) }
 {
     let worker = link.worker();
+    let near = group.plan().topology.least_delay() / 2;
     match begin(alloc, group, link) {
         Ok(()) => (),
         Err(fault) => return Err(fault_of(fault, worker)),
@@ -85,7 +86,7 @@ fn run<L: Link, G: Gate>(
         if !waits {
             continue;
         }
-        if let Some(stopped) = link.wait(awaited_by(group, least)) {
+        if let Some(stopped) = link.wait(awaited_by(group, least, near)) {
             return Err(Fault::Worker(stopped));
         }
     }
@@ -269,13 +270,16 @@ fn least_promised(group: &Group) -> Option<u8>
     least
 }
 
-/// Returns the tick up to which all nodes have to be promised before a blocked worker runs again: up to where its member `i` with the least
-/// promise is, or to the end. So it waits until it is the one with the least promise of all, which may run. Before that it could run too, if
-/// only a little, and then wait again.
-fn awaited_by(group: &Group, i: u8) -> u64
+/// Returns the tick up to which all nodes have to be promised before a blocked worker runs again: `near` ticks before its member `i` with
+/// the least promise is, or before the end. With half of the least delay it can then run for half of it or more, while the others still
+/// run. It is no later than that promise, so workers don't wait for one another in a ring.
+fn awaited_by(group: &Group, i: u8, near: u64) -> u64
     requires { i < group.now.replica.nodes }
+    ensures { result ≤ promise_of group.now i }
 {
-    group.replica().horizon(i).min(group.plan().end)
+    let promise = group.replica().horizon(i).min(group.plan().end);
+    // Before anything was promised none can run on.
+    promise.saturating_sub(near).max(1).min(promise)
 }
 
 /// Returns the one of the nodes up to `i` with the least promise, by the one of those before it.
