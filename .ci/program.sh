@@ -11,7 +11,8 @@
 # - each row of .ci/refused.txt: the status, the one line on standard error, nothing on standard output but what explain says of it, and the hint
 # - files for input and output: what stands at the named place on each outcome; devices, rights, full disks, closed descriptors, odd names
 # - settings: lists and plans as check/settings.py has them, and what is refused (.ci/settings.sh)
-# - the commands of docs/use/first-hour.md, examples.md, settings.md and sweeps.md, whose outputs are those that the page shows (.ci/shown.py)
+# - the commands that README.md and the pages of docs/ show with a `$`, whose outputs are those below them (.ci/shown.py; the loop names the pages);
+#   the faults in the examples of docs/use/plan-text.md, the tables of docs/use/from-the-book.md (check/book.py), and the plan of README.md
 # - JSON and CSV of each command, by Python's readers (check/formats.py)
 # - sweeps: known answers, what is refused, files, memory (.ci/sweeps.sh)
 # - command lines that name no task, or are no text: status 2, and nothing on standard output
@@ -154,9 +155,48 @@ if command -v chromium > /dev/null; then
   is "maps of sweeps in a browser" python3 -B check/page.py "$program" --sweeps
 fi
 
-for page in first-hour examples settings sweeps; do
-  is "what the page $page shows" python3 -B .ci/shown.py "docs/use/$page.md" "$program"
+use=docs/use
+for page in README.md $use/{commands,examples,explain,first-hour,formats,plan-text,reports,settings,sweeps,trace,traffic,views}.md docs/bus/any-senders.md; do
+  is "what the page $page shows" python3 -B .ci/shown.py "$page" "$program"
 done
+# The plan of plan-text.md, edited as each row of its table of examples says, has the fault that the row answers.
+sed -n '/^# pair.toml/,/^```$/{/^```$/d;p}' $use/plan-text.md > "$room/pair.toml"
+sed -n '/^| Text | Answer |$/,/^$/s/.*| `\([^`]*\)`[^|]*|$/fault: \1/p' $use/plan-text.md > "$room/answers"
+while IFS= read -r edit; do
+  sed "$edit" "$room/pair.toml" | "$program" check > "$room/out"
+done 2> "$room/found" << 'EDITS'
+/^end/d
+s/^version = 1/version = 4/
+0,/^sjw = 2/s//sjw = 4/
+s/^name = "b"/name = "a"/
+s/^dlc = 2/&\nevery = 250/
+s/^dlc = 2/&\nevery = 0/; s/^version = 1/version = 3/
+s/^dlc = 2/&\ncount = 2/; s/^version = 1/version = 3/
+s/^x = 25/node = "b"/
+s/^x = 25/node = "c"/; s/^version = 1/version = 3/
+s/^x = 25/&\nnode = "b"/; s/^version = 1/version = 3/
+s/^dlc = 2/&\nevery = 1/; s/^end = 70000/end = 500000/; s/^version = 1/version = 3/
+s/^quantum = 100/&\nnum = 100/
+s/^den = 1/&\nppm = -40/
+s/^per = 1/&\nzb = 1\nza = 1/
+s/^end = 70000/end = 281474976710656/
+s/^end = 70000/end = 9223372036854775808/
+s/^per = 1/&\nnode = []/; /^\[\[node/,$d
+s/^id = 0x123/id = 2048/
+s/^id = 0x123/id = 2048/; s/^quantum = 100/num = 1\nden = 2/; /^ppm/d
+s/^id = 0x123/id = 536870912\nextended = true/
+0,/^in = 1/s//in = 0/
+s/^end = 70000/end = 68719476737/
+s/^to = 30700/to = 30000/
+EDITS
+is "the faults that $use/plan-text.md answers: $(diff "$room/answers" "$room/found" | tr '\n' ' ')" cmp -s "$room/answers" "$room/found"
+python3 -B check/book.py "$program" | grep '^|' > "$room/tables"
+missed=$(grep -vxFf $use/from-the-book.md "$room/tables")
+is "the tables of $use/from-the-book.md: $missed" [ -s "$room/tables" -a -z "$missed" ]
+# README's plan is the head of an example, but for its remarks.
+bare() { sed -E 's/ *#.*//; /^$/d' "$@"; }
+sed -n '/^```toml$/,/^```$/{/^```/d;p}' README.md | bare > "$room/head"
+is "the plan of README.md" [ -s "$room/head" -a "$(cat "$room/head")" = "$(bare examples/clean_500k.toml | head -n "$(wc -l < "$room/head")")" ]
 
 for name in bounds doubts rates; do
   runs "explain of $name" ".ci/$name.toml" 0 ".ci/$name.explained" "$room/none" explain

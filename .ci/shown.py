@@ -3,10 +3,11 @@
 
 usage: shown.py PAGE PROGRAM      status 1 if an output differs, or if the page shows no command
 
-Commands run in a temporary folder, one after the other, by bash. It has `wireline`, which runs PROGRAM, and `examples`.
+Commands run in a temporary folder, one after the other, by bash. It has `wireline`, which runs PROGRAM, `examples` and `.ci`.
 - A block of toml whose first line is a comment that begins with a file's name is written to that file.
 - In a block without a language a line `$ COMMAND` is a command; the lines below it, up to the next one, are standard output and standard error.
 - A line `..` there stands for any number of lines.
+- A block without a language that doesn't begin with a command is an output that differs, since nothing would compare it.
 - A block with a language is not run.
 """
 import difflib
@@ -62,12 +63,15 @@ def main():
     page, program = Path(sys.argv[1]), str(Path(sys.argv[2]).resolve())
     count = differ = 0
     with tempfile.TemporaryDirectory() as folder:
-        for name in "wireline", "examples":
+        for name in "wireline", "examples", ".ci":
             Path(folder, name).symlink_to(TOP / name)
         for language, lines in blocks(page.read_text(encoding="utf-8")):
             named = re.match(r"# ([\w.-]+\.toml)\b", lines[0]) if language == "toml" and lines else None
             if named:
                 Path(folder, named[1]).write_text("\n".join(lines) + "\n", encoding="utf-8")
+            if not language and not (lines and lines[0].startswith("$ ")):
+                differ += 1
+                print(f"{page}: a block without a language and without a command: {lines[0] if lines else 'empty'}")
             for command, wanted in [] if language else shown(lines):
                 count += 1
                 written = run(command, folder, program)
