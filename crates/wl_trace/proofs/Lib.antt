@@ -13,3 +13,4 @@ mod Passing
 mod Kept
 mod RunOver
 mod Skipping
+mod Sampling

@@ -2,7 +2,7 @@
 ghost use Rattle.std.specs.Prelude.{◌≡◌, ℕ, ◌+◌, ◌-◌, ◌<◌, ◌≤◌, ◌^◌, ◌++◌, [], ◌∷◌, List, OnOk, IfOk, length, min, option_map, replicate};
 ghost use Rattle.wl_level.specs.declared.Level.{Level};
 ghost use Rattle.wl_node.specs.declared.setup.NodeSetup.{NodeSetup};
-ghost use Rattle.wl_node.specs.History.{History, by_beat, history_of};
+ghost use Rattle.wl_node.specs.History.{History, by_beat, history_after_sample, history_of};
 ghost use Rattle.wl_trace.specs.Events.{noted};
 ghost use Rattle.wl_trace.specs.Rerun.{IsRerun, RunsAgain, RunsOver, RunsTo, starts_with};
 ghost use Rattle.wl_trace.specs.Snapshot.{plain_quanta, snapshot_of};
@@ -153,12 +153,22 @@ impl Rerun {
                 self.drive = self.sampled_node.pending;
                 self.started = !self.started;
             }
-            Beat::Sample(_) => {
-                self.sampled_node.sample_at(setup, quantum, level);
-                self.bits = self.bits.saturating_add(1);
-                self.sampled = !self.sampled;
-            }
+            Beat::Sample(_) => self.sample(setup, quantum, level),
         }
+    }
+
+    /// Takes the sample of the quantum of this number, which has this level.
+    fn sample(&mut self, setup: &NodeSetup, quantum: u64, level: Level)
+        ensures run { (h : History) (starts : ℕ) → quantum ≡ length h.seen
+            → self.old.sampled_node.sent < 2 ^ 64 - 1 → self.old.bits < 2 ^ 64 - 1 → RunsTo self.old h starts
+            → RunsTo self.new (history_after_sample setup.now h level) starts }
+        ensures clock { self.new.clock ≡ self.old.clock }
+        ensures sent { self.new.sampled_node.sent ≤ self.old.sampled_node.sent + 1 }
+        ensures bits { self.new.bits ≤ self.old.bits + 1 }
+    {
+        self.sampled_node.sample_at(setup, quantum, level);
+        self.bits = self.bits.saturating_add(1);
+        self.sampled = !self.sampled;
     }
 
     /// Goes over quanta of this level that neither sample nor begin a bit, so that nothing shown changes and no edge synchronises: all that
@@ -221,7 +231,29 @@ impl Rerun {
         Ok(())
     }
 
-    /// Goes over the quanta of this level that sample nothing, and runs one more: at least one quantum, and at most `most`. Returns how many.
+    /// Runs the quanta of this level up to and including the next sample. It runs none if the sample comes later than `most` quanta, if an
+    /// edge comes up to it, or if a bit's start before it changes what the node drives. The mark of starts isn't kept. Returns how many.
+    fn sample_ahead(&mut self, setup: &NodeSetup, quantum: u64, level: Level, most: u64) -> u64
+        requires few { quantum + most < 2 ^ 64 }
+        ensures ran { (syncs : List Noted) → RunsOver setup.now quantum result level self.old self.new syncs syncs }
+        ensures none { result ≡ 0 → self.new ≡ self.old }
+        ensures few { result ≤ most }
+    {
+        if !self.drive.is(self.sampled_node.pending) {
+            return 0;
+        }
+        match self.clock.until_sample(level) {
+            Some(before) if (before as u64) < most => {
+                self.clock.sample(level);
+                self.sample(setup, quantum + before as u64, level);
+                before as u64 + 1
+            }
+            _ => 0,
+        }
+    }
+
+    /// Runs the quanta of this level up to and including a sample, or those that sample nothing and one more: at least one quantum, and at
+    /// most `most`. Returns how many.
     fn leap(
         &mut self,
         setup: &NodeSetup,
@@ -237,6 +269,10 @@ impl Rerun {
         ensures some { IfOk result (λ n. 0 < n) }
         ensures few { IfOk result (λ n. n ≤ most) }
     {
+        let sampled = self.sample_ahead(setup, quantum, level, most);
+        if 0 < sampled {
+            return Ok(sampled);
+        }
         let passed = self.skip(level, most);
         if passed == most {
             return Ok(passed);

@@ -1,27 +1,11 @@
 -- A sample is the next one of the past.
-use Rattle.std.proofs.Common.{◌≡◌, ◌∙◌, [], ◌∷◌, ◌++◌, ℕ, not, sym, ap, subst, length, length-append, arith, suc}
-use Rattle.wl_level.specs.declared.Level.{Level}
-use Rattle.wl_node.specs.declared.setup.NodeSetup.{NodeSetup}
+use Rattle.std.proofs.Common.{sym, subst}
 use Rattle.wl_node.specs.History.{by_beat}
 use Rattle.wl_sync.specs.declared.Beat.{Beat}
-use Rattle.wl_trace.specs.Replay.{IsSampledNode, past_after, past_of}
-use Rattle.wl_trace.specs.declared.rerun.Rerun.{Rerun}
 use Rattle.wl_trace.specs.Rerun.{RunsTo, starts_with}
-use Rattle.wl_trace.specs.Snapshot.{mark}
 use Rattle.wl_trace.proofs.rerun.Rerun.obey.Goals as goal
 
 pub returns-in-Sample-clause-run : goal.returns-in-Sample-clause-run
 returns-in-Sample-clause-run c h starts n few fewer r =
-    let level : Level = c.args.level in
-    let setup : NodeSetup = c.args.setup.now in
-    let next : IsSampledNode c.sample_at.new.self (past_after setup (past_of h) (c.args.quantum, level)) = c.sample_at.ensures.past (past_of h) few r.sampled_node in
-    let one : length (h.samples ++ (length h.seen, level) ∷ []) ≡ suc (length h.samples) = (let e = length-append h.samples ((length h.seen, level) ∷ []) in omega arith) in
-    let kept : Rerun = record c.args.self.now { sampled_node = c.sample_at.new.self; bits = c.saturating_add-self.result; sampled = not c.args.self.now.sampled } in
-    subst (λ (b : Beat). RunsTo kept (by_beat setup h level b) (starts_with b starts)) (sym c.in-Sample.is)
-    (record {
-      sampled_node = subst (λ (k : ℕ). IsSampledNode c.sample_at.new.self (past_after setup (past_of h) (k, level))) n next;
-      drive = r.drive;
-      bits = omega (arith, c.saturating_add-self.ensures, r.bits, one);
-      sampled = ap not r.sampled ∙ ap mark (sym one);
-      started = r.started;
-    })
+    subst (λ (b : Beat). RunsTo c.sample.new.self (by_beat c.args.setup.now h c.args.level b) (starts_with b starts)) (sym c.in-Sample.is)
+    (c.sample.ensures.run h starts n few fewer r)
