@@ -314,7 +314,7 @@ fn told_in_order(
     wl_plan::simulation_laws();
     wl_trace::trace_laws();
     let mut told = all_told(alloc, plan, outcome)?;
-    told.sort_by_key(|(tick, _)| *tick)?;
+    told.sort_by_cached_key(|(tick, _)| *tick)?;
     Ok(told)
 }
 

@@ -16,9 +16,9 @@ some_event = (0, record { quantum = 0; bit = 0; event = events.Flag Active })
 pub returns : goal.returns
 returns c =
     let end : ℕ = c.args.plan.now.end in
-    sorted_is_by_tick end some_event c.in_ok-told.told.items c.sort_by_key.new.self.items c.in_ok-sort_by_key.ensures.permutation
-    (IsNonDecreasingBy-from_sort_by_key (λ s. s.0) _ c.in_ok-sort_by_key.ensures.sorted (λ a r q k. search rules))
-    (c.in_ok-sort_by_key.ensures.stable (λ s. s.0) (answers_always _ (λ a r. r ≡ a.0.now.0) _ (λ f a r q k. search rules)))
+    sorted_is_by_tick end some_event c.in_ok-told.told.items c.sort_by_cached_key.new.self.items c.in_ok-sort_by_cached_key.ensures.permutation
+    (IsNonDecreasingBy-from_sort_by_key (λ s. s.0) _ c.in_ok-sort_by_cached_key.ensures.sorted (λ a r q k. search rules))
+    (c.in_ok-sort_by_cached_key.ensures.stable (λ s. s.0) (answers_always _ (λ a r. r ≡ a.0.now.0) _ (λ f a r q k. search rules)))
     (subst (All (λ (s : ℕ × (ℕ × Noted)). s.0 < end)) (sym c.in_ok-told.ensures)
     (told_below c.simulation_laws.ensures c.trace_laws.ensures c.args.plan.now c.laws.ensures.sound))
     ∙ ap (by_tick end) c.in_ok-told.ensures
