@@ -5,7 +5,8 @@ use Rattle.wl_segments.specs.declared.SyncRules.TheVariants.{After}
 use Rattle.wl_frame.specs.Grammar.{Content}
 use Rattle.wl_node.specs.declared.setup.NodeSetup.{NodeSetup}
 use Rattle.wl_plan.specs.Limits.{most_quanta}
-use Rattle.wl_explain.specs.Doubts.{frame_bits, difference, borne, longest_round, idle_at, begins_before, wanted_bits, has_no_room}
+use Rattle.wl_bound.specs.Verdicts.{idle_at}
+use Rattle.wl_explain.specs.Doubts.{frame_bits, difference, borne, longest_round, begins_before, wanted_bits, has_no_room}
 
 abbrev pub node : ℕ → ℕ → NodeSetup
 node offset num = record {

@@ -9,6 +9,7 @@ use Rattle.wl_frame.specs.Grammar.{Content}
 use Rattle.wl_node.specs.declared.setup.NodeSetup.{NodeSetup}
 use Rattle.wl_plan.specs.declared.plan.Plan.{Plan}
 use Rattle.wl_plan.specs.PlanLine.{setup_at}
+use Rattle.wl_bound.specs.Verdicts.{idle_at}
 use Rattle.wl_explain.specs.Figures.{mean_quantum, longest_trip, tolerance}
 
 -- the mean length of a node's bit up to the end of a plan, in millionths of a tick
@@ -52,11 +53,7 @@ frame_bits c = (if c.extended then 67 else 47) + 8 * length c.bytes
 abbrev pub queue_bits : NodeSetup → ℕ
 queue_bits s = sum_by (λ w. frame_bits w.frame) s.queue
 
--- the tick at which a node has counted the 11 bits that it waits for (Bosch CAN 2.0 part B, section 2, wake-up)
-abbrev pub idle_at : NodeSetup → ℕ
-idle_at s = tick_of s.clock (11 * bit_quanta s.segments)
-
--- that at which each of the nodes below a number has
+-- the tick at which each of the nodes below a number has counted the 11 bits that it waits for
 abbrev pub idle_below : Plan → ℕ → ℕ
 idle_below plan zero = 0
 idle_below plan (suc j) = max (idle_below plan j) (idle_at (setup_at plan j))

@@ -2,7 +2,8 @@
 ghost use Rattle.std.specs.Prelude.{◌≡◌, ◌+◌, ◌*◌, ◌^◌, ◌<◌, ◌≤◌, nat_lt, length};
 ghost use Rattle.wl_clock.specs.Timing.{tick_of};
 ghost use Rattle.wl_plan.specs.PlanLine.{setup_at};
-ghost use Rattle.wl_explain.specs.Doubts.{begins_before, bit_length, borne, difference, first_early, first_late, frame_bits, has_no_room, idle_at, idle_from, least_quanta, left, longest_round, queue_bits, round_trip, wanted_bits};
+ghost use Rattle.wl_bound.specs.Verdicts.{idle_at};
+ghost use Rattle.wl_explain.specs.Doubts.{begins_before, bit_length, borne, difference, first_early, first_late, frame_bits, has_no_room, idle_from, least_quanta, left, longest_round, queue_bits, round_trip, wanted_bits};
 
 use crate::{Quantum, tolerance};
 use wl_frame::frame::Frame;
