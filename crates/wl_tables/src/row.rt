@@ -12,6 +12,9 @@ use std::alloc::Global;
 use toml::Value;
 use toml_parser::text::{first, skip_blank, skip_ws};
 
+/// The most pairs of a table that is read here. Each key is compared with those before it, and the time grows with the square of their number.
+const MOST_PAIRS: usize = 64;
+
 /// A key without quotes and dots, and its value.
 #[derive(Drop)]
 pub struct Pair<'a> {
@@ -68,7 +71,7 @@ impl<'a> Row<'a> {
     }
 }
 
-/// Returns the pairs up to the next header or the end, and the text from there.
+/// Returns the pairs up to the next header or the end, at most 64, and the text from there.
 pub fn read_row(alloc: Global, s: &str) -> Option<(Row<'_>, &str)>
     ensures lines { IfSome result (λ r. Goes s.now (map pair_expression (pairs_of r.0)) r.1.now) }
     ensures table { IfSome result (λ r. IsTable (pairs_of r.0)) }
@@ -81,6 +84,9 @@ pub fn read_row(alloc: Global, s: &str) -> Option<(Row<'_>, &str)>
         let start = skip_blank(rest, true);
         if start.is_empty() || first(start) == b'[' {
             return Some((row, rest));
+        }
+        if row.pairs.len() == MOST_PAIRS {
+            return None;
         }
         let (pair, after) = read_pair(alloc, start)?;
         if row.get(pair.key).is_some() {
