@@ -7,7 +7,8 @@
 #   check/margin.py do; the same of plans as no example is; and the explanations of plans with every doubt, by the book and
 #   not, and of one whose clocks change their rates
 # - the log of one plan, as ticks of three lengths have it, and the waveform of one, as ticks of two have it
-# - two nodes with full queues, as check/plain.py reports them, and their trace, a long one, in other formats; a bus that idles, in less than 200 ms
+# - two nodes with full queues, as check/plain.py reports them, and their trace, a long one, in other formats; a bus that idles, in less than 200 ms;
+#   a table of 100,000 keys, in less than 3 s
 # - each row of .ci/refused.txt: the status, the one line on standard error, nothing on standard output but what explain says of it, and the hint
 # - files for input and output: what stands at the named place on each outcome; devices, rights, full disks, closed descriptors, odd names
 # - settings: lists and plans as check/settings.py has them, and what is refused (.ci/settings.sh)
@@ -144,6 +145,10 @@ is "its JSON" [ "$("$program" trace --format json < "$room/full.toml" | python3 
 sed 's/^end = .*/end = 100_000_000/' examples/clean_500k.toml > "$room/idle.toml"
 used=$( (TIMEFORMAT='%U %S'; time "$program" run < "$room/idle.toml" > "$room/out" 2> "$room/err") 2>&1 | awk '{ print int(1000 * ($1 + $2)) }')
 is "an idle bus of 100,000,000 ticks takes $used ms" [ "$used" -lt 200 -a ! -s "$room/err" -a "$(tail -1 "$room/out")" = 'verdict clean' ]
+# The time to read a table doesn't grow with the square of its keys: that took minutes for 100,000.
+{ echo 'version = 1'; seq -f 'a%.0f = 1' 100000; } > "$room/keys.toml"
+used=$( (TIMEFORMAT='%U %S'; time timeout 300 "$program" check < "$room/keys.toml" > "$room/out" 2> "$room/err") 2>&1 | awk '{ print int(1000 * ($1 + $2)) }')
+is "a table of 100,000 keys takes $used ms" [ "$used" -lt 3000 -a "$(cat "$room/err")" = 'fault: Missing(end)' ]
 
 # A page has what the other commands write, each text once, also of a plan whose remarks look like a page's own words.
 printf '# </pre><script>alert(1)</script> &amp; \r\n' | cat - examples/burst.toml > "$room/marked.toml"
@@ -463,6 +468,13 @@ if command -v gcc > /dev/null; then
   calls() { REFUSE=0 LD_PRELOAD="$room/refuse.so" timeout 300 "$program" run --workers 2 --link "$1" < examples/clean_500k.toml 2>&1 > /dev/null | sed -n 's/^calls //p'; }
   by_hub=$(calls hub) by_mail=$(calls mail)
   is "the links (allocations by hub: $by_hub, by mail: $by_mail)" [ "${by_mail:-0}" -gt $((${by_hub:-999999} * 5 / 4)) ]
+  # No clause says that plans of the usual form are read line by line: a reader that gives up makes the document, too. Behind a byte order mark
+  # the same text is read by the TOML reader alone.
+  asks() { REFUSE=0 LD_PRELOAD="$room/refuse.so" timeout 300 "$program" check 2>&1 > /dev/null | sed -n 's/^calls //p'; }
+  for name in burst cyclic_500k periodic_500k taken_twice; do
+    lines=$(asks < "examples/$name.toml") document=$( (printf '\357\273\277'; cat "examples/$name.toml") | asks)
+    is "$name is read line by line (allocations: $lines, by the TOML reader: $document)" [ "${lines:-999999}" -lt "${document:-0}" ]
+  done
   is "merge, each allocation refused" check/refuse.sh "$program" merge examples/records.txt
   is "horizon, each allocation refused" check/refuse.sh "$program" horizon examples/records.txt
   is "run FILE -o FILE, each allocation refused" refused_files
