@@ -468,7 +468,7 @@ if command -v gcc > /dev/null; then
   calls() { REFUSE=0 LD_PRELOAD="$room/refuse.so" timeout 300 "$program" run --workers 2 --link "$1" < examples/clean_500k.toml 2>&1 > /dev/null | sed -n 's/^calls //p'; }
   by_hub=$(calls hub) by_mail=$(calls mail)
   is "the links (allocations by hub: $by_hub, by mail: $by_mail)" [ "${by_mail:-0}" -gt $((${by_hub:-999999} * 5 / 4)) ]
-  # No clause says that plans of the usual form are read line by line: a reader that gives up makes the document, too. Behind a byte order mark
+  # No clause says that plans of the usual form are read line by line: a reader that gives up makes the document, too. After a byte order mark
   # the same text is read by the TOML reader alone.
   asks() { REFUSE=0 LD_PRELOAD="$room/refuse.so" timeout 300 "$program" check 2>&1 > /dev/null | sed -n 's/^calls //p'; }
   for name in burst cyclic_500k periodic_500k taken_twice; do
