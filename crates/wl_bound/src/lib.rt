@@ -20,4 +20,4 @@ pub use covered::is_covered;
 pub use family::{Change, Family, Member, only_listens};
 pub use laws::{condition_laws, search_laws};
 pub use oscillator::Oscillator;
-pub use verdict::{Outside, Verdict, cause_outside, first_without_book, judge};
+pub use verdict::{Outside, Verdict, cause_outside, first_without_book, idle_at, judge};

@@ -269,7 +269,7 @@ fn first_shared(plan: &CheckedPlan) -> Option<Outside>
 }
 
 /// Returns the tick at which a node has counted the 11 bits for which it waits (Bosch CAN 2.0 part B, section 2, wake-up).
-pub(crate) fn idle_at(node: &NodeSetup) -> u64
+pub fn idle_at(node: &NodeSetup) -> u64
     ensures value { result ≡ idle_at node.now }
     ensures soon { result < 2 ^ 40 }
 {

@@ -2,10 +2,10 @@
 ghost use Rattle.std.specs.Prelude.{◌≡◌, ◌+◌, ◌*◌, ◌^◌, ◌<◌, ◌≤◌, nat_lt, length};
 ghost use Rattle.wl_clock.specs.Timing.{tick_of};
 ghost use Rattle.wl_plan.specs.PlanLine.{setup_at};
-ghost use Rattle.wl_bound.specs.Verdicts.{idle_at};
 ghost use Rattle.wl_explain.specs.Doubts.{begins_before, bit_length, borne, difference, first_early, first_late, frame_bits, has_no_room, idle_from, least_quanta, left, longest_round, queue_bits, round_trip, wanted_bits};
 
 use crate::{Quantum, tolerance};
+use wl_bound::idle_at;
 use wl_frame::frame::Frame;
 use wl_node::NodeSetup;
 use wl_plan::CheckedPlan;
@@ -113,14 +113,6 @@ fn least_quanta(segments: &Segments, bits: u128) -> u128
     ensures { result ≡ least_quanta segments.now bits }
 {
     bits * (1 + segments.least_way()) as u128
-}
-
-/// Returns the tick at which a node has counted the 11 bits that it waits for (Bosch CAN 2.0 part B, section 2, wake-up).
-fn idle_at(node: &NodeSetup) -> u64
-    ensures value { result ≡ idle_at node.now }
-    ensures soon { result < 2 ^ 40 }
-{
-    node.clock.at(11 * node.segments.bit_quanta())
 }
 
 /// Returns the tick from which on all nodes can be idle.

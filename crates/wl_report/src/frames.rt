@@ -52,7 +52,7 @@ fn push_bytes(text: &mut String, bytes: &[u8]) -> Result<(), AllocError>
 }
 
 /// Adds an identifier: 3 lower-case hexadecimal digits, or 8 of an extended frame.
-fn push_id(text: &mut String, frame: &Frame) -> Result<(), AllocError>
+pub fn push_id(text: &mut String, frame: &Frame) -> Result<(), AllocError>
     ensures { OnOk result (GrowsBy text.old text.new (hexadecimal (id_digits frame.now.extended) frame.now.id)) }
 {
     let id = frame.id();

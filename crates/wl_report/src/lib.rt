@@ -8,7 +8,7 @@ mod nodes;
 mod text;
 mod verdict;
 
-pub use frames::push_content;
+pub use frames::{push_content, push_id};
 pub use laws::{clean_is_clean, extremes_are_extreme};
 pub use nodes::mode_word;
 pub use text::report;

@@ -1,20 +1,18 @@
 -- What the condition for a sound bus says of a setting's plan. This project's.
-use Rattle.std.specs.Prelude.{◌≡◌, ℕ, ◌-◌, ◌*◌, ◌/◌, max, min, not, Bool, true, false, List, [], ◌∷◌, Option, Some, None, Result, Ok, Err}
+use Rattle.std.specs.Prelude.{◌≡◌, ℕ, ◌-◌, ◌*◌, ◌/◌, max, min, not, Bool, true, false, List, Option, Some, None, option_map, Result, Ok, Err}
 use Rattle.std.specs.Option.{is_some}
 use Rattle.wl_bound.specs.declared.condition.Failure.{Failure}
 use Rattle.wl_bound.specs.declared.condition.Senders.{Senders}
 use Rattle.wl_bound.specs.declared.condition.Senders.TheVariants.{Any, One}
 use Rattle.wl_bound.specs.Conditions.{first_failure_of, plain}
 use Rattle.wl_bound.specs.Families.{Buses, family_of}
-use Rattle.wl_bound.specs.Oscillators.{Pace, oscillator_of}
 use Rattle.wl_bound.specs.Searches.{IsLongerCable, IsWiderTolerance}
-use Rattle.wl_plan.specs.declared.plan.Plan.{Plan}
 use Rattle.wl_setup.specs.declared.bus.Bus.{Bus}
-use Rattle.wl_setup.specs.declared.bus.Deviation.{Deviation}
 use Rattle.wl_setup.specs.declared.fault.SetupFault.{SetupFault}
 use Rattle.wl_setup.specs.Buses.{bus_of_text}
 use Rattle.wl_setup.specs.Plans.{after}
 use Rattle.wl_setup.specs.Reading.{text_answer}
+use Rattle.wl_margin.specs.Margins.{paces_of}
 use Rattle.wl_settings.specs.declared.asked.Asked.{Asked}
 use Rattle.wl_settings.specs.declared.asked.Controller.{Controller}
 use Rattle.wl_settings.specs.declared.asked.Setting.{Setting}
@@ -23,23 +21,10 @@ use Rattle.wl_settings.specs.declared.judged.Refusal.{Refusal}
 use Rattle.wl_settings.specs.declared.judged.WorkingSetting.{WorkingSetting}
 use Rattle.wl_settings.specs.Plans.{setting_plan_text}
 
--- the oscillators of two clocks
-abbrev pub both : Option Pace → Option Pace → Option (Pace × Pace)
-both (Some one) (Some other) = Some (one, other)
-both _ _ = None
-
-abbrev pub paces_of_two : List Deviation → Option (Pace × Pace)
-paces_of_two (one ∷ other ∷ []) = both (oscillator_of one.rates one.tolerance) (oscillator_of other.rates other.tolerance)
-paces_of_two _ = None
-
--- The family of a plan's text: that of the bus that the text describes. There is none of a text that is no plan, or not one of two nodes.
-abbrev pub family_by : Plan → Option (Pace × Pace) → Option Buses
-family_by plan None = None
-family_by plan (Some (one, other)) = Some (family_of plan (one ∷ other ∷ []))
-
+-- The family of a plan's text: that of the bus that the text describes. There is none of a text that is no plan.
 abbrev pub family_in : Result Bus SetupFault → Option Buses
 family_in (Err fault) = None
-family_in (Ok bus) = family_by bus.plan (paces_of_two bus.deviations)
+family_in (Ok bus) = option_map (family_of bus.plan) (paces_of bus.deviations)
 
 unfoldable pub family_of_text : List ℕ → Option Buses
 family_of_text text = family_in (after (text_answer text) bus_of_text)

@@ -4,16 +4,12 @@ use Rattle.std.specs.Fmt.{decimal}
 use Rattle.std.specs.Int.{div_ceil}
 use Rattle.wl_bound.specs.declared.condition.Senders.{Senders}
 use Rattle.wl_bound.specs.declared.condition.Senders.TheVariants.{Any, One}
+use Rattle.wl_margin.specs.Pieces.{joined}
 use Rattle.wl_settings.specs.declared.asked.Asked.{Asked}
 use Rattle.wl_settings.specs.declared.asked.Controller.{Controller}
 use Rattle.wl_settings.specs.declared.asked.Setting.{Setting}
 use Rattle.wl_settings.specs.declared.plan.Quantum.{Quantum}
 use Rattle.wl_settings.specs.Settings.{setting_quanta}
-
--- pieces of text, one after another
-abbrev pub text_of_pieces : List (List ℕ) → List ℕ
-text_of_pieces [] = []
-text_of_pieces (piece ∷ more) = piece ++ text_of_pieces more
 
 -- a step of Euclid's algorithm (Elements, book VII, proposition 2), and some steps
 abbrev pub step : ℕ × ℕ → ℕ × ℕ
@@ -48,32 +44,32 @@ later_ready One s = 230 * setting_quanta s
 
 unfoldable pub text_of_title : Controller → Setting → List ℕ
 text_of_title c s =
-    text_of_pieces (codes "# " ∷ c.name ∷ codes ", clock " ∷ decimal c.clock ∷ codes " Hz, prescaler " ∷ decimal s.prescaler ∷ codes "\n" ∷ [])
+    joined (codes "# " ∷ c.name ∷ codes ", clock " ∷ decimal c.clock ∷ codes " Hz, prescaler " ∷ decimal s.prescaler ∷ codes "\n" ∷ [])
 
 unfoldable pub text_of_top : ℕ → ℕ → List ℕ
 text_of_top end per =
-    text_of_pieces (codes "version = 1\nend = " ∷ decimal end ∷ codes "\nper = " ∷ decimal per ∷ codes "\nsync = \"book\"\n" ∷ [])
+    joined (codes "version = 1\nend = " ∷ decimal end ∷ codes "\nper = " ∷ decimal per ∷ codes "\nsync = \"book\"\n" ∷ [])
 
 unfoldable pub text_of_name : List ℕ → List ℕ
-text_of_name name = text_of_pieces (codes "\n[[node]]\nname = \"" ∷ name ∷ codes "\"\noffset = 0\n" ∷ [])
+text_of_name name = joined (codes "\n[[node]]\nname = \"" ∷ name ∷ codes "\"\noffset = 0\n" ∷ [])
 
 unfoldable pub text_of_clock : Quantum → ℕ → List ℕ
 text_of_clock q tolerance =
-    text_of_pieces (codes "num = " ∷ decimal q.num ∷ codes "\nden = " ∷ decimal q.den ∷ codes "\ntolerance = " ∷ decimal tolerance ∷ codes "\n" ∷ [])
+    joined (codes "num = " ∷ decimal q.num ∷ codes "\nden = " ∷ decimal q.den ∷ codes "\ntolerance = " ∷ decimal tolerance ∷ codes "\n" ∷ [])
 
 unfoldable pub text_of_bit : Setting → List ℕ
 text_of_bit s =
-    text_of_pieces (codes "prop = " ∷ decimal s.prop ∷ codes "\nps1 = " ∷ decimal s.ps1 ∷ codes "\nps2 = " ∷ decimal s.ps2 ∷ codes "\nsjw = " ∷ decimal s.sjw
+    joined (codes "prop = " ∷ decimal s.prop ∷ codes "\nps1 = " ∷ decimal s.ps1 ∷ codes "\nps2 = " ∷ decimal s.ps2 ∷ codes "\nsjw = " ∷ decimal s.sjw
     ∷ codes "\n" ∷ [])
 
 unfoldable pub text_of_place : ℕ → Asked → List ℕ
 text_of_place x a =
-    text_of_pieces (codes "x = " ∷ decimal x ∷ codes "\nout = " ∷ decimal a.out_delay ∷ codes "\nin = " ∷ decimal a.in_delay ∷ codes "\n" ∷ [])
+    joined (codes "x = " ∷ decimal x ∷ codes "\nout = " ∷ decimal a.out_delay ∷ codes "\nin = " ∷ decimal a.in_delay ∷ codes "\n" ∷ [])
 
 -- eight bytes whose bits, with stuff bits, are five dominant and five recessive ones in turn
 unfoldable pub text_of_frame : ℕ → ℕ → List ℕ
 text_of_frame id ready =
-    text_of_pieces (codes "\n[[node.frame]]\nid = " ∷ decimal id ∷ codes "\ndlc = 8\nready = " ∷ decimal ready
+    joined (codes "\n[[node.frame]]\nid = " ∷ decimal id ∷ codes "\ndlc = 8\nready = " ∷ decimal ready
     ∷ codes "\nbytes = [60, 60, 60, 60, 60, 60, 60, 60]\n" ∷ [])
 
 abbrev pub text_of_node : Asked → Quantum → Setting → List ℕ → ℕ → ℕ → ℕ → List ℕ

@@ -6,22 +6,18 @@ use Rattle.std.specs.List.{slice_get}
 use Rattle.wl_bound.specs.declared.condition.Failure.{Failure}
 use Rattle.wl_bound.specs.declared.condition.Inequality.{Inequality}
 use Rattle.wl_bound.specs.declared.condition.Inequality.TheVariants.{DriftFitsJump, BitIsThereAtSample, NoBitTooEarly}
+use Rattle.wl_margin.specs.Pieces.{joined, thousandths}
 use Rattle.wl_settings.specs.declared.asked.Asked.{Asked}
 use Rattle.wl_settings.specs.declared.asked.Controller.{Controller}
 use Rattle.wl_settings.specs.declared.asked.Setting.{Setting}
 use Rattle.wl_settings.specs.declared.judged.Refusal.{Refusal}
 use Rattle.wl_settings.specs.declared.judged.WorkingSetting.{WorkingSetting}
 use Rattle.wl_settings.specs.declared.listing.Listing.{Listing}
-use Rattle.wl_settings.specs.Plans.{text_of_pieces}
 use Rattle.wl_settings.specs.Settings.{bit_divisor, each_under, setting_quanta}
-
--- a number of thousandths
-abbrev pub with_thousandths : ℕ → List ℕ
-with_thousandths n = text_of_pieces (decimal (n / 1000) ∷ codes "." ∷ decimal (n / 100 % 10) ∷ decimal (n / 10 % 10) ∷ decimal (n % 10) ∷ [])
 
 abbrev pub setting_words : Setting → List ℕ
 setting_words s =
-    text_of_pieces (codes "prescaler " ∷ decimal s.prescaler ∷ codes " prop " ∷ decimal s.prop ∷ codes " ps1 " ∷ decimal s.ps1 ∷ codes " ps2 " ∷ decimal s.ps2
+    joined (codes "prescaler " ∷ decimal s.prescaler ∷ codes " prop " ∷ decimal s.prop ∷ codes " ps1 " ∷ decimal s.ps1 ∷ codes " ps2 " ∷ decimal s.ps2
     ∷ codes " sjw " ∷ decimal s.sjw ∷ [])
 
 -- the sample point in tenths of a percent of a bit
@@ -30,7 +26,7 @@ sample_permille s = (setting_quanta s - s.ps2) * 1000 / setting_quanta s
 
 abbrev pub words_of_sample : Setting → List ℕ
 words_of_sample s =
-    text_of_pieces (codes " quanta " ∷ decimal (setting_quanta s) ∷ codes " sample " ∷ decimal (sample_permille s / 10) ∷ codes "." ∷ decimal (sample_permille s % 10)
+    joined (codes " quanta " ∷ decimal (setting_quanta s) ∷ codes " sample " ∷ decimal (sample_permille s / 10) ∷ codes "." ∷ decimal (sample_permille s % 10)
     ∷ codes " %" ∷ [])
 
 -- by how many parts per million the bit rate deviates, rounded up
@@ -38,7 +34,7 @@ abbrev pub rate_error : ℕ → ℕ → ℕ
 rate_error clock divisor = div_ceil (abs_diff clock divisor * 1000000) (max divisor 1)
 
 abbrev pub error_words : Asked → Controller → Setting → List ℕ
-error_words a c s = text_of_pieces (codes " error " ∷ decimal (rate_error c.clock (bit_divisor a.bitrate s)) ∷ codes " ppm" ∷ [])
+error_words a c s = joined (codes " error " ∷ decimal (rate_error c.clock (bit_divisor a.bitrate s)) ∷ codes " ppm" ∷ [])
 
 -- how much there may be: what is asked for, and by how much it may grow
 abbrev pub grown_words : ℕ → Option ℕ → List ℕ
@@ -49,12 +45,12 @@ abbrev pub words_for_both : List ℕ → ℕ → Option ℕ → Option ℕ → L
 words_for_both what asked one any = (((what ++ grown_words asked one) ++ codes " one ") ++ grown_words asked any) ++ codes " any"
 
 abbrev pub head_words : ℕ → Setting → List ℕ
-head_words number s = (text_of_pieces (codes "setting " ∷ decimal number ∷ codes " " ∷ []) ++ setting_words s) ++ words_of_sample s
+head_words number s = (joined (codes "setting " ∷ decimal number ∷ codes " " ∷ []) ++ setting_words s) ++ words_of_sample s
 
 abbrev pub words_of_spare : Asked → WorkingSetting → List ℕ
 words_of_spare a r =
     (((words_for_both (codes " tolerance ") a.tolerance r.one.wider r.any.wider ++ words_for_both (codes " cable ") a.cable r.one.longer r.any.longer)
-    ++ codes " margin ") ++ with_thousandths r.margin) ++ codes "\n"
+    ++ codes " margin ") ++ thousandths r.margin) ++ codes "\n"
 
 abbrev pub setting_line : Asked → Controller → ℕ → WorkingSetting → List ℕ
 setting_line a c number r = (head_words number r.setting ++ error_words a c r.setting) ++ words_of_spare a r
@@ -85,16 +81,16 @@ words_of_inequality NoBitTooEarly = codes ": no_bit_too_early takes "
 
 abbrev pub failing_words : ℕ → Failure → List ℕ
 failing_words tick f =
-    (((words_of_inequality f.inequality ++ with_thousandths (picoseconds_up tick f.sides.left)) ++ codes " ns and has ")
-    ++ with_thousandths (picoseconds_down tick f.sides.right)) ++ codes " ns\n"
+    (((words_of_inequality f.inequality ++ thousandths (picoseconds_up tick f.sides.left)) ++ codes " ns and has ")
+    ++ thousandths (picoseconds_down tick f.sides.right)) ++ codes " ns\n"
 
 abbrev pub nearest_words : ℕ → Refusal → List ℕ
 nearest_words tick r = (codes "nearest " ++ setting_words r.setting) ++ failing_words tick r.failure
 
 abbrev pub none_words : Asked → ℕ → List ℕ
 none_words a possible =
-    if possible == 0 then text_of_pieces (codes "no setting has " ∷ decimal a.bitrate ∷ codes " bit/s within " ∷ decimal a.rate_error ∷ codes " ppm\n" ∷ [])
-    else text_of_pieces (decimal possible ∷ codes " settings have the bit rate, and the plan of none can be run\n" ∷ [])
+    if possible == 0 then joined (codes "no setting has " ∷ decimal a.bitrate ∷ codes " bit/s within " ∷ decimal a.rate_error ∷ codes " ppm\n" ∷ [])
+    else joined (decimal possible ∷ codes " settings have the bit rate, and the plan of none can be run\n" ∷ [])
 
 -- why there is no row
 abbrev pub why_words : Asked → ℕ → Option Refusal → List ℕ
@@ -107,7 +103,7 @@ unless_rows a l (r ∷ rs) = []
 
 abbrev pub controller_line : Controller → ℕ → List ℕ
 controller_line c count =
-    text_of_pieces (codes "controller " ∷ c.name ∷ codes " clock " ∷ decimal c.clock ∷ codes " Hz: " ∷ decimal count ∷ codes " settings\n" ∷ [])
+    joined (codes "controller " ∷ c.name ∷ codes " clock " ∷ decimal c.clock ∷ codes " Hz: " ∷ decimal count ∷ codes " settings\n" ∷ [])
 
 -- what is said of a controller
 abbrev pub listing_words : Asked → Controller → ℕ → Listing → List ℕ

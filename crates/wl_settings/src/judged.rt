@@ -1,13 +1,14 @@
 //! What the condition for a sound bus says of a setting.
 ghost use Rattle.std.specs.Prelude.{◌≡◌, IfOk};
-ghost use Rattle.wl_settings.specs.Judged.{AreFigures, IsReach, IsRefusalOf, IsRowOf, family_of_text, margin, paces_of_two, part};
+ghost use Rattle.wl_settings.specs.Judged.{AreFigures, IsReach, IsRefusalOf, IsRowOf, family_of_text, margin, part};
 ghost use Rattle.wl_settings.specs.Plans.{setting_plan_text};
 
 use crate::asked::{Asked, Controller, Setting};
 use crate::plan::plan_text;
 use std::alloc::{AllocError, Global};
-use wl_bound::{Failure, Family, Oscillator, Senders};
-use wl_setup::{Deviation, SetupFault, bus_of_bytes};
+use wl_bound::{Failure, Family, Senders};
+use wl_margin::oscillators;
+use wl_setup::{SetupFault, bus_of_bytes};
 
 /// How far a bus may grow; `None` if the condition doesn't hold as it is.
 #[derive(Clone, Copy, Debug, PartialEq, Eq)]
@@ -42,21 +43,7 @@ pub struct Refusal {
     pub shortage: u128,
 }
 
-/// Returns the oscillators of two clocks, if there are two and their rates make clocks.
-fn oscillators(deviations: &[Deviation]) -> Option<(Oscillator, Oscillator)>
-    ensures { result ≡ paces_of_two deviations.now }
-{
-    match deviations {
-        [one, other] => {
-            let first = Oscillator::new(one.rates.as_slice(), one.tolerance)?;
-            let second = Oscillator::new(other.rates.as_slice(), other.tolerance)?;
-            Some((first, second))
-        }
-        _ => None,
-    }
-}
-
-/// Returns the family of a plan's text, if it is a plan of two nodes with clocks.
+/// Returns the family of a plan's text, if it is a plan whose rates make clocks.
 #[tactic(auto, unfolding(crate::specs::Judged::family_of_text))]
 fn family(alloc: Global, text: &str) -> Result<Option<Family>, AllocError>
     ensures { IfOk result (λ family. family ≡ family_of_text text.now) }
@@ -66,9 +53,9 @@ fn family(alloc: Global, text: &str) -> Result<Option<Family>, AllocError>
         Err(SetupFault::Memory) => return Err(AllocError),
         Err(_) => return Ok(None),
     };
-    match oscillators(bus.deviations.as_slice()) {
+    match oscillators(alloc, bus.deviations.as_slice())? {
+        Some(all) => Ok(Some(Family::of_plan(alloc, &bus.plan, all.as_slice())?)),
         None => Ok(None),
-        Some((one, other)) => Ok(Some(Family::of_plan(alloc, &bus.plan, &[one, other])?)),
     }
 }
 

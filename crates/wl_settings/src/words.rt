@@ -1,27 +1,19 @@
 //! A listing as text.
 ghost use Rattle.std.specs.Prelude.{◌≡◌, ◌++◌, ◌<◌, ◌≤◌, ◌^◌, string_bytes, IfOk, OnOk, unwrap_or};
-ghost use Rattle.wl_settings.specs.Words.{controller_line, grown_words, error_words, failing_words, head_words, words_of_inequality, listing_words, line_at, words_of_spare, nearest_words, none_words, words_for_both, picoseconds_up, picoseconds_down, setting_line, row_lines, words_of_sample, setting_words, with_thousandths, unless_rows};
+ghost use Rattle.wl_settings.specs.Words.{controller_line, grown_words, error_words, failing_words, head_words, words_of_inequality, listing_words, line_at, words_of_spare, nearest_words, none_words, words_for_both, picoseconds_up, picoseconds_down, setting_line, row_lines, words_of_sample, setting_words, unless_rows};
 
 use crate::asked::{Asked, Controller, Setting};
 use crate::judged::{Refusal, WorkingSetting};
 use crate::listing::Listing;
 use std::alloc::AllocError;
 use wl_bound::{Failure, Inequality};
+use wl_margin::Thousandths;
 
 /// Millionths in one.
 const MILLION: u128 = 1_000_000;
 
 /// The longest time that is written, in millionths of a tick.
 const LONGEST: u128 = 1 << 80;
-
-/// Adds a number of thousandths with a point.
-fn push_thousandths(text: &mut String, n: u128) -> Result<(), AllocError>
-    ensures { OnOk result (string_bytes text.new ≡ string_bytes text.old ++ with_thousandths n) }
-{
-    let (whole, tenth) = (n / 1000, n / 100 % 10);
-    let (hundredth, thousandth) = (n / 10 % 10, n % 10);
-    write!(text, "{whole}.{tenth}{hundredth}{thousandth}")
-}
 
 /// Adds the registers of a setting.
 fn push_setting(text: &mut String, setting: Setting) -> Result<(), AllocError>
@@ -116,8 +108,9 @@ fn push_margins(text: &mut String, asked: &Asked, row: &WorkingSetting) -> Resul
         row.any.wider,
     )?;
     push_pair(text, " cable ", asked.cable, row.one.longer, row.any.longer)?;
+    let margin = Thousandths(row.margin as u128);
     text.push_str(" margin ")?;
-    push_thousandths(text, row.margin as u128)?;
+    write!(text, "{margin}")?;
     text.push_str("\n")
 }
 
@@ -203,11 +196,10 @@ fn inequality_words(inequality: Inequality) -> &'static str
 fn push_failure(text: &mut String, tick: u64, failure: Failure) -> Result<(), AllocError>
     ensures { OnOk result (string_bytes text.new ≡ string_bytes text.old ++ failing_words tick failure) }
 {
+    let taken = Thousandths(picoseconds_around(tick, failure.sides.left));
+    let there = Thousandths(picoseconds_within(tick, failure.sides.right));
     text.push_str(inequality_words(failure.inequality))?;
-    push_thousandths(text, picoseconds_around(tick, failure.sides.left))?;
-    text.push_str(" ns and has ")?;
-    push_thousandths(text, picoseconds_within(tick, failure.sides.right))?;
-    text.push_str(" ns\n")
+    writeln!(text, "{taken} ns and has {there} ns")
 }
 
 /// Adds the line of a setting that is refused.

@@ -25,6 +25,7 @@ pub use check::check_plan;
 pub use fault::SetupFault;
 pub use keys::{Key, Kind};
 pub use laws::{buses_of_plans, faults_of_texts};
+pub use limits::{LARGEST_NUMBER, LARGEST_PPM, LARGEST_SMALL, LARGEST_TOLERANCE};
 pub use names::Names;
 pub use plan::{read_checked, read_plan};
 pub use plan_text::{ClockText, DisturbanceText, FrameText, NodeText, PlanText, RateText};

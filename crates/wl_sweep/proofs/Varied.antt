@@ -1,5 +1,5 @@
 -- Words parted at a byte.
-use Rattle.std.proofs.Common.{◌≤◌, ◌^◌, ◌-◌, Bool, true, false, Result, Ok, Err, get_or, ◌≡◌, ◌≢◌, ◌∷◌, [], refl, ◌∙◌, ◌<◌, ap, sym, arith, cond, eqb, ℕ, List, length, Option, Some, None, option_map, MatchOption, Bor}
+use Rattle.std.proofs.Common.{◌≤◌, ◌^◌, Bool, true, false, Result, Ok, Err, get_or, ◌≡◌, ◌≢◌, ◌∷◌, [], refl, ◌∙◌, ◌<◌, ap, sym, arith, cond, eqb, ℕ, List, length, Option, Some, None, option_map, MatchOption, Bor}
 use Rattle.std.specs.List.{position_or_len, before_first, after_first}
 use Rattle.std.proofs.lemmas.Bool.{lt-ltb, le-ltb}
 use Rattle.std.proofs.lemmas.Str.Pattern.{IsSplitOnceResult, split_once_first}
@@ -11,6 +11,7 @@ use Rattle.std.specs.Str.Parse.{digits_value, ParsesUnsigned}
 use Rattle.std.proofs.lemmas.Str.Parse.{IsNumeralModel, numerals_by_value, tells_all_ascii_digits, parse_plain}
 use Rattle.std.specs.Cmp.Derive.{both_true}
 use Rattle.std.specs.Prelude.{ℤ, ◌/◌, ◌-ℤ◌, int_lt, max, unsigned_abs}
+use Rattle.wl_setup.specs.declared.limits.TheConstants.{LARGEST_NUMBER}
 use Rattle.wl_sweep.specs.declared.change.SweptKey.{SweptKey}
 use Rattle.wl_sweep.specs.declared.vary.Ends.{Ends}
 use Rattle.wl_sweep.specs.declared.vary.RangeFault.{RangeFault}
@@ -58,11 +59,11 @@ no_plus (c ∷ cs) (Some x) h none e = absurd (true≢false none)
 size_here : (text : List ℕ) (b : Bool) → is_size text ≡ b → size_of text ≡ cond b (Some (digits_value 10 text)) None
 size_here text b is = ap (λ c. cond c (Some (digits_value 10 text)) None) is
 
-is_size_true : (text : List ℕ) → all_ascii_digits text ≡ true → 0 < length text → digits_value 10 text ≤ 2 ^ 48 - 1 → is_size text ≡ true
+is_size_true : (text : List ℕ) → all_ascii_digits text ≡ true → 0 < length text → digits_value 10 text ≤ LARGEST_NUMBER → is_size text ≡ true
 is_size_true text digits some few =
-    both_true (both_true (ap not (ne_eqb (length text) 0 (omega arith))) digits) (le-leb (digits_value 10 text) (2 ^ 48 - 1) few)
+    both_true (both_true (ap not (ne_eqb (length text) 0 (omega arith))) digits) (le-leb (digits_value 10 text) LARGEST_NUMBER few)
 
-pub size_parsed : (text : List ℕ) (n : ℕ) → get_or text 0 0 ≢ 43 → ParsesUnsigned {E = ℕ} 64 10 text (Ok n) → n ≤ 2 ^ 48 - 1 → Some n ≡ size_of text
+pub size_parsed : (text : List ℕ) (n : ℕ) → get_or text 0 0 ≢ 43 → ParsesUnsigned {E = ℕ} 64 10 text (Ok n) → n ≤ LARGEST_NUMBER → Some n ≡ size_of text
 size_parsed text n plain h few =
     let p = parse_plain own {E = ℕ} 64 text (Ok n) h plain in
     let same : n ≡ digits_value 10 text = p.1 in
@@ -70,10 +71,10 @@ size_parsed text n plain h few =
 
 none_by : (text : List ℕ) → ((all_ascii_digits text ≡ true) × (0 < length text) × (digits_value 10 text < 2 ^ 64) → ⊥) → (b : Bool) → is_size text ≡ b → None ≡ size_of text
 none_by text none true is =
-    let parts = and_parts (not (length text == 0) && all_ascii_digits text) (nat_le (digits_value 10 text) (2 ^ 48 - 1)) is in
+    let parts = and_parts (not (length text == 0) && all_ascii_digits text) (nat_le (digits_value 10 text) LARGEST_NUMBER) is in
     let front = and_parts (not (length text == 0)) (all_ascii_digits text) parts.0 in
     let some = eqb-false (length text) 0 (not-true (length text == 0) front.0) in
-    let few = leb-true (digits_value 10 text) (2 ^ 48 - 1) parts.1 in
+    let few = leb-true (digits_value 10 text) LARGEST_NUMBER parts.1 in
     absurd (none (front.1, omega (arith, some), omega (arith, few)))
 none_by text none false is = sym (size_here text false is)
 

@@ -1,9 +1,10 @@
 -- The words of a sweep's ranges, [NODE.]KEY=A..B[:STEP] (this project's profile).
-use Rattle.std.specs.Prelude.{◌≡◌, ◌≢◌, ℕ, ℤ, pos, ◌+◌, ◌-◌, ◌*◌, ◌/◌, ◌^◌, ◌==◌, ◌&&◌, ◌||◌, ◌+ℤ◌, ◌-ℤ◌, nat_lt, nat_le, int_lt, max, unsigned_abs, Bool, true, false, not, List, [], ◌∷◌, length, map, fold, codes, neg_ℤ, option_map, is_some, slice_get, Option, Some, None, Result, Ok, Err, MatchResult, if◌then◌else◌}
+use Rattle.std.specs.Prelude.{◌≡◌, ◌≢◌, ℕ, ℤ, pos, ◌+◌, ◌*◌, ◌/◌, ◌==◌, ◌&&◌, ◌||◌, ◌+ℤ◌, ◌-ℤ◌, nat_lt, nat_le, int_lt, max, unsigned_abs, Bool, true, false, not, List, [], ◌∷◌, length, map, fold, codes, neg_ℤ, option_map, is_some, slice_get, Option, Some, None, Result, Ok, Err, MatchResult, if◌then◌else◌}
 use Rattle.std.specs.Option.{option_or}
 use Rattle.std.specs.List.{position_or_len, position_from, before_first, after_first, range_with_len, list_any}
 use Rattle.std.specs.Str.{all_ascii_digits, bytes_eq}
 use Rattle.std.specs.Str.Parse.{digits_value}
+use Rattle.wl_setup.specs.declared.limits.TheConstants.{LARGEST_NUMBER, LARGEST_SMALL, LARGEST_PPM, LARGEST_TOLERANCE}
 use Rattle.wl_setup.specs.declared.plan_text.PlanText.{PlanText}
 use Rattle.wl_setup.specs.declared.plan_text.NodeText.{NodeText}
 use Rattle.wl_setup.specs.declared.plan_text.RateText.{RateText}
@@ -32,7 +33,7 @@ after_byte at (c ∷ cs) = if c == at then Some cs else None
 
 -- the number that decimal digits are, at most the greatest one of a plan text
 abbrev pub is_size : List ℕ → Bool
-is_size text = not (length text == 0) && all_ascii_digits text && nat_le (digits_value 10 text) (2 ^ 48 - 1)
+is_size text = not (length text == 0) && all_ascii_digits text && nat_le (digits_value 10 text) LARGEST_NUMBER
 
 abbrev pub size_of : List ℕ → Option ℕ
 size_of text = if is_size text then Some (digits_value 10 text) else None
@@ -158,12 +159,12 @@ target_of nodes None k = if is_top k || list_any (has_key k) nodes then Ok None 
 
 -- a value that a plan text may have at a key
 abbrev pub takes : SweptKey → ℤ → Bool
-takes key.Ppm value = nat_le (unsigned_abs value) 1000000000
-takes key.X value = not (int_lt value (pos 0)) && nat_le (unsigned_abs value) (2 ^ 31 - 1)
-takes key.Tolerance value = not (int_lt value (pos 0)) && nat_le (unsigned_abs value) 100000
-takes key.Every value = int_lt (pos 0) value && nat_le (unsigned_abs value) (2 ^ 48 - 1)
-takes key.Count value = int_lt (pos 0) value && nat_le (unsigned_abs value) (2 ^ 48 - 1)
-takes k value = not (int_lt value (pos 0)) && nat_le (unsigned_abs value) (2 ^ 48 - 1)
+takes key.Ppm value = nat_le (unsigned_abs value) LARGEST_PPM
+takes key.X value = not (int_lt value (pos 0)) && nat_le (unsigned_abs value) LARGEST_SMALL
+takes key.Tolerance value = not (int_lt value (pos 0)) && nat_le (unsigned_abs value) LARGEST_TOLERANCE
+takes key.Every value = int_lt (pos 0) value && nat_le (unsigned_abs value) LARGEST_NUMBER
+takes key.Count value = int_lt (pos 0) value && nat_le (unsigned_abs value) LARGEST_NUMBER
+takes k value = not (int_lt value (pos 0)) && nat_le (unsigned_abs value) LARGEST_NUMBER
 
 -- the first of some steps by which there are fewer than twenty over a distance, and else the distance
 abbrev pub first_step : ℕ → List ℕ → ℕ

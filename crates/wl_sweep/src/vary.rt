@@ -10,19 +10,10 @@ use crate::sweep::MOST_ROWS;
 use std::alloc::{AllocError, Global};
 use thiserror::Error;
 use wl_level::Listed;
-use wl_setup::{ClockText, FrameText, NodeText, PlanText, RateText, Text};
-
-/// The greatest number of a range, either way: that of a plan text.
-const LARGEST_NUMBER: u64 = (1 << 48) - 1;
-
-/// The greatest place.
-const LARGEST_SMALL: u64 = (1 << 31) - 1;
-
-/// The greatest deviation either way, in parts per million.
-const LARGEST_PPM: u64 = 1_000_000_000;
-
-/// The greatest tolerance, in parts per million.
-const LARGEST_TOLERANCE: u64 = 100_000;
+use wl_setup::{
+    ClockText, FrameText, LARGEST_NUMBER, LARGEST_PPM, LARGEST_SMALL, LARGEST_TOLERANCE, NodeText,
+    PlanText, RateText, Text,
+};
 
 /// The steps of a range that names none. The first of them is taken that makes fewer than twenty rows more.
 #[rattlefmt::skip]

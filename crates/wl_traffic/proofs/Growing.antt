@@ -1,7 +1,6 @@
 -- Lists and folds that grow by one.
-use Rattle.std.proofs.Common.{◌≡◌, ◌∙◌, refl, sym, ap, arith, zero-add, ℕ, zero, suc, ◌+◌, ◌-◌, ◌*◌, ◌/◌, ◌%◌, ◌^◌, ◌<◌, ◌≤◌, false, List, [], ◌∷◌, ◌++◌, length, map, fold, get_or, take, append-nil}
+use Rattle.std.proofs.Common.{◌≡◌, ◌∙◌, sym, ap, arith, zero-add, ℕ, zero, suc, ◌+◌, ◌*◌, ◌/◌, ◌%◌, ◌^◌, ◌<◌, ◌≤◌, List, [], ◌∷◌, ◌++◌, length, map, fold, get_or, take, append-nil}
 use Rattle.std.specs.Prelude.{slice_get}
-use Rattle.std.specs.Fmt.{digit_glyph}
 use Rattle.std.specs.List.{All, filter, flat_map, range_with_len}
 use Rattle.std.proofs.Math.Nat.{add-mul, mul_assoc, div-add-mod, mul-add-div}
 use Rattle.std.proofs.lemmas.List.{take_more}
@@ -13,7 +12,6 @@ use Rattle.wl_node.specs.declared.setup.Passed.{Passed}
 use Rattle.wl_node.specs.declared.setup.Queued.{Queued}
 use Rattle.wl_node.specs.History.{is_sent}
 use Rattle.wl_plan.specs.declared.plan.Plan.{Plan}
-use Rattle.wl_report.specs.Lines.{hexadecimal}
 use Rattle.wl_traffic.specs.declared.attempts.Attempt.{Attempt}
 use Rattle.wl_traffic.specs.Attempts.{entries_by, entry_in, sent_quanta}
 use Rattle.wl_traffic.specs.Bus.{load_at, no_load, quieter}
@@ -25,16 +23,6 @@ pub flat_more : {X A : Type 0} (f : X → List A) (xs : List X) (i : ℕ) (d : X
 flat_more f xs i d within =
     ap (flat_map f) (take_more xs i d within) ∙ flat_map-append f (take i xs) (get_or xs i d ∷ [])
     ∙ ap (λ ys. flat_map f (take i xs) ++ ys) (append-nil (f (get_or xs i d)))
-
--- the last digit stands after the others
-pub no_hexadecimal : (k n : ℕ) → k ≡ 0 → hexadecimal k n ≡ []
-no_hexadecimal zero n none = refl
-no_hexadecimal (suc k) n none = absurd (omega arith)
-
-pub last_hexadecimal : (k n : ℕ) → 0 < k → hexadecimal k n ≡ hexadecimal (k - 1) (n / 16) ++ digit_glyph false (n % 16) ∷ []
-last_hexadecimal zero n some = absurd (omega arith)
-last_hexadecimal (suc k) n some =
-    ap (λ (m : ℕ). hexadecimal m (n / 16) ++ digit_glyph false (n % 16) ∷ []) {x = k} {y = suc k - 1} (omega arith)
 
 -- the bus by one node more
 pub bus_more : (plan : Plan) (i : ℕ)

@@ -4,7 +4,6 @@
 mod attempts;
 mod bus;
 mod entries;
-mod hexadecimal;
 mod messages;
 mod nodes;
 mod reason;

@@ -1,14 +1,12 @@
 //! The lines of messages.
 ghost use Rattle.std.specs.Prelude.{◌≡◌, ◌<◌, length, count_by, slice_index_or, OnOk, IfOk};
 ghost use Rattle.std.specs.List.{All, list_any, sum_by};
-ghost use Rattle.wl_report.specs.Lines.{GrowsBy, hexadecimal};
-ghost use Rattle.wl_report.specs.Report.{id_digits};
+ghost use Rattle.wl_report.specs.Lines.{GrowsBy};
 ghost use Rattle.wl_serial.specs.Outcome.{outcome_of};
 ghost use Rattle.wl_traffic.specs.Known.{IsKnown};
 ghost use Rattle.wl_traffic.specs.Messages.{all_messages, message_counts, has_id_of, is_left_entry, is_sent_entry, line_at, lines_of, message_line, message_words, node_lines, wait_words, with_id_of};
 
 use crate::entries::{Entry, entries};
-use crate::hexadecimal::push_hexadecimal;
 use crate::nodes::node_at;
 use crate::statistics::push_statistics;
 use crate::waits::{final_sample, most_waiting, quanta_waited, time_waited};
@@ -16,6 +14,7 @@ use std::alloc::{AllocError, Global};
 use wl_clock::Clock;
 use wl_frame::frame::Frame;
 use wl_plan::CheckedPlan;
+use wl_report::push_id;
 use wl_serial::Outcome;
 use wl_setup::Names;
 use wl_views::Tick;
@@ -93,14 +92,6 @@ fn broken_count(mine: &[Entry]) -> u128
         count += u128::from(entry.broken);
     }
     count
-}
-
-/// Adds an identifier: 3 lower-case hexadecimal digits, or 8 of an extended frame.
-fn push_id(text: &mut String, frame: &Frame) -> Result<(), AllocError>
-    ensures { OnOk result (GrowsBy text.old text.new (hexadecimal (id_digits frame.now.extended) frame.now.id)) }
-{
-    let digits = if frame.is_extended() { 8 } else { 3 };
-    push_hexadecimal(text, digits, frame.id())
 }
 
 /// Adds a node and an identifier.
