@@ -19,7 +19,7 @@ pub enum SettingsFault {
     /// A key that its table should not have.
     #[error("Unknown({0})")]
     Unknown(Text),
-    /// There is no table `[[controller]]`.
+    /// The list `controller` is empty. Without that key the fault is `Missing(controller)`.
     #[error("NoController")]
     NoController,
     /// A plan is asked for, and the bus works with no setting of the first controller.

@@ -2,12 +2,13 @@
 ghost use Rattle.std.specs.Prelude.{◌≡◌, ◌<◌, length, count_by, slice_index_or, OnOk, IfOk};
 ghost use Rattle.std.specs.List.{All, list_any, sum_by};
 ghost use Rattle.wl_report.specs.Lines.{GrowsBy};
-ghost use Rattle.wl_serial.specs.Outcome.{outcome_of};
+ghost use Rattle.wl_serial.specs.Outcome.{node_outcome_of, outcome_of};
 ghost use Rattle.wl_traffic.specs.Known.{IsKnown};
 ghost use Rattle.wl_traffic.specs.Messages.{all_messages, message_counts, has_id_of, is_left_entry, is_sent_entry, line_at, lines_of, message_line, message_words, node_lines, wait_words, with_id_of};
+ghost use Rattle.wl_traffic.specs.Waits.{final_sample};
 
 use crate::entries::{Entry, entries};
-use crate::nodes::node_at;
+use crate::nodes::{node_at, setup_of};
 use crate::statistics::push_statistics;
 use crate::waits::{final_sample, most_waiting, quanta_waited, time_waited};
 use std::alloc::{AllocError, Global};
@@ -143,29 +144,27 @@ fn push_waits(
     text.push_str("\n")
 }
 
-/// Adds the line of the frames of node `i` with one identifier.
+/// Adds the line of the frames of node `i` with one identifier. `last` is the quantum of the node's last sample.
 fn push_message(
     alloc: Global,
     text: &mut String,
     tick: Tick,
     plan: &CheckedPlan,
     names: &Names,
-    outcome: &Outcome,
     i: usize,
+    last: Option<u64>,
     frame: &Frame,
     mine: &[Entry],
 ) -> Result<(), AllocError>
-    requires outcome { outcome.now ≡ outcome_of plan.now }
     requires node { i < length plan.now.nodes }
+    requires last { last ≡ final_sample (node_outcome_of plan.now i).samples }
     requires known { All IsKnown mine.now }
     ensures { OnOk result (GrowsBy text.old text.new (message_line tick plan.now names.now i frame.now mine.now)) }
 {
-    let (setup, node) = node_at(plan, outcome, i);
-    let samples = node.samples.list(alloc)?;
-    let last = final_sample(samples.as_slice());
+    let clock = &setup_of(plan, i).clock;
     push_message_words(text, names, i, frame)?;
     push_counts(text, last, mine)?;
-    push_waits(alloc, text, tick, &setup.clock, mine)
+    push_waits(alloc, text, tick, clock, mine)
 }
 
 /// Adds the line of the messages of frame `k` if that is the first frame with its identifier.
@@ -175,13 +174,13 @@ fn push_line_at(
     tick: Tick,
     plan: &CheckedPlan,
     names: &Names,
-    outcome: &Outcome,
     i: usize,
+    last: Option<u64>,
     entries: &[Entry],
     k: usize,
 ) -> Result<(), AllocError>
-    requires outcome { outcome.now ≡ outcome_of plan.now }
     requires node { i < length plan.now.nodes }
+    requires last { last ≡ final_sample (node_outcome_of plan.now i).samples }
     requires known { All IsKnown entries.now }
     requires entry { k < length entries.now }
     ensures { (d : Entry) → OnOk result (GrowsBy text.old text.new
@@ -192,7 +191,7 @@ fn push_line_at(
         return Ok(());
     }
     let mine = with_id_of(alloc, frame, entries)?;
-    push_message(alloc, text, tick, plan, names, outcome, i, frame, &mine)
+    push_message(alloc, text, tick, plan, names, i, last, frame, &mine)
 }
 
 /// Adds the lines of node `i`.
@@ -210,8 +209,11 @@ fn push_node(
     ensures { OnOk result (GrowsBy text.old text.new (node_lines tick plan.now names.now i)) }
 {
     let entries = entries(alloc, plan, outcome, i)?;
+    let (_, node) = node_at(plan, outcome, i);
+    let samples = node.samples.list(alloc)?;
+    let last = final_sample(samples.as_slice());
     for k in 0..entries.len() {
-        push_line_at(alloc, text, tick, plan, names, outcome, i, &entries, k)?;
+        push_line_at(alloc, text, tick, plan, names, i, last, &entries, k)?;
     }
     Ok(())
 }

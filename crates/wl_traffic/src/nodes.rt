@@ -8,6 +8,15 @@ use wl_node::NodeSetup;
 use wl_plan::CheckedPlan;
 use wl_serial::{NodeOutcome, Outcome};
 
+/// Returns what node `i` is made of.
+pub(crate) fn setup_of(plan: &CheckedPlan, i: usize) -> &NodeSetup
+    requires { i < length plan.now.nodes }
+    ensures { result.now ≡ setup_at plan.now i }
+{
+    let setups = plan.nodes.as_slice();
+    &setups[i]
+}
+
 /// Returns what node `i` is made of, and what it did.
 pub(crate) fn node_at<'a>(
     plan: &'a CheckedPlan,

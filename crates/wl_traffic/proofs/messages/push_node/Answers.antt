@@ -2,10 +2,16 @@ use Rattle.std.proofs.Common.{◌∙◌, ◌++◌, ◌<◌, ◌≤◌, ap, arith
 use Rattle.std.specs.List.{enumerate_from, flat_map}
 use Rattle.std.proofs.lemmas.List.{take_all}
 use Rattle.wl_report.proofs.Callers.{piece_more}
+use Rattle.wl_serial.specs.declared.outcome.NodeOutcome.{NodeOutcome}
 use Rattle.wl_traffic.specs.declared.entries.Entry.{Entry}
 use Rattle.wl_traffic.specs.Messages.{line_at, lines_of}
+use Rattle.wl_traffic.specs.Waits.{final_sample}
 use Rattle.wl_traffic.proofs.Lines.{no_entry}
 use Rattle.wl_traffic.proofs.messages.push_node.Goals as goal
+
+pub push_line_at-requires-clause-last : goal.push_line_at-requires-clause-last
+push_line_at-requires-clause-last c =
+    c.final_sample-last.ensures ∙ ap final_sample (c.as_slice.ensures ∙ c.in_ok-samples.ensures ∙ ap (λ (n : NodeOutcome). n.samples) c.node_at.ensures.outcome)
 
 pub loop-k-preserved : goal.loop-k-preserved
 loop-k-preserved c =
