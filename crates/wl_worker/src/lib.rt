@@ -12,6 +12,7 @@ mod mail_link;
 mod nodes_of_worker;
 mod over_hub;
 mod over_mail;
+mod pace;
 mod plan_name;
 mod threads;
 mod turns;

@@ -8,6 +8,7 @@ ghost use Rattle.wl_worker.specs.Promised.{IsLeastPromised, IsLeastOf, IsBlocked
 ghost use Rattle.wl_worker.specs.Given.{first_silences_of, Gives, GaveFirst};
 
 use crate::link::{Fault, Gate, Link, LinkFault};
+use crate::pace::Pace;
 use std::alloc::{AllocError, Global};
 use std::sync::Wait;
 use wl_group::{Group, first_silence};
@@ -15,10 +16,6 @@ use wl_record_core::Record;
 
 /// A worker has no turn of this number: there it ends with its fault.
 const MOST_TURNS: u64 = 1 << 63;
-
-/// How many rows of quanta at most members run before the worker gives what was said. So others needn't wait until it has run all that it
-/// can. With fewer it would give and fetch more often.
-const MOST_ROWS: u32 = 32;
 
 /// Runs a group to its end, with what comes by its link.
 ///
@@ -66,7 +63,7 @@ fn run<L: Link, G: Gate>(
     ensures fault { IfErr result (λ fault. fault ≢ Fault.Workers) }
 {
     let worker = link.worker();
-    let near = group.plan().topology.least_delay() / 2;
+    let pace = Pace::of(group.plan());
     match begin(alloc, group, link) {
         Ok(()) => (),
         Err(fault) => return Err(fault_of(fault, worker)),
@@ -78,7 +75,7 @@ fn run<L: Link, G: Gate>(
         if gate.restart(worker, turn) {
             begin_anew(alloc, group, link).map_err(|fault| fault_of(fault, worker))?;
         }
-        let waits = step(alloc, group, link).map_err(|fault| fault_of(fault, worker))?;
+        let waits = step(alloc, group, link, pace.rows).map_err(|fault| fault_of(fault, worker))?;
         let least = least_promised(group);
         let Some(least) = least else {
             return Ok(());
@@ -86,7 +83,7 @@ fn run<L: Link, G: Gate>(
         if !waits {
             continue;
         }
-        if let Some(stopped) = link.wait(awaited_by(group, least, near)) {
+        if let Some(stopped) = link.wait(awaited_by(group, least, pace.near)) {
             return Err(Fault::Worker(stopped));
         }
     }
@@ -148,7 +145,12 @@ fn first_silences(alloc: Global, group: &Group) -> Result<Vec<Record>, AllocErro
 
 /// Fetches, runs the members and gives what they said, if anything. Returns whether the worker has to wait for others: the member with the
 /// least promise is blocked.
-fn step<L: Link>(alloc: Global, group: &mut Group, link: &mut L) -> Result<bool, LinkFault>
+fn step<L: Link>(
+    alloc: Global,
+    group: &mut Group,
+    link: &mut L,
+    rows: u32,
+) -> Result<bool, LinkFault>
     requires { L.is_of link.old group.old.plan }
     ensures same { (p : GivenPlan) → L.is_of link.old p → L.is_of link.new p }
     ensures plan { group.new.plan ≡ group.old.plan }
@@ -156,7 +158,7 @@ fn step<L: Link>(alloc: Global, group: &mut Group, link: &mut L) -> Result<bool,
     ensures blocked { IfOk result (λ waits. IsTrue waits → IsBlocked group.new) }
 {
     come(alloc, group, link)?;
-    let said = say(alloc, group)?;
+    let said = say(alloc, group, rows)?;
     hand(alloc, group, link, said.records.as_slice())?;
     Ok(said.is_blocked)
 }
@@ -180,16 +182,16 @@ struct Said {
     is_blocked: bool,
 }
 
-/// Runs members, each time the one with the least promise, until that one may not run or there were rows enough, and returns what they
-/// said.
-fn say(alloc: Global, group: &mut Group) -> Result<Said, AllocError>
+/// Runs members, each time the one with the least promise, until that one may not run or there were this many rows, and returns what they
+/// said. So others needn't wait until the worker has run all that it can.
+fn say(alloc: Global, group: &mut Group, rows: u32) -> Result<Said, AllocError>
     ensures truth { IfOk result (λ said. AreTrueOfPlan group.old.plan said.records.items) }
     ensures blocked { IfOk result (λ said. IsTrue said.is_blocked → IsBlocked group.new) }
     ensures plan { group.new.plan ≡ group.old.plan }
     ensures members { belongs group.new ≡ belongs group.old }
 {
     let mut records = Vec::new(alloc);
-    for _ in 0..MOST_ROWS {
+    for _ in 0..rows {
         if !run_least(group, &mut records)? {
             return Ok(Said {
                 records,
