@@ -11,19 +11,16 @@ mod ticks;
 
 use anyhow::Result;
 use std::alloc::Global;
-use std::io::Read;
+use test_words::answer_blocks;
 use wl_device::Host;
 use wl_serial::run_serial;
 use wl_setup::read_plan;
 
 fn main(rt: HostRuntime) -> Result<()> {
-    let mut texts = String::new(rt.alloc());
-    rt.reader().read_to_string(&mut texts)?;
-    for text in texts.as_str().split("---\n") {
-        let told = both(rt.alloc(), text)?;
-        println!(rt; "{told}")?;
-    }
-    Ok(())
+    answer_blocks(&rt, |alloc, text| {
+        let told = both(alloc, text)?;
+        Ok(format!(in alloc; "{told}\n")?)
+    })
 }
 
 /// Returns whether both engines have the same outcome.

@@ -10,18 +10,12 @@ mod course;
 
 use anyhow::Result;
 use std::alloc::Global;
-use std::io::Read;
+use test_words::answer_blocks;
 use wl_device::Host;
 use wl_setup::read_checked;
 
 fn main(rt: HostRuntime) -> Result<()> {
-    let mut texts = String::new(rt.alloc());
-    rt.reader().read_to_string(&mut texts)?;
-    for text in texts.as_str().split("---\n") {
-        let told = answers(rt.alloc(), text)?;
-        print!(rt; "{told}")?;
-    }
-    Ok(())
+    answer_blocks(&rt, answers)
 }
 
 /// Returns what the groups of a plan answer.

@@ -3,6 +3,7 @@
 use std::alloc::{AllocError, Global};
 use std::fmt::Display;
 use std::num::ParseIntError;
+use test_words::{Stop, head};
 use wl_confine::Happened;
 use wl_frame::frame::Frame;
 use wl_level::Level;
@@ -24,19 +25,19 @@ impl Answer {
         }
     }
 
-    /// Returns the answer to a whole row, if there was memory for it.
-    pub fn told(&self) -> Option<&str> {
+    /// Returns the answer to a whole row, or why it has none.
+    pub fn told(&self) -> Result<&str, Stop> {
         if self.is_full {
-            return None;
+            return Err(Stop::Memory);
         }
         if self.is_unread {
-            return Some("unread");
+            return Err(Stop::Unread);
         }
         let said = self.text.as_str().trim_end();
         if said.is_empty() {
-            Some("nothing")
+            Ok("nothing")
         } else {
-            Some(said)
+            Ok(said)
         }
     }
 
@@ -163,6 +164,16 @@ impl Answer {
                 (word, "")
             }
         }
+    }
+
+    /// Returns the head that a word spells.
+    pub fn head(&mut self, alloc: Global, word: &str) -> Option<Frame> {
+        match head(alloc, word) {
+            Ok(head) => return head,
+            Err(Stop::Unread) => self.unread(),
+            Err(Stop::Memory) => self.full(),
+        }
+        None
     }
 
     /// Returns a word such as `TxError*32`: what it repeats, and how often. Without a `*` it is once.

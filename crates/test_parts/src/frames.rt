@@ -3,6 +3,7 @@
 
 use crate::answer::{Answer, after, word};
 use std::alloc::Global;
+use test_words::frame_of;
 use wl_frame::checksum::crc15;
 use wl_frame::frame::{Frame, FrameFault};
 use wl_frame::{places, stuffing};
@@ -69,7 +70,9 @@ fn made(alloc: Global, words: &[&str], answer: &mut Answer) -> Result<Frame, Fra
         let byte = answer.read(u8::from_str_radix(word, 16));
         answer.add(&mut bytes, byte, 1);
     }
-    frame_of(word(words, 1), remote, dlc, bytes.as_slice(), answer)
+    let digits = word(words, 1);
+    let id = answer.read(u32::from_str_radix(digits, 16));
+    frame_of(digits, id, remote, dlc, bytes.as_slice())
 }
 
 fn is_remote(word: &str, answer: &mut Answer) -> bool {
@@ -80,22 +83,6 @@ fn is_remote(word: &str, answer: &mut Answer) -> bool {
             answer.unread();
             false
         }
-    }
-}
-
-/// Returns the frame of an identifier as it is written: one of eight digits is extended, as logs of frames have it.
-pub fn frame_of(
-    id: &str,
-    remote: bool,
-    dlc: u32,
-    bytes: &[u8],
-    answer: &mut Answer,
-) -> Result<Frame, FrameFault> {
-    let number = answer.read(u32::from_str_radix(id, 16));
-    if id.len() == 8 {
-        Frame::extended(number, remote, dlc, bytes)
-    } else {
-        Frame::base(number, remote, dlc, bytes)
     }
 }
 

@@ -1,5 +1,5 @@
-//! Machines with their counters on one wire: `machines HEAD.. : WORD..`. A head is `-`, or the identifier of a frame without bytes in
-//! hexadecimal (eight digits: extended), with `r` before it for a remote frame.
+//! Machines with their counters on one wire: `machines HEAD.. : WORD..`. A head is `-`, or the identifier of a frame in hexadecimal
+//! (eight digits: extended), with `r` before it for a remote frame.
 //!
 //! Words: `own*53` for samples of what the machines drive; `0*6` and `0101` for samples of these levels; `count` counts the samples from 1
 //! again. `drive`, `idle`, `awaits`, `counters` and `silence` ask all machines: `awaits` whether the next edge may be a start of frame to
@@ -9,7 +9,6 @@
 
 use crate::answer::{Answer, after, bit};
 use crate::counters::show_counters;
-use crate::frames::frame_of;
 use std::alloc::Global;
 use wl_confine::{Counters, Happened, Mode};
 use wl_frame::frame::Frame;
@@ -59,9 +58,9 @@ impl Station {
     }
 
     /// Gives the machine another head or another mode.
-    fn set(&mut self, what: &str, value: &str, answer: &mut Answer) {
+    fn set(&mut self, alloc: Global, what: &str, value: &str, answer: &mut Answer) {
         match what {
-            "head" => self.head = head(value, answer),
+            "head" => self.head = answer.head(alloc, value),
             "mode" => self.given = mode(value, answer),
             _ => answer.unread(),
         }
@@ -167,30 +166,12 @@ pub fn tell(alloc: Global, words: &[&str], answer: &mut Answer) {
 fn stations(alloc: Global, words: &[&str], count: usize, answer: &mut Answer) -> Vec<Station> {
     let mut stations = Vec::new(alloc);
     for word in words.iter().take(count) {
-        if stations.push(Station::new(head(word, answer))).is_err() {
+        let station = Station::new(answer.head(alloc, word));
+        if stations.push(station).is_err() {
             answer.full();
         }
     }
     stations
-}
-
-fn head(word: &str, answer: &mut Answer) -> Option<Frame> {
-    match word.strip_prefix('r') {
-        Some(id) => frame(id, true, answer),
-        None => if word == "-" {
-            None
-        } else {
-            frame(word, false, answer)
-        },
-    }
-}
-
-fn frame(id: &str, remote: bool, answer: &mut Answer) -> Option<Frame> {
-    let made = frame_of(id, remote, 0, &[], answer);
-    if made.is_err() {
-        answer.unread();
-    }
-    made.ok()
 }
 
 impl Wire {
@@ -207,7 +188,7 @@ impl Wire {
     /// Does what a word of several parts says.
     fn act(&mut self, alloc: Global, word: &str, answer: &mut Answer) {
         if let Some((what, value)) = word.split_once('=') {
-            self.set(what, value, answer);
+            self.set(alloc, what, value, answer);
         } else if let Some(count) = word.strip_prefix("own*") {
             self.own(answer.read(count.parse::<u32>()), answer);
         } else {
@@ -263,9 +244,9 @@ impl Wire {
     }
 
     /// Gives the first machine another head or another mode.
-    fn set(&mut self, what: &str, value: &str, answer: &mut Answer) {
+    fn set(&mut self, alloc: Global, what: &str, value: &str, answer: &mut Answer) {
         match self.stations.first_mut() {
-            Some(station) => station.set(what, value, answer),
+            Some(station) => station.set(alloc, what, value, answer),
             None => answer.unread(),
         }
     }

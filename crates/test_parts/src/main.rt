@@ -17,8 +17,9 @@ mod syncs;
 mod topologies;
 
 use answer::Answer;
-use std::alloc::{AllocError, Global};
+use std::alloc::Global;
 use std::io;
+use test_words::{Stop, answer_lines};
 
 /// Writes the answer to a row.
 fn tell(alloc: Global, words: &[&str], answer: &mut Answer) {
@@ -55,25 +56,15 @@ fn tell_bus(alloc: Global, subject: &str, words: &[&str], answer: &mut Answer) -
     true
 }
 
-/// Returns a line with its answer, if there is memory for it.
-fn answered(alloc: Global, line: &str) -> Result<String, AllocError> {
-    if line.is_empty() || line.starts_with('#') {
-        return String::from_str(alloc, line);
-    }
-    let words: Vec<&str> = line.split_whitespace().collect(alloc)?;
+/// Returns the answer to a row.
+fn answer_to(alloc: Global, row: &str) -> Result<String, Stop> {
+    let words: Vec<&str> = row.split_whitespace().collect(alloc)?;
     let mut answer = Answer::new(alloc);
     tell(alloc, words.as_slice(), &mut answer);
-    let told = answer.told().ok_or(AllocError)?;
-    format!(in alloc; "{line} = {told}")
+    let told = answer.told()?;
+    Ok(format!(in alloc; " = {told}")?)
 }
 
 fn main(rt: HostRuntime) -> io::Result<()> {
-    let alloc = rt.alloc();
-    for line in rt.lines(alloc) {
-        match answered(alloc, line?.as_str()) {
-            Ok(said) => println!(rt; "{said}")?,
-            Err(_) => println!(rt; "out of memory")?,
-        }
-    }
-    Ok(())
+    answer_lines(&rt, answer_to)
 }

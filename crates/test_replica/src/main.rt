@@ -15,9 +15,10 @@ mod maps;
 mod row;
 
 use maps::Maps;
-use row::{Stop, answers, steps};
+use row::{answers, steps};
 use std::alloc::Global;
 use std::io;
+use test_words::{Stop, answer_lines};
 use wl_replica::{Replica, Rows};
 
 /// Returns what is written after a row.
@@ -42,27 +43,6 @@ fn answer(alloc: Global, row: &str) -> Result<String, Stop> {
     Ok(said)
 }
 
-/// Returns a line with its answer.
-fn line_with_answer(alloc: Global, line: &str) -> Result<String, Stop> {
-    let mut out = String::from_str(alloc, line)?;
-    if line.is_empty() || line.starts_with('#') {
-        return Ok(out);
-    }
-    match answer(alloc, line) {
-        Ok(said) => out.push_str(said.as_str())?,
-        Err(Stop::Unread) => out.push_str(" = unread")?,
-        Err(Stop::Memory) => return Err(Stop::Memory),
-    }
-    Ok(out)
-}
-
 fn main(rt: HostRuntime) -> io::Result<()> {
-    let alloc = rt.alloc();
-    for line in rt.lines(alloc) {
-        match line_with_answer(alloc, line?.as_str()) {
-            Ok(said) => println!(rt; "{said}")?,
-            Err(_) => println!(rt; "out of memory")?,
-        }
-    }
-    Ok(())
+    answer_lines(&rt, answer)
 }

@@ -3,36 +3,9 @@ ghost use Rattle.std.specs.Prelude.{◌≡◌, ◌<◌, OnOk};
 ghost use Rattle.wl_replica.specs.State.{Fits};
 
 use crate::form::Form;
-use std::alloc::{AllocError, AllocFailed, Global};
-use std::num::ParseIntError;
+use std::alloc::Global;
+use test_words::Stop;
 use wl_record_core::{MOST_NODES, Record};
-
-/// Why a row has no answer.
-#[derive(Debug, Drop)]
-pub enum Stop {
-    /// A step of it can't be read, or its record is out of limits.
-    Unread,
-    /// There is no memory for the answer.
-    Memory,
-}
-
-impl From<AllocError> for Stop {
-    fn from(_error: AllocError) -> Stop {
-        Stop::Memory
-    }
-}
-
-impl<T: Drop> From<AllocFailed<T>> for Stop {
-    fn from(_error: AllocFailed<T>) -> Stop {
-        Stop::Memory
-    }
-}
-
-impl From<ParseIntError> for Stop {
-    fn from(_error: ParseIntError) -> Stop {
-        Stop::Unread
-    }
-}
 
 /// What a holder does.
 #[derive(Clone, Copy)]

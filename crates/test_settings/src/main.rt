@@ -7,31 +7,13 @@
 
 use anyhow::Result;
 use std::alloc::{AllocError, Global};
-use std::io::Read;
-use wl_device::{ScriptedReader, ScriptedWriter, Then};
+use test_words::{ample, answer_blocks, answer_requests, by_sevens, letters, parts};
 use wl_settings::{Shown, settings_run};
 
 fn main(rt: HostRuntime) -> Result<()> {
-    let mut texts = String::new(rt.alloc());
-    rt.reader().read_to_string(&mut texts)?;
-    for block in texts.as_str().split("---\n") {
-        let said = answers(rt.alloc(), block)?;
-        print!(rt; "{said}---\n")?;
-    }
-    Ok(())
-}
-
-/// Returns what is answered to the requests of a block.
-fn answers(alloc: Global, block: &str) -> Result<String, AllocError> {
-    let mut said = String::new(alloc);
-    let Some((text, requests)) = block.split_once("asked\n") else {
-        return Ok(said);
-    };
-    for line in requests.lines() {
-        let answer = answer(alloc, line, text)?;
-        write!(said, "> {line}\n{answer}")?;
-    }
-    Ok(said)
+    answer_blocks(&rt, |alloc, block| {
+        answer_requests(alloc, block, |text, line| Ok(answer(alloc, line, text)?))
+    })
 }
 
 /// Returns what is to be shown.
@@ -47,24 +29,11 @@ fn shown(word: &str) -> Shown {
 
 /// Returns what is answered to one request: what was written, or the line of the fault.
 fn answer(alloc: Global, request: &str, text: &str) -> Result<String, AllocError> {
-    let (word, tick) = request.split_once(' ').unwrap_or((request, "1000"));
-    let mut reader = ScriptedReader {
-        text: text.as_bytes(),
-        step: 7,
-        then: Then::End,
-    };
-    let mut writer = ScriptedWriter {
-        written: Vec::new(alloc),
-        room: usize::MAX,
-        step: 11,
-        then: Then::Failed,
-    };
+    let (word, tick) = parts(request, ' ');
     let tick = tick.parse::<u64>().unwrap_or(1000);
-    let ended = settings_run(alloc, tick, shown(word), &mut reader, &mut writer);
-    let mut said = match str::from_utf8(writer.written.as_slice()) {
-        Ok(written) => String::from_str(alloc, written)?,
-        Err(_) => String::from_str(alloc, "no letters\n")?,
-    };
+    let mut writer = ample(alloc);
+    let ended = settings_run(alloc, tick, shown(word), &mut by_sevens(text), &mut writer);
+    let mut said = letters(alloc, writer.written.as_slice())?;
     if let Err(fault) = ended {
         write!(said, "fault: {fault}\n")?;
     }

@@ -11,34 +11,23 @@ mod run;
 
 use anyhow::Result;
 use std::alloc::Global;
-use std::io::Read;
 use std::thread::Threads;
 use std::time::Clock;
+use test_words::{answer_blocks, answer_requests};
 
 fn main(rt: HostRuntime) -> Result<()> {
-    let mut texts = String::new(rt.alloc());
-    rt.reader().read_to_string(&mut texts)?;
-    for block in texts.as_str().split("---\n") {
-        let said = answers(&rt, rt.alloc(), block)?;
-        print!(rt; "{said}---\n")?;
-    }
-    Ok(())
+    answer_blocks(&rt, |alloc, block| {
+        answer_requests(alloc, block, |plan, line| answer(&rt, alloc, plan, line))
+    })
 }
 
-/// Returns what is answered to the requests of a block.
-fn answers<H: Threads + Sync + Eprint + Clock>(
+/// Returns what is answered to a request.
+fn answer<H: Threads + Sync + Eprint + Clock>(
     rt: &H,
     alloc: Global,
-    block: &str,
+    plan: &str,
+    line: &str,
 ) -> Result<String> {
-    let mut said = String::new(alloc);
-    let Some((plan, requests)) = block.split_once("asked\n") else {
-        return Ok(said);
-    };
-    for line in requests.lines() {
-        let request = request::read(alloc, line)?;
-        let answer = run::answer(rt, alloc, &request, plan)?;
-        write!(said, "> {line}\n{answer}")?;
-    }
-    Ok(said)
+    let request = request::read(alloc, line)?;
+    Ok(run::answer(rt, alloc, &request, plan)?)
 }

@@ -27,10 +27,7 @@ pub struct Request {
 
 /// Returns the number of a word, 0 if it is none.
 fn number(text: &str) -> u64 {
-    match text.parse::<u64>() {
-        Ok(number) => number,
-        Err(_) => 0,
-    }
+    text.parse::<u64>().unwrap_or(0)
 }
 
 impl Request {

@@ -5,35 +5,8 @@ use anyhow::Result;
 use std::alloc::{AllocError, Global};
 use std::thread::Threads;
 use std::time::Clock;
-use wl_device::{ScriptedReader, ScriptedWriter, Then};
+use test_words::{ample, by_sevens, letters, parts};
 use wl_sweep_engine::{Asked, Options, SweepFault, Tally, Workers, print_run, sweep_run};
-
-/// Returns a reader of a plan text, by seven bytes a call.
-fn reader(plan: &str) -> ScriptedReader {
-    ScriptedReader {
-        text: plan.as_bytes(),
-        step: 7,
-        then: Then::End,
-    }
-}
-
-/// Returns a writer that takes whatever is written, by eleven bytes a call.
-fn ample(alloc: Global) -> ScriptedWriter {
-    ScriptedWriter {
-        written: Vec::new(alloc),
-        room: usize::MAX,
-        step: 11,
-        then: Then::Failed,
-    }
-}
-
-/// Returns the text that was written.
-fn written(alloc: Global, writer: &ScriptedWriter) -> Result<String, AllocError> {
-    match str::from_utf8(writer.written.as_slice()) {
-        Ok(text) => String::from_str(alloc, text),
-        Err(_) => String::from_str(alloc, "no letters\n"),
-    }
-}
 
 /// Returns the line of a fault, and whose it is.
 fn fault_line(alloc: Global, fault: &SweepFault) -> Result<String, AllocError> {
@@ -56,10 +29,10 @@ fn swept<H: Threads + Sync + Eprint + Clock>(
         ranges,
         asked,
         request.workers,
-        &mut reader(plan),
+        &mut by_sevens(plan),
         &mut writer,
     );
-    let mut said = written(alloc, &writer)?;
+    let mut said = letters(alloc, writer.written.as_slice())?;
     match ended {
         Ok(tally) => writeln!(said, "all clean: {}", tally.all_clean())?,
         Err(fault) => said.push_str(fault_line(alloc, &fault)?.as_str())?,
@@ -76,8 +49,15 @@ fn printed(
 ) -> Result<String, AllocError> {
     let mut writer = ample(alloc);
     let (asked, ranges) = (request.asked, request.ranges.as_slice());
-    let ended = print_run(alloc, ranges, asked, number, &mut reader(plan), &mut writer);
-    let mut said = written(alloc, &writer)?;
+    let ended = print_run(
+        alloc,
+        ranges,
+        asked,
+        number,
+        &mut by_sevens(plan),
+        &mut writer,
+    );
+    let mut said = letters(alloc, writer.written.as_slice())?;
     if let Err(fault) = ended {
         said.push_str(fault_line(alloc, &fault)?.as_str())?;
     }
@@ -103,14 +83,6 @@ fn alone(alloc: Global) -> Request {
     }
 }
 
-/// Returns a text after its first line.
-fn later_lines(text: &str) -> &str {
-    match text.split_once("\n") {
-        Some((_, rest)) => rest,
-        None => "",
-    }
-}
-
 /// Returns whether a member's text, read again, is printed as the same text, and what a sweep says of it alone.
 fn read_again<H: Threads + Sync + Eprint + Clock>(
     rt: &H,
@@ -122,7 +94,9 @@ fn read_again<H: Threads + Sync + Eprint + Clock>(
     let once = printed(alloc, request, number, plan)?;
     let alone = alone(alloc);
     let twice = printed(alloc, &alone, 0, once.as_str())?;
-    let same = later_lines(once.as_str()) == later_lines(twice.as_str());
+    let (_, once_rest) = parts(once.as_str(), '\n');
+    let (_, twice_rest) = parts(twice.as_str(), '\n');
+    let same = once_rest == twice_rest;
     let said = swept(rt, alloc, &alone, once.as_str())?;
     format!(in alloc; "the same again: {same}\n{said}")
 }

@@ -68,18 +68,6 @@ pub fn fault_line<F: Display + Drop>(alloc: Global, fault: F) -> Result<String, 
     format!(in alloc; "fault: {fault}\n")
 }
 
-/// Returns Numbers, each a word; `None` if one is none.
-pub fn numbers(alloc: Global, words: &str) -> Result<Option<Vec<u64>>, AllocError> {
-    let mut numbers = Vec::new(alloc);
-    for word in words.split_whitespace() {
-        match word.parse::<u64>() {
-            Ok(number) => numbers.push(number)?,
-            Err(_) => return Ok(None),
-        }
-    }
-    Ok(Some(numbers))
-}
-
 /// Returns the answer if the numbers after a word are none, too great or too few.
 pub fn wrong_numbers(alloc: Global) -> Result<String, AllocError> {
     String::from_str(alloc, "row: the numbers behind the word\n")

@@ -4,6 +4,7 @@ use crate::change::changed;
 use crate::spelling::spell_lines;
 use std::alloc::{AllocError, Global};
 use std::collections::BTreeMap;
+use test_words::parts;
 
 /// Where the text of a block comes from.
 #[derive(Clone, Copy, Debug)]
@@ -38,14 +39,6 @@ pub enum Text {
     Wrong(&'static str),
 }
 
-/// Returns the first word of a line and what follows it.
-fn first_word(line: &str) -> (&str, &str) {
-    match line.split_once(" ") {
-        Some(parts) => parts,
-        None => (line, ""),
-    }
-}
-
 /// Returns whether a line begins with a word, and what follows it.
 fn after_word<'a>(line: &'a str, word: &str) -> (bool, &'a str) {
     match line.strip_prefix(word) {
@@ -62,12 +55,12 @@ impl<'a> Block<'a> {
         let (origin, line) = if let Some(rest) = line.strip_prefix("raw ") {
             (Origin::Raw, rest)
         } else if let Some(rest) = line.strip_prefix("of ") {
-            let (name, rest) = first_word(rest);
+            let (name, rest) = parts(rest, ' ');
             (Origin::Of(name), rest)
         } else {
             (Origin::Plain, line)
         };
-        let (word, rest) = first_word(line);
+        let (word, rest) = parts(line, ' ');
         Block {
             each,
             origin,

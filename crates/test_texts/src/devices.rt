@@ -1,7 +1,8 @@
 //! Rows of devices: texts that are read whole, and writers that take a part.
 
-use crate::answer::{numbers, wrong_numbers};
+use crate::answer::wrong_numbers;
 use std::alloc::{AllocError, Global};
+use test_words::{numbers, parts};
 use wl_device::{
     MOST_CALLS, ScriptedReader, ScriptedWriter, Then, WriteFault, read_up_to, send, write_all,
 };
@@ -14,7 +15,7 @@ pub fn read_whole(
     reader: &ScriptedReader,
     words: &str,
 ) -> Result<String, AllocError> {
-    let Some(numbers) = numbers(alloc, words)? else {
+    let Some(numbers) = numbers::<u64>(alloc, words)? else {
         return wrong_numbers(alloc);
     };
     let [most, step] = numbers.as_slice() else {
@@ -35,7 +36,7 @@ pub fn read_whole(
 /// Returns how many calls are made once a text has gone out: `CALLS STEP`, where CALLS calls were made before. The writer has room for all.
 /// With `CALLS STEP ROOM` it has room for ROOM bytes, and is interrupted for ever after them.
 pub fn sent(alloc: Global, text: &[u8], words: &str) -> Result<String, AllocError> {
-    let Some(numbers) = numbers(alloc, words)? else {
+    let Some(numbers) = numbers::<u64>(alloc, words)? else {
         return wrong_numbers(alloc);
     };
     let (calls, step, room) = match numbers.as_slice() {
@@ -78,13 +79,13 @@ pub fn fronts(
     let Ok(records) = read_records(alloc, reader) else {
         return String::from_str(alloc, "row: the records\n");
     };
-    let (word, rest) = words.split_once(" ").unwrap_or((words, ""));
+    let (word, rest) = parts(words, ' ');
     let then = match word {
         "End" => Then::End,
         "Again" => Then::Again,
         _ => Then::Failed,
     };
-    let Some(numbers) = numbers(alloc, rest)? else {
+    let Some(numbers) = numbers::<u64>(alloc, rest)? else {
         return wrong_numbers(alloc);
     };
     let Some((step, rooms)) = numbers.as_slice().split_first() else {

@@ -4,21 +4,12 @@ use crate::answer::{fault_line, wrong_numbers};
 use std::alloc::{AllocError, Global};
 use std::sync::Wait;
 use std::thread::Threads;
+use test_words::{ample, letters};
 use wl_device::{ScriptedReader, ScriptedWriter, Then, WriteFault};
 use wl_engines::{RunFault, check_run, horizon_run, merge_run, plan_run, records_run, workers_run};
 use wl_plan::{GroupingFault, PlanFault};
 use wl_record::TextFault;
 use wl_setup::SetupFault;
-
-/// Returns a writer that takes whatever is written, by eleven bytes a call.
-fn ample(alloc: Global) -> ScriptedWriter {
-    ScriptedWriter {
-        written: Vec::new(alloc),
-        room: usize::MAX,
-        step: 11,
-        then: Then::Failed,
-    }
-}
 
 /// Returns what was written, and after it the line of the fault that an engine ended with.
 fn said(
@@ -26,11 +17,7 @@ fn said(
     ended: Result<(), RunFault>,
     writer: ScriptedWriter,
 ) -> Result<String, AllocError> {
-    let mut said = String::new(alloc);
-    match str::from_utf8(writer.written.as_slice()) {
-        Ok(text) => said.push_str(text)?,
-        Err(_) => said.push_str("no letters\n")?,
-    }
+    let mut said = letters(alloc, writer.written.as_slice())?;
     if let Err(fault) = ended {
         said.push_str(fault_line(alloc, fault)?.as_str())?;
     }

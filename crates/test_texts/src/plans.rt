@@ -1,8 +1,9 @@
 //! Rows of plan texts.
 
-use crate::answer::{fault_line, numbers, wrong_numbers};
+use crate::answer::{fault_line, wrong_numbers};
 use crate::shown::{shown_plan, shown_text};
 use std::alloc::{AllocError, Global};
+use test_words::numbers;
 use wl_device::ScriptedReader;
 use wl_plan::Grouping;
 use wl_setup::{read_plan, read_text};
@@ -46,7 +47,7 @@ pub fn disturbances(
     reader: &mut ScriptedReader,
     words: &str,
 ) -> Result<String, AllocError> {
-    let Some(numbers) = numbers(alloc, words)? else {
+    let Some(numbers) = numbers::<u64>(alloc, words)? else {
         return wrong_numbers(alloc);
     };
     let Some((node, ticks)) = numbers.as_slice().split_first() else {
@@ -74,16 +75,9 @@ pub fn groups(
     reader: &mut ScriptedReader,
     words: &str,
 ) -> Result<String, AllocError> {
-    let Some(numbers) = numbers(alloc, words)? else {
+    let Some(groups) = numbers::<u8>(alloc, words)? else {
         return wrong_numbers(alloc);
     };
-    let mut groups = Vec::new(alloc);
-    for number in numbers.iter() {
-        match u8::try_from(*number) {
-            Ok(number) => groups.push(number)?,
-            Err(_) => return wrong_numbers(alloc),
-        }
-    }
     match read_plan(alloc, reader) {
         Ok((plan, _)) => match Grouping::new(alloc, &plan, groups.as_slice()) {
             Ok(grouping) => shown_grouping(alloc, &grouping, plan.topology.nodes()),

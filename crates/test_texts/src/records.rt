@@ -1,7 +1,8 @@
 //! Rows of record texts.
 
-use crate::answer::{fault_line, numbers, wrong_numbers};
+use crate::answer::{fault_line, wrong_numbers};
 use std::alloc::{AllocError, Global};
+use test_words::{letters, numbers};
 use wl_device::ScriptedReader;
 use wl_record::{read_records, text_of};
 
@@ -24,10 +25,7 @@ pub fn records_written(alloc: Global, reader: &mut ScriptedReader) -> Result<Str
     match read_records(alloc, reader) {
         Ok(records) => {
             let text = text_of(alloc, &records)?;
-            match str::from_utf8(text.as_slice()) {
-                Ok(text) => String::from_str(alloc, text),
-                Err(_) => String::from_str(alloc, "no letters\n"),
-            }
+            letters(alloc, text.as_slice())
         }
         Err(fault) => fault_line(alloc, fault),
     }
@@ -55,7 +53,7 @@ pub fn truths(
     reader: &mut ScriptedReader,
     words: &str,
 ) -> Result<String, AllocError> {
-    let Some(numbers) = numbers(alloc, words)? else {
+    let Some(numbers) = numbers::<u64>(alloc, words)? else {
         return wrong_numbers(alloc);
     };
     let Some((nodes, changes)) = numbers.as_slice().split_first() else {

@@ -6,6 +6,7 @@ use std::alloc::{AllocError, Global};
 use std::collections::BTreeMap;
 use std::sync::Wait;
 use std::thread::Threads;
+use test_words::is_row;
 
 /// What was read of the block that is open, and the texts that were kept.
 #[derive(Drop)]
@@ -47,7 +48,7 @@ impl Rows {
             self.body.push_str("\n")?;
             return Ok(String::new(alloc));
         }
-        if line.is_empty() || line.starts_with("#") {
+        if !is_row(line) {
             return format!(in alloc; "{line}\n");
         }
         self.head = Some(String::from_str(alloc, line)?);

@@ -13,69 +13,18 @@
 
 mod wire;
 
-use std::alloc::{AllocError, AllocFailed, Global};
+use std::alloc::Global;
 use std::io;
-use std::num::ParseIntError;
+use test_words::{Stop, answer_lines};
 
-/// Why a row has no answer.
-#[derive(Debug, Drop)]
-pub enum Stop {
-    /// A word of it can't be read.
-    Unread,
-    /// There is no memory for the answer.
-    Memory,
-}
-
-/// An answer that was written.
-pub type Told = Result<(), Stop>;
-
-impl From<AllocError> for Stop {
-    fn from(_error: AllocError) -> Stop {
-        Stop::Memory
-    }
-}
-
-impl<T: Drop> From<AllocFailed<T>> for Stop {
-    fn from(_error: AllocFailed<T>) -> Stop {
-        Stop::Memory
-    }
-}
-
-impl From<ParseIntError> for Stop {
-    fn from(_error: ParseIntError) -> Stop {
-        Stop::Unread
-    }
-}
-
-/// Returns a line with its answer.
-fn answer(alloc: Global, line: &str) -> Result<String, Stop> {
-    let mut out = String::from_str(alloc, line)?;
-    if line.is_empty() || line.starts_with('#') {
-        return Ok(out);
-    }
-    out.push_str(" = ")?;
-    let words: Vec<&str> = line.split_whitespace().collect(alloc)?;
-    let mut said = String::new(alloc);
-    match wire::tell(alloc, words.as_slice(), &mut said) {
-        Ok(()) => out.push_str(or_nothing(said.as_str().trim_end()))?,
-        Err(Stop::Unread) => out.push_str("unread")?,
-        Err(Stop::Memory) => return Err(Stop::Memory),
-    }
-    Ok(out)
-}
-
-/// Returns an answer, or the word for none.
-fn or_nothing(said: &str) -> &str {
-    if said.is_empty() { "nothing" } else { said }
+/// Returns the answer to a row.
+fn answer(alloc: Global, row: &str) -> Result<String, Stop> {
+    let words: Vec<&str> = row.split_whitespace().collect(alloc)?;
+    let mut said = String::from_str(alloc, " = ")?;
+    wire::tell(alloc, words.as_slice(), &mut said)?;
+    Ok(said)
 }
 
 fn main(rt: HostRuntime) -> io::Result<()> {
-    let alloc = rt.alloc();
-    for line in rt.lines(alloc) {
-        match answer(alloc, line?.as_str()) {
-            Ok(said) => println!(rt; "{said}")?,
-            Err(_) => println!(rt; "out of memory")?,
-        }
-    }
-    Ok(())
+    answer_lines(&rt, answer)
 }

@@ -1,7 +1,7 @@
 //! Machines on one wire, each with its head.
 
-use crate::{Stop, Told};
 use std::alloc::Global;
+use test_words::{Stop, Told, head};
 use wl_confine::Mode;
 use wl_frame::frame::Frame;
 use wl_level::Level;
@@ -75,55 +75,6 @@ fn read_station(alloc: Global, word: &str) -> Result<Station, Stop> {
         Some(rest) => Ok(Station::new(head(alloc, rest)?, true)),
         None => Ok(Station::new(head(alloc, word)?, false)),
     }
-}
-
-fn head(alloc: Global, word: &str) -> Result<Option<Frame>, Stop> {
-    if word == "-" {
-        return Ok(None);
-    }
-    let (id, remote) = match word.strip_prefix('r') {
-        Some(id) => (id, true),
-        None => (word, false),
-    };
-    let (id, spelled) = match id.split_once('.') {
-        Some((id, spelled)) => (id, spelled),
-        None => (id, ""),
-    };
-    let bytes = bytes(alloc, spelled)?;
-    Ok(Some(frame(id, remote, bytes.as_slice())?))
-}
-
-/// Returns the bytes of hexadecimal digits, two for each.
-fn bytes(alloc: Global, spelled: &str) -> Result<Vec<u8>, Stop> {
-    let mut bytes = Vec::new(alloc);
-    let mut high = None;
-    for digit in spelled.chars() {
-        let value = digit.to_digit(16).ok_or(Stop::Unread)?;
-        high = match high {
-            None => Some(value),
-            Some(first) => {
-                bytes.push(byte_of(first, value))?;
-                None
-            }
-        };
-    }
-    Ok(bytes)
-}
-
-fn byte_of(high: u32, low: u32) -> u8 {
-    (high % 16 * 16 + low % 16) as u8
-}
-
-/// Returns the frame of an identifier as it is written: one of eight digits is extended.
-fn frame(id: &str, remote: bool, bytes: &[u8]) -> Result<Frame, Stop> {
-    let number = u32::from_str_radix(id, 16)?;
-    let dlc = u32::try_from(bytes.len()).map_err(|_| Stop::Unread)?;
-    let made = if id.len() == 8 {
-        Frame::extended(number, remote, dlc, bytes)
-    } else {
-        Frame::base(number, remote, dlc, bytes)
-    };
-    made.map_err(|_| Stop::Unread)
 }
 
 /// Writes what happened to a machine, and which frame it completed.

@@ -3,6 +3,7 @@
 use crate::fault::Fault;
 use std::alloc::{AllocError, Global};
 use std::io::BufRead;
+use test_words::{numbers, parts};
 use wl_world::Event;
 
 /// One step of a script.
@@ -63,18 +64,10 @@ fn push(steps: &mut Vec<Step>, step: Step) -> Result<(), AllocError> {
 
 /// Returns the numbers of a line `groups`.
 fn groups_of(alloc: Global, line: &str) -> Result<Option<Vec<u8>>, AllocError> {
-    let mut words = line.split_whitespace();
-    if words.next() != Some("groups") {
-        return Ok(None);
+    match parts(line.trim(), ' ') {
+        ("groups", words) => numbers(alloc, words),
+        _ => Ok(None),
     }
-    let mut groups = Vec::new(alloc);
-    for word in words {
-        match word.parse() {
-            Ok(group) => groups.push(group)?,
-            Err(_) => return Ok(None),
-        }
-    }
-    Ok(Some(groups))
 }
 
 /// Returns the step of a line.

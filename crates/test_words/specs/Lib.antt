@@ -1,0 +1,3 @@
+pub mod Heads
+pub mod Lines
+pub mod Words
