@@ -8,7 +8,7 @@
 #   not, and of one whose clocks change their rates
 # - the log of one plan, as ticks of three lengths have it, and the waveform of one, as ticks of two have it
 # - two nodes with full queues, as check/plain.py reports them, and their trace, a long one, in other formats; a bus that idles, in less than 200 ms;
-#   a table of 80,000 keys, in less than 3 s
+#   a table of 80,000 keys, in less than 3 s; the traffic of 8,000 messages, in less than 4 s
 # - each row of .ci/refused.txt: the status, the one line on standard error, nothing on standard output but what explain says of it, and the hint
 # - files for input and output: what stands at the named place on each outcome; devices, rights, full disks, closed descriptors, odd names
 # - settings: lists and plans as check/settings.py has them, and what is refused (.ci/settings.sh)
@@ -149,6 +149,15 @@ is "an idle bus of 100,000,000 ticks takes $used ms" [ "$used" -lt 200 -a ! -s "
 { echo 'version = 1'; seq -f 'a%.0f = 1' 80000; } > "$room/keys.toml"
 used=$( (TIMEFORMAT='%U %S'; time timeout 300 "$program" check < "$room/keys.toml" > "$room/out" 2> "$room/err") 2>&1 | awk '{ print int(1000 * ($1 + $2)) }')
 is "a table of 80,000 keys takes $used ms" [ "$used" -lt 3000 -a "$(cat "$room/err")" = 'fault: Missing(end)' ]
+# The time of messages doesn't grow with the length of the run for each of them: these 8,000 took more than 7 s.
+python3 - > "$room/messages.toml" << 'END'
+print('version = 3\nend = 100_000_000\nper = 5\nsync = "book"')
+for node in range(16):
+    frames = ', '.join(f'{{id = {16 * n + node}, extended = true, dlc = 0, ready = 0}}' for n in range(500))
+    print(f'[[node]]\nname = "n{node}"\noffset = 0\nquantum = 100\nppm = 0\nprop = 4\nps1 = 3\nps2 = 2\nsjw = 2\nx = 0\nout = 40\nin = 50\nframe = [{frames}]')
+END
+used=$( (TIMEFORMAT='%U %S'; time timeout 300 "$program" traffic < "$room/messages.toml" > "$room/out" 2> "$room/err") 2>&1 | awk '{ print int(1000 * ($1 + $2)) }')
+is "the traffic of 8,000 messages takes $used ms" [ "$used" -lt 4000 -a ! -s "$room/err" -a "$(grep -c '^message ' "$room/out")" = 8000 ]
 
 # A page has what the other commands write, each text once, also of a plan whose remarks look like a page's own words.
 printf '# </pre><script>alert(1)</script> &amp; \r\n' | cat - examples/burst.toml > "$room/marked.toml"
