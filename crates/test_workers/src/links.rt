@@ -30,7 +30,7 @@ pub fn run_over<R: Threads + Wait + Sync, G: Gate + Sync>(
     gate: &G,
     counts: &Counts,
 ) -> Result<Outcome, Fault> {
-    let bell = Bell::new(alloc, workers, plan)?;
+    let bell = Bell::new(alloc, workers, plan.nodes())?;
     match kind {
         LinkKind::Hub => {
             let shape = shape_of_plan(alloc, plan)?;
@@ -109,7 +109,7 @@ pub fn tell_links<R: Wait>(
     if plan.nodes() < 2 {
         bail!("one node alone");
     }
-    let bell = Bell::new(alloc, 2, plan)?;
+    let bell = Bell::new(alloc, 2, plan.nodes())?;
     match kind {
         LinkKind::Hub => {
             let shape = shape_of_plan(alloc, plan)?;

@@ -1,3 +1,4 @@
+mod Emitted
 mod Faults
 mod Fits
 mod Handing

@@ -1,15 +1,16 @@
 //! The bell by which workers wait for one another.
 use crate::giving::Given;
-use crate::pace::Pace;
 use std::alloc::{AllocError, Global};
 use std::hint::spin_loop;
 use std::sync::atomic::{AtomicU64, Ordering};
 use std::sync::{Condvar, Mutex, Wait};
-use wl_plan::CheckedPlan;
 use wl_record_core::Record;
 
 /// The most workers of a run.
 pub const MOST_WORKERS: usize = 8;
+
+/// How often a waiting worker looks before it sleeps.
+const LOOKS: u32 = 10;
 
 /// How often a bell had rung when it was asked, and for the worker itself since then. Only a bell makes one, and says so of that moment.
 #[derive(Clone, Copy, Drop)]
@@ -38,8 +39,6 @@ struct Sleeper {
 /// passes through it, and no promise rests on it.
 #[derive(Drop)]
 pub struct Bell {
-    // How often a worker looks before it sleeps.
-    looks: u32,
     // The first worker that stopped.
     stopped: Mutex<Option<u8>>,
     rang: Condvar,
@@ -56,16 +55,15 @@ pub struct Bell {
 }
 
 impl Bell {
-    /// Returns a bell for this many workers of a plan, at which none gave or promised anything or stopped. Refused only when out of memory.
-    pub fn new(alloc: Global, workers: u8, plan: &CheckedPlan) -> Result<Bell, AllocError> {
+    /// Returns a bell for this many workers and nodes, at which none gave or promised anything or stopped. Refused only when out of memory.
+    pub fn new(alloc: Global, workers: u8, nodes: u8) -> Result<Bell, AllocError> {
         Ok(Bell {
-            looks: Pace::of(plan).looks,
             stopped: Mutex::new(None),
             rang: Condvar::new(),
             gives: counts(alloc, workers)?,
             rings: AtomicU64::new(0),
             sleepers: AtomicU64::new(0),
-            promised: counts(alloc, plan.nodes())?,
+            promised: counts(alloc, nodes)?,
             waiting: awake(alloc, workers)?,
         })
     }
@@ -167,10 +165,10 @@ impl Bell {
         *self.stopped.lock(rt)
     }
 
-    /// Waits until all nodes are promised up to a tick, or some worker stopped. Returns the first one that stopped. It looks some times before
+    /// Waits until all nodes are promised up to a tick, or some worker stopped. Returns the first one that stopped. It looks ten times before
     /// it sleeps. A number that no worker has doesn't wait.
     pub fn wait_until<R: Wait>(&self, rt: &R, worker: u8, until: u64) -> Option<u8> {
-        for _ in 0..self.looks {
+        for _ in 0..LOOKS {
             if self.all_promised() >= until {
                 return self.stopped(rt);
             }
@@ -194,9 +192,9 @@ impl Bell {
     }
 
     /// Waits until the bell has rung again since `heard` for another worker, or some worker stopped. Returns the first one that stopped. It
-    /// looks some times before it sleeps.
+    /// looks ten times before it sleeps.
     pub fn wait_past<R: Wait>(&self, rt: &R, heard: Rings) -> Option<u8> {
-        for _ in 0..self.looks {
+        for _ in 0..LOOKS {
             if self.has_rung(heard) {
                 return self.stopped(rt);
             }

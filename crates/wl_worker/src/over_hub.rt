@@ -36,7 +36,7 @@ pub(crate) fn simulate_over_hub<R: Threads + Wait + Sync, G: Gate + Sync>(
         plan: plan.clone_in(alloc)?,
     };
     let (hub, pass) = Hub::start(alloc, shape.as_slice(), &name)?;
-    let bell = Bell::new(alloc, workers, plan)?;
+    let bell = Bell::new(alloc, workers, plan.nodes())?;
     let links = hub_links(rt, alloc, &hub, pass, &bell, workers)?;
     simulate_links(rt, alloc, plan, links, gate)
 }

@@ -29,7 +29,7 @@ pub(crate) fn simulate_over_mail<R: Threads + Wait + Sync, G: Gate + Sync>(
         return Err(Fault::Workers);
     }
     let (posts, _hold) = posts(alloc, workers)?;
-    let bell = Bell::new(alloc, workers, plan)?;
+    let bell = Bell::new(alloc, workers, plan.nodes())?;
     let links = mail_links(rt, alloc, posts, plan, &bell)?;
     simulate_links(rt, alloc, plan, links, gate)
 }

@@ -186,6 +186,7 @@ fn start_all<'s, E, R: Threads + Wait + Sync, L: Link + Send + Drop + 's, G: Gat
         → IsPromise plan.now workers w (get_or result.0.items w d).promise }
     ensures all { IfNone result.1 (vec_len result.0 ≡ workers) }
     ensures fault { IfSome result.1 (λ fault. (fault ≢ Fault.Workers) × (vec_len result.0 < workers)) }
+    ensures worker { IfSome result.1 (λ fault. fault ≡ Fault.Worker (vec_len result.0)) }
 {
     let mut children = children;
     let mut worker = 0;
@@ -240,6 +241,7 @@ fn start<'s, E, R: Wait + Sync, L: Link + Send + Drop + 's, G: Gate + Sync>(
     requires number { L.number link ≡ worker }
     ensures promise { IfOk result (λ child. IsPromise plan.now workers worker child.promise) }
     ensures fault { IfErr result (λ fault. fault ≢ Fault.Workers) }
+    ensures worker { IfErr result (λ fault. fault ≡ Fault.Worker worker) }
 {
     let promise = OfShare {
         plan: Snapshot::of(plan),

@@ -1,11 +1,12 @@
 //! One worker: its turns, from the first silences of its members to their end.
-ghost use Rattle.std.specs.Prelude.{◌≡◌, ◌≢◌, ◌+◌, ◌<◌, ◌≤◌, true, false, None, IsTrue, IfOk, IfErr, IfSome, IfNone, OnOk};
+ghost use Rattle.std.specs.Prelude.{◌≡◌, ◌≢◌, ◌+◌, ◌++◌, ◌<◌, ◌≤◌, true, false, List, None, IsTrue, IfOk, IfErr, IfSome, IfNone, OnOk};
+ghost use Rattle.wl_record_core.specs.declared.record.Record.{Record as Told};
 ghost use Rattle.wl_plan.specs.declared.plan.Plan.{Plan as GivenPlan};
 ghost use Rattle.wl_group.specs.GroupValue.{belongs, may_run, initial_group};
 ghost use Rattle.wl_worker.specs.Handed.{AreTrueOfPlan};
 ghost use Rattle.wl_worker.specs.Finished.{MembersEnded, HasFinished};
 ghost use Rattle.wl_worker.specs.Promised.{IsLeastPromised, IsLeastOf, IsBlocked, promise_of};
-ghost use Rattle.wl_worker.specs.Given.{first_silences_of, Gives, GaveFirst};
+ghost use Rattle.wl_worker.specs.Given.{first_silences_of, Gives, GaveFirst, GaveMore, GaveSince};
 
 use crate::link::{Fault, Gate, Link, LinkFault};
 use crate::pace::Pace;
@@ -35,6 +36,7 @@ pub fn work<R: Wait, L: Link + Drop, G: Gate>(
     requires { L.is_of link group.plan }
     ensures finished { IfOk result (λ done. HasFinished group done) }
     ensures began { IfOk result (λ done. (next : L) × GaveFirst L.gave group link next) }
+    ensures gave { IfOk result (GaveSince L.gave group) }
     ensures fault { IfErr result (λ fault. fault ≢ Fault.Workers) }
 {
     let _ = rt;
@@ -50,6 +52,7 @@ pub fn work<R: Wait, L: Link + Drop, G: Gate>(
 }
 
 /// Runs all turns of a worker.
+#[tactic(auto, using(crate::proofs::Emitted::gave_nothing, crate::proofs::Emitted::gave_anew, crate::proofs::Emitted::gave_more))]
 fn run<L: Link, G: Gate>(
     alloc: Global,
     group: &mut Group,
@@ -60,6 +63,7 @@ fn run<L: Link, G: Gate>(
     ensures same { (p : GivenPlan) → L.is_of link.old p → L.is_of link.new p }
     ensures finished { OnOk result (HasFinished group.old group.new) }
     ensures began { OnOk result ((next : L) × GaveFirst L.gave group.old link.old next) }
+    ensures gave { OnOk result (GaveSince L.gave group.old group.new) }
     ensures fault { IfErr result (λ fault. fault ≢ Fault.Workers) }
 {
     let worker = link.worker();
@@ -156,6 +160,7 @@ fn step<L: Link>(
     ensures plan { group.new.plan ≡ group.old.plan }
     ensures members { belongs group.new ≡ belongs group.old }
     ensures blocked { IfOk result (λ waits. IsTrue waits → IsBlocked group.new) }
+    ensures gave { OnOk result (GaveMore L.gave group.old group.new) }
 {
     come(alloc, group, link)?;
     let said = say(alloc, group, rows)?;
@@ -164,12 +169,13 @@ fn step<L: Link>(
 }
 
 /// Fetches what others gave.
-#[tactic(auto, using(crate::proofs::Steps::took_members))]
+#[tactic(auto, using(crate::proofs::Steps::took_members, crate::proofs::Emitted::took_emitted))]
 fn come<L: Link>(alloc: Global, group: &mut Group, link: &mut L) -> Result<(), LinkFault>
     requires { L.is_of link.old group.old.plan }
     ensures same { (p : GivenPlan) → L.is_of link.old p → L.is_of link.new p }
     ensures plan { group.new.plan ≡ group.old.plan }
     ensures members { belongs group.new ≡ belongs group.old }
+    ensures emitted { group.new.emitted ≡ group.old.emitted }
 {
     link.fetch(alloc, group)?;
     Ok(())
@@ -187,6 +193,7 @@ struct Said {
 fn say(alloc: Global, group: &mut Group, rows: u32) -> Result<Said, AllocError>
     ensures truth { IfOk result (λ said. AreTrueOfPlan group.old.plan said.records.items) }
     ensures blocked { IfOk result (λ said. IsTrue said.is_blocked → IsBlocked group.new) }
+    ensures emitted { IfOk result (λ said. group.new.emitted ≡ group.old.emitted ++ said.records.items) }
     ensures plan { group.new.plan ≡ group.old.plan }
     ensures members { belongs group.new ≡ belongs group.old }
 {
@@ -211,6 +218,8 @@ fn run_least(group: &mut Group, said: &mut Vec<Record>) -> Result<bool, AllocErr
     requires { AreTrueOfPlan group.old.plan said.old.items }
     ensures truth { AreTrueOfPlan group.old.plan said.new.items }
     ensures blocked { IfOk result (λ ran. (ran ≡ false) → IsBlocked group.new) }
+    ensures said { OnOk result ((before : List Told) → group.old.emitted ≡ before ++ said.old.items
+        → group.new.emitted ≡ before ++ said.new.items) }
     ensures plan { group.new.plan ≡ group.old.plan }
     ensures members { belongs group.new ≡ belongs group.old }
 {
@@ -222,11 +231,13 @@ fn run_least(group: &mut Group, said: &mut Vec<Record>) -> Result<bool, AllocErr
 
 /// Runs a row of quanta of a node, if it may run one, and puts what it says after the rest: its change, if there is one, and one promise.
 /// Returns whether it ran.
-#[tactic(auto, using(crate::proofs::Steps::appended_true, crate::proofs::Steps::gone_true))]
+#[tactic(auto, using(crate::proofs::Steps::appended_true, crate::proofs::Steps::gone_true, crate::proofs::Emitted::gone_emitted, crate::proofs::Emitted::said_more))]
 fn run_member(group: &mut Group, i: u8, said: &mut Vec<Record>) -> Result<bool, AllocError>
     requires { AreTrueOfPlan group.old.plan said.old.items }
     ensures truth { AreTrueOfPlan group.old.plan said.new.items }
     ensures stuck { IfOk result (λ ran. (ran ≡ false) → (may_run group.old i ≡ false) × (group.new ≡ group.old)) }
+    ensures said { OnOk result ((before : List Told) → group.old.emitted ≡ before ++ said.old.items
+        → group.new.emitted ≡ before ++ said.new.items) }
     ensures plan { group.new.plan ≡ group.old.plan }
     ensures members { belongs group.new ≡ belongs group.old }
 {
