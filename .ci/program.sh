@@ -228,6 +228,16 @@ done
 peak() { python3 -c 'import resource, subprocess, sys; subprocess.run(sys.argv[1:], stdout=subprocess.DEVNULL); print(resource.getrusage(resource.RUSAGE_CHILDREN).ru_maxrss)' "$@"; }
 by_mail=$(peak "$program" run --workers 8 --link mail examples/sixteen_nodes.toml)
 is "memory of eight workers by letters, $by_mail KiB" [ "$by_mail" -lt 300000 ]
+# No clause says that equal samples are kept as one: 16 nodes find 131,000 dominant ones each here. (Python's own memory, some 14,000 KiB, is the least.)
+python3 - > "$room/stuck.toml" << 'END'
+print('version = 1\nend = 104_800_000\nper = 5')
+for node in range(16):
+    print(f'[[node]]\nname = "n{node}"\noffset = 0\nquantum = 100\nppm = 0\nprop = 1\nps1 = 3\nps2 = 3\nsjw = 2\nx = 0\nout = 40\nin = 50')
+print('[[disturbance]]\nx = 0\nfrom = 0\nto = 104_800_000')
+END
+"$program" run "$room/stuck.toml" > "$room/out"
+stuck=$(peak "$program" run "$room/stuck.toml")
+is "memory of a line that stays dominant, $stuck KiB" [ "$stuck" -lt 17500 -a "$(grep -c ' samples 131000 ' "$room/out")" = 16 ]
 name=clean_500k
 for words in '--workers 1' '--workers 2' '--workers +2' '--workers 02' '--workers 1 --link mail' '--link mail' '--link=hub'; do
   # shellcheck disable=SC2086
