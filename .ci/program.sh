@@ -2,7 +2,7 @@
 # Runs a built program of Wireline as a user would, and compares status, standard output and the fault's line, byte for byte.
 # usage: program.sh PROGRAM
 # - each plan of examples/ with the report beside it, and each of those plans through check, records and candump, which must accept it;
-#   and by 2, 3 and 8 workers over either link
+#   and by 2, 3 and 8 workers over either link; a bus with long delays by 2 and 3
 # - the explanation, the trace and the waveform of each of them as check/plain.py gives them, the traffic and the margin as check/traffic.py and
 #   check/margin.py do; the same of plans as no example is; and the explanations of plans with every doubt, by the book and
 #   not, and of one whose clocks change their rates
@@ -222,6 +222,15 @@ for report in examples/*.report; do
     for link in hub mail; do
       runs "run of $name by $workers workers, $link" "examples/$name.toml" 0 "$report" "$room/none" run --workers "$workers" --link "$link"
     done
+  done
+done
+# With delays of 64 quanta and more workers have fewer rows a turn; no clause says how many, nor that there are some. Here they are of 160.
+sed 's/^out = .*/out = 20_000/' examples/clean_500k.toml > "$room/far.toml"
+"$program" run < "$room/far.toml" > "$room/far.report" 2> "$room/err"
+is "a bus with long delays" [ "$(tail -1 "$room/far.report")" = 'verdict faulty errors 39 unsent 2' ]
+for workers in 2 3; do
+  for link in hub mail; do
+    runs "run of a bus with long delays by $workers workers, $link" "$room/far.toml" 0 "$room/far.report" "$room/none" run --workers "$workers" --link "$link"
   done
 done
 # Letters are kept up to the end of a run, but share its plan and its records.
