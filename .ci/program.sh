@@ -8,7 +8,7 @@
 #   not, and of one whose clocks change their rates
 # - the log of one plan, as ticks of three lengths have it, and the waveform of one, as ticks of two have it
 # - two nodes with full queues, as check/plain.py reports them, and their trace, a long one, in other formats; a bus that idles, in less than 200 ms;
-#   a table of 80,000 keys, in less than 3 s; the traffic of 8,000 messages, in less than 4 s
+#   a table of 80,000 keys, in less than 3 s; the traffic of 8,000 messages, in less than 4 s; the margins of 16 nodes, in less than 0.4 s
 # - each row of .ci/refused.txt: the status, the one line on standard error, nothing on standard output but what explain says of it, and the hint
 # - files for input and output: what stands at the named place on each outcome; devices, rights, full disks, closed descriptors, odd names
 # - settings: lists and plans as check/settings.py has them, and what is refused (.ci/settings.sh)
@@ -158,6 +158,10 @@ for node in range(16):
 END
 used=$( (TIMEFORMAT='%U %S'; time timeout 300 "$program" traffic < "$room/messages.toml" > "$room/out" 2> "$room/err") 2>&1 | awk '{ print int(1000 * ($1 + $2)) }')
 is "the traffic of 8,000 messages takes $used ms" [ "$used" -lt 4000 -a ! -s "$room/err" -a "$(grep -c '^message ' "$room/out")" = 8000 ]
+
+# The terms that each pair of nodes asks for are worked out once for a bus: this plan took more than 600 ms.
+used=$( (TIMEFORMAT='%U %S'; time timeout 300 "$program" margin < examples/sixteen_nodes.toml > "$room/out" 2> "$room/err") 2>&1 | awk '{ print int(1000 * ($1 + $2)) }')
+is "the margins of 16 nodes take $used ms" [ "$used" -lt 400 -a ! -s "$room/err" -a "$(grep -c '^pair ' "$room/out")" = 240 ]
 
 # A page has what the other commands write, each text once, also of a plan whose remarks look like a page's own words.
 printf '# </pre><script>alert(1)</script> &amp; \r\n' | cat - examples/burst.toml > "$room/marked.toml"

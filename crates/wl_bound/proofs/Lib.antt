@@ -6,3 +6,4 @@ pub mod Lengths
 pub mod Clocks
 pub mod Nodes
 pub mod Sound
+pub mod WayRows

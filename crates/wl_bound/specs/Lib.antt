@@ -9,3 +9,4 @@ pub mod Searches
 pub mod Verdicts
 pub mod Senders
 pub mod Covered
+pub mod Evaluated

@@ -1,5 +1,5 @@
 -- The shortest and the longest quantum of an oscillator within its tolerance.
-use Rattle.std.specs.Prelude.{ℕ, ◌+◌, ◌-◌, ◌*◌, ◌/◌, ◌≤◌, ◌||◌, not, nat_lt, Bool, List, [], ◌∷◌, length, Option, Some, None, if◌then◌else◌}
+use Rattle.std.specs.Prelude.{◌≡◌, ℕ, ◌+◌, ◌-◌, ◌*◌, ◌/◌, ◌^◌, ◌<◌, ◌≤◌, ◌||◌, not, nat_lt, Bool, List, [], ◌∷◌, length, Option, Some, None, if◌then◌else◌}
 use Rattle.std.specs.Int.{div_ceil}
 use Rattle.std.specs.Result.{is_ok}
 use Rattle.wl_clock.specs.declared.Rate.{Rate}
@@ -53,3 +53,11 @@ shortest_of p wider = p.fastest.num * (1000000 - (p.tolerance + wider)) / p.fast
 -- the longest one, rounded up
 abbrev pub longest_of : Pace → ℕ → ℕ
 longest_of p wider = div_ceil (p.slowest.num * (1000000 + (p.tolerance + wider))) p.slowest.den
+
+-- what is kept of an oscillator: its own shortest and longest quantum too
+pub record IsOscillator (least most : ℕ) (p : Pace) : Type 0 where
+  pub pace : IsPace p
+  pub shortest : least ≡ shortest_of p 0
+  pub longest : most ≡ longest_of p 0
+  pub short : least < 2 ^ 41
+  pub long : most < 2 ^ 54

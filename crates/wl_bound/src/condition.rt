@@ -1,11 +1,14 @@
 //! The condition for a sound bus.
-ghost use Rattle.std.specs.Prelude.{◌≡◌, ◌^◌, ◌<◌, length, IfSome};
+ghost use Rattle.std.specs.Prelude.{◌≡◌, ◌^◌, ◌<◌, true, length, IfSome};
 ghost use Rattle.wl_level.specs.Places.{first_place};
 ghost use Rattle.wl_topology.specs.Driven.{any_below};
-ghost use Rattle.wl_bound.specs.Families.{bus_of, member_at, only_listens};
+ghost use Rattle.wl_bound.specs.Evaluated.{AreRowsOfBus, IsEvaluated, IsEvaluatedFor};
+ghost use Rattle.wl_bound.specs.Families.{Buses, bus_of, member_at, only_listens};
 ghost use Rattle.wl_bound.specs.declared.condition.Senders.TheVariants.{One};
+ghost use Rattle.wl_bound.specs.Terms.{several};
 ghost use Rattle.wl_bound.specs.Conditions.{failure_of, fails, fails_at, first_failure_of, is_asked, left_by, left_of, plain, right_of, sides_in, pair_failure};
 
+use crate::evaluated::{EvaluatedBus, Rows};
 use crate::family::{Family, Setting, Source};
 
 /// One of the three inequalities that are asked of each pair of nodes, in this order.
@@ -61,6 +64,15 @@ pub(crate) const PLAIN: Setting = Setting {
     longer: 0,
 };
 
+/// Returns the bus of a setting with these terms of it.
+fn evaluated<'r>(setting: Setting, rows: &'r Rows) -> EvaluatedBus<'r>
+    ensures setting { result.setting ≡ setting }
+    ensures evaluated { (f : Buses) → AreRowsOfBus f setting rows.now → IsEvaluated f result }
+{
+    let rows = Some(rows);
+    EvaluatedBus { setting, rows }
+}
+
 impl Family {
     /// Returns both sides of an inequality for nodes `i` and `j`, in millionths of a tick. For one sender at a time the left side is the
     /// greatest over the senders.
@@ -69,7 +81,29 @@ impl Family {
         requires other { j < length self.now.members }
         ensures { result ≡ sides_in self.now plain senders inequality i j }
     {
-        self.sides_by(PLAIN, senders, inequality, i, j)
+        match &self.plain {
+            Some(rows) => self.sides_by(&evaluated(PLAIN, rows), senders, inequality, i, j),
+            None => self.sides_in(PLAIN, senders, inequality, i, j),
+        }
+    }
+
+    /// Returns both sides on the bus of a setting, which is worked out for this pair alone.
+    #[inline(never)]
+    fn sides_in(
+        &self,
+        setting: Setting,
+        senders: Senders,
+        inequality: Inequality,
+        i: u8,
+        j: u8,
+    ) -> Sides
+        requires one { i < length self.now.members }
+        requires other { j < length self.now.members }
+        ensures { result ≡ sides_in self.now setting senders inequality i j }
+    {
+        let rows = self.rows_for(setting, senders);
+        let rows = rows.as_ref();
+        self.sides_by(&EvaluatedBus { setting, rows }, senders, inequality, i, j)
     }
 
     /// True if an inequality is asked of nodes `i` and `j`. Of a node and itself it is only whether its own bit is back at its sample. Of a
@@ -99,14 +133,18 @@ impl Family {
         requires other { j < length self.now.members }
         ensures { result ≡ pair_failure self.now plain senders inequality i j }
     {
-        if !self.fails(PLAIN, senders, inequality, i, j) {
+        if !self.is_asked(inequality, i, j) {
+            return None;
+        }
+        let sides = self.sides(senders, inequality, i, j);
+        if sides.left <= sides.right {
             return None;
         }
         Some(Failure {
             inequality,
             node: i,
             other: j,
-            sides: self.sides(senders, inequality, i, j),
+            sides,
         })
     }
 
@@ -119,12 +157,14 @@ impl Family {
 
     /// Returns what takes time.
     #[tactic(auto, unfolding(crate::specs::Conditions::left_of))]
-    fn left(&self, setting: Setting, inequality: Inequality, i: u8, j: u8) -> u128
+    fn left(&self, bus: &EvaluatedBus, inequality: Inequality, i: u8, j: u8) -> u128
         requires one { i < length self.now.members }
         requires other { j < length self.now.members }
-        ensures value { result ≡ left_of (bus_of self.now setting) inequality i j }
+        requires evaluated { IsEvaluated self.now bus.now }
+        ensures value { result ≡ left_of (bus_of self.now bus.now.setting) inequality i j }
         ensures most { result < 2 ^ 103 }
     {
+        let setting = bus.setting;
         match inequality {
             Inequality::DriftFitsJump => {
                 10 * self.drift(setting, i, j) + self.pulled(setting, i, j)
@@ -133,13 +173,13 @@ impl Family {
                 if i == j {
                     return self.delay(setting, i, i) + self.turns(setting, i);
                 }
-                self.late(setting, i, j) + 11 * self.strays(setting, j) + self.ahead(setting, j)
+                self.late(bus, i, j) + 11 * self.strays(setting, j) + self.ahead(setting, j)
             }
             Inequality::NoBitTooEarly => {
                 let early = self
-                    .early(setting, j)
+                    .early_of(bus, j)
                     .saturating_sub(self.delay(setting, j, j));
-                let gained = self.apart(setting, j, i).min(early);
+                let gained = self.apart(bus, j, i).min(early);
                 self.look(setting, j)
                     + 10 * self.drift(setting, i, j)
                     + gained
@@ -147,6 +187,31 @@ impl Family {
                     + self.ahead(setting, i)
             }
         }
+    }
+
+    /// Returns what takes time on the bus of a setting. If several nodes send, it is worked out for this pair alone.
+    fn left_in(&self, setting: Setting, inequality: Inequality, i: u8, j: u8) -> u128
+        requires one { i < length self.now.members }
+        requires other { j < length self.now.members }
+        ensures { result ≡ left_of (bus_of self.now setting) inequality i j }
+    {
+        if self.several(setting) {
+            return self.left_of_several(setting, inequality, i, j);
+        }
+        let rows = None;
+        self.left(&EvaluatedBus { setting, rows }, inequality, i, j)
+    }
+
+    /// Returns it where several nodes send.
+    #[inline(never)]
+    fn left_of_several(&self, setting: Setting, inequality: Inequality, i: u8, j: u8) -> u128
+        requires one { i < length self.now.members }
+        requires other { j < length self.now.members }
+        requires several { several (bus_of self.now setting) ≡ true }
+        ensures { result ≡ left_of (bus_of self.now setting) inequality i j }
+    {
+        let rows = self.rows(setting);
+        self.left(&evaluated(setting, &rows), inequality, i, j)
     }
 
     /// Returns the time that there is.
@@ -175,7 +240,8 @@ impl Family {
         for a in 0..self.nodes() {
             if self.member(a).sends {
                 let source = Source::Alone(a);
-                greatest = greatest.max(self.left(Setting { source, ..setting }, inequality, i, j));
+                let alone = Setting { source, ..setting };
+                greatest = greatest.max(self.left_in(alone, inequality, i, j));
             }
         }
         greatest
@@ -184,7 +250,7 @@ impl Family {
     /// Returns the left side, for any senders or for one at a time.
     fn left_by(
         &self,
-        setting: Setting,
+        bus: &EvaluatedBus,
         senders: Senders,
         inequality: Inequality,
         i: u8,
@@ -192,18 +258,19 @@ impl Family {
     ) -> u128
         requires one { i < length self.now.members }
         requires other { j < length self.now.members }
-        ensures { result ≡ left_by self.now setting senders inequality i j }
+        requires evaluated { IsEvaluatedFor self.now senders bus.now }
+        ensures { result ≡ left_by self.now bus.now.setting senders inequality i j }
     {
         match senders {
-            Senders::Any => self.left(setting, inequality, i, j),
-            Senders::One => self.left_alone(setting, inequality, i, j),
+            Senders::Any => self.left(bus, inequality, i, j),
+            Senders::One => self.left_alone(bus.setting, inequality, i, j),
         }
     }
 
     /// Returns both sides.
     pub(crate) fn sides_by(
         &self,
-        setting: Setting,
+        bus: &EvaluatedBus,
         senders: Senders,
         inequality: Inequality,
         i: u8,
@@ -211,18 +278,19 @@ impl Family {
     ) -> Sides
         requires one { i < length self.now.members }
         requires other { j < length self.now.members }
-        ensures { result ≡ sides_in self.now setting senders inequality i j }
+        requires evaluated { IsEvaluatedFor self.now senders bus.now }
+        ensures { result ≡ sides_in self.now bus.now.setting senders inequality i j }
     {
         Sides {
-            left: self.left_by(setting, senders, inequality, i, j),
-            right: self.right(setting, inequality, i, j),
+            left: self.left_by(bus, senders, inequality, i, j),
+            right: self.right(bus.setting, inequality, i, j),
         }
     }
 
     /// True if an inequality fails for a pair.
     fn fails(
         &self,
-        setting: Setting,
+        bus: &EvaluatedBus,
         senders: Senders,
         inequality: Inequality,
         i: u8,
@@ -230,30 +298,33 @@ impl Family {
     ) -> bool
         requires one { i < length self.now.members }
         requires other { j < length self.now.members }
-        ensures { result ≡ fails self.now setting senders inequality i j }
+        requires evaluated { IsEvaluatedFor self.now senders bus.now }
+        ensures { result ≡ fails self.now bus.now.setting senders inequality i j }
     {
         if !self.is_asked(inequality, i, j) {
             return false;
         }
-        let sides = self.sides_by(setting, senders, inequality, i, j);
+        let sides = self.sides_by(bus, senders, inequality, i, j);
         sides.right < sides.left
     }
 
     /// Returns the first node with which it fails for node `i`.
     fn first_other(
         &self,
-        setting: Setting,
+        bus: &EvaluatedBus,
         senders: Senders,
         inequality: Inequality,
         i: u8,
     ) -> Option<u8>
-        requires { i < length self.now.members }
-        ensures first { result ≡ first_place (fails self.now setting senders inequality i) (length self.now.members) }
+        requires node { i < length self.now.members }
+        requires evaluated { IsEvaluatedFor self.now senders bus.now }
+        ensures first { result ≡ first_place (fails self.now bus.now.setting senders inequality i)
+            (length self.now.members) }
         ensures inside { IfSome result (λ j. j < length self.now.members) }
     {
         let mut first = None;
         for j in 0..self.nodes() {
-            if first.is_none() && self.fails(setting, senders, inequality, i, j) {
+            if first.is_none() && self.fails(bus, senders, inequality, i, j) {
                 first = Some(j);
             }
         }
@@ -261,14 +332,15 @@ impl Family {
     }
 
     /// Returns the first node for which it fails with some other.
-    fn first_node(&self, setting: Setting, senders: Senders, inequality: Inequality) -> Option<u8>
-        ensures first { result ≡ first_place (fails_at self.now setting senders inequality)
+    fn first_node(&self, bus: &EvaluatedBus, senders: Senders, inequality: Inequality) -> Option<u8>
+        requires evaluated { IsEvaluatedFor self.now senders bus.now }
+        ensures first { result ≡ first_place (fails_at self.now bus.now.setting senders inequality)
             (length self.now.members) }
         ensures inside { IfSome result (λ i. i < length self.now.members) }
     {
         let mut first = None;
         for i in 0..self.nodes() {
-            if first.is_none() && self.first_other(setting, senders, inequality, i).is_some() {
+            if first.is_none() && self.first_other(bus, senders, inequality, i).is_some() {
                 first = Some(i);
             }
         }
@@ -276,18 +348,24 @@ impl Family {
     }
 
     /// Returns the first pair for which it fails.
-    fn failure(&self, setting: Setting, senders: Senders, inequality: Inequality) -> Option<Failure>
-        ensures { result ≡ failure_of self.now setting senders inequality }
+    fn failure(
+        &self,
+        bus: &EvaluatedBus,
+        senders: Senders,
+        inequality: Inequality,
+    ) -> Option<Failure>
+        requires evaluated { IsEvaluatedFor self.now senders bus.now }
+        ensures { result ≡ failure_of self.now bus.now.setting senders inequality }
     {
-        let node = match self.first_node(setting, senders, inequality) {
+        let node = match self.first_node(bus, senders, inequality) {
             Some(node) => node,
             None => return None,
         };
-        let other = match self.first_other(setting, senders, inequality, node) {
+        let other = match self.first_other(bus, senders, inequality, node) {
             Some(other) => other,
             None => return None,
         };
-        let sides = self.sides_by(setting, senders, inequality, node, other);
+        let sides = self.sides_by(bus, senders, inequality, node, other);
         Some(Failure {
             inequality,
             node,
@@ -301,12 +379,15 @@ impl Family {
     pub(crate) fn first_failure_by(&self, setting: Setting, senders: Senders) -> Option<Failure>
         ensures { result ≡ first_failure_of self.now setting senders }
     {
-        if let Some(failure) = self.failure(setting, senders, Inequality::DriftFitsJump) {
+        let rows = self.rows_for(setting, senders);
+        let rows = rows.as_ref();
+        let bus = EvaluatedBus { setting, rows };
+        if let Some(failure) = self.failure(&bus, senders, Inequality::DriftFitsJump) {
             return Some(failure);
         }
-        if let Some(failure) = self.failure(setting, senders, Inequality::BitIsThereAtSample) {
+        if let Some(failure) = self.failure(&bus, senders, Inequality::BitIsThereAtSample) {
             return Some(failure);
         }
-        self.failure(setting, senders, Inequality::NoBitTooEarly)
+        self.failure(&bus, senders, Inequality::NoBitTooEarly)
     }
 }

@@ -1,7 +1,11 @@
 //! Families of buses: what of a plan the condition is about.
-ghost use Rattle.std.specs.Prelude.{◌≡◌, ◌≢◌, ◌-◌, ◌^◌, ◌<◌, ◌≤◌, ◌++◌, length, IfOk, OnOk};
-ghost use Rattle.wl_bound.specs.Families.{Buses, IsFamily, added_in, bus_of, changed, delay_in, family_of, lengths_in, longest_in, member_at, member_of, members_of, only_listens, sends_in, shortest_in, turns_in, units, way_between};
+ghost use Rattle.std.specs.Prelude.{◌≡◌, ◌≢◌, ◌-◌, ◌*◌, ◌^◌, ◌<◌, ◌≤◌, ◌++◌, length, IfOk, OnOk};
+ghost use Rattle.wl_topology.specs.Limits.{most_places};
+ghost use Rattle.wl_bound.specs.Evaluated.{IsKeptFamily};
+ghost use Rattle.wl_bound.specs.Families.{Buses, added_in, bus_of, changed, delay_in, family_of, lengths_in, longest_in, member_at, member_of, members_of, only_listens, sends_in, shortest_in, turns_in, units, way_between};
 
+use crate::condition::PLAIN;
+use crate::evaluated::Rows;
 use crate::oscillator::Oscillator;
 use std::alloc::{AllocError, Global};
 use std::marker::Model;
@@ -84,6 +88,8 @@ pub(crate) struct Setting {
 pub struct Family {
     members: Listed<Member>,
     cable: Topology,
+    /// The terms of the plan's own bus, if several nodes send: it is asked about each pair of nodes.
+    pub(crate) plain: Option<Rows>,
 }
 
 impl Model for Family {
@@ -91,7 +97,7 @@ impl Model for Family {
 
     ghost view = { λ f. record { members = f.members; cable = f.cable } };
 
-    ghost invariant = { λ f. IsFamily (record { members = f.members; cable = f.cable }) };
+    ghost invariant = { λ f. IsKeptFamily (record { members = f.members; cable = f.cable }) f.plain };
 }
 
 impl Family {
@@ -106,15 +112,20 @@ impl Family {
     {
         let mut members = Listed::new(alloc);
         push_members(&mut members, plan.nodes.as_slice(), oscillators)?;
-        Ok(Family {
+        let mut family = Family {
             members,
             cable: plan.topology,
-        })
+            plain: None,
+        };
+        let rows = family.rows_if_several(PLAIN);
+        family.plain = rows;
+        Ok(family)
     }
 
     /// Returns how many nodes there are: 1 to 16.
     pub fn nodes(&self) -> u8
-        ensures { result ≡ length self.now.members }
+        ensures value { result ≡ length self.now.members }
+        ensures few { result ≤ most_places }
     {
         self.cable.nodes()
     }
@@ -235,8 +246,20 @@ impl Family {
         ensures most { result < 2 ^ 73 }
     {
         let nominal = setting.length as u128 * self.cable.propagation(i, j) as u128;
-        let more = setting.longer as u128 * self.way_between(i, j) as u128;
-        1_000_000 * (nominal + more)
+        1_000_000 * (nominal + self.longer_by(setting, i, j))
+    }
+
+    /// Returns how many times a tick longer it takes on the longer cable.
+    fn longer_by(&self, setting: Setting, i: u8, j: u8) -> u128
+        requires one { i < length self.now.members }
+        requires other { j < length self.now.members }
+        ensures value { result ≡ setting.longer * way_between self.now.cable i j }
+        ensures most { result < 2 ^ 52 }
+    {
+        if setting.longer == 0 {
+            return 0;
+        }
+        setting.longer as u128 * self.way_between(i, j) as u128
     }
 
     /// Returns how long it takes on the plan's own cable, in units.

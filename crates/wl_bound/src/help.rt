@@ -1,8 +1,10 @@
 //! Which change by a quantum helps most.
 ghost use Rattle.std.specs.Prelude.{◌≡◌, ◌^◌, ◌<◌, ◌≤◌, length};
+ghost use Rattle.wl_bound.specs.Evaluated.{IsEvaluatedFor};
 ghost use Rattle.wl_bound.specs.Helps.{best_change, is_greater, is_possible, lack_row, or_better, reserve_in, reserve_of, spare_row, worse_of};
 
 use crate::condition::{Inequality, PLAIN, Senders};
+use crate::evaluated::EvaluatedBus;
 use crate::family::{Change, Family, Setting};
 
 /// More than any margin.
@@ -77,34 +79,39 @@ impl Family {
     fn reserve(&self, setting: Setting, senders: Senders) -> Reserve
         ensures { result ≡ reserve_in self.now setting senders }
     {
-        let drift = self.reserve_of(setting, senders, Inequality::DriftFitsJump);
-        let late = self.reserve_of(setting, senders, Inequality::BitIsThereAtSample);
-        let early = self.reserve_of(setting, senders, Inequality::NoBitTooEarly);
+        let rows = self.rows_for(setting, senders);
+        let rows = rows.as_ref();
+        let bus = EvaluatedBus { setting, rows };
+        let drift = self.reserve_of(&bus, senders, Inequality::DriftFitsJump);
+        let late = self.reserve_of(&bus, senders, Inequality::BitIsThereAtSample);
+        let early = self.reserve_of(&bus, senders, Inequality::NoBitTooEarly);
         worse_of(&drift, &worse_of(&late, &early))
     }
 
     /// Returns the least margin of an inequality.
-    fn reserve_of(&self, setting: Setting, senders: Senders, inequality: Inequality) -> Reserve
-        ensures { result ≡ reserve_of self.now setting senders inequality }
+    fn reserve_of(&self, bus: &EvaluatedBus, senders: Senders, inequality: Inequality) -> Reserve
+        requires evaluated { IsEvaluatedFor self.now senders bus.now }
+        ensures { result ≡ reserve_of self.now bus.now.setting senders inequality }
     {
         let mut lack = 0;
         let mut spare = NO_MARGIN;
         for i in 0..self.nodes() {
-            lack = lack.max(self.lack_row(setting, senders, inequality, i));
-            spare = spare.min(self.spare_row(setting, senders, inequality, i));
+            lack = lack.max(self.lack_row(bus, senders, inequality, i));
+            spare = spare.min(self.spare_row(bus, senders, inequality, i));
         }
         Reserve { lack, spare }
     }
 
     /// Returns what the worst pair with node `i` lacks.
-    fn lack_row(&self, setting: Setting, senders: Senders, inequality: Inequality, i: u8) -> u128
-        requires { i < length self.now.members }
-        ensures { result ≡ lack_row self.now setting senders inequality i }
+    fn lack_row(&self, bus: &EvaluatedBus, senders: Senders, inequality: Inequality, i: u8) -> u128
+        requires node { i < length self.now.members }
+        requires evaluated { IsEvaluatedFor self.now senders bus.now }
+        ensures { result ≡ lack_row self.now bus.now.setting senders inequality i }
     {
         let mut lack = 0;
         for j in 0..self.nodes() {
             if self.is_asked(inequality, i, j) {
-                let sides = self.sides_by(setting, senders, inequality, i, j);
+                let sides = self.sides_by(bus, senders, inequality, i, j);
                 lack = lack.max(sides.left.saturating_sub(sides.right));
             }
         }
@@ -112,14 +119,15 @@ impl Family {
     }
 
     /// Returns what it has to spare.
-    fn spare_row(&self, setting: Setting, senders: Senders, inequality: Inequality, i: u8) -> u128
-        requires { i < length self.now.members }
-        ensures { result ≡ spare_row self.now setting senders inequality i }
+    fn spare_row(&self, bus: &EvaluatedBus, senders: Senders, inequality: Inequality, i: u8) -> u128
+        requires node { i < length self.now.members }
+        requires evaluated { IsEvaluatedFor self.now senders bus.now }
+        ensures { result ≡ spare_row self.now bus.now.setting senders inequality i }
     {
         let mut spare = NO_MARGIN;
         for j in 0..self.nodes() {
             if self.is_asked(inequality, i, j) {
-                let sides = self.sides_by(setting, senders, inequality, i, j);
+                let sides = self.sides_by(bus, senders, inequality, i, j);
                 spare = spare.min(sides.right.saturating_sub(sides.left));
             }
         }

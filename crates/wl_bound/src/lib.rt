@@ -7,6 +7,7 @@
 
 mod condition;
 mod covered;
+mod evaluated;
 mod family;
 mod help;
 mod laws;

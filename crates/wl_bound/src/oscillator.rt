@@ -1,9 +1,10 @@
 //! What an oscillator may do.
-ghost use Rattle.std.specs.Prelude.{◌≡◌, ◌^◌, ◌<◌, ◌≤◌, ◌∷◌, length, All, if◌then◌else◌};
+ghost use Rattle.std.specs.Prelude.{◌≡◌, ◌+◌, ◌-◌, ◌*◌, ◌/◌, ◌^◌, ◌<◌, ◌≤◌, ◌∷◌, length, All, if◌then◌else◌};
+ghost use Rattle.std.specs.Int.{div_ceil};
 ghost use Rattle.std.specs.Bool.{OnTrue};
 ghost use Rattle.std.specs.Result.{is_ok};
 ghost use Rattle.wl_clock.specs.Timing.{IsRate, most_rates, timing_of_rates};
-ghost use Rattle.wl_bound.specs.Oscillators.{Pace, IsPace, fastest_of, is_faster, longest_of, oscillator_of, shortest_of, slowest_of};
+ghost use Rattle.wl_bound.specs.Oscillators.{IsOscillator, Pace, fastest_of, is_faster, longest_of, oscillator_of, shortest_of, slowest_of};
 
 use std::marker::Model;
 use wl_clock::{Clock, Rate};
@@ -21,6 +22,9 @@ pub struct Oscillator {
     tolerance: u32,
     /// How often the rate changes.
     turns: u8,
+    /// Its shortest quantum and its longest one, which are asked for again and again.
+    shortest: u128,
+    longest: u128,
 }
 
 impl Model for Oscillator {
@@ -38,9 +42,11 @@ impl Model for Oscillator {
       slowest = p.slowest;
       tolerance = p.tolerance;
       turns = p.turns;
+      shortest = shortest_of p 0;
+      longest = longest_of p 0;
     } };
 
-    ghost invariant = { λ o. IsPace (record {
+    ghost invariant = { λ o. IsOscillator o.shortest o.longest (record {
       fastest = o.fastest;
       slowest = o.slowest;
       tolerance = o.tolerance;
@@ -60,12 +66,18 @@ impl Oscillator {
         }
         match rates {
             [] => None,
-            [first, later @ ..] => Some(Oscillator {
-                fastest: fastest(*first, later),
-                slowest: slowest(*first, later),
-                tolerance,
-                turns: later.len() as u8,
-            }),
+            [first, later @ ..] => {
+                let fastest = fastest(*first, later);
+                let slowest = slowest(*first, later);
+                Some(Oscillator {
+                    fastest,
+                    slowest,
+                    tolerance,
+                    turns: later.len() as u8,
+                    shortest: shortest_at(&fastest, tolerance as u128),
+                    longest: longest_at(&slowest, tolerance as u128),
+                })
+            }
         }
     }
 
@@ -103,8 +115,10 @@ impl Oscillator {
         ensures value { result ≡ shortest_of self.now wider }
         ensures most { result < 2 ^ 41 }
     {
-        let parts = MILLION.saturating_sub(self.tolerance as u128 + wider as u128);
-        self.fastest.num * parts / self.fastest.den as u128
+        if wider == 0 {
+            return self.shortest;
+        }
+        shortest_at(&self.fastest, self.tolerance as u128 + wider as u128)
     }
 
     /// Returns the longest one, rounded up.
@@ -112,9 +126,32 @@ impl Oscillator {
         ensures value { result ≡ longest_of self.now wider }
         ensures most { result < 2 ^ 54 }
     {
-        let parts = MILLION + (self.tolerance as u128 + wider as u128);
-        (self.slowest.num * parts).div_ceil(self.slowest.den as u128)
+        if wider == 0 {
+            return self.longest;
+        }
+        longest_at(&self.slowest, self.tolerance as u128 + wider as u128)
     }
+}
+
+/// Returns the shortest quantum of a rate that may deviate by this many parts per million, in millionths of a tick, rounded down.
+fn shortest_at(fastest: &Rate, deviation: u128) -> u128
+    requires rate { IsRate fastest.now }
+    ensures value { result ≡ fastest.now.num * (1000000 - deviation) / fastest.now.den }
+    ensures most { result < 2 ^ 41 }
+{
+    let parts = MILLION.saturating_sub(deviation);
+    fastest.num * parts / fastest.den as u128
+}
+
+/// Returns the longest one, rounded up.
+fn longest_at(slowest: &Rate, deviation: u128) -> u128
+    requires rate { IsRate slowest.now }
+    requires few { deviation < 2 ^ 33 }
+    ensures value { result ≡ div_ceil (slowest.now.num * (1000000 + deviation)) slowest.now.den }
+    ensures most { result < 2 ^ 54 }
+{
+    let parts = MILLION + deviation;
+    (slowest.num * parts).div_ceil(slowest.den as u128)
 }
 
 /// True if the rates make a clock.

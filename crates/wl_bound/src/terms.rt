@@ -1,10 +1,12 @@
 //! The terms of the condition, in units of time.
-ghost use Rattle.std.specs.Prelude.{◌≡◌, ◌+◌, ◌-◌, ◌*◌, ◌^◌, ◌<◌, ◌≤◌, length};
+ghost use Rattle.std.specs.Prelude.{◌≡◌, true, ◌+◌, ◌-◌, ◌*◌, ◌^◌, ◌<◌, ◌≤◌, length};
 ghost use Rattle.wl_topology.specs.Driven.{any_below};
 ghost use Rattle.wl_level.specs.Places.{count_places};
+ghost use Rattle.wl_bound.specs.Evaluated.{HasWaysOfNode, IsEvaluated};
 ghost use Rattle.wl_bound.specs.Families.{bus_of};
 ghost use Rattle.wl_bound.specs.Terms.{ahead, answered, apart, behind, chase, drift, early, edges, greatest, is_answering, is_third, jump, late, look, lost, pull, pulled, sends_but, sends_third, several, spread, strays, sum_of, there_and_back, tour, trip, way};
 
+use crate::evaluated::{EvaluatedBus, Ways};
 use crate::family::{Family, Setting};
 
 /// The edges of a frame of 8 bytes that are ten bits apart.
@@ -134,7 +136,7 @@ impl Family {
 
     /// True if two nodes at least send.
     #[tactic(auto, unfolding(crate::specs::Terms::several))]
-    fn several(&self, setting: Setting) -> bool
+    pub(crate) fn several(&self, setting: Setting) -> bool
         ensures { result ≡ several (bus_of self.now setting) }
     {
         let mut senders: u8 = 0;
@@ -146,36 +148,24 @@ impl Family {
         senders > 1
     }
 
-    /// Returns how late the bits of a sender but `i` can be at node `i`, with ten bits of drift.
-    fn latest_sender(&self, setting: Setting, i: u8) -> u128
-        requires { i < length self.now.members }
-        ensures value { result ≡ greatest (length self.now.members) (sends_but (bus_of self.now setting) i)
-            (λ a. way (bus_of self.now setting) i a + 10 * drift (bus_of self.now setting) a i
-            + ahead (bus_of self.now setting) a) }
+    /// Returns how early node `i` can be for the bits of the sender that wins the arbitration, if several nodes send: how late the bits of a
+    /// sender but `i` can be there, with ten bits of drift.
+    #[tactic(auto, unfolding(crate::specs::Terms::early))]
+    pub(crate) fn early(&self, setting: Setting, ways: &Ways, i: u8) -> u128
+        requires node { i < length self.now.members }
+        requires several { several (bus_of self.now setting) ≡ true }
+        requires ways { HasWaysOfNode i self.now setting ways.now }
+        ensures value { result ≡ early (bus_of self.now setting) i }
         ensures most { result < 2 ^ 95 }
     {
         let mut latest = 0;
         for a in 0..self.nodes() {
             if self.sends(setting, a) && a != i {
-                let comes = self.way(setting, i, a) + 10 * self.drift(setting, a, i);
+                let comes = self.way_in(setting, ways, i, a) + 10 * self.drift(setting, a, i);
                 latest = latest.max(comes + self.ahead(setting, a));
             }
         }
         latest
-    }
-
-    /// Returns how early node `i` can be for the bits of the sender that wins the arbitration.
-    #[tactic(auto, unfolding(crate::specs::Terms::early))]
-    pub(crate) fn early(&self, setting: Setting, i: u8) -> u128
-        requires { i < length self.now.members }
-        ensures value { result ≡ early (bus_of self.now setting) i }
-        ensures most { result < 2 ^ 95 }
-    {
-        if self.several(setting) {
-            self.latest_sender(setting, i)
-        } else {
-            0
-        }
     }
 
     /// Returns what ten bits of drift from a sender take from a jump of node `i`.
@@ -194,19 +184,20 @@ impl Family {
         10 * greatest
     }
 
-    /// Returns how many edges node `i` takes to catch up with that sender.
+    /// Returns how many edges node `i` takes to catch up with that sender, for which it can be so early.
     #[tactic(auto, unfolding(crate::specs::Terms::edges), using(crate::proofs::Harder::ceil_within))]
-    fn edges(&self, setting: Setting, i: u8) -> u128
-        requires { i < length self.now.members }
+    pub(crate) fn edges(&self, setting: Setting, earliest: u128, i: u8) -> u128
+        requires node { i < length self.now.members }
+        requires early { earliest ≡ early (bus_of self.now setting) i }
+        requires small { earliest < 2 ^ 95 }
         ensures value { result ≡ edges (bus_of self.now setting) i }
         ensures most { result ≤ 74 }
     {
-        let early = self.early(setting, i);
         let quantum = self.shortest(setting, i);
-        if early <= quantum {
+        if earliest <= quantum {
             return 0;
         }
-        let far = early - quantum;
+        let far = earliest - quantum;
         let jump = self.jump(setting, i);
         let lost = self.lost(setting, i);
         let gained = jump.saturating_sub(lost);
@@ -267,14 +258,15 @@ impl Family {
 
     /// Returns in how many edges nodes `i` and `j` both catch up with a third.
     #[tactic(auto, unfolding(crate::specs::Terms::chase))]
-    fn chase(&self, setting: Setting, i: u8, j: u8) -> u128
+    fn chase(&self, bus: &EvaluatedBus, i: u8, j: u8) -> u128
         requires one { i < length self.now.members }
         requires other { j < length self.now.members }
-        ensures value { result ≡ chase (bus_of self.now setting) i j }
+        requires evaluated { IsEvaluated self.now bus.now }
+        ensures value { result ≡ chase (bus_of self.now bus.now.setting) i j }
         ensures most { result ≤ 74 }
     {
-        if self.third_sends(setting, i, j) {
-            self.edges(setting, i).min(self.edges(setting, j))
+        if self.third_sends(bus.setting, i, j) {
+            self.edges_of(bus, i).min(self.edges_of(bus, j))
         } else {
             0
         }
@@ -295,25 +287,28 @@ impl Family {
 
     /// Returns how much later node `j` can get for node `i` meanwhile.
     #[tactic(auto, unfolding(crate::specs::Terms::apart))]
-    pub(crate) fn apart(&self, setting: Setting, i: u8, j: u8) -> u128
+    pub(crate) fn apart(&self, bus: &EvaluatedBus, i: u8, j: u8) -> u128
         requires one { i < length self.now.members }
         requires other { j < length self.now.members }
-        ensures value { result ≡ apart (bus_of self.now setting) i j }
+        requires evaluated { IsEvaluated self.now bus.now }
+        ensures value { result ≡ apart (bus_of self.now bus.now.setting) i j }
         ensures most { result < 2 ^ 102 }
     {
-        self.chase(setting, i, j) * self.spread(setting, i, j)
+        self.chase(bus, i, j) * self.spread(bus.setting, i, j)
     }
 
     /// Returns how late node `j` can be for node `i` by the edges of sender `a`.
-    fn tour_by(&self, setting: Setting, i: u8, j: u8, a: u8) -> u128
+    fn tour_by(&self, bus: &EvaluatedBus, i: u8, j: u8, a: u8) -> u128
         requires one { i < length self.now.members }
         requires other { j < length self.now.members }
         requires sender { a < length self.now.members }
-        ensures value { let b = bus_of self.now setting in
+        requires evaluated { IsEvaluated self.now bus.now }
+        ensures value { let b = bus_of self.now bus.now.setting in
             result ≡ way b i a + 10 * drift b a i + ahead b a + b.delay a j + b.delay j i - b.delay a i }
         ensures most { result < 2 ^ 96 }
     {
-        let comes = self.way(setting, i, a)
+        let setting = bus.setting;
+        let comes = self.way_of(bus, i, a)
             + 10 * self.drift(setting, a, i)
             + self.ahead(setting, a);
         let there = comes + self.delay(setting, a, j) + self.delay(setting, j, i);
@@ -322,16 +317,17 @@ impl Family {
 
     /// Returns how late it can be at most, since the edges of a third sender reach it too.
     #[tactic(auto, unfolding(crate::specs::Terms::tour))]
-    fn tour(&self, setting: Setting, i: u8, j: u8) -> u128
+    fn tour(&self, bus: &EvaluatedBus, i: u8, j: u8) -> u128
         requires one { i < length self.now.members }
         requires other { j < length self.now.members }
-        ensures value { result ≡ tour (bus_of self.now setting) i j }
+        requires evaluated { IsEvaluated self.now bus.now }
+        ensures value { result ≡ tour (bus_of self.now bus.now.setting) i j }
         ensures most { result < 2 ^ 96 }
     {
         let mut longest = 0;
         for a in 0..self.nodes() {
-            if self.sends(setting, a) && a != i && a != j {
-                longest = longest.max(self.tour_by(setting, i, j, a));
+            if self.sends(bus.setting, a) && a != i && a != j {
+                longest = longest.max(self.tour_by(bus, i, j, a));
             }
         }
         longest
@@ -365,28 +361,31 @@ impl Family {
 
     /// Returns how late the end of `j`'s acknowledgement can be at `i`, if both jump back by that of a third node.
     #[tactic(auto, unfolding(crate::specs::Terms::answered))]
-    pub(crate) fn answered(&self, setting: Setting, i: u8, j: u8) -> u128
+    pub(crate) fn answered(&self, bus: &EvaluatedBus, i: u8, j: u8) -> u128
         requires one { i < length self.now.members }
         requires other { j < length self.now.members }
-        ensures value { result ≡ answered (bus_of self.now setting) i j }
+        requires evaluated { IsEvaluated self.now bus.now }
+        ensures value { result ≡ answered (bus_of self.now bus.now.setting) i j }
         ensures most { result < 2 ^ 102 }
     {
-        if self.several(setting) {
-            self.latest_answer(setting, i, j)
+        if self.several(bus.setting) {
+            self.latest_answer(bus, i, j)
         } else {
             0
         }
     }
 
     /// Returns that over the nodes whose acknowledgement may come first.
-    fn latest_answer(&self, setting: Setting, i: u8, j: u8) -> u128
+    fn latest_answer(&self, bus: &EvaluatedBus, i: u8, j: u8) -> u128
         requires one { i < length self.now.members }
         requires other { j < length self.now.members }
-        ensures value { let b = bus_of self.now setting in
+        requires evaluated { IsEvaluated self.now bus.now }
+        ensures value { let b = bus_of self.now bus.now.setting in
             result ≡ greatest (length self.now.members) (is_answering b i j) (λ a. trip b i j a + behind b j a) }
         ensures most { result < 2 ^ 102 }
     {
-        let chased = self.edges(setting, j);
+        let setting = bus.setting;
+        let chased = self.edges_of(bus, j);
         let mut latest = 0;
         for a in 0..self.nodes() {
             if self.is_answering(setting, i, j, a) {
@@ -399,17 +398,17 @@ impl Family {
 
     /// Returns how late a bit of node `j` can be at node `i`, catching up counted.
     #[tactic(auto, unfolding(crate::specs::Terms::late))]
-    pub(crate) fn late(&self, setting: Setting, i: u8, j: u8) -> u128
+    pub(crate) fn late(&self, bus: &EvaluatedBus, i: u8, j: u8) -> u128
         requires one { i < length self.now.members }
         requires other { j < length self.now.members }
-        ensures value { result ≡ late (bus_of self.now setting) i j }
+        requires evaluated { IsEvaluated self.now bus.now }
+        ensures value { result ≡ late (bus_of self.now bus.now.setting) i j }
         ensures most { result < 2 ^ 102 }
     {
-        let way = self.way(setting, i, j);
-        let chased = self
-            .apart(setting, i, j)
-            .min(self.tour(setting, i, j).saturating_sub(way));
-        (way + chased).max(self.answered(setting, i, j))
+        let way = self.way_of(bus, i, j);
+        let tour = self.tour(bus, i, j);
+        let chased = self.apart(bus, i, j).min(tour.saturating_sub(way));
+        (way + chased).max(self.answered(bus, i, j))
     }
 
     /// Returns the most by which a bit of node `j` can last longer than one of another node.

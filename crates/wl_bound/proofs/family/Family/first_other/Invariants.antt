@@ -6,4 +6,4 @@ use Rattle.wl_bound.proofs.family.Family.first_other.Given as goal
 
 -- the first of the nodes so far
 abbrev pub invariant-loop-j : goal.invariant-loop-j
-invariant-loop-j l = (l.first ≡ first_place (fails l.self l.setting l.senders l.inequality l.i) l.j) × IfSome l.first (λ k. k < l.j)
+invariant-loop-j l = (l.first ≡ first_place (fails l.self l.bus.setting l.senders l.inequality l.i) l.j) × IfSome l.first (λ k. k < l.j)

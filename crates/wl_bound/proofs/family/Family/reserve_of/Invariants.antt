@@ -7,5 +7,5 @@ use Rattle.wl_bound.proofs.family.Family.reserve_of.Given as goal
 -- the worst rows so far
 abbrev pub invariant-loop-i : goal.invariant-loop-i
 invariant-loop-i l =
-    (l.lack ≡ greatest l.i each (lack_row l.self l.setting l.senders l.inequality))
-    × (l.spare ≡ least l.i each (spare_row l.self l.setting l.senders l.inequality))
+    (l.lack ≡ greatest l.i each (lack_row l.self l.bus.setting l.senders l.inequality))
+    × (l.spare ≡ least l.i each (spare_row l.self l.bus.setting l.senders l.inequality))

@@ -6,4 +6,4 @@ use Rattle.wl_bound.proofs.family.Family.spare_row.Given as goal
 
 -- the worst pair so far
 abbrev pub invariant-loop-j : goal.invariant-loop-j
-invariant-loop-j l = l.spare ≡ least l.j (is_asked (only_listens l.self.cable) l.inequality l.i) (spare_at l.self l.setting l.senders l.inequality l.i)
+invariant-loop-j l = l.spare ≡ least l.j (is_asked (only_listens l.self.cable) l.inequality l.i) (spare_at l.self l.bus.setting l.senders l.inequality l.i)

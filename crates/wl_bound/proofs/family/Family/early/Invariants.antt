@@ -1,7 +1,7 @@
 use Rattle.std.proofs.Common.{◌≡◌, ◌+◌, ◌*◌, ◌^◌, ◌<◌}
 use Rattle.wl_bound.specs.Families.{bus_of}
 use Rattle.wl_bound.specs.Terms.{ahead, drift, greatest, sends_but, way}
-use Rattle.wl_bound.proofs.family.Family.latest_sender.Given as goal
+use Rattle.wl_bound.proofs.family.Family.early.Given as goal
 
 -- the latest of the senders so far
 abbrev pub invariant-loop-a : goal.invariant-loop-a
