@@ -1,17 +1,17 @@
 -- Samples of which nothing comes but that they are kept.
-use Rattle.std.proofs.Common.{◌≡◌, ◌∙◌, ℕ, ◌+◌, ◌-◌, ◌≤◌, List, [], ◌∷◌, ◌++◌, length, Bool, true, false, not, cond, ◌&&◌, Option, Some, None, refl, sym, ap, subst, arith}
+use Rattle.std.proofs.Common.{◌≡◌, ◌∙◌, ℕ, ◌+◌, ◌-◌, ◌≤◌, List, [], ◌∷◌, ◌++◌, length, inr, Bool, true, false, not, cond, ◌&&◌, Option, Some, None, refl, sym, ap, subst, arith}
 use Rattle.std.specs.Prelude.{nat_le}
 use Rattle.std.proofs.Math.Logic.{∥∥₁_map}
-use Rattle.std.proofs.lemmas.Bool.{le-leb}
+use Rattle.std.proofs.lemmas.Bool.{and_parts, le-leb, leb-true, ne_eqb}
 use Rattle.wl_level.specs.declared.Level.{Level}
-use Rattle.wl_level.specs.declared.Level.TheVariants.{Recessive}
-use Rattle.wl_level.specs.Levels.{same}
+use Rattle.wl_level.specs.declared.Level.TheVariants.{Dominant, Recessive}
+use Rattle.wl_level.specs.Levels.{is_dominant, same}
 use Rattle.wl_level.specs.Places.{or_at}
 use Rattle.wl_confine.specs.declared.Mode.{Mode}
 use Rattle.wl_confine.specs.declared.Mode.TheVariants.{Active}
 use Rattle.wl_confine.specs.declared.Happened.TheVariants as happens
 use Rattle.wl_frame.specs.Stuffing.{destuffed_bits}
-use Rattle.wl_frame.specs.Grammar.{Content}
+use Rattle.wl_frame.specs.Grammar.{Content, is_crc_right}
 use Rattle.wl_machine.specs.declared.progress.Progress.{Progress}
 use Rattle.wl_machine.specs.declared.state.Role.{Role}
 use Rattle.wl_machine.specs.declared.state.Role.TheVariants.{Rx, Tx}
@@ -22,10 +22,10 @@ use Rattle.wl_machine.specs.Stretch.Input.{Sample}
 use Rattle.wl_machine.specs.Stretch.Sort.{Framing}
 use Rattle.wl_machine.specs.Frames.{stuffed_end, frame_role, frame_drive, drive_up_to, stuffed_drive, tail_drive}
 use Rattle.wl_machine.specs.Judged.{judged, or_next, stretch_of, drive_by, drive_of}
-use Rattle.wl_machine.specs.Keeps.{keeps, keeps_by, keeps_in_frame, state_keeps, with_sample}
+use Rattle.wl_machine.specs.Keeps.{keeps, keeps_by, keeps_in_frame, keeps_in_tail, state_keeps, with_sample}
 use Rattle.wl_machine.specs.States.{IsIn, IsAtState, IsReachedBy, IsStuffedPart, IsTaken, sample_of, state_drive, stretch_by}
-use Rattle.wl_machine.proofs.Framed.{role_receives, taken}
-use Rattle.wl_machine.proofs.FrameSteps.{six_is, receiving_on}
+use Rattle.wl_machine.proofs.Framed.{role_receives, tail_bits, tail_next, taken}
+use Rattle.wl_machine.proofs.FrameSteps.{six_is, not_wrong, received_next, received_tail_is, receiving_on}
 use Rattle.wl_machine.proofs.Kept.{drive_kept}
 use Rattle.wl_machine.proofs.Runs.{stretch_next}
 
@@ -34,9 +34,11 @@ use Rattle.wl_machine.proofs.Runs.{stretch_next}
 sends_none : (own : List Level) (level : Level) (role : Role) (end : Option ℕ) → role ≡ Tx → keeps_in_frame role end own level ≡ false
 sends_none own level role end e = ap (λ r. keeps_in_frame r end own level) e
 
-tail_none : (own : List Level) (level : Level) (role : Role) (end : Option ℕ) (at : ℕ) → end ≡ Some at → keeps_in_frame role end own level ≡ false
-tail_none own level Rx end at e = ap (λ k. keeps_in_frame Rx k own level) e
-tail_none own level Tx end at e = refl
+tail_so : (own : List Level) (level : Level) (role : Role) (end : Option ℕ) (at place : ℕ) → role ≡ Rx → end ≡ Some at → place + at ≡ length own
+    → keeps_in_frame role end own level ≡ keeps_in_tail place level
+tail_so own level role end at place receives found here =
+    let e : length own - at ≡ place = omega arith in
+    ap (λ r. keeps_in_frame r end own level) receives ∙ ap (λ k. keeps_in_frame Rx k own level) found ∙ ap (λ n. keeps_in_tail n level) e
 
 receives_so : (head : Option Content) (own : List Level) (level last : Level) (run : ℕ) (bits : List Level) → frame_role head own ≡ Rx → IsStuffedPart last run bits own
     → keeps_by (Framing head) own level ≡ not (nat_le 5 run && same last level)
@@ -52,7 +54,7 @@ keeps_at level states.Idle bits sent sort own h = by_sort level own sort _ false
 keeps_at level (states.Sending last run) bits sent sort own h = by_sort level own sort _ false h.1 (sends_none own level _ (stuffed_end own) h.2)
 keeps_at level (states.Receiving last run) bits sent sort own h = by_sort level own sort _ _ h.1 (receives_so h.0 own level last run bits h.2 h.3)
 keeps_at level (states.SentTail place) bits sent sort own h = by_sort level own sort _ false h.1 (sends_none own level _ (stuffed_end own) h.2)
-keeps_at level (states.ReceivedTail place right) bits sent sort own h = by_sort level own sort _ false h.1 (tail_none own level (frame_role h.0 own) _ h.3 h.4.tail.found)
+keeps_at level (states.ReceivedTail place right) bits sent sort own h = by_sort level own sort _ _ h.1 (tail_so own level (frame_role h.0 own) _ h.3 place h.2 h.4.tail.found h.4.tail.place_is)
 keeps_at level (states.Flag cause role count run) bits sent sort own h = by_sort level own sort _ false h.0 refl
 keeps_at level (states.PassiveFlag role owed last run) bits sent sort own h = by_sort level own sort _ false h.1 refl
 keeps_at level (states.Wait role late left) bits sent sort own h = by_sort level own sort _ false h.2 refl
@@ -106,13 +108,57 @@ at_receiving level last run m s at i e =
       after = ap (λ t. drive_by t (s.own ++ level ∷ [])) h.1 ∙ frame_next h.0 s.own level last run m.bits.items h.2 h.3 (no_sixth last level run e);
     }
 
+-- within the end of frame
+pub record IsInEnd (place : ℕ) (level : Level) : Type 0 where
+  pub from : 3 ≤ place
+  pub to : place ≤ 7
+  pub recessive : is_dominant level ≡ false
+
+pub in_end : (place : ℕ) (level : Level) → keeps_in_tail place level ≡ true → IsInEnd place level
+in_end place level e =
+    let p = and_parts (nat_le 3 place && nat_le place 7) (not (is_dominant level)) e in
+    let q = and_parts (nat_le 3 place) (nat_le place 7) p.0 in
+    record { from = leb-true 3 place q.0; to = leb-true place 7 q.1; recessive = not_true (is_dominant level) p.1 }
+
+-- a place further
+pub tail_on : (m : Progress) (s : Stretch) (place : ℕ) (right : Bool) (level : Level) → place ≤ 7 → m.state ≡ states.ReceivedTail place right → IsIn m s
+    → IsIn (record m { state = states.ReceivedTail (place + 1) right }) (with_sample s level)
+tail_on m s place right level to at i =
+    let h = subst (λ st. IsAtState st m.bits.items m.sent.items s.sort s.own) at i in (
+      h.0,
+      h.1,
+      role_receives h.0 s.own level h.2,
+      h.3,
+      record {
+        tail = tail_next place h.3 s.own level h.4.tail (omega arith);
+        bits_are = h.4.bits_are ∙ sym (tail_bits place h.3 s.own level h.4.tail);
+        right_is = h.4.right_is;
+      },
+    )
+
+at_tail : (level : Level) (place : ℕ) (right : Bool) (m : Progress) (s : Stretch) → m.state ≡ states.ReceivedTail place right → IsIn m s → IsInEnd place level → OnlyKept s level
+at_tail level place right m s at i e =
+    let h = subst (λ st. IsAtState st m.bits.items m.sent.items s.sort s.own) at i in
+    let next : Progress = record m { state = states.ReceivedTail (place + 1) right } in
+    let from = e.from in
+    let to = e.to in
+    record {
+      judged = λ head mode. ap (λ t. judged (stretch_by t s.own) (sample_of level head mode)) h.1
+          ∙ received_tail_is h.0 s.own (sample_of level head mode) place h.3 h.2 h.4.tail
+          ∙ received_next (destuffed_bits s.own h.3) place (sample_of level head mode) (λ o. omega arith) (λ o. omega arith) e.recessive
+          (not_wrong place right (destuffed_bits s.own h.3) (inr (λ o. omega arith)) (h.4.right_is ∙ ap is_crc_right h.4.bits_are)) (λ o. omega arith);
+      before = sym (drive_kept m s i) ∙ ap (λ st. state_drive st m.bits.items m.sent.items) at ∙ ap (λ b. cond (b && right) Dominant Recessive) (ne_eqb place 1 (λ o. omega arith));
+      after = sym (drive_kept next (with_sample s level) (tail_on m s place right level to at i))
+          ∙ ap (λ b. cond (b && right) Dominant Recessive) (ne_eqb (place + 1) 1 (λ o. omega arith));
+    }
+
 kept_at : (level : Level) (state : State) (m : Progress) (s : Stretch) → m.state ≡ state → IsIn m s → state_keeps state level ≡ true → OnlyKept s level
 kept_at level (states.Receiving last run) m s at i e = at_receiving level last run m s at i e
 kept_at level (states.Integrating run) m s at i e = cc
 kept_at level states.Idle m s at i e = cc
 kept_at level (states.Sending last run) m s at i e = cc
 kept_at level (states.SentTail place) m s at i e = cc
-kept_at level (states.ReceivedTail place right) m s at i e = cc
+kept_at level (states.ReceivedTail place right) m s at i e = at_tail level place right m s at i (in_end place level e)
 kept_at level (states.Flag cause role count run) m s at i e = cc
 kept_at level (states.PassiveFlag role owed last run) m s at i e = cc
 kept_at level (states.Wait role late left) m s at i e = cc

@@ -7,6 +7,7 @@ use Rattle.wl_confine.specs.declared.Mode.TheVariants.{Active, Passive}
 use Rattle.wl_confine.specs.declared.Happened.{Happened}
 use Rattle.wl_confine.specs.declared.Happened.TheVariants as happens
 use Rattle.wl_frame.specs.Grammar.{Content, bits_of, number_bits}
+use Rattle.wl_machine.specs.Keeps.{keeps_in_tail}
 use Rattle.wl_machine.specs.declared.state.Role.{Role}
 use Rattle.wl_machine.specs.declared.state.Role.TheVariants.{Tx, Rx}
 use Rattle.wl_machine.specs.Stretch.{Stretch, Sampled, Input, Ended}
@@ -348,3 +349,19 @@ awaits_decided = refl
 awaits_no_more : awaits_start (stretch_after (offered (flagged 10)) (Sample (heard Dominant))) ≡ false
 unfolding bits_of number_bits
 awaits_no_more = refl
+
+-- which bits of an end of frame a receiver's machine only keeps: the first five, at places 3 to 7, if they are recessive
+kept_none : keeps_in_tail 2 Recessive ≡ false
+kept_none = refl
+
+kept_first : keeps_in_tail 3 Recessive ≡ true
+kept_first = refl
+
+kept_last : keeps_in_tail 7 Recessive ≡ true
+kept_last = refl
+
+kept_over : keeps_in_tail 8 Recessive ≡ false
+kept_over = refl
+
+kept_dominant : keeps_in_tail 5 Dominant ≡ false
+kept_dominant = refl

@@ -10,7 +10,7 @@ ghost use Rattle.wl_frame.specs.Limits.{most_bits};
 ghost use Rattle.wl_machine.specs.Flags.{fails};
 ghost use Rattle.wl_machine.specs.Frames.{frame_role, sent_at, unanswered, last_bit};
 ghost use Rattle.wl_machine.specs.Judged.{judged};
-ghost use Rattle.wl_machine.specs.Keeps.{state_keeps, with_sample};
+ghost use Rattle.wl_machine.specs.Keeps.{keeps_in_tail, state_keeps, with_sample};
 ghost use Rattle.wl_machine.specs.Stretch.{Stretch, Sampled};
 ghost use Rattle.wl_machine.specs.Stretch.Sort.{Framing as FramingSort};
 ghost use Rattle.wl_machine.specs.States.{IsIn, Meets, IsStuffedPart, IsTaken, IsTail, IsReceivedTail, stretch_by, sample_of};
@@ -134,6 +134,25 @@ impl Progress {
         true
     }
 
+    /// Takes one recessive sample of a receiver within the end of frame, before its last bit but one. If it isn't one, returns false, and does
+    /// nothing.
+    #[inline(always)]
+    fn keep_tail(&mut self, place: u8, is_crc_right: bool, level: Level) -> bool
+        ensures value { result ≡ keeps_in_tail place level }
+        ensures same { result ≡ false → self.new ≡ self.old }
+        ensures next { result ≡ true
+            → self.new ≡ record self.old { state = State.ReceivedTail (place + 1) is_crc_right } }
+    {
+        if place <= ACKNOWLEDGEMENT_DELIMITER || LAST_BUT_ONE <= place || level.is_dominant() {
+            return false;
+        }
+        self.state = State::ReceivedTail {
+            place: place + 1,
+            is_crc_right,
+        };
+        true
+    }
+
     /// Takes one sample that changes nothing but that it is kept. If it isn't one, returns false, and does nothing.
     #[inline(always)]
     pub fn keep(&mut self, level: Level) -> bool
@@ -144,6 +163,10 @@ impl Progress {
     {
         match self.state {
             State::Receiving { last, run } => self.keep_bit(last, run, level),
+            State::ReceivedTail {
+                place,
+                is_crc_right,
+            } => self.keep_tail(place, is_crc_right, level),
             _ => false,
         }
     }
@@ -253,6 +276,7 @@ impl Progress {
     }
 
     /// Takes one sample of a receiver after the end of what is stuffed.
+    #[inline(never)]
     pub fn received_tail(&mut self, place: u8, is_crc_right: bool, level: Level, mode: Mode) -> Step
         requires within { place < 10 }
         requires whole { is_whole self.old.bits.items ≡ true }

@@ -105,11 +105,12 @@ impl Machine {
         }
     }
 
-    /// Takes one sampled bit that does nothing but that the machine has it; else returns false, and leaves the machine where it was.
+    /// Takes one sampled bit, if it is one of those below, which do nothing but that the machine has it. Else it returns false, and leaves the
+    /// machine where it was.
     ///
     /// With such a bit no frame begins or ends, and nothing is counted. The node drives recessive before and after, whatever it is to send
-    /// and in whatever mode. A receiver samples such bits up to the end of what is stuffed, but for a sixth equal one (Bosch CAN 2.0 part
-    /// B, sections 6 and 7.1).
+    /// and in whatever mode. They are a receiver's: the bits up to the end of what is stuffed, but for a sixth equal one (Bosch CAN 2.0 part B,
+    /// sections 6 and 7.1). The first five bits of an end of frame are such, too, if they are recessive (section 3.2.1).
     #[inline(always)]
     pub fn keep(&mut self, sample: Level) -> bool
         ensures value { (past : List Input) → IsMachine self.old past → result ≡ keeps (stretch_of past) sample }

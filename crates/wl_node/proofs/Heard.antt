@@ -52,8 +52,8 @@ module _ (setup : NodeSetup) (levels : List Level) (level : Level) (n : ℕ)
   abbrev after : History
   after = record (history_after_sample setup up_to level) { seen = h.seen ++ replicate (suc n) x; syncs = h.syncs }
 
-  after_is : history_of setup (levels ++ replicate (suc n) level) ≡ after
-  after_is =
+  pub heard_history : history_of setup (levels ++ replicate (suc n) level) ≡ after
+  heard_history =
       ap (history_of setup) (snoc levels level n)
       ∙ history_next setup (levels ++ replicate n level) level
       ∙ ap (λ (g : History). history_after setup g level) (history_skipped setup levels level n n (omega arith) idle)
@@ -68,9 +68,9 @@ module _ (setup : NodeSetup) (levels : List Level) (level : Level) (n : ℕ)
   heard_place old new was clock drive syncs quanta traffic =
       let long : length after.seen ≡ length h.seen + suc n = length-append h.seen (replicate (suc n) x) ∙ ap (λ k. length h.seen + k) (length-replicate (suc n) x) in
       record {
-        counted = ap (λ (k : History). length k.seen) after_is ∙ long ∙ ap (λ k. k + suc n) was.counted
+        counted = ap (λ (k : History). length k.seen) heard_history ∙ long ∙ ap (λ k. k + suc n) was.counted
             ∙ sym (length-append levels (replicate (suc n) level) ∙ ap (λ k. length levels + k) (length-replicate (suc n) level));
-        place = subst (FitsHistory setup new) (sym after_is) (record {
+        place = subst (FitsHistory setup new) (sym heard_history) (record {
           clock = clock;
           drive = drive ∙ was.place.drive;
           quanta = quanta ∙ ap (λ k. k + suc n) was.place.quanta ∙ sym long;
@@ -91,6 +91,6 @@ module _ (setup : NodeSetup) (levels : List Level) (level : Level) (n : ℕ)
   -- the drive stays
   pub heard_drive : (m : ℕ) → m < suc (suc n) → (history_of setup (levels ++ replicate m level)).drive ≡ (history_of setup levels).drive
   heard_drive m less = elim (cases_lt n m) [
-    | inl last ↦ (let e : suc n ≡ m = omega arith in subst (λ k. (history_of setup (levels ++ replicate k level)).drive ≡ (history_of setup levels).drive) e (ap (λ (g : History). g.drive) after_is))
+    | inl last ↦ (let e : suc n ≡ m = omega arith in subst (λ k. (history_of setup (levels ++ replicate k level)).drive ≡ (history_of setup levels).drive) e (ap (λ (g : History). g.drive) heard_history))
     | inr before ↦ ap (λ (g : History). g.drive) (history_skipped setup levels level n m before idle)
   ]

@@ -1,4 +1,4 @@
--- Samples that are stored, and of which nothing else comes: those that a receiver keeps up to the end of what is stuffed, and a recessive one of a free bus, with no frame ready.
+-- Samples that are stored, and of which nothing else comes: those that a receiver's machine only keeps, and a recessive one of a free bus, with no frame ready.
 use Rattle.std.proofs.Common.{◌≡◌, ◌∙◌, [], ◌∷◌, ◌++◌, length, Option, None, Some, true, false, refl, sym, ap, subst, append-nil, add-zero}
 use Rattle.std.specs.Prelude.{count_by, is_some}
 use Rattle.std.specs.Option.{option_map}
@@ -86,13 +86,13 @@ module _ (setup : NodeSetup) (h : History) (level : Level) (judged_is : judged (
   abbrev s : Stretch
   s = stretch_of h.inputs
 
-  counts_same : counts_of (h.happened ++ Nothing ∷ []) ≡ counts_of h.happened
+  pub counts_same : counts_of (h.happened ++ Nothing ∷ []) ≡ counts_of h.happened
   counts_same = fold-append counts_after no_counts h.happened (Nothing ∷ [])
 
   off : switched_off x.mode (mode_of (counts_of (h.happened ++ Nothing ∷ []))) ≡ []
   off = ap (λ c. switched_off x.mode (mode_of c)) counts_same ∙ never_off x.mode
 
-  history_is : history_after_sample setup h level ≡ rested h x
+  pub history_is : history_after_sample setup h level ≡ rested h x
   history_is =
       ap (history_after_judgement h x) judged_is
       ∙ λ i. record {

@@ -1,6 +1,7 @@
 pub mod Ahead
 pub mod History
 pub mod Kept
+pub mod KeptBits
 pub mod Laws
 pub mod Limits
 pub mod Marks

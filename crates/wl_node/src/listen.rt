@@ -1,8 +1,9 @@
 //! Quanta of one level in a node that only keeps what it samples: from one change of the line to the next.
 
-ghost use Rattle.std.specs.Prelude.{◌≡◌, suc, ◌+◌, ◌<◌, ◌≤◌, vec_len, vec_capacity};
+ghost use Rattle.std.specs.Prelude.{◌≡◌, suc, ◌+◌, ◌-◌, ◌<◌, ◌≤◌, true, vec_len, vec_capacity};
 ghost use Rattle.wl_level.specs.declared.Level.{Level};
-ghost use Rattle.wl_sync.specs.Skips.{quanta_before_sample, IsSampleAhead};
+ghost use Rattle.wl_segments.specs.Lengths.{bit_quanta};
+ghost use Rattle.wl_sync.specs.Skips.{free_quanta, quanta_before_sample, IsSampleAhead};
 ghost use Rattle.wl_node.specs.declared.setup.NodeSetup.{NodeSetup};
 ghost use Rattle.wl_node.specs.Kept.{HasProgressedBy, KeepsDrive};
 ghost use Rattle.wl_node.specs.Limits.{most_run_quanta};
@@ -30,7 +31,7 @@ impl NodeProgress {
     {
         let mut done = self.meet_edge(level);
         while done < most {
-            let kept = self.keep_sample(level, most - done);
+            let kept = self.keep_on(level, most - done);
             if kept == 0 {
                 return done;
             }
@@ -77,24 +78,29 @@ impl NodeProgress {
         ensures errors { self.new.traffic.errors ≡ self.old.traffic.errors }
         ensures samples { self.new.traffic.samples.count ≡ self.old.traffic.samples.count }
     {
+        let was = self.clock;
         let idle = self.traffic.machine.idle();
         let awaits = self.traffic.machine.awaits_start();
-        let mut clock = self.clock;
-        let (beat, sync) = clock.step(level, idle, awaits, self.drive.is_dominant());
+        let (beat, sync) = self
+            .clock
+            .step(level, idle, awaits, self.drive.is_dominant());
         match beat {
-            Beat::Sample(_) => return 0,
+            Beat::Sample(_) => {
+                self.clock = was;
+                return 0;
+            }
             _ => {}
         }
-        self.clock = clock;
         self.syncs.note(self.quanta, sync);
         self.quanta += 1;
         1
     }
 
-    /// Runs quanta of this level up to and including the next sample, if the machine only keeps that sample. If the sample comes later than
-    /// `most` quanta, it runs `most`. If an edge comes, or if there is no room, it runs none. Returns how many.
+    /// Runs quanta of this level in a node that drives recessive, as long as the machine only keeps what is sampled: at most `most`. If the
+    /// next sample comes later than that, it runs `most`. It runs none if an edge comes, if the machine doesn't keep the next sample, or if
+    /// there is no room. Returns how many.
     #[inline(always)]
-    fn keep_sample(&mut self, level: Level, most: u64) -> u64
+    fn keep_on(&mut self, level: Level, most: u64) -> u64
         requires some { 0 < most }
         requires short { self.old.quanta + most ≤ most_run_quanta }
         requires few { self.old.traffic.samples.count ≤ self.old.quanta }
@@ -110,7 +116,7 @@ impl NodeProgress {
             return 0;
         }
         match self.clock.until_sample(level) {
-            Some(before) if (before as u64) < most => self.keep_after(level, before),
+            Some(before) if (before as u64) < most => self.keep_and_pass(level, before, most),
             Some(_) if !self.traffic.pending.is_dominant() => {
                 self.skip(level, most as u8);
                 most
@@ -119,29 +125,87 @@ impl NodeProgress {
         }
     }
 
-    /// Runs this many quanta and the sample after them, if the machine only keeps that; else none.
+    /// Runs the `before` quanta that come before the next sample, that sample, and what follows, as long as the machine only keeps the
+    /// samples: at most `most` quanta. It runs none if the machine doesn't keep the first sample. Returns how many.
     #[inline(always)]
-    fn keep_after(&mut self, level: Level, before: u8) -> u64
+    fn keep_and_pass(&mut self, level: Level, before: u8, most: u64) -> u64
         requires ahead { IsSampleAhead self.old.clock level }
         requires before { before ≡ quanta_before_sample self.old.clock }
         requires recessive { self.old.drive ≡ Level.Recessive }
         requires room { vec_len self.old.traffic.samples.runs < vec_capacity self.old.traffic.samples.runs }
-        requires short { self.old.quanta + before < most_run_quanta }
+        requires long { before < most }
+        requires short { self.old.quanta + most ≤ most_run_quanta }
         requires few { self.old.traffic.samples.count ≤ self.old.quanta }
         ensures place { (setup : NodeSetup) → HasProgressedBy setup level result self.old self.new }
         ensures drive { (setup : NodeSetup) → KeepsDrive setup level (suc result) self.old }
-        ensures few { result ≤ before + 1 }
+        ensures few { result ≤ most }
         ensures quanta { self.new.quanta ≡ self.old.quanta + result }
         ensures hards { self.new.syncs.hards ≡ self.old.syncs.hards }
         ensures errors { self.new.traffic.errors ≡ self.old.traffic.errors }
         ensures samples { self.new.traffic.samples.count ≤ self.new.quanta }
     {
-        let quantum = self.quanta + before as u64;
-        if !self.traffic.keep(quantum, level) {
+        let kept = self.keep_bits(level, before, most);
+        if kept == 0 {
             return 0;
         }
-        self.clock.sample(level);
-        self.quanta = quantum + 1;
-        before as u64 + 1
+        kept + self.pass_rest(level, most - kept)
+    }
+
+    /// Does the same up to and including the last of these samples.
+    #[inline(always)]
+    fn keep_bits(&mut self, level: Level, before: u8, most: u64) -> u64
+        requires ahead { IsSampleAhead self.old.clock level }
+        requires before { before ≡ quanta_before_sample self.old.clock }
+        requires recessive { self.old.drive ≡ Level.Recessive }
+        requires room { vec_len self.old.traffic.samples.runs < vec_capacity self.old.traffic.samples.runs }
+        requires long { before < most }
+        requires short { self.old.quanta + most ≤ most_run_quanta }
+        requires few { self.old.traffic.samples.count ≤ self.old.quanta }
+        ensures place { (setup : NodeSetup) → HasProgressedBy setup level result self.old self.new }
+        ensures drive { (setup : NodeSetup) → KeepsDrive setup level (suc result) self.old }
+        ensures few { result ≤ most }
+        ensures quanta { self.new.quanta ≡ self.old.quanta + result }
+        ensures hards { self.new.syncs.hards ≡ self.old.syncs.hards }
+        ensures errors { self.new.traffic.errors ≡ self.old.traffic.errors }
+        ensures samples { self.new.traffic.samples.count ≤ self.new.quanta }
+        ensures free { 0 < result
+            → free_quanta true self.new.clock level ≡ bit_quanta self.new.clock.lengths - 1 }
+    {
+        let bit = self.clock.bit_quanta();
+        let from = self.quanta + before as u64;
+        let bits = self
+            .traffic
+            .keep_bits(from, level, before as u64 + 1, bit, most);
+        if bits == 0 {
+            return 0;
+        }
+        self.clock.sample_bits(level, bits - 1);
+        let done = before as u64 + 1 + (bits - 1) as u64 * bit as u64;
+        self.quanta += done;
+        done
+    }
+
+    /// Skips `rest` quanta right after a sample of this level. It skips none if the next sample is among them, or if the drive is to change.
+    /// Returns how many.
+    #[inline(always)]
+    fn pass_rest(&mut self, level: Level, rest: u64) -> u64
+        requires free { free_quanta true self.old.clock level ≡ bit_quanta self.old.clock.lengths - 1 }
+        requires short { self.old.quanta + rest ≤ most_run_quanta }
+        ensures place { (setup : NodeSetup) → HasProgressedBy setup level result self.old self.new }
+        ensures drive { (setup : NodeSetup) → KeepsDrive setup level (suc result) self.old }
+        ensures few { result ≤ rest }
+        ensures quanta { self.new.quanta ≡ self.old.quanta + result }
+        ensures hards { self.new.syncs.hards ≡ self.old.syncs.hards }
+        ensures errors { self.new.traffic.errors ≡ self.old.traffic.errors }
+        ensures samples { self.new.traffic.samples.count ≡ self.old.traffic.samples.count }
+    {
+        if rest == 0
+            || self.clock.bit_quanta() as u64 <= rest
+            || !self.drive.is(self.traffic.pending)
+        {
+            return 0;
+        }
+        self.skip(level, rest as u8);
+        rest
     }
 }

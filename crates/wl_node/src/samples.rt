@@ -1,4 +1,5 @@
-//! Samples, kept by runs: samples of one level that are a bit apart. A line at rest is one run, and so are equal bits of a frame.
+//! Samples, kept by runs: samples of one level that are a bit apart. A line at rest is one run, and so are the equal bits of a frame that a
+//! node takes at once.
 
 ghost use Rattle.std.specs.Prelude.{◌≡◌, ◌*◌, ◌+◌, ◌<◌, ◌≤◌, ◌++◌, ℕ, [], ◌∷◌, true, length, take, min, IfOk, OnOk, vec_len, vec_capacity};
 ghost use Rattle.wl_node.specs.Limits.{most_run_quanta};

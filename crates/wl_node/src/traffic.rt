@@ -1,6 +1,6 @@
 //! What a node's samples do: to its machine, its counters, and the frames that pass.
 
-ghost use Rattle.std.specs.Prelude.{◌≡◌, ◌+◌, ◌<◌, ◌≤◌, ◌^◌, ◌++◌, [], ◌∷◌, true, false, length, drop, count_by, List, OnOk, Option, Some, vec_len, vec_capacity};
+ghost use Rattle.std.specs.Prelude.{◌≡◌, ◌+◌, ◌-◌, ◌*◌, ◌<◌, ◌≤◌, ◌^◌, ◌++◌, [], ◌∷◌, true, false, length, drop, count_by, List, OnOk, Option, Some, vec_len, vec_capacity};
 ghost use Rattle.std.specs.Option.{option_copied};
 ghost use Rattle.wl_frame.specs.Grammar.{Content};
 ghost use Rattle.wl_confine.specs.Counts.{is_error};
@@ -12,7 +12,9 @@ ghost use Rattle.wl_machine.specs.States.{done_of};
 ghost use Rattle.wl_node.specs.declared.setup.NodeSetup.{NodeSetup};
 ghost use Rattle.wl_node.specs.History.{History, handed, ready_head, passed_frames, is_sent, switched_off, history_after_sample};
 ghost use Rattle.wl_node.specs.Kept.{IsTraffic, first_frame};
+ghost use Rattle.wl_node.specs.KeptBits.{HasKept};
 ghost use Rattle.wl_node.specs.Limits.{most_run_quanta};
+ghost use Rattle.wl_node.specs.Runs.{samples_by, samples_from};
 
 use crate::samples::SampleRuns;
 use crate::setup::{NodeSetup, Passed, Queued};
@@ -107,6 +109,27 @@ fn switch_off(machine: &mut Machine, pending: &mut Level, before: Mode, after: M
     }
 }
 
+/// Lets the machine take samples of this level as long as it only keeps them. `first` is how many quanta go up to and including the first
+/// one; each other comes `bit` quanta later, and the last one within `most`. Returns how many: at most 255. A machine keeps no sixth equal
+/// bit, so that there are fewer.
+#[inline(always)]
+fn keep_equal(machine: &mut Machine, level: Level, first: u64, bit: u8, most: u64) -> u8
+    requires short { most ≤ most_run_quanta }
+    ensures kept { HasKept level result machine.old machine.new }
+    ensures fits { 0 < result → first + (result - 1) * bit ≤ most }
+{
+    let mut bits = 0;
+    let mut end = first;
+    while end <= most && bits < u8::MAX {
+        if !machine.keep(level) {
+            return bits;
+        }
+        bits += 1;
+        end += bit as u64;
+    }
+    bits
+}
+
 impl Traffic {
     /// Makes room for one more sample and one more frame.
     pub fn prepare(&mut self) -> Result<(), AllocError>
@@ -126,7 +149,7 @@ impl Traffic {
     /// Takes a sample at this quantum if the node receives and its machine only keeps it: it is stored, and nothing else comes of it. Else
     /// returns false, and nothing changes.
     #[inline(always)]
-    pub fn keep(&mut self, quantum: u64, level: Level) -> bool
+    fn keep(&mut self, quantum: u64, level: Level) -> bool
         requires samples { vec_len self.old.samples.runs < vec_capacity self.old.samples.runs }
         requires early { quantum < most_run_quanta }
         requires few { self.old.samples.count ≤ quantum }
@@ -134,8 +157,6 @@ impl Traffic {
             → IsTraffic setup self.old h → IsTraffic setup self.new (history_after_sample setup h level) }
         ensures same { result ≡ false → (setup : NodeSetup) (h : History)
             → IsTraffic setup self.old h → IsTraffic setup self.new h }
-        ensures settled { result ≡ true → (setup : NodeSetup) (h : History) → IsTraffic setup self.old h
-            → drive_of (stretch_of h.inputs) ≡ Level.Recessive }
         ensures samples { result ≡ false → self.new.samples ≡ self.old.samples }
         ensures frames { self.new.frames ≡ self.old.frames }
         ensures errors { self.new.errors ≡ self.old.errors }
@@ -146,6 +167,33 @@ impl Traffic {
             self.samples.push(quantum, level);
         }
         keeps
+    }
+
+    /// Takes samples of this level as long as the machine only keeps them, and stores them: the first one at quantum `from`, each other `bit`
+    /// quanta later. `first` is how many quanta go up to and including the first one, and the last one comes within `most`. Returns how
+    /// many: at most 255.
+    #[inline(always)]
+    pub fn keep_bits(&mut self, from: u64, level: Level, first: u64, bit: u8, most: u64) -> u8
+        requires room { vec_len self.old.samples.runs < vec_capacity self.old.samples.runs }
+        requires early { from < most_run_quanta }
+        requires few { self.old.samples.count ≤ from }
+        requires short { most ≤ most_run_quanta }
+        ensures kept { HasKept level result self.old.machine self.new.machine }
+        ensures fits { 0 < result → first + (result - 1) * bit ≤ most }
+        ensures samples { samples_by self.new.samples.runs.items
+            ≡ samples_by self.old.samples.runs.items ++ samples_from from bit level result }
+        ensures counters { self.new.counters ≡ self.old.counters }
+        ensures pending { self.new.pending ≡ self.old.pending }
+        ensures sent { self.new.sent ≡ self.old.sent }
+        ensures frames { self.new.frames ≡ self.old.frames }
+        ensures errors { self.new.errors ≡ self.old.errors }
+        ensures count { self.new.samples.count ≡ self.old.samples.count + result }
+    {
+        let bits = keep_equal(&mut self.machine, level, first, bit, most);
+        if 0 < bits {
+            self.samples.push_run(from, bit, level, bits as u16);
+        }
+        bits
     }
 
     /// Takes a sample at this quantum, as `sample`. One that the machine only keeps goes a shorter way.

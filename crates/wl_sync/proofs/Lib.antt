@@ -2,6 +2,7 @@ mod Rows
 mod Rests
 mod Samples
 mod Skips
+mod Starts
 mod Ways
 mod AsBefore
 mod Cuts

@@ -11,6 +11,8 @@ use Rattle.wl_sync.specs.declared.Beat.{Beat}
 use Rattle.wl_sync.specs.declared.Beat.TheVariants.{Plain, Sample, Start}
 use Rattle.wl_sync.specs.Edges.{Seen}
 use Rattle.wl_sync.specs.Bits.{beat_of, sync_of}
+use Rattle.wl_sync.specs.Running.{Running}
+use Rattle.wl_sync.specs.Skips.{quanta_before_sample, sampled_bits}
 
 abbrev l : ℕ → Lengths
 l jump = record { prop = 3; ps1 = 3; ps2 = 3; sjw = jump; sync = After }
@@ -287,3 +289,27 @@ twice_ended = refl
 
 twice_late : twice 8 10 10 Dominant ≡ (Plain, Some (Error (pos 1)))
 twice_late = refl
+
+-- what a clock keeps, three quanta into a bit and after an edge that made it two longer
+abbrev moved : ℕ → Running
+moved longer = record { lengths = l 2; quanta = 3; longer = longer; shorter = 0; synced = true; level = Dominant; sample = Recessive }
+
+-- after the next sample it is at place 8 or, longer, 10; a bit later at 8
+sampled_here : (sampled_bits (moved 0) Dominant 0).quanta ≡ 8
+sampled_here = refl
+
+sampled_longer : (sampled_bits (moved 2) Dominant 0).quanta ≡ 10
+sampled_longer = refl
+
+sampled_later : (sampled_bits (moved 2) Dominant 1).quanta ≡ 8
+sampled_later = refl
+
+-- four quanta before that sample, or six; and nine from there to the next
+way_here : quanta_before_sample (moved 0) ≡ 4
+way_here = refl
+
+way_longer : quanta_before_sample (moved 2) ≡ 6
+way_longer = refl
+
+way_later : quanta_before_sample (sampled_bits (moved 2) Dominant 0) ≡ 9
+way_later = refl

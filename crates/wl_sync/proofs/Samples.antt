@@ -1,22 +1,17 @@
 -- Quanta of one level up to a sample and with it.
-use Rattle.std.proofs.Common.{◌≡◌, ℕ, zero, suc, ◌+◌, ◌-◌, ◌<◌, ◌≤◌, ◌∙◌, ◌⊎◌, inl, inr, List, ◌++◌, true, cond, None, refl, sym, ap, subst, arith, append-nil, replicate}
-use Rattle.std.specs.Prelude.{nat_le}
+use Rattle.std.proofs.Common.{◌≡◌, ℕ, zero, suc, ◌+◌, ◌-◌, ◌<◌, ◌≤◌, ◌∙◌, ◌⊎◌, inl, inr, List, ◌++◌, true, cond, false, None, refl, sym, ap, subst, arith, append-nil, replicate}
 use Rattle.std.proofs.lemmas.Bool.{cases_lt, eqb-true, eq-eqb, le-leb, lt-leb}
 use Rattle.wl_level.specs.declared.Level.{Level}
 use Rattle.wl_level.proofs.Callers.{snoc}
-use Rattle.wl_segments.specs.Lengths.{Lengths, sample_at}
+use Rattle.wl_segments.specs.Lengths.{Lengths, AreLengths, bit_quanta, sample_at}
 use Rattle.wl_sync.specs.declared.Beat.TheVariants.{Plain, Sample}
-use Rattle.wl_sync.specs.Edges.{Seen}
+use Rattle.wl_sync.specs.Edges.{Seen, seen_as}
 use Rattle.wl_sync.specs.Bits.{beat_of, sync_of}
 use Rattle.wl_sync.specs.Running.{Running, clock_after}
 use Rattle.wl_sync.specs.Steps.{IsBitClock, end_of, is_sampled, running_after, running_answer, running_beat, running_edge, running_on}
-use Rattle.wl_sync.specs.Skips.{moved_place, quanta_before_sample, sampled_on, sampled_new, IsSampleAhead, IsSampledAfter, IsUnmoved}
+use Rattle.wl_sync.specs.Skips.{finds_edge, free_quanta, moved_place, quanta_before_sample, sampled_bits, sampled_clock, sampled_on, sampled_new, IsSampleAhead, IsSampledAfter, IsUnmoved, SamplesAfter}
 use Rattle.wl_sync.proofs.Cuts.{clock_next, beat_next, sync_next}
 use Rattle.wl_sync.proofs.Skips.{running_at, running_new, running_skipped, same_twice, skipped_on, skipped_new, skipped, unmoved, not_sampled, AreFree, GoesOn, goes_after, goes_answer, goes_beat}
-
--- in the running bit, or in the next one
-abbrev pub sampled_clock : Running → Level → Running
-sampled_clock r level = cond (nat_le r.quanta (moved_place r)) (sampled_on r level) (sampled_new r level)
 
 -- the next quantum is a sample, and with it the clock is there
 record IsDue (r s : Running) (x : Seen) : Type 0 where
@@ -154,3 +149,75 @@ module _ (l : Lengths) (past : List Seen) (x : Seen) (is : IsBitClock (clock_aft
 
     pub clock_sampled : clock_after l (past ++ replicate (suc n) x) ≡ sampled_clock r x.level
     clock_sampled = clock_is
+
+-- the next sample
+pub next_after : (r : Running) (level : Level) → IsBitClock r → IsSampleAhead r level → SamplesAfter r level (quanta_before_sample r) (sampled_clock r level)
+next_after r level is ahead = record {
+  clock = λ l past e x f. ap (sampled_clock r) (sym f) ∙ ap (λ s. sampled_clock s x.level) e ∙ sym (clock_sampled l past x (here l past e) (there l past e x f) (quanta_before_sample r) (ap quanta_before_sample e));
+  sampled = λ l past e x f. sampled_after l past x (here l past e) (there l past e x f) (quanta_before_sample r) (ap quanta_before_sample e);
+}
+  where
+    here : (l : Lengths) (past : List Seen) → r ≡ clock_after l past → IsBitClock (clock_after l past)
+    here l past e = subst IsBitClock e is
+
+    there : (l : Lengths) (past : List Seen) → r ≡ clock_after l past → (x : Seen) → x.level ≡ level → IsSampleAhead (clock_after l past) x.level
+    there l past e x f = subst (λ s. IsSampleAhead s x.level) e (subst (IsSampleAhead r) (sym f) ahead)
+
+-- right behind a sample of that level, in a bit that isn't shorter: the next one comes a bit later
+module _ (s : Running) (level : Level) (are : AreLengths s.lengths) (behind : s.quanta ≡ suc (moved_place s)) (longer : s.longer ≤ 4) (shorter : s.shorter ≡ 0) (synced : s.synced ≡ false → s.longer ≡ 0) (last : s.level ≡ level) where
+  is_clock : IsBitClock s
+  is_clock = (let low = are.ps2_low in record {
+    lengths = are;
+    longer = longer;
+    shorter = omega arith;
+    longer_synced = synced;
+    shorter_synced = λ e. shorter;
+    quanta = omega arith;
+  })
+
+  is_ahead : IsSampleAhead s level
+  is_ahead = (let low = are.ps2_low in record {
+    no_edge = subst (λ v. finds_edge s v ≡ false) last (same_twice s.level);
+    within = omega arith;
+    whole = λ before. shorter;
+  })
+
+  way : quanta_before_sample s ≡ bit_quanta s.lengths - 1
+  way = way_new s (seen_as level false false false) is_clock is_ahead (omega arith) ∙ (let low = are.ps2_low in omega arith)
+
+  free_after : free_quanta true s level ≡ bit_quanta s.lengths - 1
+  free_after = rw is_ahead.no_edge way
+
+  bit_after : SamplesAfter s level (bit_quanta s.lengths - 1) (sampled_new s level)
+  bit_after =
+      subst (λ n. SamplesAfter s level n (sampled_new s level)) way
+      (subst (SamplesAfter s level (quanta_before_sample s)) (clock_new s (seen_as level false false false) is_clock is_ahead (omega arith))
+      (next_after s level is_clock is_ahead))
+
+-- behind the next sample of such a bit, and bit after bit
+module _ (t : Running) (level : Level) (is : IsBitClock t) (ahead : IsSampleAhead t level) where
+  in_next : SamplesAfter (sampled_new t level) level (bit_quanta t.lengths - 1) (sampled_new t level)
+  in_next =
+      bit_after (sampled_new t level) level is.lengths (let e : suc (sample_at t.lengths) ≡ suc (sample_at t.lengths + 0) = omega arith in e) (omega arith) refl (λ e. refl) refl
+
+  free_next : free_quanta true (sampled_new t level) level ≡ bit_quanta t.lengths - 1
+  free_next =
+      free_after (sampled_new t level) level is.lengths (let e : suc (sample_at t.lengths) ≡ suc (sample_at t.lengths + 0) = omega arith in e) (omega arith) refl (λ e. refl) refl
+
+  in_this : t.quanta ≤ moved_place t → SamplesAfter (sampled_on t level) level (bit_quanta t.lengths - 1) (sampled_new t level)
+  in_this still = bit_after (sampled_on t level) level is.lengths refl is.longer (ahead.whole still) is.longer_synced refl
+
+  pub free_bits : (k : ℕ) → free_quanta true (sampled_bits t level k) level ≡ bit_quanta t.lengths - 1
+  free_bits zero = elim (cases_lt (moved_place t) t.quanta) [
+    | inl over ↦ ap (λ u. free_quanta true u level) (clock_new t (seen_as level false false false) is ahead over) ∙ free_next
+    | inr still ↦ ap (λ u. free_quanta true u level) (clock_on t (seen_as level false false false) is ahead still)
+        ∙ free_after (sampled_on t level) level is.lengths refl is.longer (ahead.whole still) is.longer_synced refl
+  ]
+  free_bits (suc k) = free_next
+
+  pub bits_after : (k : ℕ) → SamplesAfter (sampled_bits t level k) level (bit_quanta t.lengths - 1) (sampled_bits t level (suc k))
+  bits_after zero = elim (cases_lt (moved_place t) t.quanta) [
+    | inl over ↦ subst (λ u. SamplesAfter u level (bit_quanta t.lengths - 1) (sampled_new t level)) (sym (clock_new t (seen_as level false false false) is ahead over)) in_next
+    | inr still ↦ subst (λ u. SamplesAfter u level (bit_quanta t.lengths - 1) (sampled_new t level)) (sym (clock_on t (seen_as level false false false) is ahead still)) (in_this still)
+  ]
+  bits_after (suc k) = in_next

@@ -1,5 +1,5 @@
 -- Quanta of one level that a clock passes over at once: none of them samples a bit, and no edge synchronises one.
-use Rattle.std.specs.Prelude.{◌≡◌, ◌≢◌, ℕ, suc, ◌+◌, ◌-◌, ◌<◌, ◌==◌, ◌&&◌, nat_le, not, Bool, false, List, ◌++◌, None, replicate, if◌then◌else◌}
+use Rattle.std.specs.Prelude.{◌≡◌, ◌≢◌, ℕ, zero, suc, ◌+◌, ◌-◌, ◌<◌, ◌≤◌, ◌==◌, ◌&&◌, nat_le, not, Bool, false, List, ◌++◌, None, replicate, if◌then◌else◌}
 use Rattle.wl_level.specs.declared.Level.{Level}
 use Rattle.wl_level.specs.declared.Level.TheVariants.{Recessive}
 use Rattle.wl_level.specs.Levels.{is_dominant}
@@ -7,7 +7,7 @@ use Rattle.wl_segments.specs.Lengths.{Lengths, sample_at}
 use Rattle.wl_sync.specs.declared.Beat.TheVariants.{Plain, Sample}
 use Rattle.wl_sync.specs.Edges.{Seen}
 use Rattle.wl_sync.specs.Bits.{beat_of, sync_of}
-use Rattle.wl_sync.specs.Running.{Running, clock_after}
+use Rattle.wl_sync.specs.Running.{Running, clock_after, Follows}
 use Rattle.wl_sync.specs.Steps.{end_of}
 
 -- the place of the sample, as edges have moved it so far
@@ -70,7 +70,21 @@ sampled_on r level = record { lengths = r.lengths; quanta = suc (moved_place r);
 abbrev pub sampled_new : Running → Level → Running
 sampled_new r level = record { lengths = r.lengths; quanta = suc (sample_at r.lengths); longer = 0; shorter = 0; synced = false; level = level; sample = level }
 
--- on a line that keeps this level, the next sample comes with no edge before it or at it
+-- on a line that keeps this level, the next sample comes with no edge before it or at it, and the bit of that sample isn't shorter
 pub record IsSampleAhead (r : Running) (level : Level) : Type 0 where
   pub no_edge : finds_edge r level ≡ false
   pub within : moved_place r < end_of r
+  pub whole : r.quanta ≤ moved_place r → r.shorter ≡ 0
+
+-- what is kept right after the next sample, and so many bits after that one, on a line that keeps its level
+abbrev pub sampled_clock : Running → Level → Running
+sampled_clock r level = if nat_le r.quanta (moved_place r) then sampled_on r level else sampled_new r level
+
+abbrev pub sampled_bits : Running → Level → ℕ → Running
+sampled_bits r level zero = sampled_clock r level
+sampled_bits r level (suc n) = sampled_new r level
+
+-- in so many quanta more and one, all alike and of this level, no edge synchronises, the last alone is a sample, and then the clock keeps s
+pub record SamplesAfter (r : Running) (level : Level) (n : ℕ) (s : Running) : Type 0 where
+  pub clock : Follows r (λ l past. (x : Seen) → x.level ≡ level → s ≡ clock_after l (past ++ replicate (suc n) x))
+  pub sampled : Follows r (λ l past. (x : Seen) → x.level ≡ level → IsSampledAfter l past x n)

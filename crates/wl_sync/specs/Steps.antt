@@ -1,6 +1,7 @@
 -- One quantum of a bit clock, over what it keeps: what its private methods do.
 use Rattle.std.specs.Prelude.{◌≡◌, ℕ, suc, ◌+◌, ◌-◌, ◌≤◌, ◌==◌, ◌&&◌, ◌||◌, not, Bool, true, false, Option, Some, None, if◌then◌else◌}
 use Rattle.wl_level.specs.declared.Level.{Level}
+use Rattle.wl_level.specs.Levels.{is_dominant}
 use Rattle.wl_segments.specs.declared.SyncRules.{SyncRules}
 use Rattle.wl_segments.specs.declared.SyncRules.TheVariants.{After, Book}
 use Rattle.wl_segments.specs.Lengths.{AreLengths, sample_at, bit_quanta, found_at}
@@ -131,3 +132,17 @@ running_beat r x = beat_between (running_restart r x) r (running_placed r x) x.l
 abbrev pub running_answer : Running → Seen → Option Sync
 running_answer r x =
     if running_sync r x then Some (if is_hard_edge r.lengths.sync x then Hard else Error (phase_error r.lengths r.quanta)) else None
+
+-- The running bit is over, and this quantum begins the next one with an edge that counts, right at its start. The edge lies in the quantum that finds it, and
+-- the bus isn't idle.
+pub record MeetsStart (r : Running) (level : Level) (idle : Bool) : Type 0 where
+  pub rules : r.lengths.sync ≡ After
+  pub busy : idle ≡ false
+  pub over : r.quanta ≡ end_of r
+  pub dominant : is_dominant level ≡ true
+  pub last : is_dominant r.level ≡ false
+  pub sample : is_dominant r.sample ≡ false
+
+-- what is kept after it
+abbrev pub running_started : Running → Level → Running
+running_started r level = record { lengths = r.lengths; quanta = 1; longer = 0; shorter = 0; synced = true; level = level; sample = r.sample }

@@ -90,8 +90,8 @@ impl BitClock {
     ghost use Rattle.wl_sync.specs.Edges.{Seen, seen_as, is_hard_edge, longer_by, looks, phase_error, restarts_at, shorter_by};
     ghost use Rattle.wl_sync.specs.Bits.{beat_of, sync_of, before_sample, bit_of};
     ghost use Rattle.wl_sync.specs.Running.{clock_after, Follows};
-    ghost use Rattle.wl_sync.specs.Skips.{finds_edge, free_quanta, moved_place, quanta_before_sample, sampled_new, sampled_on, steady_clock, IsPlain, IsRestingBit, IsSampleAhead, IsSampledAfter, IsUnmoved, IsUnsampled};
-    ghost use Rattle.wl_sync.specs.Steps.{IsBitClock, beat_between, end_of, is_by_the_book, is_sampled, longer_with, passed_edge, running_counts, running_due, running_edge, running_moved, running_on, running_passed, samples};
+    ghost use Rattle.wl_sync.specs.Skips.{finds_edge, free_quanta, moved_place, quanta_before_sample, sampled_bits, sampled_new, sampled_on, steady_clock, IsPlain, IsRestingBit, IsSampleAhead, IsSampledAfter, IsUnmoved, IsUnsampled, SamplesAfter};
+    ghost use Rattle.wl_sync.specs.Steps.{IsBitClock, MeetsStart, beat_between, end_of, is_by_the_book, is_sampled, longer_with, passed_edge, running_counts, running_due, running_edge, running_moved, running_on, running_passed, running_started, samples};
 
     /// Returns the bit clock before the first quantum, on a line that was recessive. A bit begins with that quantum, or with the edge that
     /// it finds.
@@ -138,6 +138,10 @@ impl BitClock {
         if self.goes_on(level) {
             let beat = self.go_on(level);
             return (beat, None);
+        }
+        if self.meets_start(level, idle) {
+            self.start(level);
+            return (Beat::Start, Some(Sync::Error(0)));
         }
         self.look(level, idle, awaits, driving)
     }
@@ -211,12 +215,33 @@ impl BitClock {
             → self.new ≡ clock_after l (past ++ replicate (suc (quanta_before_sample self.old)) x)) }
         ensures sampled { Follows self.old (λ l past. (x : Seen) → x.level ≡ level
             → IsSampledAfter l past x (quanta_before_sample self.old)) }
+        ensures value { self.new ≡ sampled_bits self.old level 0 }
     {
         if self.sample_at() + self.longer < self.quanta {
             self.sample_next(level);
             return;
         }
         self.sample_this(level);
+    }
+
+    /// Runs the quanta of this level up to and including the next sample, as [`BitClock::sample`] does, and then `more` bits, each up to and
+    /// including its sample. Each of these is as long as a bit that nothing moved. No edge synchronises.
+    #[inline(always)]
+    pub fn sample_bits(&mut self, level: Level, more: u8)
+        requires { IsSampleAhead self.old level }
+        ensures clock { self.new ≡ sampled_bits self.old level more }
+        ensures first { SamplesAfter self.old level (quanta_before_sample self.old) (sampled_bits self.old level 0) }
+        ensures next { (k : ℕ) → SamplesAfter (sampled_bits self.old level k) level (bit_quanta self.old.lengths - 1)
+            (sampled_bits self.old level (suc k)) }
+        ensures free { free_quanta true self.new level ≡ bit_quanta self.old.lengths - 1 }
+    {
+        // The proof needs what holds of each bit clock.
+        let _ = &self.segments;
+        if 0 < more {
+            self.sample_next(level);
+            return;
+        }
+        self.sample(level);
     }
 
     /// Goes to the sample of the running bit.
@@ -318,7 +343,7 @@ impl BitClock {
 
     /// Returns the quanta of a bit that nothing moved.
     #[inline(always)]
-    fn bit_quanta(&self) -> u8
+    pub fn bit_quanta(&self) -> u8
         ensures quanta { result ≡ bit_quanta self.now.lengths }
         ensures lengths { AreLengths self.now.lengths }
     {
@@ -364,6 +389,36 @@ impl BitClock {
     {
         let is_sampled = self.quanta == self.sample_at() + self.longer;
         self.count(level, is_sampled)
+    }
+
+    /// True only if the running bit is over and the next one begins with an edge right at its start, of phase error 0. That needs
+    /// [`SyncRules::After`] and a bus that isn't idle. The general way gives the same; this one is short.
+    #[inline(always)]
+    fn meets_start(&self, level: Level, idle: bool) -> bool
+        ensures { result ≡ true → MeetsStart self.now level idle }
+    {
+        let after = match self.segments.sync() {
+            SyncRules::After => true,
+            SyncRules::Book => false,
+        };
+        after
+            && !idle
+            && level.is_dominant()
+            && !self.level.is_dominant()
+            && !self.sample.is_dominant()
+            && self.quanta == self.end_at()
+    }
+
+    /// Begins such a bit.
+    #[inline(always)]
+    fn start(&mut self, level: Level)
+        ensures { self.new ≡ running_started self.old level }
+    {
+        self.quanta = 1;
+        self.longer = 0;
+        self.shorter = 0;
+        self.synced = true;
+        self.level = level;
     }
 
     /// Runs one quantum that may find an edge, or begin a bit.
@@ -656,6 +711,36 @@ mod tests {
         }
         assert_eq!(rt; clock.resting_bit(), Some(10));
         the_sample_comes_near();
+        Ok(())
+    }
+
+    /// Checks that bits at once are what single quanta make of them, from each quantum on: also in a bit that an edge made longer, and after
+    /// its sample.
+    #[test]
+    fn bits_at_once(rt: HostRuntime) -> Result<(), Fail> {
+        for lead in 1..24_usize {
+            for more in 0..3_u8 {
+                let mut clock = BitClock::new(Segments::new(3, 3, 3, 2)?);
+                let mut level = Level::Recessive;
+                for k in 0..lead {
+                    if k == 5 {
+                        level = Level::Dominant;
+                    }
+                    let _ = clock.step(level, false, false, false);
+                }
+                let way = clock.until_sample(level);
+                assert!(rt; way.is_some(), "{lead} quanta");
+                if let Some(before) = way {
+                    let mut steps = clock;
+                    for _ in 0..before as usize + 1 + more as usize * 10 {
+                        let _ = steps.step(level, false, false, false);
+                    }
+                    clock.sample_bits(level, more);
+                    assert_eq!(rt; clock, steps, "{lead} quanta, {more} bits more");
+                    assert_eq!(rt; clock.free_quanta(level, true), 9);
+                }
+            }
+        }
         Ok(())
     }
 }

@@ -3,6 +3,7 @@ use Rattle.wl_sync.specs.Edges.{Seen, seen_as}
 use Rattle.wl_sync.specs.Steps.{running_after, running_answer, running_beat, running_edge}
 use Rattle.wl_sync.proofs.Cuts.{clock_next, beat_next, sync_next}
 use Rattle.wl_sync.proofs.Skips.{GoesOn, goes_after, goes_answer, goes_beat}
+use Rattle.wl_sync.proofs.Starts.{start_after, start_answer, start_beat}
 use Rattle.wl_sync.proofs.BitClock.step.Goals as goal
 
 goes : (c : goal.After-go_on-beat) → GoesOn c.args.self.now (seen_as c.args.level c.args.idle c.args.awaits c.args.driving)
@@ -26,3 +27,18 @@ pub returns-then-goes_on-clause-sync : goal.returns-then-goes_on-clause-sync
 returns-then-goes_on-clause-sync c l past e =
     let x : Seen = seen_as c.args.level c.args.idle c.args.awaits c.args.driving in
     sym (goes_answer c.args.self.now x (goes c)) ∙ ap (λ r. running_answer (running_edge r) x) e ∙ sym (sync_next l past x)
+
+pub returns-then-meets_start-clause-clock : goal.returns-then-meets_start-clause-clock
+returns-then-meets_start-clause-clock c l past e =
+    let x : Seen = seen_as c.args.level c.args.idle c.args.awaits c.args.driving in
+    c.start.ensures ∙ sym (start_after c.args.self.now x (c.meets_start.ensures c.if-meets_start.true)) ∙ ap (λ r. running_after r x) e ∙ sym (clock_next l past x)
+
+pub returns-then-meets_start-clause-beat : goal.returns-then-meets_start-clause-beat
+returns-then-meets_start-clause-beat c l past e =
+    let x : Seen = seen_as c.args.level c.args.idle c.args.awaits c.args.driving in
+    sym (start_beat c.args.self.now x (c.meets_start.ensures c.if-meets_start.true)) ∙ ap (λ r. running_beat (running_edge r) x) e ∙ sym (beat_next l past x)
+
+pub returns-then-meets_start-clause-sync : goal.returns-then-meets_start-clause-sync
+returns-then-meets_start-clause-sync c l past e =
+    let x : Seen = seen_as c.args.level c.args.idle c.args.awaits c.args.driving in
+    sym (start_answer c.args.self.now x (c.meets_start.ensures c.if-meets_start.true)) ∙ ap (λ r. running_answer (running_edge r) x) e ∙ sym (sync_next l past x)

@@ -1,3 +1,7 @@
+use Rattle.std.proofs.Common.{◌∙◌, sym, subst}
+use Rattle.wl_machine.specs.Keeps.{with_sample}
+use Rattle.wl_machine.specs.States.{IsIn}
+use Rattle.wl_machine.proofs.Keeping.{in_end, tail_on}
 use Rattle.wl_machine.proofs.Kept.{receiving_small, receiving_room}
 use Rattle.wl_machine.proofs.progress.Progress.keep.Goals as goal
 
@@ -6,3 +10,9 @@ keep_bit-requires-clause-small c = receiving_small c.args.self.now c.in-Receivin
 
 pub keep_bit-requires-clause-room : goal.keep_bit-requires-clause-room
 keep_bit-requires-clause-room c = receiving_room c.args.self.now c.in-Receiving.last c.in-Receiving.run' c.in-Receiving.is c.requires
+
+pub returns-in-ReceivedTail-clause-next : goal.returns-in-ReceivedTail-clause-next
+returns-in-ReceivedTail-clause-next c e s i =
+    subst (λ m. IsIn m (with_sample s c.args.level)) (sym (c.keep_tail.ensures.next e))
+    (tail_on c.args.self.now s c.in-ReceivedTail.place c.in-ReceivedTail.is_crc_right c.args.level
+    (in_end c.in-ReceivedTail.place c.args.level (sym c.keep_tail.ensures.value ∙ e)).to c.in-ReceivedTail.is i)

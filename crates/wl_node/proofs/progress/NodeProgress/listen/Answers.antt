@@ -7,11 +7,11 @@ pub loop-done-preserved : goal.loop-done-preserved
 loop-done-preserved c =
     let old = c.args.self.now in
     let mid = c.loop-done.self in
-    let new = c.keep_sample-kept.new.self in
+    let new = c.keep_on-kept.new.self in
     let a = c.loop-done.done in
-    let b = c.keep_sample-kept.result in
+    let b = c.keep_on-kept.result in
     let was = c.loop-done.invariant in
-    let e = c.keep_sample-kept.ensures in (
+    let e = c.keep_on-kept.ensures in (
       (λ setup. progressed_more setup c.args.level a b old mid new (was.0 setup) (e.place setup)),
       (λ setup. keeps_more setup c.args.level a b old mid new (was.0 setup) (was.1 setup) (e.drive setup)),
       omega (arith, e.few),

@@ -14,7 +14,7 @@ use Rattle.wl_node.proofs.Listening.{quantum_alone}
 use Rattle.wl_node.proofs.Turns.{history_next, seen_is}
 use Rattle.wl_node.proofs.progress.NodeProgress.pass_edge.Goals as goal
 
-module _ (c : goal.After-self-2-1) (setup : NodeSetup) (levels : List Level) (old : IsProgress setup c.args.self.now levels) where
+module _ (c : goal.After-self-1) (setup : NodeSetup) (levels : List Level) (old : IsProgress setup c.args.self.now levels) where
   abbrev h : History
   h = history_of setup levels
 
