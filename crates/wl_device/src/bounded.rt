@@ -6,6 +6,9 @@ use crate::device::{Got, Source};
 use crate::limits::MOST_CALLS;
 use std::alloc::{AllocError, Global};
 
+/// For how many bytes there is room at first: most plans have fewer. What isn't read is never touched.
+const FIRST_ROOM: usize = 98_304;
+
 /// How the reading of a whole text ended.
 #[derive(Clone, Copy, Debug, PartialEq, Eq)]
 pub enum Ended {
@@ -27,7 +30,7 @@ pub fn read_up_to<R: Source>(
 ) -> Result<(Vec<u8>, Ended), AllocError>
     ensures { IfOk result (λ r. ReadsUpTo R.gives reader.old most r.0.items r.1 reader.new) }
 {
-    let mut text = Vec::new(alloc);
+    let mut text = Vec::with_capacity(alloc, FIRST_ROOM)?;
     let mut buffer = [0u8; 16_384];
     for _ in 0..MOST_CALLS {
         match reader.read(&mut buffer) {

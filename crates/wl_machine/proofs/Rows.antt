@@ -7,7 +7,8 @@ use Rattle.wl_confine.specs.declared.Mode.TheVariants.{Active, Passive}
 use Rattle.wl_confine.specs.declared.Happened.{Happened}
 use Rattle.wl_confine.specs.declared.Happened.TheVariants as happens
 use Rattle.wl_frame.specs.Grammar.{Content, bits_of, number_bits}
-use Rattle.wl_machine.specs.Keeps.{keeps_in_tail}
+use Rattle.wl_machine.specs.Keeps.{keeps, keeps_in_sent_tail, keeps_in_tail, state_keeps}
+use Rattle.wl_machine.specs.declared.state.State.TheVariants as states
 use Rattle.wl_machine.specs.declared.state.Role.{Role}
 use Rattle.wl_machine.specs.declared.state.Role.TheVariants.{Tx, Rx}
 use Rattle.wl_machine.specs.Stretch.{Stretch, Sampled, Input, Ended}
@@ -350,18 +351,112 @@ awaits_no_more : awaits_start (stretch_after (offered (flagged 10)) (Sample (hea
 unfolding bits_of number_bits
 awaits_no_more = refl
 
--- which bits of an end of frame a receiver's machine only keeps: the first five, at places 3 to 7, if they are recessive
-kept_none : keeps_in_tail 2 Recessive ≡ false
+-- which bits after what is stuffed a receiver's machine only keeps: the ACK delimiter, at place 2, if the CRC sequence is right, and the first five of the end of frame, at
+-- places 3 to 7, if they are recessive
+kept_none : keeps_in_tail true 1 Recessive ≡ false
 kept_none = refl
 
-kept_first : keeps_in_tail 3 Recessive ≡ true
+kept_delimiter : keeps_in_tail true 2 Recessive ≡ true
+kept_delimiter = refl
+
+kept_wrong : keeps_in_tail false 2 Recessive ≡ false
+kept_wrong = refl
+
+kept_first : keeps_in_tail false 3 Recessive ≡ true
 kept_first = refl
 
-kept_last : keeps_in_tail 7 Recessive ≡ true
+kept_last : keeps_in_tail true 7 Recessive ≡ true
 kept_last = refl
 
-kept_over : keeps_in_tail 8 Recessive ≡ false
+kept_over : keeps_in_tail true 8 Recessive ≡ false
 kept_over = refl
 
-kept_dominant : keeps_in_tail 5 Dominant ≡ false
+kept_dominant : keeps_in_tail true 5 Dominant ≡ false
 kept_dominant = refl
+
+kept_no_delimiter : keeps_in_tail true 2 Dominant ≡ false
+kept_no_delimiter = refl
+
+-- and a transmitter's: all that are recessive, but for the acknowledgement slot, at place 1, and the last bit of the end of frame, at 9
+kept_sent_first : keeps_in_sent_tail 0 Recessive ≡ true
+kept_sent_first = refl
+
+kept_no_slot : keeps_in_sent_tail 1 Recessive ≡ false
+kept_no_slot = refl
+
+kept_no_answer : keeps_in_sent_tail 1 Dominant ≡ false
+kept_no_answer = refl
+
+kept_sent_delimiter : keeps_in_sent_tail 2 Recessive ≡ true
+kept_sent_delimiter = refl
+
+kept_sent_last : keeps_in_sent_tail 8 Recessive ≡ true
+kept_sent_last = refl
+
+kept_sent_over : keeps_in_sent_tail 9 Recessive ≡ false
+kept_sent_over = refl
+
+kept_sent_dominant : keeps_in_sent_tail 5 Dominant ≡ false
+kept_sent_dominant = refl
+
+-- and the bits of a flag's delimiter before its eighth, whoever sent the frame before it
+kept_behind : state_keeps (states.Delimiter Tx 1) Recessive ≡ true
+kept_behind = refl
+
+kept_seventh : state_keeps (states.Delimiter Rx 6) Recessive ≡ true
+kept_seventh = refl
+
+kept_no_eighth : state_keeps (states.Delimiter Rx 7) Recessive ≡ false
+kept_no_eighth = refl
+
+kept_no_error : state_keeps (states.Delimiter Tx 6) Dominant ≡ false
+kept_no_error = refl
+
+kept_no_late_overload : state_keeps (states.Delimiter Rx 7) Dominant ≡ false
+kept_no_late_overload = refl
+
+-- and the first two bits of an intermission, whoever sent the frame before it
+kept_between : state_keeps (states.Intermission Tx 0) Recessive ≡ true
+kept_between = refl
+
+kept_second : state_keeps (states.Intermission Rx 1) Recessive ≡ true
+kept_second = refl
+
+kept_no_third : state_keeps (states.Intermission Rx 2) Recessive ≡ false
+kept_no_third = refl
+
+kept_no_overload : state_keeps (states.Intermission Tx 0) Dominant ≡ false
+kept_no_overload = refl
+
+-- The same holds of the running stretch, after a flag: its delimiter begins with the first recessive sample behind it, and the intermission with the ninth.
+keeps_no_wait : keeps (flagged 0) Recessive ≡ false
+unfolding bits_of number_bits
+keeps_no_wait = refl
+
+keeps_behind : keeps (flagged 1) Recessive ≡ true
+unfolding bits_of number_bits
+keeps_behind = refl
+
+keeps_seventh : keeps (flagged 6) Recessive ≡ true
+unfolding bits_of number_bits
+keeps_seventh = refl
+
+keeps_no_eighth : keeps (flagged 7) Recessive ≡ false
+unfolding bits_of number_bits
+keeps_no_eighth = refl
+
+keeps_no_error : keeps (flagged 4) Dominant ≡ false
+unfolding bits_of number_bits
+keeps_no_error = refl
+
+keeps_first : keeps (flagged 8) Recessive ≡ true
+unfolding bits_of number_bits
+keeps_first = refl
+
+keeps_second : keeps (flagged 9) Recessive ≡ true
+unfolding bits_of number_bits
+keeps_second = refl
+
+keeps_no_third : keeps (flagged 10) Recessive ≡ false
+unfolding bits_of number_bits
+keeps_no_third = refl

@@ -1,12 +1,13 @@
 //! Between frames: integration, idle, intermission, suspension and bus off.
 
-ghost use Rattle.std.specs.Prelude.{◌≡◌, ◌<◌, List, [], ◌∷◌};
+ghost use Rattle.std.specs.Prelude.{◌≡◌, ◌+◌, ◌<◌, true, false, List, [], ◌∷◌};
 ghost use Rattle.std.specs.Option.{option_copied};
 ghost use Rattle.wl_level.specs.declared.Level.{Level};
 ghost use Rattle.wl_level.specs.Places.{run_at_end};
 ghost use Rattle.wl_confine.specs.declared.Mode.{Mode};
 ghost use Rattle.wl_machine.specs.Stretch.Sort.{Integration as IntegrationSort, Idle as IdleSort, Framing as FramingSort, Intermission as IntermissionSort, Suspension as SuspensionSort, OffBus as OffBusSort};
 ghost use Rattle.wl_machine.specs.BetweenFrames.{begun_head};
+ghost use Rattle.wl_machine.specs.Keeps.{keeps_in_intermission};
 ghost use Rattle.wl_machine.specs.States.{IsIn, Meets, IsCount, IsBusOff, stretch_by, sample_of};
 
 use crate::progress::{Progress, Step, plain};
@@ -75,6 +76,24 @@ impl Progress {
             self.free(head);
         }
         plain(Happened::Nothing)
+    }
+
+    /// Takes one recessive sample of an intermission before its third bit. If it isn't one, returns false, and does nothing (Bosch CAN 2.0
+    /// part B, section 3.2.5).
+    #[inline(always)]
+    pub fn keep_intermission(&mut self, role: Role, count: u8, level: Level) -> bool
+        ensures value { result ≡ keeps_in_intermission count level }
+        ensures same { result ≡ false → self.new ≡ self.old }
+        ensures next { result ≡ true → self.new ≡ record self.old { state = State.Intermission role (count + 1) } }
+    {
+        if 2 <= count || level.is_dominant() {
+            return false;
+        }
+        self.state = State::Intermission {
+            role,
+            count: count + 1,
+        };
+        true
     }
 
     /// Takes a dominant third bit of an intermission: the start of frame of the head, if there is one, and else of a frame that the node

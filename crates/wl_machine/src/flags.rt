@@ -1,12 +1,13 @@
 //! Flags, the wait after a flag, and the delimiter.
 
-ghost use Rattle.std.specs.Prelude.{◌≡◌, ◌<◌, Bool, List, [], Option, if◌then◌else◌};
+ghost use Rattle.std.specs.Prelude.{◌≡◌, ◌+◌, ◌<◌, Bool, true, false, List, [], Option, if◌then◌else◌};
 ghost use Rattle.wl_level.specs.declared.Level.{Level};
 ghost use Rattle.wl_level.specs.Levels.{is_dominant};
 ghost use Rattle.wl_level.specs.Places.{run_at_end};
 ghost use Rattle.wl_confine.specs.declared.Mode.{Mode};
 ghost use Rattle.wl_frame.specs.Grammar.{Content};
 ghost use Rattle.wl_machine.specs.Flags.{flag_bit_of, long_of, is_after_flag};
+ghost use Rattle.wl_machine.specs.Keeps.{keeps_in_delimiter};
 ghost use Rattle.wl_machine.specs.Stretch.{Flag as FlagSort};
 ghost use Rattle.wl_machine.specs.Stretch.Flag.{PassiveFlag as PassiveSort};
 ghost use Rattle.wl_machine.specs.Stretch.Sort.{Flagging as FlaggingSort, Waiting as WaitingSort, Delimiting as DelimitingSort};
@@ -182,5 +183,23 @@ impl Progress {
             };
         }
         plain(Happened::Nothing)
+    }
+
+    /// Takes one recessive sample of a delimiter before its eighth bit. If it isn't one, returns false, and does nothing (Bosch CAN 2.0
+    /// part B, section 3.2.3).
+    #[inline(always)]
+    pub fn keep_delimiter(&mut self, role: Role, count: u8, level: Level) -> bool
+        ensures value { result ≡ keeps_in_delimiter count level }
+        ensures same { result ≡ false → self.new ≡ self.old }
+        ensures next { result ≡ true → self.new ≡ record self.old { state = State.Delimiter role (count + 1) } }
+    {
+        if 7 <= count || level.is_dominant() {
+            return false;
+        }
+        self.state = State::Delimiter {
+            role,
+            count: count + 1,
+        };
+        true
     }
 }

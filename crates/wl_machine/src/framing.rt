@@ -10,7 +10,7 @@ ghost use Rattle.wl_frame.specs.Limits.{most_bits};
 ghost use Rattle.wl_machine.specs.Flags.{fails};
 ghost use Rattle.wl_machine.specs.Frames.{frame_role, sent_at, unanswered, last_bit};
 ghost use Rattle.wl_machine.specs.Judged.{judged};
-ghost use Rattle.wl_machine.specs.Keeps.{keeps_in_tail, state_keeps, with_sample};
+ghost use Rattle.wl_machine.specs.Keeps.{keeps_in_sent_tail, keeps_in_tail, state_keeps, with_sample};
 ghost use Rattle.wl_machine.specs.Stretch.{Stretch, Sampled};
 ghost use Rattle.wl_machine.specs.Stretch.Sort.{Framing as FramingSort};
 ghost use Rattle.wl_machine.specs.States.{IsIn, Meets, IsStuffedPart, IsTaken, IsTail, IsReceivedTail, stretch_by, sample_of};
@@ -30,6 +30,9 @@ const STUFF_RUN: u8 = 5;
 pub const ACKNOWLEDGEMENT: u8 = 1;
 
 const ACKNOWLEDGEMENT_DELIMITER: u8 = 2;
+
+/// The first bit of the end of frame.
+const END_OF_FRAME: u8 = 3;
 
 /// The sixth bit of the end of frame, with which a frame is received.
 const LAST_BUT_ONE: u8 = 8;
@@ -134,22 +137,42 @@ impl Progress {
         true
     }
 
-    /// Takes one recessive sample of a receiver within the end of frame, before its last bit but one. If it isn't one, returns false, and does
-    /// nothing.
+    /// Takes one recessive sample of a receiver's ACK delimiter, if the CRC sequence is right, or of its end of frame before the last bit but
+    /// one. If it isn't one, returns false, and does nothing (Bosch CAN 2.0 part B, section 3.2.1).
     #[inline(always)]
     fn keep_tail(&mut self, place: u8, is_crc_right: bool, level: Level) -> bool
-        ensures value { result ≡ keeps_in_tail place level }
+        ensures value { result ≡ keeps_in_tail is_crc_right place level }
         ensures same { result ≡ false → self.new ≡ self.old }
         ensures next { result ≡ true
             → self.new ≡ record self.old { state = State.ReceivedTail (place + 1) is_crc_right } }
     {
-        if place <= ACKNOWLEDGEMENT_DELIMITER || LAST_BUT_ONE <= place || level.is_dominant() {
+        let first = if is_crc_right {
+            ACKNOWLEDGEMENT_DELIMITER
+        } else {
+            END_OF_FRAME
+        };
+        if place < first || LAST_BUT_ONE <= place || level.is_dominant() {
             return false;
         }
         self.state = State::ReceivedTail {
             place: place + 1,
             is_crc_right,
         };
+        true
+    }
+
+    /// Takes one recessive sample of a transmitter after the end of what is stuffed, but for the acknowledgement slot and the last bit of the
+    /// end of frame. If it isn't one, returns false, and does nothing (Bosch CAN 2.0 part B, section 3.2.1).
+    #[inline(always)]
+    fn keep_sent_tail(&mut self, place: u8, level: Level) -> bool
+        ensures value { result ≡ keeps_in_sent_tail place level }
+        ensures same { result ≡ false → self.new ≡ self.old }
+        ensures next { result ≡ true → self.new ≡ record self.old { state = State.SentTail (place + 1) } }
+    {
+        if place == ACKNOWLEDGEMENT || LAST <= place || level.is_dominant() {
+            return false;
+        }
+        self.state = State::SentTail { place: place + 1 };
         true
     }
 
@@ -167,6 +190,9 @@ impl Progress {
                 place,
                 is_crc_right,
             } => self.keep_tail(place, is_crc_right, level),
+            State::SentTail { place } => self.keep_sent_tail(place, level),
+            State::Delimiter { role, count } => self.keep_delimiter(role, count, level),
+            State::Intermission { role, count } => self.keep_intermission(role, count, level),
             _ => false,
         }
     }

@@ -87,6 +87,7 @@ impl Machine {
     /// `head` is the frame that is to be sent next, if there is one. It is looked at only when the bus becomes free, and at a dominant
     /// third bit of an intermission, which is its start of frame then. A frame that has begun is sent to its end or to its first error,
     /// whatever is handed in later. `mode` is the mode before this sample.
+    #[inline(always)]
     pub fn bit(&mut self, sample: Level, head: Option<&Frame>, mode: Mode) -> Turn
         ensures machine { (past : List Input) → IsMachine self.old past
             → IsMachine self.new (past ++ Sample (sample_of sample (option_copied head.entry) mode) ∷ []) }
@@ -109,8 +110,13 @@ impl Machine {
     /// machine where it was.
     ///
     /// With such a bit no frame begins or ends, and nothing is counted. The node drives recessive before and after, whatever it is to send
-    /// and in whatever mode. They are a receiver's: the bits up to the end of what is stuffed, but for a sixth equal one (Bosch CAN 2.0 part B,
-    /// sections 6 and 7.1). The first five bits of an end of frame are such, too, if they are recessive (section 3.2.1).
+    /// and in whatever mode. They are a receiver's bits up to the end of what is stuffed, but for a sixth equal one (Bosch CAN 2.0 part B,
+    /// sections 6 and 7.1). These are such, too, if they are recessive:
+    ///
+    /// - a receiver's ACK delimiter, if its CRC sequence is right, and the first five bits of its end of frame (section 3.2.1);
+    /// - a transmitter's bits after what is stuffed, but for the acknowledgement slot and the last bit of the end of frame (section 3.2.1);
+    /// - the second to the seventh bit of a flag's delimiter (section 3.2.3);
+    /// - the first two bits of an intermission (section 3.2.5).
     #[inline(always)]
     pub fn keep(&mut self, sample: Level) -> bool
         ensures value { (past : List Input) → IsMachine self.old past → result ≡ keeps (stretch_of past) sample }

@@ -1,5 +1,5 @@
 -- Samples by runs: one more, one run more, and the first ones.
-use Rattle.std.proofs.Common.{◌≡◌, ◌∙◌, ℕ, zero, suc, ◌+◌, ◌*◌, ◌≤◌, ◌<◌, inl, inr, List, [], ◌∷◌, ◌++◌, length, take, get_or, refl, sym, ap, arith, add-one, length-append}
+use Rattle.std.proofs.Common.{◌≡◌, ◌∙◌, ℕ, zero, suc, ◌+◌, ◌*◌, ◌≤◌, ◌<◌, inl, inr, List, [], ◌∷◌, ◌++◌, length, take, get_or, slice_set, refl, sym, ap, arith, add-one, length-append, append-nil, append_assoc}
 use Rattle.std.proofs.Math.Seq.{take-append-add, take-suc}
 use Rattle.std.proofs.lemmas.Bool.{cases_lt}
 use Rattle.std.proofs.lemmas.List.{flat_map_more, take-append-le, take_all}
@@ -19,6 +19,29 @@ none_of (run ∷ runs) e = absurd (omega arith)
 pub more_by : (runs : List Run) (run : Run) → samples_by (runs ++ run ∷ []) ≡ samples_by runs ++ run_samples run
 unfolding samples_by
 more_by runs run = sym (flat_map_more run_samples [] runs run)
+
+-- the run at the front
+front_by : (run : Run) (runs : List Run) → samples_by (run ∷ runs) ≡ run_samples run ++ samples_by runs
+unfolding samples_by
+front_by run runs = refl
+
+-- the last run with some samples more
+pub last_by : (runs : List Run) (k : ℕ) (run d : Run) (more : List (ℕ × Level)) → length runs ≡ k + 1
+    → run_samples run ≡ run_samples (get_or runs k d) ++ more
+    → samples_by (slice_set runs k run) ≡ samples_by runs ++ more
+last_by [] k run d more all is = absurd (omega arith)
+last_by (last ∷ []) (suc k) run d more all is = absurd (omega arith)
+last_by (last ∷ []) zero run d more all is =
+    front_by run [] ∙ ap (λ xs. xs ++ samples_by []) is
+    ∙ append_assoc (run_samples last) more (samples_by [])
+    ∙ ap (λ xs. run_samples last ++ xs) (ap (λ xs. more ++ xs) none_by ∙ append-nil more)
+    ∙ ap (λ xs. xs ++ more) (sym (append-nil (run_samples last)) ∙ ap (λ xs. run_samples last ++ xs) (sym none_by) ∙ sym (front_by last []))
+last_by (first ∷ next ∷ runs) zero run d more all is = absurd (omega arith)
+last_by (first ∷ next ∷ runs) (suc k) run d more all is =
+    front_by first (slice_set (next ∷ runs) k run)
+    ∙ ap (λ xs. run_samples first ++ xs) (last_by (next ∷ runs) k run d more (omega arith) is)
+    ∙ sym (append_assoc (run_samples first) (samples_by (next ∷ runs)) more)
+    ∙ ap (λ xs. xs ++ more) (sym (front_by first (next ∷ runs)))
 
 pub take_by : (runs : List Run) (i : ℕ) (d : Run) → i < length runs → samples_by (take (i + 1) runs) ≡ samples_by (take i runs) ++ run_samples (get_or runs i d)
 take_by runs i d less = ap (λ n. samples_by (take n runs)) (add-one i) ∙ ap samples_by (take-suc runs i d less) ∙ more_by (take i runs) (get_or runs i d)

@@ -1,5 +1,5 @@
--- Samples of one level in a row that a machine only keeps. They are a receiver's: up to the end of what is stuffed, but for a sixth equal bit, and the
--- first five of an end of frame, if they are recessive (Bosch CAN 2.0 part B, sections 3.2.1, 6 and 7.1).
+-- Samples of one level in a row that a machine only keeps (`keeps` of wl_machine): nothing comes of them but that the machine has them. The node drives
+-- recessive before and after them.
 use Rattle.std.specs.Prelude.{◌≡◌, ℕ, zero, suc, ◌<◌, ◌≤◌, List, [], ◌∷◌, ◌++◌, Option}
 use Rattle.wl_level.specs.declared.Level.{Level}
 use Rattle.wl_level.specs.declared.Level.TheVariants.{Recessive}

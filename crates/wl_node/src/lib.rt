@@ -12,6 +12,7 @@ mod mark;
 mod node;
 mod progress;
 mod quiet;
+mod room;
 mod samples;
 pub mod setup;
 mod stays;

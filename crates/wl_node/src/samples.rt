@@ -5,6 +5,7 @@ ghost use Rattle.std.specs.Prelude.{◌≡◌, ◌*◌, ◌+◌, ◌<◌, ◌≤
 ghost use Rattle.wl_node.specs.Limits.{most_run_quanta};
 ghost use Rattle.wl_node.specs.Runs.{run_samples, samples_by, samples_from};
 
+use crate::room::more_room;
 use std::alloc::{AllocError, Global};
 use std::marker::Model;
 use wl_level::{Level, Listed};
@@ -97,14 +98,14 @@ impl SampleRuns {
         })
     }
 
-    /// Makes room for one more sample.
+    /// Makes room for one more sample. The list grows to four times what it has: so little of it is copied.
     pub(crate) fn prepare(&mut self) -> Result<(), AllocError>
         ensures room { OnOk result (vec_len self.new.runs < vec_capacity self.new.runs) }
         ensures samples { samples_by self.new.runs.items ≡ samples_by self.old.runs.items }
         ensures count { self.new.count ≡ self.old.count }
     {
         if self.runs.len() == self.runs.capacity() {
-            self.runs.reserve(1)?;
+            self.runs.reserve(more_room(self.runs.len()))?;
         }
         Ok(())
     }
@@ -200,18 +201,11 @@ fn add(runs: &mut Vec<Run>, quantum: u64, step: u8, level: Level)
         step,
         level,
     };
-    let Some(last) = runs.pop() else {
-        runs.push_reserved(one);
-        return;
-    };
-    if last.goes_on(quantum, level) {
-        runs.push_reserved(Run {
-            count: last.count + 1,
-            ..last
-        });
+    let n = runs.len();
+    if 0 < n && runs[n - 1].goes_on(quantum, level) {
+        runs[n - 1].count += 1;
         return;
     }
-    runs.push_reserved(last);
     runs.push_reserved(one);
 }
 

@@ -6,6 +6,7 @@ ghost use Rattle.wl_node.specs.History.{syncs_at};
 ghost use Rattle.wl_node.specs.Kept.{AreSyncs};
 ghost use Rattle.wl_node.specs.Limits.{most_run_quanta};
 
+use crate::room::more_room;
 use std::alloc::AllocError;
 use wl_sync::Sync;
 
@@ -18,14 +19,14 @@ pub struct Syncs {
 }
 
 impl Syncs {
-    /// Makes room for one more.
+    /// Makes room for one more. The list grows to four times what it has: so little of it is copied.
     pub fn prepare(&mut self) -> Result<(), AllocError>
         ensures room { OnOk result (vec_len self.new.phases < vec_capacity self.new.phases) }
         ensures phases { self.new.phases.items ≡ self.old.phases.items }
         ensures hards { self.new.hards ≡ self.old.hards }
     {
         if self.phases.len() == self.phases.capacity() {
-            self.phases.reserve(1)?;
+            self.phases.reserve(more_room(self.phases.len()))?;
         }
         Ok(())
     }

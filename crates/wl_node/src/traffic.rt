@@ -110,8 +110,8 @@ fn switch_off(machine: &mut Machine, pending: &mut Level, before: Mode, after: M
 }
 
 /// Lets the machine take samples of this level as long as it only keeps them. `first` is how many quanta go up to and including the first
-/// one; each other comes `bit` quanta later, and the last one within `most`. Returns how many: at most 255. A machine keeps no sixth equal
-/// bit, so that there are fewer.
+/// one; each other comes `bit` quanta later, and the last one within `most`. Returns how many: at most 255. A machine keeps no more than
+/// seven equal bits in a row, so that there are fewer.
 #[inline(always)]
 fn keep_equal(machine: &mut Machine, level: Level, first: u64, bit: u8, most: u64) -> u8
     requires short { most ≤ most_run_quanta }
@@ -146,8 +146,8 @@ impl Traffic {
         Ok(())
     }
 
-    /// Takes a sample at this quantum if the node receives and its machine only keeps it: it is stored, and nothing else comes of it. Else
-    /// returns false, and nothing changes.
+    /// Takes a sample at this quantum if the machine only keeps it: it is stored, and nothing else comes of it. Else returns false, and
+    /// nothing changes.
     #[inline(always)]
     fn keep(&mut self, quantum: u64, level: Level) -> bool
         requires samples { vec_len self.old.samples.runs < vec_capacity self.old.samples.runs }

@@ -1,9 +1,11 @@
 //! The line of a frame.
-ghost use Rattle.std.specs.Prelude.{◌≡◌, OnOk};
+ghost use Rattle.std.specs.Prelude.{◌≡◌, ◌<◌, ◌∷◌, ◌++◌, [], OnOk, false, codes};
 ghost use Rattle.std.specs.List.{flat_map};
+ghost use Rattle.std.specs.Fmt.{decimal, digit_glyph};
 ghost use Rattle.wl_report.specs.Lines.{GrowsBy, bytes_word, hexadecimal, kind_word, way_word};
 ghost use Rattle.wl_report.specs.Report.{content_text, frame_line, id_digits};
 
+use itoa::Buffer;
 use std::alloc::AllocError;
 use wl_frame::frame::Frame;
 use wl_node::Passed;
@@ -22,12 +24,29 @@ fn kind_word(remote: bool) -> &'static str
     if remote { "remote" } else { "data" }
 }
 
+/// Returns the character of a hexadecimal digit, a lower-case letter from ten on.
+fn digit_char(digit: u8) -> char
+    requires { digit < 16 }
+    ensures { result ≡ digit_glyph false digit }
+{
+    let from = if digit < 10 { b'0' } else { b'a' - 10 };
+    (from + digit) as char
+}
+
+/// Adds a lower-case hexadecimal digit.
+fn push_digit(text: &mut String, digit: u8) -> Result<(), AllocError>
+    requires { digit < 16 }
+    ensures { OnOk result (GrowsBy text.old text.new (digit_glyph false digit ∷ [])) }
+{
+    text.push(digit_char(digit))
+}
+
 /// Adds a byte as two lower-case hexadecimal digits.
-#[tactic(auto, using(crate::proofs::Hexadecimal::byte_digits))]
 fn push_byte(text: &mut String, byte: u8) -> Result<(), AllocError>
     ensures { OnOk result (GrowsBy text.old text.new (hexadecimal 2 byte)) }
 {
-    write!(text, "{byte:02x}")
+    push_digit(text, byte / 16)?;
+    push_digit(text, byte % 16)
 }
 
 /// Adds bytes as two lower-case hexadecimal digits each.
@@ -51,16 +70,72 @@ fn push_bytes(text: &mut String, bytes: &[u8]) -> Result<(), AllocError>
     }
 }
 
+/// Adds four lower-case hexadecimal digits.
+#[tactic(auto, using(crate::proofs::Hexadecimal::four_digits))]
+fn push_four(text: &mut String, number: u32) -> Result<(), AllocError>
+    requires { number < 65536 }
+    ensures { OnOk result (GrowsBy text.old text.new (hexadecimal 4 number)) }
+{
+    push_byte(text, (number / 256) as u8)?;
+    push_byte(text, (number % 256) as u8)
+}
+
+/// Adds eight lower-case hexadecimal digits.
+fn push_eight(text: &mut String, number: u32) -> Result<(), AllocError>
+    ensures { OnOk result (GrowsBy text.old text.new (hexadecimal 8 number)) }
+{
+    push_four(text, number / 65_536)?;
+    push_four(text, number % 65_536)
+}
+
+/// Adds three lower-case hexadecimal digits.
+#[tactic(auto, using(crate::proofs::Hexadecimal::three_digits))]
+fn push_three(text: &mut String, number: u32) -> Result<(), AllocError>
+    requires { number < 4096 }
+    ensures { OnOk result (GrowsBy text.old text.new (hexadecimal 3 number)) }
+{
+    push_digit(text, (number / 256) as u8)?;
+    push_byte(text, (number % 256) as u8)
+}
+
 /// Adds an identifier: 3 lower-case hexadecimal digits, or 8 of an extended frame.
 pub fn push_id(text: &mut String, frame: &Frame) -> Result<(), AllocError>
     ensures { OnOk result (GrowsBy text.old text.new (hexadecimal (id_digits frame.now.extended) frame.now.id)) }
 {
     let id = frame.id();
     if frame.is_extended() {
-        write!(text, "{id:08x}")
+        push_eight(text, id)
     } else {
-        write!(text, "{id:03x}")
+        push_three(text, id)
     }
+}
+
+/// Adds a number in decimal digits.
+#[tactic(auto, using(std::proofs::lemmas::Fmt::decimal_digit))]
+fn push_number(text: &mut String, number: u64) -> Result<(), AllocError>
+    ensures { OnOk result (GrowsBy text.old text.new (decimal number)) }
+{
+    if number < 10 {
+        text.push((b'0' + number as u8) as char)
+    } else {
+        text.push_str(Buffer::new().format(number))
+    }
+}
+
+/// Adds a number in decimal digits and a space.
+fn push_field(text: &mut String, number: u64) -> Result<(), AllocError>
+    ensures { OnOk result (GrowsBy text.old text.new (decimal number ++ codes " ")) }
+{
+    push_number(text, number)?;
+    text.push(' ')
+}
+
+/// Adds a word and a space.
+fn push_word(text: &mut String, word: &str) -> Result<(), AllocError>
+    ensures { OnOk result (GrowsBy text.old text.new (word.now ++ codes " ")) }
+{
+    text.push_str(word)?;
+    text.push(' ')
 }
 
 /// Adds what a frame carries: its identifier in lower-case hexadecimal digits, 3 or 8 of an extended frame, `data` or `remote`, its data
@@ -71,7 +146,9 @@ pub fn push_content(text: &mut String, frame: &Frame) -> Result<(), AllocError>
     let kind = kind_word(frame.remote());
     let dlc = frame.dlc();
     push_id(text, frame)?;
-    write!(text, " {kind} {dlc} ")?;
+    text.push(' ')?;
+    push_word(text, kind)?;
+    push_field(text, u64::from(dlc))?;
     push_bytes(text, frame.bytes())
 }
 
@@ -79,13 +156,10 @@ pub fn push_content(text: &mut String, frame: &Frame) -> Result<(), AllocError>
 pub(crate) fn push_frame(text: &mut String, node: usize, passed: &Passed) -> Result<(), AllocError>
     ensures { OnOk result (GrowsBy text.old text.new (frame_line node passed.now)) }
 {
-    let Passed {
-        sent,
-        quantum,
-        frame,
-    } = *passed;
-    let way = way_word(sent);
-    write!(text, "frame {node} {way} {quantum} ")?;
-    push_content(text, &frame)?;
+    text.push_str("frame ")?;
+    push_field(text, node as u64)?;
+    push_word(text, way_word(passed.sent))?;
+    push_field(text, passed.quantum)?;
+    push_content(text, &passed.frame)?;
     text.push_str("\n")
 }

@@ -9,6 +9,9 @@ use crate::verdict::push_verdict;
 use std::alloc::{AllocError, Global};
 use wl_serial::{NodeOutcome, Outcome};
 
+/// For how many bytes there is room at first: most reports have fewer. What isn't written is never touched.
+const FIRST_ROOM: usize = 65_536;
+
 /// Adds the lines of all nodes.
 fn push_nodes(text: &mut String, nodes: &[NodeOutcome]) -> Result<(), AllocError>
     ensures { OnOk result (GrowsBy text.old text.new (flat_map node_report_lines (enumerate_from 0 nodes.now))) }
@@ -30,7 +33,7 @@ fn push_nodes(text: &mut String, nodes: &[NodeOutcome]) -> Result<(), AllocError
 pub fn report(alloc: Global, outcome: &Outcome) -> Result<Vec<u8>, AllocError>
     ensures { IfOk result (λ text. text.items ≡ report_text outcome.now) }
 {
-    let mut text = String::new(alloc);
+    let mut text = String::with_capacity(alloc, FIRST_ROOM)?;
     let nodes = outcome.nodes.as_slice();
     push_nodes(&mut text, nodes)?;
     push_verdict(&mut text, nodes)?;

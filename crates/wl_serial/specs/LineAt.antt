@@ -1,5 +1,5 @@
 -- What a place hears, and for how long it stays so. This project's profile.
-use Rattle.std.specs.Prelude.{◌≡◌, ℕ, zero, suc, ◌+◌, ◌^◌, true, false, ◌-◌, ◌<◌, ◌≤◌, ◌&&◌, Bool, List, [], ◌∷◌, ◌++◌, length, ◌≢◌, nat_le, slice_index_or}
+use Rattle.std.specs.Prelude.{◌≡◌, ℕ, zero, suc, ◌+◌, ◌^◌, true, false, ◌-◌, ◌<◌, ◌≤◌, ◌&&◌, ◌⊎◌, Bool, List, [], ◌∷◌, ◌++◌, length, ◌≢◌, nat_le, slice_index_or}
 use Rattle.std.specs.Int.{from_bool}
 use Rattle.wl_level.specs.declared.Level.{Level}
 use Rattle.wl_level.specs.Levels.{level_of}
@@ -56,6 +56,19 @@ pub record IsAhead (s : Sources) : Type 0 where
 -- one of the first n nodes drives dominant, and its next change comes after tick u
 abbrev pub IsDriving : ℕ → ℕ → Sources → Type 0
 IsDriving n u s = (i : ℕ) × (i < n) × (slice_index_or s.drives i false ≡ true) × (u < slice_index_or s.nexts i 0)
+
+-- the first `count` numbers are those of the first n nodes of which a change has come by tick t
+pub record IsDue (n t : ℕ) (s : Sources) (due : List ℕ) (count : ℕ) : Type 0 where
+  pub all : length due ≡ most_places
+  pub few : count ≤ most_places
+  pub inside : (p : ℕ) → p < count → slice_index_or due p 0 < n
+  pub others : (i : ℕ) → i < n → (t < slice_index_or s.nexts i 0) ⊎ ((p : ℕ) × (p < count) × (slice_index_or due p 0 ≡ i))
+
+-- Up to the first change of the first n nodes what they make stays, and after it as long as one of them goes on to drive dominant.
+pub record StaysKept (n until : ℕ) (s : Sources) : Type 0 where
+  pub least : ℕ
+  pub nexts : (k : ℕ) → k < n → least ≤ slice_index_or s.nexts k 0
+  pub driving : (u : ℕ) → least ≤ u → u < until → IsDriving n u s
 
 -- what a place keeps
 pub record IsLineAt (plan : Plan) (j : ℕ) (line : LineAt) : Type 0 where

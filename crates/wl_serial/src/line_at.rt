@@ -72,6 +72,7 @@ impl LineAt {
     }
 
     /// Returns what node `j` finds from its next quantum on, below a tick, by the changes that are known.
+    #[inline(always)]
     pub(crate) fn level_at(
         &mut self,
         plan: &Checked,

@@ -1,5 +1,5 @@
 //! What a node's changes make at a place, and for how long that stays.
-ghost use Rattle.std.specs.Prelude.{◌≡◌, ◌+◌, ◌-◌, ◌<◌, ◌≤◌, ◌^◌, length, slice_index_or};
+ghost use Rattle.std.specs.Prelude.{◌≡◌, ◌+◌, ◌-◌, ◌<◌, ◌≤◌, ◌^◌, true, length, slice_index_or};
 ghost use Rattle.wl_record_core.specs.Truth.{count_below, IsIncreasing};
 ghost use Rattle.wl_pulse.specs.Pulses.{IsPulse};
 ghost use Rattle.wl_serial.specs.LineAt.{drove};
@@ -49,11 +49,27 @@ pub(crate) fn count_until(changes: &[u64], tick: u64, guess: usize) -> usize
     ensures { result ≡ count_below (tick + 1) changes.now }
 {
     wl_record_core::table_laws();
+    if have_all_come(changes, tick) {
+        return changes.len();
+    }
     let mut count = sure(changes, tick, guess);
     while count < changes.len() && changes[count] <= tick {
         count += 1;
     }
     count
+}
+
+/// True if there are changes, and none of them is after this tick.
+fn have_all_come(changes: &[u64], tick: u64) -> bool
+    requires { IsIncreasing changes.now }
+    ensures { result ≡ true → count_below (tick + 1) changes.now ≡ length changes.now }
+{
+    wl_record_core::table_laws();
+    let all = changes.len();
+    if all == 0 || tick < changes[all - 1] {
+        return false;
+    }
+    true
 }
 
 /// Returns the guess, if this number of the changes is surely not after this tick, and else none.

@@ -252,6 +252,7 @@ impl Running {
 }
 
 /// Adds the tick of a quantum that changed the drive, and returns it; nothing if the drive is as before.
+#[inline(always)]
 fn keep_change(
     changes: &mut Changes,
     clock: &Clock,

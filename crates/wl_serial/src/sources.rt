@@ -2,7 +2,7 @@
 ghost use Rattle.std.specs.Prelude.{◌≡◌, ◌≢◌, ℕ, ◌<◌, ◌≤◌, ◌^◌, false, length, slice_index_or};
 ghost use Rattle.wl_record_core.specs.Truth.{IsIncreasing};
 ghost use Rattle.wl_topology.specs.Limits.{most_places};
-ghost use Rattle.wl_serial.specs.LineAt.{AreDelays, AreTallied, IsAhead, IsAlone, AreSooner, AreSources, IsDriving, IsPulseTold, drove};
+ghost use Rattle.wl_serial.specs.LineAt.{AreDelays, AreTallied, IsAhead, IsAlone, AreSooner, AreSources, IsDue, IsPulseTold, StaysKept, drove};
 ghost use Rattle.wl_serial.specs.Running.{AreSomewhere};
 
 use crate::checked::Checked;
@@ -10,6 +10,9 @@ use crate::pulse::pulse_of;
 use crate::running_node::{Running, Ticks};
 use wl_pulse::Pulse;
 use wl_topology::MOST_NODES;
+
+/// A tick after all others.
+const FAR: u64 = 1 << 63;
 
 /// What is cached of the nodes at a place. Of each node it is how many of its changes had arrived when they were last asked for, and the
 /// tick at which the next one arrives. It is also whether the node is dominant there up to then, and how many nodes are. And it is one
@@ -109,41 +112,91 @@ impl Sources {
         ensures told { IsPulseTold plan.now running.now j result }
     {
         plan.laws();
-        let mut until = u64::MAX;
-        let mut one = 0;
-        let mut others = u64::MAX;
-        for i in 0..MOST_NODES {
-            if self.nexts[i] <= t {
-                self.take(plan, running[i].changes.as_slice(), delays[i], i, t);
-                one = i;
-                others = until;
-            } else {
-                others = others.min(self.nexts[i]);
-            }
-            until = until.min(self.nexts[i]);
-        }
-        self.one = one;
+        let (due, count) = self.due_by(plan, t);
+        self.take_due(plan, running, delays, j, t, &due, count);
+        let (until, others) = self.reach(plan.nodes(), t);
         self.others = others;
         Pulse {
             from: t,
-            until: until.max(self.dominant_until(plan.nodes())),
+            until,
             dominant: 0 < self.driving,
         }
     }
 
-    /// Returns the tick before which one of this many nodes goes on to drive dominant, by its changes; 0 if none does. Up to its last driver
-    /// a dominant line stays so, whatever the others do.
-    fn dominant_until(&self, nodes: usize) -> u64
-        requires { nodes ≤ most_places }
-        ensures { (u : ℕ) → u < result → IsDriving nodes u self.now }
+    /// Returns the nodes from which a change has arrived by tick `t`, in their order, and how many they are. No branch of the loop depends on
+    /// a node.
+    #[inline(always)]
+    fn due_by(&self, plan: &Checked, t: u64) -> ([usize; MOST_NODES], usize)
+        requires early { t < 2 ^ 63 }
+        requires kept { AreTallied (length plan.now.nodes) self.now }
+        ensures { IsDue (length plan.now.nodes) t self.now result.0 result.1 }
     {
-        let mut until = 0;
-        for i in 0..nodes {
-            if self.drives[i] && until < self.nexts[i] {
-                until = self.nexts[i];
+        plan.laws();
+        let mut due = [0; MOST_NODES];
+        let mut count = 0;
+        for i in 0..MOST_NODES {
+            due[count] = i;
+            if self.nexts[i] <= t {
+                count += 1;
             }
         }
-        until
+        (due, count)
+    }
+
+    /// Takes up what has arrived by tick `t` from these nodes. The last of them is kept apart.
+    #[inline(always)]
+    fn take_due(
+        &mut self,
+        plan: &Checked,
+        running: &[Running],
+        delays: &Ticks,
+        j: usize,
+        t: u64,
+        due: &[usize; MOST_NODES],
+        count: usize,
+    )
+        requires somewhere { AreSomewhere plan.now running.now }
+        requires delays { AreDelays plan.now j delays.now }
+        requires early { t < 2 ^ 63 }
+        requires kept { AreTallied (length plan.now.nodes) self.old }
+        requires sources { AreSources plan.now running.now j t self.old }
+        requires due { IsDue (length plan.now.nodes) t self.old due.now count }
+        ensures kept { AreTallied (length plan.now.nodes) self.new }
+        ensures sources { AreSources plan.now running.now j t self.new }
+        ensures later { (k : ℕ) → k < length plan.now.nodes → t < slice_index_or self.new.nexts k 0 }
+        ensures inside { self.new.one < most_places }
+    {
+        plan.laws();
+        self.one = 0;
+        for k in 0..count {
+            let i = due[k];
+            self.take(plan, running[i].changes.as_slice(), delays[i], i, t);
+            self.one = i;
+        }
+    }
+
+    /// Returns the tick up to which what this many nodes make stays as it is kept. Up to its last driver a dominant line stays so, whatever the
+    /// others do. It also returns a tick before which no change arrives but from the node that is kept apart.
+    #[inline(always)]
+    fn reach(&self, nodes: usize, t: u64) -> (u64, u64)
+        requires few { nodes ≤ most_places }
+        requires early { t < 2 ^ 63 }
+        requires later { (k : ℕ) → k < nodes → t < slice_index_or self.now.nexts k 0 }
+        ensures later { t < result.0 }
+        ensures stays { StaysKept nodes result.0 self.now }
+        ensures far { result.1 ≤ 2 ^ 63 }
+        ensures others { (k : ℕ) → k ≢ self.now.one → k < nodes → result.1 ≤ slice_index_or self.now.nexts k 0 }
+    {
+        let mut until = u64::MAX;
+        let mut others = FAR;
+        let mut dominant = 0;
+        for i in 0..nodes {
+            let next = self.nexts[i];
+            until = until.min(next);
+            others = others.min(if i == self.one { FAR } else { next });
+            dominant = dominant.max(if self.drives[i] { next } else { 0 });
+        }
+        (until.max(dominant), others)
     }
 
     /// Returns the tick before which no change of another node than node `j` arrives, if all others are recessive; else 0.

@@ -1,5 +1,6 @@
 mod GoesLemmas
 mod LineLemmas
+mod FrontLemmas
 mod NumberLemmas
 mod TableLemmas
 mod ArrayLemmas

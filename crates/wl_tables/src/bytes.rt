@@ -6,11 +6,24 @@ ghost use Rattle.toml.specs.Data.{no_items, integer, array};
 ghost use Rattle.toml.specs.Parse as spec;
 ghost use Rattle.wl_tables.specs.Numbers.{bytes_data};
 
+use crate::blank::after_blank;
 use crate::number::plain_number;
 use crate::value::{after_element, flat_value};
 use std::alloc::Global;
 use toml::Value;
-use toml_parser::text::{first, skip, skip_blank};
+use toml_parser::text::{first, skip};
+
+/// Returns the number of any form at the front, if it is whole and from 0 on, and the text after it.
+#[inline(never)]
+fn any_number(alloc: Global, s: &str) -> Option<(u64, &str)>
+    ensures value { (depth : ℕ) → IfSome result (λ r. spec.val depth s.now ≡ Some (integer (pos r.0), r.1.now)) }
+    ensures shorter { IfSome result (λ r. length r.1.now < length s.now) }
+{
+    match flat_value(alloc, s) {
+        Some((Value::Integer(n), rest)) if n >= 0 => Some((n as u64, rest)),
+        _ => None,
+    }
+}
 
 /// Returns the whole number from 0 on at the front, and the text after it.
 pub fn read_number(alloc: Global, s: &str) -> Option<(u64, &str)>
@@ -20,10 +33,8 @@ pub fn read_number(alloc: Global, s: &str) -> Option<(u64, &str)>
     if let Some((n, rest)) = plain_number(s) {
         return Some((n, rest));
     }
-    match flat_value(alloc, s) {
-        Some((Value::Integer(n), rest)) if n >= 0 => Some((n as u64, rest)),
-        _ => None,
-    }
+    let (n, rest) = any_number(alloc, s)?;
+    Some((n, rest))
 }
 
 /// Returns the bytes of an array after its opening bracket, and the text after its closing one.
@@ -36,7 +47,7 @@ fn bytes_after(alloc: Global, s: &str) -> Option<(Vec<u8>, &str)>
     let mut found = Vec::new(alloc);
     let mut rest = s;
     'items: loop {
-        let start = skip_blank(rest, true);
+        let start = after_blank(rest);
         if first(start) == b']' {
             return Some((found, skip(start, 1)));
         }

@@ -5,9 +5,10 @@ ghost use Rattle.toml_parser.specs.Reading.{key_view};
 ghost use Rattle.toml.specs.Parse as spec;
 ghost use Rattle.wl_tables.specs.Tables.{Goes, IsOver, header_expression, key_of_header, usual_text};
 
+use crate::blank::after_blank;
 use crate::row::ends_line;
 use std::alloc::Global;
-use toml_parser::text::{byte_at, first, skip, skip_blank, skip_ws};
+use toml_parser::text::{byte_at, first, skip, skip_ws};
 use toml_parser::{Key, dotted_key};
 
 /// A header of a plan's text.
@@ -114,7 +115,7 @@ pub fn pass_header(alloc: Global, s: &str, which: Header) -> Option<&str>
     ensures line { IfSome result (λ rest. Goes s.now (header_expression (key_of_header which) ∷ []) rest.now) }
     ensures shorter { IfSome result (λ rest. length rest.now < length s.now) }
 {
-    let start = skip_blank(s, true);
+    let start = after_blank(s);
     if let Some(rest) = after_usual(start, which) {
         return Some(rest);
     }
@@ -130,5 +131,5 @@ pub fn pass_header(alloc: Global, s: &str, which: Header) -> Option<&str>
 pub fn is_over(s: &str) -> bool
     ensures { IsTrue result → IsOver s.now }
 {
-    skip_blank(s, true).is_empty()
+    after_blank(s).is_empty()
 }

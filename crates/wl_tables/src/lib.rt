@@ -4,6 +4,7 @@
 //! of another form, or no TOML, or memory was refused.
 #![tactic(auto)]
 
+mod blank;
 mod bytes;
 mod header;
 mod key;

@@ -6,11 +6,12 @@ ghost use Rattle.toml.specs.Parse as spec;
 ghost use Rattle.wl_tables.specs.Tables.{pair_expression, Goes, IsTable, first_value};
 ghost use Rattle.wl_tables.specs.Rows.{pair_view, pairs_of};
 
+use crate::blank::after_blank;
 use crate::key::key_equals;
 use crate::value::read_value;
 use std::alloc::Global;
 use toml::Value;
-use toml_parser::text::{first, skip_blank, skip_ws};
+use toml_parser::text::{first, skip_ws};
 
 /// The most pairs of a table that is read here. Each key is compared with those before it, and the time grows with the square of their number.
 const MOST_PAIRS: usize = 64;
@@ -32,6 +33,9 @@ pub struct Row<'a> {
 pub fn ends_line(s: &str) -> bool
     ensures { result ≡ spec.ends_line (skip_ws s.now) }
 {
+    if first(s) == b'\n' {
+        return true;
+    }
     let end = skip_ws(s);
     end.is_empty() || matches!(first(end), b'#' | b'\n' | b'\r')
 }
@@ -81,7 +85,7 @@ pub fn read_row(alloc: Global, s: &str) -> Option<(Row<'_>, &str)>
     };
     let mut rest = s;
     'lines: loop {
-        let start = skip_blank(rest, true);
+        let start = after_blank(rest);
         if start.is_empty() || first(start) == b'[' {
             return Some((row, rest));
         }

@@ -7,11 +7,12 @@ ghost use Rattle.toml.specs.View.{view, array_view, table_view};
 ghost use Rattle.toml.specs.Parse as spec;
 ghost use Rattle.wl_tables.specs.Tables.{as_nodes};
 
+use crate::blank::after_blank;
 use crate::key::key_equals;
 use crate::number::plain_number;
 use std::alloc::Global;
 use toml::{Table, Value};
-use toml_parser::text::{first, skip, skip_blank};
+use toml_parser::text::{first, skip};
 use toml_parser::{RECURSION_LIMIT, Scalar, quoted, starts_string, unquoted};
 
 fn scalar_value(scalar: Scalar) -> Value
@@ -61,7 +62,7 @@ pub(crate) fn after_element(s: &str, closing: u8) -> Option<&str>
     ensures value { IfSome result (λ rest. spec.after_element closing s.now ≡ Some rest.now) }
     ensures within { IfSome result (λ rest. length rest.now ≤ length s.now) }
 {
-    let rest = skip_blank(s, true);
+    let rest = after_blank(s);
     if first(rest) == b',' {
         Some(skip(rest, 1))
     } else if first(rest) == closing {
@@ -81,7 +82,7 @@ fn array(alloc: Global, s: &str, depth: usize) -> Option<(Vec<Value>, &str)>
     let mut found = Vec::new(alloc);
     let mut rest = s;
     'items: loop {
-        let start = skip_blank(rest, true);
+        let start = after_blank(rest);
         if first(start) == b']' {
             return Some((found, skip(start, 1)));
         }
@@ -121,7 +122,7 @@ fn inline_table(alloc: Global, s: &str, depth: usize) -> Option<(Table, &str)>
     let mut found = Table::new(alloc);
     let mut rest = s;
     'members: loop {
-        let start = skip_blank(rest, true);
+        let start = after_blank(rest);
         if first(start) == b'}' {
             return Some((found, skip(start, 1)));
         }

@@ -1,42 +1,71 @@
 -- A sample of which nothing comes but that the running stretch has it.
-use Rattle.std.proofs.Common.{◌≡◌, ◌∙◌, refl, sym, ap, subst, append-nil, true, ℕ, List, [], ◌∷◌, ◌++◌, Option, None}
+use Rattle.std.proofs.Common.{◌≡◌, ◌∙◌, refl, sym, ap, subst, append-nil, ◌-◌, Bool, true, false, not, cond, ◌&&◌, ℕ, List, [], ◌∷◌, ◌++◌, length, Option, Some, None}
+use Rattle.std.specs.Prelude.{◌==◌, nat_lt}
+use Rattle.std.proofs.lemmas.Bool.{and_right}
 use Rattle.std.proofs.lemmas.List.Sums.{fold-append}
 use Rattle.wl_level.specs.declared.Level.{Level}
+use Rattle.wl_level.specs.declared.Level.TheVariants.{Dominant, Recessive}
+use Rattle.wl_level.specs.Levels.{is_dominant}
+use Rattle.wl_level.proofs.Callers.{at_new}
 use Rattle.wl_confine.specs.declared.Happened.TheVariants.{Nothing}
 use Rattle.wl_confine.specs.declared.Mode.{Mode}
 use Rattle.wl_confine.specs.declared.Mode.TheVariants.{Active, Passive, Off}
 use Rattle.wl_confine.specs.Counts.{Counts, counts_after, counts_of, mode_of, no_counts}
+use Rattle.wl_frame.specs.Grammar.{Content}
 use Rattle.wl_machine.specs.declared.state.Role.{Role}
 use Rattle.wl_machine.specs.declared.state.Role.TheVariants.{Tx, Rx}
 use Rattle.wl_machine.specs.Stretch.{Sort, Stretch, Sampled, continues}
 use Rattle.wl_machine.specs.Stretch.Input.{Sample}
 use Rattle.wl_machine.specs.Stretch.Sort.{Integration, Idle, Framing, Flagging, Waiting, Delimiting, Intermission, Suspension, OffBus}
-use Rattle.wl_machine.specs.Frames.{frame_role, stuffed_end}
-use Rattle.wl_machine.specs.Judged.{drive_of, role_by, role_of, stretch_of}
-use Rattle.wl_machine.specs.Keeps.{keeps_by, keeps_in_frame}
+use Rattle.wl_machine.specs.Frames.{frame_role, is_lost, stuffed_end}
+use Rattle.wl_machine.specs.Judged.{drive_of, role_by, stretch_of}
+use Rattle.wl_machine.specs.Keeps.{keeps, keeps_by, keeps_in_frame}
 use Rattle.wl_machine.specs.Reached.{IsMachine}
+use Rattle.wl_machine.specs.Roles.{loses_by}
 use Rattle.wl_node.specs.declared.setup.NodeSetup.{NodeSetup}
 use Rattle.wl_node.specs.History.{switched_off}
 use Rattle.wl_trace.specs.declared.sampled_node.SampledNode.{SampledNode}
 use Rattle.wl_trace.specs.declared.event.NodeEvent.{NodeEvent}
+use Rattle.wl_trace.specs.declared.event.NodeEvent.TheVariants.{ArbitrationLost}
 use Rattle.wl_trace.specs.Events.{flag_events, is_transmitter, judged_events, lost_events, mode_events, is_same_mode}
+use Rattle.wl_trace.specs.Places.{next_place}
 use Rattle.wl_trace.specs.Replay.{IsSampledNode, SampledPast, judged_then, past_after, past_judged, sampled_then, then_events}
 
--- it is a receiver's
-receives_in : (r : Role) (end : Option ℕ) (own : List Level) (level : Level) → keeps_in_frame r end own level ≡ true → r ≡ Rx
-receives_in Rx end own level e = refl
-receives_in Tx end own level e = cc
+-- A transmitter's in a frame is recessive, and with such a one it loses no arbitration.
+recessive_in : (end : Option ℕ) (own : List Level) (level : Level) → keeps_in_frame Tx end own level ≡ true → is_dominant level ≡ false
+recessive_in None own level e = cc
+recessive_in (Some end) own Recessive e = refl
+recessive_in (Some end) own Dominant e =
+    (let f : false ≡ true = sym (and_right (not ((length own - end) == 1) && nat_lt (length own - end) 9) false refl) ∙ e in cc)
 
-pub receives_by : (sort : Sort) (own : List Level) (level : Level) → keeps_by sort own level ≡ true → role_by sort own ≡ Rx
-receives_by Integration own level e = refl
-receives_by Idle own level e = refl
-receives_by (Framing head) own level e = receives_in (frame_role head own) (stuffed_end own) own level e
-receives_by (Flagging flag role) own level e = cc
-receives_by (Waiting flag role flagged) own level e = cc
-receives_by (Delimiting role) own level e = cc
-receives_by (Intermission role) own level e = cc
-receives_by Suspension own level e = refl
-receives_by OffBus own level e = refl
+not_lost : (head : Content) (own : List Level) (level : Level) → is_dominant level ≡ false → is_lost head (own ++ level ∷ []) (length own) ≡ false
+not_lost head own level d = and_right _ _ (ap is_dominant (at_new own level) ∙ d)
+
+abbrev lost_as : Role → Bool → List NodeEvent → List NodeEvent
+lost_as role loses lost = cond (is_transmitter role) (cond loses lost []) []
+
+framed_none : (head : Option Content) (own : List Level) (level : Level) (lost : List NodeEvent) (role : Role) → keeps_in_frame role (stuffed_end own) own level ≡ true
+    → lost_as role (loses_by (Framing head) own level) lost ≡ []
+framed_none head own level lost Rx e = refl
+framed_none None own level lost Tx e = refl
+framed_none (Some head) own level lost Tx e = ap (λ b. lost_as Tx b lost) (not_lost head own level (recessive_in (stuffed_end own) own level e))
+
+none_lost : (sort : Sort) (own : List Level) (level : Level) (lost : List NodeEvent) → keeps_by sort own level ≡ true
+    → lost_as (role_by sort own) (loses_by sort own level) lost ≡ []
+none_lost Integration own level lost e = refl
+none_lost Idle own level lost e = refl
+none_lost (Framing head) own level lost e = framed_none head own level lost (frame_role head own) e
+none_lost (Flagging flag role) own level lost e = cc
+none_lost (Waiting flag role flagged) own level lost e = cc
+none_lost (Delimiting Tx) own level lost e = refl
+none_lost (Delimiting Rx) own level lost e = refl
+none_lost (Intermission Tx) own level lost e = refl
+none_lost (Intermission Rx) own level lost e = refl
+none_lost Suspension own level lost e = refl
+none_lost OffBus own level lost e = refl
+
+pub lost_none : (s : Stretch) (level : Level) → keeps s level ≡ true → lost_events s level ≡ []
+lost_none s level e = none_lost s.sort s.own level (ArbitrationLost (next_place s) ∷ []) e
 
 stays_on : (m n : Mode) → n ≡ m → switched_off m n ≡ []
 stays_on Active Active e = refl
@@ -52,10 +81,7 @@ same_mode Active = refl
 same_mode Passive = refl
 same_mode Off = refl
 
--- nor is anything noted of it
-lost_none : (s : Stretch) (level : Level) → role_of s ≡ Rx → lost_events s level ≡ []
-lost_none s level e = rw (ap is_transmitter e) refl
-
+-- nor is anything else noted of it
 flag_none : (m : Mode) → flag_events m None ≡ []
 flag_none Active = refl
 flag_none Passive = refl
@@ -106,9 +132,9 @@ module _ (setup : NodeSetup) (p : SampledPast) (quantum : ℕ) (level : Level) (
     sent = sent ∙ is.sent;
   })
 
-  pub nothing_noted : role_of (stretch_of p.inputs) ≡ Rx → then_events setup p quantum level ≡ []
-  nothing_noted receives =
+  pub nothing_noted : lost_events (stretch_of p.inputs) level ≡ [] → then_events setup p quantum level ≡ []
+  nothing_noted lost =
       let counts : Counts = counts_of p.happened in
       ap (judged_events (stretch_of p.inputs) level counts) judged_is
       ∙ all_none (lost_events (stretch_of p.inputs) level) (flag_events (mode_of counts) None) (mode_events counts counts)
-      (lost_none (stretch_of p.inputs) level receives) (flag_none (mode_of counts)) (mode_none counts)
+      lost (flag_none (mode_of counts)) (mode_none counts)

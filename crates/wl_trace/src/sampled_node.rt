@@ -2,15 +2,15 @@
 ghost use Rattle.std.specs.Prelude.{◌≡◌, ℕ, true, false, [], ◌∷◌, count_by, if◌then◌else◌, ◌+◌, ◌<◌, ◌≤◌, ◌^◌, ◌-◌, ◌++◌, List};
 ghost use Rattle.std.specs.Option.{option_copied};
 ghost use Rattle.wl_confine.specs.declared.Happened.{Happened};
-ghost use Rattle.wl_machine.specs.declared.state.Role.{Role};
 ghost use Rattle.wl_machine.specs.Stretch.{Ended, Input, continues};
 ghost use Rattle.wl_machine.specs.Stretch.Input.{SwitchedOff};
 ghost use Rattle.wl_machine.specs.Doing.{doing_of};
 ghost use Rattle.wl_machine.specs.States.{done_of};
-ghost use Rattle.wl_machine.specs.Judged.{drive_of, role_of, stretch_of};
+ghost use Rattle.wl_machine.specs.Judged.{drive_of, stretch_of};
 ghost use Rattle.wl_machine.specs.Reached.{IsMachine};
 ghost use Rattle.wl_node.specs.declared.setup.NodeSetup.{NodeSetup};
 ghost use Rattle.wl_node.specs.History.{is_sent, passed_frames, switched_off};
+ghost use Rattle.wl_trace.specs.Events.{lost_events};
 ghost use Rattle.wl_trace.specs.Replay.{IsSampledNode, SampledPast, head_at, head_then, judged_then, no_past, past_after};
 ghost use Rattle.wl_confine.specs.Counts.{counts_after};
 
@@ -116,8 +116,8 @@ impl SampledNode {
             → IsSampledNode self.old p → IsSampledNode self.new (past_after setup p (quantum, level)) }
         ensures judged { result ≡ true → (setup : NodeSetup) (p : SampledPast) (quantum : ℕ)
             → IsSampledNode self.old p → judged_then setup p quantum level ≡ continues Happened.Nothing }
-        ensures receives { result ≡ true → (p : SampledPast) → IsSampledNode self.old p
-            → role_of (stretch_of p.inputs) ≡ Role.Rx }
+        ensures lost { result ≡ true → (p : SampledPast) → IsSampledNode self.old p
+            → lost_events (stretch_of p.inputs) level ≡ [] }
         ensures same { result ≡ false → (p : SampledPast) → IsSampledNode self.old p → IsSampledNode self.new p }
         ensures sent { self.new.sent ≡ self.old.sent }
     {

@@ -24,16 +24,16 @@ returns-then-first-eq93-clause-value c = λ depth n h.
     let l = c.items in
     let (m, room, loop) = l.invariant.3 depth n h in
     let closing : (first (skip_blank l.rest.now) == 93) ≡ true = grind (arith, common_steps) in
-    loop ∙ items_end (val depth) m _ l.rest.now (omega arith) closing ∙ rw (c.skip.ensures.rest, c.skip_blank-start.ensures.rest)
+    loop ∙ items_end (val depth) m _ l.rest.now (omega arith) closing ∙ rw (c.skip.ensures.rest, c.after_blank-start.ensures.rest)
 
 pub items-preserved : goal.items-preserved
 items-preserved c =
     let l = c.items in
-    let start_is = c.skip_blank-start.ensures.rest in
+    let start_is = c.after_blank-start.ensures.rest in
     let other : (first (skip_blank l.rest.now) == 93) ≡ false = grind (arith, common_steps) in
     let shorter = c.in_ok-number.ensures.shorter in
     let within = c.in_ok-next.ensures.within in
-    let before = c.skip_blank-start.ensures.within in (
+    let before = c.after_blank-start.ensures.within in (
       search rules,
       omega (arith, l.invariant.1),
       rw c.in-Ok.ensures.items (small_push l.found.items c.in_ok-number.number l.invariant.2 (omega arith)),

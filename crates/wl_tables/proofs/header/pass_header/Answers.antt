@@ -5,10 +5,10 @@ use Rattle.wl_tables.proofs.header.pass_header.Goals as goal
 
 pub returns-then-is_named-clause-line : goal.returns-then-is_named-clause-line
 returns-then-is_named-clause-line c =
-    goes_header c.args.s.now c.skip_blank-start.result.now c.in_ok-key.rest.now _ _ c.skip_blank-start.ensures.rest c.skip_blank-start.ensures.within
+    goes_header c.args.s.now c.after_blank-start.result.now c.in_ok-key.rest.now _ _ c.after_blank-start.ensures.rest c.after_blank-start.ensures.within
     c.in_ok-key.ensures.line c.in_ok-key.ensures.shorter (c.is_named.ensures c.if-is_named.true)
 
 pub returns-in-Some-clause-line : goal.returns-in-Some-clause-line
 returns-in-Some-clause-line c =
-    goes_header c.args.s.now c.skip_blank-start.result.now c.in-Some.rest.now (key_of_header c.args.which) (key_of_header c.args.which) c.skip_blank-start.ensures.rest
-    c.skip_blank-start.ensures.within c.in-Some.ensures.line c.in-Some.ensures.shorter refl
+    goes_header c.args.s.now c.after_blank-start.result.now c.in-Some.rest.now (key_of_header c.args.which) (key_of_header c.args.which) c.after_blank-start.ensures.rest
+    c.after_blank-start.ensures.within c.in-Some.ensures.line c.in-Some.ensures.shorter refl

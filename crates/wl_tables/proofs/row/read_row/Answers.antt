@@ -8,7 +8,7 @@ lines-init c = (search rules, rw c.new.ensures.items (goes_none c.args.s.now), r
 pub lines-preserved : goal.lines-preserved
 lines-preserved c = (
   search rules,
-  row_more c.args.s.now c.lines.rest.now c.skip_blank-start.result.now c.in_ok-pair.after.now c.lines.row.pairs.items _ c.in_ok-pair.pair c.in-Ok.ensures.items c.lines.invariant.1
-      c.skip_blank-start.ensures.rest c.skip_blank-start.ensures.within c.in_ok-pair.ensures.line c.in_ok-pair.ensures.shorter,
+  row_more c.args.s.now c.lines.rest.now c.after_blank-start.result.now c.in_ok-pair.after.now c.lines.row.pairs.items _ c.in_ok-pair.pair c.in-Ok.ensures.items c.lines.invariant.1
+      c.after_blank-start.ensures.rest c.after_blank-start.ensures.within c.in_ok-pair.ensures.line c.in_ok-pair.ensures.shorter,
   row_table c.lines.row.pairs.items _ c.in_ok-pair.pair c.get.result _ c.in-Ok.ensures.items c.lines.invariant.2 (sym c.is_some.ensures ∙ c.if-is_some.false) c.get.ensures,
 )

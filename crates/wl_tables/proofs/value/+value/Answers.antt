@@ -17,16 +17,16 @@ array-returns-then-first-eq93-clause-value c c' n h =
     let l = c'.items in
     let (m, room, loop) = l.invariant.2 n h in
     let closing : (first (skip_blank l.rest.now) == 93) ≡ true = grind (arith, common_steps) in
-    loop ∙ items_end (val c'.args.depth) m _ l.rest.now (omega arith) closing ∙ rw (c'.skip.ensures.rest, c'.skip_blank-start.ensures.rest)
+    loop ∙ items_end (val c'.args.depth) m _ l.rest.now (omega arith) closing ∙ rw (c'.skip.ensures.rest, c'.after_blank-start.ensures.rest)
 
 pub array-items-preserved : goal.array-items-preserved
 array-items-preserved c c' =
     let l = c'.items in
-    let start_is = c'.skip_blank-start.ensures.rest in
+    let start_is = c'.after_blank-start.ensures.rest in
     let other : (first (skip_blank l.rest.now) == 93) ≡ false = grind (arith, common_steps) in
     let shorter = c'.in_ok-item.ensures.shorter in
     let within = c'.in_ok-next.ensures.within in
-    let before = c'.skip_blank-start.ensures.within in (
+    let before = c'.after_blank-start.ensures.within in (
       search rules,
       omega (arith, l.invariant.1),
       λ n h.
@@ -42,12 +42,12 @@ inline_table-returns-then-first-eq125-clause-value c c' n h =
     let l = c'.members in
     let (m, room, loop) = l.invariant.2 n h in
     let closing : (first (skip_blank l.rest.now) == 125) ≡ true = grind (arith, common_steps) in
-    loop ∙ members_end (val c'.args.depth) m _ l.rest.now (omega arith) closing ∙ rw (c'.skip.ensures.rest, c'.skip_blank-start.ensures.rest, closed_nodes (table_view l.found))
+    loop ∙ members_end (val c'.args.depth) m _ l.rest.now (omega arith) closing ∙ rw (c'.skip.ensures.rest, c'.after_blank-start.ensures.rest, closed_nodes (table_view l.found))
 
 pub inline_table-members-preserved : goal.inline_table-members-preserved
 inline_table-members-preserved c c' =
     let l = c'.members in
-    let start_is = c'.skip_blank-start.ensures.rest in
+    let start_is = c'.after_blank-start.ensures.rest in
     let other : (first (skip_blank l.rest.now) == 125) ≡ false = grind (arith, common_steps) in
     let key : Key = ([], c'.in_ok-key.key.now) in
     let read_key : key_equals (skip_blank l.rest.now) ≡ Some (key, c'.in_ok-key.at_value.now) = rw start_is at c'.in_ok-key.ensures.key in
@@ -55,7 +55,7 @@ inline_table-members-preserved c c' =
     let shorter = c'.in_ok-key.ensures.shorter in
     let shorter_again = c'.in_ok-member.ensures.shorter in
     let within = c'.in_ok-next.ensures.within in
-    let before = c'.skip_blank-start.ensures.within in (
+    let before = c'.after_blank-start.ensures.within in (
       search rules,
       omega (arith, l.invariant.1),
       λ n h.

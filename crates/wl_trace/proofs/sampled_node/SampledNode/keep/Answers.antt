@@ -1,9 +1,9 @@
 use Rattle.std.proofs.Common.{◌∙◌, refl, sym}
 use Rattle.wl_machine.specs.Judged.{stretch_of}
-use Rattle.wl_machine.specs.Stretch.{Sampled, Stretch}
+use Rattle.wl_machine.specs.Stretch.{Sampled}
 use Rattle.wl_trace.specs.Replay.{sampled_then}
 use Rattle.wl_trace.specs.declared.sampled_node.SampledNode.{SampledNode}
-use Rattle.wl_trace.proofs.Kept.{kept, receives_by}
+use Rattle.wl_trace.proofs.Kept.{kept, lost_none}
 use Rattle.wl_trace.proofs.sampled_node.SampledNode.keep.Goals as goal
 
 pub returns-clause-past : goal.returns-clause-past
@@ -24,10 +24,9 @@ returns-clause-judged c e setup p quantum old =
     let x : Sampled = sampled_then setup p quantum c.args.level in
     c.keep.ensures.judged e p.inputs old.machine x.head x.mode
 
-pub returns-clause-receives : goal.returns-clause-receives
-returns-clause-receives c e p old =
-    let s : Stretch = stretch_of p.inputs in
-    receives_by s.sort s.own c.args.level (sym (c.keep.ensures.value p.inputs old.machine) ∙ e)
+pub returns-clause-lost : goal.returns-clause-lost
+returns-clause-lost c e p old =
+    lost_none (stretch_of p.inputs) c.args.level (sym (c.keep.ensures.value p.inputs old.machine) ∙ e)
 
 pub returns-clause-same : goal.returns-clause-same
 returns-clause-same c e p old = record {
