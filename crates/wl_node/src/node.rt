@@ -72,6 +72,16 @@ impl Node {
         self.progress.prepare()
     }
 
+    /// Takes the memory of this many runs of samples and resynchronising edges more, so that their lists needn't grow so often. It decides
+    /// nothing but speed. Refused if memory runs out. Refused or not, the node is where it was, and every reader answers as before.
+    pub fn reserve(&mut self, runs: usize, edges: usize) -> Result<(), AllocError>
+        ensures node { IsSameNode self.old self.new }
+        ensures setup { node_setup self.new ≡ node_setup self.old }
+        ensures quanta { quanta_of self.new ≡ quanta_of self.old }
+    {
+        self.progress.reserve(runs, edges)
+    }
+
     /// Runs the next quantum, at which the node sees this level. [`Node::prepare`] has made room, and fewer than
     /// [`MOST_RUN_QUANTA`](crate::MOST_RUN_QUANTA) quanta were run.
     ///

@@ -72,6 +72,18 @@ impl NodeProgress {
         self.traffic.prepare()
     }
 
+    /// Makes room for this many runs of samples and resynchronising edges more.
+    pub fn reserve(&mut self, runs: usize, edges: usize) -> Result<(), AllocError>
+        ensures same { IsSameProgress self.old self.new }
+        ensures quanta { self.new.quanta ≡ self.old.quanta }
+        ensures hards { self.new.syncs.hards ≡ self.old.syncs.hards }
+        ensures errors { self.new.traffic.errors ≡ self.old.traffic.errors }
+        ensures samples { self.new.traffic.samples.count ≡ self.old.traffic.samples.count }
+    {
+        self.syncs.reserve(edges)?;
+        self.traffic.reserve(runs)
+    }
+
     /// Runs the next quantum, at which the node sees this level: first the bit clock, and then what its beat asks for.
     pub fn run(&mut self, setup: &NodeSetup, level: Level)
         requires room { IsRoomy self.old }

@@ -110,6 +110,14 @@ impl SampleRuns {
         Ok(())
     }
 
+    /// Makes room for this many runs more.
+    pub(crate) fn reserve(&mut self, runs: usize) -> Result<(), AllocError>
+        ensures samples { samples_by self.new.runs.items ≡ samples_by self.old.runs.items }
+        ensures count { self.new.count ≡ self.old.count }
+    {
+        self.runs.reserve(runs)
+    }
+
     /// Adds a sample.
     #[inline(always)]
     pub(crate) fn push(&mut self, quantum: u64, level: Level)

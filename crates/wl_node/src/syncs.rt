@@ -31,6 +31,14 @@ impl Syncs {
         Ok(())
     }
 
+    /// Makes room for this many resynchronising edges more.
+    pub fn reserve(&mut self, edges: usize) -> Result<(), AllocError>
+        ensures phases { self.new.phases.items ≡ self.old.phases.items }
+        ensures hards { self.new.hards ≡ self.old.hards }
+    {
+        self.phases.reserve(edges)
+    }
+
     /// True only if there is room for one more.
     pub fn has_room(&self) -> bool
         ensures { result ≡ true → vec_len self.now.phases < vec_capacity self.now.phases }

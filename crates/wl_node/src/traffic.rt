@@ -146,6 +146,15 @@ impl Traffic {
         Ok(())
     }
 
+    /// Makes room for this many runs of samples more.
+    pub fn reserve(&mut self, runs: usize) -> Result<(), AllocError>
+        ensures errors { self.new.errors ≡ self.old.errors }
+        ensures count { self.new.samples.count ≡ self.old.samples.count }
+        ensures same { (setup : NodeSetup) (h : History) → IsTraffic setup self.old h → IsTraffic setup self.new h }
+    {
+        self.samples.reserve(runs)
+    }
+
     /// Takes a sample at this quantum if the machine only keeps it: it is stored, and nothing else comes of it. Else returns false, and
     /// nothing changes.
     #[inline(always)]

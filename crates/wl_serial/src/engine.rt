@@ -42,13 +42,24 @@ pub fn run_serial(alloc: Global, plan: &Plan) -> Result<Outcome, AllocError>
     })
 }
 
+/// True if a node has a frame to send. It decides nothing but how much memory the nodes take at first.
+fn any_sends(plan: &Checked) -> bool {
+    for i in 0..plan.nodes() {
+        if 0 < plan.node(i).queue.len() {
+            return true;
+        }
+    }
+    false
+}
+
 /// Returns all nodes before their first quanta.
 fn begin(alloc: Global, plan: &Checked) -> Result<Vec<Running>, AllocError>
     ensures { IfOk result (λ running. AreRunning plan.now running.items) }
 {
+    let busy = any_sends(plan);
     let mut running = Vec::new(alloc);
     for i in 0..plan.nodes() {
-        running.push(Running::begin(alloc, plan, i)?)?;
+        running.push(Running::begin(alloc, plan, i, busy)?)?;
     }
     Ok(running)
 }

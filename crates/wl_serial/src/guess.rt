@@ -76,7 +76,7 @@ impl Engine {
 fn keep(alloc: Global, running: &[Running]) -> Result<Vec<Before>, AllocError>
     ensures { IfOk result (λ marks. AreBefore running.now marks.items) }
 {
-    let mut marks = Vec::new(alloc);
+    let mut marks = Vec::with_capacity(alloc, running.len())?;
     for i in 0..running.len() {
         marks.push(running[i].keep())?;
     }

@@ -5,8 +5,9 @@ ghost use Rattle.wl_level.specs.Levels.{same};
 ghost use Rattle.wl_plan.specs.Checked.{IsChecked};
 ghost use Rattle.wl_plan.specs.declared.plan.Plan.{Plan as GivenPlan};
 ghost use Rattle.wl_node.specs.Marks.{HasPassed};
-ghost use Rattle.wl_node.specs.Reached.{IsNode, quanta_of};
+ghost use Rattle.wl_node.specs.Reached.{IsNode, node_setup, quanta_of};
 ghost use Rattle.wl_plan.specs.Limits.{most_quanta};
+ghost use Rattle.wl_plan.specs.PlanLine.{setup_at};
 ghost use Rattle.wl_serial.specs.declared.running_node.Running.{Running as GivenRunning};
 ghost use Rattle.wl_serial.specs.Guess.{IsBefore, IsBack};
 ghost use Rattle.wl_serial.specs.Outcome.{node_outcome_of};
@@ -47,8 +48,13 @@ pub(crate) struct Before {
 const MOST_BITS: u64 = 118;
 
 impl Running {
-    /// Returns node `i` before its first quantum.
-    pub(crate) fn begin(alloc: Global, plan: &Checked, i: usize) -> Result<Running, AllocError>
+    /// Returns node `i` before its first quantum. With `busy` it has room for what a node samples on a bus that is never idle.
+    pub(crate) fn begin(
+        alloc: Global,
+        plan: &Checked,
+        i: usize,
+        busy: bool,
+    ) -> Result<Running, AllocError>
         requires node { i < length plan.now.nodes }
         ensures { IfOk result (IsRunning plan.now i) }
     {
@@ -57,7 +63,7 @@ impl Running {
         let setup = plan.node(i);
         let next = setup.clock.at(0);
         Ok(Running {
-            node: Node::new(alloc, setup.clone_in(alloc)?)?,
+            node: new_node(alloc, plan, i, busy)?,
             changes: Listed::new(alloc),
             next,
             known: next,
@@ -249,6 +255,23 @@ impl Running {
             unsent,
         }
     }
+}
+
+/// Returns node `i` before its first quantum. With `busy` it has room for 5 runs of samples in 8 bits up to the end, and for an edge in 5 bits:
+/// most frames have no more of them. More room is made where it is needed.
+fn new_node(alloc: Global, plan: &Checked, i: usize, busy: bool) -> Result<Node, AllocError>
+    requires node { i < length plan.now.nodes }
+    ensures node { IfOk result (IsNode []) }
+    ensures setup { IfOk result (λ node. node_setup node ≡ setup_at plan.now i) }
+{
+    plan.laws();
+    let setup = plan.node(i);
+    let mut node = Node::new(alloc, setup.clone_in(alloc)?)?;
+    if busy {
+        let bits = setup.clock.first_not_before(plan.end()) / setup.segments.bit_quanta();
+        node.reserve((bits / 8 * 5) as usize, (bits / 5) as usize)?;
+    }
+    Ok(node)
 }
 
 /// Adds the tick of a quantum that changed the drive, and returns it; nothing if the drive is as before.

@@ -9,7 +9,7 @@ returns c =
     begins c.args.plan.now c.args.i _ c.simulation_laws.ensures c.laws.ensures.sound c.requires.node
     (c.at-next.ensures.tick ∙ ap (λ u. tick_of u.clock 0) c.node-setup.ensures)
     refl
-    (c.in_ok-new.ensures.setup ∙ (c.in_ok-clone_in.ensures ∙ c.node-setup.ensures))
-    (c.in_ok-new.ensures.node.place.quanta ∙ c.in_ok-new.ensures.node.counted)
-    c.in_ok-new.ensures.node
-    c.new-2.ensures
+    c.in_ok-new_node.ensures.setup
+    (c.in_ok-new_node.ensures.node.place.quanta ∙ c.in_ok-new_node.ensures.node.counted)
+    c.in_ok-new_node.ensures.node
+    c.new.ensures
