@@ -1,3 +1,4 @@
+mod Guesses
 mod Rows
 pub mod Runs
 pub mod Ticks

@@ -117,7 +117,7 @@ pub struct Clock {
     offset: u64,
     count: usize,
     rates: [Rate; MOST_RATES],
-    /// By what quotients by the first rate's denominator and numerator are guessed.
+    /// What `quotient` multiplies by in place of a division by the first rate's denominator, and by its numerator.
     inverse_of_den: u64,
     inverse_of_num: u64,
 }

@@ -1,5 +1,5 @@
 //! Stretches of quanta that go at one rate each.
-ghost use Rattle.std.specs.Prelude.{◌≡◌, ℕ, ◌+◌, ◌-◌, ◌*◌, ◌^◌, ◌<◌, ◌≤◌, IsTrue, All, ◌∷◌};
+ghost use Rattle.std.specs.Prelude.{◌≡◌, ℕ, ◌+◌, ◌-◌, ◌*◌, ◌/◌, ◌^◌, ◌<◌, ◌≤◌, IsTrue, All, ◌∷◌};
 ghost use Rattle.wl_clock.specs.Timing.{IsRate, begin_after, slowest_rate, ticks_at_rate, ticks_after};
 
 use crate::Rate;
@@ -29,9 +29,10 @@ fn first_at(rate: &Rate, ticks: u64) -> u64
     rate.from + wanted.div_ceil(rate.num) as u64
 }
 
-/// Returns what `stretch` does; a quotient by the denominator is guessed by this inverse.
+/// Returns what `stretch` does; the inverse is that of the denominator.
 pub fn quick_stretch(rate: &Rate, inverse: u64, k: u64) -> u64
     requires rate { IsRate rate.now }
+    requires inverse { inverse ≡ (2 ^ 64 - 1) / rate.now.den }
     requires begun { rate.now.from ≤ k }
     requires near { k ≤ 2 ^ 21 }
     ensures ticks { result ≡ ticks_at_rate rate.now k }
@@ -40,9 +41,10 @@ pub fn quick_stretch(rate: &Rate, inverse: u64, k: u64) -> u64
     quotient((k - rate.from) * rate.num as u64, rate.den, inverse)
 }
 
-/// Returns what `first_at` does; a quotient by the numerator is guessed by this inverse.
+/// Returns what `first_at` does; the inverse is that of the numerator.
 pub fn quick_first(rate: &Rate, inverse: u64, ticks: u64) -> u64
     requires rate { IsRate rate.now }
+    requires inverse { inverse ≡ (2 ^ 64 - 1) / rate.now.num }
     requires some { 0 < ticks }
     requires near { ticks ≤ 2 ^ 44 }
     ensures reached { ticks ≤ ticks_at_rate rate.now result }
