@@ -7,6 +7,7 @@ Prints for each input the least wall and processor time of both in milliseconds,
 """
 import hashlib
 import os
+import re
 import subprocess
 import sys
 import tempfile
@@ -20,6 +21,10 @@ HERE = os.path.dirname(os.path.abspath(__file__))
 
 def made(script, *words):
     return subprocess.run([sys.executable, os.path.join(HERE, script), *words], capture_output=True, check=True).stdout
+
+
+def undisturbed(plan):
+    return re.sub(rb"\n\[\[disturbance\]\]\n(?:.+\n)+", b"", plan)
 
 
 SILENT = """version = 1
@@ -42,6 +47,8 @@ in = 1
 INPUTS = [
     ("run, busy: 16 nodes, 64 frames each", "run", lambda: worst.plan().encode()),
     ("run, busy, drifting, 16 disturbances (plan.py)", "run", lambda: made("plan.py")),
+    ("run, the same without disturbances", "run", lambda: undisturbed(made("plan.py"))),
+    ("run, the same plan with 1,040,000 quanta a node", "run", lambda: made("plan.py", "21", "1040000")),
     ("run, a pair, one sends all the time", "run", lambda: worst.plan(nodes=2, senders=1).encode()),
     ("run, one silent node to 2^36 ticks, 65,536 quanta", "run", lambda: SILENT.encode()),
     ("run, one silent node, 1,048,000 quanta", "run", lambda: worst.plan(nodes=1, frames=0, quanta=1_048_000, num=65_535).encode()),
