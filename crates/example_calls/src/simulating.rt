@@ -76,7 +76,8 @@ fn simulated(alloc: Global) -> Result<Outcome> {
 
 /// Returns the report of an outcome.
 fn report_of(alloc: Global, outcome: &Outcome) -> Result<String> {
-    String::from_utf8(report(alloc, outcome)?)
+    let totals = outcome.totals(alloc)?;
+    String::from_utf8(report(alloc, &totals)?)
         .ok()
         .context("reports are letters and digits")
 }

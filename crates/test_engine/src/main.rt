@@ -1,7 +1,7 @@
 //! `test_engine`: runs plans by two engines, and compares their outcomes.
 //!
 //! Standard input has plan texts with a line `---` between two of them. One engine is `run_serial`, which jumps over all quanta in which
-//! nothing can happen. The other one, which is only here, runs a quantum at a time in order of ticks. It asks every change of every node
+//! nothing can happen; so does `run_totals`, which only counts samples, and whose report is compared. The other one, which is only here, runs a quantum at a time in order of ticks. It asks every change of every node
 //! and every disturbance for the level: what the definition of the simulation says, and no more. For each plan a line says how many quanta,
 //! samples, frames and changes there were, or what differs at which node, or that the plan is refused.
 #![tactic(auto)]
@@ -13,7 +13,7 @@ use anyhow::Result;
 use std::alloc::Global;
 use test_words::answer_blocks;
 use wl_device::Host;
-use wl_serial::run_serial;
+use wl_serial::{run_serial, run_totals};
 use wl_setup::read_plan;
 
 fn main(rt: HostRuntime) -> Result<()> {
@@ -29,6 +29,7 @@ fn both(alloc: Global, text: &str) -> Result<String> {
         return Ok(String::from_str(alloc, "refused")?);
     };
     let jumping = run_serial(alloc, &plan)?;
+    let counted = run_totals(alloc, &plan)?;
     let ticking = ticks::run(alloc, &plan)?;
-    same::tell(alloc, &jumping, &ticking)
+    same::tell(alloc, &jumping, &counted, &ticking)
 }

@@ -3,21 +3,32 @@
 use anyhow::Result;
 use std::alloc::Global;
 use wl_report::report;
-use wl_serial::{NodeOutcome, Outcome};
+use wl_serial::{NodeOutcome, Outcome, Totals};
 
-/// Writes how much happened if the two are the same, and else what differs.
-pub fn tell(alloc: Global, one: &Outcome, other: &Outcome) -> Result<String> {
+/// Writes how much happened if the two are the same, and the report by totals too, and else what differs.
+pub fn tell(alloc: Global, one: &Outcome, totals: &Totals, other: &Outcome) -> Result<String> {
     let mut told = String::new(alloc);
     if let Some((i, what)) = first_difference(alloc, one, other)? {
         write!(told, "differs: node {i}, {what}")?;
         return Ok(told);
     }
-    if report(alloc, one)?.as_slice() != report(alloc, other)?.as_slice() {
+    let ticking = report_of(alloc, other)?;
+    if report_of(alloc, one)?.as_slice() != ticking.as_slice() {
         told.push_str("differs: the report")?;
+        return Ok(told);
+    }
+    if report(alloc, totals)?.as_slice() != ticking.as_slice() {
+        told.push_str("differs: the report by totals")?;
         return Ok(told);
     }
     tell_sums(one, &mut told)?;
     Ok(told)
+}
+
+/// Returns the report of an outcome.
+fn report_of(alloc: Global, outcome: &Outcome) -> Result<Vec<u8>> {
+    let totals = outcome.totals(alloc)?;
+    Ok(report(alloc, &totals)?)
 }
 
 /// Returns the first node at which the two differ, and in what.

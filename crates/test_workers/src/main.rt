@@ -53,7 +53,7 @@ use std::sync::Wait;
 use std::thread::Threads;
 use wl_device::Host;
 use wl_report::report;
-use wl_serial::run_serial;
+use wl_serial::run_totals;
 use wl_setup::read_checked;
 
 fn main(rt: HostRuntime) -> Result<()> {
@@ -70,7 +70,7 @@ fn answer<R: Threads + Wait + Sync + Print + AllocGlobal>(rt: &R, text: &str) ->
     let alloc = rt.alloc();
     let (steps, text) = steps::read(alloc, text)?;
     let (plan, _) = read_checked(alloc, &mut Host::new(text.as_bytes()))?;
-    let alone = report(alloc, &run_serial(alloc, &plan)?)?;
+    let alone = report(alloc, &run_totals(alloc, &plan)?)?;
     for step in steps.as_slice() {
         let said = runs::answer(rt, alloc, &plan, alone.as_slice(), *step)?;
         println!(rt; "{said}")?;

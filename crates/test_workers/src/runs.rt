@@ -55,7 +55,8 @@ impl Display for End {
 fn end_of(alloc: Global, alone: &[u8], ran: Result<Outcome, Fault>) -> Result<End, AllocError> {
     match ran {
         Ok(outcome) => {
-            if report(alloc, &outcome)?.as_slice() == alone {
+            let totals = outcome.totals(alloc)?;
+            if report(alloc, &totals)?.as_slice() == alone {
                 return Ok(End::AsOneThread);
             }
             Ok(End::Differs)

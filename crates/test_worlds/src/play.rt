@@ -94,7 +94,8 @@ fn tell_report(alloc: Global, world: &World, told: &mut String) -> Result<(), Fa
         return Ok(());
     }
     let outcome = world.outcome(alloc)?;
-    match String::from_utf8(report(alloc, &outcome)?) {
+    let totals = outcome.totals(alloc)?;
+    match String::from_utf8(report(alloc, &totals)?) {
         Ok(text) => told.push_str(text.as_str())?,
         Err(_) => return Err(Fault::Device),
     }

@@ -9,7 +9,7 @@ use Rattle.wl_explain.specs.Condition.{IsExplanation}
 use Rattle.wl_margin.specs.Margins.{IsMarginText}
 use Rattle.wl_page.specs.Page.{page_of}
 use Rattle.wl_report.specs.Report.{report_text}
-use Rattle.wl_serial.specs.Outcome.{outcome_of}
+use Rattle.wl_serial.specs.Outcome.{outcome_of, totals_of}
 use Rattle.wl_setup.specs.Check.{IsPlanCheck}
 use Rattle.wl_setup.specs.Limits.{most_bytes}
 use Rattle.wl_setup.specs.declared.bus.Bus.{Bus}
@@ -34,7 +34,7 @@ IsPage tick text bus whole =
       settings = settings;
       margin = margin;
       traffic = traffic_text tick bus.plan bus.names;
-      report = report_text (outcome_of bus.plan);
+      report = report_text (totals_of (outcome_of bus.plan));
       plan = text;
       trace = trace_text bus.plan bus.names;
       wave = vcd_text tick bus.plan bus.names;

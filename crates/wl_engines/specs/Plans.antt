@@ -6,7 +6,7 @@ use Rattle.wl_record_core.specs.Text.{text_of}
 use Rattle.wl_record_core.specs.Within.{IsWithin}
 use Rattle.wl_plan.specs.declared.plan.Plan.{Plan}
 use Rattle.wl_plan.specs.PlanLine.{IsTrueOfPlan}
-use Rattle.wl_serial.specs.Outcome.{outcome_of}
+use Rattle.wl_serial.specs.Outcome.{outcome_of, totals_of}
 use Rattle.wl_serial.specs.Records.{outcome_records}
 use Rattle.wl_report.specs.Report.{report_text}
 use Rattle.wl_views.specs.declared.tick.Tick.{Tick}
@@ -29,7 +29,7 @@ IsRecordsOutput plan names text = (text ≡ records_text plan) × All (λ told. 
 
 -- the report of the one-thread simulation
 abbrev pub IsRunOutput : Plan → List (List ℕ) → List ℕ → Type 0
-IsRunOutput plan names text = text ≡ report_text (outcome_of plan)
+IsRunOutput plan names text = text ≡ report_text (totals_of (outcome_of plan))
 
 -- the log of the frames that the one-thread simulation sends, at ticks that last so long, the first of them at this second
 abbrev pub IsCandumpOutput : Tick → ℕ → Plan → List (List ℕ) → List ℕ → Type 0

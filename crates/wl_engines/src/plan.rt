@@ -1,6 +1,6 @@
 //! Returns the report of a plan's simulation.
 ghost use Rattle.std.specs.Prelude.{◌≡◌, IfOk};
-ghost use Rattle.wl_serial.specs.Outcome.{outcome_of};
+ghost use Rattle.wl_serial.specs.Outcome.{outcome_of, totals_of};
 ghost use Rattle.wl_report.specs.Report.{report_text};
 ghost use Rattle.wl_engines.specs.Plans.{RunsPlan, IsRunOutput};
 
@@ -9,15 +9,15 @@ use std::alloc::{AllocError, Global};
 use wl_device::{Sink, Source, write_all};
 use wl_plan::CheckedPlan;
 use wl_report::report;
-use wl_serial::run_serial;
+use wl_serial::run_totals;
 use wl_setup::read_checked;
 
 /// Returns the report of a plan's simulation.
 fn report_of(alloc: Global, plan: &CheckedPlan) -> Result<Vec<u8>, AllocError>
-    ensures { IfOk result (λ text. text.items ≡ report_text (outcome_of plan.now)) }
+    ensures { IfOk result (λ text. text.items ≡ report_text (totals_of (outcome_of plan.now))) }
 {
-    let outcome = run_serial(alloc, plan)?;
-    report(alloc, &outcome)
+    let totals = run_totals(alloc, plan)?;
+    report(alloc, &totals)
 }
 
 /// Reads a plan's text, simulates the plan on one thread, and writes the report: for each node its counters and the frames that passed, and

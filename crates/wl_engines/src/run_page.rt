@@ -47,7 +47,8 @@ fn page_of_bus(alloc: Global, tick: Tick, text: &[u8], bus: &Bus) -> Result<Vec<
     let margin = margin_text(alloc, tick.picoseconds(), bus)?;
     let outcome = run_serial(alloc, plan)?;
     let traffic = traffic_of(alloc, tick, plan, names, &outcome)?;
-    let report = report(alloc, &outcome)?;
+    let totals = outcome.totals(alloc)?;
+    let report = report(alloc, &totals)?;
     let trace = trace(alloc, plan, names, &outcome)?;
     let wave = wave_of(alloc, tick, plan, names, &outcome)?;
     page(

@@ -1,6 +1,6 @@
 //! The report of a plan's simulation, by workers.
 ghost use Rattle.std.specs.Prelude.{◌≡◌, IfOk, IfErr};
-ghost use Rattle.wl_serial.specs.Outcome.{outcome_of};
+ghost use Rattle.wl_serial.specs.Outcome.{outcome_of, totals_of};
 ghost use Rattle.wl_report.specs.Report.{report_text};
 ghost use Rattle.wl_engines.specs.Workers.{CanWork, IsWorkFault, RunsByWorkers};
 
@@ -36,12 +36,13 @@ fn report_by<H: Threads + Wait + Sync>(
     workers: u8,
     kind: LinkKind,
 ) -> Result<Vec<u8>, RunFault>
-    ensures text { IfOk result (λ text. text.items ≡ report_text (outcome_of plan)) }
+    ensures text { IfOk result (λ text. text.items ≡ report_text (totals_of (outcome_of plan))) }
     ensures count { IfOk result (λ _. CanWork workers) }
     ensures fault { IfErr result (IsWorkFault workers) }
 {
     let outcome = simulate_by(rt, alloc, &plan, workers, kind, &OpenGate)?;
-    Ok(report(alloc, &outcome)?)
+    let totals = outcome.totals(alloc)?;
+    Ok(report(alloc, &totals)?)
 }
 
 /// Reads a plan's text, simulates the plan by `workers` workers, and writes the report of the one-thread simulation (`plan_run`). Each

@@ -9,7 +9,7 @@ use Rattle.wl_record_core.specs.declared.record.Record.{Record}
 use Rattle.wl_record_core.specs.declared.record.Record.TheVariants.{Edge, Clash, Silence}
 use Rattle.wl_record_core.specs.Truth.{count_below, IsTrueOf}
 use Rattle.wl_node.specs.declared.node.Node.{Node}
-use Rattle.wl_node.specs.Reached.{IsNode, node_setup, quanta_of}
+use Rattle.wl_node.specs.Reached.{IsNode, keeps_lists, node_setup, quanta_of}
 use Rattle.wl_replica.specs.State.{State, state_of, state_with_record, states_joined, slots_of, Fits, IsOfRecords}
 use Rattle.wl_replica.specs.Slots.{HoldsTrue}
 use Rattle.wl_plan.specs.declared.plan.Plan.{Plan}
@@ -103,13 +103,14 @@ kept_member plan cells replica emitted i cell e = ap (member_at (line_of plan) i
 -- ---- fresh nodes
 
 pub fresh_kept : (plan : Plan) (i : ℕ) (node : Node) (next : ℕ) (ways : List ℕ) → SimulationLaws → IsSound (line_of plan) → i < length plan.nodes
-    → node_setup node ≡ setup_at plan i → IsNode [] node → quanta_of node ≡ 0 → next ≡ (line_of plan).instant i 0 → AreWays plan i ways
+    → node_setup node ≡ setup_at plan i → keeps_lists node ≡ true → IsNode [] node → quanta_of node ≡ 0 → next ≡ (line_of plan).instant i 0 → AreWays plan i ways
     → (member : Cell) → Some (record { node = node; changed = 0; next = next; ways = ways }) ≡ Some member → IsCell plan i member
 unfolding seen
-fresh_kept plan i node next ways laws sound b es is q at to member e =
+fresh_kept plan i node next ways laws sound b es ks is q at to member e =
     let f : record { node = node; changed = 0; next = next; ways = ways } ≡ member = some_is (record { node = node; changed = 0; next = next; ways = ways }) member e in
     subst (IsCell plan i) f (record {
       setup = es;
+      keeps = ks;
       node = subst (λ n. IsNode (seen (line_of plan) i n) node) (sym q) is;
       changed = sym (laws.none_at_first (line_of plan) i sound.causal b) ∙ ap (λ n. count_below ((line_of plan).instant i n) (table_of plan i)) (sym q);
       next = at ∙ ap ((line_of plan).instant i) (sym q);

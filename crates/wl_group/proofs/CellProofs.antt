@@ -106,6 +106,7 @@ module _ (level before after : Level) (b : Bool) (ran quanta : ℕ) (old new : C
     unfolding saw
     after_cell = record {
       setup = setup_new;
+      keeps = w.gone.keeps ∙ held.keeps;
       node = is_new;
       changed = changed_new;
       next = next_new;

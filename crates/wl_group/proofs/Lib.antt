@@ -12,6 +12,7 @@ mod RunProofs
 mod RowProofs
 mod ThroughProofs
 mod SpokenProofs
+mod StoppedProofs
 mod GoneProofs
 mod OverProofs
 mod WayProofs

@@ -121,7 +121,7 @@ module _ (laws : ValueLaws) (sound : CheckedIsSound) (plan : Plan) (cells : List
     pub own : IsCellOf plan i (members_now (group_value plan cells replica emitted) i) cell
     own =
         let c = kept.placed i cell is in
-        subst (λ m. IsCellOf plan i m cell) (sym member_is) (record { setup = c.setup; node = c.node; changed = c.changed; next = c.next; ways = c.ways })
+        subst (λ m. IsCellOf plan i m cell) (sym member_is) (record { setup = c.setup; keeps = c.keeps; node = c.node; changed = c.changed; next = c.next; ways = c.ways })
 
     -- a list of cells in which it has another state
     module _ (new : Cell) where
@@ -146,9 +146,9 @@ module _ (laws : ValueLaws) (sound : CheckedIsSound) (plan : Plan) (cells : List
         pub kept_stays : IsKept plan (set cells i (Some new)) replica_new emitted_new
         kept_stays =
             let c = kept.placed i cell is in
-            let s = not.same plan i (member_after (line_of plan) i (quanta_of cell.node)) (record { setup = c.setup; node = c.node; changed = c.changed; next = c.next; ways = c.ways }) in
+            let s = not.same plan i (member_after (line_of plan) i (quanta_of cell.node)) (record { setup = c.setup; keeps = c.keeps; node = c.node; changed = c.changed; next = c.next; ways = c.ways }) in
             let at : IsCellOf plan i (member_after (line_of plan) i (quanta_of new.node)) new = subst (λ k. IsCellOf plan i (member_after (line_of plan) i k) new) (sym not.quanta) s in
             record {
               value = subst IsGroupValue (sym value_stays) kept.value;
-              placed = cells_new (record { setup = at.setup; node = at.node; changed = at.changed; next = at.next; ways = at.ways });
+              placed = cells_new (record { setup = at.setup; keeps = at.keeps; node = at.node; changed = at.changed; next = at.next; ways = at.ways });
             }

@@ -1,9 +1,9 @@
 -- What a group keeps of its members: a node for each, which is where its plan's simulation has it. This project's profile.
-use Rattle.std.specs.Prelude.{◌≡◌, ℕ, List, map, Option, None, Some, slice_index_or}
+use Rattle.std.specs.Prelude.{◌≡◌, ℕ, List, map, Option, None, Some, true, slice_index_or}
 use Rattle.wl_record_core.specs.declared.record.Record.{Record}
 use Rattle.wl_record_core.specs.Truth.{count_below}
 use Rattle.wl_replica.specs.State.{State}
-use Rattle.wl_node.specs.Reached.{IsNode, node_setup, quanta_of}
+use Rattle.wl_node.specs.Reached.{IsNode, keeps_lists, node_setup, quanta_of}
 use Rattle.wl_plan.specs.declared.plan.Plan.{Plan}
 use Rattle.wl_plan.specs.PlanLine.{setup_at, line_of, table_of}
 use Rattle.wl_plan.specs.Simulation.{seen}
@@ -23,9 +23,10 @@ ran_of cells = map quanta_kept cells
 abbrev pub group_value : Plan → List (Option Cell) → State → List Record → GroupValue
 group_value plan cells replica emitted = record { plan = plan; ran = ran_of cells; replica = replica; emitted = emitted }
 
--- The node of a member is node i of the plan after its quanta, its changes were counted, and the tick of its next quantum and the ways to it are there.
+-- The node of a member is node i of the plan after its quanta, it lists its samples, its changes were counted, and the tick of its next quantum and the ways to it are there.
 pub record IsCell (plan : Plan) (i : ℕ) (cell : Cell) : Type 0 where
   pub setup : node_setup cell.node ≡ setup_at plan i
+  pub keeps : keeps_lists cell.node ≡ true
   pub node : IsNode (seen (line_of plan) i (quanta_of cell.node)) cell.node
   pub changed : cell.changed ≡ count_below ((line_of plan).instant i (quanta_of cell.node)) (table_of plan i)
   pub next : cell.next ≡ (line_of plan).instant i (quanta_of cell.node)

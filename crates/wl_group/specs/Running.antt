@@ -6,7 +6,7 @@ use Rattle.wl_record_core.specs.declared.record.Slot.{Slot}
 use Rattle.wl_record_core.specs.declared.record.Slot.TheVariants.{EdgeAt, SilenceAt}
 use Rattle.wl_record_core.specs.Truth.{AreTrueOf}
 use Rattle.wl_replica.specs.State.{slots_of}
-use Rattle.wl_node.specs.Reached.{IsNode, node_setup, quanta_of}
+use Rattle.wl_node.specs.Reached.{IsNode, keeps_lists, node_setup, quanta_of}
 use Rattle.wl_plan.specs.declared.plan.Plan.{Plan}
 use Rattle.wl_plan.specs.Limits.{most_quanta}
 use Rattle.wl_plan.specs.Line.{Line}
@@ -21,6 +21,7 @@ use Rattle.wl_group.specs.GroupValue.{GroupValue, IsGroupValue, Matches, quanta_
 -- What a group keeps of node i stands where this member of the machine does.
 pub record IsCellOf (plan : Plan) (i : ℕ) (m : Member) (cell : Cell) : Type 0 where
   pub setup : node_setup cell.node ≡ setup_at plan i
+  pub keeps : keeps_lists cell.node ≡ true
   pub node : IsNode m.saw cell.node
   pub changed : cell.changed ≡ m.changed
   pub next : cell.next ≡ (line_of plan).instant i (quanta_of cell.node)

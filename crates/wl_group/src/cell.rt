@@ -4,7 +4,7 @@ ghost use Rattle.std.specs.Prelude.{◌≡◌, ◌+◌, ◌<◌, ◌≤◌, leng
 ghost use Rattle.wl_level.specs.declared.Level.{Level as GivenLevel};
 ghost use Rattle.wl_record_core.specs.Limits.{most_edges};
 ghost use Rattle.wl_node.specs.Limits.{most_quiet, most_run_quanta};
-ghost use Rattle.wl_node.specs.Reached.{quanta_of, node_setup, HasGone as NodeHasGone, IsSameNode};
+ghost use Rattle.wl_node.specs.Reached.{quanta_of, keeps_lists, node_setup, HasGone as NodeHasGone, IsSameNode};
 ghost use Rattle.wl_plan.specs.Limits.{most_quanta};
 ghost use Rattle.wl_plan.specs.PlanLine.{line_of};
 ghost use Rattle.wl_plan.specs.Simulation.{AreInside};
@@ -42,6 +42,7 @@ fn run_some(node: &mut Node, level: Level, most: u64) -> Result<u64, AllocError>
     ensures same { OnErr result (IsSameNode node.old node.new) }
     ensures setup { OnErr result (node_setup node.new ≡ node_setup node.old) }
     ensures quanta { OnErr result (quanta_of node.new ≡ quanta_of node.old) }
+    ensures keeps { keeps_lists node.new ≡ keeps_lists node.old }
 {
     let before = node.quanta();
     match node.go(level, most) {

@@ -57,7 +57,7 @@ impl Group {
     ghost use Rattle.wl_record_core.specs.declared.record.Record.{Record};
     ghost use Rattle.wl_replica.specs.State.{state_of, slots_of};
     ghost use Rattle.wl_replica.specs.Slots.{HoldsTrue};
-    ghost use Rattle.wl_node.specs.Reached.{IsNode, node_setup, quanta_of};
+    ghost use Rattle.wl_node.specs.Reached.{IsNode, keeps_lists, node_setup, quanta_of};
     ghost use Rattle.wl_plan.specs.Checked.{IsChecked};
     ghost use Rattle.wl_plan.specs.PlanLine.{setup_at, line_of, table_of, IsTrueOfPlan};
     ghost use Rattle.wl_group.specs.Party.{Party, initial_party, party_with};
@@ -219,12 +219,13 @@ impl Group {
         &self.replica
     }
 
-    /// Returns a member's node. It is where the one-thread simulation has it after the same number of quanta.
+    /// Returns a member's node. It is where the one-thread simulation has it after the same number of quanta, and it lists its samples.
     pub fn node(&self, i: u8) -> &Node
         requires { belongs self.now i ≡ true }
         ensures node { IsNode (members_now self.now i).saw result.now }
         ensures setup { node_setup result.now ≡ setup_at self.now.plan i }
         ensures quanta { quanta_at self.now i ≡ Some (quanta_of result.now) }
+        ensures keeps { keeps_lists result.now ≡ true }
         ensures holds { IsGroupValue self.now }
     {
         match &self.cells[i as usize] {

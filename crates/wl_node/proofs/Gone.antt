@@ -7,7 +7,7 @@ use Rattle.wl_level.specs.declared.Level.{Level}
 use Rattle.wl_node.specs.declared.setup.NodeSetup.{NodeSetup}
 use Rattle.wl_node.specs.declared.node.Node.{Node}
 use Rattle.wl_node.specs.History.{history_of}
-use Rattle.wl_node.specs.Reached.{node_setup, quanta_of, IsNode, IsSameNode, Shows, StandsFor, TurnsAfter, HasGone, HasSeen, HasStopped}
+use Rattle.wl_node.specs.Reached.{keeps_lists, node_setup, quanta_of, IsNode, IsSameNode, Shows, StandsFor, TurnsAfter, HasGone, HasSeen, HasStopped}
 
 -- the drive after these levels
 abbrev drive_by : NodeSetup → List Level → Level
@@ -25,15 +25,17 @@ gone_none node level = record {
   node = λ levels is. subst (λ more. IsNode more node) (sym (append-nil levels)) is;
   setup = refl;
   quanta = omega arith;
+  keeps = refl;
   stood = λ m h. absurd (omega arith);
 }
 
 pub gone_same : {level : Level} {n : ℕ} {old mid new : Node} → HasGone level n old mid → IsSameNode mid new → node_setup new ≡ node_setup mid → quanta_of new ≡ quanta_of mid
-    → HasGone level n old new
-gone_same g same setup quanta = record {
+    → keeps_lists new ≡ keeps_lists mid → HasGone level n old new
+gone_same g same setup quanta keeps = record {
   node = λ levels is. same _ (g.node levels is);
   setup = setup ∙ g.setup;
   quanta = quanta ∙ g.quanta;
+  keeps = keeps ∙ g.keeps;
   stood = g.stood;
 }
 
@@ -58,6 +60,7 @@ module _ (level : Level) (a b : ℕ) (old mid new : Node) (first : HasGone level
     node = λ levels is. subst (λ more. IsNode more new) (joined levels level a b) (second.node (levels ++ replicate a level) (first.node levels is));
     setup = second.setup ∙ first.setup;
     quanta = (let e = first.quanta in let f = second.quanta in omega arith);
+    keeps = second.keeps ∙ first.keeps;
     stood = stood_in;
   }
 
@@ -76,11 +79,12 @@ module _ (level : Level) (a b : ℕ) (old mid new : Node) (first : HasGone level
       ∙ sym (ap (λ setup. drive_by setup (levels ++ replicate a level)) first.setup))
 
 -- one quantum
-pub gone_one : {level : Level} {old new : Node} → HasSeen level old new → node_setup new ≡ node_setup old → quanta_of new ≡ quanta_of old + 1 → HasGone level 1 old new
-gone_one {level} {old} {new} seen setup quanta = record {
+pub gone_one : {level : Level} {old new : Node} → HasSeen level old new → node_setup new ≡ node_setup old → quanta_of new ≡ quanta_of old + 1 → keeps_lists new ≡ keeps_lists old → HasGone level 1 old new
+gone_one {level} {old} {new} seen setup quanta keeps = record {
   node = seen;
   setup = setup;
   quanta = quanta;
+  keeps = keeps;
   stood = λ m h. subst (λ (k : ℕ). StandsFor old level k) (let e : 0 ≡ m = omega arith in e) (stands_first old level);
 }
 

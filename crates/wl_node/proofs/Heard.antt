@@ -26,6 +26,7 @@ traffic_seen setup kept h seen is = record {
   sent = is.sent;
   errors = is.errors;
   samples = is.samples;
+  sampled = is.sampled;
   frames = is.frames;
   sends = is.sends;
 }
@@ -63,9 +64,9 @@ module _ (setup : NodeSetup) (levels : List Level) (level : Level) (n : ℕ)
 
   -- where it puts what a node keeps
   pub heard_place : (old new : NodeProgress) → IsProgress setup old levels → new.clock ≡ clock_after setup.segments (h.seen ++ replicate (suc n) x) → new.drive ≡ old.drive
-      → new.syncs ≡ old.syncs → new.quanta ≡ old.quanta + suc n → IsTraffic setup new.traffic (history_after_sample setup up_to level)
+      → new.syncs ≡ old.syncs → new.traffic.samples.keeps ≡ old.traffic.samples.keeps → new.quanta ≡ old.quanta + suc n → IsTraffic setup new.traffic (history_after_sample setup up_to level)
       → IsProgress setup new (levels ++ replicate (suc n) level)
-  heard_place old new was clock drive syncs quanta traffic =
+  heard_place old new was clock drive syncs keeps quanta traffic =
       let long : length after.seen ≡ length h.seen + suc n = length-append h.seen (replicate (suc n) x) ∙ ap (λ k. length h.seen + k) (length-replicate (suc n) x) in
       record {
         counted = ap (λ (k : History). length k.seen) heard_history ∙ long ∙ ap (λ k. k + suc n) was.counted
@@ -74,7 +75,12 @@ module _ (setup : NodeSetup) (levels : List Level) (level : Level) (n : ℕ)
           clock = clock;
           drive = drive ∙ was.place.drive;
           quanta = quanta ∙ ap (λ k. k + suc n) was.place.quanta ∙ sym long;
-          syncs = record { phases = ap (λ s. s.phases.items) syncs ∙ was.place.syncs.phases; hards = ap (λ s. s.hards) syncs ∙ was.place.syncs.hards };
+          syncs = record {
+            phases = λ on. ap (λ s. s.phases.items) syncs ∙ was.place.syncs.phases (sym (ap (λ s. s.keeps) syncs) ∙ on);
+            totals = ap (λ s. s.totals) syncs ∙ was.place.syncs.totals;
+            hards = ap (λ s. s.hards) syncs ∙ was.place.syncs.hards;
+          };
+          same = ap (λ s. s.keeps) syncs ∙ (was.place.same ∙ sym keeps);
           traffic = record {
             machine = traffic.machine;
             counters = traffic.counters;
@@ -82,6 +88,7 @@ module _ (setup : NodeSetup) (levels : List Level) (level : Level) (n : ℕ)
             sent = traffic.sent;
             errors = traffic.errors;
             samples = traffic.samples;
+            sampled = traffic.sampled;
             frames = traffic.frames;
             sends = traffic.sends;
           };

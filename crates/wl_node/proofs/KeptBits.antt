@@ -1,5 +1,5 @@
 -- Samples of one level in a row that a machine only keeps, and the quanta of their bits.
-use Rattle.std.proofs.Common.{◌≡◌, ◌∙◌, ℕ, zero, suc, ◌+◌, ◌-◌, ◌*◌, ◌<◌, ◌≤◌, inl, inr, List, [], ◌∷◌, ◌++◌, length, replicate, Option, refl, sym, ap, subst, arith, append-nil, append_assoc, length-append, add-zero}
+use Rattle.std.proofs.Common.{◌≡◌, ◌∙◌, ℕ, zero, suc, ◌+◌, ◌-◌, ◌*◌, ◌<◌, ◌≤◌, inl, inr, List, [], ◌∷◌, ◌++◌, length, replicate, Option, true, refl, sym, ap, subst, arith, append-nil, append_assoc, length-append, add-zero}
 use Rattle.std.specs.Prelude.{count_by, drop}
 use Rattle.std.specs.List.{flat_map}
 use Rattle.std.proofs.lemmas.Bool.{cases_lt}
@@ -22,6 +22,7 @@ use Rattle.wl_machine.specs.States.{sample_of}
 use Rattle.wl_node.specs.declared.setup.NodeSetup.{NodeSetup}
 use Rattle.wl_node.specs.declared.progress.NodeProgress.{NodeProgress}
 use Rattle.wl_node.specs.History.{History, history_of, error_count, is_hard, is_sent, phase_of, sampled_next, seen_next}
+use Rattle.wl_node.specs.Extremes.{phase_totals}
 use Rattle.wl_node.specs.Kept.{IsProgress, first_frame}
 use Rattle.wl_node.specs.KeptBits.{AreMore, HasKept}
 use Rattle.wl_node.specs.Quiet.{pending_of}
@@ -29,7 +30,7 @@ use Rattle.wl_node.specs.Runs.{samples_by, samples_from}
 use Rattle.wl_node.proofs.Gone.{joined}
 use Rattle.wl_node.proofs.Heard.{heard_drive, heard_history, up_to, up_to_long}
 use Rattle.wl_node.proofs.Rested.{counts_same, history_is, rested, stretch_on}
-use Rattle.wl_node.proofs.RunsOfSamples.{from_none, from_suc}
+use Rattle.wl_node.proofs.RunsOfSamples.{from_none, from_suc, length_from}
 use Rattle.wl_node.proofs.Sends.{count_append}
 
 -- what holds of one sample that is only kept
@@ -232,7 +233,9 @@ module _ (setup : NodeSetup) (level : Level) (old : NodeProgress) (before bit n 
   module _ (new : NodeProgress) (clock : new.clock ≡ clock_by old.clock after n) (drive : new.drive ≡ old.drive) (quanta : new.quanta ≡ old.quanta + quanta_by before bit n) (syncs : new.syncs ≡ old.syncs)
       (reached : new.traffic.machine ≡ machine) (counters : new.traffic.counters ≡ old.traffic.counters) (pending : new.traffic.pending ≡ old.traffic.pending) (sent : new.traffic.sent ≡ old.traffic.sent)
       (errors : new.traffic.errors ≡ old.traffic.errors) (frames : new.traffic.frames ≡ old.traffic.frames)
-      (listed : samples_by new.traffic.samples.runs.items ≡ samples_by old.traffic.samples.runs.items ++ samples_from (old.quanta + before) bit level n) where
+      (keeps : new.traffic.samples.keeps ≡ old.traffic.samples.keeps)
+      (listed : old.traffic.samples.keeps ≡ true → samples_by new.traffic.samples.runs.items ≡ samples_by old.traffic.samples.runs.items ++ samples_from (old.quanta + before) bit level n)
+      (count : new.traffic.samples.count ≡ old.traffic.samples.count + n) where
     pub kept_place : IsProgress setup new (at n)
     kept_place =
         let is : AreKept n = are_kept n (omega arith) in
@@ -245,9 +248,11 @@ module _ (setup : NodeSetup) (level : Level) (old : NodeProgress) (before bit n 
             drive = drive ∙ was.place.drive ∙ sym is.drive;
             quanta = quanta ∙ sym is.long;
             syncs = record {
-              phases = ap (λ s. s.phases.items) syncs ∙ was.place.syncs.phases ∙ ap (flat_map phase_of) (sym is.syncs);
+              phases = λ on. ap (λ s. s.phases.items) syncs ∙ was.place.syncs.phases (sym (ap (λ s. s.keeps) syncs) ∙ on) ∙ ap (flat_map phase_of) (sym is.syncs);
+              totals = ap (λ s. s.totals) syncs ∙ was.place.syncs.totals ∙ ap (λ ss. phase_totals (flat_map phase_of ss)) (sym is.syncs);
               hards = ap (λ s. s.hards) syncs ∙ was.place.syncs.hards ∙ ap (count_by is_hard) (sym is.syncs);
             };
+            same = ap (λ s. s.keeps) syncs ∙ (was.place.same ∙ sym keeps);
             traffic = record {
               machine = subst (λ m. IsMachine m g.inputs) (sym reached) (kept.machine h.inputs g.inputs was.place.traffic.machine is.more);
               counters = counters ∙ was.place.traffic.counters ∙ sym is.counts;
@@ -255,7 +260,12 @@ module _ (setup : NodeSetup) (level : Level) (old : NodeProgress) (before bit n 
                   ∙ sym (kept.drives h.inputs g.inputs n (omega arith) some was.place.traffic.machine is.more);
               sent = sent ∙ was.place.traffic.sent ∙ ap (count_by is_sent) (sym is.frames);
               errors = errors ∙ was.place.traffic.errors ∙ sym is.errors;
-              samples = listed ∙ ap (λ xs. xs ++ samples_from (old.quanta + before) bit level n) was.place.traffic.samples ∙ sym is.samples;
+              samples = λ on.
+                  (let kept_on = sym keeps ∙ on in
+                  listed kept_on ∙ ap (λ xs. xs ++ samples_from (old.quanta + before) bit level n) (was.place.traffic.samples kept_on) ∙ sym is.samples);
+              sampled = count ∙ ap (λ m. m + n) was.place.traffic.sampled
+                  ∙ sym (ap length is.samples ∙ length-append h.samples (samples_from (old.quanta + before) bit level n)
+                  ∙ ap (λ m. length h.samples + m) (length_from (old.quanta + before) bit level n));
               frames = ap (λ f. f.items) frames ∙ was.place.traffic.frames ∙ sym is.frames;
               sends = λ frame e.
                   ap (λ fs. first_frame (drop (count_by is_sent fs) setup.queue)) is.frames ∙ was.place.traffic.sends frame (sym is.head ∙ e);

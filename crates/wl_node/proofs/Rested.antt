@@ -1,5 +1,5 @@
 -- Samples that are stored, and of which nothing else comes: those that a receiver's machine only keeps, and a recessive one of a free bus, with no frame ready.
-use Rattle.std.proofs.Common.{◌≡◌, ◌∙◌, [], ◌∷◌, ◌++◌, length, Option, None, Some, true, false, refl, sym, ap, subst, append-nil, add-zero}
+use Rattle.std.proofs.Common.{◌≡◌, ◌∙◌, ℕ, ◌+◌, [], ◌∷◌, ◌++◌, length, Option, None, Some, true, false, refl, sym, ap, subst, append-nil, add-zero, length-append}
 use Rattle.std.specs.Prelude.{count_by, is_some}
 use Rattle.std.specs.Option.{option_map}
 use Rattle.std.proofs.lemmas.List.Sums.{fold-append}
@@ -18,6 +18,7 @@ use Rattle.wl_machine.specs.Reached.{IsMachine}
 use Rattle.wl_machine.specs.States.{sample_of}
 use Rattle.wl_machine.proofs.Callers.{free_sort, stretch_next}
 use Rattle.wl_node.specs.declared.setup.NodeSetup.{NodeSetup}
+use Rattle.wl_node.specs.declared.samples.SampleRuns.{SampleRuns}
 use Rattle.wl_node.specs.declared.traffic.Traffic.{Traffic}
 use Rattle.wl_frame.specs.Grammar.{Content}
 use Rattle.wl_node.specs.History.{History, error_count, is_sent, sampled_next, history_after_judgement, history_after_sample, switched_off, unsent_of, ready_head}
@@ -55,17 +56,25 @@ apart setup kept h is = record {
   sends = is.sends;
 }
 
-pub whole : (setup : NodeSetup) (kept : Traffic) (h : History) → IsApart setup kept h → samples_by kept.samples.runs.items ≡ h.samples → IsTraffic setup kept h
-whole setup kept h is samples = record {
+pub whole : (setup : NodeSetup) (kept : Traffic) (h : History) → IsApart setup kept h
+    → (kept.samples.keeps ≡ true → samples_by kept.samples.runs.items ≡ h.samples) → kept.samples.count ≡ length h.samples → IsTraffic setup kept h
+whole setup kept h is samples sampled = record {
   machine = is.machine;
   counters = is.counters;
   pending = is.pending;
   sent = is.sent;
   errors = is.errors;
   samples = samples;
+  sampled = sampled;
   frames = is.frames;
   sends = is.sends;
 }
+
+-- one sample more
+pub record IsOneMore (old new : SampleRuns) (quantum : ℕ) (level : Level) : Type 0 where
+  pub keeps : new.keeps ≡ old.keeps
+  pub samples : old.keeps ≡ true → samples_by new.runs.items ≡ samples_by old.runs.items ++ (quantum, level) ∷ []
+  pub count : new.count ≡ old.count + 1
 
 -- the history after such a sample
 abbrev pub rested : History → Sampled → History
@@ -122,13 +131,14 @@ module _ (setup : NodeSetup) (h : History) (level : Level) (judged_is : judged (
   })
 
   pub keeps : (old new : Traffic) → IsTraffic setup old h → new.counters ≡ old.counters → new.pending ≡ old.pending → new.sent ≡ old.sent
-      → new.errors ≡ old.errors → new.frames ≡ old.frames → samples_by new.samples.runs.items ≡ samples_by old.samples.runs.items ++ (length h.seen, level) ∷ []
+      → new.errors ≡ old.errors → new.frames ≡ old.frames → IsOneMore old.samples new.samples (length h.seen) level
       → drive_of (stretch_of h.inputs) ≡ drive_of (stretch_of (h.inputs ++ Sample x ∷ [])) → IsMachine new.machine (h.inputs ++ Sample x ∷ [])
       → IsTraffic setup new (history_after_sample setup h level)
   keeps old new kept counters pending sent errors frames samples drive reached =
       whole setup new (history_after_sample setup h level)
       (keeps_apart old new (apart setup old h kept) counters pending sent errors frames drive reached)
-      (samples ∙ ap (λ l. l ++ (length h.seen, level) ∷ []) kept.samples)
+      (λ on. (let was = sym samples.keeps ∙ on in samples.samples was ∙ ap (λ l. l ++ (length h.seen, level) ∷ []) (kept.samples was)))
+      (samples.count ∙ ap (λ n. n + 1) kept.sampled ∙ sym (length-append h.samples ((length h.seen, level) ∷ [])))
 
 module _ (setup : NodeSetup) (h : History) (none : ready_head (unsent_of setup h) (length h.seen) ≡ None) (free : is_free_sort (stretch_of h.inputs).sort ≡ true) where
   abbrev sample : Sampled
@@ -155,7 +165,7 @@ module _ (setup : NodeSetup) (h : History) (none : ready_head (unsent_of setup h
   x_is = λ i. record { level = Recessive; head = sym none i; mode = sample.mode }
 
   pub rests : (old new : Traffic) → IsTraffic setup old h → new.machine ≡ old.machine → new.counters ≡ old.counters → new.pending ≡ old.pending → new.sent ≡ old.sent
-      → new.errors ≡ old.errors → new.frames ≡ old.frames → samples_by new.samples.runs.items ≡ samples_by old.samples.runs.items ++ (length h.seen, Recessive) ∷ []
+      → new.errors ≡ old.errors → new.frames ≡ old.frames → IsOneMore old.samples new.samples (length h.seen) Recessive
       → IsMachine old.machine (h.inputs ++ Sample (sample_of Recessive None sample.mode) ∷ [])
       → IsTraffic setup new (history_after_sample setup h Recessive)
   rests old new kept machine counters pending sent errors frames samples reached =

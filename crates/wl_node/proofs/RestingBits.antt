@@ -1,5 +1,5 @@
 -- Bits of recessive quanta on a free bus, in which no frame is ready: of all their quanta only the samples are kept.
-use Rattle.std.proofs.Common.{◌≡◌, ◌∙◌, ℕ, zero, suc, ◌+◌, ◌-◌, ◌*◌, ◌<◌, ◌≤◌, inl, inr, List, [], ◌∷◌, ◌++◌, drop, length, None, replicate, refl, sym, ap, subst, arith, append-nil, append_assoc, length-append}
+use Rattle.std.proofs.Common.{◌≡◌, ◌∙◌, ℕ, zero, suc, ◌+◌, ◌-◌, ◌*◌, ◌<◌, ◌≤◌, inl, inr, List, [], ◌∷◌, ◌++◌, drop, length, None, true, replicate, refl, sym, ap, subst, arith, append-nil, append_assoc, length-append}
 use Rattle.std.proofs.lemmas.Bool.{cases_lt}
 use Rattle.std.proofs.lemmas.List.{length-replicate}
 use Rattle.wl_level.specs.declared.Level.{Level}
@@ -19,7 +19,7 @@ use Rattle.wl_node.specs.IdleBits.{AlwaysRests, IsRest}
 use Rattle.wl_node.specs.Runs.{samples_by, samples_from}
 use Rattle.wl_node.proofs.Gone.{joined}
 use Rattle.wl_node.proofs.Rested.{IsApart, apart, rests_apart}
-use Rattle.wl_node.proofs.RunsOfSamples.{from_none, from_suc}
+use Rattle.wl_node.proofs.RunsOfSamples.{from_none, from_suc, length_from}
 use Rattle.wl_node.proofs.Skipped.{seen_more, same_history, IsIdleFor, history_skipped}
 use Rattle.wl_node.proofs.Turns.{history_next}
 
@@ -147,7 +147,7 @@ module _ (setup : NodeSetup) (kept : NodeProgress) (n : ℕ) (some : 0 < n) (res
   record AreRested (k : ℕ) : Type 0 where
     beside : IsBeside setup kept (history_of setup (at k))
     long : length (history_of setup (at k)).seen ≡ kept.quanta + k * n
-    samples : (history_of setup (at k)).samples ≡ samples_by kept.traffic.samples.runs.items ++ samples_from (kept.quanta + n - 1) n Recessive k
+    samples : (history_of setup (at k)).samples ≡ (history_of setup levels).samples ++ samples_from (kept.quanta + n - 1) n Recessive k
 
   first : at 0 ≡ levels
   first = (let e : 0 * n ≡ 0 = omega arith in ap (λ k. levels ++ replicate k Recessive) e ∙ append-nil levels)
@@ -162,8 +162,8 @@ module _ (setup : NodeSetup) (kept : NodeProgress) (n : ℕ) (some : 0 < n) (res
   are_rested zero none = record {
     beside = subst (λ ls. IsBeside setup kept (history_of setup ls)) (sym first) (beside setup kept (history_of setup levels) old.place);
     long = ap (λ ls. length (history_of setup ls).seen) first ∙ sym old.place.quanta ∙ (let e : kept.quanta ≡ kept.quanta + 0 * n = omega arith in e);
-    samples = ap (λ ls. (history_of setup ls).samples) first ∙ sym old.place.traffic.samples
-        ∙ sym (ap (λ xs. samples_by kept.traffic.samples.runs.items ++ xs) (from_none (kept.quanta + n - 1) n Recessive) ∙ append-nil (samples_by kept.traffic.samples.runs.items));
+    samples = ap (λ ls. (history_of setup ls).samples) first
+        ∙ sym (ap (λ xs. (history_of setup levels).samples ++ xs) (from_none (kept.quanta + n - 1) n Recessive) ∙ append-nil (history_of setup levels).samples);
   }
   are_rested (suc k) none =
       let is : AreRested k = are_rested k (λ quantum less. none quantum (omega arith)) in
@@ -174,8 +174,8 @@ module _ (setup : NodeSetup) (kept : NodeProgress) (n : ℕ) (some : 0 < n) (res
         long = ap (λ ls. length (history_of setup ls).seen) (next k) ∙ bit_long setup (at k) kept n is.beside rest ∙ (let l = is.long in omega arith);
         samples = ap (λ ls. (history_of setup ls).samples) (next k) ∙ bit_samples setup (at k) kept n is.beside rest
             ∙ (λ i. is.samples i ++ (last i, Recessive) ∷ [])
-            ∙ append_assoc (samples_by kept.traffic.samples.runs.items) (samples_from (kept.quanta + n - 1) n Recessive k) ((kept.quanta + n - 1 + k * n, Recessive) ∷ [])
-            ∙ ap (λ xs. samples_by kept.traffic.samples.runs.items ++ xs) (sym (from_suc (kept.quanta + n - 1) n Recessive k));
+            ∙ append_assoc (history_of setup levels).samples (samples_from (kept.quanta + n - 1) n Recessive k) ((kept.quanta + n - 1 + k * n, Recessive) ∷ [])
+            ∙ ap (λ xs. (history_of setup levels).samples ++ xs) (sym (from_suc (kept.quanta + n - 1) n Recessive k));
       }
 
   pub rested_drive : (k : ℕ) → NoneBefore k → (m : ℕ) → m ≤ k * n → (history_of setup (levels ++ replicate m Recessive)).drive ≡ (history_of setup levels).drive
@@ -193,7 +193,9 @@ module _ (setup : NodeSetup) (kept : NodeProgress) (n : ℕ) (some : 0 < n) (res
 
   module _ (k : ℕ) (none : NoneBefore k) (traffic : Traffic) (machine : traffic.machine ≡ kept.traffic.machine) (counters : traffic.counters ≡ kept.traffic.counters)
       (pending : traffic.pending ≡ kept.traffic.pending) (sent : traffic.sent ≡ kept.traffic.sent) (errors : traffic.errors ≡ kept.traffic.errors) (frames : traffic.frames ≡ kept.traffic.frames)
-      (samples : samples_by traffic.samples.runs.items ≡ samples_by kept.traffic.samples.runs.items ++ samples_from (kept.quanta + n - 1) n Recessive k) where
+      (keeps : traffic.samples.keeps ≡ kept.traffic.samples.keeps)
+      (samples : kept.traffic.samples.keeps ≡ true → samples_by traffic.samples.runs.items ≡ samples_by kept.traffic.samples.runs.items ++ samples_from (kept.quanta + n - 1) n Recessive k)
+      (count : traffic.samples.count ≡ kept.traffic.samples.count + k) where
     pub now_rested : IsProgress setup (record { clock = kept.clock; drive = kept.drive; quanta = kept.quanta + k * n; syncs = kept.syncs; traffic = traffic }) (at k)
     now_rested =
         let is : AreRested k = are_rested k none in
@@ -206,13 +208,19 @@ module _ (setup : NodeSetup) (kept : NodeProgress) (n : ℕ) (some : 0 < n) (res
             drive = is.beside.drive;
             quanta = sym is.long;
             syncs = is.beside.syncs;
+            same = old.place.same ∙ sym keeps;
             traffic = record {
               machine = subst (λ m. IsMachine m (history_of setup (at k)).inputs) (sym machine) a.machine;
               counters = counters ∙ a.counters;
               pending = pending ∙ a.pending;
               sent = sent ∙ a.sent;
               errors = errors ∙ a.errors;
-              samples = samples ∙ sym is.samples;
+              samples = λ on.
+                  (let kept_on = sym keeps ∙ on in
+                  samples kept_on ∙ ap (λ xs. xs ++ samples_from (kept.quanta + n - 1) n Recessive k) (old.place.traffic.samples kept_on) ∙ sym is.samples);
+              sampled = count ∙ ap (λ m. m + k) old.place.traffic.sampled
+                  ∙ sym (ap length is.samples ∙ length-append (history_of setup levels).samples (samples_from (kept.quanta + n - 1) n Recessive k)
+                  ∙ ap (λ m. length (history_of setup levels).samples + m) (length_from (kept.quanta + n - 1) n Recessive k));
               frames = ap (λ f. f.items) frames ∙ a.frames;
               sends = a.sends;
             };

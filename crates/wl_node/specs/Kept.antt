@@ -1,5 +1,5 @@
 -- Where its history puts what a node keeps.
-use Rattle.std.specs.Prelude.{◌≡◌, ℕ, ◌<◌, List, [], ◌∷◌, ◌++◌, length, replicate, count_by, Option, Some, None, vec_len, vec_capacity}
+use Rattle.std.specs.Prelude.{◌≡◌, ℕ, ◌+◌, ◌<◌, true, List, [], ◌∷◌, ◌++◌, length, replicate, count_by, Option, Some, None, vec_len, vec_capacity}
 use Rattle.std.specs.List.{flat_map}
 use Rattle.wl_level.specs.declared.Level.{Level}
 use Rattle.wl_segments.specs.Lengths.{Lengths}
@@ -15,6 +15,7 @@ use Rattle.wl_node.specs.declared.syncs.Syncs.{Syncs}
 use Rattle.wl_node.specs.declared.traffic.Traffic.{Traffic}
 use Rattle.wl_node.specs.declared.progress.NodeProgress.{NodeProgress}
 use Rattle.wl_node.specs.History.{History, history_of, is_sent, unsent_of, error_count, phase_of, is_hard}
+use Rattle.wl_node.specs.Extremes.{phase_totals}
 use Rattle.wl_node.specs.Runs.{samples_by}
 
 -- the frame of the first one in a queue
@@ -22,29 +23,36 @@ abbrev pub first_frame : List Queued → Option Content
 first_frame [] = None
 first_frame (q ∷ qs) = Some q.frame
 
--- what is kept of the synchronisations
+-- how many synchronisations are kept
+abbrev pub sync_count : Syncs → ℕ
+sync_count kept = kept.hards + kept.totals.count
+
+-- What is kept of the synchronisations. The resynchronising edges are listed, or only what a report says of them is kept.
 pub record AreSyncs (kept : Syncs) (syncs : List (ℕ × Sync)) : Type 0 where
-  pub phases : kept.phases.items ≡ flat_map phase_of syncs
+  pub phases : kept.keeps ≡ true → kept.phases.items ≡ flat_map phase_of syncs
+  pub totals : kept.totals ≡ phase_totals (flat_map phase_of syncs)
   pub hards : kept.hards ≡ count_by is_hard syncs
 
--- What is kept of the samples and of what came of them. The frame that the machine sends is the first unsent one.
+-- What is kept of the samples, which are listed or only counted, and of what came of them. The frame that the machine sends is the first unsent one.
 pub record IsTraffic (setup : NodeSetup) (kept : Traffic) (h : History) : Type 0 where
   pub machine : IsMachine kept.machine h.inputs
   pub counters : kept.counters ≡ counts_of h.happened
   pub pending : kept.pending ≡ drive_of (stretch_of h.inputs)
   pub sent : kept.sent ≡ count_by is_sent h.frames
   pub errors : kept.errors ≡ error_count h
-  pub samples : samples_by kept.samples.runs.items ≡ h.samples
+  pub samples : kept.samples.keeps ≡ true → samples_by kept.samples.runs.items ≡ h.samples
+  pub sampled : kept.samples.count ≡ length h.samples
   pub frames : kept.frames.items ≡ h.frames
   pub sends : (frame : Content) → head_of (stretch_of h.inputs).sort ≡ Some frame → first_frame (unsent_of setup h) ≡ Some frame
 
--- a node is where its history puts it
+-- a node is where its history puts it; it lists both its samples and its phase errors, or neither
 pub record FitsHistory (setup : NodeSetup) (kept : NodeProgress) (h : History) : Type 0 where
   pub clock : kept.clock ≡ clock_after setup.segments h.seen
   pub drive : kept.drive ≡ h.drive
   pub quanta : kept.quanta ≡ length h.seen
   pub syncs : AreSyncs kept.syncs h.syncs
   pub traffic : IsTraffic setup kept.traffic h
+  pub same : kept.syncs.keeps ≡ kept.traffic.samples.keeps
 
 -- a node is where these levels put it, one for each of its quanta
 pub record IsProgress (setup : NodeSetup) (kept : NodeProgress) (levels : List Level) : Type 0 where

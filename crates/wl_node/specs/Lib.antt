@@ -1,4 +1,5 @@
 pub mod Ahead
+pub mod Extremes
 pub mod History
 pub mod Kept
 pub mod KeptBits

@@ -12,6 +12,7 @@ use Rattle.wl_node.specs.declared.setup.NodeSetup.{NodeSetup}
 use Rattle.wl_node.specs.declared.mark.Mark.{Mark}
 use Rattle.wl_node.specs.declared.node.Node.{Node}
 use Rattle.wl_node.specs.History.{History, history_of, is_sent, unsent_of, error_count, phase_of, is_hard}
+use Rattle.wl_node.specs.Extremes.{phase_totals}
 use Rattle.wl_node.specs.Kept.{first_frame}
 use Rattle.wl_node.specs.Reached.{IsNode, node_setup}
 
@@ -21,7 +22,7 @@ pub record FitsMark (setup : NodeSetup) (mark : Mark) (h : History) : Type 0 whe
   pub drive : mark.drive ≡ h.drive
   pub quanta : mark.quanta ≡ length h.seen
   pub hards : mark.hards ≡ count_by is_hard h.syncs
-  pub phases : mark.phases ≡ length (flat_map phase_of h.syncs)
+  pub totals : mark.totals ≡ phase_totals (flat_map phase_of h.syncs)
   pub machine : IsMachine mark.machine h.inputs
   pub counters : mark.counters ≡ counts_of h.happened
   pub pending : mark.pending ≡ drive_of (stretch_of h.inputs)

@@ -1,5 +1,5 @@
 -- What others say of a node: its setup, its quanta, where levels put it, what it has done, and whether it has room.
-use Rattle.std.specs.Prelude.{◌≡◌, ◌≢◌, ℕ, ◌+◌, ◌<◌, List, [], ◌∷◌, ◌++◌, replicate}
+use Rattle.std.specs.Prelude.{◌≡◌, ◌≢◌, ℕ, ◌+◌, ◌<◌, Bool, List, [], ◌∷◌, ◌++◌, replicate}
 use Rattle.wl_level.specs.declared.Level.{Level}
 use Rattle.wl_node.specs.declared.setup.NodeSetup.{NodeSetup}
 use Rattle.wl_node.specs.declared.node.Node.{Node}
@@ -13,6 +13,10 @@ node_setup node = node.setup
 -- the number of quanta that the node has run
 abbrev pub quanta_of : Node → ℕ
 quanta_of node = node.progress.quanta
+
+-- whether the node lists its samples and phase errors, or only keeps what a report says of them
+abbrev pub keeps_lists : Node → Bool
+keeps_lists node = node.progress.traffic.samples.keeps
 
 -- the node is where these levels put it, one for each quantum that it has run, the oldest first
 abbrev pub IsNode : List Level → Node → Type 0
@@ -49,6 +53,7 @@ pub record HasGone (level : Level) (n : ℕ) (old new : Node) : Type 0 where
   pub node : (levels : List Level) → IsNode levels old → IsNode (levels ++ replicate n level) new
   pub setup : node_setup new ≡ node_setup old
   pub quanta : quanta_of new ≡ quanta_of old + n
+  pub keeps : keeps_lists new ≡ keeps_lists old
   pub stood : (m : ℕ) → m < n → StandsFor old level m
 
 -- at fewer quanta more than were asked for the node has seen this level, and its drive stands

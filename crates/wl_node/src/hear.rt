@@ -3,7 +3,7 @@
 ghost use Rattle.std.specs.Prelude.{◌≡◌, suc, ◌+◌, ◌<◌, ◌≤◌, true, vec_len, vec_capacity};
 ghost use Rattle.wl_level.specs.Levels.{same};
 ghost use Rattle.wl_sync.specs.Skips.{quanta_before_sample, IsSampleAhead};
-ghost use Rattle.wl_node.specs.Kept.{HasProgressedBy, KeepsDrive};
+ghost use Rattle.wl_node.specs.Kept.{HasProgressedBy, KeepsDrive, sync_count};
 ghost use Rattle.wl_node.specs.Limits.{most_run_quanta};
 
 use crate::progress::NodeProgress;
@@ -23,9 +23,10 @@ impl NodeProgress {
         ensures drive { KeepsDrive setup.now level (suc result) self.old }
         ensures few { result ≤ most }
         ensures quanta { self.new.quanta ≡ self.old.quanta + result }
-        ensures hards { self.new.syncs.hards ≡ self.old.syncs.hards }
+        ensures syncs { sync_count self.new.syncs ≡ sync_count self.old.syncs }
         ensures errors { self.new.traffic.errors ≤ self.new.quanta }
         ensures samples { self.new.traffic.samples.count ≤ self.new.quanta }
+        ensures keeps { self.new.traffic.samples.keeps ≡ self.old.traffic.samples.keeps }
     {
         if !self.drive.is(self.traffic.pending) || !self.has_room() || !self.has_frame_room() {
             return 0;
@@ -55,9 +56,10 @@ impl NodeProgress {
         ensures drive { KeepsDrive setup.now level (suc result) self.old }
         ensures all { result ≡ before + 1 }
         ensures quanta { self.new.quanta ≡ self.old.quanta + result }
-        ensures hards { self.new.syncs.hards ≡ self.old.syncs.hards }
+        ensures syncs { sync_count self.new.syncs ≡ sync_count self.old.syncs }
         ensures errors { self.new.traffic.errors ≤ self.new.quanta }
         ensures samples { self.new.traffic.samples.count ≤ self.new.quanta }
+        ensures keeps { self.new.traffic.samples.keeps ≡ self.old.traffic.samples.keeps }
     {
         let quantum = self.quanta + before as u64;
         self.traffic.take(setup, quantum, level);

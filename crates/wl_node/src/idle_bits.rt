@@ -3,7 +3,7 @@
 ghost use Rattle.std.specs.Prelude.{◌≡◌, ℕ, suc, ◌+◌, ◌*◌, ◌<◌, ◌≤◌, true, drop, None, Some, vec_len, vec_capacity};
 ghost use Rattle.wl_level.specs.declared.Level.{Level};
 ghost use Rattle.wl_node.specs.History.{ready_head};
-ghost use Rattle.wl_node.specs.Kept.{HasProgressedBy, KeepsDrive};
+ghost use Rattle.wl_node.specs.Kept.{HasProgressedBy, KeepsDrive, sync_count};
 ghost use Rattle.wl_node.specs.Limits.{most_run_quanta};
 ghost use Rattle.wl_node.specs.IdleBits.{AlwaysRests};
 
@@ -37,9 +37,10 @@ impl NodeProgress {
         ensures place { HasProgressedBy setup.now Level.Recessive (bits * quanta) self.old self.new }
         ensures drive { KeepsDrive setup.now Level.Recessive (suc (bits * quanta)) self.old }
         ensures quanta { self.new.quanta ≡ self.old.quanta + bits * quanta }
-        ensures hards { self.new.syncs.hards ≡ self.old.syncs.hards }
+        ensures syncs { sync_count self.new.syncs ≡ sync_count self.old.syncs }
         ensures errors { self.new.traffic.errors ≡ self.old.traffic.errors }
         ensures samples { self.new.traffic.samples.count ≡ self.old.traffic.samples.count + bits }
+        ensures keeps { self.new.traffic.samples.keeps ≡ self.old.traffic.samples.keeps }
     {
         let from = self.quanta + quanta as u64 - 1;
         self.traffic

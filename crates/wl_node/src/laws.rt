@@ -1,10 +1,17 @@
 //! Laws of nodes, as the contract of a function that does nothing.
 
+ghost use Rattle.wl_node.specs.Extremes.{ExtremesAreExtreme};
 ghost use Rattle.wl_node.specs.Laws.{NodeLaws, DriveLaws};
 
 /// Law: each node is where some levels put it, one for each quantum that it has run.
 pub fn node_laws()
     ensures { NodeLaws }
+{}
+
+/// Law: the least and the greatest of some phase errors are among them, none is less and none is greater. They are there whenever there is an
+/// error.
+pub fn extremes_are_extreme()
+    ensures { ExtremesAreExtreme }
 {}
 
 /// Law: a node keeps what it promises of its drive, whatever it sees, and what it says of it for recessive levels. Between the start of a

@@ -5,7 +5,7 @@ ghost use Rattle.wl_level.specs.declared.Level.{Level};
 ghost use Rattle.wl_segments.specs.Lengths.{bit_quanta};
 ghost use Rattle.wl_sync.specs.Skips.{free_quanta, quanta_before_sample, IsSampleAhead};
 ghost use Rattle.wl_node.specs.declared.setup.NodeSetup.{NodeSetup};
-ghost use Rattle.wl_node.specs.Kept.{HasProgressedBy, KeepsDrive};
+ghost use Rattle.wl_node.specs.Kept.{HasProgressedBy, KeepsDrive, sync_count};
 ghost use Rattle.wl_node.specs.Limits.{most_run_quanta};
 
 use crate::progress::NodeProgress;
@@ -19,15 +19,16 @@ impl NodeProgress {
     pub fn listen(&mut self, level: Level, most: u64) -> u64
         requires some { 0 < most }
         requires short { self.old.quanta + most ≤ most_run_quanta }
-        requires hards { self.old.syncs.hards ≤ self.old.quanta }
+        requires syncs { sync_count self.old.syncs ≤ self.old.quanta }
         requires samples { self.old.traffic.samples.count ≤ self.old.quanta }
         ensures place { (setup : NodeSetup) → HasProgressedBy setup level result self.old self.new }
         ensures drive { (setup : NodeSetup) → KeepsDrive setup level (suc result) self.old }
         ensures few { result ≤ most }
         ensures quanta { self.new.quanta ≡ self.old.quanta + result }
-        ensures hards { self.new.syncs.hards ≤ self.new.quanta }
+        ensures syncs { sync_count self.new.syncs ≤ self.new.quanta }
         ensures errors { self.new.traffic.errors ≡ self.old.traffic.errors }
         ensures samples { self.new.traffic.samples.count ≤ self.new.quanta }
+        ensures keeps { self.new.traffic.samples.keeps ≡ self.old.traffic.samples.keeps }
     {
         let mut done = self.meet_edge(level);
         while done < most {
@@ -45,14 +46,15 @@ impl NodeProgress {
     #[inline(always)]
     fn meet_edge(&mut self, level: Level) -> u64
         requires short { self.old.quanta < most_run_quanta }
-        requires hards { self.old.syncs.hards ≤ self.old.quanta }
+        requires syncs { sync_count self.old.syncs ≤ self.old.quanta }
         ensures place { (setup : NodeSetup) → HasProgressedBy setup level result self.old self.new }
         ensures drive { (setup : NodeSetup) → KeepsDrive setup level (suc result) self.old }
         ensures few { result ≤ 1 }
         ensures quanta { self.new.quanta ≡ self.old.quanta + result }
-        ensures hards { self.new.syncs.hards ≤ self.new.quanta }
+        ensures syncs { sync_count self.new.syncs ≤ self.new.quanta }
         ensures errors { self.new.traffic.errors ≡ self.old.traffic.errors }
         ensures samples { self.new.traffic.samples.count ≡ self.old.traffic.samples.count }
+        ensures keeps { self.new.traffic.samples.keeps ≡ self.old.traffic.samples.keeps }
     {
         if !level.is_dominant() || !self.drive.is(self.traffic.pending) || !self.syncs.has_room() {
             return 0;
@@ -69,14 +71,15 @@ impl NodeProgress {
         requires settled { self.old.drive ≡ self.old.traffic.pending }
         requires room { vec_len self.old.syncs.phases < vec_capacity self.old.syncs.phases }
         requires short { self.old.quanta < most_run_quanta }
-        requires hards { self.old.syncs.hards ≤ self.old.quanta }
+        requires syncs { sync_count self.old.syncs ≤ self.old.quanta }
         ensures place { (setup : NodeSetup) → HasProgressedBy setup level result self.old self.new }
         ensures drive { (setup : NodeSetup) → KeepsDrive setup level (suc result) self.old }
         ensures few { result ≤ 1 }
         ensures quanta { self.new.quanta ≡ self.old.quanta + result }
-        ensures hards { self.new.syncs.hards ≤ self.new.quanta }
+        ensures syncs { sync_count self.new.syncs ≤ self.new.quanta }
         ensures errors { self.new.traffic.errors ≡ self.old.traffic.errors }
         ensures samples { self.new.traffic.samples.count ≡ self.old.traffic.samples.count }
+        ensures keeps { self.new.traffic.samples.keeps ≡ self.old.traffic.samples.keeps }
     {
         let was = self.clock;
         let idle = self.traffic.machine.idle();
@@ -108,9 +111,10 @@ impl NodeProgress {
         ensures drive { (setup : NodeSetup) → KeepsDrive setup level (suc result) self.old }
         ensures few { result ≤ most }
         ensures quanta { self.new.quanta ≡ self.old.quanta + result }
-        ensures hards { self.new.syncs.hards ≡ self.old.syncs.hards }
+        ensures syncs { sync_count self.new.syncs ≡ sync_count self.old.syncs }
         ensures errors { self.new.traffic.errors ≡ self.old.traffic.errors }
         ensures samples { self.new.traffic.samples.count ≤ self.new.quanta }
+        ensures keeps { self.new.traffic.samples.keeps ≡ self.old.traffic.samples.keeps }
     {
         if self.drive.is_dominant() || !self.has_room() {
             return 0;
@@ -140,9 +144,10 @@ impl NodeProgress {
         ensures drive { (setup : NodeSetup) → KeepsDrive setup level (suc result) self.old }
         ensures few { result ≤ most }
         ensures quanta { self.new.quanta ≡ self.old.quanta + result }
-        ensures hards { self.new.syncs.hards ≡ self.old.syncs.hards }
+        ensures syncs { sync_count self.new.syncs ≡ sync_count self.old.syncs }
         ensures errors { self.new.traffic.errors ≡ self.old.traffic.errors }
         ensures samples { self.new.traffic.samples.count ≤ self.new.quanta }
+        ensures keeps { self.new.traffic.samples.keeps ≡ self.old.traffic.samples.keeps }
     {
         let kept = self.keep_bits(level, before, most);
         if kept == 0 {
@@ -165,9 +170,10 @@ impl NodeProgress {
         ensures drive { (setup : NodeSetup) → KeepsDrive setup level (suc result) self.old }
         ensures few { result ≤ most }
         ensures quanta { self.new.quanta ≡ self.old.quanta + result }
-        ensures hards { self.new.syncs.hards ≡ self.old.syncs.hards }
+        ensures syncs { sync_count self.new.syncs ≡ sync_count self.old.syncs }
         ensures errors { self.new.traffic.errors ≡ self.old.traffic.errors }
         ensures samples { self.new.traffic.samples.count ≤ self.new.quanta }
+        ensures keeps { self.new.traffic.samples.keeps ≡ self.old.traffic.samples.keeps }
         ensures free { 0 < result
             → free_quanta true self.new.clock level ≡ bit_quanta self.new.clock.lengths - 1 }
     {
@@ -195,9 +201,10 @@ impl NodeProgress {
         ensures drive { (setup : NodeSetup) → KeepsDrive setup level (suc result) self.old }
         ensures few { result ≤ rest }
         ensures quanta { self.new.quanta ≡ self.old.quanta + result }
-        ensures hards { self.new.syncs.hards ≡ self.old.syncs.hards }
+        ensures syncs { sync_count self.new.syncs ≡ sync_count self.old.syncs }
         ensures errors { self.new.traffic.errors ≡ self.old.traffic.errors }
         ensures samples { self.new.traffic.samples.count ≡ self.old.traffic.samples.count }
+        ensures keeps { self.new.traffic.samples.keeps ≡ self.old.traffic.samples.keeps }
     {
         if rest == 0
             || self.clock.bit_quanta() as u64 <= rest

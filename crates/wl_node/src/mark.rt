@@ -1,21 +1,22 @@
 //! A mark of where a node is, and the way back to it.
 
-ghost use Rattle.std.specs.Prelude.{◌≤◌};
+ghost use Rattle.std.specs.Prelude.{◌+◌, ◌≤◌};
 
 use crate::node::Node;
+use crate::phase_totals::PhaseTotals;
 use wl_confine::Counters;
 use wl_level::Level;
 use wl_machine::Machine;
 use wl_sync::BitClock;
 
-/// Where a node was: what it keeps beside its lists, and how many samples, frames and phase errors it had stored.
+/// Where a node was: what it keeps beside its lists, and how many samples and frames it had stored.
 #[derive(Drop)]
 pub struct Mark {
     pub(crate) clock: BitClock,
     pub(crate) drive: Level,
     pub(crate) quanta: u64,
     pub(crate) hards: u64,
-    pub(crate) phases: usize,
+    pub(crate) totals: PhaseTotals,
     pub(crate) machine: Machine,
     pub(crate) counters: Counters,
     pub(crate) pending: Level,
@@ -23,7 +24,7 @@ pub struct Mark {
     pub(crate) errors: u64,
     pub(crate) samples: u64,
     pub(crate) frames: usize,
-    ghost few_hards: { hards ≤ quanta },
+    ghost few_syncs: { hards + totals.count ≤ quanta },
     ghost few_errors: { errors ≤ quanta },
     ghost few_samples: { samples ≤ quanta },
 }
@@ -32,7 +33,7 @@ impl Node {
     ghost use Rattle.std.specs.Prelude.{◌≡◌, ◌++◌, List};
     ghost use Rattle.wl_level.specs.declared.Level.{Level};
     ghost use Rattle.wl_node.specs.Marks.{IsMark, HasGoneOn, HasPassed, quanta_marked};
-    ghost use Rattle.wl_node.specs.Reached.{IsNode, node_setup, quanta_of};
+    ghost use Rattle.wl_node.specs.Reached.{IsNode, keeps_lists, node_setup, quanta_of};
 
     /// Returns a mark of where the node is. It takes no memory.
     pub fn keep(&self) -> Mark
@@ -45,7 +46,7 @@ impl Node {
             drive: self.progress.drive,
             quanta: self.progress.quanta,
             hards: self.progress.syncs.hards,
-            phases: self.progress.syncs.phases.len(),
+            totals: self.progress.syncs.totals,
             machine: traffic.machine.copy(),
             counters: traffic.counters,
             pending: traffic.pending,
@@ -62,16 +63,17 @@ impl Node {
         ensures node { (levels more : List Level) → HasGoneOn mark.now levels more self.old → IsNode levels self.new }
         ensures setup { node_setup self.new ≡ node_setup self.old }
         ensures quanta { quanta_of self.new ≡ quanta_marked mark.now }
+        ensures keeps { keeps_lists self.new ≡ keeps_lists self.old }
     {
         self.progress.back(mark);
     }
 }
 
 impl crate::progress::NodeProgress {
-    ghost use Rattle.std.specs.Prelude.{◌≡◌, ◌++◌, List};
+    ghost use Rattle.std.specs.Prelude.{◌≡◌, ◌+◌, ◌++◌, ◌≤◌, List};
     ghost use Rattle.wl_level.specs.declared.Level.{Level};
     ghost use Rattle.wl_node.specs.declared.setup.NodeSetup.{NodeSetup};
-    ghost use Rattle.wl_node.specs.Kept.{IsProgress};
+    ghost use Rattle.wl_node.specs.Kept.{IsProgress, sync_count};
     ghost use Rattle.wl_node.specs.Marks.{IsMark};
 
     /// Puts a node's progress back to a mark.
@@ -79,15 +81,17 @@ impl crate::progress::NodeProgress {
         ensures place { (setup : NodeSetup) (levels more : List Level) → IsMark setup levels mark.now
             → IsProgress setup self.old (levels ++ more) → IsProgress setup self.new levels }
         ensures quanta { self.new.quanta ≡ mark.now.quanta }
-        ensures hards { self.new.syncs.hards ≡ mark.now.hards }
+        ensures syncs { sync_count self.new.syncs ≡ mark.now.hards + mark.now.totals.count }
         ensures errors { self.new.traffic.errors ≡ mark.now.errors }
         ensures samples { self.new.traffic.samples.count ≤ mark.now.samples }
+        ensures keeps { self.new.traffic.samples.keeps ≡ self.old.traffic.samples.keeps }
     {
         self.clock = mark.clock;
         self.drive = mark.drive;
         self.quanta = mark.quanta;
         self.syncs.hards = mark.hards;
-        self.syncs.phases.truncate(mark.phases);
+        self.syncs.totals = mark.totals;
+        self.syncs.phases.truncate(mark.totals.count as usize);
         self.traffic.machine = mark.machine.copy();
         self.traffic.counters = mark.counters;
         self.traffic.pending = mark.pending;

@@ -2,8 +2,9 @@
 
 ghost use Rattle.std.specs.Prelude.{◌≤◌, List, ℕ};
 ghost use Rattle.wl_level.specs.declared.Level.{Level};
-ghost use Rattle.wl_node.specs.Kept.{IsProgress};
+ghost use Rattle.wl_node.specs.Kept.{IsProgress, sync_count};
 
+use crate::phase_totals::PhaseTotals;
 use crate::progress::NodeProgress;
 use crate::samples::Samples;
 use crate::setup::{NodeSetup, Passed};
@@ -20,7 +21,7 @@ use wl_level::{Level, Listed};
 pub struct Node {
     pub(crate) setup: NodeSetup,
     pub(crate) progress: NodeProgress,
-    ghost few_hards: { progress.syncs.hards ≤ progress.quanta },
+    ghost few_syncs: { sync_count progress.syncs ≤ progress.quanta },
     ghost few_errors: { progress.traffic.errors ≤ progress.quanta },
     ghost few_samples: { progress.traffic.samples.count ≤ progress.quanta },
     ghost reached: { ∥ ((levels : List Level) × IsProgress setup progress levels) ∥₁ },
@@ -38,19 +39,40 @@ pub struct NodeLists {
 }
 
 impl Node {
-    ghost use Rattle.std.specs.Prelude.{◌≡◌, ◌+◌, ◌<◌, [], length, OnOk, OnErr, IfOk};
+    ghost use Rattle.std.specs.Prelude.{◌≡◌, ◌+◌, ◌<◌, [], true, false, length, OnOk, OnErr, IfOk};
+    ghost use Rattle.wl_node.specs.Extremes.{phase_totals};
     ghost use Rattle.wl_node.specs.History.{counters_of, phases_of, hards_of, error_count, unsent_count};
     ghost use Rattle.wl_node.specs.Limits.{most_quiet, most_run_quanta};
     ghost use Rattle.wl_node.specs.Quiet.{quiet_of};
-    ghost use Rattle.wl_node.specs.Reached.{node_setup, quanta_of, IsNode, HasRoom, Shows, HasSeen, IsSameNode, StandsFor};
+    ghost use Rattle.wl_node.specs.Reached.{keeps_lists, node_setup, quanta_of, IsNode, HasRoom, Shows, HasSeen, IsSameNode, StandsFor};
     ghost use Rattle.wl_node.specs.Stays.{free_stay, stay_at};
 
     /// Returns a node of this setup that has run no quantum: it drives recessive. Refused only if memory runs out.
     pub fn new(alloc: Global, setup: NodeSetup) -> Result<Node, AllocError>
         ensures node { IfOk result (λ node. IsNode [] node) }
         ensures setup { IfOk result (λ node. node_setup node ≡ setup) }
+        ensures keeps { IfOk result (λ node. keeps_lists node ≡ true) }
     {
-        let progress = NodeProgress::new(alloc, setup.segments)?;
+        Node::begin(alloc, setup, true)
+    }
+
+    /// Returns such a node that lists neither its samples nor its phase errors, and only keeps what a report says of them. It takes less
+    /// memory and time. Refused only if memory runs out.
+    pub fn counting(alloc: Global, setup: NodeSetup) -> Result<Node, AllocError>
+        ensures node { IfOk result (λ node. IsNode [] node) }
+        ensures setup { IfOk result (λ node. node_setup node ≡ setup) }
+        ensures keeps { IfOk result (λ node. keeps_lists node ≡ false) }
+    {
+        Node::begin(alloc, setup, false)
+    }
+
+    /// Returns such a node that lists its samples and phase errors if `keeps` is true, and otherwise only keeps what a report says of them.
+    fn begin(alloc: Global, setup: NodeSetup, keeps: bool) -> Result<Node, AllocError>
+        ensures node { IfOk result (λ node. IsNode [] node) }
+        ensures setup { IfOk result (λ node. node_setup node ≡ setup) }
+        ensures keeps { IfOk result (λ node. keeps_lists node ≡ keeps) }
+    {
+        let progress = NodeProgress::new(alloc, setup.segments, keeps)?;
         Ok(Node { setup, progress })
     }
 
@@ -68,16 +90,19 @@ impl Node {
         ensures node { IsSameNode self.old self.new }
         ensures setup { node_setup self.new ≡ node_setup self.old }
         ensures quanta { quanta_of self.new ≡ quanta_of self.old }
+        ensures keeps { keeps_lists self.new ≡ keeps_lists self.old }
     {
         self.progress.prepare()
     }
 
-    /// Takes the memory of this many runs of samples and resynchronising edges more, so that their lists needn't grow so often. It decides
-    /// nothing but speed. Refused if memory runs out. Refused or not, the node is where it was, and every reader answers as before.
+    /// Takes the memory of this many runs of samples and resynchronising edges more, so that their lists needn't grow so often. A
+    /// counting node ([`Node::counting`]) takes none. It decides nothing but speed. Refused if memory runs out. Refused or not, the node is
+    /// where it was, and every reader answers as before.
     pub fn reserve(&mut self, runs: usize, edges: usize) -> Result<(), AllocError>
         ensures node { IsSameNode self.old self.new }
         ensures setup { node_setup self.new ≡ node_setup self.old }
         ensures quanta { quanta_of self.new ≡ quanta_of self.old }
+        ensures keeps { keeps_lists self.new ≡ keeps_lists self.old }
     {
         self.progress.reserve(runs, edges)
     }
@@ -85,15 +110,16 @@ impl Node {
     /// Runs the next quantum, at which the node sees this level. [`Node::prepare`] has made room, and fewer than
     /// [`MOST_RUN_QUANTA`](crate::MOST_RUN_QUANTA) quanta were run.
     ///
-    /// The bit clock runs first. If a bit starts, the node drives what its machine wants since its last sample. A sample is stored. It goes
-    /// to the machine with the mode before it and with the first unsent frame, if that is ready, and then to the counters. If these make
-    /// the mode bus off, the machine goes off the bus at once.
+    /// The bit clock runs first. If a bit starts, the node drives what its machine wants since its last sample. A sample is stored, or only
+    /// counted. It goes to the machine with the mode before it and with the first unsent frame, if that is ready, and then to the counters.
+    /// If these make the mode bus off, the machine goes off the bus at once.
     pub fn run(&mut self, level: Level)
         requires room { HasRoom self.old }
         requires short { quanta_of self.old < most_run_quanta }
         ensures node { HasSeen level self.old self.new }
         ensures setup { node_setup self.new ≡ node_setup self.old }
         ensures quanta { quanta_of self.new ≡ quanta_of self.old + 1 }
+        ensures keeps { keeps_lists self.new ≡ keeps_lists self.old }
     {
         self.progress.run(&self.setup, level);
     }
@@ -108,6 +134,7 @@ impl Node {
         ensures setup { node_setup self.new ≡ node_setup self.old }
         ensures counted { OnOk result (quanta_of self.new ≡ quanta_of self.old + 1) }
         ensures stays { OnErr result (quanta_of self.new ≡ quanta_of self.old) }
+        ensures keeps { keeps_lists self.new ≡ keeps_lists self.old }
     {
         self.prepare()?;
         self.run(level);
@@ -159,14 +186,15 @@ impl Node {
         self.progress.quanta
     }
 
-    /// Returns the samples so far, each with its quantum. Refused only if memory runs out.
+    /// Returns the samples so far, each with its quantum. A counting node gives none. Refused only if memory runs out.
     pub fn samples(&self, alloc: Global) -> Result<Samples, AllocError>
-        ensures { IfOk result (λ samples. Shows self.now (λ h. samples ≡ h.samples)) }
+        ensures { IfOk result (λ samples. keeps_lists self.now ≡ true
+            → Shows self.now (λ h. samples ≡ h.samples)) }
     {
         self.progress.traffic.samples.so_far(alloc)
     }
 
-    /// Returns the number of samples.
+    /// Returns the number of samples, whether the node lists them or only counts them.
     pub fn sample_count(&self) -> u64
         ensures { Shows self.now (λ h. result ≡ length h.samples) }
     {
@@ -187,11 +215,18 @@ impl Node {
         self.progress.traffic.counters
     }
 
-    /// Returns the resynchronising edges: quantum and phase error, in quanta, error 0 too.
+    /// Returns the resynchronising edges: quantum and phase error, in quanta, error 0 too. A counting node gives none.
     pub fn phases(&self) -> &[(u64, i8)]
-        ensures { Shows self.now (λ h. result.now ≡ phases_of h) }
+        ensures { keeps_lists self.now ≡ true → Shows self.now (λ h. result.now ≡ phases_of h) }
     {
         &self.progress.syncs.phases
+    }
+
+    /// Returns what a report says of these edges, whether the node lists them or not.
+    pub fn phase_totals(&self) -> PhaseTotals
+        ensures { Shows self.now (λ h. result ≡ phase_totals (phases_of h)) }
+    {
+        self.progress.syncs.totals
     }
 
     /// Returns the number of hard synchronisations.
@@ -218,11 +253,11 @@ impl Node {
             .saturating_sub(self.progress.traffic.sent) as u64
     }
 
-    /// Returns what the node stored, without a copy.
+    /// Returns what the node stored, without a copy. A counting node gives no samples and no phase errors.
     pub fn into_lists(self) -> NodeLists
-        ensures samples { Shows self (λ h. result.samples ≡ h.samples) }
+        ensures samples { keeps_lists self ≡ true → Shows self (λ h. result.samples ≡ h.samples) }
         ensures frames { Shows self (λ h. result.frames ≡ h.frames) }
-        ensures phases { Shows self (λ h. result.phases ≡ phases_of h) }
+        ensures phases { keeps_lists self ≡ true → Shows self (λ h. result.phases ≡ phases_of h) }
     {
         NodeLists {
             samples: self.progress.traffic.samples.into_samples(),

@@ -5,9 +5,10 @@ ghost use Rattle.wl_level.specs.Levels.{same};
 ghost use Rattle.wl_sync.specs.Skips.{free_quanta};
 ghost use Rattle.wl_node.specs.declared.setup.NodeSetup.{NodeSetup};
 ghost use Rattle.wl_node.specs.History.{History, by_beat};
-ghost use Rattle.wl_node.specs.Kept.{IsTraffic, IsRoomy, HasSeenNothing, IsSameProgress, HasProgressed, HasProgressedBy, KeepsDrive};
+ghost use Rattle.wl_node.specs.Kept.{IsTraffic, IsRoomy, HasSeenNothing, IsSameProgress, HasProgressed, HasProgressedBy, KeepsDrive, sync_count};
 ghost use Rattle.wl_node.specs.Limits.{most_run_quanta};
 
+use crate::phase_totals::PhaseTotals;
 use crate::samples::SampleRuns;
 use crate::setup::NodeSetup;
 use crate::syncs::Syncs;
@@ -33,18 +34,22 @@ pub struct NodeProgress {
 const FIRST_ROOM: usize = 8;
 
 impl NodeProgress {
-    /// Returns what a node keeps before the first quantum: it drives recessive.
-    pub fn new(alloc: Global, segments: Segments) -> Result<NodeProgress, AllocError>
+    /// Returns what a node keeps before the first quantum: it drives recessive. It lists its samples and phase errors if `keeps` is true, and
+    /// otherwise only keeps what a report says of them.
+    pub fn new(alloc: Global, segments: Segments, keeps: bool) -> Result<NodeProgress, AllocError>
         ensures place { IfOk result (HasSeenNothing segments) }
-        ensures none { IfOk result (λ kept. (kept.syncs.hards ≡ 0) × (kept.traffic.errors ≡ 0)) }
+        ensures none { IfOk result (λ kept. (sync_count kept.syncs ≡ 0) × (kept.traffic.errors ≡ 0)) }
         ensures no_samples { IfOk result (λ kept. kept.traffic.samples.count ≡ 0) }
+        ensures keeps { IfOk result (λ kept. kept.traffic.samples.keeps ≡ keeps) }
     {
         Ok(NodeProgress {
             clock: BitClock::new(segments),
             drive: Level::Recessive,
             quanta: 0,
             syncs: Syncs {
-                phases: Vec::with_capacity(alloc, FIRST_ROOM)?,
+                keeps,
+                phases: Vec::with_capacity(alloc, first_room(keeps))?,
+                totals: PhaseTotals::none(),
                 hards: 0,
             },
             traffic: Traffic {
@@ -53,7 +58,12 @@ impl NodeProgress {
                 pending: Level::Recessive,
                 sent: 0,
                 errors: 0,
-                samples: SampleRuns::new(alloc, segments.bit_quanta() as u8, FIRST_ROOM)?,
+                samples: SampleRuns::new(
+                    alloc,
+                    segments.bit_quanta() as u8,
+                    first_room(keeps),
+                    keeps,
+                )?,
                 frames: Vec::with_capacity(alloc, FIRST_ROOM)?,
             },
         })
@@ -64,9 +74,10 @@ impl NodeProgress {
         ensures room { OnOk result (IsRoomy self.new) }
         ensures same { IsSameProgress self.old self.new }
         ensures quanta { self.new.quanta ≡ self.old.quanta }
-        ensures hards { self.new.syncs.hards ≡ self.old.syncs.hards }
+        ensures syncs { sync_count self.new.syncs ≡ sync_count self.old.syncs }
         ensures errors { self.new.traffic.errors ≡ self.old.traffic.errors }
         ensures samples { self.new.traffic.samples.count ≡ self.old.traffic.samples.count }
+        ensures keeps { self.new.traffic.samples.keeps ≡ self.old.traffic.samples.keeps }
     {
         self.syncs.prepare()?;
         self.traffic.prepare()
@@ -76,9 +87,10 @@ impl NodeProgress {
     pub fn reserve(&mut self, runs: usize, edges: usize) -> Result<(), AllocError>
         ensures same { IsSameProgress self.old self.new }
         ensures quanta { self.new.quanta ≡ self.old.quanta }
-        ensures hards { self.new.syncs.hards ≡ self.old.syncs.hards }
+        ensures syncs { sync_count self.new.syncs ≡ sync_count self.old.syncs }
         ensures errors { self.new.traffic.errors ≡ self.old.traffic.errors }
         ensures samples { self.new.traffic.samples.count ≡ self.old.traffic.samples.count }
+        ensures keeps { self.new.traffic.samples.keeps ≡ self.old.traffic.samples.keeps }
     {
         self.syncs.reserve(edges)?;
         self.traffic.reserve(runs)
@@ -88,14 +100,15 @@ impl NodeProgress {
     pub fn run(&mut self, setup: &NodeSetup, level: Level)
         requires room { IsRoomy self.old }
         requires short { self.old.quanta < most_run_quanta }
-        requires hards { self.old.syncs.hards ≤ self.old.quanta }
+        requires syncs { sync_count self.old.syncs ≤ self.old.quanta }
         requires errors { self.old.traffic.errors ≤ self.old.quanta }
         requires samples { self.old.traffic.samples.count ≤ self.old.quanta }
         ensures place { HasProgressed setup.now level self.old self.new }
         ensures quanta { self.new.quanta ≡ self.old.quanta + 1 }
-        ensures hards { self.new.syncs.hards ≤ self.old.syncs.hards + 1 }
+        ensures syncs { sync_count self.new.syncs ≤ sync_count self.old.syncs + 1 }
         ensures errors { self.new.traffic.errors ≤ self.old.traffic.errors + 1 }
         ensures samples { self.new.traffic.samples.count ≤ self.old.traffic.samples.count + 1 }
+        ensures keeps { self.new.traffic.samples.keeps ≡ self.old.traffic.samples.keeps }
     {
         let idle = self.traffic.machine.idle();
         let awaits = self.traffic.machine.awaits_start();
@@ -123,9 +136,10 @@ impl NodeProgress {
         ensures few { result ≤ most }
         ensures quanta { self.new.quanta ≡ self.old.quanta + result }
         ensures room { IsRoomy self.old → IsRoomy self.new }
-        ensures hards { self.new.syncs.hards ≡ self.old.syncs.hards }
+        ensures syncs { sync_count self.new.syncs ≡ sync_count self.old.syncs }
         ensures errors { self.new.traffic.errors ≡ self.old.traffic.errors }
         ensures samples { self.new.traffic.samples.count ≡ self.old.traffic.samples.count }
+        ensures keeps { self.new.traffic.samples.keeps ≡ self.old.traffic.samples.keeps }
     {
         let settled = self.drive.is(self.traffic.pending);
         let free = (self.clock.free_quanta(level, settled) as u64).min(most);
@@ -144,13 +158,21 @@ impl NodeProgress {
         ensures drive { (setup : NodeSetup) → KeepsDrive setup level (suc quanta) self.old }
         ensures room { IsRoomy self.old → IsRoomy self.new }
         ensures quanta { self.new.quanta ≡ self.old.quanta + quanta }
-        ensures hards { self.new.syncs.hards ≡ self.old.syncs.hards }
+        ensures syncs { sync_count self.new.syncs ≡ sync_count self.old.syncs }
         ensures errors { self.new.traffic.errors ≡ self.old.traffic.errors }
         ensures samples { self.new.traffic.samples.count ≡ self.old.traffic.samples.count }
+        ensures keeps { self.new.traffic.samples.keeps ≡ self.old.traffic.samples.keeps }
     {
         self.clock.skip(level, quanta);
         self.quanta += quanta as u64;
     }
+}
+
+/// Returns for how many runs of samples and phase errors there is room at first. A node that doesn't list them takes none up.
+fn first_room(keeps: bool) -> usize
+    ensures { 0 < result }
+{
+    if keeps { FIRST_ROOM } else { 1 }
 }
 
 /// Does what a quantum does by its beat: if a bit starts, the node drives what its machine wants since its last sample.
@@ -173,6 +195,7 @@ fn obey(
         → IsTraffic setup.now traffic.new (by_beat setup.now h level beat) }
     ensures errors { traffic.new.errors ≤ traffic.old.errors + 1 }
     ensures count { traffic.new.samples.count ≤ traffic.old.samples.count + 1 }
+    ensures keeps { traffic.new.samples.keeps ≡ traffic.old.samples.keeps }
 {
     match beat {
         Beat::Plain => {}

@@ -1,7 +1,7 @@
 //! Samples, kept by runs: samples of one level that are a bit apart. A line at rest is one run, and so are the equal bits of a frame that a
-//! node takes at once.
+//! node takes at once. A node that only counts its samples lists no run.
 
-ghost use Rattle.std.specs.Prelude.{◌≡◌, ◌*◌, ◌+◌, ◌<◌, ◌≤◌, ◌++◌, ℕ, [], ◌∷◌, true, length, take, min, IfOk, OnOk, vec_len, vec_capacity};
+ghost use Rattle.std.specs.Prelude.{◌≡◌, ◌*◌, ◌+◌, ◌<◌, ◌≤◌, ◌++◌, ℕ, [], ◌∷◌, true, false, length, take, min, IfOk, OnOk, vec_len, vec_capacity};
 ghost use Rattle.wl_node.specs.Limits.{most_run_quanta};
 ghost use Rattle.wl_node.specs.Runs.{run_samples, samples_by, samples_from};
 
@@ -80,19 +80,30 @@ fn unroll(list: &mut Vec<(u64, Level)>, run: Run) -> Result<(), AllocError>
 #[derive(Drop)]
 pub(crate) struct SampleRuns {
     pub(crate) step: u8,
+    /// True if the samples are listed, false if they are only counted.
+    pub(crate) keeps: bool,
     pub(crate) runs: Vec<Run>,
     pub(crate) count: u64,
-    ghost counted: { count ≡ length (samples_by runs.items) },
+    ghost counted: { keeps ≡ true → count ≡ length (samples_by runs.items) },
+    ghost none: { keeps ≡ false → samples_by runs.items ≡ [] },
 }
 
 impl SampleRuns {
-    /// Returns no samples of a node whose bits have this many quanta, with room for some runs.
-    pub(crate) fn new(alloc: Global, step: u8, room: usize) -> Result<SampleRuns, AllocError>
+    /// Returns no samples of a node whose bits have this many quanta, with room for some runs. If `keeps` is true, samples are listed, and
+    /// otherwise they are only counted.
+    pub(crate) fn new(
+        alloc: Global,
+        step: u8,
+        room: usize,
+        keeps: bool,
+    ) -> Result<SampleRuns, AllocError>
         ensures samples { IfOk result (λ kept. samples_by kept.runs.items ≡ []) }
         ensures none { IfOk result (λ kept. kept.count ≡ 0) }
+        ensures keeps { IfOk result (λ kept. kept.keeps ≡ keeps) }
     {
         Ok(SampleRuns {
             step,
+            keeps,
             runs: Vec::with_capacity(alloc, room)?,
             count: 0,
         })
@@ -103,6 +114,7 @@ impl SampleRuns {
         ensures room { OnOk result (vec_len self.new.runs < vec_capacity self.new.runs) }
         ensures samples { samples_by self.new.runs.items ≡ samples_by self.old.runs.items }
         ensures count { self.new.count ≡ self.old.count }
+        ensures keeps { self.new.keeps ≡ self.old.keeps }
     {
         if self.runs.len() == self.runs.capacity() {
             self.runs.reserve(more_room(self.runs.len()))?;
@@ -110,12 +122,16 @@ impl SampleRuns {
         Ok(())
     }
 
-    /// Makes room for this many runs more.
+    /// Makes room for this many runs more, if they are listed.
     pub(crate) fn reserve(&mut self, runs: usize) -> Result<(), AllocError>
         ensures samples { samples_by self.new.runs.items ≡ samples_by self.old.runs.items }
         ensures count { self.new.count ≡ self.old.count }
+        ensures keeps { self.new.keeps ≡ self.old.keeps }
     {
-        self.runs.reserve(runs)
+        if self.keeps {
+            self.runs.reserve(runs)?;
+        }
+        Ok(())
     }
 
     /// Adds a sample.
@@ -124,11 +140,15 @@ impl SampleRuns {
         requires room { vec_len self.old.runs < vec_capacity self.old.runs }
         requires early { quantum < most_run_quanta }
         requires few { self.old.count ≤ quantum }
-        ensures samples { samples_by self.new.runs.items ≡ samples_by self.old.runs.items ++ (quantum, level) ∷ [] }
+        ensures samples { self.old.keeps ≡ true
+            → samples_by self.new.runs.items ≡ samples_by self.old.runs.items ++ (quantum, level) ∷ [] }
         ensures count { self.new.count ≡ self.old.count + 1 }
+        ensures keeps { self.new.keeps ≡ self.old.keeps }
     {
-        add(&mut self.runs, quantum, self.step, level);
         self.count += 1;
+        if self.keeps {
+            add(&mut self.runs, quantum, self.step, level);
+        }
     }
 
     /// Adds a run of this many samples: the first at quantum `from`, and each other one `step` quanta later.
@@ -136,49 +156,64 @@ impl SampleRuns {
         requires room { vec_len self.old.runs < vec_capacity self.old.runs }
         requires early { from < most_run_quanta }
         requires few { self.old.count ≤ from }
-        ensures samples { samples_by self.new.runs.items
+        ensures samples { self.old.keeps ≡ true → samples_by self.new.runs.items
             ≡ samples_by self.old.runs.items ++ samples_from from step level bits }
         ensures count { self.new.count ≡ self.old.count + bits }
+        ensures keeps { self.new.keeps ≡ self.old.keeps }
     {
-        self.runs.push_reserved(Run {
-            from: from as u32,
-            count: bits,
-            step,
-            level,
-        });
         self.count += bits as u64;
+        if self.keeps {
+            self.runs.push_reserved(Run {
+                from: from as u32,
+                count: bits,
+                step,
+                level,
+            });
+        }
     }
 
     /// Keeps this many samples, the first ones.
     pub(crate) fn truncate(&mut self, most: u64)
-        ensures samples { samples_by self.new.runs.items ≡ take most (samples_by self.old.runs.items) }
-        ensures count { self.new.count ≤ most }
+        ensures samples { self.old.keeps ≡ true
+            → samples_by self.new.runs.items ≡ take most (samples_by self.old.runs.items) }
+        ensures count { self.new.count ≡ min self.old.count most }
+        ensures keeps { self.new.keeps ≡ self.old.keeps }
     {
         if self.count <= most {
             return;
         }
-        cut(&mut self.runs, self.count, most);
+        let count = self.count;
         self.count = most;
+        if self.keeps {
+            cut(&mut self.runs, count, most);
+        }
     }
 
-    /// Returns the samples, and leaves nothing.
+    /// Returns the samples that are listed, and leaves nothing.
     pub(crate) fn into_samples(self) -> Samples
         ensures { result ≡ samples_by self.runs.items }
     {
         Samples {
+            count: self.listed(),
             runs: self.runs,
-            count: self.count,
         }
     }
 
-    /// Returns the samples so far. Refused only when out of memory.
+    /// Returns the samples that are listed so far. Refused only when out of memory.
     pub(crate) fn so_far(&self, alloc: Global) -> Result<Samples, AllocError>
         ensures { IfOk result (λ samples. samples ≡ samples_by self.now.runs.items) }
     {
         Ok(Samples {
             runs: Vec::from_slice(alloc, &self.runs)?,
-            count: self.count,
+            count: self.listed(),
         })
+    }
+
+    /// Returns how many samples are listed.
+    fn listed(&self) -> u64
+        ensures { result ≡ length (samples_by self.now.runs.items) }
+    {
+        if self.keeps { self.count } else { 0 }
     }
 }
 

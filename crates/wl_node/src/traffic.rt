@@ -137,6 +137,7 @@ impl Traffic {
         ensures frames { OnOk result (vec_len self.new.frames < vec_capacity self.new.frames) }
         ensures errors { self.new.errors ≡ self.old.errors }
         ensures count { self.new.samples.count ≡ self.old.samples.count }
+        ensures keeps { self.new.samples.keeps ≡ self.old.samples.keeps }
         ensures same { (setup : NodeSetup) (h : History) → IsTraffic setup self.old h → IsTraffic setup self.new h }
     {
         self.samples.prepare()?;
@@ -150,6 +151,7 @@ impl Traffic {
     pub fn reserve(&mut self, runs: usize) -> Result<(), AllocError>
         ensures errors { self.new.errors ≡ self.old.errors }
         ensures count { self.new.samples.count ≡ self.old.samples.count }
+        ensures keeps { self.new.samples.keeps ≡ self.old.samples.keeps }
         ensures same { (setup : NodeSetup) (h : History) → IsTraffic setup self.old h → IsTraffic setup self.new h }
     {
         self.samples.reserve(runs)
@@ -170,6 +172,7 @@ impl Traffic {
         ensures frames { self.new.frames ≡ self.old.frames }
         ensures errors { self.new.errors ≡ self.old.errors }
         ensures count { self.new.samples.count ≤ self.old.samples.count + 1 }
+        ensures keeps { self.new.samples.keeps ≡ self.old.samples.keeps }
     {
         let keeps = self.machine.keep(level);
         if keeps {
@@ -189,7 +192,7 @@ impl Traffic {
         requires short { most ≤ most_run_quanta }
         ensures kept { HasKept level result self.old.machine self.new.machine }
         ensures fits { 0 < result → first + (result - 1) * bit ≤ most }
-        ensures samples { samples_by self.new.samples.runs.items
+        ensures samples { self.old.samples.keeps ≡ true → samples_by self.new.samples.runs.items
             ≡ samples_by self.old.samples.runs.items ++ samples_from from bit level result }
         ensures counters { self.new.counters ≡ self.old.counters }
         ensures pending { self.new.pending ≡ self.old.pending }
@@ -197,6 +200,7 @@ impl Traffic {
         ensures frames { self.new.frames ≡ self.old.frames }
         ensures errors { self.new.errors ≡ self.old.errors }
         ensures count { self.new.samples.count ≡ self.old.samples.count + result }
+        ensures keeps { self.new.samples.keeps ≡ self.old.samples.keeps }
     {
         let bits = keep_equal(&mut self.machine, level, first, bit, most);
         if 0 < bits {
@@ -217,6 +221,7 @@ impl Traffic {
             → IsTraffic setup.now self.new (history_after_sample setup.now h level) }
         ensures errors { self.new.errors ≤ self.old.errors + 1 }
         ensures count { self.new.samples.count ≤ self.old.samples.count + 1 }
+        ensures keeps { self.new.samples.keeps ≡ self.old.samples.keeps }
     {
         if !self.keep(quantum, level) {
             self.sample(setup, quantum, level);
@@ -234,9 +239,12 @@ impl Traffic {
             → IsTraffic setup.now self.new (history_after_sample setup.now h level) }
         ensures errors { self.new.errors ≤ self.old.errors + 1 }
         ensures count { self.new.samples.count ≤ self.old.samples.count + 1 }
+        ensures keeps { self.new.samples.keeps ≡ self.old.samples.keeps }
     {
-        let head = ready_head(setup.queue.as_slice(), self.sent, quantum);
-        if head.is_none() && !level.is_dominant() && self.machine.is_free() {
+        if !level.is_dominant()
+            && self.machine.is_free()
+            && ready_head(setup.queue.as_slice(), self.sent, quantum).is_none()
+        {
             self.samples.push(quantum, Level::Recessive);
             return;
         }
@@ -254,6 +262,7 @@ impl Traffic {
             → IsTraffic setup.now self.new (history_after_sample setup.now h level) }
         ensures errors { self.new.errors ≤ self.old.errors + 1 }
         ensures count { self.new.samples.count ≤ self.old.samples.count + 1 }
+        ensures keeps { self.new.samples.keeps ≡ self.old.samples.keeps }
     {
         wl_machine::laws::a_sent_frame_is_the_head_that_began_its_stretch();
         let mode = self.counters.mode();

@@ -4,23 +4,23 @@ use Rattle.std.specs.Fmt.{digits}
 use Rattle.wl_confine.specs.Counts.{Counts, no_counts}
 use Rattle.wl_frame.specs.Grammar.{Content}
 use Rattle.wl_node.specs.declared.setup.Passed.{Passed}
-use Rattle.wl_serial.specs.declared.outcome.NodeOutcome.{NodeOutcome}
+use Rattle.wl_node.specs.Extremes.{phase_totals}
+use Rattle.wl_serial.specs.declared.outcome.NodeTotals.{NodeTotals}
 use Rattle.wl_report.specs.Report.{node_report_line, frame_line, verdict_line, report_text}
 
 -- a node to which nothing happened but errors and frames that it did not send, with these counters and phase errors
-abbrev told : Counts → List (ℕ × ℤ) → ℕ → ℕ → NodeOutcome
+abbrev told : Counts → List (ℕ × ℤ) → ℕ → ℕ → NodeTotals
 told counters phases errors unsent = record {
-  changes = [];
-  samples = [];
+  samples = 0;
   frames = [];
   counters = counters;
-  phases = phases;
+  phases = phase_totals phases;
   hards = 0;
   errors = errors;
   unsent = unsent;
 }
 
-abbrev quiet : NodeOutcome
+abbrev quiet : NodeTotals
 quiet = told no_counts [] 0 0
 
 abbrev passed : Bool → ℕ → Content → Passed
@@ -60,7 +60,7 @@ off_the_bus = refl
 clean : verdict_line (quiet ∷ quiet ∷ []) ≡ codes "verdict clean" ++ 10 ∷ []
 clean = refl
 
-no_node_is_clean : report_text (record { nodes = []; end = 70000 }) ≡ codes "verdict clean" ++ 10 ∷ []
+no_node_is_clean : report_text [] ≡ codes "verdict clean" ++ 10 ∷ []
 no_node_is_clean = refl
 
 -- a frame that was not sent is no clean verdict

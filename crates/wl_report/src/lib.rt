@@ -1,7 +1,7 @@
 //! The report of an outcome as text: a line for each node, its frames, and a verdict.
 #![tactic(auto)]
 
-mod extremes;
+mod error_word;
 mod frames;
 mod laws;
 mod nodes;
@@ -9,7 +9,7 @@ mod text;
 mod verdict;
 
 pub use frames::{push_content, push_id};
-pub use laws::{clean_is_clean, extremes_are_extreme};
+pub use laws::clean_is_clean;
 pub use nodes::mode_word;
 pub use text::report;
 pub use verdict::{all_errors, all_unsent};

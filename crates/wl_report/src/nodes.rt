@@ -4,12 +4,12 @@ ghost use Rattle.std.specs.List.{flat_map};
 ghost use Rattle.wl_report.specs.Lines.{GrowsBy, mode_word};
 ghost use Rattle.wl_report.specs.Report.{frame_line, node_report_line, node_report_lines};
 
-use crate::extremes::{ErrorWord, greatest_error, least_error};
+use crate::error_word::ErrorWord;
 use crate::frames::push_frame;
 use std::alloc::AllocError;
 use wl_confine::Mode;
 use wl_node::Passed;
-use wl_serial::NodeOutcome;
+use wl_serial::NodeTotals;
 
 /// Returns how far a node takes part in the traffic, as a word: `active`, `passive` or `off` (Bosch CAN 2.0 part B, section 8).
 pub fn mode_word(mode: Mode) -> &'static str
@@ -23,18 +23,18 @@ pub fn mode_word(mode: Mode) -> &'static str
 }
 
 /// Adds the line of a node.
-fn push_node_line(text: &mut String, number: usize, node: &NodeOutcome) -> Result<(), AllocError>
+fn push_node_line(text: &mut String, number: usize, node: &NodeTotals) -> Result<(), AllocError>
     ensures { OnOk result (GrowsBy text.old text.new (node_report_line number node.now)) }
 {
     let tec = node.counters.tec();
     let rec = node.counters.rec();
     let mode = mode_word(node.counters.mode());
     let errors = node.errors;
-    let samples = node.samples.len();
+    let samples = node.samples;
     let hards = node.hards;
-    let syncs = node.phases.len();
-    let least = ErrorWord(least_error(node.phases.as_slice()));
-    let greatest = ErrorWord(greatest_error(node.phases.as_slice()));
+    let syncs = node.phases.count;
+    let least = ErrorWord(node.phases.least);
+    let greatest = ErrorWord(node.phases.greatest);
     write!(
         text,
         "node {number} tec {tec} rec {rec} mode {mode} errors {errors} samples {samples}"
@@ -59,7 +59,7 @@ fn push_frames(text: &mut String, number: usize, frames: &[Passed]) -> Result<()
 pub(crate) fn push_node(
     text: &mut String,
     number: usize,
-    node: &NodeOutcome,
+    node: &NodeTotals,
 ) -> Result<(), AllocError>
     ensures { OnOk result (GrowsBy text.old text.new (node_report_lines (number, node.now))) }
 {

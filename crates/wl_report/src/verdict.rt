@@ -5,10 +5,10 @@ ghost use Rattle.wl_report.specs.Lines.{GrowsBy};
 ghost use Rattle.wl_report.specs.Report.{verdict_line};
 
 use std::alloc::AllocError;
-use wl_serial::NodeOutcome;
+use wl_serial::NodeTotals;
 
 /// Returns the errors of all nodes together. The sum is exact: a slice has fewer than 2^64 nodes.
-pub fn all_errors(nodes: &[NodeOutcome]) -> u128
+pub fn all_errors(nodes: &[NodeTotals]) -> u128
     ensures { result ≡ sum_by (λ n. n.errors) nodes.now }
 {
     let mut sum = 0u128;
@@ -19,7 +19,7 @@ pub fn all_errors(nodes: &[NodeOutcome]) -> u128
 }
 
 /// Returns the unsent frames of all nodes together.
-pub fn all_unsent(nodes: &[NodeOutcome]) -> u128
+pub fn all_unsent(nodes: &[NodeTotals]) -> u128
     ensures { result ≡ sum_by (λ n. n.unsent) nodes.now }
 {
     let mut sum = 0u128;
@@ -31,7 +31,7 @@ pub fn all_unsent(nodes: &[NodeOutcome]) -> u128
 
 /// Adds the verdict.
 #[tactic(auto, using(crate::proofs::Sums::verdict_clean, crate::proofs::Sums::verdict_faulty))]
-pub(crate) fn push_verdict(text: &mut String, nodes: &[NodeOutcome]) -> Result<(), AllocError>
+pub(crate) fn push_verdict(text: &mut String, nodes: &[NodeTotals]) -> Result<(), AllocError>
     ensures { OnOk result (GrowsBy text.old text.new (verdict_line nodes.now)) }
 {
     let errors = all_errors(nodes);

@@ -13,7 +13,7 @@ use Rattle.wl_topology.specs.Delays.{delay_of}
 use Rattle.wl_node.specs.declared.node.Node.{Node}
 use Rattle.wl_node.specs.declared.setup.NodeSetup.{NodeSetup}
 use Rattle.wl_node.specs.History.{history_of}
-use Rattle.wl_node.specs.Reached.{IsNode, node_setup, quanta_of, HasGone, TurnsAfter}
+use Rattle.wl_node.specs.Reached.{HasGone, IsNode, TurnsAfter, keeps_lists, node_setup, quanta_of}
 use Rattle.wl_plan.specs.declared.plan.Plan.{Plan}
 use Rattle.wl_plan.specs.Limits.{most_quanta}
 use Rattle.wl_plan.specs.PlanLine.{setup_at, line_of}
@@ -185,6 +185,7 @@ arrived plan i until sight x y z start node changes next ran = record {
     node = λ levels is. let on = ran.further.node levels is in (on.0, subst (IsNode (levels ++ on.0)) (sym node) on.1);
     changes = (ran.further.changes.0, changes ∙ ran.further.changes.1);
     next = (let e = ran.further.next in omega (arith, e, next));
+    keeps = ap keeps_lists node ∙ ran.further.keeps;
   };
 }
 

@@ -8,7 +8,7 @@ use Rattle.std.proofs.lemmas.List.{get_or_append_left, get_or-set_other, get_or-
 use Rattle.wl_level.specs.declared.Level.{Level}
 use Rattle.wl_record_core.specs.Truth.{IsIncreasing, count_below, odd}
 use Rattle.wl_node.specs.Marks.{HasGoneOn, HasPassed, IsMark, quanta_marked}
-use Rattle.wl_node.specs.Reached.{IsNode, node_setup, quanta_of}
+use Rattle.wl_node.specs.Reached.{IsNode, keeps_lists, node_setup, quanta_of}
 use Rattle.wl_plan.specs.declared.plan.Plan.{Plan}
 use Rattle.wl_plan.specs.PlanLine.{line_of, table_of}
 use Rattle.wl_plan.specs.Simulation.{seen}
@@ -168,10 +168,11 @@ marks_more rs xs ys x i is long each one = (ap length is ∙ (length-append xs (
 
 -- a node that is as far as it was, where its mark is
 pub is_back : (old r s : Running) (before : Before) → IsBefore old before → IsLater old r
-    → ((levels more : List Level) → HasGoneOn before.mark levels more r.node → IsNode levels s.node) → node_setup s.node ≡ node_setup r.node → quanta_of s.node ≡ quanta_marked before.mark
+    → ((levels more : List Level) → HasGoneOn before.mark levels more r.node → IsNode levels s.node) → node_setup s.node ≡ node_setup r.node → keeps_lists s.node ≡ keeps_lists r.node → quanta_of s.node ≡ quanta_marked before.mark
     → s.next ≡ before.next → s.known ≡ before.known → s.changes ≡ take before.changes r.changes → IsBack old s
-is_back old r s before is later node setup quanta next known changes = record {
+is_back old r s before is later node setup keeps quanta next known changes = record {
   setup = setup ∙ later.setup;
+  keeps = keeps ∙ later.keeps;
   quanta = quanta ∙ is.quanta;
   node = λ levels h.
       let on = later.node levels h in

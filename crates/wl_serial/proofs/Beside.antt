@@ -72,6 +72,7 @@ later_then a b c g h = record {
       (one.0 ++ two.0, subst (λ ls. IsNode ls c.node) (append_assoc levels one.0 two.0) two.1);
   changes = (g.changes.0 ++ h.changes.0, h.changes.1 ∙ (ap (λ xs. xs ++ h.changes.0) g.changes.1 ∙ append_assoc a.changes g.changes.0 h.changes.0));
   next = (let x = g.next in let y = h.next in omega (arith, x, y));
+  keeps = h.keeps ∙ g.keeps;
 }
 
 pub later_none : (a : Running) → IsLater a a
@@ -80,6 +81,7 @@ later_none a = record {
   node = λ levels is. ([], subst (λ ls. IsNode ls a.node) (sym (append-nil levels)) is);
   changes = ([], sym (append-nil a.changes));
   next = omega arith;
+  keeps = refl;
 }
 
 known_then : (a b c : Running) → b.next ≤ c.next → IsKnownOn a b → IsKnownOn b c → IsKnownOn a c

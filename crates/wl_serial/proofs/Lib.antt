@@ -7,6 +7,7 @@ mod Following
 mod Found
 mod Guesses
 mod Hearing
+mod Keeping
 mod Kept
 mod Known
 mod Only

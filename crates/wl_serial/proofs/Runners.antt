@@ -69,14 +69,18 @@ fewer_left end (x ∷ xs) zero r d b before later = omega arith
 fewer_left end (x ∷ xs) (suc j) r d b before later = (let f = fewer_left end xs j r d (omega arith) before later in omega arith)
 
 -- what one more of them did, after the others
+pub told_by : {X : Type 0} (f : ℕ → X) (seen : List Running) (r : Running) (told more : List X) (o : X)
+    → more ≡ told ++ o ∷ [] → told ≡ map f (range_with_len 0 (length seen)) → o ≡ f (length seen) → more ≡ map f (range_with_len 0 (length (seen ++ r ∷ [])))
+told_by f seen r told more o e are is =
+    e ∙ (ap (λ xs. xs ++ o ∷ []) are
+    ∙ (ap (λ x. map f (range_with_len 0 (length seen)) ++ x ∷ []) is
+    ∙ (sym (map-range_with_len_more f 0 (length seen) (length seen) (omega arith))
+    ∙ ap (λ n. map f (range_with_len 0 n)) (sym (length-append seen (r ∷ []))))))
+
 pub told_more : (plan : Plan) (seen : List Running) (r : Running) (told more : List NodeOutcome) (o : NodeOutcome)
     → more ≡ told ++ o ∷ [] → told ≡ map (node_outcome_of plan) (range_with_len 0 (length seen)) → o ≡ node_outcome_of plan (length seen)
     → more ≡ map (node_outcome_of plan) (range_with_len 0 (length (seen ++ r ∷ [])))
-told_more plan seen r told more o e are is =
-    e ∙ (ap (λ xs. xs ++ o ∷ []) are
-    ∙ (ap (λ x. map (node_outcome_of plan) (range_with_len 0 (length seen)) ++ x ∷ []) is
-    ∙ (sym (map-range_with_len_more (node_outcome_of plan) 0 (length seen) (length seen) (omega arith))
-    ∙ ap (λ n. map (node_outcome_of plan) (range_with_len 0 n)) (sym (length-append seen (r ∷ []))))))
+told_more plan = told_by (node_outcome_of plan)
 
 -- the one that stands at a place is the node of that number
 pub stands_at : (plan : Plan) (rs : List Running) (i : ℕ) (r : Running) → i < length rs → r ≡ get_or rs i r → AreRunning plan rs → IsRunning plan i r

@@ -3,6 +3,7 @@ use Rattle.std.proofs.Common.{◌≡◌, ℕ, zero, suc, ◌+◌, ◌<◌, ◌�
 use Rattle.std.proofs.Math.Seq.{take-length}
 use Rattle.wl_level.specs.declared.Level.{Level}
 use Rattle.wl_level.specs.Levels.{same}
+use Rattle.wl_node.specs.Extremes.{phase_totals}
 use Rattle.wl_node.specs.History.{history_of, counters_of, phases_of, hards_of, error_count, unsent_count}
 use Rattle.wl_record_core.specs.Truth.{count_below, IsIncreasing}
 use Rattle.wl_plan.specs.declared.plan.Plan.{Plan}
@@ -16,7 +17,8 @@ use Rattle.wl_node.specs.Reached.{IsNode, node_setup, quanta_of}
 use Rattle.wl_node.specs.declared.node.Node.{Node}
 use Rattle.wl_serial.specs.declared.running_node.Running.{Running}
 use Rattle.wl_serial.specs.declared.outcome.NodeOutcome.{NodeOutcome}
-use Rattle.wl_serial.specs.Outcome.{outcome_of_history, node_outcome_of}
+use Rattle.wl_serial.specs.declared.outcome.NodeTotals.{NodeTotals}
+use Rattle.wl_serial.specs.Outcome.{outcome_of_history, node_outcome_of, node_totals}
 use Rattle.wl_serial.specs.Running.{IsAt, IsRunning, IsSomewhere, RunsOn}
 
 as_many : (ts : List ℕ) (t u : ℕ) → t ≡ u → count_below t ts ≤ count_below u ts
@@ -143,3 +145,34 @@ outcome_is plan i r o laws sound b run past same read =
     ∙ (ap (λ xs. outcome_of_history (setup_at plan i) xs (history_of (setup_at plan i) (seen (line_of plan) i run.0))) (same ∙ e.1)
     ∙ ap (λ levels. outcome_of_history (setup_at plan i) (table_of plan i) (history_of (setup_at plan i) levels))
     (ap (λ k. seen (line_of plan) i k) (sym e.0) ∙ sym (laws.history_seen (line_of plan) i plan.end sound.causal b))))
+
+-- The same of what a report says of it.
+pub record AreTotals (node : Node) (t : NodeTotals) : Type 0 where
+  pub samples : (levels : List Level) → IsNode levels node → t.samples ≡ length (history_of (node_setup node) levels).samples
+  pub frames : (levels : List Level) → IsNode levels node → t.frames ≡ (history_of (node_setup node) levels).frames
+  pub counters : (levels : List Level) → IsNode levels node → t.counters ≡ counters_of (history_of (node_setup node) levels)
+  pub phases : (levels : List Level) → IsNode levels node → t.phases ≡ phase_totals (phases_of (history_of (node_setup node) levels))
+  pub hards : (levels : List Level) → IsNode levels node → t.hards ≡ hards_of (history_of (node_setup node) levels)
+  pub errors : (levels : List Level) → IsNode levels node → t.errors ≡ error_count (history_of (node_setup node) levels)
+  pub unsent : (levels : List Level) → IsNode levels node → t.unsent ≡ unsent_count (node_setup node) (history_of (node_setup node) levels)
+
+totals_as : (node : Node) (levels : List Level) (t : NodeTotals) → IsNode levels node → AreTotals node t
+    → t ≡ node_totals (outcome_of_history (node_setup node) [] (history_of (node_setup node) levels))
+totals_as node levels t is read = λ i. record {
+  samples = read.samples levels is i;
+  frames = read.frames levels is i;
+  counters = read.counters levels is i;
+  phases = read.phases levels is i;
+  hards = read.hards levels is i;
+  errors = read.errors levels is i;
+  unsent = read.unsent levels is i;
+}
+
+pub totals_are : (plan : Plan) (i : ℕ) (r : Running) (t : NodeTotals) → SimulationLaws → IsSound (line_of plan) → i < length plan.nodes → (run : IsRunning plan i r)
+    → plan.end ≤ r.next → AreTotals r.node t → t ≡ node_totals (node_outcome_of plan i)
+totals_are plan i r t laws sound b run past read =
+    let e = ends plan i r laws sound b run past in
+    totals_as r.node (seen (line_of plan) i run.0) t run.1.runs.node read
+    ∙ (ap (λ u. node_totals (outcome_of_history u [] (history_of u (seen (line_of plan) i run.0)))) run.1.runs.at.setup
+    ∙ ap (λ levels. node_totals (outcome_of_history (setup_at plan i) [] (history_of (setup_at plan i) levels)))
+    (ap (λ k. seen (line_of plan) i k) (sym e.0) ∙ sym (laws.history_seen (line_of plan) i plan.end sound.causal b)))

@@ -263,4 +263,5 @@ later_on r s level n t x gone changes next = record {
   node = λ levels h. (replicate n level, gone.node levels h);
   changes = (let m = more_kept r.changes t x in (m.0, changes ∙ m.1));
   next = next;
+  keeps = gone.keeps;
 }

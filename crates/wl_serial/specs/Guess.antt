@@ -3,7 +3,7 @@
 use Rattle.std.specs.Prelude.{◌≡◌, ◌≢◌, ℕ, ◌<◌, ◌≤◌, ◌⊎◌, Bool, List, length, slice_index_or}
 use Rattle.wl_level.specs.declared.Level.{Level}
 use Rattle.wl_node.specs.Marks.{IsMark, HasPassed, quanta_marked}
-use Rattle.wl_node.specs.Reached.{IsNode, node_setup, quanta_of}
+use Rattle.wl_node.specs.Reached.{IsNode, keeps_lists, node_setup, quanta_of}
 use Rattle.wl_plan.specs.declared.plan.Plan.{Plan}
 use Rattle.wl_plan.specs.PlanLine.{line_of}
 use Rattle.wl_plan.specs.Guess.{beside, from_others}
@@ -65,6 +65,7 @@ pub record IsBefore (r : Running) (before : Before) : Type 0 where
 -- the node is where it was
 pub record IsBack (old new : Running) : Type 0 where
   pub setup : node_setup new.node ≡ node_setup old.node
+  pub keeps : keeps_lists new.node ≡ keeps_lists old.node
   pub quanta : quanta_of new.node ≡ quanta_of old.node
   pub node : (levels : List Level) → IsNode levels old.node → IsNode levels new.node
   pub changes : new.changes ≡ old.changes

@@ -2,11 +2,13 @@
 use Rattle.std.specs.Prelude.{◌≡◌, ℕ, ◌+◌, List, [], ◌∷◌, ◌++◌, length, map}
 use Rattle.std.specs.List.{range_with_len}
 use Rattle.wl_node.specs.declared.setup.NodeSetup.{NodeSetup}
+use Rattle.wl_node.specs.Extremes.{phase_totals}
 use Rattle.wl_node.specs.History.{History, history_of, counters_of, phases_of, hards_of, error_count, unsent_count}
 use Rattle.wl_plan.specs.declared.plan.Plan.{Plan}
 use Rattle.wl_plan.specs.PlanLine.{setup_at, line_of, table_of}
 use Rattle.wl_plan.specs.Simulation.{history}
 use Rattle.wl_serial.specs.declared.outcome.NodeOutcome.{NodeOutcome}
+use Rattle.wl_serial.specs.declared.outcome.NodeTotals.{NodeTotals}
 use Rattle.wl_serial.specs.declared.outcome.Outcome.{Outcome}
 
 -- what a node of this setup did, by the ticks at which its drive changed and by its history
@@ -32,6 +34,22 @@ node_outcome_of plan i = outcome_of_history (setup_at plan i) (table_of plan i) 
 -- of each node, and the end
 abbrev pub outcome_of : Plan → Outcome
 outcome_of plan = record { nodes = map (node_outcome_of plan) (range_with_len 0 (length plan.nodes)); end = plan.end }
+
+-- what a report says of a node: the number of its samples, and what is said of its phase errors
+abbrev pub node_totals : NodeOutcome → NodeTotals
+node_totals n = record {
+  samples = length n.samples;
+  frames = n.frames;
+  counters = n.counters;
+  phases = phase_totals n.phases;
+  hards = n.hards;
+  errors = n.errors;
+  unsent = n.unsent;
+}
+
+-- of each node
+abbrev pub totals_of : Outcome → List NodeTotals
+totals_of outcome = map node_totals outcome.nodes
 
 -- of one node more: what came before, and the outcome of that node
 abbrev pub GoesNodeByNode : Type 0

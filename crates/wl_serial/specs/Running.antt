@@ -10,7 +10,7 @@ use Rattle.wl_plan.specs.PlanLine.{setup_at, line_of, table_of}
 use Rattle.wl_plan.specs.Line.{Line, found}
 use Rattle.wl_plan.specs.Simulation.{level, seen, changes, AreInside}
 use Rattle.wl_plan.specs.Sound.{IsCausal}
-use Rattle.wl_node.specs.Reached.{IsNode, node_setup, quanta_of}
+use Rattle.wl_node.specs.Reached.{IsNode, keeps_lists, node_setup, quanta_of}
 use Rattle.wl_serial.specs.declared.running_node.Running.{Running}
 
 -- what node j finds on a line at tick t
@@ -74,6 +74,10 @@ pub record AreRunning (plan : Plan) (rs : List Running) : Type 0 where
   pub all : length rs ≡ length plan.nodes
   pub each : (i : ℕ) (d : Running) → i < length rs → IsRunning plan i (slice_index_or rs i d)
 
+-- each node lists its samples and phase errors, or none does
+abbrev pub AllKeep : Bool → List Running → Type 0
+AllKeep keeps rs = (i : ℕ) (d : Running) → i < length rs → keeps_lists (slice_index_or rs i d).node ≡ keeps
+
 -- each node, wherever it is
 pub record AreSomewhere (plan : Plan) (rs : List Running) : Type 0 where
   pub all : length rs ≡ length plan.nodes
@@ -101,6 +105,7 @@ pub record IsLater (old new : Running) : Type 0 where
   pub node : (levels : List Level) → IsNode levels old.node → (more : List Level) × IsNode (levels ++ more) new.node
   pub changes : (more : List ℕ) × (new.changes ≡ old.changes ++ more)
   pub next : old.next ≤ new.next
+  pub keeps : keeps_lists new.node ≡ keeps_lists old.node
 
 -- The drive is known as far as it was, or up to the next quantum.
 pub record IsKnownOn (old new : Running) : Type 0 where

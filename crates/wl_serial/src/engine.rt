@@ -1,16 +1,16 @@
 //! The engine. The node whose drive is known the least far always runs all quanta that it can, until none is left before the end.
-ghost use Rattle.std.specs.Prelude.{◌≡◌, ◌<◌, ◌≤◌, IfOk, OnOk, MatchOption, length, map, List, slice_index};
+ghost use Rattle.std.specs.Prelude.{◌≡◌, ◌<◌, ◌≤◌, Bool, true, IfOk, OnOk, MatchOption, length, map, List, slice_index};
 ghost use Rattle.std.specs.List.{range_with_len};
 ghost use Rattle.wl_plan.specs.Checked.{IsChecked};
-ghost use Rattle.wl_serial.specs.Outcome.{node_outcome_of, outcome_of};
-ghost use Rattle.wl_serial.specs.Engine.{GoesNext, IsEngine, IsNearer};
+ghost use Rattle.wl_serial.specs.Outcome.{node_outcome_of, node_totals, outcome_of, totals_of};
+ghost use Rattle.wl_serial.specs.Engine.{GoesNext, IsEngine, IsNearer, KeepsLists};
 ghost use Rattle.wl_serial.specs.LineAt.{AreLines, AreHeard};
-ghost use Rattle.wl_serial.specs.Running.{AreRunning, AreKnown, AllKnown, NoneBefore, IsNext};
+ghost use Rattle.wl_serial.specs.Running.{AllKeep, AreRunning, AreKnown, AllKnown, NoneBefore, IsNext};
 
 use crate::checked::Checked;
 use crate::guess::is_led;
 use crate::line_at::LineAt;
-use crate::outcome::{NodeOutcomes, Outcome};
+use crate::outcome::{NodeOutcomes, Outcome, Totals};
 use crate::running_node::{Running, Ticks};
 use std::alloc::{AllocError, Global};
 use wl_level::Listed;
@@ -34,12 +34,35 @@ pub fn run_serial(alloc: Global, plan: &Plan) -> Result<Outcome, AllocError>
     ensures { IfOk result (λ outcome. outcome ≡ outcome_of plan.now) }
 {
     let checked = Checked::new(plan);
-    let mut engine = Engine::new(alloc, &checked)?;
-    engine.run(alloc, &checked)?;
+    let nodes = simulate(alloc, &checked, true)?;
     Ok(Outcome {
-        nodes: finish(alloc, &checked, engine.nodes)?,
+        nodes: finish(alloc, &checked, nodes)?,
         end: plan.end,
     })
+}
+
+/// Returns what a report says of that outcome. The samples are only counted, which takes less memory and time.
+///
+/// Refused only when out of memory.
+pub fn run_totals(alloc: Global, plan: &Plan) -> Result<Totals, AllocError>
+    requires { IsChecked plan.now }
+    ensures { IfOk result (λ totals. totals ≡ totals_of (outcome_of plan.now)) }
+{
+    let checked = Checked::new(plan);
+    let nodes = simulate(alloc, &checked, false)?;
+    let totals = totals_at_end(alloc, &checked, nodes)?;
+    Ok(totals)
+}
+
+/// Returns all nodes after all quanta before the end. They list their samples if `keeps`, and else only count them.
+fn simulate(alloc: Global, plan: &Checked, keeps: bool) -> Result<Vec<Running>, AllocError>
+    ensures running { IfOk result (λ running. AreRunning plan.now running.items) }
+    ensures ended { IfOk result (λ running. NoneBefore plan.now.end running.items) }
+    ensures keeps { IfOk result (λ running. AllKeep keeps running.items) }
+{
+    let mut engine = Engine::new(alloc, plan, keeps)?;
+    engine.run(alloc, plan)?;
+    Ok(engine.nodes)
 }
 
 /// True if a node has a frame to send. It decides nothing but how much memory the nodes take at first.
@@ -52,14 +75,15 @@ fn any_sends(plan: &Checked) -> bool {
     false
 }
 
-/// Returns all nodes before their first quanta.
-fn begin(alloc: Global, plan: &Checked) -> Result<Vec<Running>, AllocError>
-    ensures { IfOk result (λ running. AreRunning plan.now running.items) }
+/// Returns all nodes before their first quanta. They list their samples if `keeps`, and else only count them.
+fn begin(alloc: Global, plan: &Checked, keeps: bool) -> Result<Vec<Running>, AllocError>
+    ensures running { IfOk result (λ running. AreRunning plan.now running.items) }
+    ensures keeps { IfOk result (λ running. AllKeep keeps running.items) }
 {
     let busy = any_sends(plan);
     let mut running = Vec::new(alloc);
     for i in 0..plan.nodes() {
-        running.push(Running::begin(alloc, plan, i, busy)?)?;
+        running.push(Running::begin(alloc, plan, i, keeps, busy)?)?;
     }
     Ok(running)
 }
@@ -90,11 +114,12 @@ pub(crate) fn all_known(plan: &Checked, running: &[Running]) -> Ticks
 }
 
 impl Engine {
-    /// Returns the engine before the first quanta.
-    fn new(alloc: Global, plan: &Checked) -> Result<Engine, AllocError>
-        ensures { IfOk result (IsEngine plan.now) }
+    /// Returns the engine before the first quanta. Its nodes list their samples if `keeps`, and else only count them.
+    fn new(alloc: Global, plan: &Checked, keeps: bool) -> Result<Engine, AllocError>
+        ensures engine { IfOk result (IsEngine plan.now) }
+        ensures keeps { IfOk result (KeepsLists keeps) }
     {
-        let nodes = begin(alloc, plan)?;
+        let nodes = begin(alloc, plan, keeps)?;
         let lines = listen(alloc, plan)?;
         let known = all_known(plan, &nodes);
         Ok(Engine {
@@ -109,6 +134,7 @@ impl Engine {
         requires { IsEngine plan.now self.old }
         ensures engine { OnOk result (IsEngine plan.now self.new) }
         ensures ended { OnOk result (NoneBefore plan.now.end self.new.nodes.items) }
+        ensures keeps { (k : Bool) → KeepsLists k self.old → OnOk result (KeepsLists k self.new) }
     {
         let mut refused = 0;
         let mut asked = 0;
@@ -135,6 +161,7 @@ impl Engine {
         requires next { GoesNext plan.now j self.old }
         ensures engine { OnOk result (IsEngine plan.now self.new) }
         ensures nearer { OnOk result (IsNearer plan.now self.old self.new) }
+        ensures keeps { (k : Bool) → KeepsLists k self.old → OnOk result (KeepsLists k self.new) }
     {
         if !led {
             self.plain(plan, j, asked)?;
@@ -153,6 +180,7 @@ impl Engine {
         requires next { GoesNext plan.now j self.old }
         ensures engine { OnOk result (IsEngine plan.now self.new) }
         ensures nearer { OnOk result (IsNearer plan.now self.old self.new) }
+        ensures keeps { (k : Bool) → KeepsLists k self.old → OnOk result (KeepsLists k self.new) }
     {
         self.rest(plan, j, asked);
         self.turn(plan, j)
@@ -204,10 +232,11 @@ fn left_before(plan: &Checked, running: &[Running]) -> Option<usize>
     None
 }
 
-/// Returns what the nodes did; all have run to the end.
+/// Returns what the nodes did; all have run to the end, and list their samples.
 fn finish(alloc: Global, plan: &Checked, running: Vec<Running>) -> Result<NodeOutcomes, AllocError>
     requires running { AreRunning plan.now running.items }
     requires ended { NoneBefore plan.now.end running.items }
+    requires keeps { AllKeep true running.items }
     ensures { IfOk result (λ nodes. nodes ≡ map (node_outcome_of plan.now) (range_with_len 0 (length plan.now.nodes))) }
 {
     plan.laws();
@@ -216,4 +245,19 @@ fn finish(alloc: Global, plan: &Checked, running: Vec<Running>) -> Result<NodeOu
         nodes.push(r.finish())?;
     }
     Ok(nodes)
+}
+
+/// Returns what a report says of the nodes; all have run to the end.
+fn totals_at_end(alloc: Global, plan: &Checked, running: Vec<Running>) -> Result<Totals, AllocError>
+    requires running { AreRunning plan.now running.items }
+    requires ended { NoneBefore plan.now.end running.items }
+    ensures { IfOk result (λ totals. totals
+        ≡ map (λ i. node_totals (node_outcome_of plan.now i)) (range_with_len 0 (length plan.now.nodes))) }
+{
+    plan.laws();
+    let mut totals = Listed::new(alloc);
+    for r in running {
+        totals.push(r.totals())?;
+    }
+    Ok(totals)
 }

@@ -1,13 +1,13 @@
 //! A guess: while one node sends and all others listen, nothing else is sent but by an error or at the end of the frame. So the sender runs
 //! alone up to there, and then each listener runs as far beside what it sent. If none of them changes its drive, all did what they do
 //! (`a_consistent_guess_holds` of `wl_plan`). Else all go back to where they were.
-ghost use Rattle.std.specs.Prelude.{◌≡◌, ◌≢◌, ℕ, ◌<◌, ◌≤◌, false, true, IfOk, OnOk, MatchOption, List, length, slice_index_or};
+ghost use Rattle.std.specs.Prelude.{◌≡◌, ◌≢◌, ℕ, ◌<◌, ◌≤◌, Bool, false, true, IfOk, OnOk, MatchOption, List, length, slice_index_or};
 ghost use Rattle.wl_serial.specs.declared.line_at.LineAt.{LineAt as GivenLineAt};
 ghost use Rattle.wl_serial.specs.declared.running_node.Running.{Running as GivenRunning};
 ghost use Rattle.wl_serial.specs.Guess.{AreAsFar, AreBack, AreBefore, AreLater, HaveListened, HavePassed, RanAlone};
-ghost use Rattle.wl_serial.specs.Engine.{GoesNext, IsEngine, IsNearer};
+ghost use Rattle.wl_serial.specs.Engine.{GoesNext, IsEngine, IsNearer, KeepsLists};
 ghost use Rattle.wl_serial.specs.LineAt.{AreLines, AreHeard};
-ghost use Rattle.wl_serial.specs.Running.{AreRunning, AreSomewhere, RunsBelow, ticks_left};
+ghost use Rattle.wl_serial.specs.Running.{AllKeep, AreRunning, AreSomewhere, RunsBelow, ticks_left};
 ghost use Rattle.wl_serial.specs.Stretch.{HasStretched, TellsTheSame};
 
 use crate::alone::run_alone;
@@ -50,6 +50,7 @@ impl Engine {
         ensures engine { OnOk result (IsEngine plan.now self.new) }
         ensures went { IfOk result (λ failed. MatchOption failed (IsNearer plan.now self.old self.new)
             (λ t. AreAsFar self.old.nodes.items self.new.nodes.items)) }
+        ensures keeps { (k : Bool) → KeepsLists k self.old → OnOk result (KeepsLists k self.new) }
     {
         plan.laws();
         wl_plan::simulation_laws();
@@ -215,6 +216,7 @@ fn promise_all(plan: &Checked, running: &mut [Running])
     ensures heard { (lines : List GivenLineAt) → AreHeard plan.now running.old lines
         → AreHeard plan.now running.new lines }
     ensures left { ticks_left plan.now.end running.new ≤ ticks_left plan.now.end running.old }
+    ensures keeps { (k : Bool) → AllKeep k running.old → AllKeep k running.new }
 {
     for i in 0..running.len() {
         running[i].promise(plan, i);

@@ -16,9 +16,11 @@ mod so_far;
 mod sources;
 mod turn;
 
-pub use engine::run_serial;
+pub use engine::{run_serial, run_totals};
 pub use laws::{outcome_is_recordable, outcome_node_by_node, records_are_true};
-pub use outcome::{Changes, Frames, NodeOutcome, NodeOutcomes, Outcome, Phases};
+pub use outcome::{
+    Changes, Frames, NodeOutcome, NodeOutcomes, NodeTotals, Outcome, Phases, Totals,
+};
 pub use pulse::pulse_of;
 pub use records::records_of;
 pub use so_far::node_outcome;

@@ -1,9 +1,9 @@
 //! A line at rest: all nodes go on at once.
-ghost use Rattle.std.specs.Prelude.{◌≡◌, ℕ, ◌<◌, ◌≤◌, length};
-ghost use Rattle.wl_serial.specs.Engine.{IsEngine};
+ghost use Rattle.std.specs.Prelude.{◌≡◌, ℕ, ◌<◌, ◌≤◌, Bool, length};
+ghost use Rattle.wl_serial.specs.Engine.{IsEngine, KeepsLists};
 ghost use Rattle.wl_serial.specs.LineAt.{AreLines, AreHeard};
 ghost use Rattle.wl_serial.specs.QuietLine.{AreLifted, AreSilent, AllStand, AllStay};
-ghost use Rattle.wl_serial.specs.Running.{AreRunning, AreKnown};
+ghost use Rattle.wl_serial.specs.Running.{AllKeep, AreRunning, AreKnown};
 
 use crate::checked::Checked;
 use crate::engine::Engine;
@@ -18,6 +18,7 @@ impl Engine {
         requires node { j < length self.old.nodes.items }
         ensures engine { IsEngine plan.now self.new }
         ensures lifted { AreLifted plan.now self.old.nodes.items self.new.nodes.items }
+        ensures keeps { (k : Bool) → KeepsLists k self.old → KeepsLists k self.new }
     {
         let at = self.nodes[j].known;
         if at == *asked {
@@ -100,6 +101,7 @@ fn lift(plan: &Checked, running: &mut [Running], known: &mut Ticks, until: u64)
     ensures running { AreRunning plan.now running.new }
     ensures known { AreKnown plan.now.end running.new known.new }
     ensures lifted { AreLifted plan.now running.old running.new }
+    ensures keeps { (k : Bool) → AllKeep k running.old → AllKeep k running.new }
 {
     for i in 0..running.len() {
         running[i].lift(plan, i, until);

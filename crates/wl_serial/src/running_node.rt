@@ -1,22 +1,22 @@
 //! One node as far as the engine has run it.
-ghost use Rattle.std.specs.Prelude.{◌≡◌, ℕ, ◌^◌, ◌<◌, ◌≤◌, ◌⊎◌, ◌++◌, [], ◌∷◌, if◌then◌else◌, List, None, IfOk, OnOk, length, take};
+ghost use Rattle.std.specs.Prelude.{◌≡◌, ℕ, true, ◌^◌, ◌<◌, ◌≤◌, ◌⊎◌, ◌++◌, [], ◌∷◌, if◌then◌else◌, List, None, IfOk, OnOk, length, take};
 ghost use Rattle.wl_clock.specs.Timing.{tick_of};
 ghost use Rattle.wl_level.specs.Levels.{same};
 ghost use Rattle.wl_plan.specs.Checked.{IsChecked};
 ghost use Rattle.wl_plan.specs.declared.plan.Plan.{Plan as GivenPlan};
 ghost use Rattle.wl_node.specs.Marks.{HasPassed};
-ghost use Rattle.wl_node.specs.Reached.{IsNode, node_setup, quanta_of};
+ghost use Rattle.wl_node.specs.Reached.{IsNode, keeps_lists, node_setup, quanta_of};
 ghost use Rattle.wl_plan.specs.Limits.{most_quanta};
 ghost use Rattle.wl_plan.specs.PlanLine.{setup_at};
 ghost use Rattle.wl_serial.specs.declared.running_node.Running.{Running as GivenRunning};
 ghost use Rattle.wl_serial.specs.Guess.{IsBefore, IsBack};
-ghost use Rattle.wl_serial.specs.Outcome.{node_outcome_of};
+ghost use Rattle.wl_serial.specs.Outcome.{node_outcome_of, node_totals};
 ghost use Rattle.wl_serial.specs.QuietLine.{NodeStands, Stays};
 ghost use Rattle.wl_serial.specs.Running.{IsRunning, IsSomewhere, GoesOn, RanBelow, IsKnownOn, IsLater, by_quanta, one_more};
 ghost use Rattle.wl_serial.specs.Stretch.{HasFollowed, RunsAny};
 
 use crate::checked::Checked;
-use crate::outcome::{Changes, NodeOutcome};
+use crate::outcome::{Changes, NodeOutcome, NodeTotals};
 use std::alloc::{AllocError, Global};
 use wl_clock::Clock;
 use wl_level::{Level, Listed};
@@ -48,22 +48,25 @@ pub(crate) struct Before {
 const MOST_BITS: u64 = 118;
 
 impl Running {
-    /// Returns node `i` before its first quantum. With `busy` it has room for what a node samples on a bus that is never idle.
+    /// Returns node `i` before its first quantum. It lists its samples if `keeps`, and else only counts them. With `busy` it has room for
+    /// what a node samples on a bus that is never idle.
     pub(crate) fn begin(
         alloc: Global,
         plan: &Checked,
         i: usize,
+        keeps: bool,
         busy: bool,
     ) -> Result<Running, AllocError>
         requires node { i < length plan.now.nodes }
-        ensures { IfOk result (IsRunning plan.now i) }
+        ensures running { IfOk result (IsRunning plan.now i) }
+        ensures keeps { IfOk result (λ r. keeps_lists r.node ≡ keeps) }
     {
         plan.laws();
         wl_plan::simulation_laws();
         let setup = plan.node(i);
         let next = setup.clock.at(0);
         Ok(Running {
-            node: new_node(alloc, plan, i, busy)?,
+            node: new_node(alloc, plan, i, keeps, busy)?,
             changes: Listed::new(alloc),
             next,
             known: next,
@@ -153,6 +156,7 @@ impl Running {
         requires node { i < length plan.now.nodes }
         requires running { IsRunning plan.now i self.old }
         ensures running { IsRunning plan.now i self.new }
+        ensures node { self.new.node ≡ self.old.node }
         ensures next { self.new.next ≡ self.old.next }
         ensures changes { self.new.changes ≡ self.old.changes }
     {
@@ -225,6 +229,7 @@ impl Running {
         requires running { IsRunning plan.now i self.old }
         requires stays { Stays plan.now until i self.old }
         ensures running { IsRunning plan.now i self.new }
+        ensures node { self.new.node ≡ self.old.node }
         ensures next { self.new.next ≡ self.old.next }
         ensures changes { self.new.changes ≡ self.old.changes }
         ensures known { self.old.known ≤ self.new.known }
@@ -232,10 +237,10 @@ impl Running {
         self.known = self.known.max(until);
     }
 
-    /// Returns what the node did; it has run all its quanta before the end.
+    /// Returns what the node did; it has run all its quanta before the end, and lists its samples.
     pub(crate) fn finish(self) -> NodeOutcome
         ensures { (plan : GivenPlan) (i : ℕ) → IsChecked plan → i < length plan.nodes → IsRunning plan i self
-            → plan.end ≤ self.next → result ≡ node_outcome_of plan i }
+            → plan.end ≤ self.next → keeps_lists self.node ≡ true → result ≡ node_outcome_of plan i }
     {
         wl_plan::checked_is_sound();
         wl_plan::simulation_laws();
@@ -255,19 +260,66 @@ impl Running {
             unsent,
         }
     }
+
+    /// Returns what a report says of the node; it has run all its quanta before the end.
+    pub(crate) fn totals(self) -> NodeTotals
+        ensures { (plan : GivenPlan) (i : ℕ) → IsChecked plan → i < length plan.nodes → IsRunning plan i self
+            → plan.end ≤ self.next → result ≡ node_totals (node_outcome_of plan i) }
+    {
+        wl_plan::checked_is_sound();
+        wl_plan::simulation_laws();
+        let samples = self.node.sample_count();
+        let counters = self.node.counters();
+        let hards = self.node.hards();
+        let errors = self.node.errors();
+        let unsent = self.node.unsent();
+        let phases = self.node.phase_totals();
+        let lists = self.node.into_lists();
+        NodeTotals {
+            samples,
+            frames: lists.frames,
+            counters,
+            phases,
+            hards,
+            errors,
+            unsent,
+        }
+    }
 }
 
-/// Returns node `i` before its first quantum. With `busy` it has room for 5 runs of samples in 8 bits up to the end, and for an edge in 5 bits:
-/// most frames have no more of them. More room is made where it is needed.
-fn new_node(alloc: Global, plan: &Checked, i: usize, busy: bool) -> Result<Node, AllocError>
+/// Returns node `i` before its first quantum, that lists its samples or only counts them.
+fn fresh_node(alloc: Global, plan: &Checked, i: usize, keeps: bool) -> Result<Node, AllocError>
     requires node { i < length plan.now.nodes }
     ensures node { IfOk result (IsNode []) }
     ensures setup { IfOk result (λ node. node_setup node ≡ setup_at plan.now i) }
+    ensures keeps { IfOk result (λ node. keeps_lists node ≡ keeps) }
+{
+    let setup = plan.node(i).clone_in(alloc)?;
+    if keeps {
+        Node::new(alloc, setup)
+    } else {
+        Node::counting(alloc, setup)
+    }
+}
+
+/// Returns such a node. With `busy` it has room for 5 runs of samples in 8 bits up to the end, and for an edge in 5 bits: most frames have no
+/// more of them. More room is made where it is needed.
+fn new_node(
+    alloc: Global,
+    plan: &Checked,
+    i: usize,
+    keeps: bool,
+    busy: bool,
+) -> Result<Node, AllocError>
+    requires node { i < length plan.now.nodes }
+    ensures node { IfOk result (IsNode []) }
+    ensures setup { IfOk result (λ node. node_setup node ≡ setup_at plan.now i) }
+    ensures keeps { IfOk result (λ node. keeps_lists node ≡ keeps) }
 {
     plan.laws();
-    let setup = plan.node(i);
-    let mut node = Node::new(alloc, setup.clone_in(alloc)?)?;
+    let mut node = fresh_node(alloc, plan, i, keeps)?;
     if busy {
+        let setup = plan.node(i);
         let bits = setup.clock.first_not_before(plan.end()) / setup.segments.bit_quanta();
         node.reserve((bits / 8 * 5) as usize, (bits / 5) as usize)?;
     }

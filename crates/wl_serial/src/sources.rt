@@ -164,7 +164,7 @@ impl Sources {
         ensures kept { AreTallied (length plan.now.nodes) self.new }
         ensures sources { AreSources plan.now running.now j t self.new }
         ensures later { (k : ℕ) → k < length plan.now.nodes → t < slice_index_or self.new.nexts k 0 }
-        ensures inside { self.new.one < most_places }
+        ensures inside { self.new.one < length plan.now.nodes }
     {
         plan.laws();
         self.one = 0;
@@ -181,21 +181,21 @@ impl Sources {
     fn reach(&self, nodes: usize, t: u64) -> (u64, u64)
         requires few { nodes ≤ most_places }
         requires early { t < 2 ^ 63 }
+        requires inside { self.now.one < nodes }
         requires later { (k : ℕ) → k < nodes → t < slice_index_or self.now.nexts k 0 }
         ensures later { t < result.0 }
         ensures stays { StaysKept nodes result.0 self.now }
         ensures far { result.1 ≤ 2 ^ 63 }
         ensures others { (k : ℕ) → k ≢ self.now.one → k < nodes → result.1 ≤ slice_index_or self.now.nexts k 0 }
     {
-        let mut until = u64::MAX;
         let mut others = FAR;
         let mut dominant = 0;
         for i in 0..nodes {
             let next = self.nexts[i];
-            until = until.min(next);
             others = others.min(if i == self.one { FAR } else { next });
             dominant = dominant.max(if self.drives[i] { next } else { 0 });
         }
+        let until = others.min(self.nexts[self.one]);
         (until.max(dominant), others)
     }
 
@@ -246,12 +246,15 @@ impl Sources {
         self.drives[i] = one.dominant;
     }
 
-    /// Notes that a change of node `i` arrives at this tick.
+    /// Notes that a change of node `i` arrives at this tick. If an earlier one is still to be taken up, there is nothing to note.
     pub(crate) fn expect(&mut self, i: usize, comes: u64)
         requires { i < length self.old.nexts }
         ensures { AreSooner i comes self.old self.new }
     {
-        self.nexts[i] = self.nexts[i].min(comes);
+        if self.nexts[i] <= comes {
+            return;
+        }
+        self.nexts[i] = comes;
         if i != self.one {
             self.others = self.others.min(comes);
         }

@@ -1,8 +1,8 @@
 //! A node's turn: all its quanta below its horizon.
-ghost use Rattle.std.specs.Prelude.{◌≡◌, ℕ, ◌<◌, ◌≤◌, false, IfOk, OnOk, length};
-ghost use Rattle.wl_serial.specs.Engine.{GoesNext, IsEngine, IsNearer};
+ghost use Rattle.std.specs.Prelude.{◌≡◌, ℕ, ◌<◌, ◌≤◌, Bool, false, IfOk, OnOk, length};
+ghost use Rattle.wl_serial.specs.Engine.{GoesNext, IsEngine, IsNearer, KeepsLists};
 ghost use Rattle.wl_serial.specs.LineAt.{AreLines, AreHeard, IsFound};
-ghost use Rattle.wl_serial.specs.Running.{AreRunning, AreSomewhere, KnowsOthers, IsFewer, OnlyOne, RunsBelow};
+ghost use Rattle.wl_serial.specs.Running.{AllKeep, AreRunning, AreSomewhere, KnowsOthers, IsFewer, OnlyOne, RunsBelow};
 ghost use Rattle.wl_serial.specs.Stretch.{HasStretched, TellsTheSame};
 
 use crate::checked::Checked;
@@ -18,6 +18,7 @@ impl Engine {
         requires next { GoesNext plan.now j self.old }
         ensures engine { OnOk result (IsEngine plan.now self.new) }
         ensures nearer { OnOk result (IsNearer plan.now self.old self.new) }
+        ensures keeps { (k : Bool) → KeepsLists k self.old → OnOk result (KeepsLists k self.new) }
     {
         let nodes: &mut [Running] = &mut self.nodes;
         let lines: &mut [LineAt] = &mut self.lines;
@@ -48,6 +49,7 @@ fn run_below(
     ensures heard { OnOk result (AreHeard plan.now running.new lines.new) }
     ensures others { OnOk result (OnlyOne j running.old running.new) }
     ensures fewer { OnOk result (IsFewer plan.now.end horizon j running.old running.new) }
+    ensures keeps { (k : Bool) → AllKeep k running.old → OnOk result (AllKeep k running.new) }
 {
     plan.laws();
     wl_plan::simulation_laws();

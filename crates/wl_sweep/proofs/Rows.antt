@@ -5,7 +5,8 @@ use Rattle.std.specs.Fmt.{digits}
 use Rattle.wl_confine.specs.Counts.{Counts, no_counts}
 use Rattle.wl_frame.specs.Same.{same_content}
 use Rattle.wl_node.specs.declared.setup.Passed.{Passed}
-use Rattle.wl_serial.specs.declared.outcome.NodeOutcome.{NodeOutcome}
+use Rattle.wl_node.specs.Extremes.{phase_totals}
+use Rattle.wl_serial.specs.declared.outcome.NodeTotals.{NodeTotals}
 use Rattle.wl_setup.specs.declared.fault.SetupFault.TheVariants as fault
 use Rattle.wl_setup.specs.declared.plan_text.NodeText.{NodeText}
 use Rattle.wl_setup.specs.declared.plan_text.ClockText.{ClockText}
@@ -18,7 +19,7 @@ use Rattle.wl_sweep.specs.declared.options.Options.{Options}
 use Rattle.wl_sweep.specs.declared.range.SweptRange.{SweptRange}
 use Rattle.wl_sweep.specs.Changes.{clock_on, moved_node, node_set}
 use Rattle.wl_sweep.specs.Family.{choice_count, chosen, drawn, offset_count, run_seed, sign_count}
-use Rattle.wl_sweep.specs.Findings.{finding_of_outcome}
+use Rattle.wl_sweep.specs.Findings.{finding_of_totals}
 use Rattle.wl_sweep.specs.Rows.{row_count}
 use Rattle.wl_sweep.specs.Tallies.{part_start, tally_of}
 use Rattle.wl_setup.specs.declared.plan_text.PlanText.{PlanText}
@@ -199,30 +200,30 @@ unfolding digits
 changed = refl
 
 -- what a node came to that no error met: these counters, these frames, so many left to send
-abbrev told : Counts → List Passed → ℕ → NodeOutcome
+abbrev told : Counts → List Passed → ℕ → NodeTotals
 told counters frames unsent =
-    record { changes = []; samples = []; frames = frames; counters = counters; phases = []; hards = 0; errors = 0; unsent = unsent }
+    record { samples = 0; frames = frames; counters = counters; phases = phase_totals []; hards = 0; errors = 0; unsent = unsent }
 
 abbrev passed : Bool → ℕ → List Passed
 passed sent id = (record { sent = sent; quantum = 1; frame = record { extended = false; id = id; remote = false; dlc = 0; bytes = [] } }) ∷ []
 
 -- what one node sent the other received
-clean_bus : finding_of_outcome (record { nodes = told no_counts (passed true 5) 0 ∷ told no_counts (passed false 5) 0 ∷ []; end = 100 }) ≡ Clean
+clean_bus : finding_of_totals (told no_counts (passed true 5) 0 ∷ told no_counts (passed false 5) 0 ∷ []) ≡ Clean
 unfolding same_content
 clean_bus = refl
 
-early_bus : finding_of_outcome (record { nodes = told no_counts (passed true 5) 3 ∷ told no_counts (passed false 5) 0 ∷ []; end = 100 }) ≡ Early 3
+early_bus : finding_of_totals (told no_counts (passed true 5) 3 ∷ told no_counts (passed false 5) 0 ∷ []) ≡ Early 3
 early_bus = refl
 
-missed_frame : finding_of_outcome (record { nodes = told no_counts (passed true 5) 0 ∷ told no_counts [] 0 ∷ []; end = 100 }) ≡ Missed
+missed_frame : finding_of_totals (told no_counts (passed true 5) 0 ∷ told no_counts [] 0 ∷ []) ≡ Missed
 unfolding same_content
 missed_frame = refl
 
 -- a node that was off at the start of its history has found no error
-off_bus : finding_of_outcome (record { nodes = told (record { tec = 256; rec = 0 }) [] 1 ∷ []; end = 100 }) ≡ Off
+off_bus : finding_of_totals (told (record { tec = 256; rec = 0 }) [] 1 ∷ []) ≡ Off
 off_bus = refl
 
-errors_first : finding_of_outcome (record { nodes = record (told no_counts [] 2) { errors = 7 } ∷ []; end = 100 }) ≡ Faulty 7 2
+errors_first : finding_of_totals (record (told no_counts [] 2) { errors = 7 } ∷ []) ≡ Faulty 7 2
 errors_first = refl
 
 its_words : finding_words (Faulty 7 2) ≡ codes "verdict faulty errors 7 unsent 2"

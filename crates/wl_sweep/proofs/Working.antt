@@ -11,7 +11,7 @@ use Rattle.std.proofs.lemmas.List.Sums.{AllPass-from_list_all, list_all-from_All
 use Rattle.std.proofs.lemmas.Slice.Eq.{slice_eq-Decides}
 use Rattle.wl_frame.specs.Same.{same_content, content_decides}
 use Rattle.wl_node.specs.declared.setup.Passed.{Passed}
-use Rattle.wl_serial.specs.declared.outcome.NodeOutcome.{NodeOutcome}
+use Rattle.wl_serial.specs.declared.outcome.NodeTotals.{NodeTotals}
 use Rattle.wl_sweep.specs.declared.finding.Finding.{Finding}
 use Rattle.wl_sweep.specs.declared.finding.Finding.TheVariants.{Clean, Faulty, Off, Early, Missed}
 use Rattle.wl_sweep.specs.Findings.{CleanIsClean, IsWorking, all_like, contents, errors_in, is_off_bus, like, like_first, some_off, unsent_in}
@@ -65,24 +65,24 @@ passes_clean : (errors unsent : ℕ) (off whole : Bool) → Passes errors unsent
 passes_clean errors unsent off whole t = rw (t.errors_none, t.unsent_none, t.on, t.all) refl
 
 -- the frames of all nodes are like those of the first one
-likes_are : (o : Option NodeOutcome) (nodes : List NodeOutcome) → like_first o nodes ≡ true
-    → (first : NodeOutcome) → o ≡ Some first → All (λ (n : NodeOutcome). contents n.frames ≡ contents first.frames) nodes
+likes_are : (o : Option NodeTotals) (nodes : List NodeTotals) → like_first o nodes ≡ true
+    → (first : NodeTotals) → o ≡ Some first → All (λ (n : NodeTotals). contents n.frames ≡ contents first.frames) nodes
 likes_are None nodes h first is = absurd (let bad : None ≡ Some first = is in cc)
 likes_are (Some f) nodes h first is =
     let same : f ≡ first = cc in
     All-weaker (λ n. like f.frames n.frames ≡ true) (λ n. contents n.frames ≡ contents first.frames)
-    (λ n e. sym ((like_decides f.frames n.frames).0 e) ∙ ap (λ (m : NodeOutcome). contents m.frames) same)
-    nodes (AllPass-from_list_all (λ (n : NodeOutcome). like f.frames n.frames) nodes h)
+    (λ n e. sym ((like_decides f.frames n.frames).0 e) ∙ ap (λ (m : NodeTotals). contents m.frames) same)
+    nodes (AllPass-from_list_all (λ (n : NodeTotals). like f.frames n.frames) nodes h)
 
-are_like : (o : Option NodeOutcome) (nodes : List NodeOutcome)
-    → ((first : NodeOutcome) → o ≡ Some first → All (λ (n : NodeOutcome). contents n.frames ≡ contents first.frames) nodes) → like_first o nodes ≡ true
+are_like : (o : Option NodeTotals) (nodes : List NodeTotals)
+    → ((first : NodeTotals) → o ≡ Some first → All (λ (n : NodeTotals). contents n.frames ≡ contents first.frames) nodes) → like_first o nodes ≡ true
 are_like None nodes h = refl
 are_like (Some f) nodes h =
-    list_all-from_AllPass (λ (n : NodeOutcome). like f.frames n.frames) nodes
+    list_all-from_AllPass (λ (n : NodeTotals). like f.frames n.frames) nodes
     (All-weaker (λ n. contents n.frames ≡ contents f.frames) (λ n. like f.frames n.frames ≡ true)
     (λ n e. (like_decides f.frames n.frames).1 (sym e)) nodes (h f refl))
 
-works : (nodes : List NodeOutcome) → Passes (errors_in nodes) (unsent_in nodes) (some_off nodes) (all_like nodes) → IsWorking nodes
+works : (nodes : List NodeTotals) → Passes (errors_in nodes) (unsent_in nodes) (some_off nodes) (all_like nodes) → IsWorking nodes
 works nodes t = record {
   errors = t.errors_none;
   unsent = t.unsent_none;
@@ -90,7 +90,7 @@ works nodes t = record {
   whole = likes_are (slice_get nodes 0) nodes t.all;
 }
 
-works_passes : (nodes : List NodeOutcome) → IsWorking nodes → Passes (errors_in nodes) (unsent_in nodes) (some_off nodes) (all_like nodes)
+works_passes : (nodes : List NodeTotals) → IsWorking nodes → Passes (errors_in nodes) (unsent_in nodes) (some_off nodes) (all_like nodes)
 works_passes nodes w = record {
   errors_none = w.errors;
   unsent_none = w.unsent;
@@ -99,7 +99,7 @@ works_passes nodes w = record {
 }
 
 pub clean : CleanIsClean
-clean o = (
-  λ h. works o.nodes (clean_passes (errors_in o.nodes) (unsent_in o.nodes) (some_off o.nodes) (all_like o.nodes) h),
-  λ w. passes_clean (errors_in o.nodes) (unsent_in o.nodes) (some_off o.nodes) (all_like o.nodes) (works_passes o.nodes w),
+clean nodes = (
+  λ h. works nodes (clean_passes (errors_in nodes) (unsent_in nodes) (some_off nodes) (all_like nodes) h),
+  λ w. passes_clean (errors_in nodes) (unsent_in nodes) (some_off nodes) (all_like nodes) (works_passes nodes w),
 )

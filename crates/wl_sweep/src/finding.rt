@@ -4,13 +4,13 @@ ghost use Rattle.wl_node.specs.declared.setup.Passed.{Passed};
 ghost use Rattle.wl_plan.specs.Checked.{IsChecked};
 ghost use Rattle.wl_serial.specs.Outcome.{outcome_of};
 ghost use Rattle.wl_setup.specs.Plans.{plan_of_text};
-ghost use Rattle.wl_sweep.specs.Findings.{CleanIsClean, all_like, finding_of_outcome, finding_of_result, finding_of_text, is_clean, is_early, is_off_bus, is_refused, is_unclean, some_off, like};
+ghost use Rattle.wl_sweep.specs.Findings.{CleanIsClean, all_like, finding_of_totals, finding_of_result, finding_of_text, is_clean, is_early, is_off_bus, is_refused, is_unclean, some_off, like};
 
 use std::alloc::{AllocError, Global};
 use wl_confine::Mode;
 use wl_node::Passed;
 use wl_report::{all_errors, all_unsent};
-use wl_serial::{NodeOutcome, Outcome, run_serial};
+use wl_serial::{NodeTotals, Totals, run_totals};
 use wl_setup::{PlanText, SetupFault};
 
 /// What a sweep finds of one member: the first of these that applies.
@@ -73,7 +73,7 @@ impl Finding {
 }
 
 /// True if a node is off the bus.
-fn is_off_bus(node: &NodeOutcome) -> bool
+fn is_off_bus(node: &NodeTotals) -> bool
     ensures { result ≡ is_off_bus node.now }
 {
     match node.counters.mode() {
@@ -83,7 +83,7 @@ fn is_off_bus(node: &NodeOutcome) -> bool
 }
 
 /// True if one of the nodes is off the bus.
-fn some_off(nodes: &[NodeOutcome]) -> bool
+fn some_off(nodes: &[NodeTotals]) -> bool
     ensures { result ≡ some_off nodes.now }
 {
     for node in nodes {
@@ -111,7 +111,7 @@ fn like(one: &[Passed], other: &[Passed]) -> bool
 }
 
 /// True if the same frames passed through all nodes, in the same order.
-fn all_like(nodes: &[NodeOutcome]) -> bool
+fn all_like(nodes: &[NodeTotals]) -> bool
     ensures { result ≡ all_like nodes.now }
 {
     let first = match nodes.first() {
@@ -126,11 +126,11 @@ fn all_like(nodes: &[NodeOutcome]) -> bool
     true
 }
 
-/// Returns what an outcome shows of its bus.
-pub fn finding_of(outcome: &Outcome) -> Finding
-    ensures { result ≡ finding_of_outcome outcome.now }
+/// Returns what an outcome shows of its bus, by what it says of each node.
+pub fn finding_of(totals: &Totals) -> Finding
+    ensures { result ≡ finding_of_totals totals.now }
 {
-    let nodes = outcome.nodes.as_slice();
+    let nodes = totals.as_slice();
     let errors = all_errors(nodes);
     let unsent = all_unsent(nodes);
     if errors != 0 {
@@ -152,8 +152,8 @@ pub(crate) fn finding_of_text(alloc: Global, text: &PlanText) -> Result<Finding,
 {
     match text.plan(alloc) {
         Ok(plan) => {
-            let outcome = run_serial(alloc, &plan)?;
-            Ok(finding_of(&outcome))
+            let totals = run_totals(alloc, &plan)?;
+            Ok(finding_of(&totals))
         }
         Err(SetupFault::Memory) => Err(AllocError),
         Err(fault) => Ok(Finding::Refused(fault)),

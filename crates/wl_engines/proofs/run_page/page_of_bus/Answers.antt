@@ -1,7 +1,7 @@
 use Rattle.std.proofs.Common.{◌∙◌, ap, string_bytes, subst}
 use Rattle.wl_plan.specs.declared.plan.Plan.{Plan}
 use Rattle.wl_setup.specs.Check.{IsPlanCheck}
-use Rattle.wl_serial.specs.Outcome.{outcome_of}
+use Rattle.wl_serial.specs.Outcome.{outcome_of, totals_of}
 use Rattle.wl_margin.specs.Margins.{IsMarginText}
 use Rattle.wl_report.specs.Report.{report_text}
 use Rattle.wl_engines.specs.Paged.{IsPage}
@@ -18,7 +18,7 @@ returns c =
     let traffic = c.as_bytes-4.ensures.value ∙ c.in_ok-traffic.ensures.text in
     let names = c.args.bus.now.names in
     let ran = c.in_ok-outcome.ensures ∙ ap outcome_of c.deref-2.ensures.0 in
-    let report = c.deref-3.ensures.value ∙ (c.in_ok-report.ensures ∙ ap report_text ran) in
+    let report = c.deref-3.ensures.value ∙ (c.in_ok-report.ensures ∙ ap report_text (c.in_ok-totals.ensures ∙ ap totals_of ran)) in
     let trace = c.deref-4.ensures.value ∙ c.in_ok-trace.ensures in
     let wave = c.deref-5.ensures.value ∙ c.in_ok-wave.ensures in
     let checks = subst (λ (p : Plan). IsPlanCheck p names (string_bytes c.in_ok-settings.settings)) c.deref.ensures.0 c.in_ok-settings.ensures in

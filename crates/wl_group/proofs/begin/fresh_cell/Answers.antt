@@ -12,6 +12,6 @@ returns-clause-cell c =
     let is = c.in_ok-node.ensures.node in
     let none : quanta_of c.in_ok-node.node ≡ 0 = c.node_laws.ensures.counted c.in_ok-node.node _ is in
     fresh_kept c.args.plan.now c.args.i c.in_ok-node.node c.at-next.result c.ways_to.result c.simulation_laws.ensures c.laws.ensures.sound c.requires.node
-    setup is none
+    setup c.in_ok-node.ensures.keeps is none
     (c.at-next.ensures.tick ∙ ap (λ (s : NodeSetup). tick_of s.clock 0) (c.setup.ensures ∙ setup))
     c.ways_to.ensures

@@ -1,7 +1,8 @@
 -- Each node's outcome stands after those of the nodes before it.
-use Rattle.std.proofs.Common.{◌<◌, ◌≤◌, length, sym, subst, ◌∙◌, arith}
+use Rattle.std.proofs.Common.{◌≡◌, ◌<◌, ◌≤◌, true, length, sym, subst, ◌∙◌, arith}
 use Rattle.std.proofs.lemmas.Iterator.Adapters.{YieldsList-from_vec}
 use Rattle.std.proofs.lemmas.Iterator.Consumers.{YieldsList-turn}
+use Rattle.wl_node.specs.Reached.{keeps_lists}
 use Rattle.wl_serial.proofs.Runners.{told_more, stands_at}
 use Rattle.wl_serial.proofs.engine.finish.Goals as goal
 
@@ -14,4 +15,5 @@ loop-r-preserved c =
     told_more c.args.plan.now c.loop-r.yielded c.in-Some.r c.loop-r.nodes c.push.new.self c.finish.result c.in_ok-push.ensures.ok c.loop-r.invariant
     (c.finish.ensures c.args.plan.now (length c.loop-r.yielded) c.laws.ensures.checked is_node
     (stands_at c.args.plan.now c.args.running.items (length c.loop-r.yielded) c.in-Some.r t.0 t.1 c.requires.running)
-    (subst (λ r. c.args.plan.now.end ≤ r.next) (sym t.1) (c.requires.ended (length c.loop-r.yielded) c.in-Some.r t.0)))
+    (subst (λ r. c.args.plan.now.end ≤ r.next) (sym t.1) (c.requires.ended (length c.loop-r.yielded) c.in-Some.r t.0))
+    (subst (λ r. keeps_lists r.node ≡ true) (sym t.1) (c.requires.keeps (length c.loop-r.yielded) c.in-Some.r t.0)))

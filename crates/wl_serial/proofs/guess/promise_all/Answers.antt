@@ -1,8 +1,10 @@
 -- One node more has promised.
 use Rattle.std.proofs.Common.{◌≡◌, ◌<◌, ◌∙◌, ap, length, get_or, arith}
 use Rattle.std.proofs.lemmas.List.{get_or_default}
+use Rattle.wl_node.specs.Reached.{keeps_lists}
 use Rattle.wl_serial.specs.declared.running_node.Running.{Running}
 use Rattle.wl_serial.proofs.Hearing.{heard_same}
+use Rattle.wl_serial.proofs.Keeping.{keep_on}
 use Rattle.wl_serial.proofs.Runners.{one_on, same_left}
 use Rattle.wl_serial.proofs.guess.promise_all.Goals as goal
 
@@ -28,4 +30,5 @@ loop-i-preserved c =
         (let f = c.promise.ensures.next in let g = ap (λ x. x.next) (here e) in omega (arith, f, g)),
       )) (h.1 lines was)),
       omega (arith, left, more),
+      (λ k all. keep_on k rs i r b (h.3 k all) (λ e. ap keeps_lists c.promise.ensures.node ∙ ap (λ x. keeps_lists x.node) (here e))),
     )

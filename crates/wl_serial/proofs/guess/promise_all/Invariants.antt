@@ -1,7 +1,7 @@
-use Rattle.std.proofs.Common.{List, ◌≤◌}
+use Rattle.std.proofs.Common.{Bool, List, ◌≤◌}
 use Rattle.wl_serial.specs.declared.line_at.LineAt.{LineAt}
 use Rattle.wl_serial.specs.LineAt.{AreHeard}
-use Rattle.wl_serial.specs.Running.{AreRunning, ticks_left}
+use Rattle.wl_serial.specs.Running.{AllKeep, AreRunning, ticks_left}
 use Rattle.wl_serial.proofs.guess.promise_all.Given as goal
 
 -- what was heard stays, and so do the ticks that are left
@@ -10,3 +10,4 @@ invariant-loop-i l =
     AreRunning l.plan l.running
     × ((lines : List LineAt) → AreHeard l.plan l.fn.running lines → AreHeard l.plan l.running lines)
     × (ticks_left l.plan.end l.running ≤ ticks_left l.plan.end l.fn.running)
+    × ((k : Bool) → AllKeep k l.fn.running → AllKeep k l.running)

@@ -2,7 +2,9 @@
 use Rattle.std.proofs.Common.{◌≡◌, ◌<◌, ◌∙◌, ap, length, get_or, subst, sym, arith}
 use Rattle.std.proofs.Math.ListN.{set, length-set}
 use Rattle.std.proofs.lemmas.List.{get_or_default, get_or-set_other}
+use Rattle.wl_node.specs.Reached.{keeps_lists}
 use Rattle.wl_serial.specs.declared.running_node.Running.{Running}
+use Rattle.wl_serial.proofs.Keeping.{keep_on}
 use Rattle.wl_serial.proofs.Known.{known_on}
 use Rattle.wl_serial.proofs.Resting.{lifted_on, stay_on}
 use Rattle.wl_serial.proofs.Runners.{one_on}
@@ -28,4 +30,5 @@ loop-i-preserved c =
       stay_on rs i r b next plan c.args.until h.2,
       lifted_on rs i r b next plan c.args.running.now (λ d. c.lift.ensures.changes ∙ ap (λ x. x.changes) (here d))
           (λ d. let e = ap (λ x. x.known) (here d) in let f = c.lift.ensures.known in omega (arith, e, f)) h.3,
+      (λ k all. keep_on k rs i r b (h.4 k all) (λ d. ap keeps_lists c.lift.ensures.node ∙ ap (λ x. keeps_lists x.node) (here d))),
     )

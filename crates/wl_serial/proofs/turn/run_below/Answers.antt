@@ -1,6 +1,7 @@
 -- The node ran on by what is known, and the others wait.
 use Rattle.std.proofs.Common.{◌<◌, inr, length, sym, subst, arith}
-use Rattle.wl_serial.specs.Running.{AreRunning, KnowsOthers, OnlyOne, ticks_left}
+use Rattle.wl_serial.specs.Running.{AllKeep, AreRunning, KnowsOthers, OnlyOne, ticks_left}
+use Rattle.wl_serial.proofs.Keeping.{keep_on}
 use Rattle.wl_serial.proofs.Known.{only_one_on}
 use Rattle.wl_serial.proofs.Plain.{runs_plain}
 use Rattle.wl_serial.proofs.Runners.{fewer_left, fewer_on, horizon_on, one_on, somewhere}
@@ -29,6 +30,7 @@ loop-running-preserved c =
       subst (KnowsOthers plan j c.args.horizon) (sym ran.is) (horizon_on plan j c.args.horizon rs r h.4),
       inr (subst (λ xs. ticks_left plan.end xs < ticks_left plan.end c.args.running.now) (sym ran.is)
           (fewer_on plan.end c.args.running.now rs j r d b (omega (arith, before, c.requires.ends)) (ran.later d) h.5)),
+      (λ k all. subst (AllKeep k) (sym ran.is) (keep_on k rs j r b (h.6 k all) (λ e. (ran.further e).keeps))),
     )
 
 pub loop-running-smaller : goal.loop-running-smaller

@@ -17,3 +17,13 @@ returns-clause-node c =
     (subst (λ m. IsNode m.saw c.in-Some.cell.node)
     (sym (kept_member c.self.inside.plan c.self.inside.cells.items c.self.inside.replica c.self.inside.emitted.items c.args.i c.in-Some.cell e))
     (c.self.invariant.kept.placed c.args.i c.in-Some.cell e).node)
+
+pub returns-clause-keeps : goal.returns-clause-keeps
+returns-clause-keeps c =
+    let b : c.args.i < length c.self.inside.cells.items =
+    has_place c.self.inside.cells.items c.args.i (subst (λ (v : GroupValue). belongs v c.args.i ≡ true) (sym c.self.view_is) c.requires)
+    in
+    let e : slice_index_or c.self.inside.cells.items c.args.i None ≡ Some c.in-Some.cell =
+    cell_read c.self.inside.cells.items c.args.i c.index.result.now c.in-Some.cell b c.index.ensures c.in-Some.is
+    in
+    (c.self.invariant.kept.placed c.args.i c.in-Some.cell e).keeps

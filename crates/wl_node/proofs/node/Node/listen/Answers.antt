@@ -4,7 +4,7 @@ use Rattle.wl_node.proofs.node.Node.listen.Goals as goal
 
 pub invariant_of-self : goal.invariant_of-self
 invariant_of-self c = record {
-  few_hards = c.listen.ensures.hards;
+  few_syncs = c.listen.ensures.syncs;
   few_errors = omega (arith, c.args.self.now.few_errors, c.listen.ensures.errors, c.listen.ensures.quanta);
   few_samples = c.listen.ensures.samples;
   reached = ∥∥₁_map c.args.self.now.reached (λ (levels, h). (levels ++ replicate c.listen.result c.args.level, c.listen.ensures.place c.args.self.now.setup levels h));
@@ -15,6 +15,7 @@ returns-clause-gone c = record {
   node = c.listen.ensures.place c.args.self.now.setup;
   setup = refl;
   quanta = c.listen.ensures.quanta;
+  keeps = c.listen.ensures.keeps;
   stood = λ m h. c.listen.ensures.drive c.args.self.now.setup m (omega arith);
 }
 

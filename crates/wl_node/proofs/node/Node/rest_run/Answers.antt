@@ -9,7 +9,7 @@ at_least bits quanta some = (let one : 1 ≤ quanta = omega arith in let m : bit
 
 pub invariant_of-self : goal.invariant_of-self
 invariant_of-self c = record {
-  few_hards = omega (arith, c.args.self.now.few_hards, c.rest_bits.ensures.hards, c.rest_bits.ensures.quanta);
+  few_syncs = omega (arith, c.args.self.now.few_syncs, c.rest_bits.ensures.syncs, c.rest_bits.ensures.quanta);
   few_errors = omega (arith, c.args.self.now.few_errors, c.rest_bits.ensures.errors, c.rest_bits.ensures.quanta);
   few_samples = (let s = c.args.self.now.few_samples in let q = c.rest_bits.ensures.quanta in let n = c.rest_bits.ensures.samples in let m = at_least c.args.bits c.args.quanta c.requires.some in omega arith);
   reached = ∥∥₁_map c.args.self.now.reached (λ (levels, h). (levels ++ replicate (c.args.bits * c.args.quanta) Recessive, c.rest_bits.ensures.place levels h));
@@ -20,6 +20,7 @@ returns-clause-gone c = record {
   node = c.rest_bits.ensures.place;
   setup = refl;
   quanta = c.rest_bits.ensures.quanta;
+  keeps = c.rest_bits.ensures.keeps;
   stood = λ m h. c.rest_bits.ensures.drive m (omega arith);
 }
 

@@ -1,6 +1,7 @@
 -- What the lists had at the mark comes first in them.
-use Rattle.std.proofs.Common.{◌∙◌, ◌++◌, take, length, ap}
+use Rattle.std.proofs.Common.{◌∙◌, ◌++◌, take, length, ap, sym, arith, length-append}
 use Rattle.std.specs.List.{flat_map}
+use Rattle.wl_node.specs.declared.phase_totals.PhaseTotals.{PhaseTotals}
 use Rattle.wl_node.specs.History.{history_of, phase_of}
 use Rattle.wl_node.specs.Runs.{samples_by}
 use Rattle.wl_node.proofs.Growing.{front_of, grown, longer_phases}
@@ -20,21 +21,31 @@ returns-clause-place c setup levels more marked was =
         drive = at.drive;
         quanta = at.quanta;
         syncs = record {
-          phases = c.truncate.ensures.items
-              ∙ (ap (λ n. take n c.args.self.now.syncs.phases.items) at.phases
-              ∙ (ap (take (length (flat_map phase_of h.syncs))) kept.syncs.phases
+          phases = λ listed. c.truncate.ensures.items
+              ∙ (ap (λ (t : PhaseTotals). take t.count c.args.self.now.syncs.phases.items) at.totals
+              ∙ (ap (take (length (flat_map phase_of h.syncs))) (kept.syncs.phases listed)
               ∙ front_of (flat_map phase_of h.syncs) (flat_map phase_of g.syncs) (longer_phases h.syncs g.syncs on.syncs)));
+          totals = at.totals;
           hards = at.hards;
         };
+        same = kept.same ∙ sym c.truncate-2.ensures.keeps;
         traffic = record {
           machine = c.copy-self.ensures h.inputs at.machine;
           counters = at.counters;
           pending = at.pending;
           sent = at.sent;
           errors = at.errors;
-          samples = c.truncate-2.ensures.samples
+          samples = λ listed.
+              (let was_listed = sym c.truncate-2.ensures.keeps ∙ listed in
+              c.truncate-2.ensures.samples was_listed
               ∙ (ap (λ n. take n (samples_by c.args.self.now.traffic.samples.runs.items)) at.samples
-              ∙ (ap (take (length h.samples)) kept.traffic.samples ∙ front_of h.samples g.samples on.samples));
+              ∙ (ap (take (length h.samples)) (kept.traffic.samples was_listed) ∙ front_of h.samples g.samples on.samples)));
+          sampled =
+              (let few = ap length on.samples.1 ∙ length-append h.samples on.samples.0 in
+              let now = c.truncate-2.ensures.count in
+              let was_count = kept.traffic.sampled in
+              let mark = at.samples in
+              omega (arith, few, now, was_count, mark));
           frames = c.truncate-3.ensures.items
               ∙ (ap (λ n. take n c.args.self.now.traffic.frames.items) at.frames
               ∙ (ap (take (length h.frames)) kept.traffic.frames ∙ front_of h.frames g.frames on.frames));

@@ -35,7 +35,7 @@ returns-clause-place c levels was =
     let long : length (up_to setup levels c.args.level n is settled).seen ≡ c.args.self.now.quanta + n =
     up_to_long setup levels c.args.level n is settled ∙ ap (λ k. k + n) (sym was.place.quanta) in
     subst (λ (k : ℕ). IsProgress setup now (levels ++ replicate k c.args.level)) (let e : suc n ≡ n + 1 = omega arith in e)
-    (heard_place setup levels c.args.level n is settled c.args.self.now now was clock refl refl (omega arith)
+    (heard_place setup levels c.args.level n is settled c.args.self.now now was clock refl refl c.take.ensures.keeps (omega arith)
     (c.take.ensures.traffic (up_to setup levels c.args.level n is settled) long
     (traffic_seen setup c.args.self.now.traffic h (h.seen ++ replicate n x) was.place.traffic)))
 

@@ -29,7 +29,8 @@ returns-then-bits-eq0-clause-place c setup levels was =
         clock = was.place.clock;
         drive = was.place.drive;
         quanta = was.place.quanta;
-        syncs = record { phases = was.place.syncs.phases; hards = was.place.syncs.hards };
+        syncs = record { phases = was.place.syncs.phases; totals = was.place.syncs.totals; hards = was.place.syncs.hards };
+        same = was.place.same ∙ sym e.keeps;
         traffic = record {
           machine = e.kept.machine (history_of setup levels).inputs (history_of setup levels).inputs kept.machine
               (subst (λ k. AreMore (history_of setup levels).inputs c.args.level k (history_of setup levels).inputs) (sym none) refl);
@@ -37,10 +38,12 @@ returns-then-bits-eq0-clause-place c setup levels was =
           pending = e.pending ∙ kept.pending;
           sent = e.sent ∙ kept.sent;
           errors = e.errors ∙ kept.errors;
-          samples = e.samples
+          samples = λ on.
+              e.samples (sym e.keeps ∙ on)
               ∙ ap (λ k. samples_by c.args.self.now.traffic.samples.runs.items ++ samples_from (c.args.self.now.quanta + c.args.before) c.bit_quanta-bit.result c.args.level k) none
               ∙ ap (λ xs. samples_by c.args.self.now.traffic.samples.runs.items ++ xs) (from_none (c.args.self.now.quanta + c.args.before) c.bit_quanta-bit.result c.args.level)
-              ∙ append-nil (samples_by c.args.self.now.traffic.samples.runs.items) ∙ kept.samples;
+              ∙ append-nil (samples_by c.args.self.now.traffic.samples.runs.items) ∙ kept.samples (sym e.keeps ∙ on);
+          sampled = (let n = e.count in let k = kept.sampled in omega (arith, n, none, k));
           frames = ap (λ f. f.items) e.frames ∙ kept.frames;
           sends = kept.sends;
         };
@@ -85,7 +88,7 @@ returns-clause-place c setup levels was =
     subst (λ (q : ℕ). IsProgress setup now (levels ++ replicate q c.args.level)) (quanta c)
     (kept_place setup c.args.level c.args.self.now c.args.before (bit c) (n c) (after c) c.keep_bits-bits.new.self.machine (wide c) (some c) c.requires.recessive (clocks c) e.kept levels was now
     (c.sample_bits.ensures.clock ∙ sym (clock_some c.args.self.now.clock (after c) (n c) (some c))) refl (ap (λ q. c.args.self.now.quanta + q) (sym (quanta c))) refl
-    refl e.counters e.pending e.sent e.errors e.frames e.samples)
+    refl e.counters e.pending e.sent e.errors e.frames e.keeps e.samples e.count)
 
 pub returns-clause-drive : goal.returns-clause-drive
 returns-clause-drive c setup m less levels was =

@@ -1,5 +1,5 @@
 -- The quanta so far, and some more.
-use Rattle.std.proofs.Common.{arith}
+use Rattle.std.proofs.Common.{◌∙◌, arith}
 use Rattle.wl_node.proofs.Listening.{progressed_more, keeps_more}
 use Rattle.wl_node.proofs.progress.NodeProgress.listen.Goals as goal
 
@@ -16,7 +16,8 @@ loop-done-preserved c =
       (λ setup. keeps_more setup c.args.level a b old mid new (was.0 setup) (was.1 setup) (e.drive setup)),
       omega (arith, e.few),
       omega (arith, e.quanta, was.3),
-      omega (arith, e.quanta, e.hards, was.4),
+      omega (arith, e.quanta, e.syncs, was.4),
       omega (arith, e.errors, was.5),
       e.samples,
+      e.keeps ∙ was.7,
     )

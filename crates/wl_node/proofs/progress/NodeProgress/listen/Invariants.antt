@@ -1,6 +1,6 @@
 use Rattle.std.proofs.Common.{◌≡◌, suc, ◌+◌, ◌-◌, ◌≤◌}
 use Rattle.wl_node.specs.declared.setup.NodeSetup.{NodeSetup}
-use Rattle.wl_node.specs.Kept.{HasProgressedBy, KeepsDrive}
+use Rattle.wl_node.specs.Kept.{HasProgressedBy, KeepsDrive, sync_count}
 use Rattle.wl_node.proofs.progress.NodeProgress.listen.Given as goal
 
 -- so many quanta have run, and the drive stays
@@ -10,9 +10,10 @@ invariant-loop-done l =
     × ((setup : NodeSetup) → KeepsDrive setup l.level (suc l.done) l.fn.self)
     × (l.done ≤ l.most)
     × (l.self.quanta ≡ l.fn.self.quanta + l.done)
-    × (l.self.syncs.hards ≤ l.self.quanta)
+    × (sync_count l.self.syncs ≤ l.self.quanta)
     × (l.self.traffic.errors ≡ l.fn.self.traffic.errors)
     × (l.self.traffic.samples.count ≤ l.self.quanta)
+    × (l.self.traffic.samples.keeps ≡ l.fn.self.traffic.samples.keeps)
 
 abbrev pub decreases-loop-done : goal.decreases-loop-done
 decreases-loop-done l = l.most - l.done

@@ -11,14 +11,16 @@ returns-clause-place c setup e =
       clock = c.new.ensures ∙ ap (λ l. clock_after l []) (sym e);
       drive = refl;
       quanta = refl;
-      syncs = record { phases = c.in_ok-with_capacity.ensures.items; hards = refl };
+      syncs = record { phases = λ on. c.in_ok-with_capacity.ensures.items; totals = c.none.ensures; hards = refl };
+      same = sym c.in_ok-new.ensures.keeps;
       traffic = record {
         machine = c.new-2.ensures;
         counters = c.new-3.ensures;
         pending = refl;
         sent = refl;
         errors = refl;
-        samples = c.in_ok-new.ensures.samples;
+        samples = λ on. c.in_ok-new.ensures.samples;
+        sampled = c.in_ok-new.ensures.none;
         frames = c.in_ok-with_capacity-2.ensures.items;
         sends = λ frame h. cc;
       };

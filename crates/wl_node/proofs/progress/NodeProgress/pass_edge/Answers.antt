@@ -62,6 +62,7 @@ module _ (c : goal.After-self-1) (setup : NodeSetup) (levels : List Level) (old 
     drive = old.place.drive;
     quanta = ap (λ (n : ℕ). n + 1) old.place.quanta ∙ sym (length-append h.seen (x ∷ []));
     syncs = syncs;
+    same = c.note.ensures.keeps ∙ old.place.same;
     traffic = record {
       machine = old.place.traffic.machine;
       counters = old.place.traffic.counters;
@@ -69,6 +70,7 @@ module _ (c : goal.After-self-1) (setup : NodeSetup) (levels : List Level) (old 
       sent = old.place.traffic.sent;
       errors = old.place.traffic.errors;
       samples = old.place.traffic.samples;
+      sampled = old.place.traffic.sampled;
       frames = old.place.traffic.frames;
       sends = old.place.traffic.sends;
     };

@@ -16,7 +16,7 @@ returns-clause-place c levels old =
       frames = c.args.self.now.traffic.frames;
     } in
     now_rested c.args.setup.now c.args.self.now c.args.quanta c.requires.some c.requires.rests levels old c.args.bits c.requires.none
-    now refl refl refl refl refl refl c.push_run.ensures.samples
+    now refl refl refl refl refl refl c.push_run.ensures.keeps c.push_run.ensures.samples c.push_run.ensures.count
 
 pub returns-clause-drive : goal.returns-clause-drive
 returns-clause-drive c m less levels old =

@@ -38,6 +38,7 @@ returns-clause-place c levels old =
       drive = c.obey.ensures.drive h p.drive p.traffic ∙ ap (λ (b : Beat). (by_beat setup h c.args.level b).drive) beat;
       quanta = ap (λ (n : ℕ). n + 1) p.quanta ∙ sym (length-append h.seen (x ∷ []));
       syncs = syncs;
+      same = c.note.ensures.keeps ∙ (p.same ∙ sym c.obey.ensures.keeps);
       traffic = record {
         machine = traffic.machine;
         counters = traffic.counters;
@@ -45,6 +46,7 @@ returns-clause-place c levels old =
         sent = traffic.sent;
         errors = traffic.errors;
         samples = traffic.samples;
+        sampled = traffic.sampled;
         frames = traffic.frames;
         sends = traffic.sends;
       };

@@ -46,6 +46,7 @@ returns-clause-place c setup levels old =
       drive = p.drive;
       quanta = ap (λ (k : ℕ). k + n) p.quanta ∙ sym more;
       syncs = p.syncs;
+      same = p.same;
       traffic = record {
         machine = p.traffic.machine;
         counters = p.traffic.counters;
@@ -53,6 +54,7 @@ returns-clause-place c setup levels old =
         sent = p.traffic.sent;
         errors = p.traffic.errors;
         samples = p.traffic.samples;
+        sampled = p.traffic.sampled;
         frames = p.traffic.frames;
         sends = p.traffic.sends;
       };

@@ -1,4 +1,4 @@
-use Rattle.std.proofs.Common.{◌≡◌, ◌∙◌, ◌+◌, [], ◌∷◌, ◌++◌, length, drop, Some, sym, ap, subst}
+use Rattle.std.proofs.Common.{◌≡◌, ◌∙◌, ◌+◌, [], ◌∷◌, ◌++◌, length, drop, Some, sym, ap, subst, length-append}
 use Rattle.std.specs.Prelude.{count_by}
 use Rattle.std.specs.Option.{option_copied}
 use Rattle.wl_confine.specs.declared.Happened.{Happened}
@@ -60,7 +60,10 @@ returns-clause-traffic c h n old =
       pending = off.1;
       sent = kept.1 ∙ (ap (λ k. k + count_by is_sent (passed_frames c.args.quantum ended)) old.sent ∙ (ap (λ k. count_by is_sent h.frames + count_by is_sent (passed_frames k ended)) (sym n) ∙ sym (count_append is_sent h.frames (passed_frames (length h.seen) ended))));
       errors = c.count.ensures ∙ (ap (λ k. k + count_by is_error (c.bit-turn.result.happened ∷ [])) old.errors ∙ sym (count_append is_error h.happened (c.bit-turn.result.happened ∷ [])));
-      samples = c.push.ensures.samples ∙ (ap (λ l. l ++ (c.args.quantum, c.args.level) ∷ []) old.samples ∙ ap (λ k. h.samples ++ (k, c.args.level) ∷ []) (sym n));
+      samples = λ on.
+          (let was_on = sym c.push.ensures.keeps ∙ on in
+          c.push.ensures.samples was_on ∙ (ap (λ l. l ++ (c.args.quantum, c.args.level) ∷ []) (old.samples was_on) ∙ ap (λ k. h.samples ++ (k, c.args.level) ∷ []) (sym n)));
+      sampled = c.push.ensures.count ∙ (ap (λ k. k + 1) old.sampled ∙ sym (length-append h.samples ((length h.seen, c.args.level) ∷ [])));
       frames = kept.0 ∙ (ap (λ l. l ++ passed_frames c.args.quantum ended) old.frames ∙ ap (λ k. h.frames ++ passed_frames k ended) (sym n));
       sends = λ frame e. ap (λ k. first_frame (drop k setup.queue)) (count_append is_sent h.frames (passed_frames (length h.seen) ended)) ∙ sends_next laws h.inputs x setup.queue (count_by is_sent h.frames) (length h.seen) c.mode-after.result old.sends ready frame e;
     } in

@@ -19,7 +19,11 @@ returns-then-keeps-clause-kept c e setup h n old =
     } in
     let x : Sampled = sampled_next setup h c.args.level in
     keeps setup h c.args.level (c.keep-keeps.ensures.judged c.if-keeps.true h.inputs old.machine x.head x.mode) c.args.self.now now old refl refl refl refl refl
-    (c.push.ensures.samples ∙ ap (λ k. samples_by c.args.self.now.samples.runs.items ++ (k, c.args.level) ∷ []) (sym n))
+    (record {
+      keeps = c.push.ensures.keeps;
+      samples = λ on. c.push.ensures.samples on ∙ ap (λ k. samples_by c.args.self.now.samples.runs.items ++ (k, c.args.level) ∷ []) (sym n);
+      count = c.push.ensures.count;
+    })
     (c.keep-keeps.ensures.before c.if-keeps.true h.inputs old.machine ∙ sym (c.keep-keeps.ensures.after c.if-keeps.true h.inputs old.machine x.head x.mode))
     (c.keep-keeps.ensures.machine c.if-keeps.true h.inputs old.machine x.head x.mode)
 
@@ -31,6 +35,7 @@ returns-else-keeps-clause-same c e setup h old = record {
   sent = old.sent;
   errors = old.errors;
   samples = old.samples;
+  sampled = old.sampled;
   frames = old.frames;
   sends = old.sends;
 }

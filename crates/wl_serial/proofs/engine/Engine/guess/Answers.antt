@@ -1,11 +1,12 @@
 -- A guess that nobody contradicts holds; else all are where they were.
 use Rattle.std.proofs.Common.{◌∙◌, ap, refl, sym, subst, arith}
 use Rattle.wl_serial.specs.Guess.{AreAsFar, AreBefore}
-use Rattle.wl_serial.specs.Running.{ticks_left}
+use Rattle.wl_serial.specs.Running.{AllKeep, ticks_left}
 use Rattle.wl_serial.proofs.Back.{all_guessed, all_passed, back_far, back_known, back_running, ticks_fewer}
 use Rattle.wl_serial.proofs.Beside.{somewhere_on}
 use Rattle.wl_serial.proofs.Following.{all_later, ran_later}
 use Rattle.wl_serial.proofs.Guesses.{holds}
+use Rattle.wl_serial.proofs.Keeping.{keep_back, keep_later}
 use Rattle.wl_serial.proofs.Runners.{somewhere}
 use Rattle.wl_serial.proofs.Slices.{running_of, lines_of, heard_of, known_of, next_of, engine_of, whole}
 use Rattle.wl_serial.proofs.engine.Engine.guess.Goals as goal
@@ -115,3 +116,26 @@ returns-clause-went c =
     let old = c.requires.engine.running.all in
     let are = whole c.args.self.now.nodes.len c.back.new.running c.args.self.now.nodes.items (omega (arith, back.all, running.all, old, c.args.self.now.nodes.ok.0)) in
     subst (AreAsFar c.args.self.now.nodes.items) (sym are) (subst (λ xs. AreAsFar xs c.back.new.running) c.deref_mut-nodes.ensures.value (back_far rs c.back.new.running back))
+
+pub returns-then-branch-clause-keeps : goal.returns-then-branch-clause-keeps
+returns-then-branch-clause-keeps c k all =
+    let plan = c.args.plan.now in
+    let rs = c.deref_mut-nodes.result.now in
+    let led = c.lead.new.running in
+    let new = c.follow.new.running in
+    let later = all_later rs led new (ran_later plan c.args.j plan.end rs led c.in_ok-lead.ensures.ran) c.in_ok-follow.ensures.later in
+    let now = c.promise_all.ensures.running.all in
+    let old = c.requires.engine.running.all in
+    subst (AllKeep k) (sym (whole c.args.self.now.nodes.len c.promise_all.new.running c.args.self.now.nodes.items (omega (arith, now, old, c.args.self.now.nodes.ok.0))))
+    (c.promise_all.ensures.keeps k (keep_later k rs new later (subst (AllKeep k) (sym c.deref_mut-nodes.ensures.value) all)))
+
+pub returns-clause-keeps : goal.returns-clause-keeps
+returns-clause-keeps c k all =
+    let plan = c.args.plan.now in
+    let rs = c.deref_mut-nodes.result.now in
+    let later = all_later rs c.lead.new.running c.follow.new.running (ran_later plan c.args.j plan.end rs c.lead.new.running c.in_ok-lead.ensures.ran) c.in_ok-follow.ensures.later in
+    let back = c.in_ok-back.ensures rs (subst (AreBefore rs) (sym c.deref.ensures.value) c.in_ok-marks.ensures) later in
+    let running = running_of plan c.args.self.now rs c.deref_mut-nodes.ensures.value c.requires.engine in
+    let old = c.requires.engine.running.all in
+    subst (AllKeep k) (sym (whole c.args.self.now.nodes.len c.back.new.running c.args.self.now.nodes.items (omega (arith, back.all, running.all, old, c.args.self.now.nodes.ok.0))))
+    (keep_back k rs c.back.new.running back (subst (AllKeep k) (sym c.deref_mut-nodes.ensures.value) all))

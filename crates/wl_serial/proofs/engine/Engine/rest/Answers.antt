@@ -2,6 +2,7 @@
 use Rattle.std.proofs.Common.{◌∙◌, refl, sym, subst, arith}
 use Rattle.wl_serial.specs.LineAt.{AreHeard}
 use Rattle.wl_serial.specs.QuietLine.{AreLifted, AllStay}
+use Rattle.wl_serial.specs.Running.{AllKeep}
 use Rattle.wl_serial.proofs.Slices.{running_of, lines_of, heard_of, known_of, engine_of, whole}
 use Rattle.wl_serial.proofs.engine.Engine.rest.Goals as goal
 
@@ -41,3 +42,10 @@ returns-clause-lifted c =
     let are = whole c.args.self.now.nodes.len c.lift.new.running c.args.self.now.nodes.items (omega (arith, new, old, c.args.self.now.nodes.ok.0)) in
     subst (AreLifted c.args.plan.now c.args.self.now.nodes.items) (sym are)
     (subst (λ xs. AreLifted c.args.plan.now xs c.lift.new.running) c.deref_mut.ensures.value c.lift.ensures.lifted)
+
+pub returns-clause-keeps : goal.returns-clause-keeps
+returns-clause-keeps c k all =
+    let new = c.lift.ensures.running.all in
+    let old = c.requires.engine.running.all in
+    let are = whole c.args.self.now.nodes.len c.lift.new.running c.args.self.now.nodes.items (omega (arith, new, old, c.args.self.now.nodes.ok.0)) in
+    subst (AllKeep k) (sym are) (c.lift.ensures.keeps k (subst (AllKeep k) (sym c.deref_mut.ensures.value) all))

@@ -2,8 +2,10 @@
 use Rattle.std.proofs.Common.{◌∙◌, ◌<◌, ap, length, refl, sym, subst, arith}
 use Rattle.std.proofs.Math.ListN.{set, length-set}
 use Rattle.std.proofs.lemmas.List.{get_or_default}
-use Rattle.wl_serial.specs.Running.{ticks_left}
+use Rattle.wl_node.specs.Reached.{keeps_lists}
+use Rattle.wl_serial.specs.Running.{AllKeep, ticks_left}
 use Rattle.wl_serial.proofs.Hearing.{heard_same}
+use Rattle.wl_serial.proofs.Keeping.{keep_on}
 use Rattle.wl_serial.proofs.Known.{known_on, only_one_on}
 use Rattle.wl_serial.proofs.Runners.{one_on, same_left}
 use Rattle.wl_serial.proofs.Slices.{running_of, lines_of, heard_of, known_of, next_of, engine_of, whole}
@@ -70,3 +72,17 @@ returns-clause-engine c =
     (known_on plan.end c.deref_mut-nodes.result.now (set rs j r) c.args.self.now.known j _ (omega (arith, was, known.all, known.few)) was
     (all ∙ (new.all ∙ sym old.all)) known (only_one_on j c.deref_mut-nodes.result.now rs r c.in_ok-run_below.ensures.others)
     (λ d. ap (λ x. x.known) (get_or_default (set rs j r) j c.index-nodes-j-2.result d (subst (λ n. j < n) (sym all) b))))
+
+pub returns-clause-keeps : goal.returns-clause-keeps
+returns-clause-keeps c k all =
+    let j = c.args.j in
+    let rs = c.run_below.new.running in
+    let r = c.promise.new.self in
+    let new = c.in_ok-run_below.ensures.running in
+    let is_node = c.requires.next.is_node in
+    let few = c.requires.engine.running.all in
+    let b : j < length rs = omega (arith, few, new.all, is_node) in
+    let long = length-set rs j r in
+    subst (AllKeep k) (sym (whole c.args.self.now.nodes.len (set rs j r) c.args.self.now.nodes.items (omega (arith, long, new.all, few, c.args.self.now.nodes.ok.0))))
+    (keep_on k rs j r b (c.in_ok-run_below.ensures.keeps k (subst (AllKeep k) (sym c.deref_mut-nodes.ensures.value) all))
+    (λ d. ap keeps_lists c.promise.ensures.node ∙ ap (λ x. keeps_lists x.node) (get_or_default rs j c.index-nodes-j.result d b)))

@@ -5,4 +5,4 @@ use Rattle.wl_serial.proofs.running_node.Running.back.Goals as goal
 
 pub returns : goal.returns
 returns c old is later =
-    is_back old c.args.self.now _ c.args.before.now is later c.back.ensures.node c.back.ensures.setup c.back.ensures.quanta refl refl c.in_ok-cut.ensures
+    is_back old c.args.self.now _ c.args.before.now is later c.back.ensures.node c.back.ensures.setup c.back.ensures.keeps c.back.ensures.quanta refl refl c.in_ok-cut.ensures

@@ -4,8 +4,8 @@ use Rattle.wl_clock.specs.Timing.{tick_of}
 use Rattle.wl_serial.proofs.Steps.{begins}
 use Rattle.wl_serial.proofs.running_node.Running.begin.Goals as goal
 
-pub returns : goal.returns
-returns c =
+pub returns-clause-running : goal.returns-clause-running
+returns-clause-running c =
     begins c.args.plan.now c.args.i _ c.simulation_laws.ensures c.laws.ensures.sound c.requires.node
     (c.at-next.ensures.tick ∙ ap (λ u. tick_of u.clock 0) c.node-setup.ensures)
     refl

@@ -30,7 +30,7 @@ loop-k-preserved c =
           ap (λ x. drove x.changes (delay_of plan.topology i c.args.j) u) (get_or_default rs i d c.index-running-i.result inside)
           ∙ (ap (λ n. drove (get_or rs i c.index-running-i.result).changes n u) (sym (c.requires.delays.1 i 0 node))
           ∙ (ap (λ xs. drove xs (get_or c.args.delays.now i 0) u) (sym c.as_slice.ensures) ∙ c.take.ensures.drove u after before))),
-      omega (arith, node, c.laws.ensures.checked.few_nodes),
+      node,
       (λ m b. elim (cases_eq m i) [
         | inl own ↦ inl (let e = ap (λ n. get_or new.nexts n 0) own in let f = c.take.ensures.later in omega (arith, e, f))
         | inr other ↦ elim (c.loop-k.invariant.3 m b) [

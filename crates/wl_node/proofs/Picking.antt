@@ -1,14 +1,14 @@
 -- Going over a list and keeping what none of it beats.
-use Rattle.std.proofs.Common.{◌≡◌, refl, ap, sym, subst, ◌∙◌, arith, ℕ, zero, suc, ◌+◌, ◌<◌, ◌≤◌, ℤ, pos, ◌≤ℤ◌, List, [], ◌∷◌, ◌++◌, length, get_or, take, Bool, true, false, Option, Some, None, append_assoc}
+use Rattle.std.proofs.Common.{◌≡◌, refl, ap, sym, subst, ◌∙◌, arith, zero, suc, ◌<◌, ℤ, ◌≤ℤ◌, List, [], ◌∷◌, ◌++◌, Bool, true, false, Option, Some, None, append_assoc}
 use Rattle.std.specs.Prelude.{int_lt, not}
 use Rattle.std.specs.Option.{MatchOption}
 use Rattle.std.specs.List.{find, list_all, All, Contains}
-use Rattle.std.proofs.lemmas.List.{append-nil, map_more, take_all}
+use Rattle.std.proofs.lemmas.List.{append-nil}
 use Rattle.std.proofs.lemmas.List.Elements.{All-head, All-tail, All-nil, All-push, All-same, All-weaker, All-contains, All-contains_itself, Contains-push, Contains-append_left}
 use Rattle.std.proofs.lemmas.Int.{ints}
 use Rattle.std.proofs.lemmas.Bool.{not-true}
-use Rattle.wl_report.proofs.Passing.{all_pass, passes_each}
-use Rattle.wl_report.specs.Extremes.{first_unbeaten, least_phase_error, greatest_phase_error, phase_errors, IsLeast, IsGreatest, ExtremesAreExtreme}
+use Rattle.wl_node.proofs.Passing.{all_pass, passes_each}
+use Rattle.wl_node.specs.Extremes.{first_unbeaten, least_phase_error, greatest_phase_error, IsLeastError, IsGreatestError, ExtremesAreExtreme}
 
 -- one of them that none beats
 pub record Unbeaten (beats : ℤ → ℤ → Bool) (errors : List ℤ) (e : ℤ) : Type 0 where
@@ -101,12 +101,8 @@ module _ (beats : ℤ → ℤ → Bool) (ranks : Ranks beats) where
       let some = all_kept [] errors None refl in
       let P : Option ℤ → Type 0 = λ o. Kept beats errors o in subst P (settled errors some.0 some.1) some.1
 
-  grown : (phases : List (ℕ × ℤ)) (i : ℕ) (e : ℤ) (p : Option ℤ) → i < length phases → p ≡ Some e
-      → Unbeaten beats (phase_errors (take i phases) ++ (get_or phases i (0, pos 0)).1 ∷ []) e → Kept beats (phase_errors (take (i + 1) phases)) p
-  grown phases i e p within p_is u =
-      let P : Option ℤ → Type 0 = λ q. Kept beats (phase_errors (take (i + 1) phases)) q in
-      let Q : List ℤ → Type 0 = λ l. Unbeaten beats l e in
-      subst P (sym p_is) (subst Q (sym (map_more (λ x. x.1) phases i (0, pos 0) within)) u)
+  kept_is : (errors : List ℤ) (o : Option ℤ) → o ≡ first_unbeaten beats errors → Kept beats errors o
+  kept_is errors o is = let P : Option ℤ → Type 0 = λ q. Kept beats errors q in subst P (sym is) (kept_of errors)
 
   kept_one : (errors : List ℤ) (o : Option ℤ) (e : ℤ) → o ≡ Some e → Kept beats errors o → Unbeaten beats errors e
   kept_one errors o e is kept = let P : Option ℤ → Type 0 = λ q. Kept beats errors q in subst P is kept
@@ -114,37 +110,21 @@ module _ (beats : ℤ → ℤ → Bool) (ranks : Ranks beats) where
   kept_none : (errors : List ℤ) (o : Option ℤ) → o ≡ None → Kept beats errors o → errors ≡ []
   kept_none errors o is kept = let P : Option ℤ → Type 0 = λ q. Kept beats errors q in subst P is kept
 
-  same_loss : (x y e f : ℤ) → x ≡ y → e ≡ f → beats x e ≡ false → beats y f ≡ false
-  same_loss x y e f x_is e_is loses = (λ j. beats (sym x_is j) (sym e_is j)) ∙ loses
-
   -- one more error: where nothing was kept, where what was kept stays, and where it goes
-  pub first_step : (phases : List (ℕ × ℤ)) (i : ℕ) (error : ℤ) (o p : Option ℤ) → i < length phases → error ≡ (get_or phases i (0, pos 0)).1
-      → o ≡ None → p ≡ Some error → Kept beats (phase_errors (take i phases)) o → Kept beats (phase_errors (take (i + 1) phases)) p
-  first_step phases i error o p within is none p_is kept =
-      grown phases i (get_or phases i (0, pos 0)).1 p within (p_is ∙ ap Some is)
-      (begins (phase_errors (take i phases)) (get_or phases i (0, pos 0)).1 (kept_none (phase_errors (take i phases)) o none kept))
+  pub picks_first : (errors : List ℤ) (x : ℤ) (o p : Option ℤ) → o ≡ first_unbeaten beats errors → o ≡ None → p ≡ Some x
+      → p ≡ first_unbeaten beats (errors ++ x ∷ [])
+  picks_first errors x o p is none p_is =
+      p_is ∙ settled (errors ++ x ∷ []) (Some x) (begins errors x (kept_none errors o none (kept_is errors o is)))
 
-  pub keeps_step : (phases : List (ℕ × ℤ)) (i : ℕ) (error e f : ℤ) (o p : Option ℤ) → i < length phases → error ≡ (get_or phases i (0, pos 0)).1
-      → e ≡ f → o ≡ Some f → p ≡ Some e → beats error e ≡ false
-      → Kept beats (phase_errors (take i phases)) o → Kept beats (phase_errors (take (i + 1) phases)) p
-  keeps_step phases i error e f o p within is same one p_is loses kept =
-      grown phases i f p within (p_is ∙ ap Some same)
-      (keeps (phase_errors (take i phases)) (get_or phases i (0, pos 0)).1 f (kept_one (phase_errors (take i phases)) o f one kept)
-      (same_loss error (get_or phases i (0, pos 0)).1 e f is same loses))
+  pub picks_kept : (errors : List ℤ) (x e : ℤ) (o p : Option ℤ) → o ≡ first_unbeaten beats errors → o ≡ Some e → p ≡ Some e → beats x e ≡ false
+      → p ≡ first_unbeaten beats (errors ++ x ∷ [])
+  picks_kept errors x e o p is one p_is loses =
+      p_is ∙ settled (errors ++ x ∷ []) (Some e) (keeps errors x e (kept_one errors o e one (kept_is errors o is)) loses)
 
-  pub takes_step : (phases : List (ℕ × ℤ)) (i : ℕ) (error e f : ℤ) (o p : Option ℤ) → i < length phases → error ≡ (get_or phases i (0, pos 0)).1
-      → e ≡ f → o ≡ Some f → p ≡ Some error → beats e error ≡ false
-      → Kept beats (phase_errors (take i phases)) o → Kept beats (phase_errors (take (i + 1) phases)) p
-  takes_step phases i error e f o p within is same one p_is loses kept =
-      grown phases i (get_or phases i (0, pos 0)).1 p within (p_is ∙ ap Some is)
-      (takes (phase_errors (take i phases)) (get_or phases i (0, pos 0)).1 f (kept_one (phase_errors (take i phases)) o f one kept)
-      (same_loss e f error (get_or phases i (0, pos 0)).1 same is loses))
-
-  pub all_seen : (phases : List (ℕ × ℤ)) (i : ℕ) (o : Option ℤ) → length phases ≤ i → Kept beats (phase_errors (take i phases)) o
-      → o ≡ first_unbeaten beats (phase_errors phases)
-  all_seen phases i o past kept =
-      let P : List (ℕ × ℤ) → Type 0 = λ l. Kept beats (phase_errors l) o in
-      settled (phase_errors phases) o (subst P (take_all i phases past) kept)
+  pub picks_new : (errors : List ℤ) (x e : ℤ) (o p : Option ℤ) → o ≡ first_unbeaten beats errors → o ≡ Some e → p ≡ Some x → beats e x ≡ false
+      → p ≡ first_unbeaten beats (errors ++ x ∷ [])
+  picks_new errors x e o p is one p_is wins =
+      p_is ∙ settled (errors ++ x ∷ []) (Some x) (takes errors x e (kept_one errors o e one (kept_is errors o is)) wins)
 
 -- the less one wins, or the greater one
 abbrev pub less : ℤ → ℤ → Bool
@@ -172,11 +152,11 @@ greater_ranks = record {
 not_less : (x e : ℤ) → int_lt x e ≡ false → e ≤ℤ x
 not_less x e h = grind (arith, ints)
 
-least_named : (errors : List ℤ) (o : Option ℤ) → Kept less errors o → MatchOption o (errors ≡ []) (IsLeast errors)
+least_named : (errors : List ℤ) (o : Option ℤ) → Kept less errors o → MatchOption o (errors ≡ []) (IsLeastError errors)
 least_named errors None h = h
 least_named errors (Some e) u = record { among = u.among; least = All-weaker (λ x. less x e ≡ false) (λ x. e ≤ℤ x) (λ x h. not_less x e h) errors u.best }
 
-greatest_named : (errors : List ℤ) (o : Option ℤ) → Kept greater errors o → MatchOption o (errors ≡ []) (IsGreatest errors)
+greatest_named : (errors : List ℤ) (o : Option ℤ) → Kept greater errors o → MatchOption o (errors ≡ []) (IsGreatestError errors)
 greatest_named errors None h = h
 greatest_named errors (Some e) u =
     record { among = u.among; greatest = All-weaker (λ x. greater x e ≡ false) (λ x. x ≤ℤ e) (λ x h. not_less e x h) errors u.best }
