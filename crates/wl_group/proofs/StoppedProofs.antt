@@ -1,5 +1,5 @@
 -- A node that stopped before its first quantum is where it was.
-use Rattle.std.proofs.Common.{◌≡◌, ℕ, zero, ◌+◌, ◌-◌, List, [], ◌++◌, replicate, ap, ◌∙◌, subst, arith, append-nil}
+use Rattle.std.proofs.Common.{◌≡◌, ℕ, zero, ◌+◌, ◌-◌, ◌++◌, replicate, ap, ◌∙◌, subst, arith, append-nil}
 use Rattle.wl_level.specs.declared.Level.{Level}
 use Rattle.wl_node.specs.declared.node.Node.{Node}
 use Rattle.wl_node.specs.Reached.{quanta_of, HasStopped, IsNode, IsSameNode}

@@ -1,5 +1,5 @@
 -- Frames that test the clocks (this project's profile; that no frame tests them harder: Bosch CAN 2.0 part B, sections 6 and 10).
-use Rattle.std.specs.Prelude.{ℕ, zero, suc, ◌+◌, ◌*◌, ◌==◌, ◌&&◌, max, min, Bool, true, false, not, List, [], ◌∷◌, ◌++◌, fold, replicate, None, if◌then◌else◌}
+use Rattle.std.specs.Prelude.{ℕ, zero, suc, ◌+◌, ◌*◌, ◌==◌, ◌&&◌, max, Bool, true, false, not, List, [], ◌∷◌, ◌++◌, fold, replicate, None, if◌then◌else◌}
 use Rattle.std.specs.List.{list_any}
 use Rattle.wl_setup.specs.declared.plan_text.PlanText.{PlanText}
 use Rattle.wl_setup.specs.declared.plan_text.NodeText.{NodeText}

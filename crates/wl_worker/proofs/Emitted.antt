@@ -4,7 +4,7 @@ use Rattle.wl_record_core.specs.declared.record.Record.{Record}
 use Rattle.wl_plan.specs.declared.plan.Plan.{Plan}
 use Rattle.wl_group.specs.GroupValue.{GroupValue, initial_group}
 use Rattle.wl_group.specs.Going.{HasGoneOn}
-use Rattle.wl_worker.specs.Given.{Gives, none, more, GaveMore, GaveSince}
+use Rattle.wl_worker.specs.Given.{none, more, GaveMore, GaveSince}
 use Rattle.wl_worker.specs.Handed.{Took}
 
 pub gave_nothing : {L : Type 0} (gave : L → L → List Record → Type 0) (g : GroupValue) → GaveSince gave g g

@@ -1,4 +1,4 @@
-use Rattle.std.proofs.Common.{◌≡◌, ◌∙◌, ap, sym, arith, rules, ℕ, ℤ, List, [], ◌∷◌, ◌++◌, w64, to_z, of_z, map, pos, SFits}
+use Rattle.std.proofs.Common.{◌∙◌, ap, sym, arith, rules, ℕ, ℤ, List, [], ◌∷◌, ◌++◌, w64, to_z, of_z, map, pos, SFits}
 use Rattle.std.specs.Prelude.{◌+ℤ◌, ◌*◌}
 use Rattle.std.specs.List.{range_with_len}
 use Rattle.std.proofs.lemmas.Int.{to_z-of_z}

@@ -1,7 +1,7 @@
-use Rattle.std.proofs.Common.{◌≡◌, ◌∙◌, ap, sym, subst, arith, rules, true, false, List, ℤ, Result, SFits, w64}
+use Rattle.std.proofs.Common.{◌≡◌, ◌∙◌, sym, subst, arith, rules, true, false, List, ℤ, Result, SFits, w64}
 use Rattle.std.specs.Prelude.{◌&&◌, ◌-ℤ◌, ◌/◌, int_lt, unsigned_abs}
 use Rattle.wl_sweep.specs.declared.vary.RangeFault.{RangeFault}
-use Rattle.wl_sweep.specs.Vary.{IsRead, few_values, takes, values_of}
+use Rattle.wl_sweep.specs.Vary.{IsRead, few_values, takes}
 use Rattle.std.proofs.lemmas.Int.{to_z-of_z}
 use Rattle.wl_sweep.proofs.Varied.{values_read}
 use Rattle.wl_sweep.proofs.vary.values_of.Goals as goal
