@@ -41,7 +41,7 @@ pub fn run_serial(alloc: Global, plan: &Plan) -> Result<Outcome, AllocError>
     })
 }
 
-/// Returns what a report says of that outcome. The samples are only counted, which takes less memory and time.
+/// Returns what a report says of the outcome of [`run_serial`]. No sample or phase error is listed, which takes less memory and time.
 ///
 /// Refused only when out of memory.
 pub fn run_totals(alloc: Global, plan: &Plan) -> Result<Totals, AllocError>
