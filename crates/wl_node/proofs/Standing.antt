@@ -1,5 +1,5 @@
 -- On a recessive line a recessive drive stands: for as long as the machine rests, whatever it is handed, and up to the quantum at which a frame is ready, at that one still.
-use Rattle.std.proofs.Common.{◌≡◌, ◌∙◌, ℕ, zero, suc, ◌*◌, ◌<◌, ◌≤◌, Bool, true, false, cond, List, [], ◌∷◌, ◌++◌, length, replicate, Option, Some, None, ◌⊎◌, inl, inr, refl, sym, ap, subst, arith, append-nil, append_assoc, length-append, add-one}
+use Rattle.std.proofs.Common.{◌≡◌, ◌∙◌, ℕ, zero, suc, ◌+◌, ◌-◌, ◌*◌, ◌<◌, ◌≤◌, Bool, true, false, cond, List, [], ◌∷◌, ◌++◌, length, replicate, Option, Some, None, ◌⊎◌, inl, inr, refl, sym, ap, subst, arith, append-nil, append_assoc, length-append, add-one}
 use Rattle.std.proofs.Math.Nat.{mul-le-mul_left}
 use Rattle.std.proofs.lemmas.Bool.{cases_lt, lt-leb}
 use Rattle.wl_level.specs.declared.Level.{Level}
@@ -8,7 +8,9 @@ use Rattle.wl_level.specs.Levels.{is_dominant}
 use Rattle.wl_level.proofs.Callers.{recessive_from}
 use Rattle.wl_sync.specs.declared.Beat.{Beat}
 use Rattle.wl_sync.specs.declared.Beat.TheVariants.{Plain, Sample, Start}
-use Rattle.wl_sync.specs.SampleLaws.{SampleLaws}
+use Rattle.wl_segments.specs.Lengths.{bit_quanta}
+use Rattle.wl_sync.specs.Edges.{Seen}
+use Rattle.wl_sync.specs.SampleLaws.{RecessiveLaws, SampleLaws, recessive_rest, recessive_way}
 use Rattle.wl_confine.specs.declared.Mode.{Mode}
 use Rattle.wl_confine.specs.Counts.{counts_of, mode_of}
 use Rattle.wl_frame.specs.Grammar.{Content}
@@ -23,9 +25,8 @@ use Rattle.wl_node.specs.declared.setup.Queued.{Queued}
 use Rattle.wl_node.specs.declared.setup.NodeSetup.{NodeSetup}
 use Rattle.wl_node.specs.History.{History, history_of, seen_next, sampled_next, unsent_of, ready_head, switched_off}
 use Rattle.wl_node.specs.Limits.{most_run_quanta}
-use Rattle.wl_node.specs.Quiet.{floor_by, floor_and_silence}
 use Rattle.wl_node.specs.Stays.{until_frame, rest_stay, stay_by, stay_at}
-use Rattle.wl_node.proofs.Drives.{behind, beat_next, place_of, way_at, floor_few, longer_least, longer_near, same_sent}
+use Rattle.wl_node.proofs.Drives.{behind, beat_next, same_sent}
 use Rattle.wl_node.proofs.ReadyHeads.{ready_heads, until_now}
 use Rattle.wl_node.proofs.Sends.{off_or_not}
 use Rattle.wl_node.proofs.Turns.{history_next}
@@ -43,11 +44,19 @@ until_less : (unsent : List Queued) (n m : ℕ) → suc (suc m) ≤ until_frame 
 until_less [] n m few = omega arith
 until_less (q ∷ qs) n m few = omega arith
 
+-- more bits of the same length are no fewer quanta
+more_bits : (bit behind n rest way k : ℕ) → n ≤ rest → k ≤ way + n * bit + behind → k ≤ way + rest * bit + behind
+more_bits bit behind n rest way k less few = (let more : bit * n ≤ bit * rest = mul-le-mul_left bit less in omega arith)
+
+-- one of them is the way to the next sample
+one_bit : (bit behind n way k : ℕ) → suc k ≤ 1 + suc n * bit + behind → bit ≤ way → k ≤ way + n * bit + behind
+one_bit bit behind n way k few whole = omega arith
+
 -- the rest that a history leaves to the machine
 abbrev rest_in : History → Option ℕ
 rest_in h = rest_of (stretch_of h.inputs)
 
-module _ (rests : RestLaws) (silences : SilenceLaws) (ways : SampleLaws) (heads : HeadLaws) (setup : NodeSetup) where
+module _ (rests : RestLaws) (silences : SilenceLaws) (ways : SampleLaws) (bits : RecessiveLaws) (heads : HeadLaws) (setup : NodeSetup) where
   -- a rest behind a sample, also where the node goes off the bus with it
   rest_behind : (h : History) (n : ℕ) → RestsFor n (rest_of (stretch_after (stretch_of h.inputs) (Given (sampled_next setup h Recessive)))) → (v : Level)
       → RestsFor n (rest_in (behind setup h Recessive (Sample v)))
@@ -77,78 +86,82 @@ module _ (rests : RestLaws) (silences : SilenceLaws) (ways : SampleLaws) (heads 
 
   -- whatever is handed
 
-  -- a longer way, and more samples, are no shorter stay
-  enough : (o : Option ℕ) (n k : ℕ) (g : History) → way_at setup g ≡ None → RestsFor n o → k ≤ suc n * suc (place_of setup) → k ≤ rest_stay o setup g
-  enough None n k g e is few = absurd is
-  enough (Some rest) n k g e is few =
-      subst (λ w. k ≤ floor_and_silence (floor_by w true (place_of setup)) rest (place_of setup)) (sym e)
-      (let more : suc (place_of setup) * n ≤ suc (place_of setup) * rest = mul-le-mul_left (suc (place_of setup)) is in omega arith)
+  -- behind the sample of a bit, up to the next start
+  abbrev behind_sample : ℕ
+  behind_sample = setup.segments.ps2 - 1
 
-  module _ (h : History) (rest : ℕ) (is : rest_in h ≡ Some rest) (k : ℕ) (few : suc k ≤ rest_stay (Some rest) setup h) where
+  -- a longer way, and more samples, are no shorter stay
+  enough : (o : Option ℕ) (n k : ℕ) (g : History) → RestsFor n o → k ≤ recessive_way setup.segments g.seen + n * bit_quanta setup.segments + behind_sample → k ≤ rest_stay o setup g
+  enough None n k g is few = absurd is
+  enough (Some rest) n k g is few = more_bits (bit_quanta setup.segments) behind_sample n rest (recessive_way setup.segments g.seen) k is few
+
+  -- the machine rests for so long, or the bit that was sampled lasts for so long
+  abbrev Lasts : History → ℕ → Type 0
+  Lasts h k = (k ≤ rest_stay (rest_in h) setup h) ⊎ (k ≤ recessive_rest setup.segments h.seen)
+
+  module _ (h : History) (k : ℕ) where
     abbrev next : Beat → History
     next b = behind setup h Recessive b
 
-    -- by the way to the sample
-    by_way : (b : Beat) (w : Option ℕ) → rest_in (next b) ≡ Some rest → way_at setup (next b) ≡ w → k ≤ floor_and_silence (floor_by w true (place_of setup)) rest (place_of setup)
-        → k ≤ rest_stay (rest_in (next b)) setup (next b)
-    by_way b w e f less =
-        subst (λ o. k ≤ rest_stay o setup (next b)) (sym e)
-        (subst (λ v. k ≤ floor_and_silence (floor_by v true (place_of setup)) rest (place_of setup)) (sym f) less)
+    abbrev now : Seen
+    now = seen_next h Recessive
 
-    left_start : beat_next setup h Recessive ≡ Start → k ≤ rest_stay (rest_in (next Start)) setup (next Start)
-    left_start e =
-        let after = ways.start setup.segments h.seen (seen_next h Recessive) e in
-        let low = after.1.1 in
-        let f = floor_few ways setup h (way_at setup h) true refl in
-        by_way Start (Some after.0) is after.1.0
-        (longer_near (place_of setup) (floor_by (way_at setup h) true (place_of setup)) after.0 rest k (omega arith)
-        (ways.some setup.segments (h.seen ++ seen_next h Recessive ∷ []) after.0 after.1.0) few)
+    module _ (rest : ℕ) (is : rest_in h ≡ Some rest) (few : suc k ≤ rest_stay (Some rest) setup h) where
+      -- as long as there is no sample
+      left_on : (b : Beat) → rest_in (next b) ≡ Some rest → (next b).seen ≡ h.seen ++ now ∷ [] → Lasts (next b) k
+      left_on b e f =
+          let near = bits.near setup.segments h.seen now.idle now.awaits now.driving in
+          inl (subst (λ o. k ≤ rest_stay o setup (next b)) (sym e)
+          (subst (λ seen. k ≤ recessive_way setup.segments seen + rest * bit_quanta setup.segments + behind_sample) (sym f) (omega (arith, few, near))))
 
-    left_plain : (w : Option ℕ) → way_at setup h ≡ w → beat_next setup h Recessive ≡ Plain → k ≤ rest_stay (rest_in (next Plain)) setup (next Plain)
-    left_plain None f e =
-        let here : suc k ≤ floor_and_silence (suc (place_of setup)) rest (place_of setup) =
-        subst (λ w. suc k ≤ floor_and_silence (floor_by w true (place_of setup)) rest (place_of setup)) f few in
-        by_way Plain None is (ways.after setup.segments h.seen (seen_next h Recessive) e f) (omega arith)
-    left_plain (Some n) f e =
-        let near = ways.near setup.segments h.seen (seen_next h Recessive) n e f in
-        by_way Plain (Some near.0) is near.1.0
-        (longer_near (place_of setup) n near.0 rest k near.1.1 (ways.some setup.segments (h.seen ++ seen_next h Recessive ∷ []) near.0 near.1.0)
-        (subst (λ w. suc k ≤ floor_and_silence (floor_by w true (place_of setup)) rest (place_of setup)) f few))
+      left_sample : (v : Level) (r : ℕ) → r ≡ rest → beat_next setup h Recessive ≡ Sample v → Lasts (next (Sample v)) k
+      left_sample v r same e = by r same
+        where
+          here : suc k ≤ 1 + rest * bit_quanta setup.segments + behind_sample
+          here = subst (λ n. suc k ≤ n + rest * bit_quanta setup.segments + behind_sample) (bits.last setup.segments h.seen now.idle now.awaits now.driving v e) few
 
-    left_sample : (v : Level) (r : ℕ) → r ≡ rest → beat_next setup h Recessive ≡ Sample v → k ≤ rest_stay (rest_in (next (Sample v))) setup (next (Sample v))
-    left_sample v r same e = by r same
-      where
-        here : suc k ≤ floor_and_silence 1 rest (place_of setup)
-        here = subst (λ w. suc k ≤ floor_and_silence (floor_by w true (place_of setup)) rest (place_of setup)) (ways.sampled setup.segments h.seen (seen_next h Recessive) v e) few
+          by : (r : ℕ) → r ≡ rest → Lasts (next (Sample v)) k
+          by zero f =
+              let g : suc k ≤ 1 + zero * bit_quanta setup.segments + behind_sample = subst (λ m. suc k ≤ 1 + m * bit_quanta setup.segments + behind_sample) (sym f) here in
+              let low = bits.behind setup.segments h.seen now.idle now.awaits now.driving v e in
+              inr (omega arith)
+          by (suc n) f =
+              let g : suc k ≤ 1 + suc n * bit_quanta setup.segments + behind_sample = subst (λ m. suc k ≤ 1 + m * bit_quanta setup.segments + behind_sample) (sym f) here in
+              let rested : RestsFor (suc n) (rest_in h) = subst (RestsFor (suc n)) (sym (is ∙ ap Some (sym f))) (let l : suc n ≤ suc n = omega arith in l) in
+              inl (enough (rest_in (next (Sample v))) n k (next (Sample v))
+              (rest_behind h n (rests.left (stretch_of h.inputs) (sampled_next setup h Recessive) n refl rested) v)
+              (one_bit (bit_quanta setup.segments) behind_sample n (recessive_way setup.segments (next (Sample v)).seen) k g
+              (bits.next setup.segments h.seen now.idle now.awaits now.driving v e)))
 
-        by : (r : ℕ) → r ≡ rest → k ≤ rest_stay (rest_in (next (Sample v))) setup (next (Sample v))
-        by zero f = (let g : suc k ≤ floor_and_silence 1 zero (place_of setup) = subst (λ m. suc k ≤ floor_and_silence 1 m (place_of setup)) (sym f) here in omega arith)
-        by (suc n) f =
-            let g : suc k ≤ floor_and_silence 1 (suc n) (place_of setup) = subst (λ m. suc k ≤ floor_and_silence 1 m (place_of setup)) (sym f) here in
-            let rested : RestsFor (suc n) (rest_in h) = subst (RestsFor (suc n)) (sym (is ∙ ap Some (sym f))) (let l : suc n ≤ suc n = omega arith in l) in
-            enough (rest_in (next (Sample v))) n k (next (Sample v)) (ways.sample setup.segments h.seen (seen_next h Recessive) v e)
-            (rest_behind h n (rests.left (stretch_of h.inputs) (sampled_next setup h Recessive) n refl rested) v)
-            (omega arith)
+      left_by : (b : Beat) → beat_next setup h Recessive ≡ b → Lasts (next b) k
+      left_by Start e = left_on Start is refl
+      left_by Plain e = left_on Plain is refl
+      left_by (Sample v) e = left_sample v rest refl e
 
-    left_by : (b : Beat) → beat_next setup h Recessive ≡ b → k ≤ rest_stay (rest_in (next b)) setup (next b)
-    left_by Start e = left_start e
-    left_by Plain e = left_plain (way_at setup h) refl e
-    left_by (Sample v) e = left_sample v rest refl e
+    -- where a quantum leaves a node that stands for it and for k quanta more
+    record Goes (next : History) : Type 0 where
+      drive : next.drive ≡ Recessive
+      left : Lasts next k
 
-  -- where a quantum leaves a node that stands for it and for k quanta more
-  record Goes (next : History) (k : ℕ) : Type 0 where
-    drive : next.drive ≡ Recessive
-    left : k ≤ rest_stay (rest_in next) setup next
+    goes_rest : (o : Option ℕ) → rest_in h ≡ o → h.drive ≡ Recessive → suc k ≤ rest_stay o setup h → Goes (next (beat_next setup h Recessive))
+    goes_rest None e d less = absurd (omega arith)
+    goes_rest (Some rest) e d less = record {
+      drive = drive_next h (beat_next setup h Recessive) (subst (RestsFor 0) (sym e) (let l : 0 ≤ rest = omega arith in l)) d;
+      left = left_by rest e less (beat_next setup h Recessive) refl;
+    }
 
-  goes : (h : History) (k : ℕ) → h.drive ≡ Recessive → suc k ≤ rest_stay (rest_in h) setup h → Goes (behind setup h Recessive (beat_next setup h Recessive)) k
-  goes h k d few = by (rest_in h) refl few
-    where
-      by : (o : Option ℕ) → rest_in h ≡ o → suc k ≤ rest_stay o setup h → Goes (behind setup h Recessive (beat_next setup h Recessive)) k
-      by None e less = absurd (omega arith)
-      by (Some rest) e less = record {
-        drive = drive_next h (beat_next setup h Recessive) (subst (RestsFor 0) (sym e) (let l : 0 ≤ rest = omega arith in l)) d;
-        left = left_by h rest e k less (beat_next setup h Recessive) refl;
-      }
+    goes_bit : h.drive ≡ Recessive → suc k ≤ recessive_rest setup.segments h.seen → Goes (next (beat_next setup h Recessive))
+    goes_bit d less =
+        let some : 0 < recessive_rest setup.segments h.seen = omega arith in
+        let on = bits.rest setup.segments h.seen now.idle now.awaits now.driving some in
+        subst (λ b. Goes (next b)) (sym (bits.plain setup.segments h.seen now.idle now.awaits now.driving some)) (record {
+          drive = d;
+          left = inr (omega arith);
+        })
+
+    goes : h.drive ≡ Recessive → Lasts h (suc k) → Goes (next (beat_next setup h Recessive))
+    goes d (inl less) = goes_rest (rest_in h) refl d less
+    goes d (inr less) = goes_bit d less
 
   abbrev drive_after : List Level → Level
   drive_after levels = (history_of setup levels).drive
@@ -156,12 +169,11 @@ module _ (rests : RestLaws) (silences : SilenceLaws) (ways : SampleLaws) (heads 
   one_more : (levels : List Level) (m : ℕ) → drive_after (levels ++ replicate (suc m) Recessive) ≡ drive_after ((levels ++ Recessive ∷ []) ++ replicate m Recessive)
   one_more levels m = ap drive_after (sym (append_assoc levels (Recessive ∷ []) (replicate m Recessive)))
 
-  stands_rest : (m : ℕ) (levels : List Level) → drive_after levels ≡ Recessive → m ≤ rest_stay (rest_in (history_of setup levels)) setup (history_of setup levels)
-      → drive_after (levels ++ replicate m Recessive) ≡ Recessive
-  stands_rest zero levels d few = ap drive_after (append-nil levels) ∙ d
-  stands_rest (suc m) levels d few =
-      let g : Goes (history_of setup (levels ++ Recessive ∷ [])) m =
-      subst (λ next. Goes next m) (sym (history_next setup levels Recessive)) (goes (history_of setup levels) m d few) in
+  stands_rest : (m : ℕ) (levels : List Level) → drive_after levels ≡ Recessive → Lasts (history_of setup levels) m → drive_after (levels ++ replicate m Recessive) ≡ Recessive
+  stands_rest zero levels d lasts = ap drive_after (append-nil levels) ∙ d
+  stands_rest (suc m) levels d lasts =
+      let g : Goes (history_of setup levels) m (history_of setup (levels ++ Recessive ∷ [])) =
+      subst (Goes (history_of setup levels) m) (sym (history_next setup levels Recessive)) (goes (history_of setup levels) m d lasts) in
       one_more levels m ∙ stands_rest m (levels ++ Recessive ∷ []) g.drive g.left
 
   -- as long as none is handed
@@ -243,10 +255,6 @@ module _ (rests : RestLaws) (silences : SilenceLaws) (ways : SampleLaws) (heads 
 
   -- both
 
-  some_stay : (h : History) (w : Option ℕ) (rest : ℕ) → way_at setup h ≡ w → 1 ≤ floor_and_silence (floor_by w true (place_of setup)) rest (place_of setup)
-  some_stay h (Some n) rest e = (let some = ways.some setup.segments h.seen n e in let l = longer_least n rest (place_of setup) in omega arith)
-  some_stay h None rest e = omega arith
-
   pub stands_at : (levels : List Level) (m : ℕ) → m ≤ stay_at setup (history_of setup levels) → drive_after (levels ++ replicate m Recessive) ≡ drive_after levels
   stands_at levels m few = by_drive (is_dominant h.drive) refl few
     where
@@ -259,14 +267,14 @@ module _ (rests : RestLaws) (silences : SilenceLaws) (ways : SampleLaws) (heads 
           stands_unhanded m levels (record { drive = d; rest = subst (RestsFor 0) (sym e) (let l : 0 ≤ rest = omega arith in l); headless = f; few = less })
       by_head rest e d more less (Some frame) f =
           absurd (let now = until_now (unsent_of setup h) (length h.seen) frame (ready_heads heads setup levels frame f) in
-          let some = some_stay h (way_at setup h) rest refl in
+          let some : 1 ≤ rest_stay (Some rest) setup h = omega arith in
           omega arith)
 
       by_rest : (o : Option ℕ) → rest_in h ≡ o → h.drive ≡ Recessive → m ≤ stay_by o setup h → drive_after (levels ++ replicate m Recessive) ≡ Recessive
-      by_rest None e d less = stands_rest m levels d (omega arith)
+      by_rest None e d less = stands_rest m levels d (inl (omega arith))
       by_rest (Some rest) e d less = elim (cases_lt (rest_stay (Some rest) setup h) m) [
         | inl more ↦ by_head rest e d more (omega arith) (head_of (stretch_of h.inputs).sort) refl
-        | inr within ↦ stands_rest m levels d (subst (λ o. m ≤ rest_stay o setup h) (sym e) within)
+        | inr within ↦ stands_rest m levels d (inl (subst (λ o. m ≤ rest_stay o setup h) (sym e) within))
       ]
 
       by_drive : (b : Bool) → is_dominant h.drive ≡ b → m ≤ cond b 0 (stay_by (rest_in h) setup h) → drive_after (levels ++ replicate m Recessive) ≡ drive_after levels

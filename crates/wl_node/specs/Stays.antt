@@ -1,25 +1,25 @@
 -- For how many quanta more the drive of a node stands where the node sees recessive at each of them.
-use Rattle.std.specs.Prelude.{ℕ, suc, ◌-◌, ◌&&◌, not, min, max, true, List, [], ◌∷◌, length, Option, Some, None, if◌then◌else◌}
+use Rattle.std.specs.Prelude.{ℕ, suc, ◌+◌, ◌*◌, ◌-◌, ◌&&◌, not, min, max, List, [], ◌∷◌, length, Option, Some, None, if◌then◌else◌}
 use Rattle.wl_level.specs.Levels.{is_dominant}
-use Rattle.wl_segments.specs.Lengths.{least_way}
-use Rattle.wl_sync.specs.SampleLaws.{quanta_to_sample}
+use Rattle.wl_segments.specs.Lengths.{bit_quanta}
+use Rattle.wl_sync.specs.SampleLaws.{recessive_way}
 use Rattle.wl_machine.specs.Judged.{stretch_of, is_free_sort}
 use Rattle.wl_machine.specs.RecessiveStay.{rest_of}
 use Rattle.wl_node.specs.declared.setup.Queued.{Queued}
 use Rattle.wl_node.specs.declared.setup.NodeSetup.{NodeSetup}
 use Rattle.wl_node.specs.History.{History, unsent_of}
 use Rattle.wl_node.specs.Limits.{most_run_quanta}
-use Rattle.wl_node.specs.Quiet.{floor_by, floor_and_silence}
 
 -- the quanta up to the one at which the first frame of a queue is ready, that one too; without a frame all that a node may run, which is the most
 abbrev pub until_frame : List Queued → ℕ → ℕ
 until_frame [] quantum = most_run_quanta
 until_frame (q ∷ qs) quantum = min (suc (q.ready - quantum)) most_run_quanta
 
--- up to the next sample, and by so many samples more as the machine rests for, as a promise counts them
+-- Up to the next sample, and by so many samples more as the machine rests for: on a recessive line they are a whole bit apart. What the machine wants after the
+-- last of them is driven from the next start on, behind PHASE_SEG2.
 abbrev pub rest_stay : Option ℕ → NodeSetup → History → ℕ
 rest_stay None setup h = 0
-rest_stay (Some rest) setup h = floor_and_silence (floor_by (quanta_to_sample setup.segments h.seen) true (least_way setup.segments)) rest (least_way setup.segments)
+rest_stay (Some rest) setup h = recessive_way setup.segments h.seen + rest * bit_quanta setup.segments + (setup.segments.ps2 - 1)
 
 -- A machine at rest wants recessive for so many samples, whatever it is handed; and as long as no frame is ready at a sample, all the way to a free bus and on it. The
 -- drive changes later than at that sample.

@@ -25,4 +25,5 @@ pub fn drive_laws()
     wl_machine::laws::a_rest_is_kept();
     wl_machine::laws::a_sent_frame_is_the_head_that_began_its_stretch();
     wl_sync::the_sample_comes_near();
+    wl_sync::recessive_samples_are_bits_apart();
 }

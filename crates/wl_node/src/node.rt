@@ -166,9 +166,9 @@ impl Node {
     ///
     /// 0 if it drives dominant or its machine isn't at rest ([`Machine::rest`](wl_machine::Machine::rest)). Otherwise it is at least the
     /// greater of two numbers. The first goes up to and including the quantum at which the next frame is ready; if no frame waits, it is
-    /// all that a node may run. The second goes up to the first sample after which the machine may send a ready frame, by the least way of
-    /// each bit: after an acknowledged frame, a flag, a delimiter, an intermission, a suspension, a bus off or an integration (Bosch CAN
-    /// 2.0 part B, sections 3.2 and 8, rule 12).
+    /// all that a node may run. The second goes up to the end of the first bit after whose sample the machine may send a ready frame: after
+    /// an acknowledged frame, a flag, a delimiter, an intermission, a suspension, a bus off or an integration (Bosch CAN 2.0 part B,
+    /// sections 3.2 and 8, rule 12). On a recessive line no edge moves a bit, so each is as long as its segments.
     pub fn stays(&self) -> u64
         ensures value { Shows self.now (λ h. result ≡ stay_at (node_setup self.now) h) }
         ensures stands { (m : ℕ) → m ≤ result → StandsFor self.now Level.Recessive m }

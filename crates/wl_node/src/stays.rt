@@ -9,7 +9,6 @@ ghost use Rattle.wl_node.specs.Stays.{until_frame, free_stay, stay_at};
 
 use crate::limits::MOST_RUN_QUANTA;
 use crate::progress::NodeProgress;
-use crate::quiet::{floor, longer};
 use crate::setup::{NodeSetup, Queued};
 use wl_level::Level;
 
@@ -31,9 +30,9 @@ impl NodeProgress {
         let Some(rest) = self.traffic.machine.rest() else {
             return 0;
         };
-        let place = setup.segments.least_way() as u32;
-        let least = floor(self.clock.before_sample(), true, place);
-        let samples = longer(least, rest, place) as u64;
+        let first = self.clock.free_quanta(Level::Recessive, true) as u64 + 1;
+        let behind = setup.segments.ps2() - 1;
+        let samples = first + rest as u64 * setup.segments.bit_quanta() + behind;
         samples.max(until_frame(setup.queue.as_slice(), self.traffic.sent, self.quanta))
     }
 }

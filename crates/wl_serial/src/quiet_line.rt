@@ -62,7 +62,7 @@ fn rests_until(
     if silent <= known {
         return 0;
     }
-    all_stand_until(plan, running, silent)
+    all_stand_until(plan, running, silent, known)
 }
 
 /// Returns the tick below which nothing dominant arrives at a place from the next quantum of its node on; at most the end.
@@ -79,9 +79,9 @@ fn all_silent_until(plan: &Checked, running: &[Running], lines: &[LineAt]) -> u6
     until
 }
 
-/// Returns the tick up to which each node drives recessive if it sees recessive only, and no later than tick `most`; 0 if one drives
-/// dominant.
-fn all_stand_until(plan: &Checked, running: &[Running], most: u64) -> u64
+/// Returns the tick up to which each node drives recessive if it sees recessive only, and no later than tick `most`. It is 0 if one drives
+/// dominant, or isn't sure to drive recessive past tick `least`.
+fn all_stand_until(plan: &Checked, running: &[Running], most: u64, least: u64) -> u64
     requires running { AreRunning plan.now running.now }
     ensures stand { 0 < result → AllStand plan.now result running.now }
     ensures few { result ≤ most }
@@ -89,6 +89,9 @@ fn all_stand_until(plan: &Checked, running: &[Running], most: u64) -> u64
     let mut until = most;
     for i in 0..running.len() {
         until = until.min(running[i].stands_until(plan, i));
+        if until <= least {
+            return 0;
+        }
     }
     until
 }

@@ -1,4 +1,5 @@
 mod Rows
+mod Recessive
 mod Rests
 mod Samples
 mod Skips

@@ -75,7 +75,7 @@ edge_level : (s : SyncRules) (r : Running) → (running_edge_by s r).level ≡ r
 edge_level After r = due_level r (r.quanta == end_of r) refl
 edge_level Book r = refl
 
-edge_lengths : (s : SyncRules) (r : Running) → (running_edge_by s r).lengths ≡ r.lengths
+pub edge_lengths : (s : SyncRules) (r : Running) → (running_edge_by s r).lengths ≡ r.lengths
 edge_lengths After r = due_lengths r (r.quanta == end_of r) refl
 edge_lengths Book r = refl
 

@@ -241,10 +241,10 @@ module _ (l : Lengths) (past : List Seen) (x : Seen) where
           (sample_at l, (way_next ∙ one_start l (running_after r x) (after_placed l r x (bit_placed l past)) (eqb-true (running_after r x).quanta 1 first), omega arith))
 
   -- a quantum that begins no bit
-  abbrev BeginsNone : Type 0
+  abbrev pub BeginsNone : Type 0
   BeginsNone = (running_restart edge x || (running_after r x).quanta == 1) ≡ false
 
-  on_due : BeginsNone → edge ≡ r
+  pub on_due : BeginsNone → edge ≡ r
   on_due h = (let f = or_parts _ _ h in edge_not r.lengths.sync r (first_not edge x f.0 (eqb-false _ 1 f.1)))
 
   on_restart : BeginsNone → running_restart r x ≡ false
@@ -260,7 +260,7 @@ module _ (l : Lengths) (past : List Seen) (x : Seen) where
   on_some h = first_not r x (on_restart h) (on_first h)
 
   -- and is the sample
-  sampled_now : (level : Level) → beat_of l past x ≡ Sample level → BeginsNone × (r.quanta ≡ sample_at l + (running_placed r x).longer)
+  pub sampled_now : (level : Level) → beat_of l past x ≡ Sample level → BeginsNone × (r.quanta ≡ sample_at l + (running_placed r x).longer)
   sampled_now level e =
       let f = sample_here _ _ x.level level (sym (beat_next l past x) ∙ e) in
       (f.0, eqb-true r.quanta (sample_at l + (running_placed r x).longer) (subst (λ (q : Running). samples q (running_placed q x).longer ≡ true) (on_due f.0) f.1))

@@ -5,7 +5,7 @@ ghost use Rattle.wl_segments.specs.Lengths.{Lengths};
 ghost use Rattle.wl_sync.specs.Edges.{Seen};
 ghost use Rattle.wl_sync.specs.Bits.{beat_of, sync_of};
 ghost use Rattle.wl_sync.specs.Running.{clock_after, sample_after};
-ghost use Rattle.wl_sync.specs.SampleLaws.{SampleLaws};
+ghost use Rattle.wl_sync.specs.SampleLaws.{RecessiveLaws, SampleLaws};
 ghost use Rattle.wl_sync.specs.Steps.{running_after, running_answer, running_beat, running_edge};
 
 /// Law: after a bit's start the way to the sample is as long as in a bit that nothing moved. It is a quantum shorter if the edge that began
@@ -13,6 +13,14 @@ ghost use Rattle.wl_sync.specs.Steps.{running_after, running_answer, running_bea
 pub fn the_sample_comes_near()
     ensures { SampleLaws }
 {}
+
+/// Law: on a recessive line the next sample comes after just the quanta that the running bit has up to it, and each further one a whole bit
+/// later. The next start comes after PHASE_SEG2.
+pub fn recessive_samples_are_bits_apart()
+    ensures { RecessiveLaws }
+{
+    wl_level::place_laws();
+}
 
 /// Law: what one more quantum does, by what the bit clock keeps.
 ///

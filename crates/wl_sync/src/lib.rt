@@ -12,7 +12,7 @@ ghost use Rattle.wl_segments.specs.Lengths.{Lengths, AreLengths, sample_at, bit_
 
 mod laws;
 
-pub use laws::{clock_goes_on, the_sample_comes_near};
+pub use laws::{clock_goes_on, recessive_samples_are_bits_apart, the_sample_comes_near};
 use std::marker::Model;
 use wl_level::Level;
 use wl_segments::{Segments, SyncRules};

@@ -11,7 +11,7 @@ returns c =
     record {
       settled = settled ways;
       quiet = λ setup. quiet silences ways setup c.a_sent_frame_is_the_head_that_began_its_stretch.ensures;
-      stays = stands_at c.a_rest_is_kept.ensures silences ways c.a_sent_frame_is_the_head_that_began_its_stretch.ensures;
+      stays = stands_at c.a_rest_is_kept.ensures silences ways c.recessive_samples_are_bits_apart.ensures c.a_sent_frame_is_the_head_that_began_its_stretch.ensures;
       floor = floor ways;
       most = most ways;
       few_changes = few_changes c.place_laws.ensures.counted_below ways;

@@ -1,15 +1,15 @@
 -- A recessive drive of a machine at rest stands for as long as it rests, and up to the frame that is ready next.
-use Rattle.std.proofs.Common.{◌≡◌, ◌∙◌, List, length, drop, Some, true, cond, sym, ap, arith}
+use Rattle.std.proofs.Common.{◌≡◌, suc, ◌+◌, ◌-◌, ◌*◌, ◌∙◌, List, length, drop, Some, cond, sym, ap, arith}
 use Rattle.wl_level.specs.declared.Level.{Level}
 use Rattle.wl_level.specs.Levels.{is_dominant}
-use Rattle.wl_segments.specs.Lengths.{least_way}
-use Rattle.wl_sync.specs.SampleLaws.{quanta_to_sample}
+use Rattle.wl_segments.specs.Lengths.{bit_quanta}
+use Rattle.wl_sync.specs.SampleLaws.{recessive_way}
+use Rattle.wl_sync.specs.Skips.{quanta_before_sample}
 use Rattle.wl_machine.specs.Judged.{stretch_of}
 use Rattle.wl_machine.specs.RecessiveStay.{rest_of}
 use Rattle.wl_node.specs.declared.setup.NodeSetup.{NodeSetup}
 use Rattle.wl_node.specs.History.{History, history_of, unsent_of}
 use Rattle.wl_node.specs.Kept.{IsProgress, FitsHistory}
-use Rattle.wl_node.specs.Quiet.{floor_by, floor_and_silence}
 use Rattle.wl_node.specs.Stays.{until_frame, rest_stay, stay_by, stay_at}
 use Rattle.wl_node.proofs.progress.NodeProgress.stays.Goals.{After-max}
 use Rattle.wl_node.proofs.progress.NodeProgress.stays.Goals as goal
@@ -19,13 +19,10 @@ stay_is c levels old =
     let setup : NodeSetup = c.args.setup.now in
     let h : History = history_of setup levels in
     let p : FitsHistory setup c.args.self.now h = old.place in
-    let place : c.least_way-place.result ≡ least_way setup.segments = c.least_way-place.ensures.way in
-    let least : c.floor-least.result ≡ floor_by (quanta_to_sample setup.segments h.seen) true (least_way setup.segments) =
-    c.floor-least.ensures.value ∙ ap (λ o. floor_by o true c.least_way-place.result) (c.before_sample.ensures setup.segments h.seen p.clock)
-    ∙ ap (floor_by (quanta_to_sample setup.segments h.seen) true) place in
-    let samples : c.longer-samples.result ≡ rest_stay (Some c.in-Some.rest) setup h =
-    c.longer-samples.ensures ∙ ap (λ n. floor_and_silence n c.in-Some.rest c.least_way-place.result) least
-    ∙ ap (floor_and_silence (floor_by (quanta_to_sample setup.segments h.seen) true (least_way setup.segments)) c.in-Some.rest) place in
+    let first : suc c.free_quanta.result ≡ recessive_way setup.segments h.seen = ap suc c.free_quanta.ensures ∙ ap (λ r. suc (quanta_before_sample r)) p.clock in
+    let bits : c.in-Some.rest * c.bit_quanta.result ≡ c.in-Some.rest * bit_quanta setup.segments = ap (λ n. c.in-Some.rest * n) c.bit_quanta.ensures.quanta in
+    let behind : c.ps2-behind.result ≡ setup.segments.ps2 = c.ps2-behind.ensures.ps2 in
+    let samples : suc c.free_quanta.result + c.in-Some.rest * c.bit_quanta.result + (c.ps2-behind.result - 1) ≡ rest_stay (Some c.in-Some.rest) setup h = omega (arith, first, bits, behind) in
     let frame : c.until_frame.result ≡ until_frame (unsent_of setup h) (length h.seen) =
     c.until_frame.ensures
     ∙ ap (λ q. until_frame (drop c.args.self.now.traffic.sent q) c.args.self.now.quanta) c.as_slice.ensures
