@@ -59,7 +59,7 @@ left (Some n) = n
 left None = 0
 
 -- a longer promise is no shorter one
-pub longer_least : (f s p : ℕ) → f ≤ floor_and_silence f s p
+longer_least : (f s p : ℕ) → f ≤ floor_and_silence f s p
 longer_least zero s p = omega arith
 longer_least (suc f) s p = omega arith
 
@@ -73,7 +73,7 @@ longer_is p zero s h = absurd (omega arith)
 longer_is p (suc f) s h = refl
 
 -- one floor in the place of another that is less by one quantum at most
-pub longer_near : (p f g s k : ℕ) → f ≤ suc g → 0 < g → suc k ≤ floor_and_silence f s p → k ≤ floor_and_silence g s p
+longer_near : (p f g s k : ℕ) → f ≤ suc g → 0 < g → suc k ≤ floor_and_silence f s p → k ≤ floor_and_silence g s p
 longer_near p f g s k n h q = (let a = longer_is p f s (some_floor p f s k q) in let b = longer_is p g s h in omega arith)
 
 abbrev pub place_of : NodeSetup → ℕ
@@ -104,7 +104,7 @@ module _ (ways : SampleLaws) (setup : NodeSetup) where
       grown (λ levels. IsSettled setup (history_of setup levels)) (subst (IsSettled setup) (sym (history_first setup)) settled_first)
       (λ levels x s. subst (IsSettled setup) (sym (history_next setup levels x)) (settled_by (history_of setup levels) x (beat_next setup (history_of setup levels) x) refl s))
 
-  pub floor_few : (h : History) (o : Option ℕ) (t : Bool) → way_at setup h ≡ o → floor_by o t (place_of setup) ≤ suc (place_of setup)
+  floor_few : (h : History) (o : Option ℕ) (t : Bool) → way_at setup h ≡ o → floor_by o t (place_of setup) ≤ suc (place_of setup)
   floor_few h (Some n) t e = (let m = ways.few setup.segments h.seen n e in let f = ways.least setup.segments in omega arith)
   floor_few h None true e = omega arith
   floor_few h None false e = omega arith
