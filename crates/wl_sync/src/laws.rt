@@ -14,8 +14,9 @@ pub fn the_sample_comes_near()
     ensures { SampleLaws }
 {}
 
-/// Law: on a recessive line the next sample comes after just the quanta that the running bit has up to it, and each further one a whole bit
-/// later. The next start comes after PHASE_SEG2.
+/// Law: on a recessive line the next sample comes no sooner than the running bit has it, and each further one a whole bit later at least.
+/// Behind a sample no bit starts before PHASE_SEG2 is over: only edges from recessive to dominant synchronise (Bosch CAN 2.0 part B,
+/// section 10).
 pub fn recessive_samples_are_bits_apart()
     ensures { RecessiveLaws }
 {
