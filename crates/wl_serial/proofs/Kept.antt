@@ -1,8 +1,8 @@
 -- What is kept of each node at a place, and how many of them drive dominant.
 use Rattle.std.proofs.Common.{◌≡◌, ℕ, zero, suc, ◌+◌, ◌^◌, ◌<◌, ◌≤◌, ◌≢◌, Bool, true, false, ◌||◌, inl, inr, List, length, replicate, get_or, refl, sym, ◌∙◌, ap, subst, arith, nat_lt}
 use Rattle.std.proofs.Math.ListN.{set, length-set}
-use Rattle.std.proofs.lemmas.Bool.{cases_lt, cases_eq, lt-ltb, le-ltb}
-use Rattle.std.proofs.lemmas.List.{get_or-set_same, get_or-set_other}
+use Rattle.std.proofs.lemmas.Bool.{cases_lt, cases_eq, lt-ltb, le-ltb, true≢false}
+use Rattle.std.proofs.lemmas.List.{get_or_default, get_or-set_same, get_or-set_other}
 use Rattle.std.specs.Int.{from_bool}
 use Rattle.wl_topology.specs.Delays.{delay_of}
 use Rattle.wl_topology.specs.Driven.{any_below}
@@ -25,7 +25,7 @@ or_one a b = elim (cases_lt 0 a) [
     last true nothing = sym (lt-ltb 0 (a + 1) (omega arith))
     last false nothing = sym (le-ltb 0 (a + 0) (omega (arith, nothing)))
 
-pub any_is : (test : ℕ → Bool) (n : ℕ) → any_below n test ≡ nat_lt 0 (passing test n)
+any_is : (test : ℕ → Bool) (n : ℕ) → any_below n test ≡ nat_lt 0 (passing test n)
 any_is test zero = refl
 any_is test (suc n) = ap (λ v. v || test n) (any_is test n) ∙ or_one (passing test n) (test n)
 
@@ -75,6 +75,9 @@ kept_anew n i v b s t inside few kept nexts drives driving = record {
       let e = ap (λ xs. get_or xs k 0) nexts ∙ get_or-set_other s.nexts i k v 0 other in
       let f = kept.beyond k c h in
       omega (arith, e, f);
+  quiet = λ k c h.
+      let other : k ≢ i = omega (arith, c, inside) in
+      ap (λ bs. get_or bs k false) drives ∙ (get_or-set_other s.drives i k b false other ∙ kept.quiet k c h);
   driving =
       let o = one_anew n i v b s inside few kept in
       let e = ap (λ bs. passing (λ k. get_or bs k false) n) drives in
@@ -91,11 +94,12 @@ kept_sooner n i comes old new inside sooner kept = record {
       let e = sooner.others k other in
       let f = kept.beyond k c h in
       omega (arith, e, f);
+  quiet = λ k c h. ap (λ bs. get_or bs k false) sooner.drives ∙ kept.quiet k c h;
   driving = sooner.driving ∙ (kept.driving ∙ ap (λ bs. passing (λ k. get_or bs k false) n) (sym sooner.drives));
 }
 
 -- what comes from node i is taken up
-pub sources_taken : (plan : Plan) (rs : List Running) (j t i : ℕ) (old new : Sources) → AreSources plan rs j t old
+sources_taken : (plan : Plan) (rs : List Running) (j t i : ℕ) (old new : Sources) → AreSources plan rs j t old
     → ((k : ℕ) → k ≢ i → get_or new.nexts k 0 ≡ get_or old.nexts k 0) → ((k : ℕ) → k ≢ i → get_or new.drives k false ≡ get_or old.drives k false)
     → ((u : ℕ) (d : Running) → t ≤ u → u < get_or new.nexts i 0 → drove (get_or rs i d).changes (delay_of plan.topology i j) u ≡ get_or new.drives i false)
     → AreSources plan rs j t new
@@ -106,6 +110,17 @@ sources_taken plan rs j t i old new were nexts drives is k u d b after before = 
   | inr other ↦ were k u d b after (let e = nexts k other in omega (arith, before, e)) ∙ sym (drives k other)
 ]
 
+-- and so where its list and its delay were read
+pub sources_asked : (plan : Plan) (rs : List Running) (j t i delay : ℕ) (r : Running) (changes : List ℕ) (old new : Sources) → AreSources plan rs j t old
+    → ((k : ℕ) → k ≢ i → get_or new.nexts k 0 ≡ get_or old.nexts k 0) → ((k : ℕ) → k ≢ i → get_or new.drives k false ≡ get_or old.drives k false)
+    → i < length rs → changes ≡ (get_or rs i r).changes → delay ≡ delay_of plan.topology i j
+    → ((u : ℕ) → t ≤ u → u < get_or new.nexts i 0 → drove changes delay u ≡ get_or new.drives i false) → AreSources plan rs j t new
+sources_asked plan rs j t i delay r changes old new were nexts drives inside list way is =
+    sources_taken plan rs j t i old new were nexts drives
+    (λ u d after before.
+    ap (λ x. drove x.changes (delay_of plan.topology i j) u) (get_or_default rs i d r inside)
+    ∙ (ap (λ n. drove (get_or rs i r).changes n u) (sym way) ∙ (ap (λ xs. drove xs delay u) (sym list) ∙ is u after before)))
+
 -- up to the first change that comes, the nodes make what is kept
 pub told_by : (plan : Plan) (rs : List Running) (j n : ℕ) (s : Sources) (p : Pulse) → length plan.nodes ≤ n → AreTallied (length plan.nodes) s → AreSources plan rs j p.from s
     → ((k : ℕ) → k < n → p.until ≤ get_or s.nexts k 0) → p.dominant ≡ nat_lt 0 s.driving → IsPulseTold plan rs j p
@@ -114,21 +129,16 @@ told_by plan rs j n s p few kept sources until dominant d t after before =
     (λ i b. sources i t d b after (let u = until i (omega (arith, b, few)) in omega (arith, u, before)))
     ∙ (any_is (λ i. get_or s.drives i false) (length plan.nodes) ∙ (ap (nat_lt 0) (sym kept.driving) ∙ sym dominant))
 
--- and a dominant line stays up to its last driver
-pub told_longer : (plan : Plan) (rs : List Running) (j n least : ℕ) (s : Sources) (p : Pulse) → length plan.nodes ≤ n → AreTallied (length plan.nodes) s → AreSources plan rs j p.from s
-    → ((k : ℕ) → k < n → least ≤ get_or s.nexts k 0) → ((u : ℕ) → least ≤ u → u < p.until → IsDriving (length plan.nodes) u s)
-    → p.dominant ≡ nat_lt 0 s.driving → IsPulseTold plan rs j p
-told_longer plan rs j n least s p few kept sources until driving dominant d t after before = elim (cases_lt t least) [
-  | inl early ↦ told_by plan rs j n s (record p { until = least }) few kept sources until dominant d t after early
-  | inr late ↦
-      (let w : IsDriving (length plan.nodes) t s = driving t late before in
-      any_from (length plan.nodes) w.0 (λ i. drove (get_or rs i d).changes (delay_of plan.topology i j) t) w.1 (sources w.0 t d w.1 after w.3 ∙ w.2)
-      ∙ sym (any_from (length plan.nodes) w.0 (λ i. get_or s.drives i false) w.1 w.2)
-      ∙ (any_is (λ i. get_or s.drives i false) (length plan.nodes) ∙ (ap (nat_lt 0) (sym kept.driving) ∙ sym dominant)))
-]
+-- while one of them drives dominant the line is dominant, whatever the others do
+pub told_driving : (plan : Plan) (rs : List Running) (j : ℕ) (s : Sources) (p : Pulse) → AreSources plan rs j p.from s
+    → ((u : ℕ) → u < p.until → IsDriving (length plan.nodes) u s) → p.dominant ≡ true → IsPulseTold plan rs j p
+told_driving plan rs j s p sources driving dominant d t after before =
+    let w : IsDriving (length plan.nodes) t s = driving t before in
+    any_from (length plan.nodes) w.0 (λ i. drove (get_or rs i d).changes (delay_of plan.topology i j) t) w.1 (sources w.0 t d w.1 after w.3 ∙ w.2)
+    ∙ sym dominant
 
 -- at first none drives
-silent : (m i : ℕ) → get_or (replicate m false) i false ≡ false
+pub silent : (m i : ℕ) → get_or (replicate m false) i false ≡ false
 silent zero i = refl
 silent (suc m) zero = refl
 silent (suc m) (suc i) = silent m i
@@ -147,26 +157,43 @@ is_node n i t s kept inside early comes = elim (cases_lt i n) [
   | inr past ↦ (let f = kept.beyond i past inside in absurd (omega (arith, f, early, comes)))
 ]
 
--- from one node more nothing comes before then
-pub until_one_more : (i until next : ℕ) (old new : Sources) → next ≤ until → next ≤ get_or new.nexts i 0 → ((k : ℕ) → k ≢ i → get_or new.nexts k 0 ≡ get_or old.nexts k 0)
-    → ((k : ℕ) → k < i → until ≤ get_or old.nexts k 0) → (k : ℕ) → k < i + 1 → next ≤ get_or new.nexts k 0
-until_one_more i until next old new few here same each k b = elim (cases_eq k i) [
-  | inl own ↦ (let e = ap (λ n. get_or new.nexts n 0) own in omega (arith, e, here))
-  | inr other ↦ (let e = same k other in let f = each k (omega (arith, b, other)) in omega (arith, e, f, few))
-]
-
--- from none of the nodes so far but one, and from one node more
-pub others_one_more : (i one others next : ℕ) (s : Sources) → next ≤ others → next ≤ get_or s.nexts i 0 → ((k : ℕ) → k ≢ one → k < i → others ≤ get_or s.nexts k 0)
-    → (k : ℕ) → k ≢ one → k < i + 1 → next ≤ get_or s.nexts k 0
-others_one_more i one others next s few here each k other b = elim (cases_eq k i) [
-  | inl own ↦ (let e = ap (λ n. get_or s.nexts n 0) own in omega (arith, e, here))
-  | inr less ↦ (let f = each k other (omega (arith, b, less)) in omega (arith, f, few))
-]
-
 -- from no node anything comes before both ticks
 pub until_ahead : (i until : ℕ) (old new : Sources) → IsAhead old → i ≡ old.one → new.others ≡ old.others → ((k : ℕ) → k ≢ i → get_or new.nexts k 0 ≡ get_or old.nexts k 0)
     → until ≤ get_or new.nexts i 0 → until ≤ new.others → (k : ℕ) → k < most_places → until ≤ get_or new.nexts k 0
 until_ahead i until old new ahead one others same here few k b = elim (cases_eq k i) [
   | inl own ↦ (let e = ap (λ n. get_or new.nexts n 0) own in omega (arith, e, here))
   | inr other ↦ (let e = same k other in let f = ahead.others k (λ x. other (x ∙ sym one)) b in omega (arith, e, f, few, others))
+]
+
+-- from no node but one, and from that one
+pub with_one : (one until : ℕ) (s : Sources) → ((k : ℕ) → k ≢ one → k < most_places → until ≤ get_or s.nexts k 0) → until ≤ get_or s.nexts one 0
+    → (k : ℕ) → k < most_places → until ≤ get_or s.nexts k 0
+with_one one until s others here k b = elim (cases_eq k one) [
+  | inl own ↦ (let e = ap (λ n. get_or s.nexts n 0) own in omega (arith, e, here))
+  | inr other ↦ others k other b
+]
+
+-- from none of the first n nodes a change comes by that tick, and so from no place
+pub none_by : (n t : ℕ) (s : Sources) → AreTallied n s → t < 2 ^ 63 → ((k : ℕ) → k < n → t < get_or s.nexts k 0) → (k : ℕ) → k < most_places → t < get_or s.nexts k 0
+none_by n t s kept early each k b = elim (cases_lt k n) [
+  | inl node ↦ each k node
+  | inr past ↦ (let f = kept.beyond k past b in omega (arith, f, early))
+]
+
+-- A node of which a change had come by that tick is asked: still, from no other node but the one apart a change comes sooner than before.
+pub ahead_taken : (i t : ℕ) (old new : Sources) → IsAhead old → old.others ≤ t → new.one ≡ old.one → new.others ≡ old.others
+    → ((k : ℕ) → k ≢ i → get_or new.nexts k 0 ≡ get_or old.nexts k 0) → t < get_or new.nexts i 0 → IsAhead new
+ahead_taken i t old new ahead few one others same later = record {
+  inside = (let e = ahead.inside in omega (arith, e, one));
+  others = λ k apart b. elim (cases_eq k i) [
+    | inl own ↦ (let e = ap (λ n. get_or new.nexts n 0) own in omega (arith, e, later, few, others))
+    | inr other ↦ (let f = ahead.others k (λ x. apart (x ∙ sym one)) b in let e = same k other in omega (arith, f, e, others))
+  ];
+}
+
+-- a place that drives dominant is a node's
+pub driving_node : (n u : ℕ) (s : Sources) → AreTallied n s → IsDriving most_places u s → IsDriving n u s
+driving_node n u s kept w = elim (cases_lt w.0 n) [
+  | inl node ↦ (w.0, node, w.2, w.3)
+  | inr past ↦ absurd (true≢false (sym w.2 ∙ kept.quiet w.0 past w.1))
 ]

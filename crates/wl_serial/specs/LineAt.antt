@@ -41,11 +41,12 @@ abbrev pub passing : (ℕ → Bool) → ℕ → ℕ
 passing test zero = 0
 passing test (suc n) = passing test n + from_bool (test n)
 
--- what is kept of n nodes: no change comes from beyond them, and so many of them drive dominant
+-- what is kept of n nodes: beyond them nothing comes and nothing drives dominant, and so many of them drive dominant
 pub record AreTallied (n : ℕ) (s : Sources) : Type 0 where
   pub nexts : length s.nexts ≡ most_places
   pub drives : length s.drives ≡ most_places
   pub beyond : (i : ℕ) → n ≤ i → i < most_places → 2 ^ 63 ≤ slice_index_or s.nexts i 0
+  pub quiet : (i : ℕ) → n ≤ i → i < most_places → slice_index_or s.drives i false ≡ false
   pub driving : s.driving ≡ passing (λ i. slice_index_or s.drives i false) n
 
 -- of no node but the one that is kept apart a change comes before that tick
@@ -63,12 +64,6 @@ pub record IsDue (n t : ℕ) (s : Sources) (due : List ℕ) (count : ℕ) : Type
   pub few : count ≤ most_places
   pub inside : (p : ℕ) → p < count → slice_index_or due p 0 < n
   pub others : (i : ℕ) → i < n → (t < slice_index_or s.nexts i 0) ⊎ ((p : ℕ) × (p < count) × (slice_index_or due p 0 ≡ i))
-
--- Up to the first change of the first n nodes what they make stays, and after it as long as one of them goes on to drive dominant.
-pub record StaysKept (n until : ℕ) (s : Sources) : Type 0 where
-  pub least : ℕ
-  pub nexts : (k : ℕ) → k < n → least ≤ slice_index_or s.nexts k 0
-  pub driving : (u : ℕ) → least ≤ u → u < until → IsDriving n u s
 
 -- what a place keeps
 pub record IsLineAt (plan : Plan) (j : ℕ) (line : LineAt) : Type 0 where

@@ -1,8 +1,8 @@
 //! What arrives at a place from each node, and when that changes next.
-ghost use Rattle.std.specs.Prelude.{◌≡◌, ◌≢◌, ℕ, ◌<◌, ◌≤◌, ◌^◌, false, length, slice_index_or};
+ghost use Rattle.std.specs.Prelude.{◌≡◌, ◌≢◌, ℕ, ◌<◌, ◌≤◌, ◌^◌, false, true, length, slice_index_or};
 ghost use Rattle.wl_record_core.specs.Truth.{IsIncreasing};
 ghost use Rattle.wl_topology.specs.Limits.{most_places};
-ghost use Rattle.wl_serial.specs.LineAt.{AreDelays, AreTallied, IsAhead, IsAlone, AreSooner, AreSources, IsDue, IsPulseTold, StaysKept, drove};
+ghost use Rattle.wl_serial.specs.LineAt.{AreDelays, AreTallied, IsAhead, IsAlone, AreSooner, AreSources, IsDriving, IsDue, IsPulseTold, drove};
 ghost use Rattle.wl_serial.specs.Running.{AreSomewhere};
 
 use crate::checked::Checked;
@@ -10,9 +10,6 @@ use crate::pulse::pulse_of;
 use crate::running_node::{Running, Ticks};
 use wl_pulse::Pulse;
 use wl_topology::MOST_NODES;
-
-/// A tick after all others.
-const FAR: u64 = 1 << 63;
 
 /// What is cached of the nodes at a place. Of each node it is how many of its changes had arrived when they were last asked for, and the
 /// tick at which the next one arrives. It is also whether the node is dominant there up to then, and how many nodes are. And it is one
@@ -89,7 +86,8 @@ impl Sources {
         }
     }
 
-    /// Returns the same, if any node may have changed its drive. Only those are asked from which a change has arrived.
+    /// Returns the same, if any node may have changed its drive. While a node is known to drive dominant there, no other one is asked. Else
+    /// those are asked from which a change has arrived, up to the first that is dominant.
     fn hear_all(
         &mut self,
         plan: &Checked,
@@ -103,6 +101,8 @@ impl Sources {
         requires delays { AreDelays plan.now j delays.now }
         requires early { t < 2 ^ 63 }
         requires kept { AreTallied (length plan.now.nodes) self.old }
+        requires ahead { IsAhead self.old }
+        requires others { self.old.others ≤ t }
         requires sources { AreSources plan.now running.now j t self.old }
         ensures kept { AreTallied (length plan.now.nodes) self.new }
         ensures ahead { IsAhead self.new }
@@ -112,15 +112,33 @@ impl Sources {
         ensures told { IsPulseTold plan.now running.now j result }
     {
         plan.laws();
+        let until = self.dominant_until();
+        if t < until {
+            return dominant_pulse(t, until);
+        }
         let (due, count) = self.due_by(plan, t);
-        self.take_due(plan, running, delays, j, t, &due, count);
-        let (until, others) = self.reach(plan.nodes(), t);
-        self.others = others;
+        let until = self.take_due(plan, running, delays, j, t, &due, count);
+        if t < until {
+            return dominant_pulse(t, until);
+        }
+        self.others = self.others_until(self.one);
         Pulse {
             from: t,
-            until,
+            until: self.others.min(self.nexts[self.one]),
             dominant: 0 < self.driving,
         }
+    }
+
+    /// Returns the tick up to which a node goes on to drive dominant, by what is kept; 0 if none drives dominant.
+    #[inline(always)]
+    fn dominant_until(&self) -> u64
+        ensures { (n u : ℕ) → AreTallied n self.now → u < result → IsDriving n u self.now }
+    {
+        let mut until = 0;
+        for i in 0..MOST_NODES {
+            until = until.max(if self.drives[i] { self.nexts[i] } else { 0 });
+        }
+        until
     }
 
     /// Returns the nodes from which a change has arrived by tick `t`, in their order, and how many they are. No branch of the loop depends on
@@ -143,7 +161,8 @@ impl Sources {
         (due, count)
     }
 
-    /// Takes up what has arrived by tick `t` from these nodes. The last of them is kept apart.
+    /// Takes up what has arrived by tick `t` from these nodes, up to the first that is dominant then. Returns the tick up to which that one
+    /// stays so. If none is dominant it returns 0, and the last of them is kept apart.
     #[inline(always)]
     fn take_due(
         &mut self,
@@ -154,49 +173,35 @@ impl Sources {
         t: u64,
         due: &[usize; MOST_NODES],
         count: usize,
-    )
+    ) -> u64
         requires somewhere { AreSomewhere plan.now running.now }
         requires delays { AreDelays plan.now j delays.now }
         requires early { t < 2 ^ 63 }
         requires kept { AreTallied (length plan.now.nodes) self.old }
+        requires ahead { IsAhead self.old }
+        requires others { self.old.others ≤ t }
         requires sources { AreSources plan.now running.now j t self.old }
         requires due { IsDue (length plan.now.nodes) t self.old due.now count }
         ensures kept { AreTallied (length plan.now.nodes) self.new }
         ensures sources { AreSources plan.now running.now j t self.new }
-        ensures later { (k : ℕ) → k < length plan.now.nodes → t < slice_index_or self.new.nexts k 0 }
-        ensures inside { self.new.one < length plan.now.nodes }
+        ensures driving { (u : ℕ) → u < result → IsDriving (length plan.now.nodes) u self.new }
+        ensures ahead { t < result → IsAhead self.new }
+        ensures inside { result ≤ t → self.new.one < length plan.now.nodes }
+        ensures later { result ≤ t
+            → (k : ℕ) → k < length plan.now.nodes → t < slice_index_or self.new.nexts k 0 }
     {
         plan.laws();
-        self.one = 0;
+        let mut last = 0;
         for k in 0..count {
             let i = due[k];
             self.take(plan, running[i].changes.as_slice(), delays[i], i, t);
-            self.one = i;
+            if self.drives[i] {
+                return self.nexts[i];
+            }
+            last = i;
         }
-    }
-
-    /// Returns the tick up to which what this many nodes make stays as it is kept. Up to its last driver a dominant line stays so, whatever the
-    /// others do. It also returns a tick before which no change arrives but from the node that is kept apart.
-    #[inline(always)]
-    fn reach(&self, nodes: usize, t: u64) -> (u64, u64)
-        requires few { nodes ≤ most_places }
-        requires early { t < 2 ^ 63 }
-        requires inside { self.now.one < nodes }
-        requires later { (k : ℕ) → k < nodes → t < slice_index_or self.now.nexts k 0 }
-        ensures later { t < result.0 }
-        ensures stays { StaysKept nodes result.0 self.now }
-        ensures far { result.1 ≤ 2 ^ 63 }
-        ensures others { (k : ℕ) → k ≢ self.now.one → k < nodes → result.1 ≤ slice_index_or self.now.nexts k 0 }
-    {
-        let mut others = FAR;
-        let mut dominant = 0;
-        for i in 0..nodes {
-            let next = self.nexts[i];
-            others = others.min(if i == self.one { FAR } else { next });
-            dominant = dominant.max(if self.drives[i] { next } else { 0 });
-        }
-        let until = others.min(self.nexts[self.one]);
-        (until.max(dominant), others)
+        self.one = last;
+        0
     }
 
     /// Returns the tick before which no change of another node than node `j` arrives, if all others are recessive; else 0.
@@ -212,13 +217,13 @@ impl Sources {
 
     /// Returns the tick before which no change of another node than node `j` arrives.
     fn others_until(&self, j: usize) -> u64
-        ensures { (k : ℕ) → k ≢ j → k < most_places → result ≤ slice_index_or self.now.nexts k 0 }
+        ensures few { (k : ℕ) → k ≢ j → k < most_places → result ≤ slice_index_or self.now.nexts k 0 }
+        ensures later { (t : ℕ) → t < 2 ^ 63
+            → ((k : ℕ) → k < most_places → t < slice_index_or self.now.nexts k 0) → t < result }
     {
         let mut until = u64::MAX;
         for k in 0..MOST_NODES {
-            if k != j {
-                until = until.min(self.nexts[k]);
-            }
+            until = until.min(if k == j { u64::MAX } else { self.nexts[k] });
         }
         until
     }
@@ -258,5 +263,18 @@ impl Sources {
         if i != self.one {
             self.others = self.others.min(comes);
         }
+    }
+}
+
+/// Returns the pulse that is dominant from one tick on and below another.
+fn dominant_pulse(from: u64, until: u64) -> Pulse
+    ensures from { result.from ≡ from }
+    ensures until { result.until ≡ until }
+    ensures dominant { result.dominant ≡ true }
+{
+    Pulse {
+        from,
+        until,
+        dominant: true,
     }
 }

@@ -5,7 +5,7 @@ use Rattle.wl_serial.proofs.sources.Sources.alone_until.Goals as goal
 
 pub returns : goal.returns
 returns c n b few kept = record {
-  nexts = c.others_until.ensures;
+  nexts = c.others_until.ensures.few;
   drives = λ some k other inside.
       alone_passes (λ m. get_or c.args.self.now.drives m false) n c.args.j k b
       (let f = c.if-from-self.false in let g = kept.driving in let e = c.from.ensures in omega (arith, e, f, g)) inside other;

@@ -1,6 +1,7 @@
 -- No node drives yet.
 use Rattle.std.proofs.Common.{length, refl, arith}
-use Rattle.wl_serial.proofs.Kept.{none_drives}
+use Rattle.wl_topology.specs.Limits.{most_places}
+use Rattle.wl_serial.proofs.Kept.{none_drives, silent}
 use Rattle.wl_serial.proofs.sources.Sources.new.Goals as goal
 
 pub returns-clause-kept : goal.returns-clause-kept
@@ -8,5 +9,6 @@ returns-clause-kept c = record {
   nexts = c.loop-i.invariant.0;
   drives = refl;
   beyond = λ i past b. c.loop-i.invariant.2 i (omega (arith, past, c.loop-i.auto.i-end, c.nodes-i-end.ensures.value)) b;
+  quiet = λ i past b. silent most_places i;
   driving = none_drives (length c.args.plan.now.nodes);
 }

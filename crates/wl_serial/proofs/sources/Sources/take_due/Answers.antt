@@ -1,11 +1,8 @@
 -- Of the node that is asked something later is kept, and of the others what was.
 use Rattle.std.proofs.Common.{◌∙◌, ◌<◌, ℕ, inl, inr, ap, sym, subst, get_or, length, arith}
 use Rattle.std.proofs.lemmas.Bool.{cases_eq}
-use Rattle.std.proofs.lemmas.List.{get_or_default}
 use Rattle.wl_record_core.specs.Truth.{IsIncreasing}
-use Rattle.wl_topology.specs.Delays.{delay_of}
-use Rattle.wl_serial.specs.LineAt.{drove}
-use Rattle.wl_serial.proofs.Kept.{sources_taken}
+use Rattle.wl_serial.proofs.Kept.{ahead_taken, sources_asked}
 use Rattle.wl_serial.proofs.sources.Sources.take_due.Goals as goal
 
 pub take-requires-clause-order : goal.take-requires-clause-order
@@ -24,16 +21,15 @@ loop-k-preserved c =
     let inside : i < length rs = omega (arith, node, c.requires.somewhere.all) in
     let new = c.take.new.self in
     let kept = c.take.ensures.kept in (
-      record { nexts = kept.nexts; drives = kept.drives; beyond = kept.beyond; driving = kept.driving },
-      sources_taken plan rs c.args.j c.args.t i c.loop-k.self new c.loop-k.invariant.1 c.take.ensures.nexts c.take.ensures.drives
-          (λ u d after before.
-          ap (λ x. drove x.changes (delay_of plan.topology i c.args.j) u) (get_or_default rs i d c.index-running-i.result inside)
-          ∙ (ap (λ n. drove (get_or rs i c.index-running-i.result).changes n u) (sym (c.requires.delays.1 i 0 node))
-          ∙ (ap (λ xs. drove xs (get_or c.args.delays.now i 0) u) (sym c.as_slice.ensures) ∙ c.take.ensures.drove u after before))),
+      record { nexts = kept.nexts; drives = kept.drives; beyond = kept.beyond; quiet = kept.quiet; driving = kept.driving },
+      sources_asked plan rs c.args.j c.args.t i (get_or c.args.delays.now i 0) c.index-running-i.result _ c.loop-k.self new c.loop-k.invariant.1 c.take.ensures.nexts
+      c.take.ensures.drives inside c.as_slice.ensures (c.requires.delays.1 i 0 node) c.take.ensures.drove,
+      ahead_taken i c.args.t c.loop-k.self new c.loop-k.invariant.2 c.loop-k.invariant.3 c.take.ensures.one c.take.ensures.others c.take.ensures.nexts c.take.ensures.later,
+      (let e = c.take.ensures.others in let f = c.loop-k.invariant.3 in omega (arith, e, f)),
       node,
       (λ m b. elim (cases_eq m i) [
         | inl own ↦ inl (let e = ap (λ n. get_or new.nexts n 0) own in let f = c.take.ensures.later in omega (arith, e, f))
-        | inr other ↦ elim (c.loop-k.invariant.3 m b) [
+        | inr other ↦ elim (c.loop-k.invariant.5 m b) [
           | inl later ↦ inl (let e = c.take.ensures.nexts m other in omega (arith, e, later))
           | inr left ↦ elim (cases_eq left.0 k) [
             | inl here ↦ absurd (other (sym left.3 ∙ ap (λ p. get_or c.args.due.now p 0) here))
@@ -42,3 +38,10 @@ loop-k-preserved c =
         ]
       ]),
     )
+
+pub returns-then-self-i-clause-sources : goal.returns-then-self-i-clause-sources
+returns-then-self-i-clause-sources c =
+    let i : ℕ = get_or c.args.due.now c.loop-k.k 0 in
+    let node = c.requires.due.inside c.loop-k.k c.loop-k-test.true in
+    sources_asked c.args.plan.now c.args.running.now c.args.j c.args.t i (get_or c.args.delays.now i 0) c.index-running-i.result _ c.loop-k.self c.take.new.self
+    c.loop-k.invariant.1 c.take.ensures.nexts c.take.ensures.drives (omega (arith, node, c.requires.somewhere.all)) c.as_slice.ensures (c.requires.delays.1 i 0 node) c.take.ensures.drove
