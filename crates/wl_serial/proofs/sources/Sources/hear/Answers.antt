@@ -40,8 +40,8 @@ returns-clause-told c =
           let here = ap (λ x. get_or x.nexts i 0) w.self-is in
           let far = ap (λ x. x.others) w.self-is in
           let sources : AreSources plan rs c.args.j c.args.t w.take.new.self =
-              sources_asked plan rs c.args.j c.args.t i (get_or c.args.delays.now i 0) w.index-running-i.result _ s w.take.new.self c.requires.sources
-              w.take.ensures.nexts w.take.ensures.drives (omega (arith, node, c.requires.somewhere.all)) w.as_slice.ensures (c.requires.delays.1 i 0 node) w.take.ensures.drove in
+          sources_asked plan rs c.args.j c.args.t i (get_or c.args.delays.now i 0) w.index-running-i.result _ s w.take.new.self c.requires.sources
+          w.take.ensures.nexts w.take.ensures.drives (omega (arith, node, c.requires.somewhere.all)) w.as_slice.ensures (c.requires.delays.1 i 0 node) w.take.ensures.drove in
           told_by plan rs c.args.j most_places w.take.new.self _ c.laws.ensures.checked.few_nodes w.take.ensures.kept sources
           (λ k b. until_ahead i c.min-until.result s w.take.new.self c.requires.ahead refl w.take.ensures.others w.take.ensures.nexts (omega (arith, min, here)) (omega (arith, min, far)) k b)
           (ap (λ x. nat_lt 0 x.driving) w.self-is)

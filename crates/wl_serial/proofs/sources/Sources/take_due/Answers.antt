@@ -23,7 +23,7 @@ loop-k-preserved c =
     let kept = c.take.ensures.kept in (
       record { nexts = kept.nexts; drives = kept.drives; beyond = kept.beyond; quiet = kept.quiet; driving = kept.driving },
       sources_asked plan rs c.args.j c.args.t i (get_or c.args.delays.now i 0) c.index-running-i.result _ c.loop-k.self new c.loop-k.invariant.1 c.take.ensures.nexts
-      c.take.ensures.drives inside c.as_slice.ensures (c.requires.delays.1 i 0 node) c.take.ensures.drove,
+          c.take.ensures.drives inside c.as_slice.ensures (c.requires.delays.1 i 0 node) c.take.ensures.drove,
       ahead_taken i c.args.t c.loop-k.self new c.loop-k.invariant.2 c.loop-k.invariant.3 c.take.ensures.one c.take.ensures.others c.take.ensures.nexts c.take.ensures.later,
       (let e = c.take.ensures.others in let f = c.loop-k.invariant.3 in omega (arith, e, f)),
       node,
