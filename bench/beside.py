@@ -2,8 +2,11 @@
 """Measures two programs of Wireline beside each other, by turns on the same inputs, so that both meet the same machine.
 
 usage: beside.py OURS OTHER [WORD..]      RUNS (default 15) is the number of runs; only inputs whose name has one of the WORDs, where some are given
+       beside.py OURS OTHER commands      the commands that read a run, beside `run` of the other program on the busy plan of plan.py
+       beside.py OURS OTHER counts        millions of instructions of whole processes (callgrind), and how those of `run` grow as a plan doubles
 
 Prints for each input the least wall and processor time of both in milliseconds, the ratios, the peak memory in MiB, and whether both wrote the same.
+These are the tables of docs/change/speed.md.
 """
 import hashlib
 import os
@@ -80,9 +83,70 @@ def peak(program, command, path, out):
     return int(told.split()[-1]) / 1024
 
 
+def said(runs):
+    print(f"least of {runs} by turns, load {os.getloadavg()[0]:.1f}, {os.cpu_count()} processors")
+
+
+COMMANDS = ["run", "records", "candump", "trace", "vcd", "traffic"]
+
+DOUBLED = [  # plans of which each is twice the one before, by one of their parts
+    ("nodes: 4, 8, 16", [worst.plan(nodes=n) for n in (4, 8, 16)]),
+    ("quanta of a node: 60,000, 120,000, 240,000", [worst.plan(quanta=n) for n in (60_000, 120_000, 240_000)]),
+    ("frames of a node: 16, 32, 64, with 1,040,000 quanta", [worst.plan(frames=n, quanta=1_040_000) for n in (16, 32, 64)]),
+    ("disturbances: 16, 32, 64", [worst.plan(disturbances=n) for n in (16, 32, 64)]),
+]
+
+
+def instructions(program, command, text):
+    """Instructions of a whole process, which callgrind counts."""
+    with tempfile.TemporaryDirectory() as room:
+        words = ["valgrind", "--tool=callgrind", f"--callgrind-out-file={room}/counts", program, command]
+        told = subprocess.run(words, input=text, stdout=subprocess.DEVNULL, stderr=subprocess.PIPE, check=True).stderr
+    return int(re.search(rb"Collected : ([0-9]+)", told)[1])
+
+
+def counts(programs):
+    """Prints the instructions of both programs for each input of `run`, of ours for each command, and of ours as plans double."""
+    print("| input | millions of instructions: ours, other | ratio |\n|---|---:|---:|")
+    for name, command, make in INPUTS:
+        if command != "run": continue
+        text = make()
+        ours, other = [instructions(program, command, text) / 1e6 for program in programs]
+        print(f"| {name} | {ours:.2f}, {other:.2f} | {ours / other:.2f} |", flush=True)
+    text = made("plan.py")
+    print("\n| command on plan.py | millions of instructions |\n|---|---:|")
+    for command in COMMANDS: print(f"| `{command}` | {instructions(programs[0], command, text) / 1e6:.1f} |", flush=True)
+    print("\n| busy plan, doubled | millions of instructions | times the one before |\n|---|---:|---:|")
+    for name, plans in DOUBLED:
+        found = [instructions(programs[0], "run", text.encode()) / 1e6 for text in plans]
+        print(f"| {name} | {', '.join(f'{n:.1f}' for n in found)} | {', '.join(f'{n / m:.2f}' for m, n in zip(found, found[1:]))} |", flush=True)
+
+
+def commands(programs, runs):
+    """Prints the processor time of each command of ours on the busy plan, by turns with `run` of the other program."""
+    with tempfile.TemporaryDirectory() as room:
+        path, out = os.path.join(room, "in"), os.path.join(room, "out")
+        with open(path, "wb") as file: file.write(made("plan.py"))
+        cases = [(programs[1], "run")] + [(programs[0], command) for command in COMMANDS]
+        least, sizes = [1e9] * len(cases), [0] * len(cases)
+        for _ in range(runs):
+            for case, (program, command) in enumerate(cases):
+                _, processor, status = once(program, command, path, out)
+                assert status == 0, f"{command}: status {status} of {program}"
+                least[case], sizes[case] = min(least[case], processor), os.path.getsize(out)
+    print("| command | processor, ms | of the other's `run` | bytes out |\n|---|---:|---:|---:|")
+    for (_, command), time_, size in zip(cases[1:], least[1:], sizes[1:]):
+        print(f"| `{command}` | {time_ * 1000:.1f} | {time_ / least[0]:.2f} | {size:,} |")
+    print(f"`run` of the other program: {least[0] * 1000:.1f} ms")
+
+
 def main():
     if len(sys.argv) < 3: sys.exit(sys.stderr.write(__doc__) and 2)
     programs, words, runs = sys.argv[1:3], sys.argv[3:], int(os.environ.get("RUNS", "15"))
+    if words == ["counts"]: return counts(programs)
+    if words == ["commands"]:
+        commands(programs, runs)
+        return said(runs)
     timed = os.path.exists("/usr/bin/time")
     print("| input | wall, ms: ours, other | ratio | processor, ms: ours, other | ratio | peak, MiB: ours, other | output |\n|---|---:|---:|---:|---:|---:|---|")
     for name, command, make in INPUTS:
@@ -101,7 +165,7 @@ def main():
         (wall, cpu), (wall2, cpu2) = least
         print(f"| {name} | {wall * 1000:.1f}, {wall2 * 1000:.1f} | {wall / wall2:.2f} | {cpu * 1000:.1f}, {cpu2 * 1000:.1f} | {cpu / max(cpu2, 1e-4):.2f} |",
               f"{peaks[0]:.0f}, {peaks[1]:.0f} | {'the same' if same else 'DIFFERS'} |", flush=True)
-    print(f"least of {runs} by turns, load {os.getloadavg()[0]:.1f}, {os.cpu_count()} processors")
+    said(runs)
 
 
 if __name__ == "__main__":
