@@ -41,7 +41,7 @@ abbrev pub passing : (ℕ → Bool) → ℕ → ℕ
 passing test zero = 0
 passing test (suc n) = passing test n + from_bool (test n)
 
--- what is kept of n nodes: beyond them nothing comes and nothing drives dominant, and so many of them drive dominant
+-- what is kept of n nodes: beyond them nothing comes and nothing drives dominant, and so many of them are kept as dominant
 pub record AreTallied (n : ℕ) (s : Sources) : Type 0 where
   pub nexts : length s.nexts ≡ most_places
   pub drives : length s.drives ≡ most_places
@@ -86,7 +86,7 @@ tells rs d i u = odd (count_below (u + 1) (slice_index_or rs i d).changes)
 abbrev pub IsPulseTold : Plan → List Running → ℕ → Pulse → Type 0
 IsPulseTold plan rs j p = (d : Running) (t : ℕ) → p.from ≤ t → t < p.until → driven (length plan.nodes) (delay_of plan.topology) (tells rs d) j t ≡ p.dominant
 
--- From tick t on and until the next change of a node comes to place j, its changes make there what is kept.
+-- From tick t on and below the tick that is kept of a node, its changes make at place j what is kept.
 abbrev pub AreSources : Plan → List Running → ℕ → ℕ → Sources → Type 0
 AreSources plan rs j t s =
     (i u : ℕ) (d : Running) → i < length plan.nodes → t ≤ u → u < slice_index_or s.nexts i 0

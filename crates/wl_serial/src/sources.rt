@@ -11,9 +11,9 @@ use crate::running_node::{Running, Ticks};
 use wl_pulse::Pulse;
 use wl_topology::MOST_NODES;
 
-/// What is cached of the nodes at a place. Of each node it is how many of its changes had arrived when they were last asked for, and the
-/// tick at which the next one arrives. It is also whether the node is dominant there up to then, and how many nodes are. And it is one
-/// node, with a tick before which no change of another one arrives.
+/// What is cached of the nodes at a place. Of each node it is how many changes were counted when it was last asked, and the tick at which the
+/// next one arrives. That tick may be past: then the node is to be asked again. It is also whether the node is dominant up to that tick, and
+/// how many nodes are kept so. And it is one node, with a tick before which no change of another one arrives.
 #[derive(Drop)]
 pub(crate) struct Sources {
     /// It speeds up the next time, and decides nothing.
@@ -46,8 +46,8 @@ impl Sources {
         }
     }
 
-    /// Returns whether some node is dominant at place `j`, by its changes, from tick `t` on. While one node alone changes its drive, no
-    /// other one is asked.
+    /// Returns whether some node is dominant at place `j`, by its changes, from tick `t` on. Before the tick `others` only the node that is
+    /// kept apart is asked.
     pub(crate) fn hear(
         &mut self,
         plan: &Checked,
@@ -86,8 +86,8 @@ impl Sources {
         }
     }
 
-    /// Returns the same, if any node may have changed its drive. While a node is known to drive dominant there, no other one is asked. Else
-    /// those are asked from which a change has arrived, up to the first that is dominant.
+    /// Returns the same, if any node may have changed its drive. While a node is known to drive dominant there, none is asked. Else those are
+    /// asked from which a change has arrived, up to the first that is dominant.
     fn hear_all(
         &mut self,
         plan: &Checked,
@@ -129,7 +129,7 @@ impl Sources {
         }
     }
 
-    /// Returns the tick up to which a node goes on to drive dominant, by what is kept; 0 if none drives dominant.
+    /// Returns the latest tick up to which a node drives dominant, by what is kept; 0 if none is kept as dominant. It may be past.
     #[inline(always)]
     fn dominant_until(&self) -> u64
         ensures { (n u : ℕ) → AreTallied n self.now → u < result → IsDriving n u self.now }
@@ -141,8 +141,8 @@ impl Sources {
         until
     }
 
-    /// Returns the nodes from which a change has arrived by tick `t`, in their order, and how many they are. No branch of the loop depends on
-    /// a node.
+    /// Returns the nodes whose next change is kept as one that arrives by tick `t`, in their order, and how many they are. No branch of the
+    /// loop depends on a node.
     #[inline(always)]
     fn due_by(&self, plan: &Checked, t: u64) -> ([usize; MOST_NODES], usize)
         requires early { t < 2 ^ 63 }
@@ -204,7 +204,8 @@ impl Sources {
         0
     }
 
-    /// Returns the tick before which no change of another node than node `j` arrives, if all others are recessive; else 0.
+    /// Returns the tick before which no change of another node than node `j` is to be taken up, if all others are kept as recessive; else 0. It
+    /// may be past.
     pub(crate) fn alone_until(&self, j: usize) -> u64
         requires { j < most_places }
         ensures { (n : ℕ) → j < n → n ≤ most_places → AreTallied n self.now → IsAlone n j result self.now }
@@ -215,7 +216,7 @@ impl Sources {
         self.others_until(j)
     }
 
-    /// Returns the tick before which no change of another node than node `j` arrives.
+    /// Returns the tick before which no change of another node than node `j` is to be taken up. It may be past.
     fn others_until(&self, j: usize) -> u64
         ensures few { (k : ℕ) → k ≢ j → k < most_places → result ≤ slice_index_or self.now.nexts k 0 }
         ensures later { (t : ℕ) → t < 2 ^ 63
