@@ -20,9 +20,10 @@ use Rattle.wl_plan.specs.PlanLine.{setup_at, line_of}
 use Rattle.wl_plan.specs.Simulation.{seen}
 use Rattle.wl_plan.specs.SimulationLaws.{SimulationLaws}
 use Rattle.wl_plan.specs.Sound.{IsSound}
+use Rattle.wl_pulse.specs.Pulses.{drove}
 use Rattle.wl_serial.specs.declared.running_node.Running.{Running}
 use Rattle.wl_serial.specs.Guess.{RanUpTo}
-use Rattle.wl_serial.specs.LineAt.{drove, HearsOnly}
+use Rattle.wl_serial.specs.LineAt.{HearsOnly}
 use Rattle.wl_serial.specs.Running.{GoesOn, IsAt, IsLater, IsSomewhere, OwnIsTold, RanBelow, RunsBelow, RunsOn, by_quanta, line_with}
 use Rattle.wl_serial.specs.Stretch.{HasFollowed, HasRunAlong, HasStretched, RunsAny}
 use Rattle.wl_serial.proofs.Beside.{below_then, later_none, later_then}

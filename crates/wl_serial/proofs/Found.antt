@@ -12,8 +12,9 @@ use Rattle.wl_plan.specs.Line.{Line}
 use Rattle.wl_plan.specs.Simulation.{level, changes}
 use Rattle.wl_plan.specs.SimulationLaws.{SimulationLaws}
 use Rattle.wl_plan.specs.Sound.{IsCausal, IsSound}
+use Rattle.wl_pulse.specs.Pulses.{drove}
 use Rattle.wl_serial.specs.declared.running_node.Running.{Running}
-use Rattle.wl_serial.specs.LineAt.{comes, drove}
+use Rattle.wl_serial.specs.LineAt.{comes}
 use Rattle.wl_serial.specs.Running.{IsRunning, AreRunning, KnowsOthers, OwnIsTold}
 
 -- the front of a list of changes tells the level up to where it reaches

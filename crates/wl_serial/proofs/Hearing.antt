@@ -12,9 +12,10 @@ use Rattle.wl_plan.specs.declared.plan.Plan.{Plan}
 use Rattle.wl_plan.specs.PlanLine.{line_of, disturbed}
 use Rattle.wl_plan.specs.SimulationLaws.{SimulationLaws}
 use Rattle.wl_plan.specs.Sound.{IsSound}
+use Rattle.wl_pulse.specs.Pulses.{drove}
 use Rattle.wl_serial.specs.declared.line_at.LineAt.{LineAt}
 use Rattle.wl_serial.specs.declared.running_node.Running.{Running}
-use Rattle.wl_serial.specs.LineAt.{comes, drove, IsPulseTold, IsHeard, AreHeard, AreSooner, AreSources, HasChanged, sees}
+use Rattle.wl_serial.specs.LineAt.{comes, IsPulseTold, IsHeard, AreHeard, AreSooner, AreSources, HasChanged, sees}
 use Rattle.wl_serial.specs.Running.{AreRunning, KnowsOthers, OwnIsTold, finds}
 use Rattle.wl_serial.proofs.Found.{makes}
 

@@ -10,8 +10,9 @@ use Rattle.wl_topology.specs.Limits.{most_places}
 use Rattle.wl_plan.specs.declared.plan.Plan.{Plan}
 use Rattle.wl_serial.specs.declared.running_node.Running.{Running}
 use Rattle.wl_serial.specs.declared.sources.Sources.{Sources}
+use Rattle.wl_pulse.specs.Pulses.{drove}
 use Rattle.wl_pulse.specs.declared.pulse.Pulse.{Pulse}
-use Rattle.wl_serial.specs.LineAt.{drove, passing, AreTallied, IsAhead, IsDriving, AreSooner, AreSources, IsPulseTold}
+use Rattle.wl_serial.specs.LineAt.{passing, AreTallied, IsAhead, IsDriving, AreSooner, AreSources, IsPulseTold}
 use Rattle.wl_topology.proofs.Callers.{any_from, any_same}
 
 -- some number passes where there is one at least that does

@@ -10,8 +10,8 @@ use Rattle.wl_plan.specs.declared.plan.Plan.{Plan}
 use Rattle.wl_plan.specs.PlanLine.{disturbed}
 use Rattle.wl_serial.specs.declared.line_at.LineAt.{LineAt}
 use Rattle.wl_serial.specs.declared.running_node.Running.{Running}
-use Rattle.wl_pulse.specs.Pulses.{IsPulse}
-use Rattle.wl_serial.specs.LineAt.{drove, passing, HearsOnly, IsAlone, IsHeard}
+use Rattle.wl_pulse.specs.Pulses.{IsPulse, drove}
+use Rattle.wl_serial.specs.LineAt.{passing, HearsOnly, IsAlone, IsHeard}
 
 -- one of those that pass
 one_passes : (p : ℕ → Bool) (n k : ℕ) → k < n → from_bool (p k) ≤ passing p n

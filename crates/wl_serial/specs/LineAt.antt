@@ -12,15 +12,11 @@ use Rattle.wl_plan.specs.PlanLine.{line_of, disturbed}
 use Rattle.wl_plan.specs.Line.{found}
 use Rattle.wl_plan.specs.Simulation.{level}
 use Rattle.wl_pulse.specs.declared.pulse.Pulse.{Pulse}
-use Rattle.wl_pulse.specs.Pulses.{IsPulse}
+use Rattle.wl_pulse.specs.Pulses.{IsPulse, drove}
 use Rattle.wl_serial.specs.declared.line_at.LineAt.{LineAt}
 use Rattle.wl_serial.specs.declared.sources.Sources.{Sources}
 use Rattle.wl_serial.specs.declared.line_at.Found.{Found}
 use Rattle.wl_serial.specs.declared.running_node.Running.{Running}
-
--- whether a node with these changes drove dominant a delay before tick t
-abbrev pub drove : List ℕ → ℕ → ℕ → Bool
-drove changes delay t = nat_le delay t && odd (count_below (t - delay + 1) changes)
 
 -- whether node i drives dominant at place j and tick t in the simulation
 abbrev pub comes : Plan → ℕ → ℕ → ℕ → Bool

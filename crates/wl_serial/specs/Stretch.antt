@@ -1,11 +1,12 @@
 -- What one node runs beside what all have told. This project's profile.
 use Rattle.std.specs.Prelude.{◌≡◌, ℕ, ◌<◌, List, length, slice_index_or, set}
 use Rattle.wl_plan.specs.declared.plan.Plan.{Plan}
+use Rattle.wl_pulse.specs.Pulses.{drove}
 use Rattle.wl_serial.specs.declared.running_node.Running.{Running}
 use Rattle.wl_level.specs.declared.Level.{Level}
 use Rattle.wl_level.specs.Levels.{level_of}
 use Rattle.wl_serial.specs.Guess.{RanUpTo}
-use Rattle.wl_serial.specs.LineAt.{drove, sees}
+use Rattle.wl_serial.specs.LineAt.{sees}
 use Rattle.wl_serial.specs.Running.{IsSomewhere, GoesOn, RanBelow, IsKnownOn, IsLater, by_quanta}
 
 -- Node j alone ran on, below that tick, by what the nodes had told.

@@ -8,9 +8,9 @@ ghost use Rattle.wl_serial.specs.Stretch.{HasRunAlong, HasStretched, TellsTheSam
 
 use crate::checked::Checked;
 use crate::line_at::{LineAt, level_by, tell};
-use crate::pulse::{change_at, count_until};
 use crate::running_node::Running;
 use std::alloc::AllocError;
+use wl_pulse::{change_at, count_until};
 
 /// Runs quanta of node `i` below a tick, up to the first that changes its drive, beside node `j`, which alone is heard there. All places
 /// note its change. True if there was one.

@@ -8,7 +8,6 @@ mod guess;
 mod laws;
 mod line_at;
 mod outcome;
-mod pulse;
 mod quiet_line;
 mod records;
 mod running_node;
@@ -21,6 +20,5 @@ pub use laws::{outcome_is_recordable, outcome_node_by_node, records_are_true};
 pub use outcome::{
     Changes, Frames, NodeOutcome, NodeOutcomes, NodeTotals, Outcome, Phases, Totals,
 };
-pub use pulse::pulse_of;
 pub use records::records_of;
 pub use so_far::node_outcome;

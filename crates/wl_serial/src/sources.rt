@@ -2,13 +2,13 @@
 ghost use Rattle.std.specs.Prelude.{◌≡◌, ◌≢◌, ℕ, ◌<◌, ◌≤◌, ◌^◌, false, true, length, slice_index_or};
 ghost use Rattle.wl_record_core.specs.Truth.{IsIncreasing};
 ghost use Rattle.wl_topology.specs.Limits.{most_places};
-ghost use Rattle.wl_serial.specs.LineAt.{AreDelays, AreTallied, IsAhead, IsAlone, AreSooner, AreSources, IsDriving, IsDue, IsPulseTold, drove};
+ghost use Rattle.wl_pulse.specs.Pulses.{drove};
+ghost use Rattle.wl_serial.specs.LineAt.{AreDelays, AreTallied, IsAhead, IsAlone, AreSooner, AreSources, IsDriving, IsDue, IsPulseTold};
 ghost use Rattle.wl_serial.specs.Running.{AreSomewhere};
 
 use crate::checked::Checked;
-use crate::pulse::pulse_of;
 use crate::running_node::{Running, Ticks};
-use wl_pulse::Pulse;
+use wl_pulse::{Pulse, pulse_of};
 use wl_topology::MOST_NODES;
 
 /// What is cached of the nodes at a place. Of each node it is how many changes were counted when it was last asked, and the tick at which the

@@ -10,8 +10,8 @@ use Rattle.wl_plan.specs.SimulationLaws.{SimulationLaws}
 use Rattle.wl_plan.specs.Sound.{IsSound}
 use Rattle.wl_serial.specs.declared.outcome.NodeOutcome.{NodeOutcome}
 use Rattle.wl_serial.specs.declared.outcome.Outcome.{Outcome}
-use Rattle.wl_serial.specs.LineAt.{drove}
 use Rattle.wl_serial.specs.Outcome.{node_outcome_of, outcome_of}
+use Rattle.wl_pulse.specs.Pulses.{drove}
 use Rattle.wl_pulse.specs.declared.pulse.Pulse.{Pulse}
 use Rattle.wl_views.specs.PlaceLine.{Lasts}
 use Rattle.wl_views.specs.Signals.{snapshot_then}

@@ -7,7 +7,7 @@ use Rattle.wl_trace.specs.declared.snapshot.NodeState.{NodeState}
 use Rattle.wl_views.specs.declared.tick.Tick.{Tick}
 use Rattle.wl_views.specs.declared.tick.TimeUnit.TheVariants.{Picosecond, Microsecond}
 use Rattle.wl_views.specs.declared.signals.NodeSignals.{NodeSignals}
-use Rattle.wl_serial.specs.LineAt.{drove}
+use Rattle.wl_pulse.specs.Pulses.{drove}
 use Rattle.wl_views.specs.Vcd.{dump_lines, header, tick_lines}
 
 picoseconds : Tick

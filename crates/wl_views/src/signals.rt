@@ -21,8 +21,8 @@ use crate::lines::{Lines, push_node_changes};
 use crate::probe::Probe;
 use std::alloc::{AllocError, Global};
 use wl_plan::CheckedPlan;
-use wl_pulse::Pulse;
-use wl_serial::{Outcome, pulse_of};
+use wl_pulse::{Pulse, pulse_of};
+use wl_serial::Outcome;
 use wl_topology::MOST_NODES;
 use wl_trace::NodeState;
 

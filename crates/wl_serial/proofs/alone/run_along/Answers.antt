@@ -3,10 +3,11 @@ use Rattle.std.proofs.Common.{◌+◌, ◌-◌, ◌%◌, ◌==◌, ◌<◌, ◌+
 use Rattle.std.proofs.lemmas.Bool.{cases_lt}
 use Rattle.std.proofs.lemmas.List.{get_or_default, get_or-set_same}
 use Rattle.wl_record_core.specs.Truth.{count_below, IsIncreasing}
-use Rattle.wl_serial.specs.LineAt.{drove}
+use Rattle.wl_record_core.proofs.Callers.{odd_is}
+use Rattle.wl_pulse.specs.Pulses.{drove}
 use Rattle.wl_serial.specs.Running.{by_quanta, one_more}
 use Rattle.wl_serial.proofs.Along.{along_later, along_length, along_more, along_none, along_other, along_seen, by_quanta_is}
-use Rattle.wl_serial.proofs.Counts.{drove_on, few_below, next_after, odd_is, one_comes}
+use Rattle.wl_serial.proofs.Counts.{drove_on, few_below, next_after, one_comes}
 use Rattle.wl_serial.proofs.alone.run_along.Goals as goal
 
 pub come_by-come-requires : goal.come_by-come-requires

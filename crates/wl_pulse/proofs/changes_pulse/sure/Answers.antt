@@ -1,7 +1,7 @@
 -- The last change of the guess is not after the tick, so that all of them count.
 use Rattle.std.proofs.Common.{◌-◌, arith}
-use Rattle.wl_serial.proofs.Counts.{reached}
-use Rattle.wl_serial.proofs.pulse.sure.Goals as goal
+use Rattle.wl_record_core.proofs.Callers.{reached}
+use Rattle.wl_pulse.proofs.changes_pulse.sure.Goals as goal
 
 pub returns : goal.returns
 returns c =

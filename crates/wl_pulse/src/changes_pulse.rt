@@ -1,10 +1,9 @@
 //! What a node's changes make at a place, and for how long that stays.
 ghost use Rattle.std.specs.Prelude.{◌≡◌, ◌+◌, ◌-◌, ◌<◌, ◌≤◌, ◌^◌, true, length, slice_index_or};
 ghost use Rattle.wl_record_core.specs.Truth.{count_below, IsIncreasing};
-ghost use Rattle.wl_pulse.specs.Pulses.{IsPulse};
-ghost use Rattle.wl_serial.specs.LineAt.{drove};
+ghost use Rattle.wl_pulse.specs.Pulses.{IsPulse, drove};
 
-use wl_pulse::Pulse;
+use crate::pulse::Pulse;
 
 /// Returns whether a node with these changes drove dominant `delay` ticks before tick `t`, and up to which tick that stays. `come` is how
 /// many changes had arrived when it was last asked for. It speeds up the next time, and decides nothing.
@@ -33,7 +32,7 @@ pub fn pulse_of(changes: &[u64], delay: u64, t: u64, come: &mut usize) -> Pulse
 }
 
 /// Returns the tick of the change of this number, and if there is none the last tick of all.
-pub(crate) fn change_at(changes: &[u64], number: usize) -> u64
+pub fn change_at(changes: &[u64], number: usize) -> u64
     ensures there { number < length changes.now → result ≡ slice_index_or changes.now number 0 }
     ensures none { length changes.now ≤ number → result ≡ 2 ^ 64 - 1 }
 {
@@ -44,7 +43,7 @@ pub(crate) fn change_at(changes: &[u64], number: usize) -> u64
 }
 
 /// Returns how many of the changes are not after this tick; `guess` of them were not after an earlier one.
-pub(crate) fn count_until(changes: &[u64], tick: u64, guess: usize) -> usize
+pub fn count_until(changes: &[u64], tick: u64, guess: usize) -> usize
     requires { IsIncreasing changes.now }
     ensures { result ≡ count_below (tick + 1) changes.now }
 {

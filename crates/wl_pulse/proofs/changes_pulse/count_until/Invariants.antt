@@ -1,6 +1,6 @@
 use Rattle.std.proofs.Common.{◌+◌, ◌-◌, ◌≤◌, length}
 use Rattle.wl_record_core.specs.Truth.{count_below}
-use Rattle.wl_serial.proofs.pulse.count_until.Given as goal
+use Rattle.wl_pulse.proofs.changes_pulse.count_until.Given as goal
 
 -- so many changes at least are not after the tick
 abbrev pub invariant-loop-count : goal.invariant-loop-count

@@ -1,8 +1,8 @@
 -- The last change is not after the tick, so that all of them count.
 use Rattle.std.proofs.Common.{◌+◌, ◌-◌, arith, length, nat_lt}
 use Rattle.std.proofs.lemmas.List.Sums.{count_by-le-length}
-use Rattle.wl_serial.proofs.Counts.{reached}
-use Rattle.wl_serial.proofs.pulse.have_all_come.Goals as goal
+use Rattle.wl_record_core.proofs.Callers.{reached}
+use Rattle.wl_pulse.proofs.changes_pulse.have_all_come.Goals as goal
 
 pub returns : goal.returns
 returns c = λ _.

@@ -1,8 +1,9 @@
 -- Until the next change has come, as many have come as now.
 use Rattle.std.proofs.Common.{◌-◌, ◌%◌, ◌==◌, inl, inr, length, arith}
 use Rattle.std.proofs.lemmas.Bool.{cases_lt}
-use Rattle.wl_serial.proofs.Counts.{after_them, drove_stays, odd_is}
-use Rattle.wl_serial.proofs.pulse.pulse_of.Goals as goal
+use Rattle.wl_record_core.proofs.Callers.{odd_is}
+use Rattle.wl_pulse.proofs.Callers.{after_them, drove_stays}
+use Rattle.wl_pulse.proofs.changes_pulse.pulse_of.Goals as goal
 
 pub returns-clause-until : goal.returns-clause-until
 returns-clause-until c = elim (cases_lt c.count_until-count.result (length c.args.changes.now)) [

@@ -1,7 +1,7 @@
 -- Each change that is not after the tick counts, and the first that is after it ends the count.
 use Rattle.std.proofs.Common.{arith}
-use Rattle.wl_serial.proofs.Counts.{reached, not_reached}
-use Rattle.wl_serial.proofs.pulse.count_until.Goals as goal
+use Rattle.wl_record_core.proofs.Callers.{reached, not_reached}
+use Rattle.wl_pulse.proofs.changes_pulse.count_until.Goals as goal
 
 pub loop-count-preserved : goal.loop-count-preserved
 loop-count-preserved c =
