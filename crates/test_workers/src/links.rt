@@ -16,7 +16,7 @@ use wl_plan::CheckedPlan;
 use wl_record_core::Record;
 use wl_serial::{Outcome, run_serial};
 use wl_worker::{
-    Bell, Fault, Gate, HubLink, Link, LinkKind, MailLink, PlanName, hub_links, mail_links,
+    Bell, Board, Fault, Gate, HubLink, Link, LinkKind, MailLink, PlanName, hub_links, mail_links,
     shape_of_plan, simulate_over,
 };
 
@@ -31,6 +31,7 @@ pub fn run_over<R: Threads + Wait + Sync, G: Gate + Sync>(
     counts: &Counts,
 ) -> Result<Outcome, Fault> {
     let bell = Bell::new(alloc, workers, plan.nodes())?;
+    let board = Board::new(alloc, plan)?;
     match kind {
         LinkKind::Hub => {
             let shape = shape_of_plan(alloc, plan)?;
@@ -38,12 +39,12 @@ pub fn run_over<R: Threads + Wait + Sync, G: Gate + Sync>(
                 plan: plan.clone_in(alloc)?,
             };
             let (hub, pass) = Hub::start(alloc, shape.as_slice(), &name)?;
-            let links = hub_links(rt, alloc, &hub, pass, &bell, workers)?;
+            let links = hub_links(rt, alloc, &hub, pass, &bell, &board, workers)?;
             run_watched(rt, alloc, plan, links, gate, counts)
         }
         LinkKind::Mail => {
             let (posts, _hold) = posts(alloc, workers)?;
-            let links = mail_links(rt, alloc, posts, plan, &bell)?;
+            let links = mail_links(rt, alloc, posts, plan, &bell, &board)?;
             run_watched(rt, alloc, plan, links, gate, counts)
         }
     }
@@ -110,6 +111,7 @@ pub fn tell_links<R: Wait>(
         bail!("one node alone");
     }
     let bell = Bell::new(alloc, 2, plan.nodes())?;
+    let board = Board::new(alloc, plan)?;
     match kind {
         LinkKind::Hub => {
             let shape = shape_of_plan(alloc, plan)?;
@@ -119,8 +121,8 @@ pub fn tell_links<R: Wait>(
             let (hub, pass) = Hub::start(alloc, shape.as_slice(), &name)?;
             let mut pass = pass;
             let own = hub.split(&mut pass);
-            let giving = HubLink::new(rt, alloc, &hub, own, &bell, 0)?;
-            let bringing = HubLink::new(rt, alloc, &hub, pass, &bell, 1)?;
+            let giving = HubLink::new(rt, alloc, &hub, own, &bell, &board, 0)?;
+            let bringing = HubLink::new(rt, alloc, &hub, pass, &bell, &board, 1)?;
             tell_two(alloc, plan, giving, bringing, given)
         }
         LinkKind::Mail => {
@@ -128,8 +130,8 @@ pub fn tell_links<R: Wait>(
             let (Some(second), Some(first)) = (posts.pop(), posts.pop()) else {
                 bail!("not two posts");
             };
-            let giving = MailLink::new(rt, alloc, first, plan, &bell, 0)?;
-            let bringing = MailLink::new(rt, alloc, second, plan, &bell, 1)?;
+            let giving = MailLink::new(rt, alloc, first, plan, &bell, &board, 0)?;
+            let bringing = MailLink::new(rt, alloc, second, plan, &bell, &board, 1)?;
             tell_two(alloc, plan, giving, bringing, given)
         }
     }

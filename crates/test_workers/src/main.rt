@@ -12,7 +12,7 @@
 //!   if at least one restart was asked.
 //! - `hold W T P N`: one run by N workers, in which a gate holds worker W before its turn T for P polls and then refuses it; the others sleep
 //!   by then, and have had a hundred turns at most.
-//! - `turns N K`: one run by N workers; whether each of them had at least K turns.
+//! - `turns N K M`: one run by N workers; whether each of them had at least K turns, and at most M.
 //! - `overlap N P`: one run by N workers. Workers 0 and 1 are each held in their first turn until the other one is in its first turn too,
 //!   for at most P polls; then the turn is refused.
 //! - `over N`: one run by N workers, over links that this program makes and watches.

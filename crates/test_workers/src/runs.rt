@@ -108,11 +108,10 @@ fn run<R: Threads + Wait + Sync>(
             let held = (worker, turn, polls);
             run_held(rt, alloc, plan, alone, workers, link, held)?
         }
-        Kind::Turns(least) => {
+        Kind::Turns(least, most) => {
             let gate = TurnCounts::new(alloc)?;
             let end = run_by(rt, alloc, plan, alone, workers, link, &gate)?;
-            let met = (0..workers).all(|worker| gate.of(worker) >= least);
-            if met { end } else { End::FewTurns }
+            turned(&gate, workers, least, most, end)
         }
         Kind::Overlap(polls) => {
             run_by(rt, alloc, plan, alone, workers, link, &Overlap::new(polls))?
@@ -129,6 +128,17 @@ fn run<R: Threads + Wait + Sync>(
             end_of(alloc, alone, ran)?
         }
     })
+}
+
+/// Returns the end of a run if each worker had at least `least` turns, and at most `most`.
+fn turned(gate: &TurnCounts, workers: u8, least: u64, most: u64, end: End) -> End {
+    if (0..workers).any(|worker| gate.of(worker) < least) {
+        return End::FewTurns;
+    }
+    if (0..workers).any(|worker| gate.of(worker) > most) {
+        return End::ManyTurns;
+    }
+    end
 }
 
 /// Runs a plan by this many workers; one of them restarts before two turns.

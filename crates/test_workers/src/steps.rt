@@ -42,8 +42,8 @@ pub enum Kind {
     Held(u8, u64, u64),
     /// Worker `.0` restarts before turns `.1` and `.2`.
     Restart(u8, u64, u64),
-    /// Each has at least this many turns.
-    Turns(u64),
+    /// Each has at least `.0` turns, and at most `.1`.
+    Turns(u64, u64),
     /// The first turns are held for each other, for this many polls.
     Overlap(u64),
     /// Over links that the program makes.
@@ -59,7 +59,7 @@ impl Display for Kind {
             Kind::Stop(..) => f.write_str(", a turn refused"),
             Kind::Held(worker, ..) => write!(f, ", worker {worker} held and refused"),
             Kind::Restart(worker, ..) => write!(f, ", worker {worker} restarted twice"),
-            Kind::Turns(least) => write!(f, ", each with {least} turns"),
+            Kind::Turns(least, most) => write!(f, ", each with {least} to {most} turns"),
             Kind::Overlap(_) => f.write_str(", first turns at once"),
             Kind::Over => f.write_str(" over watched links"),
             Kind::Silent(_) => f.write_str(" over silent links"),
@@ -138,7 +138,7 @@ fn step_of_many(
             let workers = u8::try_from(workers).ok()?;
             Some(Step::Run(workers, kind, Kind::Restart(many, first, second)))
         }
-        ("turns", (Some(least), None, _)) => Some(Step::Run(many, kind, Kind::Turns(least))),
+        ("turns", (Some(k), Some(m), None)) => Some(Step::Run(many, kind, Kind::Turns(k, m))),
         ("overlap", (Some(polls), None, _)) => Some(Step::Run(many, kind, Kind::Overlap(polls))),
         ("over", (None, ..)) => Some(Step::Run(many, kind, Kind::Over)),
         ("silent", (Some(turn), None, _)) => Some(Step::Run(many, kind, Kind::Silent(turn))),

@@ -9,7 +9,7 @@ use std::sync::atomic::{AtomicU64, Ordering};
 use wl_group::Group;
 use wl_plan::Plan;
 use wl_record_core::Record;
-use wl_worker::{Link, LinkFault};
+use wl_worker::{Claim, Link, LinkFault};
 
 /// What all workers of a run did together.
 #[derive(Drop)]
@@ -91,6 +91,14 @@ impl<'c, L: Link + Drop> Link for Watched<'c, L> {
             self.counts.news.fetch_add(1, Ordering::SeqCst);
         }
         Ok(news)
+    }
+
+    fn claim(&mut self, claim: Claim) -> Result<(), LinkFault> {
+        self.link.claim(claim)
+    }
+
+    fn next_claim(&mut self) -> Result<Option<Claim>, LinkFault> {
+        self.link.next_claim()
     }
 
     fn rewind(&mut self) {

@@ -1,11 +1,21 @@
 pub mod Callers
+mod AcceptProofs
 mod AdvanceProofs
 mod BeginProofs
+mod BegunProofs
 mod CellProofs
 mod ChangesProofs
 mod HeardProofs
 mod GoingProofs
+mod FollowProofs
+mod FollowedProofs
+mod FollowRowProofs
+mod LeadProofs
 mod GroupProofs
+mod GuessProofs
+mod ThoughtProofs
+mod TickProofs
+mod ToldProofs
 mod Rows
 mod ValueProofs
 mod RunProofs

@@ -49,7 +49,7 @@ some_there {A} xs i x h =
       | inr past ↦ (let e : get_or xs i None ≡ None = get_or_past xs i None past in let f : None ≡ Some x = sym e ∙ h in absurd cc)
     ]
 
-same_length : (cells : List (Option Cell)) → length (ran_of cells) ≡ length cells
+pub same_length : (cells : List (Option Cell)) → length (ran_of cells) ≡ length cells
 same_length [] = refl
 same_length (x ∷ xs) = ap suc (same_length xs)
 

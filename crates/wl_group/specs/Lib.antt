@@ -1,8 +1,10 @@
 pub mod AdvanceLaws
 pub mod Advanced
 pub mod Chosen
+pub mod Following
 pub mod Going
 pub mod GroupLaws
+pub mod Guess
 pub mod GroupValue
 pub mod Heard
 pub mod Holds
@@ -13,5 +15,6 @@ pub mod Running
 pub mod Said
 pub mod Stored
 pub mod Through
+pub mod Ticks
 pub mod ValueLaws
 pub mod Ways

@@ -24,7 +24,7 @@ use wl_record_core::Record;
 use wl_replica::Replica;
 
 /// How many stretches of the line a member finds ahead at most.
-pub(crate) const MOST_AHEAD: usize = 4;
+pub(crate) const MOST_AHEAD: usize = 16;
 
 /// Stretches of the line at a member's place, one after another, and how many there are.
 #[derive(Drop)]

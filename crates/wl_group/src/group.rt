@@ -173,7 +173,7 @@ impl Group {
     }
 
     /// Returns, for each number that a node may have, whether it is a member.
-    fn chosen(&self) -> Chosen
+    pub fn chosen(&self) -> [bool; MOST_NODES]
         ensures { (i : ℕ) → is_chosen result i ≡ belongs self.now i }
     {
         let mut chosen = [false; MOST_NODES];

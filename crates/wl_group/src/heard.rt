@@ -38,7 +38,7 @@ pub(crate) fn nothing_heard() -> Heard
 }
 
 /// Returns the tick of a node's change; 0 if it isn't known.
-fn change_at(replica: &Replica, node: u8, seq: u32) -> u64
+pub(crate) fn change_at(replica: &Replica, node: u8, seq: u32) -> u64
     ensures { result ≡ tick_in ((slots_of replica.now).edge node seq) }
 {
     match replica.slot(Slot::EdgeAt { node, seq }) {

@@ -3,6 +3,7 @@
 ghost use Rattle.wl_group.specs.ValueLaws.{ValueLaws};
 ghost use Rattle.wl_group.specs.GroupLaws.{GroupLaws, WaveIsLevel};
 ghost use Rattle.wl_group.specs.AdvanceLaws.{AdvanceLaws};
+ghost use Rattle.wl_group.specs.Guess.{KeepingLaws};
 
 /// Law: what holds of groups as their calls see them: each group begins, takes and runs as the party of the
 /// machine that it is, what it emits is true, and it stays where the one-thread simulation has it.
@@ -44,4 +45,11 @@ pub fn group_laws()
 #[tactic(auto, using(crate::proofs::AdvanceProofs::advance_laws))]
 pub fn advance_laws()
     ensures { AdvanceLaws }
+{}
+
+/// Law: promises under a condition hold together. If each node drives what is thought as long as all nodes did so before, all do so. Guesses
+/// that say the same are kept alike, and what is kept up to a tick is kept up to an earlier one.
+#[tactic(auto, using(crate::proofs::GuessProofs::guess_laws))]
+pub fn guess_laws()
+    ensures { KeepingLaws }
 {}

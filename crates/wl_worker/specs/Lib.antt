@@ -1,3 +1,6 @@
+pub mod Agreements
+pub mod Boards
+pub mod Claims
 pub mod Faults
 pub mod Finished
 pub mod Given

@@ -32,11 +32,13 @@ impl Rings {
 struct Sleeper {
     // The tick up to which all nodes have to be promised; 0 if the worker is awake, or sleeps for a ring.
     until: AtomicU64,
+    // How many claims wake it before that.
+    claims: AtomicU64,
     woken: Condvar,
 }
 
-/// What workers wait at: how often each of them gave something, how far each node is promised, and which worker stopped first. No record
-/// passes through it, and no promise rests on it.
+/// What workers wait at: how often each of them gave something, how far each node is promised, how many claims there are, and which worker
+/// stopped first. No record and no claim passes through it, and no promise rests on it.
 #[derive(Drop)]
 pub struct Bell {
     // The first worker that stopped.
@@ -50,7 +52,9 @@ pub struct Bell {
     sleepers: AtomicU64,
     // For each node, the tick up to which what was given promises it.
     promised: Vec<AtomicU64>,
-    // For each worker, for which promises it sleeps.
+    // How many claims were put.
+    claims: AtomicU64,
+    // For each worker, for which promises and claims it sleeps.
     waiting: Vec<Sleeper>,
 }
 
@@ -64,6 +68,7 @@ impl Bell {
             rings: AtomicU64::new(0),
             sleepers: AtomicU64::new(0),
             promised: counts(alloc, nodes)?,
+            claims: AtomicU64::new(0),
             waiting: awake(alloc, workers)?,
         })
     }
@@ -122,14 +127,19 @@ impl Bell {
         if let Some(count) = self.gives.get(usize::from(worker)) {
             count.fetch_add(1, Ordering::SeqCst);
         }
+        self.ring(rt);
+        let least = self.all_promised();
+        for other in 0..self.waiting.len() {
+            self.wake_at(rt, &self.waiting[other], least);
+        }
+    }
+
+    // Rings, and wakes all that wait for a ring.
+    fn ring<R: Wait>(&self, rt: &R) {
         self.rings.fetch_add(1, Ordering::SeqCst);
         if self.sleepers.load(Ordering::SeqCst) > 0 {
             self.let_sleep(rt);
             self.rang.notify_all();
-        }
-        let least = self.all_promised();
-        for other in 0..self.waiting.len() {
-            self.wake_at(rt, &self.waiting[other], least);
         }
     }
 
@@ -140,6 +150,34 @@ impl Bell {
             self.let_sleep(rt);
             sleeper.woken.notify_all();
         }
+    }
+
+    /// Returns how many workers there are.
+    pub(crate) fn workers(&self) -> u64 {
+        self.waiting.len() as u64
+    }
+
+    /// Notes that a claim was put. Wakes all that wait for a ring, and those that wait for a number of claims which is there by now.
+    pub fn claimed<R: Wait>(&self, rt: &R) {
+        let count = self.claims.fetch_add(1, Ordering::SeqCst).saturating_add(1);
+        self.ring(rt);
+        for other in 0..self.waiting.len() {
+            self.wake_claimed(rt, &self.waiting[other], count);
+        }
+    }
+
+    // Wakes a worker if it sleeps until this many claims were put, or fewer.
+    fn wake_claimed<R: Wait>(&self, rt: &R, sleeper: &Sleeper, count: u64) {
+        let until = sleeper.until.load(Ordering::SeqCst);
+        if until > 0 && sleeper.claims.load(Ordering::SeqCst) <= count {
+            self.let_sleep(rt);
+            sleeper.woken.notify_all();
+        }
+    }
+
+    // Whether all nodes are promised up to a tick, or this many claims were put.
+    fn is_reached(&self, until: u64, claims: u64) -> bool {
+        self.all_promised() >= until || self.claims.load(Ordering::SeqCst) >= claims
     }
 
     // Takes the lock once. Who looked before and is about to sleep has the lock until it sleeps, so it doesn't sleep through what comes next.
@@ -165,27 +203,28 @@ impl Bell {
         *self.stopped.lock(rt)
     }
 
-    /// Waits until all nodes are promised up to a tick, or some worker stopped. Returns the first one that stopped. It looks ten times before
-    /// it sleeps. A number that no worker has doesn't wait.
-    pub fn wait_until<R: Wait>(&self, rt: &R, worker: u8, until: u64) -> Option<u8> {
+    /// Waits until all nodes are promised up to a tick, this many claims were put or some worker stopped. Returns the first one that stopped.
+    /// It looks ten times before it sleeps. A number that no worker has doesn't wait.
+    pub fn wait_until<R: Wait>(&self, rt: &R, worker: u8, until: u64, claims: u64) -> Option<u8> {
         for _ in 0..LOOKS {
-            if self.all_promised() >= until {
+            if self.is_reached(until, claims) {
                 return self.stopped(rt);
             }
             spin_loop();
         }
         match self.waiting.get(usize::from(worker)) {
-            Some(own) => self.sleep_until(rt, own, until),
+            Some(own) => self.sleep_until(rt, own, until, claims),
             None => self.stopped(rt),
         }
     }
 
-    // Sleeps until all nodes are promised up to a tick, or some worker stopped.
-    fn sleep_until<R: Wait>(&self, rt: &R, own: &Sleeper, until: u64) -> Option<u8> {
-        // Before the look under the lock: either it sees a promise, or who made it sees this.
+    // Sleeps until all nodes are promised up to a tick, this many claims were put or some worker stopped.
+    fn sleep_until<R: Wait>(&self, rt: &R, own: &Sleeper, until: u64, claims: u64) -> Option<u8> {
+        // Before the look under the lock: either it sees a promise or a claim, or who made it sees this.
+        own.claims.store(claims, Ordering::SeqCst);
         own.until.store(until, Ordering::SeqCst);
         let stopped = own.woken.wait_while(rt, self.stopped.lock(rt), |stopped| {
-            stopped.is_none() && self.all_promised() < until
+            stopped.is_none() && !self.is_reached(until, claims)
         });
         own.until.store(0, Ordering::SeqCst);
         *stopped
@@ -235,6 +274,7 @@ fn awake(alloc: Global, workers: u8) -> Result<Vec<Sleeper>, AllocError> {
     for _ in 0..workers {
         waiting.push(Sleeper {
             until: AtomicU64::new(0),
+            claims: AtomicU64::new(0),
             woken: Condvar::new(),
         })?;
     }

@@ -59,17 +59,18 @@ impl RingCount {
         }
     }
 
-    /// Waits until all nodes are promised up to a tick, or some worker stopped; without a look it doesn't wait. Returns the first one that
-    /// stopped.
+    /// Waits until all nodes are promised up to a tick, this many claims were put or some worker stopped; without a look it doesn't wait.
+    /// Returns the first one that stopped.
     pub(crate) fn wait_until<R: Wait>(
         self,
         rt: &R,
         bell: &Bell,
         worker: u8,
         until: u64,
+        claims: u64,
     ) -> Option<u8> {
         match self.rings {
-            Some(_) => bell.wait_until(rt, worker, until),
+            Some(_) => bell.wait_until(rt, worker, until, claims),
             None => bell.stopped(rt),
         }
     }

@@ -5,6 +5,9 @@ ghost use Rattle.wl_hub.specs.Passes.{IsPassOf};
 ghost use Rattle.wl_worker.specs.PlanName.{IsOfPlan};
 
 use crate::bell::Bell;
+use crate::board::Board;
+use crate::claim::Claim;
+use crate::claims_seen::ClaimsSeen;
 use crate::fetch::{Handed, RingCount, learn_all, nothing_handed};
 use crate::giving::give_words;
 use crate::link::{Link, LinkFault};
@@ -15,14 +18,17 @@ use wl_group::Group;
 use wl_hub::{Hub, Pass};
 use wl_record_core::Record;
 
-/// A link over a pass of a hub, whose name is the link's plan. It waits at a bell.
+/// A link over a pass of a hub, whose name is the link's plan, and a board of that plan. It waits at a bell.
 #[derive(Drop)]
 pub struct HubLink<'h, R: Wait> {
     rt: &'h R,
     hub: &'h Hub<PlanName>,
     pass: Pass<PlanName>,
     bell: &'h Bell,
+    board: &'h Board,
     worker: u8,
+    // Which claims of the board it read; a rewind leaves it.
+    claims: ClaimsSeen,
     // How often the bell had rung when the last fetch began; nothing after a rewind.
     rings_seen: RingCount,
     // For each node, how many of its changes were handed over; none after a rewind.
@@ -31,19 +37,21 @@ pub struct HubLink<'h, R: Wait> {
 }
 
 impl<'h, R: Wait> HubLink<'h, R> {
-    /// Returns the link of a worker over a pass of a hub that has the words of the plan that is the pass's name. Refused only when out of
-    /// memory.
+    /// Returns the link of a worker over a pass of a hub that has the words of the plan that is the pass's name. All links of a run share
+    /// one bell, and one board of that plan. Refused only when out of memory.
     pub fn new(
         rt: &'h R,
         _alloc: Global,
         hub: &'h Hub<PlanName>,
         pass: Pass<PlanName>,
         bell: &'h Bell,
+        board: &'h Board,
         worker: u8,
     ) -> Result<HubLink<'h, R>, AllocError>
         requires { IsPassOf hub.now pass }
         ensures plan { IfOk result (λ link. (plan : GivenPlan) → IsOfPlan hub.now pass plan
             → IsOfPlan link.hub.now link.pass plan) }
+        ensures board { IfOk result (λ link. link.board.now ≡ board.now) }
         ensures number { IfOk result (λ link. link.worker ≡ worker) }
     {
         Ok(HubLink {
@@ -51,7 +59,9 @@ impl<'h, R: Wait> HubLink<'h, R> {
             hub,
             pass,
             bell,
+            board,
             worker,
+            claims: ClaimsSeen::nothing(),
             rings_seen: RingCount::nothing(),
             handed: nothing_handed(),
         })
@@ -63,9 +73,10 @@ impl<'h, R: Wait> Link for HubLink<'h, R> {
     ghost use Rattle.wl_plan.specs.declared.plan.Plan.{Plan as GivenPlan};
     ghost use Rattle.wl_worker.specs.Handed.{AreTrueOfPlan, Took, TellsNews};
     ghost use Rattle.wl_worker.specs.Seen.{HandsSeen};
+    ghost use Rattle.wl_worker.specs.Boards.{IsBoardOf};
     ghost use Rattle.wl_worker.specs.PlanName.{IsOfPlan, PassGave};
 
-    ghost is_of = { λ link plan. IsOfPlan link.hub.now link.pass plan };
+    ghost is_of = { λ link plan. IsOfPlan link.hub.now link.pass plan × IsBoardOf link.board.now plan };
 
     ghost number = { λ link. link.worker };
 
@@ -89,8 +100,8 @@ impl<'h, R: Wait> Link for HubLink<'h, R> {
     /// has all that the pass has seen of it.
     fn fetch(&mut self, _alloc: Global, group: &mut Group) -> Result<bool, LinkFault>
         requires { IsOfPlan self.old.hub.now self.old.pass group.old.plan }
-        ensures same { (p : GivenPlan) → IsOfPlan self.old.hub.now self.old.pass p
-            → IsOfPlan self.new.hub.now self.new.pass p }
+        ensures same { (p : GivenPlan) → IsOfPlan self.old.hub.now self.old.pass p × IsBoardOf self.old.board.now p
+            → IsOfPlan self.new.hub.now self.new.pass p × IsBoardOf self.new.board.now p }
         ensures number { self.new.worker ≡ self.old.worker }
         ensures took { Took group.old group.new }
         ensures changed { IfOk result (λ b. TellsNews group.old group.new b) }
@@ -110,16 +121,29 @@ impl<'h, R: Wait> Link for HubLink<'h, R> {
         Ok(came)
     }
 
+    /// Puts a claim on the board, and then lets the bell wake who waits for it.
+    fn claim(&mut self, claim: Claim) -> Result<(), LinkFault> {
+        self.claims.put(self.rt, self.board, self.bell, claim)?;
+        Ok(())
+    }
+
+    fn next_claim(&mut self) -> Result<Option<Claim>, LinkFault> {
+        let next = self.claims.next(self.board, self.bell, self.worker)?;
+        Ok(next)
+    }
+
     /// Begins again: the next fetch hands over all that the pass has seen, and a wait before it ends at once.
     fn rewind(&mut self) {
         self.rings_seen = RingCount::nothing();
         self.handed = nothing_handed();
     }
 
-    /// Waits until all nodes are promised up to a tick, or some worker stopped.
+    /// Waits until all nodes are promised up to a tick, claims came or some worker stopped. After a claim that asks it waits until each
+    /// worker put one more.
     fn wait(&mut self, until: u64) -> Option<u8> {
+        let claims = self.claims.awaited();
         self.rings_seen
-            .wait_until(self.rt, self.bell, self.worker, until)
+            .wait_until(self.rt, self.bell, self.worker, until, claims)
     }
 
     fn stop(&mut self) {

@@ -1,8 +1,12 @@
 //! Workers: threads that run the groups of a plan, each as far as it knows the others, and hand records to one another.
 #![tactic(auto)]
 
+mod agreement;
 mod bell;
+mod board;
 mod by_links;
+mod claim;
+mod claims_seen;
 mod fetch;
 mod giving;
 mod hub_link;
@@ -18,7 +22,9 @@ mod threads;
 mod turns;
 
 pub use bell::{Bell, MOST_WORKERS, Rings};
+pub use board::{Board, OfPlan};
 pub use by_links::{LinkKind, simulate, simulate_by};
+pub use claim::Claim;
 pub use giving::Given;
 pub use hub_link::HubLink;
 pub use laws::{blocked_workers_have_ended, nothing_is_taken};

@@ -1,11 +1,15 @@
 //! The link by letters.
 ghost use Rattle.std.specs.Prelude.{◌≡◌, ◌≤◌, All, IfOk, OnOk, vec_len};
 ghost use Rattle.std.specs.Arc.{arc_value};
+ghost use Rattle.wl_worker.specs.Boards.{IsBoardOf};
 ghost use Rattle.wl_worker.specs.Handed.{Took, TellsNews};
 ghost use Rattle.wl_worker.specs.Letters.{HandsAll};
 ghost use Rattle.wl_worker.specs.PlanName.{AreNumbered};
 
 use crate::bell::Bell;
+use crate::board::Board;
+use crate::claim::Claim;
+use crate::claims_seen::ClaimsSeen;
 use crate::fetch::{RingCount, sent_by_others};
 use crate::giving::give_letter;
 use crate::link::{Link, LinkFault};
@@ -16,7 +20,7 @@ use wl_mail::{MailFault, Post};
 use wl_plan::Plan;
 use wl_record_core::Record;
 
-/// A link over a post. It waits at a bell, whose counts say how many letters are still to come.
+/// A link over a post, and a board of its plan. It waits at a bell, whose counts say how many letters are still to come.
 #[derive(Drop)]
 pub struct MailLink<'h, R: Wait> {
     rt: &'h R,
@@ -24,7 +28,10 @@ pub struct MailLink<'h, R: Wait> {
     // All letters of the link share it.
     plan: Arc<Plan>,
     bell: &'h Bell,
+    board: &'h Board,
     worker: u8,
+    // Which claims of the board it read; a rewind leaves it.
+    claims: ClaimsSeen,
     // How often the bell had rung when the last fetch began, and for this worker since; nothing after a rewind.
     rings_seen: RingCount,
 }
@@ -45,17 +52,19 @@ impl From<MailFault> for LinkFault {
 }
 
 impl<'h, R: Wait> MailLink<'h, R> {
-    /// Returns the link of a worker over its post, of a plan. All links of a run share one bell, at which each gives as often as it sends.
-    /// Refused only when out of memory; then the post is given up.
+    /// Returns the link of a worker over its post, of a plan. All links of a run share one bell, at which each gives as often as it sends,
+    /// and one board of the plan. Refused only when out of memory; then the post is given up.
     pub fn new(
         rt: &'h R,
         alloc: Global,
         post: Post,
         plan: &Plan,
         bell: &'h Bell,
+        board: &'h Board,
         worker: u8,
     ) -> Result<MailLink<'h, R>, AllocError>
         ensures plan { IfOk result (λ link. arc_value link.plan ≡ plan.now) }
+        ensures board { IfOk result (λ link. link.board.now ≡ board.now) }
         ensures post { IfOk result (λ link. link.post ≡ post) }
         ensures number { IfOk result (λ link. link.worker ≡ worker) }
     {
@@ -64,7 +73,9 @@ impl<'h, R: Wait> MailLink<'h, R> {
             post,
             plan: Arc::new(alloc, plan.clone_in(alloc)?)?,
             bell,
+            board,
             worker,
+            claims: ClaimsSeen::nothing(),
             rings_seen: RingCount::nothing(),
         })
     }
@@ -78,8 +89,9 @@ impl<'h, R: Wait> Link for MailLink<'h, R> {
     ghost use Rattle.wl_mail.specs.Senders.{one_letter_more};
     ghost use Rattle.wl_worker.specs.Handed.{AreTrueOfPlan, Took, TellsNews};
     ghost use Rattle.wl_worker.specs.Letters.{HandsAll};
+    ghost use Rattle.wl_worker.specs.Boards.{IsBoardOf};
 
-    ghost is_of = { λ link plan. arc_value link.plan ≡ plan };
+    ghost is_of = { λ link plan. (arc_value link.plan ≡ plan) × IsBoardOf link.board.now plan };
 
     ghost number = { λ link. link.worker };
 
@@ -103,7 +115,8 @@ impl<'h, R: Wait> Link for MailLink<'h, R> {
     /// bell. If there are none it waits for nobody.
     fn fetch(&mut self, alloc: Global, group: &mut Group) -> Result<bool, LinkFault>
         requires { arc_value self.old.plan ≡ group.old.plan }
-        ensures same { (p : GivenPlan) → arc_value self.old.plan ≡ p → arc_value self.new.plan ≡ p }
+        ensures same { (p : GivenPlan) → (arc_value self.old.plan ≡ p) × IsBoardOf self.old.board.now p
+            → (arc_value self.new.plan ≡ p) × IsBoardOf self.new.board.now p }
         ensures number { self.new.worker ≡ self.old.worker }
         ensures took { Took group.old group.new }
         ensures changed { IfOk result (λ b. TellsNews group.old group.new b) }
@@ -117,12 +130,24 @@ impl<'h, R: Wait> Link for MailLink<'h, R> {
         Ok(came)
     }
 
+    /// Puts a claim on the board, and then lets the bell ring. The link doesn't wait for that ring itself.
+    fn claim(&mut self, claim: Claim) -> Result<(), LinkFault> {
+        self.claims.put(self.rt, self.board, self.bell, claim)?;
+        self.rings_seen = self.rings_seen.after_own();
+        Ok(())
+    }
+
+    fn next_claim(&mut self) -> Result<Option<Claim>, LinkFault> {
+        let next = self.claims.next(self.board, self.bell, self.worker)?;
+        Ok(next)
+    }
+
     fn rewind(&mut self) {
         self.post.rewind();
         self.rings_seen = RingCount::nothing();
     }
 
-    /// Waits until another worker gave something after the last `fetch` began, or some worker stopped. By the promises a letter that is
+    /// Waits until another worker gave or claimed something after the last `fetch` began, or some worker stopped. By the promises a letter that is
     /// waited for could be the next one still, since one that isn't counted yet was taken in its place.
     fn wait(&mut self, _until: u64) -> Option<u8> {
         self.rings_seen.wait(self.rt, self.bell)
@@ -156,22 +181,25 @@ fn receive_all<R: Wait>(
     Ok(came)
 }
 
-/// Returns a link for each post, of a plan: the posts are those of workers 0, 1 and so on, at most 256. Refused only when out of memory.
+/// Returns a link for each post, of a plan and its board: the posts are those of workers 0, 1 and so on, at most 256. Refused only when out
+/// of memory.
 pub fn mail_links<'h, R: Wait>(
     rt: &'h R,
     alloc: Global,
     posts: Vec<Post>,
     plan: &Plan,
     bell: &'h Bell,
+    board: &'h Board,
 ) -> Result<Vec<MailLink<'h, R>>, AllocError>
     ensures count { IfOk result (λ links. vec_len links ≡ vec_len posts) }
-    ensures of { IfOk result (λ links. All (λ link. arc_value link.plan ≡ plan.now) links.items) }
+    ensures of { IfOk result (λ links. IsBoardOf board.now plan.now
+        → All (λ link. (arc_value link.plan ≡ plan.now) × IsBoardOf link.board.now plan.now) links.items) }
     ensures numbered { IfOk result (λ links. vec_len posts ≤ 256 → AreNumbered (λ link. link.worker) links.items) }
 {
     let mut links = Vec::new(alloc);
     let mut worker = 0u8;
     for post in posts {
-        links.push(MailLink::new(rt, alloc, post, plan, bell, worker)?)?;
+        links.push(MailLink::new(rt, alloc, post, plan, bell, board, worker)?)?;
         worker = worker.saturating_add(1);
     }
     Ok(links)

@@ -3,9 +3,11 @@ ghost use Rattle.std.specs.Prelude.{◌≡◌, ◌<◌, ◌⊎◌, ◌↔◌, Al
 ghost use Rattle.wl_hub.specs.Passes.{IsPassOf};
 ghost use Rattle.wl_plan.specs.declared.plan.Plan.{Plan as GivenPlan};
 ghost use Rattle.wl_serial.specs.Outcome.{outcome_of};
+ghost use Rattle.wl_worker.specs.Boards.{IsBoardOf};
 ghost use Rattle.wl_worker.specs.PlanName.{AreNumbered, IsOfPlan};
 
 use crate::bell::{Bell, MOST_WORKERS};
+use crate::board::Board;
 use crate::hub_link::HubLink;
 use crate::link::{Fault, Gate};
 use crate::plan_name::{PlanName, shape_of_plan};
@@ -37,31 +39,33 @@ pub(crate) fn simulate_over_hub<R: Threads + Wait + Sync, G: Gate + Sync>(
     };
     let (hub, pass) = Hub::start(alloc, shape.as_slice(), &name)?;
     let bell = Bell::new(alloc, workers, plan.nodes())?;
-    let links = hub_links(rt, alloc, &hub, pass, &bell, workers)?;
+    let board = Board::new(alloc, plan)?;
+    let links = hub_links(rt, alloc, &hub, pass, &bell, &board, workers)?;
     simulate_links(rt, alloc, plan, links, gate)
 }
 
-/// Returns a link for each of this many workers, over a pass of its own that is split off a pass of the hub. Refused only when out of
-/// memory.
+/// Returns a link for each of this many workers, over a board and over a pass of its own that is split off a pass of the hub. Refused only
+/// when out of memory.
 pub fn hub_links<'h, R: Wait>(
     rt: &'h R,
     alloc: Global,
     hub: &'h Hub<PlanName>,
     pass: Pass<PlanName>,
     bell: &'h Bell,
+    board: &'h Board,
     workers: u8,
 ) -> Result<Vec<HubLink<'h, R>>, AllocError>
     requires { IsPassOf hub.now pass }
     ensures count { IfOk result (λ links. vec_len links ≡ workers) }
-    ensures of { IfOk result (λ links. (plan : GivenPlan) → IsOfPlan hub.now pass plan
-        → All (λ link. IsOfPlan link.hub.now link.pass plan) links.items) }
+    ensures of { IfOk result (λ links. (plan : GivenPlan) → IsOfPlan hub.now pass plan → IsBoardOf board.now plan
+        → All (λ link. IsOfPlan link.hub.now link.pass plan × IsBoardOf link.board.now plan) links.items) }
     ensures numbered { IfOk result (λ links. AreNumbered (λ link. link.worker) links.items) }
 {
     let mut pass = pass;
     let mut links = Vec::with_capacity(alloc, usize::from(workers))?;
     for worker in 0..workers {
         let own = hub.split(&mut pass);
-        let link = HubLink::new(rt, alloc, hub, own, bell, worker)?;
+        let link = HubLink::new(rt, alloc, hub, own, bell, board, worker)?;
         links.push_reserved(link);
     }
     Ok(links)

@@ -3,6 +3,7 @@ ghost use Rattle.std.specs.Prelude.{◌≡◌, ◌<◌, ◌⊎◌, ◌↔◌, Er
 ghost use Rattle.wl_serial.specs.Outcome.{outcome_of};
 
 use crate::bell::{Bell, MOST_WORKERS};
+use crate::board::Board;
 use crate::link::{Fault, Gate};
 use crate::mail_link::mail_links;
 use crate::threads::simulate_links;
@@ -30,6 +31,7 @@ pub(crate) fn simulate_over_mail<R: Threads + Wait + Sync, G: Gate + Sync>(
     }
     let (posts, _hold) = posts(alloc, workers)?;
     let bell = Bell::new(alloc, workers, plan.nodes())?;
-    let links = mail_links(rt, alloc, posts, plan, &bell)?;
+    let board = Board::new(alloc, plan)?;
+    let links = mail_links(rt, alloc, posts, plan, &bell, &board)?;
     simulate_links(rt, alloc, plan, links, gate)
 }

@@ -12,6 +12,8 @@ pub(crate) struct Pace {
     /// How many rows of quanta at most members run before the worker gives what was said. So others needn't wait until it has run all that
     /// it can. With fewer it would give and fetch more often. With long delays workers run beside one another, and fewer are better.
     pub(crate) rows: u32,
+    /// How many ticks a bit of node 0 takes.
+    pub(crate) bit: u64,
 }
 
 impl Pace {
@@ -21,6 +23,7 @@ impl Pace {
         Pace {
             near: delay / 2,
             rows: if is_long(plan, delay) { 4 } else { 32 },
+            bit: bit_of(plan),
         }
     }
 }
@@ -30,4 +33,11 @@ fn is_long(plan: &CheckedPlan, delay: u64) -> bool {
     plan.laws();
     let clock = &plan.node(0).clock;
     clock.at(LONG_DELAY) - clock.at(0) <= delay
+}
+
+/// Returns how many ticks the first bit of node 0 takes.
+fn bit_of(plan: &CheckedPlan) -> u64 {
+    plan.laws();
+    let node = plan.node(0);
+    node.clock.at(node.segments.bit_quanta()) - node.clock.at(0)
 }

@@ -3,11 +3,15 @@ ghost use Rattle.std.specs.Prelude.{◌≡◌, ◌≢◌, ◌+◌, ◌++◌, ◌
 ghost use Rattle.wl_record_core.specs.declared.record.Record.{Record as Told};
 ghost use Rattle.wl_plan.specs.declared.plan.Plan.{Plan as GivenPlan};
 ghost use Rattle.wl_group.specs.GroupValue.{belongs, may_run, initial_group};
+ghost use Rattle.wl_worker.specs.Agreements.{IsAgreementOf};
+ghost use Rattle.wl_worker.specs.Claims.{AreClaimsOf};
 ghost use Rattle.wl_worker.specs.Handed.{AreTrueOfPlan};
 ghost use Rattle.wl_worker.specs.Finished.{MembersEnded, HasFinished};
 ghost use Rattle.wl_worker.specs.Promised.{IsLeastPromised, IsLeastOf, IsBlocked, promise_of};
 ghost use Rattle.wl_worker.specs.Given.{first_silences_of, Gives, GaveFirst, GaveMore, GaveSince};
 
+use crate::agreement::{Agreement, answer_claims, ask};
+use crate::claim::Claim;
 use crate::link::{Fault, Gate, Link, LinkFault};
 use crate::pace::Pace;
 use std::alloc::{AllocError, Global};
@@ -23,6 +27,9 @@ const MOST_TURNS: u64 = 1 << 63;
 /// The worker gives its members' first silences. Then in each turn it asks the gate, fetches, runs its members, each time the one with the
 /// least promise, and gives what they said, if anything. It waits if that one may not run, until it can run it for half of the least
 /// delay or more. It ends when all its members are at the end. If it fails, it lets the others know by `stop`.
+///
+/// Workers share guesses by claims. A worker that is blocked may guess what all nodes do, and ask the others how far their nodes keep to
+/// that. If all nodes do so up to a tick, each worker says in place of its rows what its members do below it.
 ///
 /// If the gate asks a restart of a turn, the group begins again before it: fresh nodes that know nothing, to which the link hands again
 /// what it handed, and which give their first silences again.
@@ -68,6 +75,7 @@ fn run<L: Link, G: Gate>(
 {
     let worker = link.worker();
     let pace = Pace::of(group.plan());
+    let mut agreement = Agreement::new();
     match begin(alloc, group, link) {
         Ok(()) => (),
         Err(fault) => return Err(fault_of(fault, worker)),
@@ -79,7 +87,9 @@ fn run<L: Link, G: Gate>(
         if gate.restart(worker, turn) {
             begin_anew(alloc, group, link).map_err(|fault| fault_of(fault, worker))?;
         }
-        let waits = step(alloc, group, link, pace.rows).map_err(|fault| fault_of(fault, worker))?;
+        let waits = step(alloc, group, link, pace.rows, &mut agreement).map_err(|fault| fault_of(
+            fault, worker,
+        ))?;
         let least = least_promised(group);
         let Some(least) = least else {
             return Ok(());
@@ -87,9 +97,7 @@ fn run<L: Link, G: Gate>(
         if !waits {
             continue;
         }
-        if let Some(stopped) = link.wait(awaited_by(group, least, pace.near)) {
-            return Err(Fault::Worker(stopped));
-        }
+        ask_and_wait(alloc, group, link, &mut agreement, pace, least)?;
     }
     Err(Fault::Worker(worker))
 }
@@ -147,25 +155,69 @@ fn first_silences(alloc: Global, group: &Group) -> Result<Vec<Record>, AllocErro
     Ok(first)
 }
 
-/// Fetches, runs the members and gives what they said, if anything. Returns whether the worker has to wait for others: the member with the
-/// least promise is blocked.
+/// Asks the others about a guess, if the group has one that may pay, and waits for them. It is a fault if some worker stopped.
+fn ask_and_wait<L: Link>(
+    alloc: Global,
+    group: &mut Group,
+    link: &mut L,
+    agreement: &mut Agreement,
+    pace: Pace,
+    least: u8,
+) -> Result<(), Fault>
+    requires of { L.is_of link.old group.old.plan }
+    requires agreement { IsAgreementOf group.old.plan agreement.old }
+    requires least { least < group.old.replica.nodes }
+    ensures same { (p : GivenPlan) → L.is_of link.old p → L.is_of link.new p }
+    ensures agreement { IsAgreementOf group.old.plan agreement.new }
+    ensures group { group.new ≡ group.old }
+    ensures fault { IfErr result (λ fault. fault ≢ Fault.Workers) }
+{
+    let worker = link.worker();
+    ask(alloc, group, link, agreement, pace, least).map_err(|fault| fault_of(fault, worker))?;
+    match link.wait(awaited_by(group, least, pace.near)) {
+        Some(stopped) => Err(Fault::Worker(stopped)),
+        None => Ok(()),
+    }
+}
+
+/// Fetches, answers the claims that came, runs the members, and gives what they said, if anything. Then it posts its own claims: what it
+/// knows itself is given before others wake. Returns whether the worker has to wait for others: the member with the least promise is
+/// blocked.
 fn step<L: Link>(
     alloc: Global,
     group: &mut Group,
     link: &mut L,
     rows: u32,
+    agreement: &mut Agreement,
 ) -> Result<bool, LinkFault>
-    requires { L.is_of link.old group.old.plan }
+    requires of { L.is_of link.old group.old.plan }
+    requires agreement { IsAgreementOf group.old.plan agreement.old }
     ensures same { (p : GivenPlan) → L.is_of link.old p → L.is_of link.new p }
+    ensures agreement { IsAgreementOf group.old.plan agreement.new }
     ensures plan { group.new.plan ≡ group.old.plan }
     ensures members { belongs group.new ≡ belongs group.old }
     ensures blocked { IfOk result (λ waits. IsTrue waits → IsBlocked group.new) }
     ensures gave { OnOk result (GaveMore L.gave group.old group.new) }
 {
     come(alloc, group, link)?;
-    let said = say(alloc, group, rows)?;
+    let answer = answer_claims(alloc, group, link, agreement)?;
+    let said = say_after(alloc, group, rows, answer.said)?;
     hand(alloc, group, link, said.records.as_slice())?;
+    post(group, link, answer.claims)?;
     Ok(said.is_blocked)
+}
+
+/// Posts claims that are true of the group's plan, in order.
+fn post<L: Link>(group: &Group, link: &mut L, claims: Vec<Claim>) -> Result<(), LinkFault>
+    requires of { L.is_of link.old group.now.plan }
+    requires claims { AreClaimsOf group.now.plan claims.items }
+    ensures same { (p : GivenPlan) → L.is_of link.old p → L.is_of link.new p }
+{
+    let _ = group;
+    for claim in claims {
+        link.claim(claim)?;
+    }
+    Ok(())
 }
 
 /// Fetches what others gave.
@@ -186,6 +238,30 @@ fn come<L: Link>(alloc: Global, group: &mut Group, link: &mut L) -> Result<(), L
 struct Said {
     records: Vec<Record>,
     is_blocked: bool,
+}
+
+/// Returns what was said by the claims that came. If that is nothing, it runs members and returns what they said.
+fn say_after(
+    alloc: Global,
+    group: &mut Group,
+    rows: u32,
+    said: Vec<Record>,
+) -> Result<Said, AllocError>
+    requires truth { AreTrueOfPlan group.old.plan said.items }
+    ensures truth { IfOk result (λ now. AreTrueOfPlan group.old.plan now.records.items) }
+    ensures blocked { IfOk result (λ now. IsTrue now.is_blocked → IsBlocked group.new) }
+    ensures said { IfOk result (λ now. (before : List Told) → group.old.emitted ≡ before ++ said.items
+        → group.new.emitted ≡ before ++ now.records.items) }
+    ensures plan { group.new.plan ≡ group.old.plan }
+    ensures members { belongs group.new ≡ belongs group.old }
+{
+    if said.is_empty() {
+        return say(alloc, group, rows);
+    }
+    Ok(Said {
+        records: said,
+        is_blocked: false,
+    })
 }
 
 /// Runs members, each time the one with the least promise, until that one may not run or there were this many rows, and returns what they

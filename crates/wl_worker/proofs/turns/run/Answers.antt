@@ -31,7 +31,7 @@ loop-turn-preserved-then-not-waits g c =
       | else-restart w ↦ subst (λ (s : GroupValue). GaveSince gave old s) (sym w.group-is) c.loop-turn.invariant.3
     ] in
     let turn : GaveMore gave c.if-restart.group c.step.new.group = search rules in
-    (search rules, search rules, search rules, gave_more gave old c.if-restart.group c.step.new.group since turn)
+    (search rules, search rules, search rules, gave_more gave old c.if-restart.group c.step.new.group since turn, search rules)
 
 pub loop-turn-preserved : goal.loop-turn-preserved
 loop-turn-preserved g c =
@@ -47,5 +47,10 @@ loop-turn-preserved g c =
     let linked : (p : Plan) → g.L.Link.is_of c.args.link.now p → g.L.Link.is_of c.if-restart.link p = λ p is. elim c.if-restart.branch [
       | then-restart+in_ok-map_err w ↦ subst (λ (k : g.row.L.Denot). g.L.Link.is_of k p) (sym w.link-is) (w.begin_anew.ensures.same p (c.loop-turn.invariant.0 p is))
       | else-restart w ↦ subst (λ (k : g.row.L.Denot). g.L.Link.is_of k p) (sym w.link-is) (c.loop-turn.invariant.0 p is)
-    ] in
-    ((λ p is. c.wait.ensures.same p (c.step.ensures.same p (linked p is))), search rules, search rules, gave_more gave old c.if-restart.group c.step.new.group since turn)
+    ] in (
+      (λ p is. c.ask_and_wait.ensures.same p (c.step.ensures.same p (linked p is))),
+      search rules,
+      search rules,
+      subst (λ (s : GroupValue). GaveSince gave old s) (sym c.ask_and_wait.ensures.group) (gave_more gave old c.if-restart.group c.step.new.group since turn),
+      search rules,
+    )

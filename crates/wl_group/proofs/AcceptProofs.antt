@@ -1,0 +1,267 @@
+-- What a guess that is right says of the changes of each node, and that a group stays one when it says what is true.
+use Rattle.std.proofs.Common.{◌≡◌, ℕ, zero, suc, ◌+◌, ◌-◌, ◌<◌, ◌≤◌, ◌==◌, ◌&&◌, not, inl, inr, Bool, true, false, List, [], ◌∷◌, ◌++◌, length, get_or, refl, sym, ◌∙◌, ap, subst, arith, nat_lt, Option, Some, slice_get}
+use Rattle.std.proofs.lemmas.Bool.{cases_lt, cases_eq, false≢true, eq-eqb}
+use Rattle.std.proofs.lemmas.Option.{slice_get-get_or, slice_get_within}
+use Rattle.std.proofs.lemmas.List.Sums.{count_by-le-length}
+use Rattle.wl_record_core.specs.declared.record.Record.{Record}
+use Rattle.wl_record_core.specs.declared.record.Record.TheVariants.{Edge, Silence}
+use Rattle.wl_record_core.specs.Truth.{count_below, odd, IsIncreasing, IsTrueOf, AreTrueOf}
+use Rattle.wl_record_core.specs.Limits.{most_edges}
+use Rattle.wl_record_core.specs.TableLaws.{TableLaws}
+use Rattle.wl_replica.specs.State.{State, state_with_record}
+use Rattle.wl_plan.specs.declared.plan.Plan.{Plan}
+use Rattle.wl_plan.specs.Line.{Line}
+use Rattle.wl_plan.specs.PlanLine.{table_of, IsTrueOfPlan}
+use Rattle.wl_plan.specs.Simulation.{changes}
+use Rattle.wl_plan.specs.Sound.{IsCausal, IsSound}
+use Rattle.wl_plan.specs.SimulationLaws.{SimulationLaws}
+use Rattle.wl_group.specs.declared.cell.Cell.{Cell}
+use Rattle.wl_group.specs.declared.guess.Guess.{Guess}
+use Rattle.wl_group.specs.GroupValue.{GroupValue, IsGroupValue, with_records}
+use Rattle.wl_group.specs.Guess.{IsRightBelow, told_too}
+use Rattle.wl_group.specs.Kept.{group_value, IsKept}
+use Rattle.wl_group.specs.ValueLaws.{ValueLaws}
+use Rattle.wl_group.proofs.Callers.{true_append}
+
+-- ---- counts of ticks that increase
+
+-- at each tick stands one of them at most
+count_step : TableLaws → (t : ℕ) (xs : List ℕ) → IsIncreasing xs → count_below (suc t) xs ≤ suc (count_below t xs)
+count_step laws t [] i = omega arith
+count_step laws t (x ∷ xs) i = elim (cases_lt x t) [
+  | inl before ↦
+      let e = laws.count_first t x xs before in
+      let f = laws.count_first (suc t) x xs (omega arith) in
+      let g = count_step laws t xs i.1 in
+      omega arith
+  | inr rest ↦ elim (cases_lt t x) [
+    | inl behind ↦
+        let e = laws.skip_first t x xs rest in
+        let f = laws.skip_first (suc t) x xs (omega arith) in
+        let g = count_step laws t xs i.1 in
+        omega arith
+    | inr here ↦
+        let e = laws.count_first (suc t) x xs (omega arith) in
+        let f = laws.count_none x xs i.0 in
+        let g = laws.count_less (suc t) (suc x) xs (omega arith) in
+        omega arith
+  ]
+]
+
+-- where the count steps, one of them stands
+pub entry_there : TableLaws → (c : ℕ) (xs : List ℕ) → IsIncreasing xs → count_below (suc c) xs ≡ suc (count_below c xs) → slice_get xs (count_below c xs) ≡ Some c
+entry_there laws c [] i h = absurd (omega arith)
+entry_there laws c (x ∷ xs) i h = elim (cases_lt x c) [
+  | inl before ↦
+      let e = laws.count_first c x xs before in
+      let f = laws.count_first (suc c) x xs (omega arith) in
+      ap (slice_get (x ∷ xs)) e ∙ entry_there laws c xs i.1 (omega arith)
+  | inr rest ↦
+      let none = laws.count_none x xs i.0 in
+      elim (cases_lt c x) [
+        | inl behind ↦
+            let f = laws.skip_first (suc c) x xs (omega arith) in
+            let g = laws.count_less (suc c) (suc x) xs (omega arith) in
+            absurd (omega arith)
+        | inr here ↦
+            let e = laws.skip_first c x xs rest in
+            let g = laws.count_less c (suc x) xs (omega arith) in
+            let z : count_below c (x ∷ xs) ≡ 0 = omega arith in
+            let same : x ≡ c = omega arith in
+            ap (slice_get (x ∷ xs)) z ∙ ap Some same
+      ]
+]
+
+not_its_own : (b : Bool) → b ≡ not b → ⊥
+not_its_own true e = false≢true (sym e)
+not_its_own false e = false≢true e
+
+-- two counts that are odd at the same time step at the same time
+odd_moves : (a b x y : ℕ) → a ≤ b → b ≤ suc a → x ≤ y → y ≤ suc x → odd a ≡ odd x → odd b ≡ odd y → b + x ≡ a + y
+odd_moves a b x y ab ba xy yx e f = elim (cases_eq a b) [
+  | inl stays ↦ elim (cases_eq x y) [
+    | inl same ↦ omega arith
+    | inr other ↦
+        let s : y ≡ suc x = elim (cases_lt x y) [ inl less ↦ omega arith | inr more ↦ absurd (other (omega arith)) ] in
+        absurd (not_its_own (odd x) (sym e ∙ (ap odd stays ∙ (f ∙ ap odd s))))
+  ]
+  | inr steps ↦
+      let s : b ≡ suc a = elim (cases_lt a b) [ inl less ↦ omega arith | inr more ↦ absurd (steps (omega arith)) ] in
+      elim (cases_eq x y) [
+        | inl same ↦ absurd (not_its_own (odd a) (e ∙ (ap odd same ∙ (sym f ∙ ap odd s))))
+        | inr other ↦
+            let r : y ≡ suc x = elim (cases_lt x y) [ inl less ↦ omega arith | inr more ↦ absurd (other (omega arith)) ] in
+            omega arith
+      ]
+]
+
+follows_here : (xs cs : List ℕ) (a u : ℕ) → a ≡ u → count_below u xs + count_below a cs ≡ count_below a xs + count_below u cs
+follows_here xs cs a u e = ap (λ n. count_below n xs + count_below a cs) (sym e) ∙ ap (λ n. count_below a xs + count_below n cs) e
+
+-- so from a tick on both count the same
+follows : TableLaws → (xs cs : List ℕ) (a u : ℕ) → IsIncreasing xs → IsIncreasing cs → a ≤ u
+    → ((t : ℕ) → a ≤ t → t ≤ u → odd (count_below t xs) ≡ odd (count_below t cs)) → count_below u xs + count_below a cs ≡ count_below a xs + count_below u cs
+follows laws xs cs a zero i k le same = follows_here xs cs a zero (omega arith)
+follows laws xs cs a (suc u) i k le same = elim (cases_lt a (suc u)) [
+  | inl before ↦
+      let r = follows laws xs cs a u i k (omega arith) (λ t from to. same t from (omega arith)) in
+      let m = odd_moves (count_below u xs) (count_below (suc u) xs) (count_below u cs) (count_below (suc u) cs)
+      (laws.count_less u (suc u) xs (omega arith)) (count_step laws u xs i) (laws.count_less u (suc u) cs (omega arith)) (count_step laws u cs k)
+      (same u (omega arith) (omega arith)) (same (suc u) (omega arith) (omega arith)) in
+      omega arith
+  | inr behind ↦ follows_here xs cs a (suc u) (omega arith)
+]
+
+-- ---- a guess that is right
+
+-- a node has changed an odd number of times where it is thought to drive dominant
+agree : SimulationLaws → (l : Line) (guess : Guess) (until i : ℕ) → IsCausal l → i < l.nodes → IsRightBelow l guess until → (t : ℕ) → guess.from < t → t ≤ until
+    → odd (count_below t (changes l i)) ≡ ((i == guess.sender) && odd (count_below t guess.changes))
+agree sim l guess until i causal b right zero from to = absurd (omega arith)
+agree sim l guess until i causal b right (suc t) from to = sym (sim.level_odd l i t causal b) ∙ right i t b (omega arith) (omega arith)
+
+-- a node that does not send doesn't change
+pub other_stays : TableLaws → SimulationLaws → (l : Line) (guess : Guess) (until i next : ℕ) → IsCausal l → i < l.nodes → IsRightBelow l guess until
+    → (i == guess.sender) ≡ false → guess.from < next → next ≤ until → count_below until (changes l i) ≡ count_below next (changes l i)
+other_stays laws sim l guess until i next causal b right other from to =
+    let r = follows laws (changes l i) [] next until (sim.changes_increase l i) tt to
+    (λ t f g. agree sim l guess until i causal b right t (omega arith) g ∙ ap (λ x. x && odd (count_below t guess.changes)) other) in
+    omega arith
+
+-- the sender changes where it is thought to
+sender_counts : TableLaws → SimulationLaws → (l : Line) (guess : Guess) (until next : ℕ) → IsCausal l → guess.sender < l.nodes → IsRightBelow l guess until
+    → IsIncreasing guess.changes → guess.from < next → (u : ℕ) → next ≤ u → u ≤ until
+    → count_below u (changes l guess.sender) + count_below next guess.changes ≡ count_below next (changes l guess.sender) + count_below u guess.changes
+sender_counts laws sim l guess until next causal b right order from u le to =
+    follows laws (changes l guess.sender) guess.changes next u (sim.changes_increase l guess.sender) order le
+    (λ t f g. agree sim l guess until guess.sender causal b right t (omega arith) (omega arith)
+    ∙ ap (λ x. x && odd (count_below t guess.changes)) (eq-eqb guess.sender guess.sender refl))
+
+pub sender_end : TableLaws → SimulationLaws → (l : Line) (guess : Guess) (until next count seq first last : ℕ) → IsCausal l → guess.sender < l.nodes → IsRightBelow l guess until
+    → IsIncreasing guess.changes → guess.from < next → next ≤ until → count ≡ count_below next (changes l guess.sender)
+    → first ≡ count_below next guess.changes → last ≡ count_below until guess.changes → seq + first ≡ count + last → seq ≡ count_below until (changes l guess.sender)
+sender_end laws sim l guess until next count seq first last causal b right order from to ce fe le se =
+    let r = sender_counts laws sim l guess until next causal b right order from until to (omega arith) in
+    omega arith
+
+-- ---- what is true
+
+pub silence_true : (l : Line) → IsSound l → (i n u : ℕ) → i < l.nodes → u ≤ l.stop → count_below u (changes l i) ≡ n → IsTrueOf l.nodes (changes l) (Silence i n u)
+silence_true l sound i n u b to e =
+    let nodes = sound.few_nodes in
+    let few = sound.few_changes i b in
+    let end = sound.end_fits in
+    let most = count_by-le-length (λ v. nat_lt v u) (changes l i) in
+    (b, e, (omega arith, omega arith, omega arith))
+
+edge_true : TableLaws → SimulationLaws → (l : Line) → IsSound l → (i s c : ℕ) → i < l.nodes → c < l.stop → count_below c (changes l i) ≡ s
+    → count_below (suc c) (changes l i) ≡ suc s → IsTrueOf l.nodes (changes l) (Edge i s c)
+edge_true laws sim l sound i s c b to e f =
+    let there : slice_get (changes l i) s ≡ Some c =
+    subst (λ n. slice_get (changes l i) n ≡ Some c) e (entry_there laws c (changes l i) (sim.changes_increase l i) (f ∙ ap suc (sym e)))
+    in
+    let nodes = sound.few_nodes in
+    let few = sound.few_changes i b in
+    let end = sound.end_fits in
+    let within = slice_get_within (changes l i) s c there in
+    (b, there, (omega arith, omega arith, omega arith))
+
+-- the next change of the sender
+pub sender_edge : TableLaws → SimulationLaws → (l : Line) → IsSound l → (guess : Guess) (until next count first last m s : ℕ) → guess.sender < l.nodes → until ≤ l.stop
+    → IsRightBelow l guess until → IsIncreasing guess.changes → guess.from < next → count ≡ count_below next (changes l guess.sender)
+    → first ≡ count_below next guess.changes → last ≡ count_below until guess.changes → first ≤ m → m < last → s + first ≡ count + m
+    → IsTrueOf l.nodes (changes l) (Edge guess.sender s (get_or guess.changes m 0))
+sender_edge laws sim l sound guess until next count first last m s b stop right order from ce fe le fm ml se =
+    let cs = guess.changes in
+    let c = get_or cs m 0 in
+    let most = count_by-le-length (λ v. nat_lt v until) cs in
+    let inside : m < length cs = omega (arith, most, le, ml) in
+    let at = laws.entry_is_step cs m c order (slice_get-get_or cs m 0 inside) in
+    let at0 : count_below c cs ≡ m = at.0 in
+    let at1 : count_below (suc c) cs ≡ suc m = at.1 in
+    let before : c < until = elim (cases_lt c until) [
+      | inl less ↦ less
+      | inr more ↦ absurd (let h = laws.count_less until c cs more in omega (arith, h, at0, le, ml))
+    ] in
+    let behind : next ≤ c = elim (cases_lt c next) [
+      | inl less ↦ absurd (let h = laws.count_less (suc c) next cs (omega (arith, less)) in omega (arith, h, at1, fe, fm))
+      | inr more ↦ more
+    ] in
+    let e = sender_counts laws sim l guess until next sound.causal b right order from c behind (omega (arith, before)) in
+    let f = sender_counts laws sim l guess until next sound.causal b right order from (suc c) (omega (arith, behind)) (omega (arith, before)) in
+    edge_true laws sim l sound guess.sender s c b (omega (arith, before, stop)) (omega (arith, e, at0, ce, fe, se)) (omega (arith, f, at1, ce, fe, se))
+
+-- there are few
+pub sender_few : TableLaws → SimulationLaws → (l : Line) → IsSound l → (guess : Guess) (until next count seq first last m : ℕ) → guess.sender < l.nodes → IsRightBelow l guess until
+    → IsIncreasing guess.changes → guess.from < next → next ≤ until → count ≡ count_below next (changes l guess.sender)
+    → first ≡ count_below next guess.changes → last ≡ count_below until guess.changes → seq + first ≡ count + m → m < last → seq < most_edges
+sender_few laws sim l sound guess until next count seq first last m b right order from to ce fe le se ml =
+    let r = sender_counts laws sim l guess until next sound.causal b right order from until to (omega arith) in
+    let most = count_by-le-length (λ v. nat_lt v until) (changes l guess.sender) in
+    let few = sound.few_changes guess.sender b in
+    omega (arith, r, most, few, ce, fe, le, se, ml)
+
+-- ---- what a group says
+
+told_kept_value : (g : GroupValue) (rs : List Record) → AreTrueOf (length g.plan.nodes) (table_of g.plan) rs → IsGroupValue (with_records rs g) → IsGroupValue (told_too g rs)
+told_kept_value g rs t v = record {
+  checked = v.checked;
+  one_each = v.one_each;
+  of_all = v.of_all;
+  of_records = v.of_records;
+  holds = v.holds;
+  emitted_true = true_append (length g.plan.nodes) (table_of g.plan) g.emitted rs v.emitted_true t;
+}
+
+pub told_kept : ValueLaws → (plan : Plan) (cells : List (Option Cell)) (replica new : State) (emitted said : List Record) (r : Record) (v : GroupValue)
+    → group_value plan cells replica emitted ≡ v → IsKept plan cells replica emitted → IsTrueOfPlan v.plan r → new ≡ state_with_record replica r
+    → said ≡ emitted ++ r ∷ [] → IsKept plan cells new said
+told_kept laws plan cells replica new emitted said r v ev k t e es =
+    let true_here : IsTrueOfPlan plan r = subst (λ (x : GroupValue). IsTrueOfPlan x.plan r) (sym ev) t in
+    let g = group_value plan cells replica emitted in
+    let now : IsGroupValue (group_value plan cells (state_with_record replica r) (emitted ++ r ∷ [])) =
+    told_kept_value g (r ∷ []) (true_here, tt) (laws.takes g k.value (r ∷ []) (true_here, tt))
+    in
+    record {
+      value = subst (λ s. IsGroupValue (group_value plan cells s said)) (sym e)
+          (subst (λ xs. IsGroupValue (group_value plan cells (state_with_record replica r) xs)) (sym es) now);
+      placed = k.placed;
+    }
+
+-- ---- one record after another
+
+-- what a group told since it was another one
+pub record HasTold (old new : GroupValue) (before after : List Record) : Type 0 where
+  pub plan : new.plan ≡ old.plan
+  pub ran : new.ran ≡ old.ran
+  pub told : (g : GroupValue) → old ≡ told_too g before → new ≡ told_too g after
+  pub truth : AreTrueOf (length old.plan.nodes) (table_of old.plan) before → AreTrueOf (length old.plan.nodes) (table_of old.plan) after
+
+pub nothing_told : (g : GroupValue) (rs : List Record) → HasTold g g rs rs
+nothing_told g rs = record { plan = refl; ran = refl; told = λ h e. e; truth = λ t. t }
+
+pub told_then : (a b : GroupValue) (xs ys zs : List Record) → HasTold a b xs ys
+    → (AreTrueOf (length b.plan.nodes) (table_of b.plan) ys → AreTrueOf (length b.plan.nodes) (table_of b.plan) zs)
+    → AreTrueOf (length a.plan.nodes) (table_of a.plan) xs → AreTrueOf (length a.plan.nodes) (table_of a.plan) zs
+told_then a b xs ys zs on truth t =
+    subst (λ (p : Plan). AreTrueOf (length p.nodes) (table_of p) zs) on.plan
+    (truth (subst (λ (p : Plan). AreTrueOf (length p.nodes) (table_of p) ys) (sym on.plan) (on.truth t)))
+
+pub told_more : (a b c : GroupValue) (xs ys zs : List Record) → HasTold a b xs ys → c.plan ≡ b.plan → c.ran ≡ b.ran
+    → ((g : GroupValue) → b ≡ told_too g ys → c ≡ told_too g zs)
+    → (AreTrueOf (length b.plan.nodes) (table_of b.plan) ys → AreTrueOf (length b.plan.nodes) (table_of b.plan) zs) → HasTold a c xs zs
+told_more a b c xs ys zs on plan ran told truth = record {
+  plan = plan ∙ on.plan;
+  ran = ran ∙ on.ran;
+  told = λ g e. told g (on.told g e);
+  truth = told_then a b xs ys zs on truth;
+}
+
+-- up to the tick before
+pub count_at : (cs ds : List ℕ) (u n : ℕ) → ds ≡ cs → 0 < u → n ≡ count_below (u - 1 + 1) ds → n ≡ count_below u cs
+count_at cs ds u n same some e =
+    let t : u - 1 + 1 ≡ u = omega arith in
+    e ∙ (ap (λ xs. count_below (u - 1 + 1) xs) same ∙ ap (λ v. count_below v cs) t)
+
+pub told_is : (a b c : GroupValue) (xs ys zs : List Record) → HasTold a b xs ys → c ≡ b → zs ≡ ys → HasTold a c xs zs
+told_is a b c xs ys zs on e f = subst (λ g. HasTold a g xs zs) (sym e) (subst (λ rs. HasTold a b xs rs) (sym f) on)

@@ -1,0 +1,113 @@
+-- A member keeps to a guess, and goes back: the group is as it was.
+use Rattle.std.proofs.Common.{◌≡◌, ℕ, ◌<◌, List, get_or, Option, Some, None, refl, ◌∙◌, subst, arith}
+use Rattle.wl_record_core.specs.declared.record.Record.{Record}
+use Rattle.wl_replica.specs.State.{State}
+use Rattle.wl_plan.specs.declared.plan.Plan.{Plan}
+use Rattle.wl_plan.specs.PlanLine.{line_of}
+use Rattle.wl_group.specs.declared.cell.Cell.{Cell}
+use Rattle.wl_group.specs.GroupValue.{GroupValue}
+use Rattle.wl_group.specs.Guess.{KeepsGuess}
+use Rattle.wl_group.specs.Kept.{group_value, IsKept}
+use Rattle.wl_group.proofs.FollowProofs.{in_list, known_kept, keeps_earlier}
+use Rattle.wl_group.proofs.OverProofs.{inside_kept}
+use Rattle.wl_group.proofs.RunProofs.{cell_read, kept_stays, value_stays}
+use Rattle.wl_group.proofs.group.Group.member_keeps_to.Goals as goal
+
+-- the member's cell, where one was found
+found : (plan : Plan) (cells : List (Option Cell)) (replica : State) (emitted : List Record) (kept : IsKept plan cells replica emitted)
+    (now : GroupValue) (view : ◌≡◌ {A = GroupValue} (group_value plan cells replica emitted) now) (i : ℕ) → i < now.replica.nodes
+    → (o : Option Cell) (cell : Cell) → o ≡ get_or cells i o → o ≡ Some cell → get_or cells i None ≡ Some cell
+found plan cells replica emitted kept now view i b o cell r is = cell_read cells i o cell (in_list plan cells replica emitted kept now view i b) r is
+
+pub can_follow-requires-clause-cell : goal.can_follow-requires-clause-cell
+can_follow-requires-clause-cell c =
+    let now = c.args.self.now in
+    let i = c.args.j in
+    let g = c.self.inside in
+    let view = c.self.view_is in
+    let kept = c.self.invariant.kept in
+    let is = found g.plan g.cells.items g.replica g.emitted.items kept now view i c.requires.node c.index_mut.result.now c.in-Some.cell c.index_mut.ensures.value c.in-Some.is in
+    kept.placed i c.in-Some.cell is
+
+pub can_follow-requires-clause-inside : goal.can_follow-requires-clause-inside
+can_follow-requires-clause-inside c =
+    let now = c.args.self.now in
+    let i = c.args.j in
+    let g = c.self.inside in
+    let view = c.self.view_is in
+    let kept = c.self.invariant.kept in
+    let is = found g.plan g.cells.items g.replica g.emitted.items kept now view i c.requires.node c.index_mut.result.now c.in-Some.cell c.index_mut.ensures.value c.in-Some.is in
+    inside_kept c.value_laws.ensures c.simulation_laws.ensures c.checked_is_sound.ensures g.plan g.cells.items g.replica g.emitted.items kept now view i c.in-Some.cell is
+
+pub can_follow-requires-clause-known : goal.can_follow-requires-clause-known
+can_follow-requires-clause-known c =
+    let now = c.args.self.now in
+    let i = c.args.j in
+    let g = c.self.inside in
+    let view = c.self.view_is in
+    let kept = c.self.invariant.kept in
+    let is = found g.plan g.cells.items g.replica g.emitted.items kept now view i c.requires.node c.index_mut.result.now c.in-Some.cell c.index_mut.ensures.value c.in-Some.is in
+    known_kept g.plan g.cells.items g.replica g.emitted.items kept now view i c.value_laws.ensures c.simulation_laws.ensures c.checked_is_sound.ensures c.in-Some.cell is
+
+pub keeps_to-requires-clause-cell : goal.keeps_to-requires-clause-cell
+keeps_to-requires-clause-cell c =
+    let now = c.args.self.now in
+    let i = c.args.j in
+    let g = c.self.inside in
+    let view = c.self.view_is in
+    let kept = c.self.invariant.kept in
+    let is = found g.plan g.cells.items g.replica g.emitted.items kept now view i c.requires.node c.index_mut.result.now c.in-Some.cell c.index_mut.ensures.value c.in-Some.is in
+    kept.placed i c.in-Some.cell is
+
+pub invariant_of-self-in_err-kept : goal.invariant_of-self-in_err-kept
+invariant_of-self-in_err-kept c =
+    let now = c.args.self.now in
+    let i = c.args.j in
+    let g = c.self.inside in
+    let view = c.self.view_is in
+    let kept = c.self.invariant.kept in
+    let is = found g.plan g.cells.items g.replica g.emitted.items kept now view i c.requires.node c.index_mut.result.now c.in-Some.cell c.index_mut.ensures.value c.in-Some.is in
+    record {
+      kept = kept_stays c.value_laws.ensures c.checked_is_sound.ensures g.plan g.cells.items g.replica g.emitted.items kept now view i c.in-Some.cell is c.keeps_to.new.self c.in_err-kept.ensures.same g.replica g.emitted.items refl refl;
+      stretches = c.self.invariant.stretches;
+      disturbances = c.self.invariant.disturbances;
+    }
+
+pub invariant_of-self-2 : goal.invariant_of-self-2
+invariant_of-self-2 c =
+    let now = c.args.self.now in
+    let i = c.args.j in
+    let g = c.self.inside in
+    let view = c.self.view_is in
+    let kept = c.self.invariant.kept in
+    let is = found g.plan g.cells.items g.replica g.emitted.items kept now view i c.requires.node c.index_mut.result.now c.in-Some.cell c.index_mut.ensures.value c.in-Some.is in
+    record {
+      kept = kept_stays c.value_laws.ensures c.checked_is_sound.ensures g.plan g.cells.items g.replica g.emitted.items kept now view i c.in-Some.cell is c.keeps_to.new.self c.in_ok-kept.ensures.same g.replica g.emitted.items refl refl;
+      stretches = c.self.invariant.stretches;
+      disturbances = c.self.invariant.disturbances;
+    }
+
+pub returns-in_err-kept-clause-same : goal.returns-in_err-kept-clause-same
+returns-in_err-kept-clause-same c =
+    let now = c.args.self.now in
+    let i = c.args.j in
+    let g = c.self.inside in
+    let view = c.self.view_is in
+    let kept = c.self.invariant.kept in
+    let is = found g.plan g.cells.items g.replica g.emitted.items kept now view i c.requires.node c.index_mut.result.now c.in-Some.cell c.index_mut.ensures.value c.in-Some.is in
+    value_stays c.value_laws.ensures c.checked_is_sound.ensures g.plan g.cells.items g.replica g.emitted.items kept now view i c.in-Some.cell is c.keeps_to.new.self c.in_err-kept.ensures.same g.replica g.emitted.items refl refl ∙ view
+
+pub returns-clause-same : goal.returns-clause-same
+returns-clause-same c =
+    let now = c.args.self.now in
+    let i = c.args.j in
+    let g = c.self.inside in
+    let view = c.self.view_is in
+    let kept = c.self.invariant.kept in
+    let is = found g.plan g.cells.items g.replica g.emitted.items kept now view i c.requires.node c.index_mut.result.now c.in-Some.cell c.index_mut.ensures.value c.in-Some.is in
+    value_stays c.value_laws.ensures c.checked_is_sound.ensures g.plan g.cells.items g.replica g.emitted.items kept now view i c.in-Some.cell is c.keeps_to.new.self c.in_ok-kept.ensures.same g.replica g.emitted.items refl refl ∙ view
+
+pub returns-clause-keeps : goal.returns-clause-keeps
+returns-clause-keeps c member =
+    let keeps = keeps_earlier (line_of c.self.inside.plan) c.args.guess.now c.in_ok-kept.kept c.min-2.result c.args.j (omega (arith, c.min-2.ensures)) c.in_ok-kept.ensures.keeps in
+    subst (λ (v : GroupValue). KeepsGuess (line_of v.plan) c.args.guess.now c.min-2.result c.args.j) c.self.view_is keeps
