@@ -497,7 +497,7 @@ fi
 if command -v gcc > /dev/null; then
   # No clause says by which link workers hand records over: each letter takes memory, and a record in a hub takes none.
   gcc -O2 -shared -fPIC -o "$room/refuse.so" check/refuse.c -ldl
-  calls() { REFUSE=0 LD_PRELOAD="$room/refuse.so" timeout 300 "$program" run --workers 2 --link "$1" < examples/clean_500k.toml 2>&1 > /dev/null | sed -n 's/^calls //p'; }
+  calls() { REFUSE=0 LD_PRELOAD="$room/refuse.so" timeout 300 "$program" run --workers 4 --link "$1" < examples/cyclic_500k.toml 2>&1 > /dev/null | sed -n 's/^calls //p'; }
   by_hub=$(calls hub) by_mail=$(calls mail)
   is "the links (allocations by hub: $by_hub, by mail: $by_mail)" [ "${by_mail:-0}" -gt $((${by_hub:-999999} * 5 / 4)) ]
   # No clause says that plans of the usual form are read line by line: a reader that gives up makes the document, too. After a byte order mark
