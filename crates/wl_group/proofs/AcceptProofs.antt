@@ -1,5 +1,5 @@
 -- What a guess that is right says of the changes of each node, and that a group stays one when it says what is true.
-use Rattle.std.proofs.Common.{◌≡◌, ℕ, zero, suc, ◌+◌, ◌-◌, ◌<◌, ◌≤◌, ◌==◌, ◌&&◌, not, inl, inr, Bool, true, false, List, [], ◌∷◌, ◌++◌, length, get_or, refl, sym, ◌∙◌, ap, subst, arith, nat_lt, Option, Some, slice_get}
+use Rattle.std.proofs.Common.{◌≡◌, ℕ, zero, suc, ◌+◌, ◌-◌, ◌<◌, ◌≤◌, ◌==◌, ◌&&◌, not, inl, inr, Bool, true, false, List, [], ◌∷◌, ◌++◌, length, get_or, refl, sym, ◌∙◌, ap, subst, arith, nat_lt, append-nil, append_assoc, Option, Some, Result, Ok, Err, OnOk, OnErr, slice_get}
 use Rattle.std.proofs.lemmas.Bool.{cases_lt, cases_eq, false≢true, eq-eqb}
 use Rattle.std.proofs.lemmas.Option.{slice_get-get_or, slice_get_within}
 use Rattle.std.proofs.lemmas.List.Sums.{count_by-le-length}
@@ -15,10 +15,12 @@ use Rattle.wl_plan.specs.PlanLine.{table_of, IsTrueOfPlan}
 use Rattle.wl_plan.specs.Simulation.{changes}
 use Rattle.wl_plan.specs.Sound.{IsCausal, IsSound}
 use Rattle.wl_plan.specs.SimulationLaws.{SimulationLaws}
+use Rattle.wl_group.specs.Accepted.{HasSaid}
+use Rattle.wl_group.specs.Running.{HasRunOn}
 use Rattle.wl_group.specs.declared.cell.Cell.{Cell}
 use Rattle.wl_group.specs.declared.guess.Guess.{Guess}
-use Rattle.wl_group.specs.GroupValue.{GroupValue, IsGroupValue, with_records}
-use Rattle.wl_group.specs.Guess.{IsRightBelow, told_too}
+use Rattle.wl_group.specs.GroupValue.{GroupValue, IsGroupValue, belongs, with_records}
+use Rattle.wl_group.specs.Guess.{IsRightBelow}
 use Rattle.wl_group.specs.Kept.{group_value, IsKept}
 use Rattle.wl_group.specs.ValueLaws.{ValueLaws}
 use Rattle.wl_group.proofs.Callers.{true_append}
@@ -201,67 +203,100 @@ sender_few laws sim l sound guess until next count seq first last m b right orde
     let few = sound.few_changes guess.sender b in
     omega (arith, r, most, few, ce, fe, le, se, ml)
 
--- ---- what a group says
-
-told_kept_value : (g : GroupValue) (rs : List Record) → AreTrueOf (length g.plan.nodes) (table_of g.plan) rs → IsGroupValue (with_records rs g) → IsGroupValue (told_too g rs)
-told_kept_value g rs t v = record {
-  checked = v.checked;
-  one_each = v.one_each;
-  of_all = v.of_all;
-  of_records = v.of_records;
-  holds = v.holds;
-  emitted_true = true_append (length g.plan.nodes) (table_of g.plan) g.emitted rs v.emitted_true t;
-}
-
-pub told_kept : ValueLaws → (plan : Plan) (cells : List (Option Cell)) (replica new : State) (emitted said : List Record) (r : Record) (v : GroupValue)
-    → group_value plan cells replica emitted ≡ v → IsKept plan cells replica emitted → IsTrueOfPlan v.plan r → new ≡ state_with_record replica r
-    → said ≡ emitted ++ r ∷ [] → IsKept plan cells new said
-told_kept laws plan cells replica new emitted said r v ev k t e es =
-    let true_here : IsTrueOfPlan plan r = subst (λ (x : GroupValue). IsTrueOfPlan x.plan r) (sym ev) t in
-    let g = group_value plan cells replica emitted in
-    let now : IsGroupValue (group_value plan cells (state_with_record replica r) (emitted ++ r ∷ [])) =
-    told_kept_value g (r ∷ []) (true_here, tt) (laws.takes g k.value (r ∷ []) (true_here, tt))
-    in
-    record {
-      value = subst (λ s. IsGroupValue (group_value plan cells s said)) (sym e)
-          (subst (λ xs. IsGroupValue (group_value plan cells (state_with_record replica r) xs)) (sym es) now);
-      placed = k.placed;
-    }
-
--- ---- one record after another
-
--- what a group told since it was another one
-pub record HasTold (old new : GroupValue) (before after : List Record) : Type 0 where
-  pub plan : new.plan ≡ old.plan
-  pub ran : new.ran ≡ old.ran
-  pub told : (g : GroupValue) → old ≡ told_too g before → new ≡ told_too g after
-  pub truth : AreTrueOf (length old.plan.nodes) (table_of old.plan) before → AreTrueOf (length old.plan.nodes) (table_of old.plan) after
-
-pub nothing_told : (g : GroupValue) (rs : List Record) → HasTold g g rs rs
-nothing_told g rs = record { plan = refl; ran = refl; told = λ h e. e; truth = λ t. t }
-
-pub told_then : (a b : GroupValue) (xs ys zs : List Record) → HasTold a b xs ys
-    → (AreTrueOf (length b.plan.nodes) (table_of b.plan) ys → AreTrueOf (length b.plan.nodes) (table_of b.plan) zs)
-    → AreTrueOf (length a.plan.nodes) (table_of a.plan) xs → AreTrueOf (length a.plan.nodes) (table_of a.plan) zs
-told_then a b xs ys zs on truth t =
-    subst (λ (p : Plan). AreTrueOf (length p.nodes) (table_of p) zs) on.plan
-    (truth (subst (λ (p : Plan). AreTrueOf (length p.nodes) (table_of p) ys) (sym on.plan) (on.truth t)))
-
-pub told_more : (a b c : GroupValue) (xs ys zs : List Record) → HasTold a b xs ys → c.plan ≡ b.plan → c.ran ≡ b.ran
-    → ((g : GroupValue) → b ≡ told_too g ys → c ≡ told_too g zs)
-    → (AreTrueOf (length b.plan.nodes) (table_of b.plan) ys → AreTrueOf (length b.plan.nodes) (table_of b.plan) zs) → HasTold a c xs zs
-told_more a b c xs ys zs on plan ran told truth = record {
-  plan = plan ∙ on.plan;
-  ran = ran ∙ on.ran;
-  told = λ g e. told g (on.told g e);
-  truth = told_then a b xs ys zs on truth;
-}
-
 -- up to the tick before
 pub count_at : (cs ds : List ℕ) (u n : ℕ) → ds ≡ cs → 0 < u → n ≡ count_below (u - 1 + 1) ds → n ≡ count_below u cs
 count_at cs ds u n same some e =
     let t : u - 1 + 1 ≡ u = omega arith in
     e ∙ (ap (λ xs. count_below (u - 1 + 1) xs) same ∙ ap (λ v. count_below v cs) t)
 
-pub told_is : (a b c : GroupValue) (xs ys zs : List Record) → HasTold a b xs ys → c ≡ b → zs ≡ ys → HasTold a c xs zs
-told_is a b c xs ys zs on e f = subst (λ g. HasTold a g xs zs) (sym e) (subst (λ rs. HasTold a b xs rs) (sym f) on)
+-- ---- what a group says
+
+pub told_kept : ValueLaws → (plan : Plan) (cells : List (Option Cell)) (replica new : State) (emitted said : List Record) (r : Record) (v : GroupValue)
+    → group_value plan cells replica emitted ≡ v → IsKept plan cells replica emitted → IsTrueOfPlan v.plan r → new ≡ state_with_record replica r
+    → said ≡ emitted ++ r ∷ [] → IsKept plan cells new said
+told_kept laws plan cells replica new emitted said r v ev k t e es =
+    let true_here : IsTrueOfPlan plan r = subst (λ (x : GroupValue). IsTrueOfPlan x.plan r) (sym ev) t in
+    let taken = laws.takes (group_value plan cells replica emitted) k.value (r ∷ []) (true_here, tt) in
+    let all = true_append (length plan.nodes) (table_of plan) emitted (r ∷ []) k.value.emitted_true (true_here, tt) in
+    let now : IsGroupValue (group_value plan cells (state_with_record replica r) (emitted ++ r ∷ [])) = record {
+      checked = taken.checked;
+      one_each = taken.one_each;
+      of_all = taken.of_all;
+      of_records = taken.of_records;
+      holds = taken.holds;
+      emitted_true = all;
+    } in
+    record {
+      value = subst (λ s. IsGroupValue (group_value plan cells s said)) (sym e)
+          (subst (λ xs. IsGroupValue (group_value plan cells (state_with_record replica r) xs)) (sym es) now);
+      placed = k.placed;
+    }
+
+-- nothing
+pub said_nothing : (g : GroupValue) (rs : List Record) → IsGroupValue g → HasSaid g g rs rs
+said_nothing g rs v = record { value = v; plan = refl; members = refl; emitted = λ first e. e; truth = λ t. t }
+
+-- a record
+pub said_one : (g new : GroupValue) (before after : List Record) (r : Record) → IsGroupValue new → new.plan ≡ g.plan → belongs new ≡ belongs g → IsTrueOfPlan g.plan r
+    → new.emitted ≡ g.emitted ++ r ∷ [] → after ≡ before ++ r ∷ [] → HasSaid g new before after
+said_one g new before after r value plan members t e f = record {
+  value = value;
+  plan = plan;
+  members = members;
+  emitted = λ first h. e ∙ (ap (λ rs. rs ++ r ∷ []) h ∙ (append_assoc first before (r ∷ []) ∙ ap (λ rs. first ++ rs) (sym f)));
+  truth = λ all. subst (λ rs. AreTrueOf (length g.plan.nodes) (table_of g.plan) rs) (sym f)
+      (true_append (length g.plan.nodes) (table_of g.plan) before (r ∷ []) all (t, tt));
+}
+
+-- a record, as a group keeps it
+pub told_said : ValueLaws → (plan : Plan) (cells : List (Option Cell)) (replica new : State) (emitted said before after : List Record) (r : Record) (v : GroupValue)
+    → group_value plan cells replica emitted ≡ v → IsKept plan cells replica emitted → IsTrueOfPlan v.plan r → new ≡ state_with_record replica r
+    → said ≡ emitted ++ r ∷ [] → after ≡ before ++ r ∷ [] → HasSaid v (group_value plan cells new said) before after
+told_said laws plan cells replica new emitted said before after r v ev k t e es ef =
+    let kept = told_kept laws plan cells replica new emitted said r v ev k t e es in
+    let g : GroupValue = group_value plan cells replica emitted in
+    let to : GroupValue = group_value plan cells new said in
+    subst (λ (x : GroupValue). HasSaid x to before after) ev
+    (said_one g to before after r kept.value refl refl (subst (λ (x : GroupValue). IsTrueOfPlan x.plan r) (sym ev) t) es ef)
+
+-- nothing, where it took a record or could not
+pub said_by_take : {T E : Type 0} → ValueLaws → (g new : GroupValue) (rs : List Record) (r : Record) (result : Result T E) → IsGroupValue g → IsTrueOfPlan g.plan r
+    → OnOk result (new ≡ with_records (r ∷ []) g) → OnErr result (new ≡ g) → HasSaid g new rs rs
+said_by_take laws g new rs r (Ok x) v t ok err =
+    subst (λ y. HasSaid g y rs rs) (sym ok) (record { value = laws.takes g v (r ∷ []) (t, tt); plan = refl; members = refl; emitted = λ first e. e; truth = λ all. all })
+said_by_take laws g new rs r (Err x) v t ok err = subst (λ y. HasSaid g y rs rs) (sym err) (said_nothing g rs v)
+
+-- some, and more after them
+pub said_then : (a b c : GroupValue) (xs ys zs : List Record) → HasSaid a b xs ys → HasSaid b c ys zs → HasSaid a c xs zs
+said_then a b c xs ys zs first more = record {
+  value = more.value;
+  plan = more.plan ∙ first.plan;
+  members = more.members ∙ first.members;
+  emitted = λ rs e. more.emitted rs (first.emitted rs e);
+  truth = λ t.
+      subst (λ (p : Plan). AreTrueOf (length p.nodes) (table_of p) zs) first.plan
+      (more.truth (subst (λ (p : Plan). AreTrueOf (length p.nodes) (table_of p) ys) (sym first.plan) (first.truth t)));
+}
+
+-- some, and then nothing more
+pub said_still : (a b c : GroupValue) (rs : List Record) → HasSaid a b [] rs → HasSaid b c [] [] → HasSaid a c [] rs
+said_still a b c rs first more = record {
+  value = more.value;
+  plan = more.plan ∙ first.plan;
+  members = more.members ∙ first.members;
+  emitted = λ xs e. more.emitted b.emitted (sym (append-nil b.emitted)) ∙ (append-nil b.emitted ∙ first.emitted xs e);
+  truth = first.truth;
+}
+
+-- in all
+pub said_in_all : (g new : GroupValue) (rs : List Record) → HasSaid g new [] rs → HasRunOn g new rs
+said_in_all g new rs said = record {
+  value = said.value;
+  plan = said.plan;
+  members = said.members;
+  emitted = said.emitted g.emitted (sym (append-nil g.emitted));
+  said_true = said.truth tt;
+}
+
+pub said_is : (a b c : GroupValue) (xs ys zs : List Record) → HasSaid a b xs ys → c ≡ b → zs ≡ ys → HasSaid a c xs zs
+said_is a b c xs ys zs on e f = subst (λ g. HasSaid a g xs zs) (sym e) (subst (λ rs. HasSaid a b xs rs) (sym f) on)

@@ -1,10 +1,12 @@
 pub mod Callers
 mod AcceptProofs
+mod AlongProofs
 mod AdvanceProofs
 mod BeginProofs
 mod BegunProofs
 mod CellProofs
 mod ChangesProofs
+mod CountProofs
 mod HeardProofs
 mod GoingProofs
 mod FollowProofs
@@ -15,7 +17,6 @@ mod GroupProofs
 mod GuessProofs
 mod ThoughtProofs
 mod TickProofs
-mod ToldProofs
 mod Rows
 mod ValueProofs
 mod RunProofs

@@ -1,13 +1,10 @@
 -- What all nodes are thought to drive from a tick on, and which nodes keep to it as long as all do. This project's profile.
 -- For a reader who knows simulation: promises under a condition. They hold together, since each level takes a tick at least (Chandy and Misra 1979).
-use Rattle.std.specs.Prelude.{◌≡◌, ℕ, suc, ◌<◌, ◌≤◌, ◌==◌, ◌&&◌, Bool, true, List, ◌++◌}
-use Rattle.wl_record_core.specs.declared.record.Record.{Record}
+use Rattle.std.specs.Prelude.{◌≡◌, ℕ, suc, ◌<◌, ◌≤◌, ◌==◌, ◌&&◌, Bool, true}
 use Rattle.wl_record_core.specs.Truth.{count_below, odd}
-use Rattle.wl_replica.specs.State.{state_with_records}
 use Rattle.wl_plan.specs.Line.{Line}
 use Rattle.wl_plan.specs.Simulation.{level}
 use Rattle.wl_group.specs.declared.guess.Guess.{Guess}
-use Rattle.wl_group.specs.GroupValue.{GroupValue}
 
 -- whether node i is thought to drive dominant at tick t, and a tick earlier
 abbrev pub thought : Guess → ℕ → ℕ → Bool
@@ -50,7 +47,3 @@ pub record KeepingLaws : Type 0 where
   pub hold : GuessesHold
   pub same : SameIsKept
   pub earlier : EarlierIsKept
-
--- the group after it said this without a quantum
-abbrev pub told_too : GroupValue → List Record → GroupValue
-told_too g said = record { plan = g.plan; ran = g.ran; replica = state_with_records g.replica said; emitted = g.emitted ++ said }

@@ -1,3 +1,4 @@
+pub mod Accepted
 pub mod AdvanceLaws
 pub mod Advanced
 pub mod Chosen

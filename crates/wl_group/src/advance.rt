@@ -139,7 +139,7 @@ impl Group {
     }
 
     /// Returns the tick below which the line is known at a member's place.
-    fn known_at(&self, node: u8) -> u64
+    pub(crate) fn known_at(&self, node: u8) -> u64
         requires { belongs self.now node ≡ true }
         ensures { IsKnownAt self.now node result }
     {

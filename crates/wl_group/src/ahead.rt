@@ -57,13 +57,16 @@ impl Group {
             count: 1,
         };
         for _ in 0..more {
-            self.look_on(i, end, &mut ahead);
+            if !self.look_on(i, end, &mut ahead) {
+                return ahead;
+            }
         }
         ahead
     }
 
-    /// Finds one stretch more, if there is room for it and the last one is over before a tick up to which the line is known.
-    fn look_on(&mut self, i: u8, end: u64, ahead: &mut Ahead)
+    /// Finds one stretch more, if there is room for it and the last one is over before a tick up to which the line is known. Returns whether
+    /// it did.
+    fn look_on(&mut self, i: u8, end: u64, ahead: &mut Ahead) -> bool
         requires member { belongs self.old i ≡ true }
         requires early { end < 2 ^ 64 - 1 }
         requires known { let l = line_of self.old.plan in
@@ -77,15 +80,16 @@ impl Group {
             → AreAhead (line_of self.old.plan) i t ahead.new.stretches ahead.new.count }
     {
         if ahead.count >= MOST_AHEAD {
-            return;
+            return false;
         }
         let tick = ahead.stretches[ahead.count - 1].until;
         if tick >= end {
-            return;
+            return false;
         }
         let stretch = self.find(i, tick);
         ahead.stretches[ahead.count] = stretch;
         ahead.count += 1;
+        true
     }
 
     /// Returns the stretch of the line at a member's place that has this tick, at which it is known there.
@@ -233,7 +237,7 @@ impl Cell {
 
     /// Runs quanta of node `i` in a row in one stretch of the line and before a tick: one at least, and none after one that changes its
     /// drive. Returns true if the last one changed it. Refused if memory runs out before the first, and the member is where it was.
-    fn go_in(
+    pub(crate) fn go_in(
         &mut self,
         plan: &CheckedPlan,
         i: u8,

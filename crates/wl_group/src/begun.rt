@@ -86,7 +86,7 @@ fn is_over(replica: &Replica, j: u8, count: usize, tick: u64) -> bool
 }
 
 /// True if what each node drove before tick `from` has come by tick `t` to the place to which these are the ways.
-fn has_come(ways: &Ways, nodes: u8, from: u64, t: u64) -> bool
+pub(crate) fn has_come(ways: &Ways, nodes: u8, from: u64, t: u64) -> bool
     requires { nodes ≤ length ways.now }
     ensures { IsTrue result → (i : ℕ) → i < nodes → from + way_in ways.now i ≤ t }
 {

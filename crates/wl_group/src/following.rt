@@ -133,7 +133,7 @@ fn row_end(next: u64, turn: u64, until: u64) -> u64
 }
 
 /// Returns what node `j` finds from tick `t` on if a guess is right: up to the next change that arrives, or a disturbance's end or begin.
-fn thought_at(
+pub(crate) fn thought_at(
     plan: &CheckedPlan,
     guess: &Guess,
     ways: &Ways,

@@ -26,8 +26,8 @@ const BITS_AFTER: u8 = 2;
 /// For how many stretches a sender is run ahead at most.
 const MOST_STRETCHES: u32 = 4_096;
 
-/// Members that rest for fewer quanta than these aren't asked about: what each promises reaches as far.
-const FEWEST_QUANTA: u64 = 70;
+/// Members that rest for fewer quanta than these aren't asked about: to hand over bit by bit costs as much.
+const FEWEST_QUANTA: u64 = 40;
 
 /// The number of a sender if none sends: no node has it.
 const NO_SENDER: u8 = u8::MAX;

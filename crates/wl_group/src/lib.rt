@@ -4,6 +4,7 @@
 mod accepting;
 mod advance;
 mod ahead;
+mod along;
 mod answer;
 mod begin;
 mod begun;

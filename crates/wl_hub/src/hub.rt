@@ -85,8 +85,11 @@ impl<T: Truth> Hub<T> {
         let (edge_count, silence_count) = totals(shape);
         let (edge_firsts, silence_firsts) = (edge_firsts(shape), silence_firsts(shape));
         let shape = Vec::from_slice(alloc, shape)?;
-        let (edges, edge_part) = Board::open(alloc, name, &shape, edge_count.max(1))?;
-        let (silences, silence_part) = Board::open(alloc, name, &shape, silence_count.max(1))?;
+        let (edge_words, silence_words) = (edge_count.max(1), silence_count.max(1));
+        // Each table takes a copy of as many as it needs.
+        let zeros = vec![in alloc; 0u64; edge_words.max(silence_words)]?;
+        let (edges, edge_part) = Board::open(alloc, name, &shape, &zeros[..edge_words])?;
+        let (silences, silence_part) = Board::open(alloc, name, &shape, &zeros[..silence_words])?;
         let hub = Hub {
             edges,
             silences,

@@ -6,10 +6,12 @@ use Rattle.wl_plan.specs.PlanLine.{line_of}
 use Rattle.wl_group.specs.declared.guess.Guess.{Guess}
 use Rattle.wl_group.specs.Chosen.{is_chosen}
 use Rattle.wl_group.specs.GroupValue.{GroupValue}
-use Rattle.wl_group.specs.Guess.{AllKeepTo, KeepsGuess, KeepingLaws, IsSameGuess, told_too}
+use Rattle.wl_group.specs.Guess.{AllKeepTo, KeepsGuess, KeepingLaws, IsSameGuess}
+use Rattle.wl_group.specs.Running.{HasRunOn}
 use Rattle.wl_record_core.specs.declared.record.Record.{Record}
 use Rattle.wl_worker.specs.declared.claim.Claim.{Claim}
 use Rattle.wl_worker.specs.Claims.{IsClaimOf}
+use Rattle.wl_worker.specs.Handed.{AreTrueOfPlan}
 
 or_true : (x y : Bool) → (x || y) ≡ true → (x ≡ true) ⊎ (y ≡ true)
 or_true true y e = inl refl
@@ -38,6 +40,9 @@ pub own_claim_is : (plan : Plan) (belongs : ℕ → Bool) (guess : Guess) (claim
 own_claim_is plan belongs guess claim keeps eg named j low here =
     subst (λ (g : Guess). KeepsGuess (line_of plan) g claim.until j) (sym eg) (keeps j (sym (named j) ∙ here))
 
--- a group that said something without a quantum
-pub told_emitted : (old new : GroupValue) (said : List Record) → new ≡ told_too old said → new.emitted ≡ old.emitted ++ said
-told_emitted old new said e = ap (λ (g : GroupValue). g.emitted) e
+-- a group whose members ran on along a guess has emitted what they said, and it is true
+pub ran_emitted : (old new : GroupValue) (said : List Record) → HasRunOn old new said → new.emitted ≡ old.emitted ++ said
+ran_emitted old new said h = h.emitted
+
+pub ran_true : (old new : GroupValue) (said : List Record) → HasRunOn old new said → AreTrueOfPlan old.plan said
+ran_true old new said h = h.said_true

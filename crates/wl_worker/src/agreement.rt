@@ -212,7 +212,7 @@ fn names_all(nodes: &[bool; MOST_NODES], count: u8) -> bool
 }
 
 /// Says what the members do by the current guess, if all nodes keep to it, and ends that guess. Puts what was said after the rest.
-#[tactic(auto, using(crate::proofs::Steps::appended_true, crate::proofs::Merged::told_emitted, crate::proofs::Emitted::said_more))]
+#[tactic(auto, using(crate::proofs::Steps::appended_true, crate::proofs::Merged::ran_true, crate::proofs::Merged::ran_emitted, crate::proofs::Emitted::said_more))]
 fn settle(
     alloc: Global,
     group: &mut Group,

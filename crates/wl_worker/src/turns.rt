@@ -29,7 +29,7 @@ const MOST_TURNS: u64 = 1 << 63;
 /// delay or more. It ends when all its members are at the end. If it fails, it lets the others know by `stop`.
 ///
 /// Workers share guesses by claims. A worker that is blocked may guess what all nodes do, and ask the others how far their nodes keep to
-/// that. If all nodes do so up to a tick, each worker says in place of its rows what its members do below it.
+/// that. If all nodes do so up to a tick, each worker runs its members along the guess up to there, in place of row by row.
 ///
 /// If the gate asks a restart of a turn, the group begins again before it: fresh nodes that know nothing, to which the link hands again
 /// what it handed, and which give their first silences again.
@@ -180,9 +180,9 @@ fn ask_and_wait<L: Link>(
     }
 }
 
-/// Fetches, answers the claims that came, runs the members, and gives what they said, if anything. Then it posts its own claims: what it
-/// knows itself is given before others wake. Returns whether the worker has to wait for others: the member with the least promise is
-/// blocked.
+/// Fetches, answers the claims that came, runs the members, posts its own claims, and gives what was said, if anything. Claims come first:
+/// who reads the last of them knows by the guess what all nodes do, and needn't run rows by what is given. Returns whether the worker has
+/// to wait for others: the member with the least promise is blocked.
 fn step<L: Link>(
     alloc: Global,
     group: &mut Group,
@@ -202,8 +202,8 @@ fn step<L: Link>(
     come(alloc, group, link)?;
     let answer = answer_claims(alloc, group, link, agreement)?;
     let said = say_after(alloc, group, rows, answer.said)?;
-    hand(alloc, group, link, said.records.as_slice())?;
     post(group, link, answer.claims)?;
+    hand(alloc, group, link, said.records.as_slice())?;
     Ok(said.is_blocked)
 }
 
@@ -273,7 +273,7 @@ fn say(alloc: Global, group: &mut Group, rows: u32) -> Result<Said, AllocError>
     ensures plan { group.new.plan ≡ group.old.plan }
     ensures members { belongs group.new ≡ belongs group.old }
 {
-    let mut records = Vec::new(alloc);
+    let mut records = Vec::with_capacity(alloc, 2 * rows as usize)?;
     for _ in 0..rows {
         if !run_least(group, &mut records)? {
             return Ok(Said {

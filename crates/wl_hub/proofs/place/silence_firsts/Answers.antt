@@ -1,7 +1,6 @@
-use Rattle.std.proofs.Common.{◌≡◌, ◌∙◌, ap, arith}
+use Rattle.std.proofs.Common.{◌∙◌, ap, arith}
 use Rattle.std.specs.Prelude.{unwrap_or}
 use Rattle.std.proofs.Math.ListN.{length-set}
-use Rattle.wl_hub.specs.Places.{first_word}
 use Rattle.wl_hub.specs.Words.{silence_widths}
 use Rattle.wl_hub.proofs.Shapes.{one_more_first}
 use Rattle.wl_hub.proofs.place.silence_firsts.Goals as goal
