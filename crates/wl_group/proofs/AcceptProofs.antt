@@ -1,21 +1,24 @@
 -- What a guess that is right says of the changes of each node, and that a group stays one when it says what is true.
 use Rattle.std.proofs.Common.{◌≡◌, ℕ, zero, suc, ◌+◌, ◌-◌, ◌<◌, ◌≤◌, ◌==◌, ◌&&◌, not, inl, inr, Bool, true, false, List, [], ◌∷◌, ◌++◌, length, get_or, refl, sym, ◌∙◌, ap, subst, arith, nat_lt, append-nil, append_assoc, Option, Some, Result, Ok, Err, OnOk, OnErr, slice_get}
-use Rattle.std.proofs.lemmas.Bool.{cases_lt, cases_eq, false≢true, eq-eqb}
+use Rattle.std.proofs.lemmas.Bool.{cases_lt, cases_eq, cond-true, cond-false, false≢true, eq-eqb}
+use Rattle.std.proofs.lemmas.List.Elements.{filter-append}
 use Rattle.std.proofs.lemmas.Option.{slice_get-get_or, slice_get_within}
 use Rattle.std.proofs.lemmas.List.Sums.{count_by-le-length}
 use Rattle.wl_record_core.specs.declared.record.Record.{Record}
 use Rattle.wl_record_core.specs.declared.record.Record.TheVariants.{Edge, Silence}
 use Rattle.wl_record_core.specs.Truth.{count_below, odd, IsIncreasing, IsTrueOf, AreTrueOf}
 use Rattle.wl_record_core.specs.Limits.{most_edges}
+use Rattle.wl_record_core.specs.Slots.{node_of}
 use Rattle.wl_record_core.specs.TableLaws.{TableLaws}
-use Rattle.wl_replica.specs.State.{State, state_with_record}
+use Rattle.wl_replica.specs.Laws.{IsJoining, TakingIsJoining}
+use Rattle.wl_replica.specs.State.{State, state_with_record, state_with_records}
 use Rattle.wl_plan.specs.declared.plan.Plan.{Plan}
 use Rattle.wl_plan.specs.Line.{Line}
 use Rattle.wl_plan.specs.PlanLine.{table_of, IsTrueOfPlan}
 use Rattle.wl_plan.specs.Simulation.{changes}
 use Rattle.wl_plan.specs.Sound.{IsCausal, IsSound}
 use Rattle.wl_plan.specs.SimulationLaws.{SimulationLaws}
-use Rattle.wl_group.specs.Accepted.{HasSaid}
+use Rattle.wl_group.specs.Accepted.{HasSaid, HasSaidAll, records_of}
 use Rattle.wl_group.specs.Running.{HasRunOn}
 use Rattle.wl_group.specs.declared.cell.Cell.{Cell}
 use Rattle.wl_group.specs.declared.guess.Guess.{Guess}
@@ -234,37 +237,71 @@ told_kept laws plan cells replica new emitted said r v ev k t e es =
 
 -- nothing
 pub said_nothing : (g : GroupValue) (rs : List Record) → IsGroupValue g → HasSaid g g rs rs
-said_nothing g rs v = record { value = v; plan = refl; members = refl; emitted = λ first e. e; truth = λ t. t }
+said_nothing g rs v = record {
+  value = v;
+  plan = refl;
+  members = refl;
+  emitted = λ first e. e;
+  truth = λ t. t;
+  taken = [];
+  replica = λ s first e. e ∙ ap (state_with_records s) (sym (append-nil first));
+  of_members = sym (append-nil rs);
+}
 
 -- a record
-pub said_one : (g new : GroupValue) (before after : List Record) (r : Record) → IsGroupValue new → new.plan ≡ g.plan → belongs new ≡ belongs g → IsTrueOfPlan g.plan r
-    → new.emitted ≡ g.emitted ++ r ∷ [] → after ≡ before ++ r ∷ [] → HasSaid g new before after
-said_one g new before after r value plan members t e f = record {
+pub said_one : TakingIsJoining → (g new : GroupValue) (before after : List Record) (r : Record) → IsGroupValue new → new.plan ≡ g.plan → belongs new ≡ belongs g
+    → IsTrueOfPlan g.plan r → belongs g (node_of r) ≡ true → new.replica ≡ state_with_record g.replica r → new.emitted ≡ g.emitted ++ r ∷ [] → after ≡ before ++ r ∷ []
+    → HasSaid g new before after
+said_one taking g new before after r value plan members t m d e f = record {
   value = value;
   plan = plan;
   members = members;
   emitted = λ first h. e ∙ (ap (λ rs. rs ++ r ∷ []) h ∙ (append_assoc first before (r ∷ []) ∙ ap (λ rs. first ++ rs) (sym f)));
   truth = λ all. subst (λ rs. AreTrueOf (length g.plan.nodes) (table_of g.plan) rs) (sym f)
       (true_append (length g.plan.nodes) (table_of g.plan) before (r ∷ []) all (t, tt));
+  taken = r ∷ [];
+  replica = λ s first h. d ∙ (ap (λ x. state_with_record x r) h ∙ taking.in_parts s first (r ∷ []));
+  of_members = f ∙ ap (λ rs. before ++ rs) (sym (cond-true (belongs g (node_of r)) (r ∷ []) [] m));
 }
 
 -- a record, as a group keeps it
-pub told_said : ValueLaws → (plan : Plan) (cells : List (Option Cell)) (replica new : State) (emitted said before after : List Record) (r : Record) (v : GroupValue)
-    → group_value plan cells replica emitted ≡ v → IsKept plan cells replica emitted → IsTrueOfPlan v.plan r → new ≡ state_with_record replica r
+pub told_said : ValueLaws → TakingIsJoining → (plan : Plan) (cells : List (Option Cell)) (replica new : State) (emitted said before after : List Record) (r : Record) (v : GroupValue)
+    → group_value plan cells replica emitted ≡ v → IsKept plan cells replica emitted → IsTrueOfPlan v.plan r → belongs v (node_of r) ≡ true → new ≡ state_with_record replica r
     → said ≡ emitted ++ r ∷ [] → after ≡ before ++ r ∷ [] → HasSaid v (group_value plan cells new said) before after
-told_said laws plan cells replica new emitted said before after r v ev k t e es ef =
+told_said laws taking plan cells replica new emitted said before after r v ev k t m e es ef =
     let kept = told_kept laws plan cells replica new emitted said r v ev k t e es in
     let g : GroupValue = group_value plan cells replica emitted in
     let to : GroupValue = group_value plan cells new said in
     subst (λ (x : GroupValue). HasSaid x to before after) ev
-    (said_one g to before after r kept.value refl refl (subst (λ (x : GroupValue). IsTrueOfPlan x.plan r) (sym ev) t) es ef)
+    (said_one taking g to before after r kept.value refl refl (subst (λ (x : GroupValue). IsTrueOfPlan x.plan r) (sym ev) t)
+    (subst (λ (x : GroupValue). belongs x (node_of r) ≡ true) (sym ev) m) e es ef)
 
--- nothing, where it took a record or could not
-pub said_by_take : {T E : Type 0} → ValueLaws → (g new : GroupValue) (rs : List Record) (r : Record) (result : Result T E) → IsGroupValue g → IsTrueOfPlan g.plan r
-    → OnOk result (new ≡ with_records (r ∷ []) g) → OnErr result (new ≡ g) → HasSaid g new rs rs
-said_by_take laws g new rs r (Ok x) v t ok err =
-    subst (λ y. HasSaid g y rs rs) (sym ok) (record { value = laws.takes g v (r ∷ []) (t, tt); plan = refl; members = refl; emitted = λ first e. e; truth = λ all. all })
-said_by_take laws g new rs r (Err x) v t ok err = subst (λ y. HasSaid g y rs rs) (sym err) (said_nothing g rs v)
+-- nothing, as a group keeps it
+pub told_nothing : (plan : Plan) (cells : List (Option Cell)) (replica new : State) (emitted said before after : List Record) (v : GroupValue)
+    → group_value plan cells replica emitted ≡ v → IsKept plan cells replica emitted → new ≡ replica → said ≡ emitted → after ≡ before
+    → HasSaid v (group_value plan cells new said) before after
+told_nothing plan cells replica new emitted said before after v ev k e es ef =
+    let g : GroupValue = group_value plan cells replica emitted in
+    subst (λ (x : GroupValue). HasSaid x (group_value plan cells new said) before after) ev
+    (subst (λ s. HasSaid g (group_value plan cells s said) before after) (sym e)
+    (subst (λ rs. HasSaid g (group_value plan cells replica rs) before after) (sym es)
+    (subst (λ rs. HasSaid g g before rs) (sym ef) (said_nothing g before k.value))))
+
+-- nothing, where it took a record of a node that is no member, or could not
+pub said_by_take : {T E : Type 0} → ValueLaws → TakingIsJoining → (g new : GroupValue) (rs : List Record) (r : Record) (result : Result T E) → IsGroupValue g → IsTrueOfPlan g.plan r
+    → belongs g (node_of r) ≡ false → OnOk result (new ≡ with_records (r ∷ []) g) → OnErr result (new ≡ g) → HasSaid g new rs rs
+said_by_take laws taking g new rs r (Ok x) v t other ok err =
+    subst (λ y. HasSaid g y rs rs) (sym ok) (record {
+      value = laws.takes g v (r ∷ []) (t, tt);
+      plan = refl;
+      members = refl;
+      emitted = λ first e. e;
+      truth = λ all. all;
+      taken = r ∷ [];
+      replica = λ s first h. ap (λ y. state_with_record y r) h ∙ taking.in_parts s first (r ∷ []);
+      of_members = sym (ap (λ ys. rs ++ ys) (cond-false (belongs g (node_of r)) (r ∷ []) [] other) ∙ append-nil rs);
+    })
+said_by_take laws taking g new rs r (Err x) v t other ok err = subst (λ y. HasSaid g y rs rs) (sym err) (said_nothing g rs v)
 
 -- some, and more after them
 pub said_then : (a b c : GroupValue) (xs ys zs : List Record) → HasSaid a b xs ys → HasSaid b c ys zs → HasSaid a c xs zs
@@ -276,6 +313,13 @@ said_then a b c xs ys zs first more = record {
   truth = λ t.
       subst (λ (p : Plan). AreTrueOf (length p.nodes) (table_of p) zs) first.plan
       (more.truth (subst (λ (p : Plan). AreTrueOf (length p.nodes) (table_of p) ys) (sym first.plan) (first.truth t)));
+  taken = first.taken ++ more.taken;
+  replica = λ s rs e. more.replica s (rs ++ first.taken) (first.replica s rs e) ∙ ap (state_with_records s) (append_assoc rs first.taken more.taken);
+  of_members = more.of_members
+      ∙ (ap (λ m. ys ++ records_of m more.taken) first.members
+      ∙ (ap (λ rs. rs ++ records_of (belongs a) more.taken) first.of_members
+      ∙ (append_assoc xs (records_of (belongs a) first.taken) (records_of (belongs a) more.taken)
+      ∙ ap (λ rs. xs ++ rs) (sym (filter-append (λ r. belongs a (node_of r)) first.taken more.taken)))));
 }
 
 -- some, and then nothing more
@@ -286,6 +330,12 @@ said_still a b c rs first more = record {
   members = more.members ∙ first.members;
   emitted = λ xs e. more.emitted b.emitted (sym (append-nil b.emitted)) ∙ (append-nil b.emitted ∙ first.emitted xs e);
   truth = first.truth;
+  taken = first.taken ++ more.taken;
+  replica = λ s xs e. more.replica s (xs ++ first.taken) (first.replica s xs e) ∙ ap (state_with_records s) (append_assoc xs first.taken more.taken);
+  of_members = first.of_members
+      ∙ (sym (append-nil (records_of (belongs a) first.taken))
+      ∙ (ap (λ ys. records_of (belongs a) first.taken ++ ys) (more.of_members ∙ ap (λ m. records_of m more.taken) first.members)
+      ∙ sym (filter-append (λ r. belongs a (node_of r)) first.taken more.taken)));
 }
 
 -- in all
@@ -296,6 +346,13 @@ said_in_all g new rs said = record {
   members = said.members;
   emitted = said.emitted g.emitted (sym (append-nil g.emitted));
   said_true = said.truth tt;
+}
+
+pub said_all : IsJoining → (g new : GroupValue) (rs : List Record) → HasSaid g new [] rs → HasSaidAll g new rs
+said_all joins g new rs said = record {
+  taken = said.taken;
+  replica = said.replica g.replica [] (sym (joins.neutral g.replica));
+  of_members = said.of_members;
 }
 
 pub said_is : (a b c : GroupValue) (xs ys zs : List Record) → HasSaid a b xs ys → c ≡ b → zs ≡ ys → HasSaid a c xs zs

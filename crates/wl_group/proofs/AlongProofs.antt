@@ -1,11 +1,11 @@
 -- A member that runs along a guess that is right: it finds what is thought, and the group is one after it.
-use Rattle.std.proofs.Common.{◌≡◌, ℕ, suc, ◌+◌, ◌-◌, ◌<◌, ◌≤◌, inl, inr, List, [], length, get_or, Bool, Option, Some, None, is_some, refl, sym, ◌∙◌, ap, subst, arith}
+use Rattle.std.proofs.Common.{◌≡◌, ℕ, suc, ◌+◌, ◌-◌, ◌<◌, ◌≤◌, inl, inr, List, [], append-nil, length, get_or, Bool, Option, Some, None, is_some, refl, sym, ◌∙◌, ap, subst, arith}
 use Rattle.std.proofs.Math.ListN.{set, length-set}
 use Rattle.std.proofs.lemmas.Bool.{cases_lt, cases_eq}
-use Rattle.std.proofs.lemmas.List.{get_or-set_same, get_or-set_other}
+use Rattle.std.proofs.lemmas.List.{get_or-set_same, get_or-set_other, set-get_or}
 use Rattle.wl_record_core.specs.declared.record.Record.{Record}
 use Rattle.wl_record_core.specs.Truth.{count_below}
-use Rattle.wl_replica.specs.State.{State, slots_of}
+use Rattle.wl_replica.specs.State.{State, slots_of, state_with_records}
 use Rattle.wl_replica.specs.Known.{horizon, place_horizon}
 use Rattle.wl_clock.specs.Timing.{tick_of}
 use Rattle.wl_node.specs.declared.setup.NodeSetup.{NodeSetup}
@@ -28,6 +28,7 @@ use Rattle.wl_group.specs.Kept.{ran_of, group_value, IsCell, IsKept}
 use Rattle.wl_group.specs.Running.{IsCellOf, HasNotGone}
 use Rattle.wl_group.specs.Through.{HasGoneIn}
 use Rattle.wl_group.specs.ValueLaws.{ValueLaws}
+use Rattle.wl_group.proofs.AcceptProofs.{said_nothing}
 use Rattle.wl_group.proofs.RunProofs.{same_length, cell_read, ran_is, in_plan, ran_new, cells_new, some_there}
 use Rattle.wl_group.proofs.ThroughProofs.{inside_mid}
 
@@ -168,6 +169,15 @@ cell_found plan cells replica emitted kept now view i b o cell r is =
     let f = same_length cells in
     cell_read cells i o cell (omega (arith, here, e, f)) r is
 
+-- the group of a member that was found and stays
+pub said_at_rest : (plan : Plan) (cells : List (Option Cell)) (replica : State) (emitted : List Record) (kept : IsKept plan cells replica emitted)
+    (now : GroupValue) (view : ◌≡◌ {A = GroupValue} (group_value plan cells replica emitted) now) (i : ℕ) (cell : Cell) → get_or cells i None ≡ Some cell
+    → HasSaid now (group_value plan (set cells i (Some cell)) replica emitted) [] []
+said_at_rest plan cells replica emitted kept now view i cell is =
+    let same : set cells i (Some cell) ≡ cells = ap (set cells i) (sym is) ∙ set-get_or cells i None in
+    subst (λ xs. HasSaid now (group_value plan xs replica emitted) [] []) (sym same)
+    (subst (λ (x : GroupValue). HasSaid now x [] []) (sym view) (said_nothing now [] (subst IsGroupValue view kept.value)))
+
 module _ (laws : ValueLaws) (sims : SimulationLaws) (sound : CheckedIsSound)
     (plan : Plan) (cells : List (Option Cell)) (replica : State) (emitted : List Record) (kept : IsKept plan cells replica emitted)
     (now : GroupValue) (view : ◌≡◌ {A = GroupValue} (group_value plan cells replica emitted) now) (i : ℕ) (cell : Cell) (is : get_or cells i None ≡ Some cell)
@@ -254,6 +264,9 @@ module _ (laws : ValueLaws) (sims : SimulationLaws) (sound : CheckedIsSound)
         members = λ d j. belongs_each j d;
         emitted = λ first e. e;
         truth = λ t. t;
+        taken = [];
+        replica = λ s first e. e ∙ ap (state_with_records s) (sym (append-nil first));
+        of_members = refl;
       })
 
   pub group_along : IsKept plan (set cells i (Some new)) replica emitted × HasSaid now (group_value plan (set cells i (Some new)) replica emitted) [] []

@@ -1,12 +1,13 @@
 //! What a group does by a guess to which all nodes keep.
-ghost use Rattle.std.specs.Prelude.{◌≡◌, ◌<◌, ◌≤◌, ℕ, List, length, IfOk, OnErr};
+ghost use Rattle.std.specs.Prelude.{◌≡◌, ◌<◌, ◌≤◌, ℕ, true, List, length, IfOk, OnErr};
 ghost use Rattle.wl_record_core.specs.declared.record.Record.{Record as Told};
+ghost use Rattle.wl_record_core.specs.Slots.{node_of};
 ghost use Rattle.wl_record_core.specs.Truth.{count_below};
 ghost use Rattle.wl_plan.specs.PlanLine.{line_of, table_of, IsTrueOfPlan};
 ghost use Rattle.wl_group.specs.Guess.{IsRightBelow, KeepsGuess};
 ghost use Rattle.wl_replica.specs.State.{slots_of};
 ghost use Rattle.wl_replica.specs.Known.{horizon};
-ghost use Rattle.wl_group.specs.Accepted.{HasSaid};
+ghost use Rattle.wl_group.specs.Accepted.{HasSaid, HasSaidAll};
 
 use crate::group::Group;
 use crate::guess::Guess;
@@ -30,11 +31,14 @@ impl Group {
         requires keep { (j : ℕ) → j < length self.old.plan.nodes
             → KeepsGuess (line_of self.old.plan) guess.now until j }
         ensures said { IfOk result (λ said. HasRunOn self.old self.new said.items) }
-        ensures err { OnErr result ((some : List Told) × HasRunOn self.old self.new some) }
+        ensures taken { IfOk result (λ said. HasSaidAll self.old self.new said.items) }
+        ensures err { OnErr result ((some : List Told) × HasRunOn self.old self.new some
+            × HasSaidAll self.old self.new some) }
         ensures plan { self.new.plan ≡ self.old.plan }
         ensures members { belongs self.new ≡ belongs self.old }
     {
         guess_laws();
+        wl_replica::joining_is_a_join();
         let until = until.min(self.plan.end);
         let mut said = Vec::new(alloc);
         for i in 0..self.replica.nodes() {
@@ -129,6 +133,7 @@ impl Group {
         ensures { HasSaid self.old self.new said.old.items said.new.items }
     {
         value_laws();
+        wl_replica::taking_is_joining();
         // (reading a part gives the proof what the type keeps)
         let _ = self.plan();
         if self.has(entry.node()) {
@@ -137,12 +142,14 @@ impl Group {
         self.take(entry)
     }
 
-    /// Takes a record that is true of the plan, and puts it after what was said. Refused out of memory, all is as it was.
+    /// Takes a record of a member that is true of the plan, and puts it after what was said. Refused out of memory, all is as it was.
     fn tell(&mut self, entry: Record, said: &mut Vec<Record>) -> Result<(), AllocError>
-        requires { IsTrueOfPlan self.old.plan entry }
+        requires truth { IsTrueOfPlan self.old.plan entry }
+        requires member { belongs self.old (node_of entry) ≡ true }
         ensures { HasSaid self.old self.new said.old.items said.new.items }
     {
         value_laws();
+        wl_replica::taking_is_joining();
         self.emitted.reserve(1)?;
         said.reserve(1)?;
         self.replica.take(entry)?;

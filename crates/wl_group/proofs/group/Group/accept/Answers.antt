@@ -3,7 +3,7 @@ use Rattle.std.proofs.Common.{◌≡◌, ◌≤◌, [], sym, subst, arith}
 use Rattle.wl_plan.specs.declared.plan.Plan.{Plan}
 use Rattle.wl_plan.specs.PlanLine.{line_of}
 use Rattle.wl_group.specs.Guess.{IsRightBelow}
-use Rattle.wl_group.proofs.AcceptProofs.{said_then, said_still, said_in_all}
+use Rattle.wl_group.proofs.AcceptProofs.{said_then, said_still, said_in_all, said_all}
 use Rattle.wl_group.proofs.Callers.{on_err}
 use Rattle.wl_group.proofs.group.Group.accept.Goals as goal
 use Rattle.wl_group.proofs.group.Group.accept.Goals.{After-min-until}
@@ -29,7 +29,11 @@ loop-i-preserved c =
 pub returns-in_err-learn-clause-err : goal.returns-in_err-learn-clause-err
 returns-in_err-learn-clause-err c =
     let all = said_then c.args.self.now c.loop-i.self c.learn.new.self [] c.loop-i.said.items c.learn.new.said.items c.loop-i.invariant c.learn.ensures.said in
-    on_err c.from_residual.result (c.learn.new.said.items, said_in_all c.args.self.now c.learn.new.self c.learn.new.said.items all)
+    on_err c.from_residual.result (
+      c.learn.new.said.items,
+      said_in_all c.args.self.now c.learn.new.self c.learn.new.said.items all,
+      said_all c.joining_is_a_join.ensures c.args.self.now c.learn.new.self c.learn.new.said.items all,
+    )
 
 pub loop-j-preserved : goal.loop-j-preserved
 loop-j-preserved c = said_still c.args.self.now c.loop-j.self c.run_along.new.self c.loop-i.said.items c.loop-j.invariant c.run_along.ensures
@@ -37,4 +41,11 @@ loop-j-preserved c = said_still c.args.self.now c.loop-j.self c.run_along.new.se
 pub returns-in_err-run_along-clause-err : goal.returns-in_err-run_along-clause-err
 returns-in_err-run_along-clause-err c =
     let all = said_still c.args.self.now c.loop-j.self c.run_along.new.self c.loop-i.said.items c.loop-j.invariant c.run_along.ensures in
-    on_err c.from_residual-in_err-run_along.result (c.loop-i.said.items, said_in_all c.args.self.now c.run_along.new.self c.loop-i.said.items all)
+    on_err c.from_residual-in_err-run_along.result (
+      c.loop-i.said.items,
+      said_in_all c.args.self.now c.run_along.new.self c.loop-i.said.items all,
+      said_all c.joining_is_a_join.ensures c.args.self.now c.run_along.new.self c.loop-i.said.items all,
+    )
+
+pub returns-clause-taken : goal.returns-clause-taken
+returns-clause-taken c = said_all c.joining_is_a_join.ensures c.args.self.now c.loop-j.self c.loop-i.said.items c.loop-j.invariant

@@ -5,9 +5,10 @@ use Rattle.wl_replica.specs.State.{slots_of}
 use Rattle.wl_replica.specs.Known.{place_horizon}
 use Rattle.wl_plan.specs.PlanLine.{line_of}
 use Rattle.wl_group.specs.Accepted.{HasSaid}
-use Rattle.wl_group.specs.GroupValue.{GroupValue}
+use Rattle.wl_group.specs.GroupValue.{GroupValue, IsGroupValue}
 use Rattle.wl_group.specs.Kept.{group_value, IsKept}
-use Rattle.wl_group.proofs.AlongProofs.{cell_found, group_along}
+use Rattle.wl_group.proofs.AcceptProofs.{said_nothing}
+use Rattle.wl_group.proofs.AlongProofs.{cell_found, said_at_rest, group_along}
 use Rattle.wl_group.proofs.group.Group.run_along.Goals as goal
 use Rattle.wl_group.proofs.group.Group.run_along.Goals.{After-go_along}
 
@@ -38,3 +39,16 @@ invariant_of-self-2 c = record {
 
 pub returns : goal.returns
 returns c = (along ((goal.at.returns c).After-go_along)).1
+
+-- or it stays
+pub returns-then-not-has : goal.returns-then-not-has
+returns-then-not-has c = said_nothing c.args.self.now [] (subst IsGroupValue c.self.view_is c.self.invariant.kept.value)
+
+pub returns-then-not-can_go_along : goal.returns-then-not-can_go_along
+returns-then-not-can_go_along c =
+    let now = c.args.self.now in
+    let g = c.self.inside in
+    let i = c.args.j in
+    let kept = c.self.invariant.kept in
+    let is = cell_found g.plan g.cells.items g.replica g.emitted.items kept now c.self.view_is i c.requires.node c.index_mut.result.now c.in-Some.cell c.index_mut.ensures.value c.in-Some.is in
+    said_at_rest g.plan g.cells.items g.replica g.emitted.items kept now c.self.view_is i c.in-Some.cell is
