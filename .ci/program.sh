@@ -326,12 +326,12 @@ for records in check/formats/*.json; do
   runs "JSON of $(basename "$records")" "${by_hand%.*}.toml" 0 "$records" "$room/none" "${by_hand##*.}" --format json
 done
 . .ci/settings.sh
-# Each worker has a thread of its own beside the program's, and one works on that.
+# There is a thread for each worker; the program's own is one of them.
 python3 -Bc 'import sys; sys.path.insert(0, "bench"); import worst; print(worst.plan(nodes=16, quanta=200_000))' > "$room/busy.toml"
 for workers in 1 2 3 8; do
   for link in hub mail; do
     found=$(threads "$program" run --workers "$workers" --link "$link" "$room/busy.toml")
-    is "threads of a run by $workers workers, $link: $found" [ "$found" = $((workers == 1 ? 1 : workers + 1)) ]
+    is "threads of a run by $workers workers, $link: $found" [ "$found" = "$workers" ]
   done
 done
 

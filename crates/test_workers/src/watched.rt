@@ -111,6 +111,10 @@ impl<'c, L: Link + Drop> Link for Watched<'c, L> {
         self.link.wait(until)
     }
 
+    fn is_awake(&self, until: u64) -> bool {
+        self.link.is_awake(until)
+    }
+
     fn stop(&mut self) {
         self.link.stop()
     }

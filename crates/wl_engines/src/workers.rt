@@ -45,8 +45,8 @@ fn report_by<H: Threads + Wait + Sync>(
     Ok(report(alloc, &totals)?)
 }
 
-/// Reads a plan's text, simulates the plan by `workers` workers, and writes the report of the one-thread simulation (`plan_run`). Each
-/// worker has a thread of its own, and they hand records over by this kind of link.
+/// Reads a plan's text, simulates the plan by `workers` workers, and writes the report of the one-thread simulation (`plan_run`). There is
+/// a thread for each worker, the caller's among them, and the workers hand records over by this kind of link.
 ///
 /// The whole output is made before the first write. If the input is refused, the workers have no outcome, or memory runs out, the writer
 /// isn't called; if the writer fails, a prefix of the output has been written. It refuses 0 workers and more than 8, once a plan was read.

@@ -20,6 +20,10 @@ use wl_record_core::MOST_EDGES;
 /// With fewer bits of a frame before it than these a sender isn't run ahead: the guess would cost more than it saves.
 const FEWEST_BITS: usize = 8;
 
+/// A node that sends drives dominant at least once in this number of bits: a stuff bit follows five equal ones (Bosch CAN 2.0 part A,
+/// section 5).
+const CALM_BITS: u64 = 6;
+
 /// For how many stretches a sender is run on after its CRC sequence at most; listeners acknowledge by then.
 const BITS_AFTER: u8 = 2;
 
@@ -91,12 +95,27 @@ impl Group {
         let Some(quiet) = self.quiet_from(sender) else {
             return Ok(None);
         };
+        if !self.is_calm(sender, quiet) {
+            return Ok(None);
+        }
         let Some((from, first)) = self.recessive_from(sender, quiet) else {
             return Ok(None);
         };
         let mut changes = self.changes_from(alloc, sender, first)?;
         let until = self.run_sender(sender, &mut changes)?;
         Ok(Guess::of(from, sender, changes).map(|guess| (guess, until)))
+    }
+
+    /// True if a member has run for some bits since a tick from which all other nodes are recessive: then none of them contends with it.
+    fn is_calm(&self, sender: u8, quiet: u64) -> bool {
+        if !self.has(sender) {
+            return false;
+        }
+        let node = self.node(sender);
+        let setup = node.setup();
+        let quanta = CALM_BITS.saturating_mul(setup.segments.bit_quanta());
+        let before = node.quanta().saturating_sub(quanta);
+        setup.clock.at(before.min(MOST_RUN_QUANTA)) >= quiet
     }
 
     /// Returns how many changes of a node are known before a tick.

@@ -144,7 +144,7 @@ fn workers_option<'a>(alloc: Global) -> Arg<'a>
     Arg::new(alloc, "workers")
         .long("workers")
         .value_name("N")
-        .help("How many workers simulate the plan, each on a thread of its own: 1 to 8")
+        .help("How many workers simulate the plan, with a thread for each: 1 to 8")
         .value_parser(value_parser!(u8).range(1..=8))
         .default_value("1")
 }

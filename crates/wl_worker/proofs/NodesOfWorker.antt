@@ -19,8 +19,7 @@ use Rattle.wl_serial.specs.Outcome.{outcome_of_history, node_outcome_of}
 use Rattle.wl_worker.specs.Finished.{HasFinished}
 use Rattle.wl_worker.specs.declared.link.Fault.{Fault}
 use Rattle.wl_worker.specs.declared.link.Fault.TheVariants.{Workers}
-use Rattle.wl_worker.specs.declared.threads.OfShare.{OfShare}
-use Rattle.wl_worker.specs.NodesOfWorker.{IsShare, IsDone, IsEnd, IsPromise, KeepsPromise, EndsKept, HaveEnded}
+use Rattle.wl_worker.specs.NodesOfWorker.{IsShare, IsDone, IsEnd, EndsKept, HaveEnded}
 
 -- ---- members
 
@@ -86,17 +85,18 @@ done_is plan workers worker old new s f = record {
   ended = f.ended;
 }
 
+-- a group that keeps its plan and its members keeps its share
+pub share_kept : (plan : Plan) (workers worker : ℕ) (old new : GroupValue) → IsShare plan workers worker old → new.plan ≡ old.plan → belongs new ≡ belongs old → IsShare plan workers worker new
+share_kept plan workers worker old new s p m = record {
+  plan_is = p ∙ s.plan_is;
+  members = λ i b. (λ has. (s.members i b).0 (sym (ap (λ h. h i) m) ∙ has), λ of. ap (λ h. h i) m ∙ (s.members i b).1 of);
+}
+
 -- a worker that began with its share and finished it, or failed
 pub end_is : (plan : Plan) (workers worker : ℕ) (begun : GroupValue) (end : Result GroupValue Fault) → IsShare plan workers worker begun
     → IfOk end (HasFinished begun) → IfErr end (λ fault. fault ≢ Workers) → IsEnd plan workers worker end
 end_is plan workers worker begun (Ok done) s f e = done_is plan workers worker begun done s f
 end_is plan workers worker begun (Err fault) s f e = e
-
--- what a thread that promised it came to
-pub end_of_promise : (plan : Plan) (workers worker : ℕ) (p : OfShare) (end : Result GroupValue Fault) → IsPromise plan workers worker p → KeepsPromise p end → IsEnd plan workers worker end
-end_of_promise plan workers worker p end is kept =
-    subst (λ w. IsEnd plan workers w end) is.worker_is
-    (subst (λ n. IsEnd plan n p.worker end) is.workers_are (subst (λ q. IsEnd q p.workers p.worker end) is.plan_is kept))
 
 pub both_ok : {A E : Type 0} (r : Result A E) (P Q S : A → Type 0) → ((x : A) → P x → Q x → S x) → IfOk r P → IfOk r Q → IfOk r S
 both_ok (Ok x) P Q S f p q = f x p q

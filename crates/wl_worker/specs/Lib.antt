@@ -1,6 +1,7 @@
 pub mod Agreements
 pub mod Boards
 pub mod Claims
+pub mod Crews
 pub mod Faults
 pub mod Finished
 pub mod Given

@@ -1,10 +1,9 @@
--- Which nodes a worker has, and what its thread promises. This project's profile.
+-- Which nodes a worker has, and what it comes to. This project's profile.
 use Rattle.std.specs.Prelude.{◌≡◌, ◌≢◌, ◌↔◌, ◌⊎◌, ℕ, ◌<◌, ◌%◌, List, All, length, true, Some, IsOk, Result, MatchResult, slice_index_or}
 use Rattle.wl_plan.specs.declared.plan.Plan.{Plan}
 use Rattle.wl_group.specs.GroupValue.{GroupValue, belongs}
 use Rattle.wl_worker.specs.declared.link.Fault.{Fault}
 use Rattle.wl_worker.specs.declared.link.Fault.TheVariants.{Workers, Memory}
-use Rattle.wl_worker.specs.declared.threads.OfShare.{OfShare}
 use Rattle.wl_worker.specs.Faults.{IsLowestFault}
 use Rattle.wl_worker.specs.Finished.{MembersEnded}
 
@@ -26,17 +25,7 @@ pub record IsDone (plan : Plan) (workers worker : ℕ) (g : GroupValue) : Type 0
 abbrev pub IsEnd : Plan → ℕ → ℕ → Result GroupValue Fault → Type 0
 IsEnd plan workers worker end = MatchResult end (IsDone plan workers worker) (λ fault. fault ≢ Workers)
 
--- what a worker's thread promises
-abbrev pub KeepsPromise : OfShare → Result GroupValue Fault → Type 0
-KeepsPromise p = IsEnd p.plan.value p.workers p.worker
-
--- the promise of this worker
-pub record IsPromise (plan : Plan) (workers worker : ℕ) (p : OfShare) : Type 0 where
-  pub plan_is : p.plan.value ≡ plan
-  pub workers_are : p.workers ≡ workers
-  pub worker_is : p.worker ≡ worker
-
--- what the threads of all workers came to, in order
+-- what all workers came to, in order
 abbrev pub EndsKept : Plan → ℕ → List (Result GroupValue Fault) → Type 0
 EndsKept plan workers ends = (w : ℕ) (d : Result GroupValue Fault) → w < length ends → IsEnd plan workers w (slice_index_or ends w d)
 

@@ -54,6 +54,8 @@ pub struct Bell {
     promised: Vec<AtomicU64>,
     // How many claims were put.
     claims: AtomicU64,
+    // Whether some worker stopped: 1 if so.
+    halted: AtomicU64,
     // For each worker, for which promises and claims it sleeps.
     waiting: Vec<Sleeper>,
 }
@@ -69,6 +71,7 @@ impl Bell {
             sleepers: AtomicU64::new(0),
             promised: counts(alloc, nodes)?,
             claims: AtomicU64::new(0),
+            halted: AtomicU64::new(0),
             waiting: awake(alloc, workers)?,
         })
     }
@@ -191,11 +194,17 @@ impl Bell {
         if stopped.is_none() {
             *stopped = Some(worker);
         }
+        self.halted.store(1, Ordering::SeqCst);
         self.rings.fetch_add(1, Ordering::SeqCst);
         self.rang.notify_all();
         for other in 0..self.waiting.len() {
             self.waiting[other].woken.notify_all();
         }
+    }
+
+    /// True if all nodes are promised up to a tick, this many claims were put or some worker stopped: `wait_until` would return at once.
+    pub fn is_over(&self, until: u64, claims: u64) -> bool {
+        self.is_reached(until, claims) || self.halted.load(Ordering::SeqCst) > 0
     }
 
     /// Returns the first worker that stopped, if any.
@@ -245,8 +254,8 @@ impl Bell {
         stopped
     }
 
-    // Whether the bell rang again.
-    fn has_rung(&self, heard: Rings) -> bool {
+    /// True if the bell rang again since `heard` for another worker, or some worker stopped: `wait_past` would return at once.
+    pub fn has_rung(&self, heard: Rings) -> bool {
         self.rings.load(Ordering::SeqCst) != heard.count
     }
 

@@ -59,6 +59,19 @@ impl RingCount {
         }
     }
 
+    /// True if `wait` would return at once.
+    pub(crate) fn has_rung(self, bell: &Bell) -> bool {
+        match self.rings {
+            Some(rings) => bell.has_rung(rings),
+            None => true,
+        }
+    }
+
+    /// True if `wait_until` would return at once.
+    pub(crate) fn is_reached(self, bell: &Bell, until: u64, claims: u64) -> bool {
+        self.rings.is_none() || bell.is_over(until, claims)
+    }
+
     /// Waits until all nodes are promised up to a tick, this many claims were put or some worker stopped; without a look it doesn't wait.
     /// Returns the first one that stopped.
     pub(crate) fn wait_until<R: Wait>(

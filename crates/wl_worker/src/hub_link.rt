@@ -146,6 +146,11 @@ impl<'h, R: Wait> Link for HubLink<'h, R> {
             .wait_until(self.rt, self.bell, self.worker, until, claims)
     }
 
+    fn is_awake(&self, until: u64) -> bool {
+        self.rings_seen
+            .is_reached(self.bell, until, self.claims.awaited())
+    }
+
     fn stop(&mut self) {
         self.bell.stop(self.rt, self.worker);
     }

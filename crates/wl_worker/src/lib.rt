@@ -7,6 +7,7 @@ mod board;
 mod by_links;
 mod claim;
 mod claims_seen;
+mod crew;
 mod fetch;
 mod giving;
 mod hub_link;

@@ -153,6 +153,10 @@ impl<'h, R: Wait> Link for MailLink<'h, R> {
         self.rings_seen.wait(self.rt, self.bell)
     }
 
+    fn is_awake(&self, _until: u64) -> bool {
+        self.rings_seen.has_rung(self.bell)
+    }
+
     fn stop(&mut self) {
         self.bell.stop(self.rt, self.worker);
     }

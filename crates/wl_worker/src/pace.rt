@@ -14,16 +14,20 @@ pub(crate) struct Pace {
     pub(crate) rows: u32,
     /// How many ticks a bit of node 0 takes.
     pub(crate) bit: u64,
+    /// Whether the least delay is long: then workers can run beside one another.
+    pub(crate) is_long: bool,
 }
 
 impl Pace {
     /// Returns that of the workers of a plan.
     pub(crate) fn of(plan: &CheckedPlan) -> Pace {
         let delay = plan.topology.least_delay();
+        let is_long = is_long(plan, delay);
         Pace {
             near: delay / 2,
-            rows: if is_long(plan, delay) { 4 } else { 32 },
+            rows: if is_long { 4 } else { 32 },
             bit: bit_of(plan),
+            is_long,
         }
     }
 }

@@ -1,46 +1,28 @@
-//! All workers of a plan, each in a thread of its own, and their outcome.
+//! All workers of a plan by threads, and their outcome.
 ghost use Rattle.std.specs.Prelude.{◌≡◌, ◌≢◌, ◌<◌, ◌≤◌, ◌⊎◌, ◌↔◌, ℕ, true, All, Err, IsOk, IfOk, IfErr, IfSome, IfNone, Some, get_or, length, vec_len, vec_capacity};
 ghost use Rattle.wl_plan.specs.Checked.{IsChecked};
 ghost use Rattle.wl_group.specs.GroupValue.{belongs, has_ended};
 ghost use Rattle.wl_serial.specs.Outcome.{outcome_of, node_outcome_of};
 ghost use Rattle.wl_worker.specs.Faults.{IsLowestFault, IsNextFault};
-ghost use Rattle.wl_worker.specs.NodesOfWorker.{IsEnd, IsPromise, EndsKept, HaveEnded, IsFaultOfEnds, IsFaultOfRun};
+ghost use Rattle.wl_worker.specs.NodesOfWorker.{EndsKept, HaveEnded, IsFaultOfEnds, IsFaultOfRun};
 ghost use Rattle.wl_worker.specs.PlanName.{AreNumbered};
 
 use crate::bell::MOST_WORKERS;
+use crate::crew::{Crew, OfRun};
 use crate::link::{Fault, Gate, Link};
-use crate::nodes_of_worker::share_of;
-use crate::turns::work;
 use std::alloc::{AllocError, Global};
-use std::snapshot::Snapshot;
+use std::marker::Brand;
 use std::sync::Wait;
-use std::sync::atomic::{AtomicU64, Ordering};
 use std::thread;
-use std::thread::{Promise, PromisedHandle, Scope, Threads};
+use std::thread::{Scope, Threads};
 use wl_group::Group;
 use wl_level::Listed;
 use wl_plan::{CheckedPlan, Plan};
 use wl_serial::{NodeOutcome, Outcome, node_outcome, outcome_node_by_node};
 
-/// What a worker's thread promises of the group that it hands back.
-#[derive(Drop)]
-pub(crate) struct OfShare {
-    plan: Snapshot<CheckedPlan>,
-    workers: u8,
-    worker: u8,
-}
-
-impl Promise<Result<Group, Fault>> for OfShare {
-    ghost use Rattle.wl_worker.specs.NodesOfWorker.{KeepsPromise};
-
-    ghost kept_by = { KeepsPromise };
-}
-
-/// A worker's thread, which promises what it returns.
-type Child = PromisedHandle<Result<Group, Fault>, OfShare>;
-
 /// Returns the outcome of the one-thread simulation of a plan, by one worker for each link. Link `w` is that of worker `w`, which runs the
-/// nodes `i` with `i` mod workers equal to `w`, in a thread of its own.
+/// nodes `i` with `i` mod workers equal to `w`. There is a thread for each worker, the caller's among them. It begins with that worker, and
+/// has turns of others while that one waits.
 ///
 /// If it fails there is no partial outcome. Of several faults it is the first by `Fault`'s order, and of these the lowest worker's. If no
 /// thread can be made for a worker, that worker has stopped, and no more are started.
@@ -105,8 +87,7 @@ fn outcome_of_ends(
     }
 }
 
-/// Runs all workers, each in a thread of its own, and returns their ends, in order: of all of them, or of those up to one for which no
-/// thread could be made. Refused only when out of memory, before any began.
+/// Runs all workers to their ends, and returns these, in order. Refused only when out of memory, before any began.
 fn run_all<R: Threads + Wait + Sync, L: Link + Send + Drop, G: Gate + Sync>(
     rt: &R,
     alloc: Global,
@@ -116,177 +97,93 @@ fn run_all<R: Threads + Wait + Sync, L: Link + Send + Drop, G: Gate + Sync>(
     gate: &G,
 ) -> Result<Vec<Result<Group, Fault>>, Fault>
     requires links { All (λ l. L.is_of l plan.now) links.items }
-    requires numbered { AreNumbered L.number links.items }
     requires count { vec_len links ≡ workers }
     ensures ends { IfOk result (λ ends. HaveEnded plan.now workers ends.items) }
     ensures fault { IfErr result (λ fault. fault ≡ Fault.Memory) }
 {
-    let refused = AtomicU64::new(u64::MAX);
-    let refusal = &refused;
+    run_as::<R, L, G, Brand>(rt, alloc, plan, workers, links, gate)
+}
+
+/// Does the same with types that know the run.
+fn run_as<R: Threads + Wait + Sync, L: Link + Send + Drop, G: Gate + Sync, B: OfRun + Send>(
+    rt: &R,
+    alloc: Global,
+    plan: &CheckedPlan,
+    workers: u8,
+    links: Vec<L>,
+    gate: &G,
+) -> Result<Vec<Result<Group, Fault>>, Fault>
+    requires plan { plan.now ≡ B.plan }
+    requires workers { workers ≡ B.workers }
+    requires links { All (λ l. L.is_of l plan.now) links.items }
+    requires count { vec_len links ≡ workers }
+    ensures ends { IfOk result (λ ends. HaveEnded plan.now workers ends.items) }
+    ensures fault { IfErr result (λ fault. fault ≡ Fault.Memory) }
+{
+    let ends = Vec::with_capacity(alloc, usize::from(workers))?;
+    let crew = Crew::<L, B>::new(alloc, plan, workers, links)?;
+    run_crew(rt, alloc, plan, workers, &crew, gate);
+    Ok(crew.into_ends(ends))
+}
+
+/// Runs all workers of a crew to their ends, by a thread for each worker.
+fn run_crew<R: Threads + Wait + Sync, L: Link + Send + Drop, G: Gate + Sync, B: OfRun + Send>(
+    rt: &R,
+    alloc: Global,
+    plan: &CheckedPlan,
+    workers: u8,
+    crew: &Crew<L, B>,
+    gate: &G,
+)
+    requires { plan.now ≡ B.plan }
+{
     thread::scope(
         thread::scope_env(),
         rt,
-        |scope| -> Result<Vec<Result<Group, Fault>>, Fault>
-            requires { All (λ l. L.is_of l plan.now) links.items
-                × AreNumbered L.number links.items × (vec_len links ≡ workers) }
-            ensures ends { IfOk result (λ ends. HaveEnded plan.entry.now workers ends.items) }
-            ensures fault { IfErr result (λ fault. fault ≡ Fault.Memory) }
-        { run_in(scope, rt, alloc, plan, workers, links, gate, refusal) },
-    )
-}
-
-/// Starts a thread of this scope for each link, and joins them. Room for their ends is made before the first begins.
-fn run_in<'s, E, R: Threads + Wait + Sync, L: Link + Send + Drop + 's, G: Gate + Sync>(
-    scope: &Scope<'s, E>,
-    rt: &'s R,
-    alloc: Global,
-    plan: &'s CheckedPlan,
-    workers: u8,
-    links: Vec<L>,
-    gate: &'s G,
-    refusal: &'s AtomicU64,
-) -> Result<Vec<Result<Group, Fault>>, Fault>
-    requires links { All (λ l. L.is_of l plan.now) links.items }
-    requires numbered { AreNumbered L.number links.items }
-    requires count { vec_len links ≡ workers }
-    ensures ends { IfOk result (λ ends. HaveEnded plan.now workers ends.items) }
-    ensures fault { IfErr result (λ fault. fault ≡ Fault.Memory) }
-{
-    let children = Vec::with_capacity(alloc, usize::from(workers))?;
-    let ends = Vec::with_capacity(alloc, usize::from(workers) + 1)?;
-    let (children, unstarted) = start_all(
-        scope, rt, alloc, plan, workers, links, gate, refusal, children,
+        |scope|
+            requires { plan.now ≡ B.plan }
+        { start_all(scope, rt, alloc, plan, workers, crew, gate) },
     );
-    let mut ends = join_all(rt, plan, workers, children, ends);
-    if let Some(fault) = unstarted {
-        ends.push_reserved(Err(fault));
-    }
-    Ok(ends)
 }
 
-/// Starts a thread of this scope for each link, up to one for which none can be made. Returns the threads, and the fault of that worker, if
-/// there is one.
-fn start_all<'s, E, R: Threads + Wait + Sync, L: Link + Send + Drop + 's, G: Gate + Sync>(
+/// Starts a thread of this scope for each worker but the first, up to one for which none can be made: that worker has stopped. Then it has
+/// turns of workers itself, until all have ended.
+fn start_all<'s, E, R: Wait + Sync, L: Link + Send + Drop, G: Gate + Sync, B: OfRun + Send>(
     scope: &Scope<'s, E>,
     rt: &'s R,
     alloc: Global,
     plan: &'s CheckedPlan,
     workers: u8,
-    links: Vec<L>,
+    crew: &'s Crew<L, B>,
     gate: &'s G,
-    refusal: &'s AtomicU64,
-    children: Vec<Child>,
-) -> (Vec<Child>, Option<Fault>)
-    requires links { All (λ l. L.is_of l plan.now) links.items }
-    requires numbered { AreNumbered L.number links.items }
-    requires count { vec_len links ≡ workers }
-    requires room { (vec_len children ≡ 0) × (workers ≤ vec_capacity children) }
-    ensures count { vec_len result.0 ≤ workers }
-    ensures promises { (w : ℕ) (d : _) → w < vec_len result.0
-        → IsPromise plan.now workers w (get_or result.0.items w d).promise }
-    ensures all { IfNone result.1 (vec_len result.0 ≡ workers) }
-    ensures fault { IfSome result.1 (λ fault. (fault ≢ Fault.Workers) × (vec_len result.0 < workers)) }
-    ensures worker { IfSome result.1 (λ fault. fault ≡ Fault.Worker (vec_len result.0)) }
+)
+    requires { plan.now ≡ B.plan }
 {
-    let mut children = children;
-    let mut worker = 0;
-    for link in links {
-        match start(scope, rt, alloc, plan, workers, worker, link, gate, refusal) {
-            Ok(child) => children.push_reserved(child),
-            Err(fault) => return (children, Some(fault)),
+    for worker in 1..workers {
+        if !start(scope, rt, alloc, plan, worker, crew, gate) {
+            break;
         }
-        worker += 1;
     }
-    (children, None)
+    crew.tend(rt, alloc, plan, 0, gate);
 }
 
-/// Joins the threads of workers 0, 1 and so on, and puts their ends into a list with room.
-fn join_all<R: Threads>(
-    rt: &R,
-    plan: &CheckedPlan,
-    workers: u8,
-    children: Vec<Child>,
-    ends: Vec<Result<Group, Fault>>,
-) -> Vec<Result<Group, Fault>>
-    requires promises { (w : ℕ) (d : _) → w < vec_len children
-        → IsPromise plan.now workers w (get_or children.items w d).promise }
-    requires room { (vec_len ends ≡ 0) × (vec_len children < vec_capacity ends) }
-    ensures count { vec_len result ≡ vec_len children }
-    ensures room { vec_capacity result ≡ vec_capacity ends }
-    ensures kept { EndsKept plan.now workers result.items }
-{
-    let _ = plan;
-    let _ = workers;
-    let mut ends = ends;
-    for child in children {
-        ends.push_reserved(child.join(rt));
-    }
-    ends
-}
-
-/// Starts the thread of a worker. If none can be made, the worker stops, and so do all that wait.
-fn start<'s, E, R: Wait + Sync, L: Link + Send + Drop + 's, G: Gate + Sync>(
+/// Starts a thread that has turns of workers, those of this one first. Returns false if none can be made; then the worker has stopped.
+fn start<'s, E, R: Wait + Sync, L: Link + Send + Drop, G: Gate + Sync, B: OfRun + Send>(
     scope: &Scope<'s, E>,
     rt: &'s R,
     alloc: Global,
     plan: &'s CheckedPlan,
-    workers: u8,
     worker: u8,
-    link: L,
+    crew: &'s Crew<L, B>,
     gate: &'s G,
-    refusal: &'s AtomicU64,
-) -> Result<Child, Fault>
-    requires worker { worker < workers }
-    requires link { L.is_of link plan.now }
-    requires number { L.number link ≡ worker }
-    ensures promise { IfOk result (λ child. IsPromise plan.now workers worker child.promise) }
-    ensures fault { IfErr result (λ fault. fault ≢ Fault.Workers) }
-    ensures worker { IfErr result (λ fault. fault ≡ Fault.Worker worker) }
+) -> bool
+    requires { plan.now ≡ B.plan }
 {
-    let promise = OfShare {
-        plan: Snapshot::of(plan),
-        workers,
-        worker,
-    };
-    let run = move || run_one(rt, alloc, plan, workers, worker, link, gate, refusal);
-    match scope.spawn_with(promise, run) {
-        Ok(child) => Ok(child),
-        Err(no_thread) => {
-            // Its part is run here: it stops at once, and with it all workers that wait.
-            refusal.store(u64::from(worker), Ordering::SeqCst);
-            let ended = (no_thread.value)();
-            drop(ended);
-            Err(Fault::Worker(worker))
-        }
-    }
-}
-
-/// Runs one worker, from its group before the first quanta to its end. The worker for which no thread could be made stops.
-fn run_one<R: Wait, L: Link + Drop, G: Gate>(
-    rt: &R,
-    alloc: Global,
-    plan: &CheckedPlan,
-    workers: u8,
-    worker: u8,
-    link: L,
-    gate: &G,
-    refusal: &AtomicU64,
-) -> Result<Group, Fault>
-    requires worker { worker < workers }
-    requires link { L.is_of link plan.now }
-    requires number { L.number link ≡ worker }
-    ensures { IsEnd plan.now workers worker result }
-{
-    let mut link = link;
-    if refusal.load(Ordering::SeqCst) == u64::from(worker) {
-        link.stop();
-        return Err(Fault::Worker(worker));
-    }
-    match share_of(alloc, plan, workers, worker) {
-        Ok(group) => work(rt, alloc, group, link, gate),
-        Err(AllocError) => {
-            link.stop();
-            Err(Fault::Memory)
+    match scope.spawn(move || crew.tend(rt, alloc, plan, worker, gate)) {
+        Ok(_thread) => true,
+        Err(_no_thread) => {
+            crew.give_up(rt, worker);
+            false
         }
     }
 }

@@ -2,7 +2,7 @@
 ghost use Rattle.std.specs.Prelude.{◌≡◌, ◌≢◌, ◌+◌, ◌++◌, ◌<◌, ◌≤◌, true, false, List, None, IsTrue, IfOk, IfErr, IfSome, IfNone, OnOk};
 ghost use Rattle.wl_record_core.specs.declared.record.Record.{Record as Told};
 ghost use Rattle.wl_plan.specs.declared.plan.Plan.{Plan as GivenPlan};
-ghost use Rattle.wl_group.specs.GroupValue.{belongs, may_run, initial_group};
+ghost use Rattle.wl_group.specs.GroupValue.{GroupValue, belongs, may_run, initial_group};
 ghost use Rattle.wl_worker.specs.Agreements.{IsAgreementOf};
 ghost use Rattle.wl_worker.specs.Claims.{AreClaimsOf};
 ghost use Rattle.wl_worker.specs.Handed.{AreTrueOfPlan};
@@ -20,7 +20,7 @@ use wl_group::{Group, first_silence};
 use wl_record_core::Record;
 
 /// A worker has no turn of this number: there it ends with its fault.
-const MOST_TURNS: u64 = 1 << 63;
+pub(crate) const MOST_TURNS: u64 = 1 << 63;
 
 /// Runs a group to its end, with what comes by its link.
 ///
@@ -58,8 +58,19 @@ pub fn work<R: Wait, L: Link + Drop, G: Gate>(
     }
 }
 
+/// What comes after a worker's turn.
+#[derive(Clone, Copy, Drop)]
+pub(crate) enum Next {
+    /// Its next turn.
+    Turn,
+    /// A wait until all nodes are promised up to this tick.
+    Wait(u64),
+    /// Nothing: all members are at their ends.
+    End,
+}
+
 /// Runs all turns of a worker.
-#[tactic(auto, using(crate::proofs::Emitted::gave_nothing, crate::proofs::Emitted::gave_anew, crate::proofs::Emitted::gave_more))]
+#[tactic(auto, using(crate::proofs::Emitted::gave_nothing))]
 fn run<L: Link, G: Gate>(
     alloc: Global,
     group: &mut Group,
@@ -76,30 +87,103 @@ fn run<L: Link, G: Gate>(
     let worker = link.worker();
     let pace = Pace::of(group.plan());
     let mut agreement = Agreement::new();
-    match begin(alloc, group, link) {
-        Ok(()) => (),
-        Err(fault) => return Err(fault_of(fault, worker)),
-    }
+    begin(alloc, group, link)?;
     for turn in 0..MOST_TURNS {
-        if !gate.turn(worker, turn) {
-            return Err(Fault::Worker(worker));
+        match have_turn(alloc, group, link, gate, &mut agreement, pace, turn)? {
+            Next::Turn => (),
+            Next::Wait(until) => wait_until(link, until)?,
+            Next::End => return Ok(()),
         }
-        if gate.restart(worker, turn) {
-            begin_anew(alloc, group, link).map_err(|fault| fault_of(fault, worker))?;
-        }
-        let waits = step(alloc, group, link, pace.rows, &mut agreement).map_err(|fault| fault_of(
-            fault, worker,
-        ))?;
-        let least = least_promised(group);
-        let Some(least) = least else {
-            return Ok(());
-        };
-        if !waits {
-            continue;
-        }
-        ask_and_wait(alloc, group, link, &mut agreement, pace, least)?;
     }
     Err(Fault::Worker(worker))
+}
+
+/// Begins a worker: gives the first silences of its members.
+pub(crate) fn begin<L: Link>(alloc: Global, group: &Group, link: &mut L) -> Result<(), Fault>
+    requires { L.is_of link.old group.now.plan }
+    ensures same { (p : GivenPlan) → L.is_of link.old p → L.is_of link.new p }
+    ensures gave { OnOk result (GaveFirst L.gave group.now link.old link.new) }
+    ensures fault { IfErr result (λ fault. fault ≢ Fault.Workers) }
+{
+    let worker = link.worker();
+    give_first(alloc, group, link).map_err(|fault| fault_of(fault, worker))
+}
+
+/// Waits until all nodes are promised up to a tick, or as the link waits else. It is a fault if some worker stopped.
+pub(crate) fn wait_until<L: Link>(link: &mut L, until: u64) -> Result<(), Fault>
+    ensures same { (p : GivenPlan) → L.is_of link.old p → L.is_of link.new p }
+    ensures fault { IfErr result (λ fault. fault ≢ Fault.Workers) }
+{
+    match link.wait(until) {
+        Some(stopped) => Err(Fault::Worker(stopped)),
+        None => Ok(()),
+    }
+}
+
+/// Has one turn of a worker, of this number: asks the gate, begins again if that says so, fetches, runs members, and gives what they said.
+/// If the worker is blocked then, it asks the others about a guess, if it has one. Returns what comes next.
+#[tactic(auto, using(crate::proofs::Emitted::gave_more))]
+pub(crate) fn have_turn<L: Link, G: Gate>(
+    alloc: Global,
+    group: &mut Group,
+    link: &mut L,
+    gate: &G,
+    agreement: &mut Agreement,
+    pace: Pace,
+    turn: u64,
+) -> Result<Next, Fault>
+    requires of { L.is_of link.old group.old.plan }
+    requires agreement { IsAgreementOf group.old.plan agreement.old }
+    ensures same { (p : GivenPlan) → L.is_of link.old p → L.is_of link.new p }
+    ensures agreement { IsAgreementOf group.old.plan agreement.new }
+    ensures ended { IfOk result (λ next. next ≡ Next.End → MembersEnded group.new) }
+    ensures gave { OnOk result ((first : GroupValue) → GaveSince L.gave first group.old
+        → GaveSince L.gave first group.new) }
+    ensures plan { group.new.plan ≡ group.old.plan }
+    ensures members { belongs group.new ≡ belongs group.old }
+    ensures fault { IfErr result (λ fault. fault ≢ Fault.Workers) }
+{
+    let worker = link.worker();
+    if !gate.turn(worker, turn) {
+        return Err(Fault::Worker(worker));
+    }
+    restart_if_asked(alloc, group, link, gate, turn)?;
+    let waits = step(alloc, group, link, pace.rows, agreement).map_err(|fault| fault_of(
+        fault, worker,
+    ))?;
+    let least = least_promised(group);
+    let Some(least) = least else {
+        return Ok(Next::End);
+    };
+    if !waits {
+        return Ok(Next::Turn);
+    }
+    ask(alloc, group, link, agreement, pace, least).map_err(|fault| fault_of(fault, worker))?;
+    Ok(Next::Wait(awaited_by(group, least, pace.near)))
+}
+
+/// Begins again before a turn, if the gate asks it.
+#[tactic(auto, using(crate::proofs::Emitted::gave_anew))]
+fn restart_if_asked<L: Link, G: Gate>(
+    alloc: Global,
+    group: &mut Group,
+    link: &mut L,
+    gate: &G,
+    turn: u64,
+) -> Result<(), Fault>
+    requires { L.is_of link.old group.old.plan }
+    ensures same { (p : GivenPlan) → L.is_of link.old p → L.is_of link.new p }
+    ensures gave { OnOk result ((first : GroupValue) → GaveSince L.gave first group.old
+        → GaveSince L.gave first group.new) }
+    ensures plan { group.new.plan ≡ group.old.plan }
+    ensures members { belongs group.new ≡ belongs group.old }
+    ensures fault { IfErr result (λ fault. fault ≢ Fault.Workers) }
+{
+    let worker = link.worker();
+    if !gate.restart(worker, turn) {
+        return Ok(());
+    }
+    begin_anew(alloc, group, link).map_err(|fault| fault_of(fault, worker))
 }
 
 /// Returns the worker's fault if its link has this one.
@@ -125,11 +209,11 @@ fn begin_anew<L: Link>(alloc: Global, group: &mut Group, link: &mut L) -> Result
 {
     group.restart()?;
     link.rewind();
-    begin(alloc, group, link)
+    give_first(alloc, group, link)
 }
 
 /// Gives the first silences of the group's members.
-fn begin<L: Link>(alloc: Global, group: &Group, link: &mut L) -> Result<(), LinkFault>
+fn give_first<L: Link>(alloc: Global, group: &Group, link: &mut L) -> Result<(), LinkFault>
     requires { L.is_of link.old group.now.plan }
     ensures same { (p : GivenPlan) → L.is_of link.old p → L.is_of link.new p }
     ensures rewound { L.is_rewound link.old → L.is_rewound link.new }
@@ -153,31 +237,6 @@ fn first_silences(alloc: Global, group: &Group) -> Result<Vec<Record>, AllocErro
         }
     }
     Ok(first)
-}
-
-/// Asks the others about a guess, if the group has one that may pay, and waits for them. It is a fault if some worker stopped.
-fn ask_and_wait<L: Link>(
-    alloc: Global,
-    group: &mut Group,
-    link: &mut L,
-    agreement: &mut Agreement,
-    pace: Pace,
-    least: u8,
-) -> Result<(), Fault>
-    requires of { L.is_of link.old group.old.plan }
-    requires agreement { IsAgreementOf group.old.plan agreement.old }
-    requires least { least < group.old.replica.nodes }
-    ensures same { (p : GivenPlan) → L.is_of link.old p → L.is_of link.new p }
-    ensures agreement { IsAgreementOf group.old.plan agreement.new }
-    ensures group { group.new ≡ group.old }
-    ensures fault { IfErr result (λ fault. fault ≢ Fault.Workers) }
-{
-    let worker = link.worker();
-    ask(alloc, group, link, agreement, pace, least).map_err(|fault| fault_of(fault, worker))?;
-    match link.wait(awaited_by(group, least, pace.near)) {
-        Some(stopped) => Err(Fault::Worker(stopped)),
-        None => Ok(()),
-    }
 }
 
 /// Fetches, answers the claims that came, runs the members, posts its own claims, and gives what was said, if anything. Claims come first:
