@@ -5,10 +5,13 @@ mod fault;
 mod hand_over;
 mod laws;
 mod letter;
+mod plans;
 mod post;
+mod sealed;
 mod senders;
 
 pub use fault::MailFault;
 pub use laws::taking_laws;
 pub use letter::Letter;
-pub use post::{Hold, Post, posts};
+pub use plans::{AnyPlan, KnownPlan};
+pub use post::{Hold, Post, posts, posts_of};

@@ -1,5 +1,5 @@
 -- What two claims of one guess say together.
-use Rattle.std.proofs.Common.{◌≡◌, ◌∙◌, ◌⊎◌, inl, inr, ℕ, ◌≤◌, min, Bool, true, false, ◌||◌, List, ◌++◌, refl, ap, sym, subst, arith}
+use Rattle.std.proofs.Common.{◌≡◌, ◌∙◌, ◌⊎◌, inl, inr, ℕ, ◌≤◌, min, Bool, true, false, ◌||◌, List, ◌++◌, refl, sym, subst, arith}
 use Rattle.std.specs.Arc.{arc_value}
 use Rattle.wl_plan.specs.declared.plan.Plan.{Plan}
 use Rattle.wl_plan.specs.PlanLine.{line_of}

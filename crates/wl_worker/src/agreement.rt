@@ -43,7 +43,7 @@ impl Agreement {
 /// What a worker does by the claims that came.
 #[derive(Drop)]
 pub(crate) struct Answer {
-    /// What its members said without a quantum.
+    /// What its members said by a guess.
     pub(crate) said: Vec<Record>,
     /// Its own claims, which are to be posted.
     pub(crate) claims: Vec<Claim>,

@@ -162,7 +162,7 @@ pub trait Link {
         ensures same { (p : GivenPlan) → is_of self.old p → is_of self.new p }
         ensures number { number self.new ≡ number self.old };
 
-    /// True if `wait` would return at once. A link that can't tell says so, too, and then it is `wait` that waits.
+    /// True if `wait` for this tick would return at once. A link that can't tell says so, too, and then it is `wait` that waits.
     fn is_awake(&self, until: u64) -> bool {
         let _ = until;
         true

@@ -1,6 +1,7 @@
 //! The link by letters.
-ghost use Rattle.std.specs.Prelude.{◌≡◌, ◌≤◌, All, IfOk, OnOk, vec_len};
+ghost use Rattle.std.specs.Prelude.{◌≡◌, ◌≤◌, All, IfOk, IsTrue, OnOk, Some, vec_len};
 ghost use Rattle.std.specs.Arc.{arc_value};
+ghost use Rattle.wl_mail.specs.Plans.{MayBe};
 ghost use Rattle.wl_worker.specs.Boards.{IsBoardOf};
 ghost use Rattle.wl_worker.specs.Handed.{Took, TellsNews};
 ghost use Rattle.wl_worker.specs.Letters.{HandsAll};
@@ -16,17 +17,19 @@ use crate::link::{Link, LinkFault};
 use std::alloc::{AllocError, Global};
 use std::sync::{Arc, Wait};
 use wl_group::Group;
-use wl_mail::{MailFault, Post};
+use wl_mail::{AnyPlan, KnownPlan, MailFault, Post};
 use wl_plan::Plan;
 use wl_record_core::Record;
 
 /// A link over a post, and a board of its plan. It waits at a bell, whose counts say how many letters are still to come.
 #[derive(Drop)]
-pub struct MailLink<'h, R: Wait> {
+pub struct MailLink<'h, R: Wait, B: KnownPlan = AnyPlan> {
     rt: &'h R,
-    post: Post,
+    post: Post<B>,
     // All letters of the link share it.
     plan: Arc<Plan>,
+    // Whether the type of the post says that all letters are of this plan: then none is compared.
+    is_sure: bool,
     bell: &'h Bell,
     board: &'h Board,
     worker: u8,
@@ -34,6 +37,8 @@ pub struct MailLink<'h, R: Wait> {
     claims: ClaimsSeen,
     // How often the bell had rung when the last fetch began, and for this worker since; nothing after a rewind.
     rings_seen: RingCount,
+    pub ghost fits: { MayBe B.only (arc_value plan) },
+    pub ghost sure: { IsTrue is_sure → B.only ≡ Some (arc_value plan) },
 }
 
 impl From<MailFault> for LinkFault {
@@ -51,18 +56,40 @@ impl From<MailFault> for LinkFault {
     }
 }
 
-impl<'h, R: Wait> MailLink<'h, R> {
+impl<'h, R: Wait, B: KnownPlan> MailLink<'h, R, B> {
     /// Returns the link of a worker over its post, of a plan. All links of a run share one bell, at which each gives as often as it sends,
     /// and one board of the plan. Refused only when out of memory; then the post is given up.
     pub fn new(
         rt: &'h R,
         alloc: Global,
-        post: Post,
+        post: Post<B>,
         plan: &Plan,
         bell: &'h Bell,
         board: &'h Board,
         worker: u8,
-    ) -> Result<MailLink<'h, R>, AllocError>
+    ) -> Result<MailLink<'h, R, B>, AllocError>
+        requires { MayBe B.only plan.now }
+        ensures plan { IfOk result (λ link. arc_value link.plan ≡ plan.now) }
+        ensures board { IfOk result (λ link. link.board.now ≡ board.now) }
+        ensures post { IfOk result (λ link. link.post ≡ post) }
+        ensures number { IfOk result (λ link. link.worker ≡ worker) }
+    {
+        MailLink::over(rt, alloc, post, plan, bell, board, worker, false)
+    }
+
+    /// Returns what `new` returns. If it is sure that all letters are of the plan, as their type says, the link compares no plans.
+    fn over(
+        rt: &'h R,
+        alloc: Global,
+        post: Post<B>,
+        plan: &Plan,
+        bell: &'h Bell,
+        board: &'h Board,
+        worker: u8,
+        is_sure: bool,
+    ) -> Result<MailLink<'h, R, B>, AllocError>
+        requires plan { MayBe B.only plan.now }
+        requires sure { IsTrue is_sure → B.only ≡ Some plan.now }
         ensures plan { IfOk result (λ link. arc_value link.plan ≡ plan.now) }
         ensures board { IfOk result (λ link. link.board.now ≡ board.now) }
         ensures post { IfOk result (λ link. link.post ≡ post) }
@@ -72,6 +99,7 @@ impl<'h, R: Wait> MailLink<'h, R> {
             rt,
             post,
             plan: Arc::new(alloc, plan.clone_in(alloc)?)?,
+            is_sure,
             bell,
             board,
             worker,
@@ -81,7 +109,7 @@ impl<'h, R: Wait> MailLink<'h, R> {
     }
 }
 
-impl<'h, R: Wait> Link for MailLink<'h, R> {
+impl<'h, R: Wait, B: KnownPlan> Link for MailLink<'h, R, B> {
     ghost use Rattle.std.specs.Prelude.{◌≡◌, IfOk, IsSome, OnOk, map};
     ghost use Rattle.std.specs.Arc.{arc_value};
     ghost use Rattle.wl_plan.specs.declared.plan.Plan.{Plan as GivenPlan};
@@ -126,7 +154,7 @@ impl<'h, R: Wait> Link for MailLink<'h, R> {
         let rings = self.bell.rings();
         let (sent, rings_seen) = sent_by_others(self.bell, self.worker, rings);
         self.rings_seen = rings_seen;
-        let came = receive_all(self.rt, alloc, &mut self.post, group, sent)?;
+        let came = receive_all(self.rt, alloc, &mut self.post, group, sent, self.is_sure)?;
         Ok(came)
     }
 
@@ -164,13 +192,15 @@ impl<'h, R: Wait> Link for MailLink<'h, R> {
 
 /// Hands a group all letters that a post received and hasn't handed out, and then new ones, until this many were handed out together.
 /// Returns whether that changed what the group knows.
-fn receive_all<R: Wait>(
+fn receive_all<R: Wait, B: KnownPlan>(
     rt: &R,
     alloc: Global,
-    post: &mut Post,
+    post: &mut Post<B>,
     group: &mut Group,
     sent: u64,
+    is_sure: bool,
 ) -> Result<bool, MailFault>
+    requires { IsTrue is_sure → B.only ≡ Some group.old.plan }
     ensures took { Took group.old group.new }
     ensures changed { IfOk result (λ b. TellsNews group.old group.new b) }
     ensures letters { OnOk result (HandsAll post.old post.new group.old group.new) }
@@ -179,7 +209,7 @@ fn receive_all<R: Wait>(
     let end = sent.max(post.received() as u64);
     let mut came = false;
     for _ in post.handed() as u64..end {
-        let news = post.receive(rt, alloc, group)?;
+        let news = post.receive_of(rt, alloc, group, is_sure)?;
         came |= news;
     }
     Ok(came)
@@ -187,14 +217,35 @@ fn receive_all<R: Wait>(
 
 /// Returns a link for each post, of a plan and its board: the posts are those of workers 0, 1 and so on, at most 256. Refused only when out
 /// of memory.
-pub fn mail_links<'h, R: Wait>(
+pub fn mail_links<'h, R: Wait, B: KnownPlan>(
     rt: &'h R,
     alloc: Global,
-    posts: Vec<Post>,
+    posts: Vec<Post<B>>,
     plan: &Plan,
     bell: &'h Bell,
     board: &'h Board,
-) -> Result<Vec<MailLink<'h, R>>, AllocError>
+) -> Result<Vec<MailLink<'h, R, B>>, AllocError>
+    requires { MayBe B.only plan.now }
+    ensures count { IfOk result (λ links. vec_len links ≡ vec_len posts) }
+    ensures of { IfOk result (λ links. IsBoardOf board.now plan.now
+        → All (λ link. (arc_value link.plan ≡ plan.now) × IsBoardOf link.board.now plan.now) links.items) }
+    ensures numbered { IfOk result (λ links. vec_len posts ≤ 256 → AreNumbered (λ link. link.worker) links.items) }
+{
+    links_of(rt, alloc, posts, plan, bell, board, false)
+}
+
+/// Returns what `mail_links` returns. If it is sure that all letters are of the plan, as their type says, the links compare no plans.
+pub(crate) fn links_of<'h, R: Wait, B: KnownPlan>(
+    rt: &'h R,
+    alloc: Global,
+    posts: Vec<Post<B>>,
+    plan: &Plan,
+    bell: &'h Bell,
+    board: &'h Board,
+    is_sure: bool,
+) -> Result<Vec<MailLink<'h, R, B>>, AllocError>
+    requires plan { MayBe B.only plan.now }
+    requires sure { IsTrue is_sure → B.only ≡ Some plan.now }
     ensures count { IfOk result (λ links. vec_len links ≡ vec_len posts) }
     ensures of { IfOk result (λ links. IsBoardOf board.now plan.now
         → All (λ link. (arc_value link.plan ≡ plan.now) × IsBoardOf link.board.now plan.now) links.items) }
@@ -203,7 +254,8 @@ pub fn mail_links<'h, R: Wait>(
     let mut links = Vec::new(alloc);
     let mut worker = 0u8;
     for post in posts {
-        links.push(MailLink::new(rt, alloc, post, plan, bell, board, worker)?)?;
+        let link = MailLink::over(rt, alloc, post, plan, bell, board, worker, is_sure)?;
+        links.push(link)?;
         worker = worker.saturating_add(1);
     }
     Ok(links)

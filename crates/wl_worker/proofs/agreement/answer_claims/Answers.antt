@@ -1,5 +1,5 @@
 -- What claims do to a group and its agreement, one after another.
-use Rattle.std.proofs.Common.{◌≡◌, ◌∙◌, subst}
+use Rattle.std.proofs.Common.{◌∙◌, subst}
 use Rattle.wl_plan.specs.declared.plan.Plan.{Plan}
 use Rattle.wl_worker.specs.Agreements.{IsAgreementOf}
 use Rattle.wl_worker.specs.Claims.{AreClaimsOf}

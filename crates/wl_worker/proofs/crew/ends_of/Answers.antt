@@ -1,5 +1,5 @@
 -- Each end is that of the worker at its place.
-use Rattle.std.proofs.Common.{◌≡◌, ◌+◌, length, subst, refl, arith, rules}
+use Rattle.std.proofs.Common.{◌≡◌, length, subst, refl, arith, rules}
 use Rattle.wl_worker.specs.NodesOfWorker.{IsEnd}
 use Rattle.wl_worker.proofs.NodesOfWorker.{one_behind}
 use Rattle.wl_worker.proofs.crew.ends_of.Goals as goal

@@ -1,6 +1,5 @@
 -- The group had its share before the turn, and keeps it.
 use Rattle.std.proofs.Common.{IfSome, subst}
-use Rattle.wl_group.specs.GroupValue.{GroupValue}
 use Rattle.wl_worker.specs.NodesOfWorker.{IsShare}
 use Rattle.wl_worker.proofs.NodesOfWorker.{share_kept}
 use Rattle.wl_worker.proofs.crew.next_turn.Goals as goal

@@ -1,5 +1,5 @@
 -- The links that are left are of the plan.
-use Rattle.std.proofs.Common.{◌≡◌, suc, ◌+◌, List, slice_index_or, subst, arith}
+use Rattle.std.proofs.Common.{suc, List, slice_index_or, subst, arith}
 use Rattle.wl_worker.proofs.crew.tasks_of.Goals as goal
 
 pub loop-link-preserved : goal.loop-link-preserved

@@ -1,5 +1,5 @@
 -- The claims that are left are true of the plan.
-use Rattle.std.proofs.Common.{◌≡◌, suc, List, slice_index_or, subst, arith}
+use Rattle.std.proofs.Common.{suc, List, slice_index_or, subst, arith}
 use Rattle.wl_worker.specs.declared.claim.Claim.{Claim}
 use Rattle.wl_worker.specs.Claims.{IsClaimOf}
 use Rattle.wl_worker.proofs.turns.post.Goals as goal

@@ -4,7 +4,7 @@ use Rattle.std.specs.Arc.{arc_value}
 use Rattle.wl_worker.specs.Boards.{IsBoardOf}
 use Rattle.wl_worker.proofs.Named.{board_of}
 use Rattle.wl_worker.proofs.NodesOfWorker.{one_behind}
-use Rattle.wl_worker.proofs.mail_link.mail_links.Goals as goal
+use Rattle.wl_worker.proofs.mail_link.links_of.Goals as goal
 
 pushed_all : {X : Type 0} (P : X → Type 0) (xs ys : List X) (x : X) → ys ≡ xs ++ x ∷ [] → All P xs → P x → All P ys
 pushed_all P xs ys x e all more = subst (All P) (sym e) (All-push P xs x all more)
@@ -19,8 +19,8 @@ loop-post-preserved g c =
     let next = c.saturating_add-worker.ensures in (
       (let m = was.0 in let n = pushed.len in let s = c.in-Some.ensures.steps.1 in omega arith),
       (λ i. pushed_all (λ link. (arc_value link.plan ≡ c.args.plan.now) × IsBoardOf link.board.now c.args.plan.now)
-          (vec_items c.loop-post.links) c.push.new.self.items c.in_ok-new.field-0 pushed.items (was.1 i) (c.in_ok-new.ensures.plan, board_of c.args.board.now c.in_ok-new.field-0.board.now c.args.plan.now c.in_ok-new.ensures.board i)),
+          (vec_items c.loop-post.links) c.push.new.self.items c.in_ok-link.link pushed.items (was.1 i) (c.in_ok-link.ensures.plan, board_of c.args.board.now c.in_ok-link.link.board.now c.args.plan.now c.in_ok-link.ensures.board i)),
       (let m = was.2 in let n = pushed.len in omega arith),
-      (λ k d b. one_behind c.loop-post.links.items c.push.new.self.items c.in_ok-new.field-0 (vec_len c.loop-post.links) (λ j link. link.worker ≡ min j 255)
-          pushed.items many (λ j u low. was.3 j u (omega arith)) (c.in_ok-new.ensures.number ∙ was.2) k d (let n = pushed.len in omega arith)),
+      (λ k d b. one_behind c.loop-post.links.items c.push.new.self.items c.in_ok-link.link (vec_len c.loop-post.links) (λ j link. link.worker ≡ min j 255)
+          pushed.items many (λ j u low. was.3 j u (omega arith)) (c.in_ok-link.ensures.number ∙ was.2) k d (let n = pushed.len in omega arith)),
     )

@@ -2,7 +2,7 @@ use Rattle.std.proofs.Common.{◌≡◌, ℕ, ◌+◌, ◌<◌, All, get_or, len
 use Rattle.std.specs.Arc.{arc_value}
 use Rattle.std.specs.Vec.Iter.{into_iter_len}
 use Rattle.wl_worker.specs.Boards.{IsBoardOf}
-use Rattle.wl_worker.proofs.mail_link.mail_links.Given as goal
+use Rattle.wl_worker.proofs.mail_link.links_of.Given as goal
 
 abbrev pub invariant-loop-post : goal.invariant-loop-post
 invariant-loop-post g l =
