@@ -1,11 +1,12 @@
 -- What a place finds: how long a node's level stays, what all nodes make of the line, and the disturbances.
-use Rattle.std.proofs.Common.{◌≡◌, ℕ, zero, suc, ◌+◌, ◌-◌, ◌<◌, ◌≤◌, Bool, true, false, ◌&&◌, ◌||◌, inl, inr, List, length, replicate, nat_le, refl, sym, ◌∙◌, ap, subst, arith}
+use Rattle.std.proofs.Common.{◌≡◌, ℕ, zero, suc, ◌+◌, ◌-◌, ◌<◌, ◌≤◌, Bool, true, false, ◌&&◌, ◌||◌, ◌⊎◌, inl, inr, List, [], length, replicate, nat_le, refl, sym, ◌∙◌, ap, subst, arith}
 use Rattle.std.specs.Prelude.{slice_index_or, slice_set}
 use Rattle.std.proofs.Math.ListN.{length-set}
 use Rattle.std.proofs.lemmas.Bool.{cases_lt, cases_eq, le-leb, lt-leb, and_parts, leb-true}
-use Rattle.std.proofs.lemmas.List.{get_or_past, get_or-set_same, get_or-set_other}
+use Rattle.std.proofs.lemmas.List.{get_or_past, get_or-set_same, get_or-set_other, length-replicate}
 use Rattle.wl_lattice.specs.declared.FlatWord.{FlatWord}
 use Rattle.wl_topology.specs.Driven.{driven, DrivenLaws}
+use Rattle.wl_topology.specs.Limits.{most_places}
 use Rattle.wl_record_core.specs.Truth.{odd}
 use Rattle.wl_replica.specs.Slots.{Contents, HoldsTrue}
 use Rattle.wl_replica.specs.Known.{tick_in, after_edges, run_length, horizon}
@@ -16,7 +17,8 @@ use Rattle.wl_plan.specs.Simulation.{level, changes}
 use Rattle.wl_plan.specs.Sound.{IsSound}
 use Rattle.wl_pulse.specs.declared.pulse.Pulse.{Pulse}
 use Rattle.wl_group.specs.GroupLaws.{WaveIsLevel}
-use Rattle.wl_group.specs.Heard.{AreNotAfter, HasComeBy, IsDisturbed, IsStretch, no_stretch, AreStretches, AreDisturbed}
+use Rattle.wl_group.specs.declared.heard.Source.{Source}
+use Rattle.wl_group.specs.Heard.{AreNotAfter, HasComeBy, IsHeardOf, IsDisturbed, IsStretch, no_stretch, no_source, AreStretches, AreDisturbed, AreHeardOf, ArePlaceSources}
 
 -- ---- one node
 
@@ -70,6 +72,61 @@ driven_by_one laws n delay drove i j t b h =
     let p = and_parts (nat_le (delay i j) t) (drove i (t - delay i j)) h in
     laws.dominant_from n delay drove i j t b (leb-true (delay i j) t p.0) p.1
 
+-- ---- nodes that are asked round and round
+
+-- node i is the k-th after the first of n
+abbrev pub Turn : ℕ → ℕ → ℕ → ℕ → Type 0
+Turn first n k i = (i ≡ first + k) ⊎ (i + n ≡ first + k)
+
+-- it is one of the k nodes from the first on
+abbrev pub IsAsked : ℕ → ℕ → ℕ → ℕ → Type 0
+IsAsked first n k i = (first ≤ i × i < first + k) ⊎ (i + n < first + k)
+
+pub none_asked_yet : (first n i : ℕ) → first < n → IsAsked first n 0 i → ⊥
+none_asked_yet first n i b (inl p) = let a = p.0 in let h = p.1 in omega arith
+none_asked_yet first n i b (inr h) = omega arith
+
+pub all_asked : (first n k i : ℕ) → i < n → n ≤ k → IsAsked first n k i
+all_asked first n k i b all = elim (cases_lt i first) [
+  | inl before ↦ inr (omega arith)
+  | inr after ↦ inl (after, omega arith)
+]
+
+pub next_inside : (n i next : ℕ) → i < n → (i + 1 < n → next ≡ i + 1) → (n ≤ i + 1 → next ≡ 0) → next < n
+next_inside n i next b on round = elim (cases_lt (i + 1) n) [
+  | inl more ↦ let e = on more in omega arith
+  | inr last ↦ let e = round last in omega arith
+]
+
+pub next_turn : (first n k i next : ℕ) → first < n → k < n → i < n → Turn first n k i → (i + 1 < n → next ≡ i + 1) → (n ≤ i + 1 → next ≡ 0) → Turn first n (k + 1) next
+next_turn first n k i next b few inside turn on round = elim (cases_lt (i + 1) n) [
+  | inl more ↦ let e = on more in elim turn [
+    | inl straight ↦ inl (omega arith)
+    | inr turned ↦ inr (omega arith)
+  ]
+  | inr last ↦ let e = round last in elim turn [
+    | inl straight ↦ inr (omega arith)
+    | inr turned ↦ absurd (omega arith)
+  ]
+]
+
+-- one more was asked: that one, or one before
+pub asked_or_now : (first n k i m : ℕ) → i < n → m < n → Turn first n k i → IsAsked first n (k + 1) m → (m ≡ i) ⊎ IsAsked first n k m
+asked_or_now first n k i m inside b turn (inl p) = let from = p.0 in let until = p.1 in elim (cases_eq m i) [
+  | inl same ↦ inl same
+  | inr other ↦ elim turn [
+    | inl straight ↦ inr (inl (from, omega arith))
+    | inr turned ↦ inr (inl (from, omega arith))
+  ]
+]
+asked_or_now first n k i m inside b turn (inr until) = elim (cases_eq m i) [
+  | inl same ↦ inl same
+  | inr other ↦ elim turn [
+    | inl straight ↦ absurd (omega arith)
+    | inr turned ↦ inr (inr (omega arith))
+  ]
+]
+
 -- ---- disturbances
 
 -- without a disturbance the line is as the nodes make it
@@ -77,12 +134,12 @@ pub without_disturbance : (b d v : Bool) → d ≡ false → b ≡ v → (b || d
 without_disturbance true d v none is = is
 without_disturbance false d v none is = none ∙ is
 
--- ---- the stretches that a group keeps
+-- ---- what a group keeps of each place
 
-nothing_at : (n i : ℕ) → slice_index_or (replicate n no_stretch) i no_stretch ≡ no_stretch
-nothing_at zero i = refl
-nothing_at (suc n) zero = refl
-nothing_at (suc n) (suc i) = nothing_at n i
+nothing_at : {A : Type 0} (none : A) (n i : ℕ) → slice_index_or (replicate n none) i none ≡ none
+nothing_at none zero i = refl
+nothing_at none (suc n) zero = refl
+nothing_at none (suc n) (suc i) = nothing_at none n i
 
 empty_stretch : (l : Line) (j : ℕ) → IsStretch l j no_stretch
 empty_stretch l j t from until = absurd (omega arith)
@@ -90,27 +147,53 @@ empty_stretch l j t from until = absurd (omega arith)
 empty_disturbed : (plan : Plan) (j : ℕ) → IsDisturbed plan j no_stretch
 empty_disturbed plan j t from until = absurd (omega arith)
 
+empty_source : (l : Line) (j i : ℕ) → IsHeardOf l i j no_source.heard
+empty_source l j i t from until = absurd (omega arith)
+
 pub nothing_heard : (l : Line) (n : ℕ) → AreStretches l (replicate n no_stretch)
-nothing_heard l n j = subst (IsStretch l j) (sym (nothing_at n j)) (empty_stretch l j)
+nothing_heard l n j = subst (IsStretch l j) (sym (nothing_at no_stretch n j)) (empty_stretch l j)
 
 pub nothing_disturbed : (plan : Plan) (n : ℕ) → AreDisturbed plan (replicate n no_stretch)
-nothing_disturbed plan n j = subst (IsDisturbed plan j) (sym (nothing_at n j)) (empty_disturbed plan j)
+nothing_disturbed plan n j = subst (IsDisturbed plan j) (sym (nothing_at no_stretch n j)) (empty_disturbed plan j)
 
--- with another stretch at one place
-one_set : (P : ℕ → Pulse → Type 0) → ((j : ℕ) → P j no_stretch) → (xs : List Pulse) (i : ℕ) (new : Pulse)
-    → ((j : ℕ) → P j (slice_index_or xs j no_stretch)) → P i new → (j : ℕ) → P j (slice_index_or (slice_set xs i new) j no_stretch)
-one_set P empty xs i new are is j = elim (cases_eq j i) [
-  | inl same ↦ subst (λ n. P n (slice_index_or (slice_set xs i new) n no_stretch)) (sym same) (elim (cases_lt i (length xs)) [
-    | inl there ↦ subst (P i) (sym (get_or-set_same xs i new no_stretch there)) is
+-- with another value at one place
+one_set : {A : Type 0} (P : ℕ → A → Type 0) (none : A) → ((j : ℕ) → P j none) → (xs : List A) (i : ℕ) (new : A)
+    → ((j : ℕ) → P j (slice_index_or xs j none)) → P i new → (j : ℕ) → P j (slice_index_or (slice_set xs i new) j none)
+one_set P none empty xs i new are is j = elim (cases_eq j i) [
+  | inl same ↦ subst (λ n. P n (slice_index_or (slice_set xs i new) n none)) (sym same) (elim (cases_lt i (length xs)) [
+    | inl there ↦ subst (P i) (sym (get_or-set_same xs i new none there)) is
     | inr past ↦
         let e = length-set xs i new in
-        subst (P i) (sym (get_or_past (slice_set xs i new) i no_stretch (omega arith))) (empty i)
+        subst (P i) (sym (get_or_past (slice_set xs i new) i none (omega arith))) (empty i)
   ])
-  | inr other ↦ subst (P j) (sym (get_or-set_other xs i j new no_stretch other)) (are j)
+  | inr other ↦ subst (P j) (sym (get_or-set_other xs i j new none other)) (are j)
 ]
 
 pub one_more_heard : (l : Line) (heard : List Pulse) (i : ℕ) (new : Pulse) → AreStretches l heard → IsStretch l i new → AreStretches l (slice_set heard i new)
-one_more_heard l heard i new are is = one_set (IsStretch l) (empty_stretch l) heard i new are is
+one_more_heard l heard i new are is = one_set (IsStretch l) no_stretch (empty_stretch l) heard i new are is
 
 pub one_more_disturbed : (plan : Plan) (disturbances : List Pulse) (i : ℕ) (new : Pulse) → AreDisturbed plan disturbances → IsDisturbed plan i new → AreDisturbed plan (slice_set disturbances i new)
-one_more_disturbed plan disturbances i new are is = one_set (IsDisturbed plan) (empty_disturbed plan) disturbances i new are is
+one_more_disturbed plan disturbances i new are is = one_set (IsDisturbed plan) no_stretch (empty_disturbed plan) disturbances i new are is
+
+-- what a place keeps of the nodes, with one that was asked
+pub one_more_source : (l : Line) (j : ℕ) (sources : List Source) (i : ℕ) (new : Source) → AreHeardOf l j sources → IsHeardOf l i j new.heard → AreHeardOf l j (slice_set sources i new)
+one_more_source l j sources i new are is = one_set (λ k s. IsHeardOf l k j s.heard) no_source (empty_source l j) sources i new are is
+
+no_sources : (l : Line) (j : ℕ) → AreHeardOf l j []
+no_sources l j i = empty_source l j i
+
+-- no place has asked a node
+none_asked : (l : Line) (j n m i : ℕ) → AreHeardOf l j (slice_index_or (replicate n (replicate m no_source)) i [])
+none_asked l j zero m i = no_sources l j
+none_asked l j (suc n) m zero = λ k. subst (λ (s : Source). IsHeardOf l k j s.heard) (sym (nothing_at no_source m k)) (empty_source l j k)
+none_asked l j (suc n) m (suc i) = none_asked l j n m i
+
+pub nothing_asked : (l : Line) (m : ℕ) → ArePlaceSources l (replicate most_places (replicate m no_source))
+nothing_asked l m = record { count = length-replicate most_places (replicate m no_source); each = λ j. none_asked l j most_places m j }
+
+-- with what one place keeps now
+pub one_place_more : (l : Line) (places : List (List Source)) (j : ℕ) (new : List Source) → ArePlaceSources l places → AreHeardOf l j new → ArePlaceSources l (slice_set places j new)
+one_place_more l places j new are is = record {
+  count = length-set places j new ∙ are.count;
+  each = one_set (AreHeardOf l) [] (no_sources l) places j new are.each is;
+}

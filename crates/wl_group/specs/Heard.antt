@@ -1,6 +1,7 @@
 -- What a place finds: which of a node's changes have come, and how long the line stays as it is. This project's profile.
-use Rattle.std.specs.Prelude.{ℕ, suc, ◌+◌, ◌-◌, ◌<◌, ◌≤◌, ◌&&◌, false, List, Option, nat_le, slice_index_or}
+use Rattle.std.specs.Prelude.{◌≡◌, ℕ, suc, ◌+◌, ◌-◌, ◌<◌, ◌≤◌, ◌&&◌, false, List, [], Option, length, nat_le, slice_index_or}
 use Rattle.wl_topology.specs.Driven.{driven}
+use Rattle.wl_topology.specs.Limits.{most_places}
 use Rattle.wl_record_core.specs.declared.record.Record.{Record}
 use Rattle.wl_replica.specs.Slots.{Contents}
 use Rattle.wl_replica.specs.Known.{tick_in, after_edges, run_length}
@@ -12,6 +13,7 @@ use Rattle.wl_plan.specs.Simulation.{level}
 use Rattle.wl_pulse.specs.declared.pulse.Pulse.{Pulse}
 use Rattle.wl_pulse.specs.Pulses.{IsPulse}
 use Rattle.wl_group.specs.declared.cell.Cell.{Cell}
+use Rattle.wl_group.specs.declared.heard.Source.{Source}
 use Rattle.wl_group.specs.Kept.{IsKept}
 
 -- So many of the first m changes of node i, and no more, are not after a tick.
@@ -59,8 +61,22 @@ AreStretches l heard = (j : ℕ) → IsStretch l j (slice_index_or heard j no_st
 abbrev pub AreDisturbed : Plan → List Pulse → Type 0
 AreDisturbed plan disturbances = (j : ℕ) → IsDisturbed plan j (slice_index_or disturbances j no_stretch)
 
+-- what is kept of a node that was not asked
+abbrev pub no_source : Source
+no_source = record { heard = no_stretch; come = 0 }
+
+-- what place j keeps of each node is what it finds of it alone
+abbrev pub AreHeardOf : Line → ℕ → List Source → Type 0
+AreHeardOf l j sources = (i : ℕ) → IsHeardOf l i j (slice_index_or sources i no_source).heard
+
+-- What each place keeps of the nodes.
+pub record ArePlaceSources (l : Line) (places : List (List Source)) : Type 0 where
+  pub count : length places ≡ most_places
+  pub each : (j : ℕ) → AreHeardOf l j (slice_index_or places j [])
+
 -- What a group keeps, with what its members found last.
-pub record IsKeptWithStretches (plan : Plan) (cells : List (Option Cell)) (replica : State) (emitted : List Record) (heard pulses : List Pulse) : Type 0 where
+pub record IsKeptWithStretches (plan : Plan) (cells : List (Option Cell)) (replica : State) (emitted : List Record) (heard pulses : List Pulse) (places : List (List Source)) : Type 0 where
   pub kept : IsKept plan cells replica emitted
   pub stretches : AreStretches (line_of plan) heard
   pub disturbances : AreDisturbed plan pulses
+  pub sources : ArePlaceSources (line_of plan) places

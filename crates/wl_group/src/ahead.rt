@@ -113,7 +113,7 @@ impl Group {
         let stretch = stretch_around(
             &self.plan,
             &self.replica,
-            &mut self.guesses,
+            &mut self.sources[i as usize],
             &cell.ways,
             &mut self.lead,
             self.heard[i as usize],

@@ -4,7 +4,7 @@ ghost use Rattle.std.specs.Prelude.{◌≡◌, ◌<◌, ◌≤◌, ℕ, true, Li
 
 use crate::begin::{Chosen, chosen_of, first_replica, fresh_cells};
 use crate::cell::{Cell, Ways};
-use crate::heard::{Guesses, Heard, nothing_heard};
+use crate::heard::{Heard, Sources, nothing_asked, nothing_heard};
 use crate::laws::value_laws;
 use std::alloc::{AllocError, Global};
 use std::marker::Model;
@@ -31,7 +31,8 @@ pub struct Group {
     pub(crate) far: [u8; MOST_NODES],
     // The number of the node that was found to drive dominant last: a guess, which decides nothing.
     pub(crate) lead: u8,
-    pub(crate) guesses: Guesses,
+    // For each place what it keeps of each node. They are in a `Vec`, since a group is often moved.
+    pub(crate) sources: Vec<Sources>,
     pub(crate) heard: Heard,
     pub(crate) disturbances: Heard,
 }
@@ -50,7 +51,7 @@ impl Model for Group {
     ghost view = { λ g. group_value g.plan g.cells.items g.replica g.emitted.items };
 
     ghost invariant = { λ g. IsKeptWithStretches g.plan g.cells.items g.replica g.emitted.items
-        g.heard g.disturbances };
+        g.heard g.disturbances g.sources.items };
 }
 
 impl Group {
@@ -83,6 +84,7 @@ impl Group {
         let chosen = chosen_of(members);
         let cells = fresh_cells(alloc, &plan, &chosen)?;
         let replica = first_replica(alloc, &plan, &chosen)?;
+        let sources = nothing_asked(alloc)?;
         Ok(Group {
             alloc,
             plan,
@@ -92,7 +94,7 @@ impl Group {
             awaited: [0; MOST_NODES],
             far: [1; MOST_NODES],
             lead: 0,
-            guesses: [0; MOST_NODES],
+            sources,
             heard: nothing_heard(),
             disturbances: nothing_heard(),
         })

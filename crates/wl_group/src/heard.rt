@@ -1,6 +1,6 @@
 //! What a place finds: whether the line is dominant there, and for how long it stays so, as far as that is known.
 
-ghost use Rattle.std.specs.Prelude.{◌≡◌, ◌+◌, ◌-◌, ◌<◌, ◌≤◌, ◌^◌, ℕ, IfSome, length};
+ghost use Rattle.std.specs.Prelude.{◌≡◌, ◌+◌, ◌-◌, ◌<◌, ◌≤◌, ◌^◌, ℕ, IfOk, length};
 ghost use Rattle.wl_record_core.specs.Limits.{tick_end};
 ghost use Rattle.wl_record_core.specs.Truth.{odd};
 ghost use Rattle.wl_replica.specs.State.{slots_of};
@@ -10,11 +10,12 @@ ghost use Rattle.wl_replica.specs.Slots.{HoldsTrue};
 ghost use Rattle.wl_plan.specs.Line.{Line};
 ghost use Rattle.wl_plan.specs.PlanLine.{line_of, table_of};
 ghost use Rattle.wl_plan.specs.declared.plan.Plan.{Plan as GivenPlan};
-ghost use Rattle.wl_group.specs.Heard.{AreNotAfter, edge_tick, AreStretches, AreDisturbed, HasComeBy, IsDrive, IsHeardOf, IsDriven, IsDisturbed, IsStretch};
+ghost use Rattle.wl_group.specs.Heard.{AreNotAfter, edge_tick, AreStretches, AreDisturbed, HasComeBy, IsDrive, IsHeardOf, AreHeardOf, ArePlaceSources, IsDriven, IsDisturbed, IsStretch};
 ghost use Rattle.wl_group.specs.Ways.{AreWays, way_in};
 
 use crate::cell::Ways;
 use crate::laws::true_replicas_agree;
+use std::alloc::{AllocError, Global};
 use wl_lattice::FlatWord;
 use wl_plan::CheckedPlan;
 use wl_pulse::{Pulse, SILENCE, disturbed_at};
@@ -22,9 +23,22 @@ use wl_record_core::Slot;
 use wl_replica::{Replica, Word};
 use wl_topology::MOST_NODES;
 
-/// For each node a guess how many of its changes have come: the number when a member last asked. It speeds up the next time, and decides
-/// nothing.
-pub(crate) type Guesses = [u32; MOST_NODES];
+/// What a place keeps of a node: what it found of it last while a known change was under way, and a guess how many of its changes will have
+/// come when it asks next. The guess decides nothing but speed.
+#[derive(Clone, Copy)]
+pub(crate) struct Source {
+    pub(crate) heard: Pulse,
+    pub(crate) come: u32,
+}
+
+/// What a place keeps of a node that it hasn't asked yet.
+const NO_SOURCE: Source = Source {
+    heard: SILENCE,
+    come: 0,
+};
+
+/// For each node what a place keeps of it.
+pub(crate) type Sources = [Source; MOST_NODES];
 
 /// For each node a pulse: of the line where it read it last, or of the disturbances there.
 pub(crate) type Heard = [Pulse; MOST_NODES];
@@ -35,6 +49,17 @@ pub(crate) fn nothing_heard() -> Heard
     ensures disturbances { (plan : GivenPlan) → AreDisturbed plan result }
 {
     [SILENCE; MOST_NODES]
+}
+
+/// Returns for each place the state in which it has asked no node. Refused only when out of memory.
+pub(crate) fn nothing_asked(alloc: Global) -> Result<Vec<Sources>, AllocError>
+    ensures { IfOk result (λ places. (l : Line) → ArePlaceSources l places.items) }
+{
+    let mut places = Vec::with_capacity(alloc, MOST_NODES)?;
+    for _made in 0..MOST_NODES {
+        places.push([NO_SOURCE; MOST_NODES])?;
+    }
+    Ok(places)
 }
 
 /// Returns the tick of a node's change; 0 if it isn't known.
@@ -62,33 +87,34 @@ fn sure(replica: &Replica, node: u8, tick: u64, guess: u32) -> u32
     count
 }
 
-/// Returns how many of a node's first `run` changes are not after a tick; a guess says how many it may be.
-fn changes_until(replica: &Replica, node: u8, run: u32, tick: u64, guess: u32) -> u32
-    ensures { AreNotAfter (slots_of replica.now) node run tick result }
+/// Returns how many of a node's first `run` changes are not after a tick, and the tick below which it has no more, as far as that is known. A
+/// guess says how many it may be.
+fn changes_until(
+    replica: &Replica,
+    node: u8,
+    run: u32,
+    tick: u64,
+    known: u64,
+    guess: u32,
+) -> (u32, u64)
+    ensures count { AreNotAfter (slots_of replica.now) node run tick result.0 }
+    ensures few { result.1 ≤ known }
+    ensures change { result.0 < run → result.1 ≤ edge_tick replica.now node result.0 }
+    ensures later { tick < known → tick < result.1 }
 {
     let mut count = sure(replica, node, tick, guess.min(run));
     while count < run {
-        if tick < change_at(replica, node, count) {
-            return count;
+        let next = change_at(replica, node, count);
+        if tick < next {
+            return (count, known.min(next));
         }
         count += 1;
     }
-    count
+    (count, known)
 }
 
-/// Returns the tick below which a node has no more than `count` changes, as far as it is known; `run` of them are known.
-fn kept_until(replica: &Replica, node: u8, run: u32, count: u32, known: u64) -> u64
-    ensures few { result ≤ known }
-    ensures change { count < run → result ≤ edge_tick replica.now node count }
-    ensures later { (t : ℕ) → t < known → (count < run → t < edge_tick replica.now node count) → t < result }
-{
-    if count < run {
-        return known.min(change_at(replica, node, count));
-    }
-    known
-}
-
-/// Returns what node `i` drives from tick `t` on, at which that is known: up to its next change, or as far as it is known.
+/// Returns what node `i` drives from tick `t` on, at which that is known: up to its next change, or as far as it is known. The guess for the
+/// next time is that one change more has come.
 fn drive_at(plan: &CheckedPlan, replica: &Replica, i: u8, t: u64, guess: &mut u32) -> Pulse
     requires nodes { replica.now.nodes ≡ length plan.now.nodes }
     requires truth { HoldsTrue (length plan.now.nodes) (table_of plan.now) (slots_of replica.now) }
@@ -104,11 +130,11 @@ fn drive_at(plan: &CheckedPlan, replica: &Replica, i: u8, t: u64, guess: &mut u3
     wl_replica::known_laws();
     true_replicas_agree();
     let run = replica.run_length(i);
-    let count = changes_until(replica, i, run, t, *guess);
-    *guess = count;
+    let (count, until) = changes_until(replica, i, run, t, replica.horizon(i), *guess);
+    *guess = count + 1;
     Pulse {
         from: t,
-        until: kept_until(replica, i, run, count, replica.horizon(i)),
+        until,
         dominant: count % 2 == 1,
     }
 }
@@ -175,12 +201,47 @@ fn heard_last(plan: &CheckedPlan, replica: &Replica, ways: &Ways, i: u8, j: u8, 
     }
 }
 
+/// Returns what node `j` finds of node `i` alone from tick `t` on, at which that is known, by what is kept of it. If that doesn't say it for
+/// the tick, slots are looked up, and what they say is kept.
+fn heard_again(
+    plan: &CheckedPlan,
+    replica: &Replica,
+    i: u8,
+    j: u8,
+    t: u64,
+    delay: u64,
+    source: &mut Source,
+) -> Pulse
+    requires nodes { replica.now.nodes ≡ length plan.now.nodes }
+    requires truth { HoldsTrue (length plan.now.nodes) (table_of plan.now) (slots_of replica.now) }
+    requires from { i < length plan.now.nodes }
+    requires way { delay ≡ (line_of plan.now).delay i j }
+    requires early { t < horizon (slots_of replica.now) i + (line_of plan.now).delay i j }
+    requires short { t < 2 ^ 64 - 1 }
+    requires source { IsHeardOf (line_of plan.now) i j source.old.heard }
+    ensures from { result.from ≡ t }
+    ensures until { t < result.until }
+    ensures heard { IsHeardOf (line_of plan.now) i j result }
+    ensures source { IsHeardOf (line_of plan.now) i j source.new.heard }
+{
+    if source.heard.from <= t && t < source.heard.until {
+        return Pulse {
+            from: t,
+            until: source.heard.until,
+            dominant: source.heard.dominant,
+        };
+    }
+    let heard = heard_at(plan, replica, i, j, t, delay, &mut source.come);
+    source.heard = heard;
+    heard
+}
+
 /// Returns what node `j` finds of node `i` alone from tick `t` on, at which that is known.
 #[inline(always)]
 fn heard_of(
     plan: &CheckedPlan,
     replica: &Replica,
-    guesses: &mut Guesses,
+    sources: &mut Sources,
     ways: &Ways,
     i: u8,
     j: u8,
@@ -192,57 +253,38 @@ fn heard_of(
     requires early { t < horizon (slots_of replica.now) i + (line_of plan.now).delay i j }
     requires short { t < 2 ^ 64 - 1 }
     requires ways { AreWays plan.now j ways.now }
+    requires sources { AreHeardOf (line_of plan.now) j sources.old }
     ensures from { result.from ≡ t }
     ensures until { t < result.until }
     ensures heard { IsHeardOf (line_of plan.now) i j result }
+    ensures sources { AreHeardOf (line_of plan.now) j sources.new }
 {
     plan.laws();
     let delay = ways[i as usize];
     if replica.run_end(i) + delay <= t + 1 {
         return heard_last(plan, replica, ways, i, j, t);
     }
-    heard_at(plan, replica, i, j, t, delay, &mut guesses[i as usize])
+    heard_again(plan, replica, i, j, t, delay, &mut sources[i as usize])
 }
 
-/// Returns what node `j` finds from tick `t` on of the node that was found to drive dominant last, if that one does so again.
-fn driven_again(
-    plan: &CheckedPlan,
-    replica: &Replica,
-    guesses: &mut Guesses,
-    ways: &Ways,
-    first: u8,
-    j: u8,
-    t: u64,
-) -> Option<Pulse>
-    requires nodes { replica.now.nodes ≡ length plan.now.nodes }
-    requires truth { HoldsTrue (length plan.now.nodes) (table_of plan.now) (slots_of replica.now) }
-    requires place { j < length plan.now.nodes }
-    requires known { let l = line_of plan.now in t < place_horizon l.nodes l.delay (slots_of replica.now) j }
-    requires early { t < 2 ^ 64 - 1 }
-    requires ways { AreWays plan.now j ways.now }
-    ensures from { IfSome result (λ s. s.from ≡ t) }
-    ensures until { IfSome result (λ s. t < s.until) }
-    ensures driven { IfSome result (IsDriven (line_of plan.now) j) }
+/// Returns the node after another one, round and round.
+fn node_after(i: u8, nodes: u8) -> u8
+    requires { i < nodes }
+    ensures next { i + 1 < nodes → result ≡ i + 1 }
+    ensures round { nodes ≤ i + 1 → result ≡ 0 }
 {
-    wl_replica::known_laws();
-    wl_topology::driven_laws();
-    plan.laws();
-    if first >= plan.nodes() {
-        return None;
+    if i + 1 < nodes {
+        return i + 1;
     }
-    let one = heard_of(plan, replica, guesses, ways, first, j, t);
-    if one.dominant {
-        return Some(one);
-    }
-    None
+    0
 }
 
-/// Returns what node `j` finds of all nodes from tick `t` on, at which that is known. It asks first the node that was found to drive dominant
-/// last.
+/// Returns what node `j` finds of all nodes from tick `t` on, at which that is known. It asks them round and round up to one that is
+/// dominant, first the one that was found to drive dominant last.
 fn driven_from(
     plan: &CheckedPlan,
     replica: &Replica,
-    guesses: &mut Guesses,
+    sources: &mut Sources,
     ways: &Ways,
     lead: &mut u8,
     j: u8,
@@ -254,24 +296,27 @@ fn driven_from(
     requires known { let l = line_of plan.now in t < place_horizon l.nodes l.delay (slots_of replica.now) j }
     requires early { t < 2 ^ 64 - 1 }
     requires ways { AreWays plan.now j ways.now }
+    requires sources { AreHeardOf (line_of plan.now) j sources.old }
     ensures from { result.from ≡ t }
     ensures until { t < result.until }
     ensures driven { IsDriven (line_of plan.now) j result }
+    ensures sources { AreHeardOf (line_of plan.now) j sources.new }
 {
     wl_replica::known_laws();
     wl_topology::driven_laws();
     plan.laws();
-    if let Some(again) = driven_again(plan, replica, guesses, ways, *lead, j, t) {
-        return again;
-    }
+    let nodes = plan.nodes();
+    let first = if *lead < nodes { *lead } else { 0 };
+    let mut i = first;
     let mut until = u64::MAX;
-    for i in 0..plan.nodes() {
-        let one = heard_of(plan, replica, guesses, ways, i, j, t);
+    for _asked in 0..nodes {
+        let one = heard_of(plan, replica, sources, ways, i, j, t);
         if one.dominant {
             *lead = i;
             return one;
         }
         until = until.min(one.until);
+        i = node_after(i, nodes);
     }
     Pulse {
         from: t,
@@ -323,7 +368,7 @@ pub(crate) fn disturbance_around(plan: &CheckedPlan, disturbance: Pulse, j: u8, 
 fn found_from(
     plan: &CheckedPlan,
     replica: &Replica,
-    guesses: &mut Guesses,
+    sources: &mut Sources,
     ways: &Ways,
     lead: &mut u8,
     disturbance: Pulse,
@@ -339,9 +384,11 @@ fn found_from(
     requires disturbance_from { disturbance.from ≤ t }
     requires disturbance_until { t < disturbance.until }
     requires ways { AreWays plan.now j ways.now }
+    requires sources { AreHeardOf (line_of plan.now) j sources.old }
     ensures from { result.from ≡ t }
     ensures until { t < result.until }
     ensures found { IsStretch (line_of plan.now) j result }
+    ensures sources { AreHeardOf (line_of plan.now) j sources.new }
 {
     if disturbance.dominant {
         return Pulse {
@@ -350,7 +397,7 @@ fn found_from(
             dominant: true,
         };
     }
-    let driven = driven_from(plan, replica, guesses, ways, lead, j, t);
+    let driven = driven_from(plan, replica, sources, ways, lead, j, t);
     Pulse {
         from: t,
         until: driven.until.min(disturbance.until),
@@ -363,7 +410,7 @@ fn found_from(
 pub(crate) fn stretch_around(
     plan: &CheckedPlan,
     replica: &Replica,
-    guesses: &mut Guesses,
+    sources: &mut Sources,
     ways: &Ways,
     lead: &mut u8,
     heard: Pulse,
@@ -381,12 +428,14 @@ pub(crate) fn stretch_around(
     requires disturbance_from { disturbance.from ≤ t }
     requires disturbance_until { t < disturbance.until }
     requires ways { AreWays plan.now j ways.now }
+    requires sources { AreHeardOf (line_of plan.now) j sources.old }
     ensures from { result.from ≤ t }
     ensures until { t < result.until }
     ensures found { IsStretch (line_of plan.now) j result }
+    ensures sources { AreHeardOf (line_of plan.now) j sources.new }
 {
     if heard.from <= t && t < heard.until {
         return heard;
     }
-    found_from(plan, replica, guesses, ways, lead, disturbance, j, t)
+    found_from(plan, replica, sources, ways, lead, disturbance, j, t)
 }

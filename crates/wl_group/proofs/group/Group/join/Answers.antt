@@ -11,6 +11,7 @@ invariant_of-self-2 c =
           c.self.view_is c.self.invariant.kept c.requires.nodes c.nodes.ensures.records c.requires.truth c.in_ok-join.ensures.ok;
       stretches = c.self.invariant.stretches;
       disturbances = c.self.invariant.disturbances;
+      sources = c.self.invariant.sources;
     }
 
 pub returns-clause-after : goal.returns-clause-after

@@ -71,6 +71,7 @@ invariant_of-self-in_err-kept c =
       kept = kept_stays c.value_laws.ensures c.checked_is_sound.ensures g.plan g.cells.items g.replica g.emitted.items kept now view i c.in-Some.cell is c.keeps_to.new.self c.in_err-kept.ensures.same g.replica g.emitted.items refl refl;
       stretches = c.self.invariant.stretches;
       disturbances = c.self.invariant.disturbances;
+      sources = c.self.invariant.sources;
     }
 
 pub invariant_of-self-2 : goal.invariant_of-self-2
@@ -85,6 +86,7 @@ invariant_of-self-2 c =
       kept = kept_stays c.value_laws.ensures c.checked_is_sound.ensures g.plan g.cells.items g.replica g.emitted.items kept now view i c.in-Some.cell is c.keeps_to.new.self c.in_ok-kept.ensures.same g.replica g.emitted.items refl refl;
       stretches = c.self.invariant.stretches;
       disturbances = c.self.invariant.disturbances;
+      sources = c.self.invariant.sources;
     }
 
 pub returns-in_err-kept-clause-same : goal.returns-in_err-kept-clause-same

@@ -17,6 +17,7 @@ invariant_of-result c =
           c.in_ok-cells.ensures.ran c.in_ok-cells.ensures.cells c.in_ok-replica.ensures c.new.ensures.items;
       stretches = c.nothing_heard.ensures.heard (line_of plan);
       disturbances = c.nothing_heard-2.ensures.disturbances plan;
+      sources = c.in_ok-sources.ensures (line_of plan);
     }
 
 pub returns-clause-value : goal.returns-clause-value

@@ -14,6 +14,7 @@ invariant_of-self c =
           c.in_ok-cells.ensures.ran c.in_ok-cells.ensures.cells c.in_ok-replica.ensures c.clear.ensures.items;
       stretches = c.self.invariant.stretches;
       disturbances = c.self.invariant.disturbances;
+      sources = c.self.invariant.sources;
     }
 
 pub returns-clause-ok : goal.returns-clause-ok

@@ -35,6 +35,7 @@ invariant_of-self-2 c = record {
   kept = (along ((goal.at.invariant_of-self-2 c).After-go_along)).0;
   stretches = c.self.invariant.stretches;
   disturbances = c.self.invariant.disturbances;
+  sources = c.self.invariant.sources;
 }
 
 pub returns : goal.returns

@@ -111,6 +111,7 @@ invariant_of-self c =
           c.in_err-said.ensures.not_taken c.in_err-said.ensures.not_emitted;
       stretches = c.self-2.invariant.stretches;
       disturbances = c.self-2.invariant.disturbances;
+      sources = c.self-2.invariant.sources;
     }
 
 pub returns-in_err-said-clause-err : goal.returns-in_err-said-clause-err
@@ -143,6 +144,7 @@ invariant_of-self-2 c =
           c.run_over.new.replica c.run_over.new.emitted.items c.in_ok-said.ensures.taken c.in_ok-said.ensures.emitted;
       stretches = c.self-2.invariant.stretches;
       disturbances = c.self-2.invariant.disturbances;
+      sources = c.self-2.invariant.sources;
     }
 
 pub returns-clause-gone : goal.returns-clause-gone

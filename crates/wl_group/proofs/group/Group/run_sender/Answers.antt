@@ -28,6 +28,7 @@ invariant_of-self-2 c =
       kept = kept_stays c.value_laws.ensures c.checked_is_sound.ensures g.plan g.cells.items g.replica g.emitted.items kept now view i c.in-Some.cell is c.sends_until.new.self c.sends_until.ensures.same g.replica g.emitted.items refl refl;
       stretches = c.self.invariant.stretches;
       disturbances = c.self.invariant.disturbances;
+      sources = c.self.invariant.sources;
     }
 
 pub returns : goal.returns

@@ -12,6 +12,7 @@ invariant_of-self-2 c =
           (c.push_reserved.ensures.items ∙ ap (λ xs. xs ++ c.args.entry ∷ []) c.reserve.ensures.items);
       stretches = c.self.invariant.stretches;
       disturbances = c.self.invariant.disturbances;
+      sources = c.self.invariant.sources;
     }
 
 pub returns : goal.returns
