@@ -1,4 +1,4 @@
--- Of which plan letters may be. This project's profile.
+-- The plans that letters may have. This project's profile.
 use Rattle.std.specs.Prelude.{◌≡◌, Option}
 use Rattle.std.specs.Option.{ForSome}
 use Rattle.wl_plan.specs.declared.plan.Plan.{Plan}

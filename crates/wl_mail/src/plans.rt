@@ -1,7 +1,7 @@
-//! Of which plans letters may be.
+//! The plans that letters may have.
 use std::marker::Brand;
 
-/// What the type of some posts knows of their letters: of which plan all of them are, if of one. No value of it is made.
+/// What the type of some posts knows of their letters: the one plan that all have, if they have one. No value of it is made.
 pub trait KnownPlan {
     ghost use Rattle.std.specs.Prelude.{Option};
     ghost use Rattle.wl_plan.specs.declared.plan.Plan.{Plan as GivenPlan};

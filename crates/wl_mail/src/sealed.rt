@@ -12,7 +12,7 @@ use crate::plans::KnownPlan;
 use std::marker::{Model, PhantomData};
 use wl_group::Group;
 
-/// A letter on its way, of a plan of which its type lets it be. Contracts see the letter.
+/// A letter on its way. Its type allows its plan. Contracts see the letter.
 #[derive(Drop)]
 pub(crate) struct Sealed<B: KnownPlan> {
     letter: Letter,
