@@ -10,15 +10,15 @@ use crate::nodes_of_worker::share_of;
 use crate::pace::Pace;
 use crate::turns::{MOST_TURNS, Next, begin, have_turn, wait_until};
 use std::alloc::{AllocError, Global};
-use std::hint::spin_loop;
 use std::marker::{Brand, Model, PhantomData};
 use std::sync::atomic::{AtomicU64, Ordering};
 use std::sync::{Condvar, Mutex, Wait};
+use std::thread;
 use wl_group::Group;
 use wl_plan::CheckedPlan;
 
-/// How often a thread without work looks for news before it sleeps, if delays are long.
-const LOOKS: u32 = 400;
+/// How often a thread without work looks for news before it sleeps, if delays are long. Between two looks it lets other threads run.
+const LOOKS: u32 = 1_000;
 
 /// What the types of a run know of it. No value of it is made.
 pub(crate) trait OfRun {
@@ -411,7 +411,7 @@ impl<L: Link + Drop, B: OfRun> Crew<L, B> {
                 if self.has_news(turns) {
                     return;
                 }
-                spin_loop();
+                thread::yield_now();
             }
         }
         self.idle.fetch_add(1, Ordering::SeqCst);
