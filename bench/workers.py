@@ -1,8 +1,9 @@
 #!/usr/bin/env python3
 """Measures runs by workers beside runs by one thread.
 
-usage: workers.py PROGRAM table [ROUNDS]     PROGRAM is the built wl_sim: whole processes, one thread and workers in turns on the same three plans: wall and processor
-                                             time (the median of the rounds) beside one thread's, and peak memory; the table of docs/change/speed.md
+usage: workers.py PROGRAM table [ROUNDS]     PROGRAM is the built wl_sim: whole processes, one thread and workers in turns, on the same three plans
+                                             and on a longer one with such delays: wall and processor time (the median of the rounds) beside
+                                             one thread's, and peak memory; the table of docs/change/speed.md
        workers.py PROGRAM speed [ROUNDS]     PROGRAM is the built test_workers: three plans of 16 nodes with 60,000 quanta each, by one thread and by
                                              1, 2 and 4 workers and either link in turns; the table of docs/proof/workers.md
 
@@ -27,12 +28,21 @@ LINKS = ("hub", "mail")
 RUNS = [(None, 0)] + [(link, workers) for workers in (1, 2, 4) for link in LINKS]
 
 
+def made(*words):
+    return subprocess.run([sys.executable, HERE / "plan.py", *words], capture_output=True, text=True, check=True).stdout
+
+
+def delayed(text):
+    """The plan with 400 quanta from each node to the cable."""
+    return text.replace("\nout = 40\n", "\nout = 40000\n")
+
+
 def plans():
     """The busy plan of bench/plan.py; the same with 400 quanta from each node to the cable; the same with a frame a node and no disturbances."""
-    busy = subprocess.run([sys.executable, HERE / "plan.py"], capture_output=True, text=True, check=True).stdout
+    busy = made()
     idle = re.sub(r"\n\[\[disturbance\]\]\n(?:.+\n)+", "", busy)
     idle = re.sub(r"(\n\[\[node\.frame\]\]\n(?:.+\n)+)(?:\n\[\[node\.frame\]\]\n(?:.+\n)+)*", r"\1", idle)
-    return {"busy": busy, "delays of 400 quanta": busy.replace("\nout = 40\n", "\nout = 40000\n"), "mostly idle": idle}
+    return {"busy": busy, "delays of 400 quanta": delayed(busy), "mostly idle": idle}
 
 
 def run_rows(rows, text, link, workers):
@@ -80,9 +90,11 @@ def speed(rows, rounds):
 
 
 SPENT = [0.0]  # the processor time of all children so far
+TWO, FOUR, MAIL = ["--workers", "2"], ["--workers", "4"], ["--link", "mail"]
 ASKED = [
-    ("busy", ["--workers", "2"]), ("busy", ["--workers", "4"]), ("busy", ["--workers", "4", "--link", "mail"]), ("delays of 400 quanta", ["--workers", "2"]),
-    ("delays of 400 quanta", ["--workers", "4"]), ("mostly idle", ["--workers", "2"]), ("busy", ["--workers", "8"]),
+    ("busy", TWO), ("busy", TWO + MAIL), ("busy", FOUR), ("busy", FOUR + MAIL), ("mostly idle", TWO), ("mostly idle", TWO + MAIL),
+    ("delays of 400 quanta", TWO), ("delays of 400 quanta", TWO + MAIL), ("delays of 400 quanta", FOUR), ("delays of 400 quanta", FOUR + MAIL),
+    ("these, 1,040,000 quanta", FOUR), ("these, 1,040,000 quanta", FOUR + MAIL), ("busy", ["--workers", "8"]),
 ]
 
 
@@ -98,7 +110,7 @@ def whole(words, text):
 
 
 def table(program, rounds):
-    inputs = plans()
+    inputs = plans() | {"these, 1,040,000 quanta": delayed(made("21", "1040000"))}
     whole(["true"], "")
     print("| Plan | Run | Wall, ms: one thread, workers | Ratio | Processor, ms: one thread, workers | Ratio | Peak, MiB |\n|---|---|---|---|---|---|---|")
     for name, options in ASKED:
