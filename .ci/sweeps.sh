@@ -189,18 +189,18 @@ is 'the words of a map' grep -qF '"--vary=" + quoted(`${name}=${value}..${value}
 "$program" sweep --keep-offsets --keep-ppm --vary b.ppm=-50..50:1 --vary x=0..1:1 --page "$room/pair" > "$room/map" 2> "$room/err"
 is 'cells of a greater map' [ "$(grep -c '^cell \|"cells" hidden>cell ' "$room/map")" = 202 -a ! -s "$room/err" ]
 is 'its first axis' grep -q '^axis b.ppm -50 -49 -48 ' "$room/map"
-# Progress goes to standard error from the first second on, and changes no output
-"$program" sweep --workers 1 --runs 1500 examples/sixteen_nodes.toml > "$room/without"
+# Progress goes to standard error from the first second on, and changes no output. (1,500 runs took a second on a fast machine.)
+"$program" sweep --workers 1 --runs 6000 examples/sixteen_nodes.toml > "$room/without"
 begun=${EPOCHREALTIME/./}
-"$program" sweep --workers 1 --runs 1500 --progress examples/sixteen_nodes.toml > "$room/out" 2> "$room/err"
+"$program" sweep --workers 1 --runs 6000 --progress examples/sixteen_nodes.toml > "$room/out" 2> "$room/err"
 took=$(((${EPOCHREALTIME/./} - begun) / 1000000))
-is "progress of a sweep: $(head -1 "$room/err")" [ -s "$room/err" -a -z "$(grep -vE '^progress: row 1 of 1, [0-9]+ of 1500 runs, [0-9]+ clean, [1-9][0-9]* s$' "$room/err")" ]
+is "progress of a sweep: $(head -1 "$room/err")" [ -s "$room/err" -a -z "$(grep -vE '^progress: row 1 of 1, [0-9]+ of 6000 runs, [0-9]+ clean, [1-9][0-9]* s$' "$room/err")" ]
 is "its seconds, of $took" [ "$(tail -1 "$room/err" | sed 's/.* \([0-9]*\) s$/\1/')" -le "$took" ]
 is 'and its output' cmp -s "$room/out" "$room/without"
 # Of a bus that always fails, two rows of it: no run is clean, each row is named, and lines go on
 { cat examples/sixteen_nodes.toml; printf '\n[[disturbance]]\nx = 0\nfrom = 200_000\nto = 220_000\n'; } > "$room/disturbed"
-"$program" sweep --workers 1 --runs 1500 --vary sjw=1..2:1 --progress "$room/disturbed" > "$room/out" 2> "$room/err"
-is "progress of a bus that fails: $(tail -1 "$room/err")" [ "$(grep -cE '^progress: row [12] of 2, [1-9][0-9]* of 1500 runs, 0 clean, [1-9][0-9]* s$' "$room/err")" = "$(wc -l < "$room/err")" ]
+"$program" sweep --workers 1 --runs 4000 --vary sjw=1..2:1 --progress "$room/disturbed" > "$room/out" 2> "$room/err"
+is "progress of a bus that fails: $(tail -1 "$room/err")" [ "$(grep -cE '^progress: row [12] of 2, [1-9][0-9]* of 4000 runs, 0 clean, [1-9][0-9]* s$' "$room/err")" = "$(wc -l < "$room/err")" ]
 is 'it goes on to the second row' [ "$(wc -l < "$room/err")" -gt 1 -a "$(tail -1 "$room/err" | cut -c1-19)" = 'progress: row 2 of ' ]
 "$program" sweep --workers 1 --runs 1500 --page examples/sixteen_nodes.toml > /dev/null 2> "$room/err"
 is "a map says nothing of its progress: $(head -1 "$room/err")" [ ! -s "$room/err" ]
