@@ -12,6 +12,7 @@ use Rattle.wl_group.proofs.FollowProofs.{in_list, known_kept, keeps_earlier}
 use Rattle.wl_group.proofs.OverProofs.{inside_kept}
 use Rattle.wl_group.proofs.RunProofs.{cell_read, kept_stays, value_stays}
 use Rattle.wl_group.proofs.group.Group.member_keeps_to.Goals as goal
+use Rattle.wl_group.proofs.group.Group.member_keeps_to.Goals.{In-Some}
 
 -- the member's cell, where one was found
 found : (plan : Plan) (cells : List (Option Cell)) (replica : State) (emitted : List Record) (kept : IsKept plan cells replica emitted)
@@ -19,56 +20,41 @@ found : (plan : Plan) (cells : List (Option Cell)) (replica : State) (emitted : 
     → (o : Option Cell) (cell : Cell) → o ≡ get_or cells i o → o ≡ Some cell → get_or cells i None ≡ Some cell
 found plan cells replica emitted kept now view i b o cell r is = cell_read cells i o cell (in_list plan cells replica emitted kept now view i b) r is
 
+-- the member's cell
+cell_is : (c : In-Some) → get_or c.self.inside.cells.items c.args.j None ≡ Some c.in-Some.cell
+cell_is c =
+    let g = c.self.inside in
+    found g.plan g.cells.items g.replica g.emitted.items c.self.invariant.kept c.args.self.now c.self.view_is c.args.j c.requires.node c.index_mut.result.now c.in-Some.cell
+    c.index_mut.ensures.value c.in-Some.is
+
 pub can_follow-requires-clause-cell : goal.can_follow-requires-clause-cell
 can_follow-requires-clause-cell c =
-    let now = c.args.self.now in
-    let i = c.args.j in
-    let g = c.self.inside in
-    let view = c.self.view_is in
-    let kept = c.self.invariant.kept in
-    let is = found g.plan g.cells.items g.replica g.emitted.items kept now view i c.requires.node c.index_mut.result.now c.in-Some.cell c.index_mut.ensures.value c.in-Some.is in
-    kept.placed i c.in-Some.cell is
+    let is = cell_is (goal.at.can_follow-requires-clause-cell c).In-Some in
+    c.self.invariant.kept.placed c.args.j c.in-Some.cell is
 
 pub can_follow-requires-clause-inside : goal.can_follow-requires-clause-inside
 can_follow-requires-clause-inside c =
-    let now = c.args.self.now in
-    let i = c.args.j in
     let g = c.self.inside in
-    let view = c.self.view_is in
-    let kept = c.self.invariant.kept in
-    let is = found g.plan g.cells.items g.replica g.emitted.items kept now view i c.requires.node c.index_mut.result.now c.in-Some.cell c.index_mut.ensures.value c.in-Some.is in
-    inside_kept c.value_laws.ensures c.simulation_laws.ensures c.checked_is_sound.ensures g.plan g.cells.items g.replica g.emitted.items kept now view i c.in-Some.cell is
+    let is = cell_is (goal.at.can_follow-requires-clause-inside c).In-Some in
+    inside_kept c.value_laws.ensures c.simulation_laws.ensures c.checked_is_sound.ensures g.plan g.cells.items g.replica g.emitted.items c.self.invariant.kept c.args.self.now c.self.view_is c.args.j c.in-Some.cell is
 
 pub can_follow-requires-clause-known : goal.can_follow-requires-clause-known
 can_follow-requires-clause-known c =
-    let now = c.args.self.now in
-    let i = c.args.j in
     let g = c.self.inside in
-    let view = c.self.view_is in
-    let kept = c.self.invariant.kept in
-    let is = found g.plan g.cells.items g.replica g.emitted.items kept now view i c.requires.node c.index_mut.result.now c.in-Some.cell c.index_mut.ensures.value c.in-Some.is in
-    known_kept g.plan g.cells.items g.replica g.emitted.items kept now view i c.value_laws.ensures c.simulation_laws.ensures c.checked_is_sound.ensures c.in-Some.cell is
+    let is = cell_is (goal.at.can_follow-requires-clause-known c).In-Some in
+    known_kept g.plan g.cells.items g.replica g.emitted.items c.self.invariant.kept c.args.self.now c.self.view_is c.args.j c.value_laws.ensures c.simulation_laws.ensures c.checked_is_sound.ensures c.in-Some.cell is
 
 pub keeps_to-requires-clause-cell : goal.keeps_to-requires-clause-cell
 keeps_to-requires-clause-cell c =
-    let now = c.args.self.now in
-    let i = c.args.j in
-    let g = c.self.inside in
-    let view = c.self.view_is in
-    let kept = c.self.invariant.kept in
-    let is = found g.plan g.cells.items g.replica g.emitted.items kept now view i c.requires.node c.index_mut.result.now c.in-Some.cell c.index_mut.ensures.value c.in-Some.is in
-    kept.placed i c.in-Some.cell is
+    let is = cell_is (goal.at.keeps_to-requires-clause-cell c).In-Some in
+    c.self.invariant.kept.placed c.args.j c.in-Some.cell is
 
 pub invariant_of-self-in_err-kept : goal.invariant_of-self-in_err-kept
 invariant_of-self-in_err-kept c =
-    let now = c.args.self.now in
-    let i = c.args.j in
     let g = c.self.inside in
-    let view = c.self.view_is in
-    let kept = c.self.invariant.kept in
-    let is = found g.plan g.cells.items g.replica g.emitted.items kept now view i c.requires.node c.index_mut.result.now c.in-Some.cell c.index_mut.ensures.value c.in-Some.is in
+    let is = cell_is (goal.at.invariant_of-self-in_err-kept c).In-Some in
     record {
-      kept = kept_stays c.value_laws.ensures c.checked_is_sound.ensures g.plan g.cells.items g.replica g.emitted.items kept now view i c.in-Some.cell is c.keeps_to.new.self c.in_err-kept.ensures.same g.replica g.emitted.items refl refl;
+      kept = kept_stays c.value_laws.ensures c.checked_is_sound.ensures g.plan g.cells.items g.replica g.emitted.items c.self.invariant.kept c.args.self.now c.self.view_is c.args.j c.in-Some.cell is c.keeps_to.new.self c.in_err-kept.ensures.same g.replica g.emitted.items refl refl;
       stretches = c.self.invariant.stretches;
       disturbances = c.self.invariant.disturbances;
       sources = c.self.invariant.sources;
@@ -76,14 +62,10 @@ invariant_of-self-in_err-kept c =
 
 pub invariant_of-self-2 : goal.invariant_of-self-2
 invariant_of-self-2 c =
-    let now = c.args.self.now in
-    let i = c.args.j in
     let g = c.self.inside in
-    let view = c.self.view_is in
-    let kept = c.self.invariant.kept in
-    let is = found g.plan g.cells.items g.replica g.emitted.items kept now view i c.requires.node c.index_mut.result.now c.in-Some.cell c.index_mut.ensures.value c.in-Some.is in
+    let is = cell_is (goal.at.invariant_of-self-2 c).In-Some in
     record {
-      kept = kept_stays c.value_laws.ensures c.checked_is_sound.ensures g.plan g.cells.items g.replica g.emitted.items kept now view i c.in-Some.cell is c.keeps_to.new.self c.in_ok-kept.ensures.same g.replica g.emitted.items refl refl;
+      kept = kept_stays c.value_laws.ensures c.checked_is_sound.ensures g.plan g.cells.items g.replica g.emitted.items c.self.invariant.kept c.args.self.now c.self.view_is c.args.j c.in-Some.cell is c.keeps_to.new.self c.in_ok-kept.ensures.same g.replica g.emitted.items refl refl;
       stretches = c.self.invariant.stretches;
       disturbances = c.self.invariant.disturbances;
       sources = c.self.invariant.sources;
@@ -91,23 +73,15 @@ invariant_of-self-2 c =
 
 pub returns-in_err-kept-clause-same : goal.returns-in_err-kept-clause-same
 returns-in_err-kept-clause-same c =
-    let now = c.args.self.now in
-    let i = c.args.j in
     let g = c.self.inside in
-    let view = c.self.view_is in
-    let kept = c.self.invariant.kept in
-    let is = found g.plan g.cells.items g.replica g.emitted.items kept now view i c.requires.node c.index_mut.result.now c.in-Some.cell c.index_mut.ensures.value c.in-Some.is in
-    value_stays c.value_laws.ensures c.checked_is_sound.ensures g.plan g.cells.items g.replica g.emitted.items kept now view i c.in-Some.cell is c.keeps_to.new.self c.in_err-kept.ensures.same g.replica g.emitted.items refl refl ∙ view
+    let is = cell_is (goal.at.returns-in_err-kept-clause-same c).In-Some in
+    value_stays c.value_laws.ensures c.checked_is_sound.ensures g.plan g.cells.items g.replica g.emitted.items c.self.invariant.kept c.args.self.now c.self.view_is c.args.j c.in-Some.cell is c.keeps_to.new.self c.in_err-kept.ensures.same g.replica g.emitted.items refl refl ∙ c.self.view_is
 
 pub returns-clause-same : goal.returns-clause-same
 returns-clause-same c =
-    let now = c.args.self.now in
-    let i = c.args.j in
     let g = c.self.inside in
-    let view = c.self.view_is in
-    let kept = c.self.invariant.kept in
-    let is = found g.plan g.cells.items g.replica g.emitted.items kept now view i c.requires.node c.index_mut.result.now c.in-Some.cell c.index_mut.ensures.value c.in-Some.is in
-    value_stays c.value_laws.ensures c.checked_is_sound.ensures g.plan g.cells.items g.replica g.emitted.items kept now view i c.in-Some.cell is c.keeps_to.new.self c.in_ok-kept.ensures.same g.replica g.emitted.items refl refl ∙ view
+    let is = cell_is (goal.at.returns-clause-same c).In-Some in
+    value_stays c.value_laws.ensures c.checked_is_sound.ensures g.plan g.cells.items g.replica g.emitted.items c.self.invariant.kept c.args.self.now c.self.view_is c.args.j c.in-Some.cell is c.keeps_to.new.self c.in_ok-kept.ensures.same g.replica g.emitted.items refl refl ∙ c.self.view_is
 
 pub returns-clause-keeps : goal.returns-clause-keeps
 returns-clause-keeps c member =
