@@ -64,6 +64,22 @@ for shell in bash zsh fish; do
   is "completions for $shell have each command" [ -z "$(sed -n 's/^  \([a-z]*\)  .*/\1/p' tools/help.txt | while read -r word; do grep -qw "$word" "$room/out" || echo "$word"; done)" ]
 done
 ends 2 completions && says "completions of no shell" "bash, zsh or fish"
+# What a command's help names is offered after that command: by bash as it completes, by the others anywhere
+sed -n 's/^  \([a-z]*\)  .*/\1/p' tools/help.txt | grep -vx help > "$room/commands"
+while read -r command; do
+  "$program" "$command" --help < /dev/null 2>&1 | grep -oE -- '--[a-z-]+' | sort -u > "$room/options"
+  bash -c 'source tools/completions.bash; COMP_WORDS=(wireline "$1" --) COMP_CWORD=2; _wireline; printf "%s\n" "${COMPREPLY[@]}"' - "$command" | sort -u > "$room/out"
+  is "bash offers each option of $command, and no other" cmp -s "$room/options" "$room/out"
+  for shell in zsh fish; do
+    is "$shell offers each option of $command" [ -z "$(sed 's/^--//' "$room/options" | while read -r word; do grep -qw -- "$word" tools/completions.$shell || [ "$word" = help ] || echo "$word"; done)" ]
+  done
+done < "$room/commands"
+# The script's own words may be given, too
+ends 0 check --hint "$plan"
+ends 0 check --progress "$plan"
+ends 1 check --hint "$room/input" && says "one hint" "hint: line"
+is "a hint is said once" [ "$(grep -c '^hint' "$room/err")" = 1 ]
+ends 3 check -- --hint && says "a file of that name" "file: --hint"
 bash -c 'source <(./wireline completions bash) && COMP_WORDS=(wireline v) COMP_CWORD=1 && _wireline && echo "${COMPREPLY[@]}"' > "$room/out"
 is "a command is completed" [ "$(cat "$room/out")" = vcd ]
 ln -s "$program" "$room/wl_sim"

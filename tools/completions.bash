@@ -4,14 +4,18 @@ _wireline() {
   case $before in
     --workers) mapfile -t COMPREPLY < <(compgen -W '1 2 3 4 5 6 7 8' -- "$word") && return ;;
     --link) mapfile -t COMPREPLY < <(compgen -W 'hub mail' -- "$word") && return ;;
+    --format) mapfile -t COMPREPLY < <(compgen -W 'text json csv' -- "$word") && return ;;
     completions) mapfile -t COMPREPLY < <(compgen -W 'bash zsh fish' -- "$word") && return ;;
   esac
   case ${COMP_WORDS[1]} in
-    run) options+=' --workers --link' ;;
-    candump | vcd | page | margin) options+=' --tick' ;;
-    traffic) options+=' --tick --strict' ;;
+    run) options+=' --workers --link --format' ;;
+    check | explain | trace) options+=' --format' ;;
+    candump) options+=' --tick --from' ;;
+    vcd | page) options+=' --tick' ;;
+    margin) options+=' --tick --format' ;;
+    traffic) options+=' --tick --strict --format' ;;
     settings) options+=' --tick --best --plan' ;;
-    sweep) options+=' --vary --step --runs --seed --keep-offsets --keep-ppm --worst --workers --print --page' ;;
+    sweep) options+=' --vary --step --runs --seed --keep-offsets --keep-ppm --worst --workers --print --page --format' ;;
   esac
   if [ "$COMP_CWORD" = 1 ]; then
     mapfile -t COMPREPLY < <(compgen -W 'run check explain trace candump vcd page margin traffic settings records merge horizon sweep build completions help' -- "$word")

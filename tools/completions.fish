@@ -6,6 +6,8 @@ complete -c wireline -n 'not __fish_use_subcommand' -s o -r -d 'the file to writ
 complete -c wireline -n '__fish_seen_subcommand_from run sweep' -l workers -x -a '1 2 3 4 5 6 7 8' -d 'how many threads'
 complete -c wireline -n '__fish_seen_subcommand_from run' -l link -x -a 'hub mail' -d 'what they hand records over by'
 complete -c wireline -n '__fish_seen_subcommand_from candump vcd page margin traffic settings' -l tick -x -d 'how long a tick takes'
+complete -c wireline -n '__fish_seen_subcommand_from candump' -l from -x -d 'the second of tick 0'
+complete -c wireline -n '__fish_seen_subcommand_from run check explain trace margin traffic sweep' -l format -x -a 'text json csv' -d 'the form of the output'
 complete -c wireline -n '__fish_seen_subcommand_from settings' -l best -x -d 'the most settings that are listed'
 complete -c wireline -n '__fish_seen_subcommand_from settings' -l plan -d 'the plan of the best one'
 complete -c wireline -n '__fish_seen_subcommand_from traffic' -l strict -d 'status 1 unless the run works'

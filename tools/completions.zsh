@@ -2,20 +2,24 @@
 # Completions of ./wireline for zsh: source <(./wireline completions zsh)
 _wireline() {
   local -a options=('--hint[what to change after a fault]' '--progress[how long the run has taken]' '-o[the file to write]:file:_files' '--help' '*:file:_files')
+  local format='--format[the form of the output]:form:(text json csv)'
   if (( CURRENT == 2 )); then
     compadd run check explain trace candump vcd page margin traffic settings records merge horizon sweep build completions help
     return
   fi
   case $words[2] in
-    run) options+=('--workers[how many threads]:number:(1 2 3 4 5 6 7 8)' '--link[what they hand records over by]:link:(hub mail)') ;;
-    candump | vcd | page | margin) options+=('--tick[how long a tick takes]:time:') ;;
-    traffic) options+=('--tick[how long a tick takes]:time:' '--strict[status 1 unless the run works]') ;;
+    run) options+=('--workers[how many threads]:number:(1 2 3 4 5 6 7 8)' '--link[what they hand records over by]:link:(hub mail)' $format) ;;
+    check | explain | trace) options+=($format) ;;
+    candump) options+=('--tick[how long a tick takes]:time:' '--from[the second of tick 0]:seconds:') ;;
+    vcd | page) options+=('--tick[how long a tick takes]:time:') ;;
+    margin) options+=('--tick[how long a tick takes]:time:' $format) ;;
+    traffic) options+=('--tick[how long a tick takes]:time:' '--strict[status 1 unless the run works]' $format) ;;
     settings) options+=('--tick[how long a tick takes]:time:' '--best[the most settings that are listed]:number:' '--plan[the plan of the best one]') ;;
     sweep) options+=(
       '*--vary[a row for each value]:[NODE.]KEY=A..B[\:STEP]:' '--step[ticks between two offsets]:ticks:' '--runs[the most members of a row that are run]:number:'
       '--seed[which random part]:number:' '--keep-offsets[offsets as the plan has them]' '--keep-ppm[signs as the plan has them]'
       '--worst[frames that test the clocks]' '--workers[how many threads]:number:(1 2 3 4 5 6 7 8)' '--print[one member as a plan]:number:'
-      '--page[a map as a page of HTML]'
+      '--page[a map as a page of HTML]' $format
     ) ;;
     completions) compadd bash zsh fish && return ;;
   esac
