@@ -1,31 +1,20 @@
 -- A member keeps to a guess, and goes back: the group is as it was.
-use Rattle.std.proofs.Common.{◌≡◌, ℕ, ◌<◌, List, get_or, Option, Some, None, refl, ◌∙◌, subst, arith}
-use Rattle.wl_record_core.specs.declared.record.Record.{Record}
-use Rattle.wl_replica.specs.State.{State}
-use Rattle.wl_plan.specs.declared.plan.Plan.{Plan}
+use Rattle.std.proofs.Common.{◌≡◌, get_or, Some, None, refl, ◌∙◌, subst, arith}
 use Rattle.wl_plan.specs.PlanLine.{line_of}
-use Rattle.wl_group.specs.declared.cell.Cell.{Cell}
 use Rattle.wl_group.specs.GroupValue.{GroupValue}
 use Rattle.wl_group.specs.Guess.{KeepsGuess}
-use Rattle.wl_group.specs.Kept.{group_value, IsKept}
 use Rattle.wl_group.proofs.FollowProofs.{in_list, known_kept, keeps_earlier}
 use Rattle.wl_group.proofs.OverProofs.{inside_kept}
 use Rattle.wl_group.proofs.RunProofs.{cell_read, kept_stays, value_stays}
 use Rattle.wl_group.proofs.group.Group.member_keeps_to.Goals as goal
 use Rattle.wl_group.proofs.group.Group.member_keeps_to.Goals.{In-Some}
 
--- the member's cell, where one was found
-found : (plan : Plan) (cells : List (Option Cell)) (replica : State) (emitted : List Record) (kept : IsKept plan cells replica emitted)
-    (now : GroupValue) (view : ◌≡◌ {A = GroupValue} (group_value plan cells replica emitted) now) (i : ℕ) → i < now.replica.nodes
-    → (o : Option Cell) (cell : Cell) → o ≡ get_or cells i o → o ≡ Some cell → get_or cells i None ≡ Some cell
-found plan cells replica emitted kept now view i b o cell r is = cell_read cells i o cell (in_list plan cells replica emitted kept now view i b) r is
-
 -- the member's cell
 cell_is : (c : In-Some) → get_or c.self.inside.cells.items c.args.j None ≡ Some c.in-Some.cell
 cell_is c =
     let g = c.self.inside in
-    found g.plan g.cells.items g.replica g.emitted.items c.self.invariant.kept c.args.self.now c.self.view_is c.args.j c.requires.node c.index_mut.result.now c.in-Some.cell
-    c.index_mut.ensures.value c.in-Some.is
+    let b = in_list g.plan g.cells.items g.replica g.emitted.items c.self.invariant.kept c.args.self.now c.self.view_is c.args.j c.requires.node in
+    cell_read g.cells.items c.args.j c.index_mut.result.now c.in-Some.cell b c.index_mut.ensures.value c.in-Some.is
 
 pub can_follow-requires-clause-cell : goal.can_follow-requires-clause-cell
 can_follow-requires-clause-cell c =
