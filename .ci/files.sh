@@ -42,7 +42,18 @@ cp "$plan" "$files/in" && said 'input as output' 0 '' run in -o in && holds 'inp
 cp "$plan" "$files/in" && ln -sf in "$files/link" && said 'a link as output' 0 '' run in -o link && holds 'a link as output' in "$report"
 is 'a link stays' [ -L "$files/link" ]
 cp "$plan" "$files/in" && (cd "$files" && "$program" run -o in < in) && holds 'standard input as output' in "$report"
-cp "$plan" "$files/in" && (cd "$files" && "$program" run in -o /proc/self/fd/0 < in) && holds 'a descriptor as output' in "$report"
+# A file that a descriptor has open is written on by others, too: it isn't replaced. A pipe there is written as it is
+ln -s /dev/stdout "$files/stdout"
+for name in /dev/stdout /dev/fd/1 /proc/self/fd/1 stdout; do
+  ended=0
+  (cd "$files" && { echo before; "$program" run "$plan" -o "$name"; } > kept 2> "$room/err") || ended=$?
+  is "the descriptor $name as output (status $ended)" [ "$ended" = 3 ] && holds "the descriptor $name stays" kept <(echo before)
+  is "that is told of $name" [ "$(cat "$room/err")" = "fault: Write
+file: $name" ]
+  is "the descriptor $name of a pipe" [ "$( (cd "$files" && "$program" run "$plan" -o "$name") | cmp - "$report" 2>&1)" = '' ]
+done
+cp "$plan" "$files/in" && ended=0 && (cd "$files" && "$program" run in -o /proc/self/fd/0 < in 2> "$room/err") || ended=$?
+is "the input's descriptor as output (status $ended)" [ "$ended" = 3 ] && holds "the input's descriptor stays" in "$plan"
 chmod 640 "$files/in" && cp "$plan" "$files/plan" && said 'rights' 0 '' run plan -o in && is 'the rights stay' [ "$(stat -c %a "$files/in")" = 640 ]
 mkfifo "$files/pipe" && (cat "$files/pipe" > "$files/through" & "$program" run "$plan" -o "$files/pipe"; wait) && holds 'a pipe' through "$report"
 (cat "$plan" > "$files/pipe" & "$program" run "$files/pipe" > "$files/through"; wait) && holds 'a pipe to read' through "$report"

@@ -12,6 +12,12 @@ use wl_device::{Got, Host, Put, Sink, Source};
 /// How many names are tried for a new file.
 const MOST_NAMES: u32 = 1000;
 
+/// How many links in a row are followed at most.
+const MOST_LINKS: u32 = 40;
+
+/// The folder in which the system keeps the files that a process has open, by their descriptors (Linux, proc(5)).
+const PROCESSES: &str = "/proc/";
+
 /// The files of the system, by their paths. A path is relative to the working folder, or begins with `/`.
 #[derive(Drop)]
 pub struct SystemFolder<'a, R: Files> {
@@ -66,6 +72,53 @@ fn followed<R: Files>(files: &R, alloc: Global, name: &str) -> Result<String, Be
         Ok(_) => own(alloc, name),
         Err(error) => Err(fault_of(&error)),
     }
+}
+
+/// True if a path is that of an open descriptor, as `/proc/self/fd/1`.
+fn is_descriptor<R: Files>(files: &R, alloc: Global, path: &str) -> Result<bool, BeginFault> {
+    let folder = match folder_of(path) {
+        "" => ".",
+        folder => folder,
+    };
+    match files.canonicalize(alloc, folder) {
+        Ok(folder) => Ok(folder.into_string().as_str().starts_with(PROCESSES)),
+        Err(error) => Err(fault_of(&error)),
+    }
+}
+
+/// Returns the path to which a link leads by one step; `None` if there is no link.
+fn next_path<R: Files>(
+    files: &R,
+    alloc: Global,
+    link: &str,
+) -> Result<Option<String>, BeginFault> {
+    let Ok(target) = files.read_link(alloc, link) else {
+        return Ok(None);
+    };
+    let target = target.into_string();
+    if target.as_str().starts_with("/") {
+        return Ok(Some(target));
+    }
+    match format!(in alloc; "{}{target}", folder_of(link)) {
+        Ok(path) => Ok(Some(path)),
+        Err(_) => Err(BeginFault::Memory),
+    }
+}
+
+/// Refuses a name that leads to an open descriptor, as `/dev/stdout` does. A file there is written on from a place of its own, by others too:
+/// a new file in its place would take away what they write.
+fn refuse_descriptor<R: Files>(files: &R, alloc: Global, name: &str) -> Result<(), BeginFault> {
+    let mut path = own(alloc, name)?;
+    for _ in 0..MOST_LINKS {
+        if is_descriptor(files, alloc, path.as_str())? {
+            return Err(BeginFault::Refused);
+        }
+        match next_path(files, alloc, path.as_str())? {
+            Some(next) => path = next,
+            None => return Ok(()),
+        }
+    }
+    Err(BeginFault::Refused)
 }
 
 /// Returns the path of a file that isn't there; a link that leads to none is refused.
@@ -215,6 +268,7 @@ impl<'a, R: Files> Folder for SystemFolder<'a, R> {
         match self.files.metadata(name) {
             Ok(found) if !found.is_file() => begin_device(self.files, name),
             Ok(found) => {
+                refuse_descriptor(self.files, alloc, name)?;
                 let path = followed(self.files, alloc, name)?;
                 begin_beside(self.files, alloc, path, Some(found))
             }
