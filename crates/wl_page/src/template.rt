@@ -59,7 +59,7 @@ svg .wire { stroke: var(--text); stroke-width: 1.5; } svg .node { fill: var(--fo
 <section id="margin-table" aria-label="Margin"></section>
 <h2>Traffic</h2>
 <section id="traffic-table" aria-label="Traffic"></section>
-<h2>Figures and doubts</h2>
+<h2>Figures and doubts (ticks of 1 ns)</h2>
 <pre id="figures">"##;
 
 /// From the figures to the settings.
