@@ -68,8 +68,26 @@ fn latest_end(top: &Table, i: u64) -> Option<u64> {
     Some(clock_of(node)?.at(most))
 }
 
+/// Returns from which version on a key of a table may be in the place of a missing one; nothing if it has no such key.
+fn later_form(table: &Table, missing: &str) -> &'static str {
+    match missing {
+        "num" if value_named(table, "rates").is_some() => {
+            " (`rates` is a key from `version = 2` on)"
+        }
+        "x" if value_named(table, "node").is_some() => " (`node` is a key of `version = 3`)",
+        _ => "",
+    }
+}
+
 /// Returns what is remarked of a missing key.
-fn of_missing(alloc: Global, table: Option<&Table>) -> Result<String, AllocError> {
+fn of_missing(alloc: Global, table: Option<&Table>, missing: &str) -> Result<String, AllocError> {
+    let later = match table {
+        Some(table) => later_form(table, missing),
+        None => "",
+    };
+    if !later.is_empty() {
+        return String::from_str(alloc, later);
+    }
     match table.and_then(strange_key) {
         Some(key) => {
             let key = Text::new(alloc, key)?;
@@ -156,7 +174,7 @@ pub(crate) fn remark(
 ) -> Result<String, AllocError> {
     let table = table_at(top, path);
     match fault {
-        SetupFault::Missing(_) => of_missing(alloc, table),
+        SetupFault::Missing(key) => of_missing(alloc, table, key.as_str()),
         SetupFault::Plan(PlanFault::Quanta(i)) => of_quanta(alloc, top, *i),
         SetupFault::Kind(key) => String::from_str(alloc, unit_of(key.as_str(), path)),
         SetupFault::Unknown(key) => String::from_str(alloc, home_of(key.as_str(), path)),
