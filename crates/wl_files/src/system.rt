@@ -87,11 +87,7 @@ fn is_descriptor<R: Files>(files: &R, alloc: Global, path: &str) -> Result<bool,
 }
 
 /// Returns the path to which a link leads by one step; `None` if there is no link.
-fn next_path<R: Files>(
-    files: &R,
-    alloc: Global,
-    link: &str,
-) -> Result<Option<String>, BeginFault> {
+fn next_path<R: Files>(files: &R, alloc: Global, link: &str) -> Result<Option<String>, BeginFault> {
     let Ok(target) = files.read_link(alloc, link) else {
         return Ok(None);
     };
