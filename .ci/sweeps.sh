@@ -116,8 +116,10 @@ done << 'WORDS'
 --vary x=0..9:0|fault: Range(0, Step)\n
 --vary nothing=1..2|fault: Range(0, Key)\n
 --vary name=1..2|fault: Range(0, Key)\n
+--vary ready=320..640:160|fault: Range(0, Key)\n
 --vary nobody.x=1..2|fault: Range(0, Node)\n
 --vary num=1..2|fault: Range(0, Absent)\n
+--vary every=1000..2000|fault: Range(0, Absent)\n
 --vary tolerance=0..100001|fault: Range(0, Bounds)\n
 --vary x=-3..-1|fault: Range(0, Bounds)\n
 --vary end=0..999999999999:1|fault: Range(0, Rows)\n

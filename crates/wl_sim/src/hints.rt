@@ -99,12 +99,14 @@ fn range_advice(fault: RangeFault) -> &'static str {
     match fault {
         RangeFault::Form =>
             "Write it as [NODE.]KEY=A..B or [NODE.]KEY=A..B:STEP, with whole numbers.",
-        RangeFault::Key => "Name a key whose value is a number, as `x`, `sjw`, `ppm` or `end`.",
+        RangeFault::Key => {
+            "Name a key that can be varied: docs/use/sweeps.md has all of them, as `x`, `sjw`, `ppm` or `end`."
+        }
         RangeFault::Node => {
             "Name a node by its name or its number, from 0; `end` and `per` belong to none."
         }
         RangeFault::Absent => {
-            "Name a key that the nodes have: `quantum` and `ppm`, or `num` and `den`."
+            "Name a key that the nodes have: `quantum` and `ppm`, or `num` and `den`; or give a frame `every`, with `version = 3`."
         }
         RangeFault::Bounds => "Keep to values that a plan may have at this key.",
         RangeFault::Order => "Put the lesser value first.",
@@ -162,8 +164,7 @@ fn settings_advice(fault: &SettingsFault) -> &'static str {
         SettingsFault::Unknown(_) =>
             "Remove or rename the key; TOML puts a key into the table last begun.",
         SettingsFault::NoController => "Add a `[[controller]]`.",
-        SettingsFault::NoSetting =>
-            "Leave out --plan: the list says which inequality refuses the best setting.",
+        SettingsFault::NoSetting => "Leave out --plan: the list says why no setting works.",
         SettingsFault::Size => "Pass a text of at most 1,048,576 bytes.",
         SettingsFault::Read | SettingsFault::Write | SettingsFault::Memory => FREE_MEMORY,
     }
