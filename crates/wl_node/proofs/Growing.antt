@@ -1,7 +1,7 @@
 -- The lists of a history only grow.
 use Rattle.std.proofs.Common.{◌≡◌, ◌∙◌, ℕ, List, [], ◌∷◌, ◌++◌, length, refl, sym, ap, subst, append-nil, append_assoc, take}
 use Rattle.std.specs.List.{flat_map}
-use Rattle.std.proofs.Math.Seq.{take-append_seam}
+use Rattle.std.proofs.Math.Seq.{take-append_seam, take-length}
 use Rattle.std.proofs.lemmas.Grind.{flat_map-append}
 use Rattle.wl_level.specs.declared.Level.{Level}
 use Rattle.wl_sync.specs.declared.Beat.{Beat}
@@ -25,6 +25,10 @@ longer_on xs ys zs a b = (a.0 ++ b.0, b.1 ∙ (ap (λ l. l ++ b.0) a.1 ∙ appen
 -- what the shorter one has comes first in the longer one
 pub front_of : {X : Type 0} (xs ys : List X) → Longer xs ys → take (length xs) ys ≡ xs
 front_of xs ys a = ap (take (length xs)) a.1 ∙ take-append_seam xs a.0
+
+-- a longer list of the same length is the same list
+pub same_of : {X : Type 0} (xs ys : List X) → Longer xs ys → length xs ≡ length ys → xs ≡ ys
+same_of xs ys a even = sym (front_of xs ys a) ∙ (ap (λ n. take n ys) even ∙ take-length ys)
 
 pub longer_phases : (xs ys : List (ℕ × Sync)) → Longer xs ys → Longer (flat_map phase_of xs) (flat_map phase_of ys)
 longer_phases xs ys a = (flat_map phase_of a.0, ap (flat_map phase_of) a.1 ∙ flat_map-append phase_of xs a.0)

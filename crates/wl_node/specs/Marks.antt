@@ -1,4 +1,4 @@
--- Where a node was, so that it can go back there: what it keeps beside its lists, and how long those were. This project's profile.
+-- Where a node was, so that it can go back or on to there: what it keeps beside its lists, and how long those were. This project's profile.
 -- For a reader who knows simulation: a checkpoint, as optimistic execution has it (Jefferson 1985); the lists of a history only grow.
 use Rattle.std.specs.Prelude.{◌≡◌, ℕ, List, ◌++◌, length, count_by, Some}
 use Rattle.std.specs.List.{flat_map}
@@ -45,6 +45,19 @@ pub record HasGoneOn (mark : Mark) (levels more : List Level) (node : Node) : Ty
 -- some levels after which the node was there
 abbrev pub HasPassed : Mark → Node → Type 0
 HasPassed mark node = ∥ ((levels : List Level) × (more : List Level) × HasGoneOn mark levels more node) ∥₁
+
+-- these levels put the node where it is, and some more put one where the mark is
+pub record HasAhead (mark : Mark) (levels more : List Level) (node : Node) : Type 0 where
+  pub stands : IsNode levels node
+  pub marked : IsMark (node_setup node) (levels ++ more) mark
+
+-- some levels after which the node will be there
+abbrev pub LiesAhead : Mark → Node → Type 0
+LiesAhead mark node = ∥ ((levels : List Level) × (more : List Level) × HasAhead mark levels more node) ∥₁
+
+-- over these levels more a node of this setup neither sends nor receives a frame to its end
+abbrev pub NoFrameIn : NodeSetup → List Level → List Level → Type 0
+NoFrameIn setup levels more = (history_of setup (levels ++ more)).frames ≡ (history_of setup levels).frames
 
 -- how many quanta the node had run
 abbrev pub quanta_marked : Mark → ℕ

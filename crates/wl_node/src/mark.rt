@@ -1,4 +1,4 @@
-//! A mark of where a node is, and the way back to it.
+//! A mark of where a node is, and the ways back and on to it.
 
 ghost use Rattle.std.specs.Prelude.{◌+◌, ◌≤◌};
 
@@ -30,9 +30,9 @@ pub struct Mark {
 }
 
 impl Node {
-    ghost use Rattle.std.specs.Prelude.{◌≡◌, ◌++◌, List};
+    ghost use Rattle.std.specs.Prelude.{◌≡◌, ◌++◌, List, true, false};
     ghost use Rattle.wl_level.specs.declared.Level.{Level};
-    ghost use Rattle.wl_node.specs.Marks.{IsMark, HasGoneOn, HasPassed, quanta_marked};
+    ghost use Rattle.wl_node.specs.Marks.{IsMark, HasGoneOn, HasPassed, LiesAhead, NoFrameIn, quanta_marked};
     ghost use Rattle.wl_node.specs.Reached.{IsNode, keeps_lists, node_setup, quanta_of};
 
     /// Returns a mark of where the node is. It takes no memory.
@@ -67,10 +67,32 @@ impl Node {
     {
         self.progress.back(mark);
     }
+
+    /// Takes the node on to a mark of a place after it, and returns true, if it stored nothing on the way there: it only counts its samples and
+    /// phase errors, and no frame came to its end. Else it stays as it is, and the answer is false. It takes no memory.
+    pub fn forth(&mut self, mark: &Mark) -> bool
+        requires { LiesAhead mark.now self.old }
+        ensures node { result ≡ true → (levels more : List Level) → IsNode levels self.old
+            → IsMark (node_setup self.old) (levels ++ more) mark.now → IsNode (levels ++ more) self.new }
+        ensures setup { node_setup self.new ≡ node_setup self.old }
+        ensures quanta { result ≡ true → quanta_of self.new ≡ quanta_marked mark.now }
+        ensures keeps { keeps_lists self.new ≡ keeps_lists self.old }
+        ensures same { result ≡ false → self.new ≡ self.old }
+        ensures goes { keeps_lists self.old ≡ false → (levels more : List Level) → IsNode levels self.old
+            → IsMark (node_setup self.old) (levels ++ more) mark.now → NoFrameIn (node_setup self.old) levels more
+            → result ≡ true }
+    {
+        let traffic = &self.progress.traffic;
+        if traffic.samples.keeps || traffic.frames.len() != mark.frames {
+            return false;
+        }
+        self.progress.forth(mark);
+        true
+    }
 }
 
 impl crate::progress::NodeProgress {
-    ghost use Rattle.std.specs.Prelude.{◌≡◌, ◌+◌, ◌++◌, ◌≤◌, List};
+    ghost use Rattle.std.specs.Prelude.{◌≡◌, ◌+◌, ◌++◌, ◌≤◌, List, false, vec_len};
     ghost use Rattle.wl_level.specs.declared.Level.{Level};
     ghost use Rattle.wl_node.specs.declared.setup.NodeSetup.{NodeSetup};
     ghost use Rattle.wl_node.specs.Kept.{IsProgress, sync_count};
@@ -99,5 +121,31 @@ impl crate::progress::NodeProgress {
         self.traffic.errors = mark.errors;
         self.traffic.samples.truncate(mark.samples);
         self.traffic.frames.truncate(mark.frames);
+    }
+
+    /// Takes the progress of a node that lists neither samples nor phase errors on to a mark up to which no frame came to its end.
+    fn forth(&mut self, mark: &Mark)
+        requires counts { self.old.traffic.samples.keeps ≡ false }
+        requires frames { vec_len self.old.traffic.frames ≡ mark.now.frames }
+        ensures place { (setup : NodeSetup) (levels more : List Level) → IsMark setup (levels ++ more) mark.now
+            → IsProgress setup self.old levels → IsProgress setup self.new (levels ++ more) }
+        ensures quanta { self.new.quanta ≡ mark.now.quanta }
+        ensures syncs { sync_count self.new.syncs ≡ mark.now.hards + mark.now.totals.count }
+        ensures errors { self.new.traffic.errors ≡ mark.now.errors }
+        ensures samples { self.new.traffic.samples.count ≡ mark.now.samples }
+        ensures keeps { self.new.traffic.samples.keeps ≡ self.old.traffic.samples.keeps }
+    {
+        self.clock = mark.clock;
+        self.drive = mark.drive;
+        self.quanta = mark.quanta;
+        self.syncs.hards = mark.hards;
+        self.syncs.totals = mark.totals;
+        let traffic = &mut self.traffic;
+        traffic.machine = mark.machine.copy();
+        traffic.counters = mark.counters;
+        traffic.pending = mark.pending;
+        traffic.sent = mark.sent;
+        traffic.errors = mark.errors;
+        traffic.samples.recount(mark.samples);
     }
 }

@@ -189,6 +189,16 @@ impl SampleRuns {
         }
     }
 
+    /// Sets the number of samples, which are only counted.
+    pub(crate) fn recount(&mut self, count: u64)
+        requires { self.old.keeps ≡ false }
+        ensures runs { self.new.runs ≡ self.old.runs }
+        ensures count { self.new.count ≡ count }
+        ensures keeps { self.new.keeps ≡ self.old.keeps }
+    {
+        self.count = count;
+    }
+
     /// Returns the samples that are listed, and leaves nothing.
     pub(crate) fn into_samples(self) -> Samples
         ensures { result ≡ samples_by self.runs.items }
