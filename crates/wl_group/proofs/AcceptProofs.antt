@@ -214,14 +214,14 @@ count_at cs ds u n same some e =
 
 -- ---- what a group says
 
-pub told_kept : ValueLaws → (plan : Plan) (cells : List (Option Cell)) (replica new : State) (emitted said : List Record) (r : Record) (v : GroupValue)
-    → group_value plan cells replica emitted ≡ v → IsKept plan cells replica emitted → IsTrueOfPlan v.plan r → new ≡ state_with_record replica r
-    → said ≡ emitted ++ r ∷ [] → IsKept plan cells new said
-told_kept laws plan cells replica new emitted said r v ev k t e es =
+pub told_kept : ValueLaws → (plan : Plan) (lists : Bool) (cells : List (Option Cell)) (replica new : State) (emitted said : List Record) (r : Record) (v : GroupValue)
+    → group_value plan lists cells replica emitted ≡ v → IsKept plan lists cells replica emitted → IsTrueOfPlan v.plan r → new ≡ state_with_record replica r
+    → said ≡ emitted ++ r ∷ [] → IsKept plan lists cells new said
+told_kept laws plan lists cells replica new emitted said r v ev k t e es =
     let true_here : IsTrueOfPlan plan r = subst (λ (x : GroupValue). IsTrueOfPlan x.plan r) (sym ev) t in
-    let taken = laws.takes (group_value plan cells replica emitted) k.value (r ∷ []) (true_here, tt) in
+    let taken = laws.takes (group_value plan lists cells replica emitted) k.value (r ∷ []) (true_here, tt) in
     let all = true_append (length plan.nodes) (table_of plan) emitted (r ∷ []) k.value.emitted_true (true_here, tt) in
-    let now : IsGroupValue (group_value plan cells (state_with_record replica r) (emitted ++ r ∷ [])) = record {
+    let now : IsGroupValue (group_value plan lists cells (state_with_record replica r) (emitted ++ r ∷ [])) = record {
       checked = taken.checked;
       one_each = taken.one_each;
       of_all = taken.of_all;
@@ -230,9 +230,10 @@ told_kept laws plan cells replica new emitted said r v ev k t e es =
       emitted_true = all;
     } in
     record {
-      value = subst (λ s. IsGroupValue (group_value plan cells s said)) (sym e)
-          (subst (λ xs. IsGroupValue (group_value plan cells (state_with_record replica r) xs)) (sym es) now);
+      value = subst (λ s. IsGroupValue (group_value plan lists cells s said)) (sym e)
+          (subst (λ xs. IsGroupValue (group_value plan lists cells (state_with_record replica r) xs)) (sym es) now);
       placed = k.placed;
+      listing = k.listing;
     }
 
 -- nothing
@@ -240,6 +241,7 @@ pub said_nothing : (g : GroupValue) (rs : List Record) → IsGroupValue g → Ha
 said_nothing g rs v = record {
   value = v;
   plan = refl;
+  lists = refl;
   members = refl;
   emitted = λ first e. e;
   truth = λ t. t;
@@ -249,12 +251,13 @@ said_nothing g rs v = record {
 }
 
 -- a record
-pub said_one : TakingIsJoining → (g new : GroupValue) (before after : List Record) (r : Record) → IsGroupValue new → new.plan ≡ g.plan → belongs new ≡ belongs g
-    → IsTrueOfPlan g.plan r → belongs g (node_of r) ≡ true → new.replica ≡ state_with_record g.replica r → new.emitted ≡ g.emitted ++ r ∷ [] → after ≡ before ++ r ∷ []
+pub said_one : TakingIsJoining → (g new : GroupValue) (before after : List Record) (r : Record) → IsGroupValue new → new.plan ≡ g.plan → new.lists ≡ g.lists
+    → belongs new ≡ belongs g → IsTrueOfPlan g.plan r → belongs g (node_of r) ≡ true → new.replica ≡ state_with_record g.replica r → new.emitted ≡ g.emitted ++ r ∷ [] → after ≡ before ++ r ∷ []
     → HasSaid g new before after
-said_one taking g new before after r value plan members t m d e f = record {
+said_one taking g new before after r value plan lists members t m d e f = record {
   value = value;
   plan = plan;
+  lists = lists;
   members = members;
   emitted = λ first h. e ∙ (ap (λ rs. rs ++ r ∷ []) h ∙ (append_assoc first before (r ∷ []) ∙ ap (λ rs. first ++ rs) (sym f)));
   truth = λ all. subst (λ rs. AreTrueOf (length g.plan.nodes) (table_of g.plan) rs) (sym f)
@@ -265,26 +268,26 @@ said_one taking g new before after r value plan members t m d e f = record {
 }
 
 -- a record, as a group keeps it
-pub told_said : ValueLaws → TakingIsJoining → (plan : Plan) (cells : List (Option Cell)) (replica new : State) (emitted said before after : List Record) (r : Record) (v : GroupValue)
-    → group_value plan cells replica emitted ≡ v → IsKept plan cells replica emitted → IsTrueOfPlan v.plan r → belongs v (node_of r) ≡ true → new ≡ state_with_record replica r
-    → said ≡ emitted ++ r ∷ [] → after ≡ before ++ r ∷ [] → HasSaid v (group_value plan cells new said) before after
-told_said laws taking plan cells replica new emitted said before after r v ev k t m e es ef =
-    let kept = told_kept laws plan cells replica new emitted said r v ev k t e es in
-    let g : GroupValue = group_value plan cells replica emitted in
-    let to : GroupValue = group_value plan cells new said in
+pub told_said : ValueLaws → TakingIsJoining → (plan : Plan) (lists : Bool) (cells : List (Option Cell)) (replica new : State) (emitted said before after : List Record) (r : Record) (v : GroupValue)
+    → group_value plan lists cells replica emitted ≡ v → IsKept plan lists cells replica emitted → IsTrueOfPlan v.plan r → belongs v (node_of r) ≡ true → new ≡ state_with_record replica r
+    → said ≡ emitted ++ r ∷ [] → after ≡ before ++ r ∷ [] → HasSaid v (group_value plan lists cells new said) before after
+told_said laws taking plan lists cells replica new emitted said before after r v ev k t m e es ef =
+    let kept = told_kept laws plan lists cells replica new emitted said r v ev k t e es in
+    let g : GroupValue = group_value plan lists cells replica emitted in
+    let to : GroupValue = group_value plan lists cells new said in
     subst (λ (x : GroupValue). HasSaid x to before after) ev
-    (said_one taking g to before after r kept.value refl refl (subst (λ (x : GroupValue). IsTrueOfPlan x.plan r) (sym ev) t)
+    (said_one taking g to before after r kept.value refl refl refl (subst (λ (x : GroupValue). IsTrueOfPlan x.plan r) (sym ev) t)
     (subst (λ (x : GroupValue). belongs x (node_of r) ≡ true) (sym ev) m) e es ef)
 
 -- nothing, as a group keeps it
-pub told_nothing : (plan : Plan) (cells : List (Option Cell)) (replica new : State) (emitted said before after : List Record) (v : GroupValue)
-    → group_value plan cells replica emitted ≡ v → IsKept plan cells replica emitted → new ≡ replica → said ≡ emitted → after ≡ before
-    → HasSaid v (group_value plan cells new said) before after
-told_nothing plan cells replica new emitted said before after v ev k e es ef =
-    let g : GroupValue = group_value plan cells replica emitted in
-    subst (λ (x : GroupValue). HasSaid x (group_value plan cells new said) before after) ev
-    (subst (λ s. HasSaid g (group_value plan cells s said) before after) (sym e)
-    (subst (λ rs. HasSaid g (group_value plan cells replica rs) before after) (sym es)
+pub told_nothing : (plan : Plan) (lists : Bool) (cells : List (Option Cell)) (replica new : State) (emitted said before after : List Record) (v : GroupValue)
+    → group_value plan lists cells replica emitted ≡ v → IsKept plan lists cells replica emitted → new ≡ replica → said ≡ emitted → after ≡ before
+    → HasSaid v (group_value plan lists cells new said) before after
+told_nothing plan lists cells replica new emitted said before after v ev k e es ef =
+    let g : GroupValue = group_value plan lists cells replica emitted in
+    subst (λ (x : GroupValue). HasSaid x (group_value plan lists cells new said) before after) ev
+    (subst (λ s. HasSaid g (group_value plan lists cells s said) before after) (sym e)
+    (subst (λ rs. HasSaid g (group_value plan lists cells replica rs) before after) (sym es)
     (subst (λ rs. HasSaid g g before rs) (sym ef) (said_nothing g before k.value))))
 
 -- nothing, where it took a record of a node that is no member, or could not
@@ -294,6 +297,7 @@ said_by_take laws taking g new rs r (Ok x) v t other ok err =
     subst (λ y. HasSaid g y rs rs) (sym ok) (record {
       value = laws.takes g v (r ∷ []) (t, tt);
       plan = refl;
+      lists = refl;
       members = refl;
       emitted = λ first e. e;
       truth = λ all. all;
@@ -308,6 +312,7 @@ pub said_then : (a b c : GroupValue) (xs ys zs : List Record) → HasSaid a b xs
 said_then a b c xs ys zs first more = record {
   value = more.value;
   plan = more.plan ∙ first.plan;
+  lists = more.lists ∙ first.lists;
   members = more.members ∙ first.members;
   emitted = λ rs e. more.emitted rs (first.emitted rs e);
   truth = λ t.
@@ -327,6 +332,7 @@ pub said_still : (a b c : GroupValue) (rs : List Record) → HasSaid a b [] rs �
 said_still a b c rs first more = record {
   value = more.value;
   plan = more.plan ∙ first.plan;
+  lists = more.lists ∙ first.lists;
   members = more.members ∙ first.members;
   emitted = λ xs e. more.emitted b.emitted (sym (append-nil b.emitted)) ∙ (append-nil b.emitted ∙ first.emitted xs e);
   truth = first.truth;
@@ -343,6 +349,7 @@ pub said_in_all : (g new : GroupValue) (rs : List Record) → HasSaid g new [] r
 said_in_all g new rs said = record {
   value = said.value;
   plan = said.plan;
+  lists = said.lists;
   members = said.members;
   emitted = said.emitted g.emitted (sym (append-nil g.emitted));
   said_true = said.truth tt;

@@ -96,6 +96,10 @@ pub ran_plan : (g h : GroupValue) (rs : List Record) → Ran g rs h → h.plan �
 ran_plan g h rs (none {g = x}) = refl
 ran_plan g h rs (more {g = x} {h = y} {rs = rest} i k e may steps) = ran_plan (run_on i k x) y rest steps
 
+pub ran_lists : (g h : GroupValue) (rs : List Record) → Ran g rs h → h.lists ≡ g.lists
+ran_lists g h rs (none {g = x}) = refl
+ran_lists g h rs (more {g = x} {h = y} {rs = rest} i k e may steps) = ran_lists (run_on i k x) y rest steps
+
 pub ran_members : ValueLaws → (g h : GroupValue) (rs : List Record) → Ran g rs h → belongs h ≡ belongs g
 ran_members laws g h rs (none {g = x}) = refl
 ran_members laws g h rs (more {g = x} {h = y} {rs = rest} i k e may steps) = ran_members laws (run_on i k x) y rest steps ∙ laws.runs_with x i k e

@@ -29,7 +29,7 @@ use Rattle.wl_group.specs.Running.{IsCellOf, HasNotGone}
 use Rattle.wl_group.specs.Through.{HasGoneIn}
 use Rattle.wl_group.specs.ValueLaws.{ValueLaws}
 use Rattle.wl_group.proofs.AcceptProofs.{said_nothing}
-use Rattle.wl_group.proofs.RunProofs.{same_length, cell_read, ran_is, in_plan, ran_new, cells_new, some_there}
+use Rattle.wl_group.proofs.RunProofs.{same_length, cell_read, ran_is, in_plan, ran_new, cells_new, listing_new, some_there}
 use Rattle.wl_group.proofs.ThroughProofs.{inside_mid}
 
 -- what is thought of its place is there, as far as the guess is right and all of before it has come
@@ -92,6 +92,7 @@ module _ (sims : SimulationLaws) (plan : Plan) (sound : IsSound (line_of plan)) 
       let h = first.later in
       record {
         cell = gone.over.after;
+        keeps = gone.over.keeps ∙ first.keeps;
         later = omega (arith, g, h);
         before = λ k from below. elim (cases_lt k (quanta_of c.node)) [
           | inl old ↦ first.before k from old
@@ -108,10 +109,11 @@ module _ (sims : SimulationLaws) (plan : Plan) (sound : IsSound (line_of plan)) 
       let l = line_of plan in
       let is = first.cell in
       let at = not.same plan j (member_after l j (quanta_of c.node))
-      (record { setup = is.setup; keeps = is.keeps; node = is.node; changed = is.changed; next = is.next; ways = is.ways }) in
+      (record { setup = is.setup; node = is.node; changed = is.changed; next = is.next; ways = is.ways }) in
       let on : IsCellOf plan j (member_after l j (quanta_of d.node)) d = subst (λ k. IsCellOf plan j (member_after l j k) d) (sym not.quanta) at in
       record {
-        cell = record { setup = on.setup; keeps = on.keeps; node = on.node; changed = on.changed; next = on.next; ways = on.ways };
+        cell = record { setup = on.setup; node = on.node; changed = on.changed; next = on.next; ways = on.ways };
+        keeps = not.keeps ∙ first.keeps;
         later = subst (λ k. quanta_of a.node ≤ k) (sym not.quanta) first.later;
         before = λ k from below. first.before k from (subst (λ n. k < n) not.quanta below);
         inside = subst (λ k. AreInside l j k) (sym not.quanta) first.inside;
@@ -160,50 +162,50 @@ module _ (sims : SimulationLaws) (plan : Plan) (sound : IsSound (line_of plan)) 
 -- ---- the group of a member that ran along
 
 -- the cell of a node, where one was found
-pub cell_found : (plan : Plan) (cells : List (Option Cell)) (replica : State) (emitted : List Record) (kept : IsKept plan cells replica emitted)
-    (now : GroupValue) (view : ◌≡◌ {A = GroupValue} (group_value plan cells replica emitted) now) (i : ℕ) → i < length now.plan.nodes
+pub cell_found : (plan : Plan) (lists : Bool) (cells : List (Option Cell)) (replica : State) (emitted : List Record) (kept : IsKept plan lists cells replica emitted)
+    (now : GroupValue) (view : ◌≡◌ {A = GroupValue} (group_value plan lists cells replica emitted) now) (i : ℕ) → i < length now.plan.nodes
     → (o : Option Cell) (cell : Cell) → o ≡ get_or cells i o → o ≡ Some cell → get_or cells i None ≡ Some cell
-cell_found plan cells replica emitted kept now view i b o cell r is =
+cell_found plan lists cells replica emitted kept now view i b o cell r is =
     let here : i < length plan.nodes = subst (λ (v : GroupValue). i < length v.plan.nodes) (sym view) b in
     let e = kept.value.one_each in
     let f = same_length cells in
     cell_read cells i o cell (omega (arith, here, e, f)) r is
 
 -- the group of a member that was found and stays
-pub said_at_rest : (plan : Plan) (cells : List (Option Cell)) (replica : State) (emitted : List Record) (kept : IsKept plan cells replica emitted)
-    (now : GroupValue) (view : ◌≡◌ {A = GroupValue} (group_value plan cells replica emitted) now) (i : ℕ) (cell : Cell) → get_or cells i None ≡ Some cell
-    → HasSaid now (group_value plan (set cells i (Some cell)) replica emitted) [] []
-said_at_rest plan cells replica emitted kept now view i cell is =
+pub said_at_rest : (plan : Plan) (lists : Bool) (cells : List (Option Cell)) (replica : State) (emitted : List Record) (kept : IsKept plan lists cells replica emitted)
+    (now : GroupValue) (view : ◌≡◌ {A = GroupValue} (group_value plan lists cells replica emitted) now) (i : ℕ) (cell : Cell) → get_or cells i None ≡ Some cell
+    → HasSaid now (group_value plan lists (set cells i (Some cell)) replica emitted) [] []
+said_at_rest plan lists cells replica emitted kept now view i cell is =
     let same : set cells i (Some cell) ≡ cells = ap (set cells i) (sym is) ∙ set-get_or cells i None in
-    subst (λ xs. HasSaid now (group_value plan xs replica emitted) [] []) (sym same)
+    subst (λ xs. HasSaid now (group_value plan lists xs replica emitted) [] []) (sym same)
     (subst (λ (x : GroupValue). HasSaid now x [] []) (sym view) (said_nothing now [] (subst IsGroupValue view kept.value)))
 
 module _ (laws : ValueLaws) (sims : SimulationLaws) (sound : CheckedIsSound)
-    (plan : Plan) (cells : List (Option Cell)) (replica : State) (emitted : List Record) (kept : IsKept plan cells replica emitted)
-    (now : GroupValue) (view : ◌≡◌ {A = GroupValue} (group_value plan cells replica emitted) now) (i : ℕ) (cell : Cell) (is : get_or cells i None ≡ Some cell)
+    (plan : Plan) (lists : Bool) (cells : List (Option Cell)) (replica : State) (emitted : List Record) (kept : IsKept plan lists cells replica emitted)
+    (now : GroupValue) (view : ◌≡◌ {A = GroupValue} (group_value plan lists cells replica emitted) now) (i : ℕ) (cell : Cell) (is : get_or cells i None ≡ Some cell)
     (stop : ℕ) (q : ℕ) (at : stop ≡ (line_of plan).instant i q) (due : cell.next ≤ stop) (own : stop ≤ horizon (slots_of replica) i)
     (far : stop ≤ place_horizon (length plan.nodes) (line_of plan).delay (slots_of replica) i)
     (new : Cell) (gone : HasGoneAlong plan i stop cell new) where
-  here : quanta_at (group_value plan cells replica emitted) i ≡ Some (quanta_of cell.node)
-  here = ran_is laws sound plan cells replica emitted kept now view i cell is
+  here : quanta_at (group_value plan lists cells replica emitted) i ≡ Some (quanta_of cell.node)
+  here = ran_is laws sound plan lists cells replica emitted kept now view i cell is
 
   there : i < length plan.nodes
-  there = in_plan laws sound plan cells replica emitted kept now view i cell is
+  there = in_plan laws sound plan lists cells replica emitted kept now view i cell is
 
-  after : quanta_at (group_value plan (set cells i (Some new)) replica emitted) i ≡ Some (quanta_of new.node)
+  after : quanta_at (group_value plan lists (set cells i (Some new)) replica emitted) i ≡ Some (quanta_of new.node)
   after =
-      ap (λ ran. get_or ran i None) (ran_new laws sound plan cells replica emitted kept now view i cell is new)
+      ap (λ ran. get_or ran i None) (ran_new laws sound plan lists cells replica emitted kept now view i cell is new)
       ∙ get_or-set_same (ran_of cells) i (Some (quanta_of new.node)) None (some_there (ran_of cells) i (quanta_of cell.node) here)
 
-  others : (j : ℕ) → (j ≡ i → ⊥) → quanta_at (group_value plan (set cells i (Some new)) replica emitted) j ≡ quanta_at (group_value plan cells replica emitted) j
+  others : (j : ℕ) → (j ≡ i → ⊥) → quanta_at (group_value plan lists (set cells i (Some new)) replica emitted) j ≡ quanta_at (group_value plan lists cells replica emitted) j
   others j other =
-      ap (λ ran. get_or ran j None) (ran_new laws sound plan cells replica emitted kept now view i cell is new)
+      ap (λ ran. get_or ran j None) (ran_new laws sound plan lists cells replica emitted kept now view i cell is new)
       ∙ get_or-set_other (ran_of cells) i j (Some (quanta_of new.node)) None other
 
-  belongs_each : (j : ℕ) → belongs (group_value plan (set cells i (Some new)) replica emitted) j ≡ belongs (group_value plan cells replica emitted) j
+  belongs_each : (j : ℕ) → belongs (group_value plan lists (set cells i (Some new)) replica emitted) j ≡ belongs (group_value plan lists cells replica emitted) j
   belongs_each j = elim (cases_eq j i) [
-    | inl same ↦ ap (belongs (group_value plan (set cells i (Some new)) replica emitted)) same
-        ∙ (ap is_some after ∙ (sym (ap is_some here) ∙ ap (belongs (group_value plan cells replica emitted)) (sym same)))
+    | inl same ↦ ap (belongs (group_value plan lists (set cells i (Some new)) replica emitted)) same
+        ∙ (ap is_some after ∙ (sym (ap is_some here) ∙ ap (belongs (group_value plan lists cells replica emitted)) (sym same)))
     | inr other ↦ ap is_some (others j other)
   ]
 
@@ -232,19 +234,19 @@ module _ (laws : ValueLaws) (sims : SimulationLaws) (sound : CheckedIsSound)
         known = subst (λ x. l.instant i x ≤ horizon (slots_of replica) i) (sym long) (omega (arith, next, stands, own));
       }
 
-  value : IsGroupValue (group_value plan (set cells i (Some new)) replica emitted)
+  value : IsGroupValue (group_value plan lists (set cells i (Some new)) replica emitted)
   value =
       let v = kept.value in
       let l = line_of plan in
       record {
         checked = v.checked;
-        one_each = ap length (ran_new laws sound plan cells replica emitted kept now view i cell is new) ∙ (length-set (ran_of cells) i (Some (quanta_of new.node)) ∙ v.one_each);
+        one_each = ap length (ran_new laws sound plan lists cells replica emitted kept now view i cell is new) ∙ (length-set (ran_of cells) i (Some (quanta_of new.node)) ∙ v.one_each);
         of_all = v.of_all;
         of_records = v.of_records;
         holds = record {
           truth = v.holds.truth;
           each = λ j c o. elim (cases_eq j i) [
-            | inl same ↦ subst (λ x. IsMember l x (members_now (group_value plan (set cells i (Some new)) replica emitted) x) (slots_of replica)) (sym same)
+            | inl same ↦ subst (λ x. IsMember l x (members_now (group_value plan lists (set cells i (Some new)) replica emitted) x) (slots_of replica)) (sym same)
                 (subst (λ x. IsMember l i (member_at l i x) (slots_of replica)) (sym after) moved)
             | inr other ↦ subst (λ x. IsMember l j (member_at l j x) (slots_of replica)) (sym (others j other)) (v.holds.each j c (sym (belongs_each j) ∙ o))
           ];
@@ -252,15 +254,20 @@ module _ (laws : ValueLaws) (sims : SimulationLaws) (sound : CheckedIsSound)
         emitted_true = v.emitted_true;
       }
 
-  kept_along : IsKept plan (set cells i (Some new)) replica emitted
-  kept_along = record { value = value; placed = cells_new laws sound plan cells replica emitted kept now view i cell is new gone.cell }
+  kept_along : IsKept plan lists (set cells i (Some new)) replica emitted
+  kept_along = record {
+    value = value;
+    placed = cells_new laws sound plan lists cells replica emitted kept now view i cell is new gone.cell;
+    listing = listing_new laws sound plan lists cells replica emitted kept now view i cell is new gone.keeps;
+  }
 
-  said_along : HasSaid now (group_value plan (set cells i (Some new)) replica emitted) [] []
+  said_along : HasSaid now (group_value plan lists (set cells i (Some new)) replica emitted) [] []
   said_along =
-      let g : GroupValue = group_value plan cells replica emitted in
-      subst (λ (x : GroupValue). HasSaid x (group_value plan (set cells i (Some new)) replica emitted) [] []) view (record {
+      let g : GroupValue = group_value plan lists cells replica emitted in
+      subst (λ (x : GroupValue). HasSaid x (group_value plan lists (set cells i (Some new)) replica emitted) [] []) view (record {
         value = value;
         plan = refl;
+        lists = refl;
         members = λ d j. belongs_each j d;
         emitted = λ first e. e;
         truth = λ t. t;
@@ -269,5 +276,5 @@ module _ (laws : ValueLaws) (sims : SimulationLaws) (sound : CheckedIsSound)
         of_members = refl;
       })
 
-  pub group_along : IsKept plan (set cells i (Some new)) replica emitted × HasSaid now (group_value plan (set cells i (Some new)) replica emitted) [] []
+  pub group_along : IsKept plan lists (set cells i (Some new)) replica emitted × HasSaid now (group_value plan lists (set cells i (Some new)) replica emitted) [] []
   group_along = (kept_along, said_along)

@@ -21,7 +21,7 @@ use Rattle.wl_plan.specs.SimulationLaws.{SimulationLaws}
 use Rattle.wl_plan.specs.Checked.{IsChecked}
 use Rattle.wl_group.specs.declared.cell.Cell.{Cell}
 use Rattle.wl_group.specs.GroupValue.{GroupValue, IsGroupValue, quanta_at, belongs, member_after, member_at, members_now, names, initial_group, with_records, with_state}
-use Rattle.wl_group.specs.Kept.{quanta_kept, ran_of, group_value, IsCell, AreCells, IsKept}
+use Rattle.wl_group.specs.Kept.{quanta_kept, ran_of, group_value, IsCell, AreCells, AreListing, IsKept}
 use Rattle.wl_group.specs.Ways.{AreWays}
 use Rattle.wl_group.specs.Chosen.{is_chosen}
 use Rattle.wl_group.specs.ValueLaws.{ValueLaws}
@@ -92,30 +92,36 @@ pub cell_read : (cells : List (Option Cell)) (i : ℕ) (o : Option Cell) (cell :
 cell_read cells i o cell b r e = get_or_default cells i None o b ∙ (sym r ∙ e)
 
 -- where the value of a group has a member that it keeps
-pub kept_quanta : (plan : Plan) (cells : List (Option Cell)) (replica : State) (emitted : List Record) (i : ℕ) (cell : Cell)
-    → slice_index_or cells i None ≡ Some cell → quanta_at (group_value plan cells replica emitted) i ≡ Some (quanta_of cell.node)
-kept_quanta plan cells replica emitted i cell e = quanta_in cells i ∙ ap quanta_kept e
+pub kept_quanta : (plan : Plan) (lists : Bool) (cells : List (Option Cell)) (replica : State) (emitted : List Record) (i : ℕ) (cell : Cell)
+    → slice_index_or cells i None ≡ Some cell → quanta_at (group_value plan lists cells replica emitted) i ≡ Some (quanta_of cell.node)
+kept_quanta plan lists cells replica emitted i cell e = quanta_in cells i ∙ ap quanta_kept e
 
-pub kept_member : (plan : Plan) (cells : List (Option Cell)) (replica : State) (emitted : List Record) (i : ℕ) (cell : Cell)
-    → slice_index_or cells i None ≡ Some cell → members_now (group_value plan cells replica emitted) i ≡ member_after (line_of plan) i (quanta_of cell.node)
-kept_member plan cells replica emitted i cell e = ap (member_at (line_of plan) i) (kept_quanta plan cells replica emitted i cell e)
+pub kept_member : (plan : Plan) (lists : Bool) (cells : List (Option Cell)) (replica : State) (emitted : List Record) (i : ℕ) (cell : Cell)
+    → slice_index_or cells i None ≡ Some cell → members_now (group_value plan lists cells replica emitted) i ≡ member_after (line_of plan) i (quanta_of cell.node)
+kept_member plan lists cells replica emitted i cell e = ap (member_at (line_of plan) i) (kept_quanta plan lists cells replica emitted i cell e)
 
 -- ---- fresh nodes
 
 pub fresh_kept : (plan : Plan) (i : ℕ) (node : Node) (next : ℕ) (ways : List ℕ) → SimulationLaws → IsSound (line_of plan) → i < length plan.nodes
-    → node_setup node ≡ setup_at plan i → keeps_lists node ≡ true → IsNode [] node → quanta_of node ≡ 0 → next ≡ (line_of plan).instant i 0 → AreWays plan i ways
+    → node_setup node ≡ setup_at plan i → IsNode [] node → quanta_of node ≡ 0 → next ≡ (line_of plan).instant i 0 → AreWays plan i ways
     → (member : Cell) → Some (record { node = node; changed = 0; next = next; ways = ways }) ≡ Some member → IsCell plan i member
 unfolding seen
-fresh_kept plan i node next ways laws sound b es ks is q at to member e =
+fresh_kept plan i node next ways laws sound b es is q at to member e =
     let f : record { node = node; changed = 0; next = next; ways = ways } ≡ member = some_is (record { node = node; changed = 0; next = next; ways = ways }) member e in
     subst (IsCell plan i) f (record {
       setup = es;
-      keeps = ks;
       node = subst (λ n. IsNode (seen (line_of plan) i n) node) (sym q) is;
       changed = sym (laws.none_at_first (line_of plan) i sound.causal b) ∙ ap (λ n. count_below ((line_of plan).instant i n) (table_of plan i)) (sym q);
       next = at ∙ ap ((line_of plan).instant i) (sym q);
       ways = to;
     })
+
+-- and its node lists its samples and phase errors, or not
+pub fresh_listing : (node : Node) (next : ℕ) (ways : List ℕ) (lists : Bool) → keeps_lists node ≡ lists
+    → (member : Cell) → Some (record { node = node; changed = 0; next = next; ways = ways }) ≡ Some member → keeps_lists member.node ≡ lists
+fresh_listing node next ways lists is member e =
+    let f : record { node = node; changed = 0; next = next; ways = ways } ≡ member = some_is (record { node = node; changed = 0; next = next; ways = ways }) member e in
+    subst (λ (x : Cell). keeps_lists x.node ≡ lists) f is
 
 -- one more cell, after the others
 pub one_more_ran : (chosen : List Bool) (cells more : List (Option Cell)) (o : Option Cell) (i : ℕ) → more ≡ cells ++ o ∷ []
@@ -140,20 +146,30 @@ get_or_behind : (xs : List (Option Cell)) (x d : Option Cell) → get_or (xs ++ 
 get_or_behind [] x d = refl
 get_or_behind (y ∷ ys) x d = get_or_behind ys x d
 
-pub one_more_cell : (plan : Plan) (cells more : List (Option Cell)) (o : Option Cell) (i : ℕ) → more ≡ cells ++ o ∷ [] → length cells ≡ i → AreCells plan cells
-    → ((member : Cell) → o ≡ Some member → IsCell plan i member) → AreCells plan more
-one_more_cell plan cells more o i e long are is j member h = elim (cases_lt j (length cells)) [
+one_more : (P : ℕ → Cell → Type 0) (cells more : List (Option Cell)) (o : Option Cell) (i : ℕ) → more ≡ cells ++ o ∷ [] → length cells ≡ i
+    → ((j : ℕ) (member : Cell) → get_or cells j None ≡ Some member → P j member) → ((member : Cell) → o ≡ Some member → P i member)
+    → (j : ℕ) (member : Cell) → get_or more j None ≡ Some member → P j member
+one_more P cells more o i e long are is j member h = elim (cases_lt j (length cells)) [
   | inl before ↦ are j member (sym (get_or_before cells o None j before) ∙ (ap (λ xs. get_or xs j None) (sym e) ∙ h))
   | inr behind ↦ elim (cases_eq j (length cells)) [
     | inl here ↦
         let r : o ≡ Some member = sym (get_or_behind cells o None) ∙ (ap (λ n. get_or (cells ++ o ∷ []) n None) (sym here) ∙ (ap (λ xs. get_or xs j None) (sym e) ∙ h)) in
-        subst (λ n. IsCell plan n member) (sym (here ∙ long)) (is member r)
+        subst (λ n. P n member) (sym (here ∙ long)) (is member r)
     | inr past ↦
         let n = length-append cells (o ∷ []) in
         let z : get_or (cells ++ o ∷ []) j None ≡ None = get_or_past (cells ++ o ∷ []) j None (omega arith) in
         absurd (false≢true (sym (ap is_some z) ∙ ap is_some (ap (λ xs. get_or xs j None) (sym e) ∙ h)))
   ]
 ]
+
+pub one_more_cell : (plan : Plan) (cells more : List (Option Cell)) (o : Option Cell) (i : ℕ) → more ≡ cells ++ o ∷ [] → length cells ≡ i → AreCells plan cells
+    → ((member : Cell) → o ≡ Some member → IsCell plan i member) → AreCells plan more
+one_more_cell plan cells more o i e long are is = one_more (IsCell plan) cells more o i e long are is
+
+pub one_more_listing : (lists : Bool) (cells more : List (Option Cell)) (o : Option Cell) (i : ℕ) → more ≡ cells ++ o ∷ [] → length cells ≡ i → AreListing lists cells
+    → ((member : Cell) → o ≡ Some member → keeps_lists member.node ≡ lists) → AreListing lists more
+one_more_listing lists cells more o i e long are is listed =
+    one_more (λ j cell. keeps_lists cell.node ≡ true) cells more o i e long (are listed) (λ member h. is member h ∙ listed)
 
 -- ---- first silences
 
@@ -169,18 +185,19 @@ first_taken l nodes old new emitted b i en et eb after before e =
 -- ---- what a group keeps
 
 -- what begins makes the value that begins
-pub begun_value : (plan copy : Plan) (chosen given : ℕ → Bool) (cells : List (Option Cell)) (replica : State) (emitted : List Record) → copy ≡ plan
-    → ((i : ℕ) → chosen i ≡ given i) → ran_of cells ≡ (initial_group plan chosen).ran → replica ≡ (initial_group plan chosen).replica → emitted ≡ []
-    → group_value copy cells replica emitted ≡ initial_group plan given
-begun_value plan copy chosen given cells replica emitted ep ec er es et =
-    (λ d. record { plan = ep d; ran = er d; replica = es d; emitted = et d }) ∙ ap (λ f. initial_group plan f) (λ d i. ec i d)
+pub begun_value : (lists : Bool) (plan copy : Plan) (chosen given : ℕ → Bool) (cells : List (Option Cell)) (replica : State) (emitted : List Record) → copy ≡ plan
+    → ((i : ℕ) → chosen i ≡ given i) → ran_of cells ≡ (initial_group lists plan chosen).ran → replica ≡ (initial_group lists plan chosen).replica → emitted ≡ []
+    → group_value copy lists cells replica emitted ≡ initial_group lists plan given
+begun_value lists plan copy chosen given cells replica emitted ep ec er es et =
+    (λ d. record { plan = ep d; lists = lists; ran = er d; replica = es d; emitted = et d }) ∙ ap (λ f. initial_group lists plan f) (λ d i. ec i d)
 
-pub begun_kept : ValueLaws → (plan copy : Plan) (chosen given : ℕ → Bool) (cells : List (Option Cell)) (replica : State) (emitted : List Record) → IsChecked plan → copy ≡ plan
-    → ((i : ℕ) → chosen i ≡ given i) → ran_of cells ≡ (initial_group plan chosen).ran → AreCells plan cells → replica ≡ (initial_group plan chosen).replica → emitted ≡ []
-    → IsKept copy cells replica emitted
-begun_kept laws plan copy chosen given cells replica emitted c ep ec er are es et = record {
-  value = subst IsGroupValue (sym (begun_value plan copy chosen given cells replica emitted ep ec er es et)) (laws.begins plan c given);
+pub begun_kept : ValueLaws → (lists : Bool) (plan copy : Plan) (chosen given : ℕ → Bool) (cells : List (Option Cell)) (replica : State) (emitted : List Record) → IsChecked plan → copy ≡ plan
+    → ((i : ℕ) → chosen i ≡ given i) → ran_of cells ≡ (initial_group lists plan chosen).ran → AreCells plan cells → AreListing lists cells → replica ≡ (initial_group lists plan chosen).replica → emitted ≡ []
+    → IsKept copy lists cells replica emitted
+begun_kept laws lists plan copy chosen given cells replica emitted c ep ec er are list es et = record {
+  value = subst IsGroupValue (sym (begun_value lists plan copy chosen given cells replica emitted ep ec er es et)) (laws.begins lists plan c given);
   placed = subst (λ x. AreCells x cells) (sym ep) are;
+  listing = list;
 }
 
 -- what is taken
@@ -189,30 +206,32 @@ true_fits nodes n table (Edge i s t) h e = ((let b = h.0 in omega arith), h.2)
 true_fits nodes n table (Silence i c u) h e = ((let b = h.0 in omega arith), h.2)
 true_fits nodes n table (Clash i s) h e = absurd h
 
-pub taken_value : (plan : Plan) (cells : List (Option Cell)) (replica new : State) (emitted : List Record) (r : Record) (v : GroupValue)
-    → group_value plan cells replica emitted ≡ v → new ≡ state_with_record replica r → group_value plan cells new emitted ≡ with_records (r ∷ []) v
-taken_value plan cells replica new emitted r v ev e = ap (λ s. group_value plan cells s emitted) e ∙ ap (with_records (r ∷ [])) ev
+pub taken_value : (plan : Plan) (lists : Bool) (cells : List (Option Cell)) (replica new : State) (emitted : List Record) (r : Record) (v : GroupValue)
+    → group_value plan lists cells replica emitted ≡ v → new ≡ state_with_record replica r → group_value plan lists cells new emitted ≡ with_records (r ∷ []) v
+taken_value plan lists cells replica new emitted r v ev e = ap (λ s. group_value plan lists cells s emitted) e ∙ ap (with_records (r ∷ [])) ev
 
-pub taken_kept : ValueLaws → (plan : Plan) (cells : List (Option Cell)) (replica new : State) (emitted : List Record) (r : Record) (v : GroupValue)
-    → group_value plan cells replica emitted ≡ v → IsKept plan cells replica emitted → IsTrueOfPlan v.plan r → new ≡ state_with_record replica r → IsKept plan cells new emitted
-taken_kept laws plan cells replica new emitted r v ev k t e = record {
-  value = subst (λ s. IsGroupValue (group_value plan cells s emitted)) (sym e)
-      (laws.takes (group_value plan cells replica emitted) k.value (r ∷ []) (subst (λ (x : GroupValue). IsTrueOfPlan x.plan r) (sym ev) t, tt));
+pub taken_kept : ValueLaws → (plan : Plan) (lists : Bool) (cells : List (Option Cell)) (replica new : State) (emitted : List Record) (r : Record) (v : GroupValue)
+    → group_value plan lists cells replica emitted ≡ v → IsKept plan lists cells replica emitted → IsTrueOfPlan v.plan r → new ≡ state_with_record replica r → IsKept plan lists cells new emitted
+taken_kept laws plan lists cells replica new emitted r v ev k t e = record {
+  value = subst (λ s. IsGroupValue (group_value plan lists cells s emitted)) (sym e)
+      (laws.takes (group_value plan lists cells replica emitted) k.value (r ∷ []) (subst (λ (x : GroupValue). IsTrueOfPlan x.plan r) (sym ev) t, tt));
   placed = k.placed;
+  listing = k.listing;
 }
 
-pub joined_value : (plan : Plan) (cells : List (Option Cell)) (replica new : State) (emitted : List Record) (s : State) (v : GroupValue)
-    → group_value plan cells replica emitted ≡ v → new ≡ states_joined replica s → group_value plan cells new emitted ≡ with_state s v
-joined_value plan cells replica new emitted s v ev e = ap (λ x. group_value plan cells x emitted) e ∙ ap (with_state s) ev
+pub joined_value : (plan : Plan) (lists : Bool) (cells : List (Option Cell)) (replica new : State) (emitted : List Record) (s : State) (v : GroupValue)
+    → group_value plan lists cells replica emitted ≡ v → new ≡ states_joined replica s → group_value plan lists cells new emitted ≡ with_state s v
+joined_value plan lists cells replica new emitted s v ev e = ap (λ x. group_value plan lists cells x emitted) e ∙ ap (with_state s) ev
 
-pub joined_kept : ValueLaws → (plan : Plan) (cells : List (Option Cell)) (replica new : State) (emitted : List Record) (s : State) (v : GroupValue)
-    → group_value plan cells replica emitted ≡ v → IsKept plan cells replica emitted → s.nodes ≡ length v.plan.nodes → IsOfRecords s
-    → HoldsTrue (length v.plan.nodes) (table_of v.plan) (slots_of s) → new ≡ states_joined replica s → IsKept plan cells new emitted
-joined_kept laws plan cells replica new emitted s v ev k n of t e = record {
-  value = subst (λ x. IsGroupValue (group_value plan cells x emitted)) (sym e)
-      (laws.joins (group_value plan cells replica emitted) k.value s (subst (λ (x : GroupValue). s.nodes ≡ length x.plan.nodes) (sym ev) n) of
+pub joined_kept : ValueLaws → (plan : Plan) (lists : Bool) (cells : List (Option Cell)) (replica new : State) (emitted : List Record) (s : State) (v : GroupValue)
+    → group_value plan lists cells replica emitted ≡ v → IsKept plan lists cells replica emitted → s.nodes ≡ length v.plan.nodes → IsOfRecords s
+    → HoldsTrue (length v.plan.nodes) (table_of v.plan) (slots_of s) → new ≡ states_joined replica s → IsKept plan lists cells new emitted
+joined_kept laws plan lists cells replica new emitted s v ev k n of t e = record {
+  value = subst (λ x. IsGroupValue (group_value plan lists cells x emitted)) (sym e)
+      (laws.joins (group_value plan lists cells replica emitted) k.value s (subst (λ (x : GroupValue). s.nodes ≡ length x.plan.nodes) (sym ev) n) of
       (subst (λ (x : GroupValue). HoldsTrue (length x.plan.nodes) (table_of x.plan) (slots_of s)) (sym ev) t));
   placed = k.placed;
+  listing = k.listing;
 }
 
 -- a number that is no node is no member

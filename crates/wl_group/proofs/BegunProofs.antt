@@ -119,7 +119,7 @@ follows sim plan guess j cell sound b is inside reached keeps =
     let last = before_is l guess j cell.next (omega (arith, own, come)) (λ t e. keeps t (omega (arith, own, come, e)) (omega (arith, e))) in
     record {
       member = member_after l j k;
-      at = record { setup = is.setup; keeps = is.keeps; node = is.node; changed = is.changed; next = is.next; ways = is.ways };
+      at = record { setup = is.setup; node = is.node; changed = is.changed; next = is.next; ways = is.ways };
       counted = sim.length_seen l j k;
       inside = inside;
       seen = λ right. refl;

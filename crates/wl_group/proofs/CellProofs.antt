@@ -106,7 +106,6 @@ module _ (level before after : Level) (b : Bool) (ran quanta : ℕ) (old new : C
     unfolding saw
     after_cell = record {
       setup = setup_new;
-      keeps = w.gone.keeps ∙ held.keeps;
       node = is_new;
       changed = changed_new;
       next = next_new;
@@ -118,6 +117,7 @@ module _ (level before after : Level) (b : Bool) (ran quanta : ℕ) (old new : C
     n = n;
     few = (let s = n_is in omega arith);
     quanta = gone.quanta;
+    keeps = gone.keeps;
     stood = stood;
     after = after_cell;
     turned_is = λ plan i m held. is ∙ sym (turns_is plan i m held);

@@ -1,5 +1,5 @@
 -- The changes of a member, out of the slots that its group holds.
-use Rattle.std.proofs.Common.{◌≡◌, ℕ, zero, suc, ◌<◌, true, List, [], ◌∷◌, ◌++◌, length, get_or, nat_le, Option, Some, None, is_some, refl, sym, ◌∙◌, ap, subst, arith}
+use Rattle.std.proofs.Common.{◌≡◌, ℕ, zero, suc, ◌<◌, true, Bool, List, [], ◌∷◌, ◌++◌, length, get_or, nat_le, Option, Some, None, is_some, refl, sym, ◌∙◌, ap, subst, arith}
 use Rattle.std.specs.Prelude.{take, slice_get}
 use Rattle.std.proofs.Math.Seq.{take-suc, take-length}
 use Rattle.std.proofs.lemmas.Bool.{and_parts, leb-true, false≢true}
@@ -43,21 +43,21 @@ all_before sims sound g v i b ended =
     ap (λ m. take m (table_of g.plan i)) (sims.all_at_end (line_of g.plan) i (next_tick (line_of g.plan) i (members_now g i)) (sound g.plan v.checked).causal b late)
     ∙ take-length (table_of g.plan i)
 
-module _ (laws : ValueLaws) (sound : CheckedIsSound) (knows : KnownLaws) (sims : SimulationLaws) (plan : Plan) (cells : List (Option Cell)) (replica : State) (emitted : List Record)
-    (kept : IsKept plan cells replica emitted) (now : GroupValue) (view : ◌≡◌ {A = GroupValue} (group_value plan cells replica emitted) now)
+module _ (laws : ValueLaws) (sound : CheckedIsSound) (knows : KnownLaws) (sims : SimulationLaws) (plan : Plan) (lists : Bool) (cells : List (Option Cell)) (replica : State) (emitted : List Record)
+    (kept : IsKept plan lists cells replica emitted) (now : GroupValue) (view : ◌≡◌ {A = GroupValue} (group_value plan lists cells replica emitted) now)
     (i : ℕ) (member : belongs now i ≡ true) (cell : Cell) (is : get_or cells i None ≡ Some cell) where
   inside : i < length plan.nodes
-  inside = in_plan laws sound plan cells replica emitted kept now view i cell is
+  inside = in_plan laws sound plan lists cells replica emitted kept now view i cell is
 
-  placed : IsMember (line_of plan) i (members_now (group_value plan cells replica emitted) i) (slots_of replica)
+  placed : IsMember (line_of plan) i (members_now (group_value plan lists cells replica emitted) i) (slots_of replica)
   placed = kept.value.holds.each i inside (subst (λ (v : GroupValue). belongs v i ≡ true) (sym view) member)
 
-  count : cell.changed ≡ count_below (next_tick (line_of plan) i (members_now (group_value plan cells replica emitted) i)) (table_of plan i)
-  count = (own laws sound plan cells replica emitted kept now view i cell is).changed ∙ placed.count
+  count : cell.changed ≡ count_below (next_tick (line_of plan) i (members_now (group_value plan lists cells replica emitted) i)) (table_of plan i)
+  count = (own laws sound plan lists cells replica emitted kept now view i cell is).changed ∙ placed.count
 
   pub held : (n : ℕ) → n < cell.changed → is_tick ((slots_of replica).edge i n) ≡ true
   held n b =
-      knows.changes_held (length plan.nodes) (table_of plan) (slots_of replica) i (next_tick (line_of plan) i (members_now (group_value plan cells replica emitted) i)) n
+      knows.changes_held (length plan.nodes) (table_of plan) (slots_of replica) i (next_tick (line_of plan) i (members_now (group_value plan lists cells replica emitted) i)) n
       (sims.changes_increase (line_of plan) i) kept.value.holds.truth placed.known (subst (λ m. n < m) count b)
 
   so_far : ticks ((slots_of replica).edge i) cell.changed
@@ -77,9 +77,9 @@ module _ (laws : ValueLaws) (sound : CheckedIsSound) (knows : KnownLaws) (sims :
       ∙ all_before sims sound now (subst IsGroupValue view kept.value) i (subst (λ (v : GroupValue). i < length v.plan.nodes) view inside) ended
 
 -- a member is kept
-pub absent : ValueLaws → (sound : CheckedIsSound) (plan : Plan) (cells : List (Option Cell)) (replica : State) (emitted : List Record) → IsKept plan cells replica emitted → (now : GroupValue)
-    → ◌≡◌ {A = GroupValue} (group_value plan cells replica emitted) now → (i : ℕ) → belongs now i ≡ true → (o : Option Cell) → o ≡ get_or cells i o → o ≡ None → ⊥
-absent laws sound plan cells replica emitted kept now view i member o read none =
-    let b = in_cells laws sound plan cells replica emitted kept now view i member in
+pub absent : ValueLaws → (sound : CheckedIsSound) (plan : Plan) (lists : Bool) (cells : List (Option Cell)) (replica : State) (emitted : List Record) → IsKept plan lists cells replica emitted → (now : GroupValue)
+    → ◌≡◌ {A = GroupValue} (group_value plan lists cells replica emitted) now → (i : ℕ) → belongs now i ≡ true → (o : Option Cell) → o ≡ get_or cells i o → o ≡ None → ⊥
+absent laws sound plan lists cells replica emitted kept now view i member o read none =
+    let b = in_cells laws sound plan lists cells replica emitted kept now view i member in
     let e : get_or cells i None ≡ None = sym (get_or_read cells i o b read None) ∙ none in
     false≢true (sym (ap is_some (ran_get cells i ∙ ap quanta_kept e)) ∙ subst (λ (v : GroupValue). belongs v i ≡ true) (sym view) member)

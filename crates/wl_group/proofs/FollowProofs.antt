@@ -1,5 +1,5 @@
 -- A member beside a guess: it goes on, comes back, and keeps to the guess.
-use Rattle.std.proofs.Common.{◌≡◌, ℕ, ◌<◌, ◌≤◌, true, List, [], ◌++◌, length, get_or, Option, Some, None, is_some, refl, sym, ◌∙◌, ap, subst, arith, append_assoc, append-nil}
+use Rattle.std.proofs.Common.{◌≡◌, ℕ, ◌<◌, ◌≤◌, true, Bool, List, [], ◌++◌, length, get_or, Option, Some, None, is_some, refl, sym, ◌∙◌, ap, subst, arith, append_assoc, append-nil}
 use Rattle.wl_level.specs.declared.Level.{Level}
 use Rattle.wl_record_core.specs.declared.record.Record.{Record}
 use Rattle.wl_replica.specs.State.{State, slots_of}
@@ -29,12 +29,14 @@ use Rattle.wl_group.proofs.RunProofs.{same_length, ran_is, in_plan}
 -- it ran on, by no quantum, and by more
 pub ahead_none : (a : Cell) → HasRunAhead a a
 ahead_none a = record {
+  keeps = refl;
   more = [];
   to = λ plan i m is. (m.changed, subst (λ (saw : List Level). IsCellOf plan i (record { saw = saw; changed = m.changed }) a) (sym (append-nil m.saw)) is);
 }
 
 pub ahead_more : (a b c : Cell) → HasRunAhead a b → HasRunAhead b c → HasRunAhead a c
 ahead_more a b c first rest = record {
+  keeps = rest.keeps ∙ first.keeps;
   more = first.more ++ rest.more;
   to = λ plan i m is.
       let f = first.to plan i m is in
@@ -61,11 +63,11 @@ module _ (old on : Cell) (mark : Mark) (ahead : HasRunAhead old on) (is_mark : (
       → HasNotGone old (record { node = node; changed = old.changed; next = old.next; ways = on.ways })
   has_come_back node marked back setup quanta keeps = record {
     quanta = quanta ∙ marked;
+    keeps = keeps ∙ ahead.keeps;
     same = λ plan i m is.
         let far = (ahead.to plan i m is).1 in
         record {
           setup = setup ∙ far.setup;
-          keeps = keeps ∙ far.keeps;
           node = back m.saw ahead.more (gone_on plan i m is);
           changed = is.changed;
           next = is.next ∙ ap ((line_of plan).instant i) (sym (quanta ∙ marked));
@@ -77,8 +79,8 @@ module _ (old on : Cell) (mark : Mark) (ahead : HasRunAhead old on) (is_mark : (
 some_at : (o : Option ℕ) (k : ℕ) → o ≡ Some k → is_some o ≡ true
 some_at o k e = subst (λ p. is_some p ≡ true) (sym e) refl
 
-module _ (plan : Plan) (cells : List (Option Cell)) (replica : State) (emitted : List Record) (kept : IsKept plan cells replica emitted)
-    (now : GroupValue) (view : ◌≡◌ {A = GroupValue} (group_value plan cells replica emitted) now) (i : ℕ) where
+module _ (plan : Plan) (lists : Bool) (cells : List (Option Cell)) (replica : State) (emitted : List Record) (kept : IsKept plan lists cells replica emitted)
+    (now : GroupValue) (view : ◌≡◌ {A = GroupValue} (group_value plan lists cells replica emitted) now) (i : ℕ) where
   pub in_list : i < now.replica.nodes → i < length cells
   in_list b =
       let here : i < replica.nodes = subst (λ (v : GroupValue). i < v.replica.nodes) (sym view) b in
@@ -90,19 +92,19 @@ module _ (plan : Plan) (cells : List (Option Cell)) (replica : State) (emitted :
   -- its member is known up to its next quantum
   pub known_kept : ValueLaws → SimulationLaws → CheckedIsSound → (cell : Cell) → get_or cells i None ≡ Some cell → cell.next ≤ horizon (slots_of replica) i
   known_kept laws sims sound cell is =
-      let ran : quanta_at (group_value plan cells replica emitted) i ≡ Some (quanta_of cell.node) = ran_is laws sound plan cells replica emitted kept now view i cell is in
-      let there : i < length plan.nodes = in_plan laws sound plan cells replica emitted kept now view i cell is in
-      let member = kept.value.holds.each i there (some_at (quanta_at (group_value plan cells replica emitted) i) (quanta_of cell.node) ran) in
-      let next = next_kept laws sims sound plan cells replica emitted kept (group_value plan cells replica emitted) refl i cell is in
+      let ran : quanta_at (group_value plan lists cells replica emitted) i ≡ Some (quanta_of cell.node) = ran_is laws sound plan lists cells replica emitted kept now view i cell is in
+      let there : i < length plan.nodes = in_plan laws sound plan lists cells replica emitted kept now view i cell is in
+      let member = kept.value.holds.each i there (some_at (quanta_at (group_value plan lists cells replica emitted) i) (quanta_of cell.node) ran) in
+      let next = next_kept laws sims sound plan lists cells replica emitted kept (group_value plan lists cells replica emitted) refl i cell is in
       let known = member.known in
       omega (arith, next, known)
 
   -- a member is a node
   pub belongs_there : ValueLaws → belongs now i ≡ true → i < now.replica.nodes
   belongs_there laws is =
-      let here : belongs (group_value plan cells replica emitted) i ≡ true = subst (λ (v : GroupValue). belongs v i ≡ true) (sym view) is in
-      let k = is_there (quanta_at (group_value plan cells replica emitted) i) here in
-      let few = (laws.quanta_few (group_value plan cells replica emitted) kept.value i k.0 k.1).0 in
+      let here : belongs (group_value plan lists cells replica emitted) i ≡ true = subst (λ (v : GroupValue). belongs v i ≡ true) (sym view) is in
+      let k = is_there (quanta_at (group_value plan lists cells replica emitted) i) here in
+      let few = (laws.quanta_few (group_value plan lists cells replica emitted) kept.value i k.0 k.1).0 in
       let e = kept.value.of_all in
       let there : i < replica.nodes = omega (arith, few, e) in
       subst (λ (v : GroupValue). i < v.replica.nodes) view there

@@ -73,7 +73,7 @@ module _ (sims : SimulationLaws) (l : Line) (s : IsSound l) (i : ℕ) (b : i < l
 -- ---- a group with a member at a later quantum
 
 abbrev pub at_quantum : GroupValue → ℕ → ℕ → GroupValue
-at_quantum g i k = record { plan = g.plan; ran = slice_set g.ran i (Some k); replica = g.replica; emitted = g.emitted }
+at_quantum g i k = record { plan = g.plan; lists = g.lists; ran = slice_set g.ran i (Some k); replica = g.replica; emitted = g.emitted }
 
 pub here_at : (g : GroupValue) (i k m : ℕ) → quanta_at g i ≡ Some k → quanta_at (at_quantum g i m) i ≡ Some m
 here_at g i k m ran = get_or-set_same g.ran i (Some m) None (some_there g.ran i k ran)

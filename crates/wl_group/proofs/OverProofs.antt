@@ -1,5 +1,5 @@
 -- What a group keeps, where a member ran quanta in a row through stretches of the line.
-use Rattle.std.proofs.Common.{◌≡◌, ℕ, suc, ◌+◌, ◌<◌, ◌≤◌, ◌++◌, true, List, length, get_or, Option, Some, None, is_some, inl, inr, nat_lt, refl, sym, ◌∙◌, ap, subst, arith}
+use Rattle.std.proofs.Common.{◌≡◌, ℕ, suc, ◌+◌, ◌<◌, ◌≤◌, ◌++◌, true, Bool, List, length, get_or, Option, Some, None, is_some, inl, inr, nat_lt, refl, sym, ◌∙◌, ap, subst, arith}
 use Rattle.std.specs.Prelude.{min}
 use Rattle.std.proofs.Math.ListN.{set}
 use Rattle.std.proofs.lemmas.Bool.{cases_eq, and_parts, ltb-true}
@@ -26,16 +26,16 @@ use Rattle.wl_group.specs.Running.{HasRunNext}
 use Rattle.wl_group.specs.Going.{gone_on, HasGoneOn, IsKnownAt, IsKnownUpTo}
 use Rattle.wl_group.specs.Through.{spoken, HasGoneOver, MaySayOver}
 use Rattle.wl_replica.proofs.Callers.{some_is}
-use Rattle.wl_group.proofs.RunProofs.{ran_is, in_plan, ran_new, cells_new, some_there, left_set}
+use Rattle.wl_group.proofs.RunProofs.{ran_is, in_plan, ran_new, cells_new, listing_new, some_there, left_set}
 use Rattle.wl_group.proofs.GoingProofs.{spoken_is}
 use Rattle.wl_group.proofs.GoneProofs.{fits, value_gone, gone_over}
 
 -- the tick of its next quantum is what it keeps
 module _ (laws : ValueLaws) (sims : SimulationLaws) (sound : CheckedIsSound)
-    (plan : Plan) (cells : List (Option Cell)) (replica : State) (emitted : List Record) (kept : IsKept plan cells replica emitted)
-    (now : GroupValue) (view : ◌≡◌ {A = GroupValue} (group_value plan cells replica emitted) now) (i : ℕ) (cell : Cell) (is : get_or cells i None ≡ Some cell) where
-  at_here : quanta_at (group_value plan cells replica emitted) i ≡ Some (quanta_of cell.node)
-  at_here = ran_is laws sound plan cells replica emitted kept now view i cell is
+    (plan : Plan) (lists : Bool) (cells : List (Option Cell)) (replica : State) (emitted : List Record) (kept : IsKept plan lists cells replica emitted)
+    (now : GroupValue) (view : ◌≡◌ {A = GroupValue} (group_value plan lists cells replica emitted) now) (i : ℕ) (cell : Cell) (is : get_or cells i None ≡ Some cell) where
+  at_here : quanta_at (group_value plan lists cells replica emitted) i ≡ Some (quanta_of cell.node)
+  at_here = ran_is laws sound plan lists cells replica emitted kept now view i cell is
 
   pub next_kept : cell.next ≡ next_tick (line_of now.plan) i (members_now now i)
   next_kept =
@@ -46,18 +46,18 @@ module _ (laws : ValueLaws) (sims : SimulationLaws) (sound : CheckedIsSound)
       (kept.placed i cell is).next ∙ sym e
 
   pub inside_kept : AreInside (line_of plan) i (quanta_of cell.node)
-  inside_kept = (laws.quanta_few (group_value plan cells replica emitted) kept.value i (quanta_of cell.node) at_here).2
+  inside_kept = (laws.quanta_few (group_value plan lists cells replica emitted) kept.value i (quanta_of cell.node) at_here).2
 
 module _ (laws : ValueLaws) (groups : GroupLaws) (tables : TableLaws) (joins : SlotsLaws) (knows : KnownLaws) (sims : SimulationLaws) (states : SlotsOfStates) (sound : CheckedIsSound)
-    (plan : Plan) (cells : List (Option Cell)) (replica : State) (emitted : List Record) (kept : IsKept plan cells replica emitted)
-    (now : GroupValue) (view : ◌≡◌ {A = GroupValue} (group_value plan cells replica emitted) now) (i : ℕ) (cell : Cell) (is : get_or cells i None ≡ Some cell)
+    (plan : Plan) (lists : Bool) (cells : List (Option Cell)) (replica : State) (emitted : List Record) (kept : IsKept plan lists cells replica emitted)
+    (now : GroupValue) (view : ◌≡◌ {A = GroupValue} (group_value plan lists cells replica emitted) now) (i : ℕ) (cell : Cell) (is : get_or cells i None ≡ Some cell)
     (end : ℕ) (stop : end ≤ plan.end) (far : end ≤ place_horizon (length plan.nodes) (line_of plan).delay (slots_of replica) i) where
-  ran : quanta_at (group_value plan cells replica emitted) i ≡ Some (quanta_of cell.node)
-  ran = ran_is laws sound plan cells replica emitted kept now view i cell is
+  ran : quanta_at (group_value plan lists cells replica emitted) i ≡ Some (quanta_of cell.node)
+  ran = ran_is laws sound plan lists cells replica emitted kept now view i cell is
 
   pub may_say_over : MaySayOver plan i end cell replica.nodes
   may_say_over n early stays =
-      fits laws groups tables joins knows sims states sound (group_value plan cells replica emitted) kept.value i (quanta_of cell.node) ran n
+      fits laws groups tables joins knows sims states sound (group_value plan lists cells replica emitted) kept.value i (quanta_of cell.node) ran n
       (λ j c. let e = early j c in omega arith) (λ j c. let e = early j c in omega arith) stays
 
   module _ (new : Cell) (said : List Record) (gone : HasGoneOver plan i end cell new said) (replica_new : State) (emitted_new : List Record)
@@ -68,27 +68,28 @@ module _ (laws : ValueLaws) (groups : GroupLaws) (tables : TableLaws) (joins : S
     known : (j : ℕ) → j ≤ gone.n → (line_of plan).instant i (quanta_of cell.node + j) < place_horizon (length plan.nodes) (line_of plan).delay (slots_of replica) i
     known j c = (let e = gone.early j c in omega arith)
 
-    value_is : ◌≡◌ {A = GroupValue} (group_value plan (set cells i (Some new)) replica_new emitted_new)
-        (gone_on (group_value plan cells replica emitted) i (quanta_of cell.node + suc gone.n) (spoken (line_of plan) i (quanta_of cell.node + gone.n)))
+    value_is : ◌≡◌ {A = GroupValue} (group_value plan lists (set cells i (Some new)) replica_new emitted_new)
+        (gone_on (group_value plan lists cells replica emitted) i (quanta_of cell.node + suc gone.n) (spoken (line_of plan) i (quanta_of cell.node + gone.n)))
     value_is =
         let quanta : ran_of (set cells i (Some new)) ≡ set (ran_of cells) i (Some (quanta_of cell.node + suc gone.n)) =
-        ran_new laws sound plan cells replica emitted kept now view i cell is new ∙ ap (λ k. set (ran_of cells) i (Some k)) gone.quanta in
+        ran_new laws sound plan lists cells replica emitted kept now view i cell is new ∙ ap (λ k. set (ran_of cells) i (Some k)) gone.quanta in
         let known_is : replica_new ≡ state_with_records replica (spoken (line_of plan) i (quanta_of cell.node + gone.n)) = taken ∙ ap (state_with_records replica) gone.says in
         let more : emitted_new ≡ emitted ++ spoken (line_of plan) i (quanta_of cell.node + gone.n) = appended ∙ ap (λ rs. emitted ++ rs) gone.says in
-        λ d. record { plan = plan; ran = quanta d; replica = known_is d; emitted = more d }
+        λ d. record { plan = plan; lists = lists; ran = quanta d; replica = known_is d; emitted = more d }
 
-    pub kept_over : IsKept plan (set cells i (Some new)) replica_new emitted_new
+    pub kept_over : IsKept plan lists (set cells i (Some new)) replica_new emitted_new
     kept_over = record {
       value = subst IsGroupValue (sym value_is)
-          (value_gone laws groups tables joins knows sims states sound (group_value plan cells replica emitted) kept.value i (quanta_of cell.node) ran gone.n early known gone.stays);
-      placed = cells_new laws sound plan cells replica emitted kept now view i cell is new gone.after;
+          (value_gone laws groups tables joins knows sims states sound (group_value plan lists cells replica emitted) kept.value i (quanta_of cell.node) ran gone.n early known gone.stays);
+      placed = cells_new laws sound plan lists cells replica emitted kept now view i cell is new gone.after;
+      listing = listing_new laws sound plan lists cells replica emitted kept now view i cell is new gone.keeps;
     }
 
-    pub has_gone_over : HasGoneOn i now (group_value plan (set cells i (Some new)) replica_new emitted_new) said
+    pub has_gone_over : HasGoneOn i now (group_value plan lists (set cells i (Some new)) replica_new emitted_new) said
     has_gone_over =
-        let g : GroupValue = group_value plan cells replica emitted in
+        let g : GroupValue = group_value plan lists cells replica emitted in
         let to : GroupValue = gone_on g i (quanta_of cell.node + suc gone.n) (spoken (line_of plan) i (quanta_of cell.node + gone.n)) in
-        subst (λ (x : GroupValue). HasGoneOn i x (group_value plan (set cells i (Some new)) replica_new emitted_new) said) view
+        subst (λ (x : GroupValue). HasGoneOn i x (group_value plan lists (set cells i (Some new)) replica_new emitted_new) said) view
         (subst (λ (x : GroupValue). HasGoneOn i g x said) (sym value_is)
         (subst (λ (rs : List Record). HasGoneOn i g to rs) (sym gone.says)
         (gone_over laws groups tables joins knows sims states sound g kept.value i (quanta_of cell.node) ran gone.n early known gone.stays)))
@@ -102,7 +103,7 @@ module _ (laws : ValueLaws) (groups : GroupLaws) (tables : TableLaws) (joins : S
             let l = line_of plan in
             let k = quanta_of cell.node in
             let causal = (sound plan kept.value.checked).causal in
-            let b = in_plan laws sound plan cells replica emitted kept now view i cell is in
+            let b = in_plan laws sound plan lists cells replica emitted kept now view i cell is in
             let first = causal.clocks i k b in
             let later = sims.clock_later l i (suc k) (k + gone.n) causal b (omega arith) in
             let last = gone.early gone.n (omega arith) in
@@ -110,40 +111,41 @@ module _ (laws : ValueLaws) (groups : GroupLaws) (tables : TableLaws) (joins : S
             absurd (omega (arith, first, later, last, here, one))
       ]
 
-      may_here : may_run (group_value plan cells replica emitted) i ≡ true
+      may_here : may_run (group_value plan lists cells replica emitted) i ≡ true
       may_here = subst (λ (x : GroupValue). may_run x i ≡ true) (sym view) may
 
-      said_here : spoken (line_of plan) i (quanta_of cell.node + gone.n) ≡ emission_at (group_value plan cells replica emitted) i
+      said_here : spoken (line_of plan) i (quanta_of cell.node + gone.n) ≡ emission_at (group_value plan lists cells replica emitted) i
       said_here =
           ap (spoken (line_of plan) i) (let e : quanta_of cell.node + gone.n ≡ quanta_of cell.node = omega (arith, alone) in e)
-          ∙ sym (spoken_is laws groups sims sound (group_value plan cells replica emitted) kept.value i (quanta_of cell.node) ran may_here)
+          ∙ sym (spoken_is laws groups sims sound (group_value plan lists cells replica emitted) kept.value i (quanta_of cell.node) ran may_here)
 
-      value_next : ◌≡◌ {A = GroupValue} (group_value plan (set cells i (Some new)) replica_new emitted_new) (run_on i (quanta_of cell.node) (group_value plan cells replica emitted))
+      value_next : ◌≡◌ {A = GroupValue} (group_value plan lists (set cells i (Some new)) replica_new emitted_new) (run_on i (quanta_of cell.node) (group_value plan lists cells replica emitted))
       value_next =
           let e : quanta_of cell.node + suc gone.n ≡ suc (quanta_of cell.node) = omega (arith, alone) in
-          value_is ∙ (λ d. gone_on (group_value plan cells replica emitted) i (e d) (said_here d))
+          value_is ∙ (λ d. gone_on (group_value plan lists cells replica emitted) i (e d) (said_here d))
 
-      ran_next : HasRunNext i (group_value plan cells replica emitted) (run_on i (quanta_of cell.node) (group_value plan cells replica emitted)) (emission_at (group_value plan cells replica emitted) i)
+      ran_next : HasRunNext i (group_value plan lists cells replica emitted) (run_on i (quanta_of cell.node) (group_value plan lists cells replica emitted)) (emission_at (group_value plan lists cells replica emitted) i)
       ran_next =
-          let g : GroupValue = group_value plan cells replica emitted in
+          let g : GroupValue = group_value plan lists cells replica emitted in
           let k = quanta_of cell.node in
           let on = laws.runs g kept.value i k ran may_here in
           let few = (laws.quanta_few (run_on i k g) on i (suc k) (get_or-set_same g.ran i (Some (suc k)) None (some_there g.ran i k ran))).1 in
           record {
-            node = in_plan laws sound plan cells replica emitted kept now view i cell is;
+            node = in_plan laws sound plan lists cells replica emitted kept now view i cell is;
             emits = refl;
             runs = λ m e. ap (λ q. run_on i q g) (some_is k m (sym ran ∙ e));
             emitted = λ p h. laws.emits_as g p i h (ap is_some ran);
             after = λ p h. laws.runs_as g kept.value p i k h ran may_here;
             plan = refl;
+            lists = refl;
             members = laws.runs_with g i k ran;
             fewer = left_set g.ran i k ran (omega (arith, few));
           }
 
-      pub has_run_next : HasRunNext i now (group_value plan (set cells i (Some new)) replica_new emitted_new) said
+      pub has_run_next : HasRunNext i now (group_value plan lists (set cells i (Some new)) replica_new emitted_new) said
       has_run_next =
-          let g : GroupValue = group_value plan cells replica emitted in
-          subst (λ (x : GroupValue). HasRunNext i x (group_value plan (set cells i (Some new)) replica_new emitted_new) said) view
+          let g : GroupValue = group_value plan lists cells replica emitted in
+          subst (λ (x : GroupValue). HasRunNext i x (group_value plan lists (set cells i (Some new)) replica_new emitted_new) said) view
           (subst (λ (x : GroupValue). HasRunNext i g x said) (sym value_next)
           (subst (λ (rs : List Record). HasRunNext i g (run_on i (quanta_of cell.node) g) rs) (sym (gone.says ∙ said_here)) ran_next))
 

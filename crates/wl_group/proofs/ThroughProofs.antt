@@ -81,7 +81,7 @@ module _ (sims : SimulationLaws) where
       (early : (j : ℕ) → j < most → (line_of plan).instant i (quanta_of old.node + j) < end)
       (inside : AreInside (line_of plan) i (quanta_of old.node + most)) where
     held : IsCellOf plan i (member_after (line_of plan) i (quanta_of old.node)) old
-    held = record { setup = cell.setup; keeps = cell.keeps; node = cell.node; changed = cell.changed; next = cell.next; ways = cell.ways }
+    held = record { setup = cell.setup; node = cell.node; changed = cell.changed; next = cell.next; ways = cell.ways }
 
     stood : Stood (line_of plan) i (member_after (line_of plan) i (quanta_of old.node)) level_here gone.n
     stood = gone.stood plan i (member_after (line_of plan) i (quanta_of old.node)) held
@@ -109,7 +109,7 @@ module _ (sims : SimulationLaws) where
     new_cell =
         let e : suc (quanta_of old.node + gone.n) ≡ quanta_of new.node = (let g = gone.quanta in omega arith) in
         let at : IsCellOf plan i (member_after (line_of plan) i (quanta_of new.node)) new = subst (λ k. IsCellOf plan i (member_after (line_of plan) i k) new) e after_is in
-        record { setup = at.setup; keeps = at.keeps; node = at.node; changed = at.changed; next = at.next; ways = at.ways }
+        record { setup = at.setup; node = at.node; changed = at.changed; next = at.next; ways = at.ways }
 
     last_is : quanta_of new.node - 1 ≡ quanta_of old.node + gone.n
     last_is = (let g = gone.quanta in omega arith)
@@ -119,6 +119,7 @@ module _ (sims : SimulationLaws) where
       over = record {
         n = gone.n;
         quanta = gone.quanta;
+        keeps = gone.keeps;
         early = λ j c. early j (let f = gone.few in omega arith);
         stays = record {
           drive = ap (λ (m : Member). (line_of plan).drives i m.saw) (sym passed_here) ∙ stood gone.n (omega arith);
@@ -179,6 +180,7 @@ module _ (sims : SimulationLaws) where
           over = record {
             n = suc first.n + second.n;
             quanta = omega arith;
+            keeps = second.keeps ∙ first.keeps;
             early = λ j c. elim (cases_lt j (suc first.n)) [
               | inl one ↦ first.early j (omega arith)
               | inr two ↦
@@ -200,16 +202,17 @@ module _ (sims : SimulationLaws) where
     pub gone_still : (new : Cell) → HasNotGone mid new → HasGoneIn plan i end old new turned
     gone_still new not =
         let a = first.after in
-        let held : IsCellOf plan i (member_after (line_of plan) i (quanta_of mid.node)) mid = record { setup = a.setup; keeps = a.keeps; node = a.node; changed = a.changed; next = a.next; ways = a.ways } in
+        let held : IsCellOf plan i (member_after (line_of plan) i (quanta_of mid.node)) mid = record { setup = a.setup; node = a.node; changed = a.changed; next = a.next; ways = a.ways } in
         let at : IsCellOf plan i (member_after (line_of plan) i (quanta_of new.node)) new =
         subst (λ k. IsCellOf plan i (member_after (line_of plan) i k) new) (sym not.quanta) (not.same plan i (member_after (line_of plan) i (quanta_of mid.node)) held) in
         record {
           over = record {
             n = first.n;
             quanta = not.quanta ∙ first.quanta;
+            keeps = not.keeps ∙ first.keeps;
             early = first.early;
             stays = first.stays;
-            after = record { setup = at.setup; keeps = at.keeps; node = at.node; changed = at.changed; next = at.next; ways = at.ways };
+            after = record { setup = at.setup; node = at.node; changed = at.changed; next = at.next; ways = at.ways };
             says = ap (λ k. spoken (line_of plan) i (k - 1)) not.quanta ∙ first.says;
           };
           turned_is = gone.turned_is ∙ ap (λ k. turned_at (line_of plan) i (k - 1)) (sym not.quanta);

@@ -45,34 +45,34 @@ is_some_first : (b : Bool) → is_some (first_if b) ≡ b
 is_some_first true = refl
 is_some_first false = refl
 
-begun_inside : (plan : Plan) (chosen : ℕ → Bool) (i : ℕ) → i < length plan.nodes → quanta_at (initial_group plan chosen) i ≡ first_if (chosen i)
-begun_inside plan chosen i b = get_or-map-range_with_len (λ j. first_if (chosen j)) 0 (length plan.nodes) i i None b (omega arith)
+begun_inside : (lists : Bool) (plan : Plan) (chosen : ℕ → Bool) (i : ℕ) → i < length plan.nodes → quanta_at (initial_group lists plan chosen) i ≡ first_if (chosen i)
+begun_inside lists plan chosen i b = get_or-map-range_with_len (λ j. first_if (chosen j)) 0 (length plan.nodes) i i None b (omega arith)
 
-begun_outside : (plan : Plan) (chosen : ℕ → Bool) (i : ℕ) → length plan.nodes ≤ i → quanta_at (initial_group plan chosen) i ≡ None
-begun_outside plan chosen i b =
+begun_outside : (lists : Bool) (plan : Plan) (chosen : ℕ → Bool) (i : ℕ) → length plan.nodes ≤ i → quanta_at (initial_group lists plan chosen) i ≡ None
+begun_outside lists plan chosen i b =
     let e = length-map-range_with_len (λ j. first_if (chosen j)) 0 (length plan.nodes) in
     get_or_past (map (λ j. first_if (chosen j)) (range_with_len 0 (length plan.nodes))) i None (omega arith)
 
-begins_at : (plan : Plan) (chosen : ℕ → Bool) → ((i : ℕ) → length plan.nodes ≤ i → chosen i ≡ false) → (i : ℕ) → belongs (initial_group plan chosen) i ≡ chosen i
-begins_at plan chosen past i = elim (cases_lt i (length plan.nodes)) [
-  | inl inside ↦ ap is_some (begun_inside plan chosen i inside) ∙ is_some_first (chosen i)
-  | inr outside ↦ ap is_some (begun_outside plan chosen i outside) ∙ sym (past i outside)
+begins_at : (lists : Bool) (plan : Plan) (chosen : ℕ → Bool) → ((i : ℕ) → length plan.nodes ≤ i → chosen i ≡ false) → (i : ℕ) → belongs (initial_group lists plan chosen) i ≡ chosen i
+begins_at lists plan chosen past i = elim (cases_lt i (length plan.nodes)) [
+  | inl inside ↦ ap is_some (begun_inside lists plan chosen i inside) ∙ is_some_first (chosen i)
+  | inr outside ↦ ap is_some (begun_outside lists plan chosen i outside) ∙ sym (past i outside)
 ]
 
-begins_with : (plan : Plan) (chosen : ℕ → Bool) → ((i : ℕ) → length plan.nodes ≤ i → chosen i ≡ false) → belongs (initial_group plan chosen) ≡ chosen
-begins_with plan chosen past = λ k i. begins_at plan chosen past i k
+begins_with : (lists : Bool) (plan : Plan) (chosen : ℕ → Bool) → ((i : ℕ) → length plan.nodes ≤ i → chosen i ≡ false) → belongs (initial_group lists plan chosen) ≡ chosen
+begins_with lists plan chosen past = λ k i. begins_at lists plan chosen past i k
 
 -- who belongs to a group that begins was chosen, and is a node
-was_chosen : (plan : Plan) (chosen : ℕ → Bool) (i : ℕ) → belongs (initial_group plan chosen) i ≡ true → (i < length plan.nodes) × (chosen i ≡ true)
-was_chosen plan chosen i h = elim (cases_lt i (length plan.nodes)) [
-  | inl inside ↦ (inside, sym (is_some_first (chosen i)) ∙ (sym (ap is_some (begun_inside plan chosen i inside)) ∙ h))
-  | inr outside ↦ absurd (false≢true (sym (ap is_some (begun_outside plan chosen i outside)) ∙ h))
+was_chosen : (lists : Bool) (plan : Plan) (chosen : ℕ → Bool) (i : ℕ) → belongs (initial_group lists plan chosen) i ≡ true → (i < length plan.nodes) × (chosen i ≡ true)
+was_chosen lists plan chosen i h = elim (cases_lt i (length plan.nodes)) [
+  | inl inside ↦ (inside, sym (is_some_first (chosen i)) ∙ (sym (ap is_some (begun_inside lists plan chosen i inside)) ∙ h))
+  | inr outside ↦ absurd (false≢true (sym (ap is_some (begun_outside lists plan chosen i outside)) ∙ h))
 ]
 
-at_first : (plan : Plan) (chosen : ℕ → Bool) (i : ℕ) → belongs (initial_group plan chosen) i ≡ true → quanta_at (initial_group plan chosen) i ≡ Some 0
-at_first plan chosen i h =
-    let c = was_chosen plan chosen i h in
-    begun_inside plan chosen i c.0 ∙ ap first_if c.1
+at_first : (lists : Bool) (plan : Plan) (chosen : ℕ → Bool) (i : ℕ) → belongs (initial_group lists plan chosen) i ≡ true → quanta_at (initial_group lists plan chosen) i ≡ Some 0
+at_first lists plan chosen i h =
+    let c = was_chosen lists plan chosen i h in
+    begun_inside lists plan chosen i c.0 ∙ ap first_if c.1
 
 -- a place of the list holds something only inside it
 member_inside : (g : GroupValue) (i k : ℕ) → quanta_at g i ≡ Some k → i < length g.ran
@@ -119,18 +119,18 @@ module _ (tables : TableLaws) (joins : SlotsLaws) (knows : KnownLaws) (sims : Si
   fresh_is plan c i b =
       same_member fresh (member_after (line_of plan) i 0) (sym (nothing_seen (line_of plan) i)) (sym (sims.none_at_first (line_of plan) i (sound plan c).causal b))
 
-  begun_member : (plan : Plan) → IsChecked plan → (chosen : ℕ → Bool) (i : ℕ) → belongs (initial_group plan chosen) i ≡ true → fresh ≡ members_now (initial_group plan chosen) i
-  begun_member plan c chosen i h =
-      fresh_is plan c i (was_chosen plan chosen i h).0 ∙ sym (ap (member_at (line_of plan) i) (at_first plan chosen i h))
+  begun_member : (lists : Bool) (plan : Plan) → IsChecked plan → (chosen : ℕ → Bool) (i : ℕ) → belongs (initial_group lists plan chosen) i ≡ true → fresh ≡ members_now (initial_group lists plan chosen) i
+  begun_member lists plan c chosen i h =
+      fresh_is plan c i (was_chosen lists plan chosen i h).0 ∙ sym (ap (member_at (line_of plan) i) (at_first lists plan chosen i h))
 
-  begins_as : (plan : Plan) → IsChecked plan → (chosen : ℕ → Bool) → Matches (initial_party (line_of plan) chosen) (initial_group plan chosen)
-  begins_as plan c chosen = record { replica = refl; members = λ i h. begun_member plan c chosen i h; emitted = refl }
+  begins_as : (lists : Bool) (plan : Plan) → IsChecked plan → (chosen : ℕ → Bool) → Matches (initial_party (line_of plan) chosen) (initial_group lists plan chosen)
+  begins_as lists plan c chosen = record { replica = refl; members = λ i h. begun_member lists plan c chosen i h; emitted = refl }
 
-  begun_slots : (plan : Plan) (chosen : ℕ → Bool) → slots_of (initial_group plan chosen).replica ≡ slots (initial_party (line_of plan) chosen)
-  begun_slots plan chosen = states.records (length plan.nodes) (initial_silences (line_of plan) chosen (length plan.nodes))
+  begun_slots : (lists : Bool) (plan : Plan) (chosen : ℕ → Bool) → slots_of (initial_group lists plan chosen).replica ≡ slots (initial_party (line_of plan) chosen)
+  begun_slots lists plan chosen = states.records (length plan.nodes) (initial_silences (line_of plan) chosen (length plan.nodes))
 
-  begins : (plan : Plan) → IsChecked plan → (chosen : ℕ → Bool) → IsGroupValue (initial_group plan chosen)
-  begins plan c chosen =
+  begins : (lists : Bool) (plan : Plan) → IsChecked plan → (chosen : ℕ → Bool) → IsGroupValue (initial_group lists plan chosen)
+  begins lists plan c chosen =
       let h = groups.begun_holds (line_of plan) (sound plan c) chosen in
       record {
         checked = c;
@@ -141,10 +141,10 @@ module _ (tables : TableLaws) (joins : SlotsLaws) (knows : KnownLaws) (sims : Si
           true_fits (length plan.nodes) (table_of plan) (initial_silences (line_of plan) chosen (length plan.nodes)) (groups.firsts_true (line_of plan) (sound plan c) chosen),
           refl,
         );
-        holds = subst (IsGroup (line_of plan) (belongs (initial_group plan chosen)) (members_now (initial_group plan chosen))) (sym (begun_slots plan chosen)) (record {
+        holds = subst (IsGroup (line_of plan) (belongs (initial_group lists plan chosen)) (members_now (initial_group lists plan chosen))) (sym (begun_slots lists plan chosen)) (record {
           truth = h.truth;
-          each = λ i b o. subst (λ m. IsMember (line_of plan) i m (slots (initial_party (line_of plan) chosen))) (begun_member plan c chosen i o)
-              (h.each i b (was_chosen plan chosen i o).1);
+          each = λ i b o. subst (λ m. IsMember (line_of plan) i m (slots (initial_party (line_of plan) chosen))) (begun_member lists plan c chosen i o)
+              (h.each i b (was_chosen lists plan chosen i o).1);
         });
         emitted_true = tt;
       }
@@ -336,12 +336,13 @@ module _ (tables : TableLaws) (joins : SlotsLaws) (knows : KnownLaws) (sims : Si
   -- ---- quanta that run one after another
 
   all_run : (g h : GroupValue) (rs : List Record) → IsGroupValue g → Ran g rs h → HasRunOn g h rs
-  all_run g h rs v (runs_of.none {g = x}) = record { value = v; plan = refl; members = refl; emitted = sym (append-nil x.emitted); said_true = tt }
+  all_run g h rs v (runs_of.none {g = x}) = record { value = v; plan = refl; lists = refl; members = refl; emitted = sym (append-nil x.emitted); said_true = tt }
   all_run g h rs v (runs_of.more {g = x} {h = y} {rs = rest} i k e may steps) =
       let next = all_run (run_on i k x) y rest (runs x v i k e may) steps in
       record {
         value = next.value;
         plan = next.plan;
+        lists = next.lists;
         members = next.members ∙ runs_with x i k e;
         emitted = next.emitted ∙ append_assoc x.emitted (emission_at x i) rest;
         said_true = true_append (length x.plan.nodes) (table_of x.plan) (emission_at x i) rest (said_true x v i k e may) next.said_true;

@@ -6,7 +6,7 @@ use Rattle.wl_record_core.specs.declared.record.Record.{Record}
 use Rattle.wl_record_core.specs.Slots.{node_of}
 use Rattle.wl_record_core.specs.Truth.{AreTrueOf}
 use Rattle.wl_replica.specs.State.{State, state_with_records}
-use Rattle.wl_node.specs.Reached.{quanta_of}
+use Rattle.wl_node.specs.Reached.{keeps_lists, quanta_of}
 use Rattle.wl_plan.specs.declared.plan.Plan.{Plan}
 use Rattle.wl_plan.specs.PlanLine.{line_of, table_of}
 use Rattle.wl_plan.specs.Simulation.{AreInside}
@@ -28,6 +28,7 @@ pub record HasSaidAll (old new : GroupValue) (said : List Record) : Type 0 where
 pub record HasSaid (old new : GroupValue) (before after : List Record) : Type 0 where
   pub value : IsGroupValue new
   pub plan : new.plan ≡ old.plan
+  pub lists : new.lists ≡ old.lists
   pub members : belongs new ≡ belongs old
   pub emitted : (first : List Record) → old.emitted ≡ first ++ before → new.emitted ≡ first ++ after
   pub truth : AreTrueOf (length old.plan.nodes) (table_of old.plan) before → AreTrueOf (length old.plan.nodes) (table_of old.plan) after
@@ -38,6 +39,7 @@ pub record HasSaid (old new : GroupValue) (before after : List Record) : Type 0 
 -- One cell and a later one: node j of the plan ran some quanta more, all before a tick, and is where the simulation has it.
 pub record HasGoneAlong (plan : Plan) (j until : ℕ) (old new : Cell) : Type 0 where
   pub cell : IsCell plan j new
+  pub keeps : keeps_lists new.node ≡ keeps_lists old.node
   pub later : quanta_of old.node ≤ quanta_of new.node
   pub before : (k : ℕ) → quanta_of old.node ≤ k → k < quanta_of new.node → (line_of plan).instant j k < until
   pub inside : AreInside (line_of plan) j (quanta_of new.node)

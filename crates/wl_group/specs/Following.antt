@@ -2,7 +2,7 @@
 -- For a reader who knows simulation: optimistic execution (Jefferson 1985), of which nothing is committed.
 use Rattle.std.specs.Prelude.{◌≡◌, ℕ, ◌+◌, ◌<◌, ◌≤◌, List, ◌++◌, length}
 use Rattle.wl_level.specs.declared.Level.{Level}
-use Rattle.wl_node.specs.Reached.{quanta_of}
+use Rattle.wl_node.specs.Reached.{keeps_lists, quanta_of}
 use Rattle.wl_plan.specs.declared.plan.Plan.{Plan}
 use Rattle.wl_plan.specs.PlanLine.{line_of}
 use Rattle.wl_plan.specs.Simulation.{seen, AreInside}
@@ -14,6 +14,7 @@ use Rattle.wl_group.specs.Running.{IsCellOf}
 
 -- From where it was, a cell ran some quanta more, whatever it saw: of each plan, node and member.
 pub record HasRunAhead (old new : Cell) : Type 0 where
+  pub keeps : keeps_lists new.node ≡ keeps_lists old.node
   pub more : List Level
   pub to : (plan : Plan) (i : ℕ) (m : Member) → IsCellOf plan i m old → (changed : ℕ) × IsCellOf plan i (record { saw = m.saw ++ more; changed = changed }) new
 

@@ -28,6 +28,7 @@ told_by g i k n =
 abbrev pub gone_on : GroupValue → ℕ → ℕ → List Record → GroupValue
 gone_on g i k said = record {
   plan = g.plan;
+  lists = g.lists;
   ran = slice_set g.ran i (Some k);
   replica = state_with_records g.replica said;
   emitted = g.emitted ++ said;

@@ -17,6 +17,8 @@ use Rattle.wl_group.specs.Holds.{IsGroup}
 
 pub record GroupValue : Type 0 where
   pub plan : Plan
+  -- whether its nodes list their samples and phase errors, or only count them
+  pub lists : Bool
   -- for each node of the plan: how many quanta it has run, where it is a member
   pub ran : List (Option ℕ)
   -- what it knows of all nodes
@@ -64,10 +66,11 @@ pub record Matches (p : Party) (g : GroupValue) : Type 0 where
 abbrev pub names : List ℕ → ℕ → Bool
 names members i = list_any (λ m. m == i) members
 
--- a group that begins, or begins again
-abbrev pub initial_group : Plan → (ℕ → Bool) → GroupValue
-initial_group plan chosen = record {
+-- a group that begins, or begins again; whether its nodes list their samples and phase errors
+abbrev pub initial_group : Bool → Plan → (ℕ → Bool) → GroupValue
+initial_group lists plan chosen = record {
   plan = plan;
+  lists = lists;
   ran = map (λ i. if chosen i then Some 0 else None) (range_with_len 0 (length plan.nodes));
   replica = state_of (length plan.nodes) (initial_silences (line_of plan) chosen (length plan.nodes));
   emitted = [];
@@ -83,10 +86,10 @@ has_ended g i = belongs g i && nat_le g.plan.end (next_tick (line_of g.plan) i (
 
 -- the group with these records taken, and with what another knows
 abbrev pub with_records : List Record → GroupValue → GroupValue
-with_records rs g = record { plan = g.plan; ran = g.ran; replica = state_with_records g.replica rs; emitted = g.emitted }
+with_records rs g = record { plan = g.plan; lists = g.lists; ran = g.ran; replica = state_with_records g.replica rs; emitted = g.emitted }
 
 abbrev pub with_state : State → GroupValue → GroupValue
-with_state s g = record { plan = g.plan; ran = g.ran; replica = states_joined g.replica s; emitted = g.emitted }
+with_state s g = record { plan = g.plan; lists = g.lists; ran = g.ran; replica = states_joined g.replica s; emitted = g.emitted }
 
 -- ---- its next quanta
 
@@ -101,6 +104,7 @@ emission_at g i = emission (line_of g.plan) i (members_now g i) (reads_at g i)
 abbrev pub run_on : ℕ → ℕ → GroupValue → GroupValue
 run_on i k g = record {
   plan = g.plan;
+  lists = g.lists;
   ran = slice_set g.ran i (Some (suc k));
   replica = state_with_records g.replica (emission_at g i);
   emitted = g.emitted ++ emission_at g i;

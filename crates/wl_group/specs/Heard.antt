@@ -1,5 +1,5 @@
 -- What a place finds: which of a node's changes have come, and how long the line stays as it is. This project's profile.
-use Rattle.std.specs.Prelude.{◌≡◌, ℕ, suc, ◌+◌, ◌-◌, ◌<◌, ◌≤◌, ◌&&◌, false, List, [], Option, length, nat_le, slice_index_or}
+use Rattle.std.specs.Prelude.{◌≡◌, ℕ, suc, ◌+◌, ◌-◌, ◌<◌, ◌≤◌, ◌&&◌, Bool, false, List, [], Option, length, nat_le, slice_index_or}
 use Rattle.wl_topology.specs.Driven.{driven}
 use Rattle.wl_topology.specs.Limits.{most_places}
 use Rattle.wl_record_core.specs.declared.record.Record.{Record}
@@ -75,8 +75,8 @@ pub record ArePlaceSources (l : Line) (places : List (List Source)) : Type 0 whe
   pub each : (j : ℕ) → AreHeardOf l j (slice_index_or places j [])
 
 -- What a group keeps, with what its members found last.
-pub record IsKeptWithStretches (plan : Plan) (cells : List (Option Cell)) (replica : State) (emitted : List Record) (heard pulses : List Pulse) (places : List (List Source)) : Type 0 where
-  pub kept : IsKept plan cells replica emitted
+pub record IsKeptWithStretches (plan : Plan) (lists : Bool) (cells : List (Option Cell)) (replica : State) (emitted : List Record) (heard pulses : List Pulse) (places : List (List Source)) : Type 0 where
+  pub kept : IsKept plan lists cells replica emitted
   pub stretches : AreStretches (line_of plan) heard
   pub disturbances : AreDisturbed plan pulses
   pub sources : ArePlaceSources (line_of plan) places

@@ -21,7 +21,6 @@ use Rattle.wl_group.specs.GroupValue.{GroupValue, IsGroupValue, Matches, quanta_
 -- What a group keeps of node i stands where this member of the machine does.
 pub record IsCellOf (plan : Plan) (i : ℕ) (m : Member) (cell : Cell) : Type 0 where
   pub setup : node_setup cell.node ≡ setup_at plan i
-  pub keeps : keeps_lists cell.node ≡ true
   pub node : IsNode m.saw cell.node
   pub changed : cell.changed ≡ m.changed
   pub next : cell.next ≡ (line_of plan).instant i (quanta_of cell.node)
@@ -40,6 +39,7 @@ pub record HasGone (level : Level) (most : ℕ) (old new : Cell) (turned : Bool)
   pub n : ℕ
   pub few : n < most
   pub quanta : quanta_of new.node ≡ quanta_of old.node + suc n
+  pub keeps : keeps_lists new.node ≡ keeps_lists old.node
   pub stood : (plan : Plan) (i : ℕ) (m : Member) → IsCellOf plan i m old → Stood (line_of plan) i m level n
   pub after : (plan : Plan) (i : ℕ) (m : Member) → IsCellOf plan i m old → IsCellOf plan i (member_after_quantum (line_of plan) i (passed m level n) level) new
   pub turned_is : (plan : Plan) (i : ℕ) (m : Member) → IsCellOf plan i m old → turned ≡ turns (line_of plan) i (passed m level n) level
@@ -47,6 +47,7 @@ pub record HasGone (level : Level) (most : ℕ) (old new : Cell) (turned : Bool)
 -- or none
 pub record HasNotGone (old new : Cell) : Type 0 where
   pub quanta : quanta_of new.node ≡ quanta_of old.node
+  pub keeps : keeps_lists new.node ≡ keeps_lists old.node
   pub same : (plan : Plan) (i : ℕ) (m : Member) → IsCellOf plan i m old → IsCellOf plan i m new
 
 -- the slots of which node i may say something at its next quanta, up to one that turns its drive, after so many changes
@@ -70,6 +71,7 @@ pub record HasRunNext (i : ℕ) (old new : GroupValue) (said : List Record) : Ty
   pub emitted : (p : Party) → Matches p old → said ≡ emission_of (line_of old.plan) p i
   pub after : (p : Party) → Matches p old → Matches (run_next (line_of old.plan) i p) new
   pub plan : new.plan ≡ old.plan
+  pub lists : new.lists ≡ old.lists
   pub members : belongs new ≡ belongs old
   pub fewer : quanta_left new < quanta_left old
 
@@ -94,10 +96,11 @@ pub data Ran : GroupValue → List Record → GroupValue → Type 0 where
   none : {g : GroupValue} → Ran g [] g
   more : {g h : GroupValue} {rs : List Record} (i k : ℕ) → quanta_at g i ≡ Some k → may_run g i ≡ true → Ran (run_on i k g) rs h → Ran g (emission_at g i ++ rs) h
 
--- What such a run leaves: a group of the same plan and members, which has emitted what it had emitted and these records, all of them true.
+-- What such a run leaves: a group of the same plan and members, whose nodes list as before; it has emitted what it had emitted and these records, all of them true.
 pub record HasRunOn (old new : GroupValue) (rs : List Record) : Type 0 where
   pub value : IsGroupValue new
   pub plan : new.plan ≡ old.plan
+  pub lists : new.lists ≡ old.lists
   pub members : belongs new ≡ belongs old
   pub emitted : new.emitted ≡ old.emitted ++ rs
   pub said_true : AreTrueOf (length old.plan.nodes) (table_of old.plan) rs

@@ -3,7 +3,7 @@ use Rattle.std.specs.Prelude.{◌≡◌, ℕ, suc, ◌+◌, ◌-◌, ◌<◌, �
 use Rattle.wl_level.specs.Levels.{level_of}
 use Rattle.wl_record_core.specs.declared.record.Record.{Record}
 use Rattle.wl_replica.specs.State.{Fits}
-use Rattle.wl_node.specs.Reached.{quanta_of}
+use Rattle.wl_node.specs.Reached.{keeps_lists, quanta_of}
 use Rattle.wl_plan.specs.declared.plan.Plan.{Plan}
 use Rattle.wl_plan.specs.Line.{Line, found}
 use Rattle.wl_plan.specs.PlanLine.{line_of}
@@ -47,6 +47,7 @@ pub record Stays (plan : Plan) (i k n : ℕ) : Type 0 where
 pub record HasGoneOver (plan : Plan) (i end : ℕ) (old new : Cell) (said : List Record) : Type 0 where
   pub n : ℕ
   pub quanta : quanta_of new.node ≡ quanta_of old.node + suc n
+  pub keeps : keeps_lists new.node ≡ keeps_lists old.node
   pub early : (j : ℕ) → j ≤ n → (line_of plan).instant i (quanta_of old.node + j) < end
   pub stays : Stays plan i (quanta_of old.node) n
   pub after : IsCell plan i new

@@ -18,9 +18,9 @@ use Rattle.wl_group.specs.GroupValue.{GroupValue, IsGroupValue, Matches, quanta_
 
 pub record ValueLaws : Type 0 where
   -- a group begins with the nodes that were chosen, as the party does
-  pub begins : (plan : Plan) → IsChecked plan → (chosen : ℕ → Bool) → IsGroupValue (initial_group plan chosen)
-  pub begins_as : (plan : Plan) → IsChecked plan → (chosen : ℕ → Bool) → Matches (initial_party (line_of plan) chosen) (initial_group plan chosen)
-  pub begins_with : (plan : Plan) (chosen : ℕ → Bool) → ((i : ℕ) → length plan.nodes ≤ i → chosen i ≡ false) → belongs (initial_group plan chosen) ≡ chosen
+  pub begins : (lists : Bool) (plan : Plan) → IsChecked plan → (chosen : ℕ → Bool) → IsGroupValue (initial_group lists plan chosen)
+  pub begins_as : (lists : Bool) (plan : Plan) → IsChecked plan → (chosen : ℕ → Bool) → Matches (initial_party (line_of plan) chosen) (initial_group lists plan chosen)
+  pub begins_with : (lists : Bool) (plan : Plan) (chosen : ℕ → Bool) → ((i : ℕ) → length plan.nodes ≤ i → chosen i ≡ false) → belongs (initial_group lists plan chosen) ≡ chosen
   -- every group is some party
   pub some_party : (g : GroupValue) → IsGroupValue g → (p : Party) × Matches p g
   -- a member is a node, and has run few quanta, all of them below the end

@@ -35,6 +35,7 @@ impl Group {
         ensures err { OnErr result ((some : List Told) × HasRunOn self.old self.new some
             × HasSaidAll self.old self.new some) }
         ensures plan { self.new.plan ≡ self.old.plan }
+        ensures lists { self.new.lists ≡ self.old.lists }
         ensures members { belongs self.new ≡ belongs self.old }
     {
         guess_laws();

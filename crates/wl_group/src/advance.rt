@@ -28,6 +28,7 @@ impl Group {
         ensures value { IfOk result (λ a. HasReplied node self.old self.new (reply_of_answer a)) }
         ensures answer { IfOk result (λ a. HasAnswered node self.old self.new a) }
         ensures plan { self.new.plan ≡ self.old.plan }
+        ensures lists { self.new.lists ≡ self.old.lists }
         ensures members { belongs self.new ≡ belongs self.old }
         ensures calm { may_run self.old node ≡ false → IsOk result }
         ensures err { OnErr result (self.new ≡ self.old) }
@@ -53,6 +54,7 @@ impl Group {
         ensures none { IfOk result (λ gone. IfNone gone ((may_run self.old node ≡ false) × (self.new ≡ self.old))) }
         ensures gone { IfOk result (λ gone. IfSome gone (λ said. HasGoneOn node self.old self.new said.items)) }
         ensures plan { self.new.plan ≡ self.old.plan }
+        ensures lists { self.new.lists ≡ self.old.lists }
         ensures members { belongs self.new ≡ belongs self.old }
         ensures calm { may_run self.old node ≡ false → IsOk result }
         ensures err { OnErr result (self.new ≡ self.old) }
@@ -187,6 +189,7 @@ impl Group {
         ensures some { OnErr result ((rs : List Record) × Ran self.old rs self.new) }
         ensures stuck { OnOk result ((i : ℕ) → may_run self.new i ≡ false) }
         ensures plan { self.new.plan ≡ self.old.plan }
+        ensures lists { self.new.lists ≡ self.old.lists }
         ensures members { belongs self.new ≡ belongs self.old }
     {
         value_laws();

@@ -3,18 +3,20 @@ ghost use Rattle.std.specs.Prelude.{◌≡◌, ◌<◌, ◌≤◌, ◌++◌, ℕ
 ghost use Rattle.wl_record_core.specs.declared.record.Record.{Record as Told};
 ghost use Rattle.wl_record_core.specs.declared.record.Record.TheVariants.{Silence};
 ghost use Rattle.wl_replica.specs.State.{state_of};
+ghost use Rattle.wl_node.specs.Reached.{IsNode, keeps_lists, node_setup};
 ghost use Rattle.wl_plan.specs.Line.{reach};
 ghost use Rattle.wl_plan.specs.PlanLine.{line_of, IsTrueOfPlan};
 ghost use Rattle.wl_plan.specs.Checked.{IsChecked};
 ghost use Rattle.wl_group.specs.GroupValue.{names, initial_group};
-ghost use Rattle.wl_group.specs.Kept.{quanta_kept, ran_of, IsCell, AreCells};
+ghost use Rattle.wl_group.specs.Kept.{quanta_kept, ran_of, IsCell, AreCells, AreListing};
 ghost use Rattle.wl_group.specs.declared.cell.Cell.{Cell as KeptCell};
 ghost use Rattle.wl_group.specs.Chosen.{is_chosen};
+ghost use Rattle.wl_group.specs.Party.{initial_silences};
 ghost use Rattle.wl_group.specs.Ways.{AreWays};
 
 use crate::cell::{Cell, Ways};
 use std::alloc::{AllocError, Global};
-use wl_node::Node;
+use wl_node::{Node, NodeSetup};
 use wl_plan::CheckedPlan;
 use wl_record_core::Record;
 use wl_replica::Replica;
@@ -42,32 +44,38 @@ fn is_named(members: &[u8], i: u8) -> bool
     members.iter().any(|m| *m == i)
 }
 
-/// Returns, for each node of the plan that is chosen, the node before its first quantum.
+/// Returns, for each node of the plan that is chosen, the node before its first quantum. The nodes list their samples and phase errors if
+/// `lists` is true, and else only count them.
 pub(crate) fn fresh_cells(
     alloc: Global,
     plan: &CheckedPlan,
     chosen: &Chosen,
+    lists: bool,
 ) -> Result<Vec<Option<Cell>>, AllocError>
-    ensures ran { IfOk result (λ cells. ran_of cells.items ≡ (initial_group plan.now (is_chosen chosen.now)).ran) }
+    ensures ran { IfOk result (λ cells. ran_of cells.items ≡ (initial_group lists plan.now (is_chosen chosen.now)).ran) }
     ensures cells { IfOk result (λ cells. AreCells plan.now cells.items) }
+    ensures listing { IfOk result (λ cells. AreListing lists cells.items) }
 {
     let mut cells = Vec::new(alloc);
     for i in 0..plan.nodes() {
-        cells.push(fresh_cell(alloc, plan, chosen, i)?)?;
+        cells.push(fresh_cell(alloc, plan, chosen, lists, i)?)?;
     }
     Ok(cells)
 }
 
-/// Returns node `i` before its first quantum, if it is chosen.
+/// Returns node `i` before its first quantum, if it is chosen. It lists its samples and phase errors if `lists` is true, and else only
+/// counts them.
 fn fresh_cell(
     alloc: Global,
     plan: &CheckedPlan,
     chosen: &Chosen,
+    lists: bool,
     i: u8,
 ) -> Result<Option<Cell>, AllocError>
     requires node { i < length plan.now.nodes }
     ensures ran { IfOk result (λ cell. quanta_kept cell ≡ (if is_chosen chosen.now i then Some 0 else None)) }
     ensures cell { IfOk result (λ cell. (member : KeptCell) → cell ≡ Some member → IsCell plan.now i member) }
+    ensures keeps { IfOk result (λ cell. (member : KeptCell) → cell ≡ Some member → keeps_lists member.node ≡ lists) }
 {
     plan.laws();
     wl_plan::simulation_laws();
@@ -76,7 +84,7 @@ fn fresh_cell(
         return Ok(None);
     }
     let setup = plan.node(i).clone_in(alloc)?;
-    let node = Node::new(alloc, setup)?;
+    let node = fresh_node(alloc, setup, lists)?;
     let next = node.setup().clock.at(0);
     Ok(Some(Cell {
         node,
@@ -84,6 +92,19 @@ fn fresh_cell(
         next,
         ways: ways_to(plan, i),
     }))
+}
+
+/// Returns a node of this setup that has run no quantum. It lists its samples and phase errors if `lists` is true, and else only counts
+/// them.
+fn fresh_node(alloc: Global, setup: NodeSetup, lists: bool) -> Result<Node, AllocError>
+    ensures node { IfOk result (λ node. IsNode [] node) }
+    ensures setup { IfOk result (λ node. node_setup node ≡ setup) }
+    ensures keeps { IfOk result (λ node. keeps_lists node ≡ lists) }
+{
+    if lists {
+        return Node::new(alloc, setup);
+    }
+    Node::counting(alloc, setup)
 }
 
 /// Returns how many ticks a level takes from each node to node `j`.
@@ -105,7 +126,8 @@ pub(crate) fn first_replica(
     plan: &CheckedPlan,
     chosen: &Chosen,
 ) -> Result<Replica, AllocError>
-    ensures { IfOk result (λ replica. replica ≡ (initial_group plan.now (is_chosen chosen.now)).replica) }
+    ensures { IfOk result (λ replica. replica ≡ state_of (length plan.now.nodes)
+        (initial_silences (line_of plan.now) (is_chosen chosen.now) (length plan.now.nodes))) }
 {
     let mut replica = Replica::new(alloc, plan.nodes())?;
     for i in 0..plan.nodes() {

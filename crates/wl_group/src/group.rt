@@ -1,6 +1,6 @@
 //! A group of nodes that runs by itself, up to what it knows of the others.
 
-ghost use Rattle.std.specs.Prelude.{◌≡◌, ◌<◌, ◌≤◌, ℕ, true, List, [], ◌∷◌, length, All, IfOk, OnOk, OnErr, Some};
+ghost use Rattle.std.specs.Prelude.{◌≡◌, ◌<◌, ◌≤◌, ℕ, true, false, List, [], ◌∷◌, length, All, IfOk, OnOk, OnErr, Some};
 
 use crate::begin::{Chosen, chosen_of, first_replica, fresh_cells};
 use crate::cell::{Cell, Ways};
@@ -22,6 +22,8 @@ use wl_topology::MOST_NODES;
 pub struct Group {
     pub(crate) alloc: Global,
     pub(crate) plan: CheckedPlan,
+    // Whether its nodes list their samples and phase errors.
+    pub(crate) lists: bool,
     pub(crate) cells: Vec<Option<Cell>>,
     pub(crate) replica: Replica,
     pub(crate) emitted: Vec<Record>,
@@ -48,9 +50,9 @@ impl Model for Group {
     ghost use Rattle.wl_group.specs.Kept.{group_value};
     ghost use Rattle.wl_group.specs.Heard.{IsKeptWithStretches};
 
-    ghost view = { λ g. group_value g.plan g.cells.items g.replica g.emitted.items };
+    ghost view = { λ g. group_value g.plan g.lists g.cells.items g.replica g.emitted.items };
 
-    ghost invariant = { λ g. IsKeptWithStretches g.plan g.cells.items g.replica g.emitted.items
+    ghost invariant = { λ g. IsKeptWithStretches g.plan g.lists g.cells.items g.replica g.emitted.items
         g.heard g.disturbances g.sources.items };
 }
 
@@ -70,11 +72,37 @@ impl Group {
     ghost use Rattle.wl_group.specs.GroupValue.{IsGroupValue, Matches, belongs, quanta_at, members_now, names, initial_group, may_run, has_ended, with_records, with_state};
 
     /// Returns a group of these nodes of a plan that passed its check, before their first quanta. It knows no more than that each of them
-    /// keeps its first drive up to its first quantum. A number that comes twice counts once. Refused only when out of memory.
+    /// keeps its first drive up to its first quantum. A number that comes twice counts once. Its nodes list their samples and phase errors.
+    /// Refused only when out of memory.
     pub fn new(alloc: Global, plan: &Plan, members: &[u8]) -> Result<Group, AllocError>
         requires checked { IsChecked plan.now }
         requires nodes { All (λ m. m < length plan.now.nodes) members.now }
-        ensures value { IfOk result (λ group. group ≡ initial_group plan.now (names members.now)) }
+        ensures value { IfOk result (λ group. group ≡ initial_group true plan.now (names members.now)) }
+        ensures begun { IfOk result (λ group. Matches (initial_party (line_of plan.now) (names members.now)) group) }
+        ensures plan { IfOk result (λ group. group.plan ≡ plan.now) }
+        ensures members { IfOk result (λ group. belongs group ≡ names members.now) }
+    {
+        Group::begin(alloc, plan, members, true)
+    }
+
+    /// Returns such a group whose nodes only count their samples and phase errors, which takes less memory and time. Refused only when out of
+    /// memory.
+    pub fn counting(alloc: Global, plan: &Plan, members: &[u8]) -> Result<Group, AllocError>
+        requires checked { IsChecked plan.now }
+        requires nodes { All (λ m. m < length plan.now.nodes) members.now }
+        ensures value { IfOk result (λ group. group ≡ initial_group false plan.now (names members.now)) }
+        ensures begun { IfOk result (λ group. Matches (initial_party (line_of plan.now) (names members.now)) group) }
+        ensures plan { IfOk result (λ group. group.plan ≡ plan.now) }
+        ensures members { IfOk result (λ group. belongs group ≡ names members.now) }
+    {
+        Group::begin(alloc, plan, members, false)
+    }
+
+    /// Returns such a group whose nodes list their samples and phase errors if `lists` is true, and else only count them.
+    fn begin(alloc: Global, plan: &Plan, members: &[u8], lists: bool) -> Result<Group, AllocError>
+        requires checked { IsChecked plan.now }
+        requires nodes { All (λ m. m < length plan.now.nodes) members.now }
+        ensures value { IfOk result (λ group. group ≡ initial_group lists plan.now (names members.now)) }
         ensures begun { IfOk result (λ group. Matches (initial_party (line_of plan.now) (names members.now)) group) }
         ensures plan { IfOk result (λ group. group.plan ≡ plan.now) }
         ensures members { IfOk result (λ group. belongs group ≡ names members.now) }
@@ -82,12 +110,13 @@ impl Group {
         value_laws();
         let plan = CheckedPlan::of(plan.clone_in(alloc)?);
         let chosen = chosen_of(members);
-        let cells = fresh_cells(alloc, &plan, &chosen)?;
+        let cells = fresh_cells(alloc, &plan, &chosen, lists)?;
         let replica = first_replica(alloc, &plan, &chosen)?;
         let sources = nothing_asked(alloc)?;
         Ok(Group {
             alloc,
             plan,
+            lists,
             cells,
             replica,
             emitted: Vec::new(alloc),
@@ -100,17 +129,18 @@ impl Group {
         })
     }
 
-    /// Begins again: fresh nodes, and an empty replica that has taken the members' first silences.
-    /// Refused when out of memory, the group is as it was.
+    /// Begins again: fresh nodes, which list their samples and phase errors if those before did, and an empty replica that has taken the
+    /// members' first silences. Refused when out of memory, the group is as it was.
     pub fn restart(&mut self) -> Result<(), AllocError>
-        ensures ok { OnOk result (self.new ≡ initial_group self.old.plan (belongs self.old)) }
+        ensures ok { OnOk result (self.new ≡ initial_group self.old.lists self.old.plan (belongs self.old)) }
         ensures begun { OnOk result (Matches (initial_party (line_of self.old.plan) (belongs self.old)) self.new) }
+        ensures lists { self.new.lists ≡ self.old.lists }
         ensures members { belongs self.new ≡ belongs self.old }
         ensures err { OnErr result (self.new ≡ self.old) }
     {
         value_laws();
         let chosen = self.chosen();
-        let cells = fresh_cells(self.alloc, &self.plan, &chosen)?;
+        let cells = fresh_cells(self.alloc, &self.plan, &chosen, self.lists)?;
         let replica = first_replica(self.alloc, &self.plan, &chosen)?;
         self.cells = cells;
         self.replica = replica;
@@ -221,13 +251,14 @@ impl Group {
         &self.replica
     }
 
-    /// Returns a member's node. It is where the one-thread simulation has it after the same number of quanta, and it lists its samples.
+    /// Returns a member's node. It is where the one-thread simulation has it after the same number of quanta. It lists its
+    /// samples if the group's nodes do.
     pub fn node(&self, i: u8) -> &Node
         requires { belongs self.now i ≡ true }
         ensures node { IsNode (members_now self.now i).saw result.now }
         ensures setup { node_setup result.now ≡ setup_at self.now.plan i }
         ensures quanta { quanta_at self.now i ≡ Some (quanta_of result.now) }
-        ensures keeps { keeps_lists result.now ≡ true }
+        ensures keeps { self.now.lists ≡ true → keeps_lists result.now ≡ true }
         ensures holds { IsGroupValue self.now }
     {
         match &self.cells[i as usize] {

@@ -19,5 +19,5 @@ returns c =
     in
     (c.self.invariant.kept.placed c.args.node c.in-Some.cell e).next
     ∙ (ap ((line_of plan).instant c.args.node) (sym (c.simulation_laws.ensures.length_seen (line_of plan) c.args.node (quanta_of c.in-Some.cell.node)))
-    ∙ (ap (λ m. next_tick (line_of plan) c.args.node m) (sym (kept_member plan c.self.inside.cells.items c.self.inside.replica c.self.inside.emitted.items c.args.node c.in-Some.cell e))
+    ∙ (ap (λ m. next_tick (line_of plan) c.args.node m) (sym (kept_member plan c.self.inside.lists c.self.inside.cells.items c.self.inside.replica c.self.inside.emitted.items c.args.node c.in-Some.cell e))
     ∙ ap (λ (v : GroupValue). next_tick (line_of v.plan) c.args.node (members_now v c.args.node)) c.self.view_is))

@@ -58,7 +58,7 @@ pub returns-clause-keeps : goal.returns-clause-keeps
 returns-clause-keeps c j member =
     let h = c.loop-j.invariant in
     let g = c.self.inside in
-    let there = belongs_there g.plan g.cells.items g.replica g.emitted.items c.self.invariant.kept c.args.self.now c.self.view_is j c.value_laws.ensures member in
+    let there = belongs_there g.plan g.lists g.cells.items g.replica g.emitted.items c.self.invariant.kept c.args.self.now c.self.view_is j c.value_laws.ensures member in
     let e = h.nodes in
     h.all j (omega (arith, there, e, c.loop-j-test.false)) member
 

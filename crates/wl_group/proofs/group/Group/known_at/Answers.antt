@@ -10,7 +10,7 @@ use Rattle.wl_group.proofs.group.Group.known_at.Goals as goal
 
 pub returns : goal.returns
 returns c =
-    let g : GroupValue = group_value c.self.inside.plan c.self.inside.cells.items c.self.inside.replica c.self.inside.emitted.items in
+    let g : GroupValue = group_value c.self.inside.plan c.self.inside.lists c.self.inside.cells.items c.self.inside.replica c.self.inside.emitted.items in
     let to : AreWays g.plan c.args.node c.ways.result.now = subst (λ (v : GroupValue). AreWays v.plan c.args.node c.ways.result.now) (sym c.self.view_is) c.ways.ensures.ways in
     let all = c.self.invariant.kept.value.of_all in
     let some : 0 < g.replica.nodes = omega (arith, all, c.self.invariant.kept.value.checked.some_node) in

@@ -13,7 +13,7 @@ use Rattle.wl_group.proofs.group.Group.member_keeps_to.Goals.{In-Some}
 cell_is : (c : In-Some) → get_or c.self.inside.cells.items c.args.j None ≡ Some c.in-Some.cell
 cell_is c =
     let g = c.self.inside in
-    let b = in_list g.plan g.cells.items g.replica g.emitted.items c.self.invariant.kept c.args.self.now c.self.view_is c.args.j c.requires.node in
+    let b = in_list g.plan g.lists g.cells.items g.replica g.emitted.items c.self.invariant.kept c.args.self.now c.self.view_is c.args.j c.requires.node in
     cell_read g.cells.items c.args.j c.index_mut.result.now c.in-Some.cell b c.index_mut.ensures.value c.in-Some.is
 
 pub can_follow-requires-clause-cell : goal.can_follow-requires-clause-cell
@@ -25,13 +25,13 @@ pub can_follow-requires-clause-inside : goal.can_follow-requires-clause-inside
 can_follow-requires-clause-inside c =
     let g = c.self.inside in
     let is = cell_is (goal.at.can_follow-requires-clause-inside c).In-Some in
-    inside_kept c.value_laws.ensures c.simulation_laws.ensures c.checked_is_sound.ensures g.plan g.cells.items g.replica g.emitted.items c.self.invariant.kept c.args.self.now c.self.view_is c.args.j c.in-Some.cell is
+    inside_kept c.value_laws.ensures c.simulation_laws.ensures c.checked_is_sound.ensures g.plan g.lists g.cells.items g.replica g.emitted.items c.self.invariant.kept c.args.self.now c.self.view_is c.args.j c.in-Some.cell is
 
 pub can_follow-requires-clause-known : goal.can_follow-requires-clause-known
 can_follow-requires-clause-known c =
     let g = c.self.inside in
     let is = cell_is (goal.at.can_follow-requires-clause-known c).In-Some in
-    known_kept g.plan g.cells.items g.replica g.emitted.items c.self.invariant.kept c.args.self.now c.self.view_is c.args.j c.value_laws.ensures c.simulation_laws.ensures c.checked_is_sound.ensures c.in-Some.cell is
+    known_kept g.plan g.lists g.cells.items g.replica g.emitted.items c.self.invariant.kept c.args.self.now c.self.view_is c.args.j c.value_laws.ensures c.simulation_laws.ensures c.checked_is_sound.ensures c.in-Some.cell is
 
 pub keeps_to-requires-clause-cell : goal.keeps_to-requires-clause-cell
 keeps_to-requires-clause-cell c =
@@ -43,7 +43,7 @@ invariant_of-self-in_err-kept c =
     let g = c.self.inside in
     let is = cell_is (goal.at.invariant_of-self-in_err-kept c).In-Some in
     record {
-      kept = kept_stays c.value_laws.ensures c.checked_is_sound.ensures g.plan g.cells.items g.replica g.emitted.items c.self.invariant.kept c.args.self.now c.self.view_is c.args.j c.in-Some.cell is c.keeps_to.new.self c.in_err-kept.ensures.same g.replica g.emitted.items refl refl;
+      kept = kept_stays c.value_laws.ensures c.checked_is_sound.ensures g.plan g.lists g.cells.items g.replica g.emitted.items c.self.invariant.kept c.args.self.now c.self.view_is c.args.j c.in-Some.cell is c.keeps_to.new.self c.in_err-kept.ensures.same g.replica g.emitted.items refl refl;
       stretches = c.self.invariant.stretches;
       disturbances = c.self.invariant.disturbances;
       sources = c.self.invariant.sources;
@@ -54,7 +54,7 @@ invariant_of-self-2 c =
     let g = c.self.inside in
     let is = cell_is (goal.at.invariant_of-self-2 c).In-Some in
     record {
-      kept = kept_stays c.value_laws.ensures c.checked_is_sound.ensures g.plan g.cells.items g.replica g.emitted.items c.self.invariant.kept c.args.self.now c.self.view_is c.args.j c.in-Some.cell is c.keeps_to.new.self c.in_ok-kept.ensures.same g.replica g.emitted.items refl refl;
+      kept = kept_stays c.value_laws.ensures c.checked_is_sound.ensures g.plan g.lists g.cells.items g.replica g.emitted.items c.self.invariant.kept c.args.self.now c.self.view_is c.args.j c.in-Some.cell is c.keeps_to.new.self c.in_ok-kept.ensures.same g.replica g.emitted.items refl refl;
       stretches = c.self.invariant.stretches;
       disturbances = c.self.invariant.disturbances;
       sources = c.self.invariant.sources;
@@ -64,13 +64,13 @@ pub returns-in_err-kept-clause-same : goal.returns-in_err-kept-clause-same
 returns-in_err-kept-clause-same c =
     let g = c.self.inside in
     let is = cell_is (goal.at.returns-in_err-kept-clause-same c).In-Some in
-    value_stays c.value_laws.ensures c.checked_is_sound.ensures g.plan g.cells.items g.replica g.emitted.items c.self.invariant.kept c.args.self.now c.self.view_is c.args.j c.in-Some.cell is c.keeps_to.new.self c.in_err-kept.ensures.same g.replica g.emitted.items refl refl ∙ c.self.view_is
+    value_stays c.value_laws.ensures c.checked_is_sound.ensures g.plan g.lists g.cells.items g.replica g.emitted.items c.self.invariant.kept c.args.self.now c.self.view_is c.args.j c.in-Some.cell is c.keeps_to.new.self c.in_err-kept.ensures.same g.replica g.emitted.items refl refl ∙ c.self.view_is
 
 pub returns-clause-same : goal.returns-clause-same
 returns-clause-same c =
     let g = c.self.inside in
     let is = cell_is (goal.at.returns-clause-same c).In-Some in
-    value_stays c.value_laws.ensures c.checked_is_sound.ensures g.plan g.cells.items g.replica g.emitted.items c.self.invariant.kept c.args.self.now c.self.view_is c.args.j c.in-Some.cell is c.keeps_to.new.self c.in_ok-kept.ensures.same g.replica g.emitted.items refl refl ∙ c.self.view_is
+    value_stays c.value_laws.ensures c.checked_is_sound.ensures g.plan g.lists g.cells.items g.replica g.emitted.items c.self.invariant.kept c.args.self.now c.self.view_is c.args.j c.in-Some.cell is c.keeps_to.new.self c.in_ok-kept.ensures.same g.replica g.emitted.items refl refl ∙ c.self.view_is
 
 pub returns-clause-keeps : goal.returns-clause-keeps
 returns-clause-keeps c member =

@@ -13,18 +13,18 @@ use Rattle.wl_group.proofs.group.Group.run_along.Goals as goal
 use Rattle.wl_group.proofs.group.Group.run_along.Goals.{After-go_along}
 
 -- the group that it keeps, and what it said
-along : (c : After-go_along) → IsKept c.self.inside.plan (set c.self.inside.cells.items c.args.j (Some c.go_along.new.self)) c.self.inside.replica c.self.inside.emitted.items
-    × HasSaid c.args.self.now (group_value c.self.inside.plan (set c.self.inside.cells.items c.args.j (Some c.go_along.new.self)) c.self.inside.replica c.self.inside.emitted.items) [] []
+along : (c : After-go_along) → IsKept c.self.inside.plan c.self.inside.lists (set c.self.inside.cells.items c.args.j (Some c.go_along.new.self)) c.self.inside.replica c.self.inside.emitted.items
+    × HasSaid c.args.self.now (group_value c.self.inside.plan c.self.inside.lists (set c.self.inside.cells.items c.args.j (Some c.go_along.new.self)) c.self.inside.replica c.self.inside.emitted.items) [] []
 along c =
     let now = c.args.self.now in
     let g = c.self.inside in
     let i = c.args.j in
     let kept = c.self.invariant.kept in
-    let is = cell_found g.plan g.cells.items g.replica g.emitted.items kept now c.self.view_is i c.requires.node c.index_mut.result.now c.in-Some.cell c.index_mut.ensures.value c.in-Some.is in
+    let is = cell_found g.plan g.lists g.cells.items g.replica g.emitted.items kept now c.self.view_is i c.requires.node c.index_mut.result.now c.in-Some.cell c.index_mut.ensures.value c.in-Some.is in
     let stop = c.last_due-stop.result in
     let far : stop ≤ place_horizon (length now.plan.nodes) (line_of now.plan).delay (slots_of now.replica) i =
     omega (arith, c.last_due-stop.ensures.due, c.if-known_at-until.false, c.known_at.ensures) in
-    group_along c.value_laws.ensures c.simulation_laws.ensures c.checked_is_sound.ensures g.plan g.cells.items g.replica g.emitted.items kept now c.self.view_is i c.in-Some.cell is
+    group_along c.value_laws.ensures c.simulation_laws.ensures c.checked_is_sound.ensures g.plan g.lists g.cells.items g.replica g.emitted.items kept now c.self.view_is i c.in-Some.cell is
     stop c.last_due-stop.ensures.quantum.0 c.last_due-stop.ensures.quantum.1 c.last_due-stop.ensures.late
     (omega (arith, c.last_due-stop.ensures.due, c.if-horizon-until.false, c.horizon.ensures.tick))
     (subst (λ (x : GroupValue). stop ≤ place_horizon (length x.plan.nodes) (line_of x.plan).delay (slots_of x.replica) i) (sym c.self.view_is) far)
@@ -51,5 +51,5 @@ returns-then-not-can_go_along c =
     let g = c.self.inside in
     let i = c.args.j in
     let kept = c.self.invariant.kept in
-    let is = cell_found g.plan g.cells.items g.replica g.emitted.items kept now c.self.view_is i c.requires.node c.index_mut.result.now c.in-Some.cell c.index_mut.ensures.value c.in-Some.is in
-    said_at_rest g.plan g.cells.items g.replica g.emitted.items kept now c.self.view_is i c.in-Some.cell is
+    let is = cell_found g.plan g.lists g.cells.items g.replica g.emitted.items kept now c.self.view_is i c.requires.node c.index_mut.result.now c.in-Some.cell c.index_mut.ensures.value c.in-Some.is in
+    said_at_rest g.plan g.lists g.cells.items g.replica g.emitted.items kept now c.self.view_is i c.in-Some.cell is

@@ -1,5 +1,5 @@
 -- A row of quanta of a member: what it says fits the replica, and the group went on by it.
-use Rattle.std.proofs.Common.{◌≡◌, ℕ, ◌<◌, ◌≤◌, List, length, get_or, Option, Some, None, true, sym, ◌∙◌, ap, subst, arith}
+use Rattle.std.proofs.Common.{◌≡◌, ℕ, ◌<◌, ◌≤◌, Bool, List, length, get_or, Option, Some, None, true, sym, ◌∙◌, ap, subst, arith}
 use Rattle.std.specs.Prelude.{min}
 use Rattle.std.proofs.lemmas.Bool.{and_parts}
 use Rattle.wl_record_core.specs.declared.record.Record.{Record}
@@ -21,22 +21,22 @@ use Rattle.wl_group.proofs.group.Group.run_row.Goals as goal
 use Rattle.wl_group.proofs.group.Group.run_row.Goals.{In-Some}
 
 -- the member's cell, where one was found
-found : (laws : ValueLaws) (sound : CheckedIsSound) (plan : Plan) (cells : List (Option Cell)) (replica : State) (emitted : List Record) (kept : IsKept plan cells replica emitted)
-    (now : GroupValue) (view : ◌≡◌ {A = GroupValue} (group_value plan cells replica emitted) now) (i : ℕ) → may_run now i ≡ true
+found : (laws : ValueLaws) (sound : CheckedIsSound) (plan : Plan) (lists : Bool) (cells : List (Option Cell)) (replica : State) (emitted : List Record) (kept : IsKept plan lists cells replica emitted)
+    (now : GroupValue) (view : ◌≡◌ {A = GroupValue} (group_value plan lists cells replica emitted) now) (i : ℕ) → may_run now i ≡ true
     → (o : Option Cell) (cell : Cell) → o ≡ get_or cells i o → o ≡ Some cell → get_or cells i None ≡ Some cell
-found laws sound plan cells replica emitted kept now view i may o cell r is =
+found laws sound plan lists cells replica emitted kept now view i may o cell r is =
     let parts = and_parts (belongs now i) (can_run (line_of now.plan) i (members_now now i) (slots_of now.replica)) may in
-    cell_read cells i o cell (in_cells laws sound plan cells replica emitted kept now view i parts.0) r is
+    cell_read cells i o cell (in_cells laws sound plan lists cells replica emitted kept now view i parts.0) r is
 
 -- the group is as it was before the line was looked at
-as_it_was : (c : In-Some) → ◌≡◌ {A = GroupValue} (group_value c.self-2.inside.plan c.self-2.inside.cells.items c.self-2.inside.replica c.self-2.inside.emitted.items) c.args.self.now
+as_it_was : (c : In-Some) → ◌≡◌ {A = GroupValue} (group_value c.self-2.inside.plan c.self-2.inside.lists c.self-2.inside.cells.items c.self-2.inside.replica c.self-2.inside.emitted.items) c.args.self.now
 as_it_was c = c.self-2.view_is ∙ c.look_ahead-ahead.ensures.same
 
 -- and has this cell
 cell_is : (c : In-Some) → get_or c.self-2.inside.cells.items c.args.i None ≡ Some c.in-Some.cell
 cell_is c =
     let g = c.self-2.inside in
-    found c.value_laws.ensures c.checked_is_sound.ensures g.plan g.cells.items g.replica g.emitted.items c.self-2.invariant.kept c.args.self.now (as_it_was c) c.args.i c.requires.may
+    found c.value_laws.ensures c.checked_is_sound.ensures g.plan g.lists g.cells.items g.replica g.emitted.items c.self-2.invariant.kept c.args.self.now (as_it_was c) c.args.i c.requires.may
     c.index_mut.result.now c.in-Some.cell c.index_mut.ensures.value c.in-Some.is
 
 -- the row's end
@@ -61,7 +61,7 @@ far c =
 next_is : (c : In-Some) → c.in-Some.cell.next ≡ next_tick (line_of c.args.self.now.plan) c.args.i (members_now c.args.self.now c.args.i)
 next_is c =
     let g = c.self-2.inside in
-    next_kept c.value_laws.ensures c.simulation_laws.ensures c.checked_is_sound.ensures g.plan g.cells.items g.replica g.emitted.items c.self-2.invariant.kept c.args.self.now (as_it_was c) c.args.i
+    next_kept c.value_laws.ensures c.simulation_laws.ensures c.checked_is_sound.ensures g.plan g.lists g.cells.items g.replica g.emitted.items c.self-2.invariant.kept c.args.self.now (as_it_was c) c.args.i
     c.in-Some.cell (cell_is c)
 
 pub run_over-requires-clause-cell : goal.run_over-requires-clause-cell
@@ -82,7 +82,7 @@ pub run_over-requires-clause-inside : goal.run_over-requires-clause-inside
 run_over-requires-clause-inside c =
     let at = (goal.at.run_over-requires-clause-inside c).In-Some in
     let g = c.self-2.inside in
-    inside_kept c.value_laws.ensures c.simulation_laws.ensures c.checked_is_sound.ensures g.plan g.cells.items g.replica g.emitted.items c.self-2.invariant.kept c.args.self.now (as_it_was at) c.args.i
+    inside_kept c.value_laws.ensures c.simulation_laws.ensures c.checked_is_sound.ensures g.plan g.lists g.cells.items g.replica g.emitted.items c.self-2.invariant.kept c.args.self.now (as_it_was at) c.args.i
     c.in-Some.cell (cell_is at)
 
 pub run_over-requires-clause-due : goal.run_over-requires-clause-due
@@ -95,20 +95,20 @@ run_over-requires-clause-says c =
     let at = (goal.at.run_over-requires-clause-says c).In-Some in
     let g = c.self-2.inside in
     may_say_over c.value_laws.ensures c.group_laws.ensures c.table_laws.ensures c.slots_laws.ensures c.known_laws.ensures c.simulation_laws.ensures c.slots_of_states.ensures c.checked_is_sound.ensures
-    g.plan g.cells.items g.replica g.emitted.items c.self-2.invariant.kept c.args.self.now (as_it_was at) c.args.i c.in-Some.cell (cell_is at) c.min-end.result (stop at) (far at)
+    g.plan g.lists g.cells.items g.replica g.emitted.items c.self-2.invariant.kept c.args.self.now (as_it_was at) c.args.i c.in-Some.cell (cell_is at) c.min-end.result (stop at) (far at)
 
 pub run_over-requires-clause-changed : goal.run_over-requires-clause-changed
 run_over-requires-clause-changed c =
     let at = (goal.at.run_over-requires-clause-changed c).In-Some in
     let g = c.self-2.inside in
-    few_changed c.value_laws.ensures c.checked_is_sound.ensures g.plan g.cells.items g.replica g.emitted.items c.self-2.invariant.kept c.args.self.now (as_it_was at) c.args.i c.in-Some.cell (cell_is at)
+    few_changed c.value_laws.ensures c.checked_is_sound.ensures g.plan g.lists g.cells.items g.replica g.emitted.items c.self-2.invariant.kept c.args.self.now (as_it_was at) c.args.i c.in-Some.cell (cell_is at)
 
 pub invariant_of-self : goal.invariant_of-self
 invariant_of-self c =
     let at = (goal.at.invariant_of-self c).In-Some in
     let g = c.self-2.inside in
     record {
-      kept = kept_stays c.value_laws.ensures c.checked_is_sound.ensures g.plan g.cells.items g.replica g.emitted.items c.self-2.invariant.kept c.args.self.now (as_it_was at) c.args.i
+      kept = kept_stays c.value_laws.ensures c.checked_is_sound.ensures g.plan g.lists g.cells.items g.replica g.emitted.items c.self-2.invariant.kept c.args.self.now (as_it_was at) c.args.i
           c.in-Some.cell (cell_is at) c.run_over.new.cell c.in_err-said.ensures.stays c.run_over.new.replica c.run_over.new.emitted.items c.in_err-said.ensures.not_taken c.in_err-said.ensures.not_emitted;
       stretches = c.self-2.invariant.stretches;
       disturbances = c.self-2.invariant.disturbances;
@@ -120,7 +120,7 @@ returns-in_err-said-clause-err c =
     let at = (goal.at.returns-in_err-said-clause-err c).In-Some in
     let g = c.self-2.inside in
     on_err c.from_residual.result
-    (value_stays c.value_laws.ensures c.checked_is_sound.ensures g.plan g.cells.items g.replica g.emitted.items c.self-2.invariant.kept c.args.self.now (as_it_was at) c.args.i
+    (value_stays c.value_laws.ensures c.checked_is_sound.ensures g.plan g.lists g.cells.items g.replica g.emitted.items c.self-2.invariant.kept c.args.self.now (as_it_was at) c.args.i
     c.in-Some.cell (cell_is at) c.run_over.new.cell c.in_err-said.ensures.stays c.run_over.new.replica c.run_over.new.emitted.items c.in_err-said.ensures.not_taken c.in_err-said.ensures.not_emitted
     ∙ as_it_was at)
 
@@ -130,7 +130,7 @@ invariant_of-self-2 c =
     let g = c.self-2.inside in
     record {
       kept = kept_over c.value_laws.ensures c.group_laws.ensures c.table_laws.ensures c.slots_laws.ensures c.known_laws.ensures c.simulation_laws.ensures c.slots_of_states.ensures c.checked_is_sound.ensures
-          g.plan g.cells.items g.replica g.emitted.items c.self-2.invariant.kept c.args.self.now (as_it_was at) c.args.i c.in-Some.cell (cell_is at) c.min-end.result (stop at) (far at)
+          g.plan g.lists g.cells.items g.replica g.emitted.items c.self-2.invariant.kept c.args.self.now (as_it_was at) c.args.i c.in-Some.cell (cell_is at) c.min-end.result (stop at) (far at)
           c.run_over.new.cell c.in_ok-said.said.items c.in_ok-said.ensures.gone c.run_over.new.replica c.run_over.new.emitted.items c.in_ok-said.ensures.taken c.in_ok-said.ensures.emitted;
       stretches = c.self-2.invariant.stretches;
       disturbances = c.self-2.invariant.disturbances;
@@ -142,7 +142,7 @@ returns-clause-gone c =
     let at = (goal.at.returns-clause-gone c).In-Some in
     let g = c.self-2.inside in
     has_gone_over c.value_laws.ensures c.group_laws.ensures c.table_laws.ensures c.slots_laws.ensures c.known_laws.ensures c.simulation_laws.ensures c.slots_of_states.ensures c.checked_is_sound.ensures
-    g.plan g.cells.items g.replica g.emitted.items c.self-2.invariant.kept c.args.self.now (as_it_was at) c.args.i c.in-Some.cell (cell_is at) c.min-end.result (stop at) (far at)
+    g.plan g.lists g.cells.items g.replica g.emitted.items c.self-2.invariant.kept c.args.self.now (as_it_was at) c.args.i c.in-Some.cell (cell_is at) c.min-end.result (stop at) (far at)
     c.run_over.new.cell c.in_ok-said.said.items c.in_ok-said.ensures.gone c.run_over.new.replica c.run_over.new.emitted.items c.in_ok-said.ensures.taken c.in_ok-said.ensures.emitted
 
 pub returns-clause-next : goal.returns-clause-next
@@ -154,6 +154,6 @@ returns-clause-next c one =
     let next = next_is at in
     let early = (next_before now c.args.i c.requires.may).0 in
     has_run_next c.value_laws.ensures c.group_laws.ensures c.table_laws.ensures c.slots_laws.ensures c.known_laws.ensures c.simulation_laws.ensures c.slots_of_states.ensures c.checked_is_sound.ensures
-    g.plan g.cells.items g.replica g.emitted.items c.self-2.invariant.kept now (as_it_was at) c.args.i c.in-Some.cell (cell_is at) c.min-end.result (stop at) (far at)
+    g.plan g.lists g.cells.items g.replica g.emitted.items c.self-2.invariant.kept now (as_it_was at) c.args.i c.in-Some.cell (cell_is at) c.min-end.result (stop at) (far at)
     c.run_over.new.cell c.in_ok-said.said.items c.in_ok-said.ensures.gone c.run_over.new.replica c.run_over.new.emitted.items c.in_ok-said.ensures.taken c.in_ok-said.ensures.emitted
     c.requires.may (omega (arith, one, bound, next, early))

@@ -9,7 +9,7 @@ use Rattle.wl_group.proofs.group.Group.run_sender.Goals.{In-Some}
 cell_is : (c : In-Some) → get_or c.self.inside.cells.items c.args.j None ≡ Some c.in-Some.cell
 cell_is c =
     let g = c.self.inside in
-    let b = in_list g.plan g.cells.items g.replica g.emitted.items c.self.invariant.kept c.args.self.now c.self.view_is c.args.j c.requires.node in
+    let b = in_list g.plan g.lists g.cells.items g.replica g.emitted.items c.self.invariant.kept c.args.self.now c.self.view_is c.args.j c.requires.node in
     cell_read g.cells.items c.args.j c.index_mut.result.now c.in-Some.cell b c.index_mut.ensures.value c.in-Some.is
 
 pub sends_until-requires-clause-cell : goal.sends_until-requires-clause-cell
@@ -22,7 +22,7 @@ invariant_of-self-2 c =
     let g = c.self.inside in
     let is = cell_is (goal.at.invariant_of-self-2 c).In-Some in
     record {
-      kept = kept_stays c.value_laws.ensures c.checked_is_sound.ensures g.plan g.cells.items g.replica g.emitted.items c.self.invariant.kept c.args.self.now c.self.view_is c.args.j c.in-Some.cell is c.sends_until.new.self c.sends_until.ensures.same g.replica g.emitted.items refl refl;
+      kept = kept_stays c.value_laws.ensures c.checked_is_sound.ensures g.plan g.lists g.cells.items g.replica g.emitted.items c.self.invariant.kept c.args.self.now c.self.view_is c.args.j c.in-Some.cell is c.sends_until.new.self c.sends_until.ensures.same g.replica g.emitted.items refl refl;
       stretches = c.self.invariant.stretches;
       disturbances = c.self.invariant.disturbances;
       sources = c.self.invariant.sources;
@@ -32,4 +32,4 @@ pub returns : goal.returns
 returns c =
     let g = c.self.inside in
     let is = cell_is (goal.at.returns c).In-Some in
-    record { same = value_stays c.value_laws.ensures c.checked_is_sound.ensures g.plan g.cells.items g.replica g.emitted.items c.self.invariant.kept c.args.self.now c.self.view_is c.args.j c.in-Some.cell is c.sends_until.new.self c.sends_until.ensures.same g.replica g.emitted.items refl refl ∙ c.self.view_is }
+    record { same = value_stays c.value_laws.ensures c.checked_is_sound.ensures g.plan g.lists g.cells.items g.replica g.emitted.items c.self.invariant.kept c.args.self.now c.self.view_is c.args.j c.in-Some.cell is c.sends_until.new.self c.sends_until.ensures.same g.replica g.emitted.items refl refl ∙ c.self.view_is }

@@ -7,7 +7,7 @@ use Rattle.wl_group.proofs.group.Group.take.Goals as goal
 pub invariant_of-self-2 : goal.invariant_of-self-2
 invariant_of-self-2 c =
     record {
-      kept = taken_kept c.value_laws.ensures c.self.inside.plan c.self.inside.cells.items c.self.inside.replica c.take.new.self c.self.inside.emitted.items c.args.entry c.args.self.now
+      kept = taken_kept c.value_laws.ensures c.self.inside.plan c.self.inside.lists c.self.inside.cells.items c.self.inside.replica c.take.new.self c.self.inside.emitted.items c.args.entry c.args.self.now
           c.self.view_is c.self.invariant.kept c.requires c.in_ok-take.ensures.ok;
       stretches = c.self.invariant.stretches;
       disturbances = c.self.invariant.disturbances;
@@ -17,5 +17,5 @@ invariant_of-self-2 c =
 pub returns-clause-after : goal.returns-clause-after
 returns-clause-after c p h =
     subst (Matches (party_with (c.args.entry ∷ []) p))
-    (sym (taken_value c.self.inside.plan c.self.inside.cells.items c.self.inside.replica c.take.new.self c.self.inside.emitted.items c.args.entry c.args.self.now c.self.view_is c.in_ok-take.ensures.ok))
+    (sym (taken_value c.self.inside.plan c.self.inside.lists c.self.inside.cells.items c.self.inside.replica c.take.new.self c.self.inside.emitted.items c.args.entry c.args.self.now c.self.view_is c.in_ok-take.ensures.ok))
     (c.value_laws.ensures.takes_as c.args.self.now p (c.args.entry ∷ []) h)
