@@ -13,12 +13,12 @@ use Rattle.wl_mail.specs.Laws.{TakingLaws}
 -- ---- nothing, and more of them
 
 with_nothing : IsJoining → (g : GroupValue) → g ≡ with_records [] g
-with_nothing laws g = ap (λ (s : State). record { plan = g.plan; ran = g.ran; replica = s; emitted = g.emitted }) (sym (laws.neutral g.replica))
+with_nothing laws g = ap (λ (s : State). record { plan = g.plan; lists = g.lists; ran = g.ran; replica = s; emitted = g.emitted }) (sym (laws.neutral g.replica))
 
 pub with_both : TakingIsJoining → (a b c : GroupValue) (xs ys : List Record) → b ≡ with_records xs a → c ≡ with_records ys b → c ≡ with_records (xs ++ ys) a
 with_both laws a b c xs ys d e =
     e ∙ ap (with_records ys) d
-    ∙ ap (λ (s : State). record { plan = a.plan; ran = a.ran; replica = s; emitted = a.emitted }) (laws.in_parts a.replica xs ys)
+    ∙ ap (λ (s : State). record { plan = a.plan; lists = a.lists; ran = a.ran; replica = s; emitted = a.emitted }) (laws.in_parts a.replica xs ys)
 
 both_true : (plan : Plan) (xs ys : List Record) → AreTrueOfPlan plan xs → AreTrueOfPlan plan ys → AreTrueOfPlan plan (xs ++ ys)
 both_true plan [] ys h g = g
@@ -46,7 +46,7 @@ one_longer rs i d b = rw add-one (take-suc rs i d b)
 
 pub changed_one : (old new : GroupValue) (r : Record) (answer : Bool) → new ≡ with_records (r ∷ []) old → IsNews old.replica r answer → TellsNews old new answer
 changed_one old new r true e h = λ same. h (sym (ap (λ (g : GroupValue). g.replica) e) ∙ same)
-changed_one old new r false e h = e ∙ ap (λ (s : State). record { plan = old.plan; ran = old.ran; replica = s; emitted = old.emitted }) h
+changed_one old new r false e h = e ∙ ap (λ (s : State). record { plan = old.plan; lists = old.lists; ran = old.ran; replica = s; emitted = old.emitted }) h
 
 -- what was joined in can't be lost by joining more
 stays_joined : IsJoining → (s a b : State) → b.nodes ≡ a.nodes → states_joined (states_joined s a) b ≡ s → states_joined s a ≡ s
