@@ -122,7 +122,7 @@ at_first plan numbers groups es f e = record { emitted = e; groups = λ h g q. (
 pub first_world : (plan : Plan) (numbers : List ℕ) (groups : List GroupValue) (es : List Record) → IsChecked plan → IsGrouping (length plan.nodes) numbers → length groups ≡ groups_of numbers
     → AreFirst plan numbers groups → es ≡ initial_silences (line_of plan) (λ i. true) (length plan.nodes) → IsWorldValue (world_value plan numbers groups es)
 first_world plan numbers groups es checked grouping count f e = record {
-  staffed = record { checked = checked; grouping = grouping; count = count; plans = λ h g q. (f h g q).plan_is; members = λ h g q. (f h g q).members };
+  staffed = record { checked = checked; grouping = grouping; count = count; plans = λ h g q. (f h g q).plan_is; lists = λ h g q. (f h g q).lists; members = λ h g q. (f h g q).members };
   reached = ([], at_first plan numbers groups es f e);
 }
 
@@ -132,13 +132,14 @@ first_world plan numbers groups es checked grouping count f e = record {
 abbrev with_group : WorldValue → ℕ → GroupValue → List Record → WorldValue
 with_group v h new es = world_value v.plan v.numbers (slice_set v.groups h new) es
 
-staffed_put : (v : WorldValue) (h : ℕ) (old new : GroupValue) (es : List Record) → IsStaffed v → h < length v.groups → slice_get v.groups h ≡ Some old → new.plan ≡ old.plan → has new ≡ has old
+staffed_put : (v : WorldValue) (h : ℕ) (old new : GroupValue) (es : List Record) → IsStaffed v → h < length v.groups → slice_get v.groups h ≡ Some old → new.plan ≡ old.plan → new.lists ≡ old.lists → has new ≡ has old
     → IsStaffed (with_group v h new es)
-staffed_put v h old new es s b e p m = record {
+staffed_put v h old new es s b e p f m = record {
   checked = s.checked;
   grouping = s.grouping;
   count = same_length v.groups h new ∙ s.count;
   plans = λ j x r. set_cases v.groups h j new x (λ y. y.plan ≡ v.plan) b r (λ _. p ∙ s.plans h old e) (λ q _. s.plans j x q);
+  lists = λ j x r. set_cases v.groups h j new x (λ y. y.lists ≡ true) b r (λ _. f ∙ s.lists h old e) (λ q _. s.lists j x q);
   members = λ j x r. set_cases v.groups h j new x (λ y. has y ≡ is_of_group (cast_of v.numbers) j) b r
       (λ same. m ∙ (s.members h old e ∙ ap (is_of_group (cast_of v.numbers)) (sym same))) (λ q _. s.members j x q);
 }
@@ -169,10 +170,10 @@ no_group : (v : WorldValue) (h : ℕ) → IsStaffed v → length v.groups ≤ h 
 no_group v h s b = le-ltb h (groups_of v.numbers) (subst (λ n. n ≤ h) s.count b)
 
 -- the world after it is one, if the step is the machine's
-pub world_stepped : (v : WorldValue) (h : ℕ) (old new : GroupValue) (es : List Record) (e : Event) (a : Answer) → IsWorldValue v → h < length v.groups → slice_get v.groups h ≡ Some old → new.plan ≡ old.plan → has new ≡ has old
+pub world_stepped : (v : WorldValue) (h : ℕ) (old new : GroupValue) (es : List Record) (e : Event) (a : Answer) → IsWorldValue v → h < length v.groups → slice_get v.groups h ≡ Some old → new.plan ≡ old.plan → new.lists ≡ old.lists → has new ≡ has old
     → HasStepped IsWorldAt (line_of v.plan) (cast_of v.numbers) e v (with_group v h new es) a → IsWorldValue (with_group v h new es)
-world_stepped v h old new es e a i b g p m step = record {
-  staffed = staffed_put v h old new es i.staffed b g p m;
+world_stepped v h old new es e a i b g p f m step = record {
+  staffed = staffed_put v h old new es i.staffed b g p f m;
   reached = (
     i.reached.0 ++ e ∷ [],
     subst (λ s. IsWorldAt s (with_group v h new es)) (sym (run_append (line_of v.plan) (cast_of v.numbers) i.reached.0 (e ∷ []) (start (line_of v.plan) (cast_of v.numbers))))

@@ -1,5 +1,5 @@
 -- A world that runs, as the contracts of its calls see it, and when it is a scene of the machine. This project's profile.
-use Rattle.std.specs.Prelude.{◌≡◌, ℕ, List, length, Some, slice_get}
+use Rattle.std.specs.Prelude.{◌≡◌, ℕ, true, List, length, Some, slice_get}
 use Rattle.wl_record_core.specs.declared.record.Record.{Record}
 use Rattle.wl_plan.specs.declared.plan.Plan.{Plan}
 use Rattle.wl_plan.specs.PlanLine.{line_of}
@@ -27,12 +27,13 @@ pub record IsWorldAt (w : Scene) (v : WorldValue) : Type 0 where
   pub emitted : v.emitted ≡ w.emitted
   pub groups : (h : ℕ) (g : GroupValue) → slice_get v.groups h ≡ Some g → Matches (w.parties h) g
 
--- Of the plan and the grouping: what was checked, and that each group is of this plan and has the nodes that the grouping gives it.
+-- Of the plan and the grouping: what was checked, and that each group is of this plan, lists its nodes' samples and phase errors, and has the nodes that the grouping gives it.
 pub record IsStaffed (v : WorldValue) : Type 0 where
   pub checked : IsChecked v.plan
   pub grouping : IsGrouping (length v.plan.nodes) v.numbers
   pub count : length v.groups ≡ groups_of v.numbers
   pub plans : (h : ℕ) (g : GroupValue) → slice_get v.groups h ≡ Some g → g.plan ≡ v.plan
+  pub lists : (h : ℕ) (g : GroupValue) → slice_get v.groups h ≡ Some g → g.lists ≡ true
   pub members : (h : ℕ) (g : GroupValue) → slice_get v.groups h ≡ Some g → has g ≡ is_of_group (cast_of v.numbers) h
 
 -- some events led to it
@@ -51,6 +52,7 @@ world_value plan numbers groups emitted = record { plan = plan; numbers = number
 -- Group h of a new world.
 pub record IsFirstGroup (plan : Plan) (numbers : List ℕ) (h : ℕ) (g : GroupValue) : Type 0 where
   pub plan_is : g.plan ≡ plan
+  pub lists : g.lists ≡ true
   pub members : has g ≡ is_of_group (cast_of numbers) h
   pub begun_as : Matches (initial_party (line_of plan) (is_of_group (cast_of numbers) h)) g
 

@@ -39,6 +39,7 @@ fn first_group(
     requires grouping { IsGrouping (length plan.now.nodes) grouping.now }
     requires group { h < 16 }
     ensures plan { IfOk result (λ group. group.plan ≡ plan.now) }
+    ensures lists { IfOk result (λ group. group.lists ≡ true) }
     ensures members { IfOk result (λ group. has group ≡ is_of_group (cast_of grouping.now) h) }
     ensures begun { IfOk result (λ group.
         Matches (initial_party (line_of plan.now) (is_of_group (cast_of grouping.now) h)) group) }

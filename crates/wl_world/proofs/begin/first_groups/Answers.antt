@@ -8,4 +8,9 @@ pub loop-h-preserved : goal.loop-h-preserved
 loop-h-preserved c =
     one_more_first c.args.plan.now c.args.grouping.now c.loop-h.groups.items c.push.new.self.items c.in_ok-first_group.field-0 c.loop-h.h
     c.loop-h.invariant.0 c.loop-h.invariant.1 c.in_ok-push.ensures.items
-    (record { plan_is = c.in_ok-first_group.ensures.plan; members = c.in_ok-first_group.ensures.members; begun_as = c.in_ok-first_group.ensures.begun })
+    (record {
+      plan_is = c.in_ok-first_group.ensures.plan;
+      lists = c.in_ok-first_group.ensures.lists;
+      members = c.in_ok-first_group.ensures.members;
+      begun_as = c.in_ok-first_group.ensures.begun;
+    })

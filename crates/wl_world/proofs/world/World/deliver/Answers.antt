@@ -32,7 +32,7 @@ pub invariant_of-self-2 : goal.invariant_of-self-2
 invariant_of-self-2 c =
     let a = (goal.at.invariant_of-self-2 c).After-index_mut-taker in
     world_stepped (value a) c.args.group c.index_mut-taker.result.now c.take.new.self c.self.inside.emitted.items (Deliver c.args.group c.args.number) Done c.self.invariant (place a) (old_is a)
-    (ap (λ (g : GroupValue). g.plan) c.in_ok-take.ensures.ok) (ap has c.in_ok-take.ensures.ok)
+    (ap (λ (g : GroupValue). g.plan) c.in_ok-take.ensures.ok) (ap (λ (g : GroupValue). g.lists) c.in_ok-take.ensures.ok) (ap has c.in_ok-take.ensures.ok)
     (delivers (value a) c.args.group c.args.number c.index_mut-taker.result.now c.take.new.self c.index-entry.result.now c.self.invariant.staffed (place a) (old_is a) (entry_is a) c.in_ok-take.ensures.after)
 
 pub returns-clause-ok : goal.returns-clause-ok

@@ -41,7 +41,7 @@ pub invariant_of-self-2 : goal.invariant_of-self-2
 invariant_of-self-2 c =
     let a = (goal.at.invariant_of-self-2 c).After-index_mut-taker in
     world_stepped (value a) c.args.group c.index_mut-taker.result.now c.join.new.self c.self.inside.emitted.items (Join c.args.group c.args.other) Done c.self.invariant (place a) (old_is a)
-    (ap (λ (g : GroupValue). g.plan) c.in_ok-join.ensures.ok) (ap has c.in_ok-join.ensures.ok)
+    (ap (λ (g : GroupValue). g.plan) c.in_ok-join.ensures.ok) (ap (λ (g : GroupValue). g.lists) c.in_ok-join.ensures.ok) (ap has c.in_ok-join.ensures.ok)
     (joins (value a) c.args.group c.args.other c.index_mut-taker.result.now c.index-giver.result.now c.join.new.self c.self.invariant.staffed (place a) (other_place a) (old_is a) (other_is a)
     (λ p rs m e. c.in_ok-join.ensures.after p rs m (given_is a ∙ e)))
 

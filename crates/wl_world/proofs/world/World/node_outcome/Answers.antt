@@ -43,5 +43,5 @@ returns c =
     subst (λ (p : Plan). IfOk c.node_outcome.result (λ told. told ≡ node_outcome_of p c.args.i)) same
     (IfOk-weaker c.node_outcome.result _ (λ told. told ≡ node_outcome_of g.plan c.args.i)
     (λ told is. outcome_here c.group_laws.ensures c.checked_is_sound.ensures g c.node.ensures.holds c.args.i node (member a) late _ c.node.ensures.setup c.in_ok-changes-in-Some.changes
-    (c.in_ok-changes-in-Some.ensures.whole (ended_at (value a) staffed ended c.in-Some.h c.args.i g (there a) (member a))) told (is c.node.ensures.keeps (members_now g c.args.i).saw c.node.ensures.node))
+    (c.in_ok-changes-in-Some.ensures.whole (ended_at (value a) staffed ended c.in-Some.h c.args.i g (there a) (member a))) told (is (c.node.ensures.keeps (staffed.lists c.in-Some.h g (there a))) (members_now g c.args.i).saw c.node.ensures.node))
     c.node_outcome.ensures)

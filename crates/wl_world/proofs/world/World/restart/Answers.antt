@@ -23,7 +23,7 @@ pub invariant_of-self-2 : goal.invariant_of-self-2
 invariant_of-self-2 c =
     let a = (goal.at.invariant_of-self-2 c).After-index_mut-again in
     world_stepped (value a) c.args.group c.index_mut-again.result.now c.restart.new.self c.self.inside.emitted.items (Restart c.args.group) Done c.self.invariant (place a) (old_is a)
-    (ap (λ (g : GroupValue). g.plan) c.in_ok-restart.ensures.ok) c.restart.ensures.members
+    (ap (λ (g : GroupValue). g.plan) c.in_ok-restart.ensures.ok) c.restart.ensures.lists c.restart.ensures.members
     (restarts (value a) c.args.group c.index_mut-again.result.now c.restart.new.self c.self.invariant.staffed (place a) (old_is a) c.in_ok-restart.ensures.begun)
 
 pub returns-clause-ok : goal.returns-clause-ok
