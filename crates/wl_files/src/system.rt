@@ -74,7 +74,7 @@ fn followed<R: Files>(files: &R, alloc: Global, name: &str) -> Result<String, Be
     }
 }
 
-/// True if a path is that of an open descriptor, as `/proc/self/fd/1`.
+/// True if a path is that of an open descriptor, as `/proc/self/fd/1`. The folder of these can be resolved.
 fn is_descriptor<R: Files>(files: &R, alloc: Global, path: &str) -> Result<bool, BeginFault> {
     let folder = match folder_of(path) {
         "" => ".",
@@ -82,16 +82,18 @@ fn is_descriptor<R: Files>(files: &R, alloc: Global, path: &str) -> Result<bool,
     };
     match files.canonicalize(alloc, folder) {
         Ok(folder) => Ok(folder.into_string().as_str().starts_with(PROCESSES)),
-        Err(error) => Err(fault_of(&error)),
+        Err(error) if error.kind() == ErrorKind::OutOfMemory => Err(BeginFault::Memory),
+        Err(_) => Ok(false),
     }
 }
 
 /// Returns the path to which a link leads by one step; `None` if there is no link.
 fn next_path<R: Files>(files: &R, alloc: Global, link: &str) -> Result<Option<String>, BeginFault> {
-    let Ok(target) = files.read_link(alloc, link) else {
-        return Ok(None);
+    let target = match files.read_link(alloc, link) {
+        Ok(target) => target.into_string(),
+        Err(error) if error.kind() == ErrorKind::OutOfMemory => return Err(BeginFault::Memory),
+        Err(_) => return Ok(None),
     };
-    let target = target.into_string();
     if target.as_str().starts_with("/") {
         return Ok(Some(target));
     }
