@@ -12,7 +12,7 @@ use wl_device::{Sink, Source, write_all};
 use wl_plan::CheckedPlan;
 use wl_report::report;
 use wl_setup::read_checked;
-use wl_worker::{Gate, LinkKind, simulate_by};
+use wl_worker::{Gate, LinkKind, totals_by};
 
 /// A gate that lets each turn begin.
 #[derive(Drop)]
@@ -40,8 +40,7 @@ fn report_by<H: Threads + Wait + Sync>(
     ensures count { IfOk result (λ _. CanWork workers) }
     ensures fault { IfErr result (IsWorkFault workers) }
 {
-    let outcome = simulate_by(rt, alloc, &plan, workers, kind, &OpenGate)?;
-    let totals = outcome.totals(alloc)?;
+    let totals = totals_by(rt, alloc, &plan, workers, kind, &OpenGate)?;
     Ok(report(alloc, &totals)?)
 }
 

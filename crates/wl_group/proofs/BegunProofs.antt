@@ -123,6 +123,7 @@ follows sim plan guess j cell sound b is inside reached keeps =
       counted = sim.length_seen l j k;
       inside = inside;
       seen = λ right. refl;
+      right = λ right. is;
       drive = sym drove ∙ last;
       keeps = λ t from below right. keeps t from below;
       reached = reached;

@@ -25,8 +25,11 @@ use Rattle.wl_group.specs.Following.{RunsBeside}
 use Rattle.wl_group.specs.Guess.{thought, thought_before, IsRightBelow, KeepsGuess}
 use Rattle.wl_group.specs.Member.{Member, member_after_quantum}
 use Rattle.wl_group.specs.Running.{IsCellOf, passed, HasGone}
+use Rattle.wl_group.specs.Kept.{IsCell}
+use Rattle.wl_group.proofs.AlongProofs.{thought_found}
 use Rattle.wl_group.proofs.CellProofs.{one_longer}
 use Rattle.wl_group.proofs.FollowedProofs.{saw_on, level_before_last, level_after_last}
+use Rattle.wl_group.proofs.ThroughProofs.{gone_in}
 
 -- ---- where a cell is, of each member that it was
 
@@ -163,6 +166,31 @@ module _ (sims : SimulationLaws) (plan : Plan) (s : IsSound (line_of plan)) (gue
         let h : (line_of plan).instant j (suc (quanta_of old.node + gone.n)) ≡ (line_of plan).instant j (quanta_of old.node + suc gone.n) = ap ((line_of plan).instant j) (omega arith) in
         omega arith
 
+    -- where the guess is right below its next quantum, it is the cell that a group keeps
+    right_on : IsRightBelow (line_of plan) guess new.next → IsCell plan j new
+    right_on right =
+        let n = next_new in
+        let earlier = tick_earlier in
+        let before = later_row in
+        let one : HasGone here (suc gone.n) old new turned = record {
+          n = gone.n;
+          few = omega arith;
+          quanta = gone.quanta;
+          keeps = gone.keeps;
+          stood = gone.stood;
+          after = gone.after;
+          turned_is = gone.turned_is;
+        } in
+        (gone_in sims plan s j b old new turned here (suc gone.n) stop (f.right (λ i t ib from below. right i t ib from (omega (arith, below, before)))) one
+        (λ p c.
+        let low = sims.clock_later (line_of plan) j (quanta_of old.node) (quanta_of old.node + p) s.causal b (omega arith) in
+        let high = sims.clock_later (line_of plan) j (quanta_of old.node + p) (quanta_of old.node + gone.n) s.causal b (omega (arith, c)) in
+        ap level_of (thought_found sims (line_of plan) guess new.next j ((line_of plan).instant j (quanta_of old.node)) right reached
+        ((line_of plan).instant j (quanta_of old.node + p)) low (omega (arith, high, earlier)))
+        ∙ finds p (omega (arith, c)))
+        (λ p c. row.below (quanta_of old.node + p) (let few = gone.few in omega (arith, c, few)))
+        (λ q c. inside_row gone.n gone.few q c)).over.after
+
     -- and on, where it then drives what is thought
     module _ (driven : (line_of plan).drives j (f.member.saw ++ replicate (suc gone.n) here) ≡ thought guess j ((line_of plan).instant j (quanta_of old.node + gone.n)))
         (turn_on : ℕ) (stays_on : (u : ℕ) → (line_of plan).instant j (quanta_of old.node + gone.n) + 1 ≤ u → u < turn_on
@@ -200,6 +228,7 @@ module _ (sims : SimulationLaws) (plan : Plan) (s : IsSound (line_of plan)) (gue
             ∙ saw_on sims (line_of plan) s j b guess (quanta_of old.node) gone.n f.member.saw here (inside_row gone.n gone.few)
             (gone.stood plan j f.member f.at) seen_if finds reached (suc gone.n) new.next (omega arith) (omega arith)
             (λ p c. (let g = sims.clock_later (line_of plan) j (quanta_of old.node + p) (quanta_of old.node + gone.n) s.causal b (omega arith) in omega arith)) right);
+        right = λ right. right_on right;
         drive =
             let e = tick_earlier in
             let one : suc (new.next - 1) ≡ new.next = omega arith in

@@ -17,6 +17,7 @@ mod GroupProofs
 mod GuessProofs
 mod ThoughtProofs
 mod TickProofs
+mod TrailProofs
 mod Rows
 mod ValueProofs
 mod RunProofs

@@ -9,6 +9,7 @@ use Rattle.wl_plan.specs.Simulation.{seen, AreInside}
 use Rattle.wl_group.specs.declared.cell.Cell.{Cell}
 use Rattle.wl_group.specs.declared.guess.Guess.{Guess}
 use Rattle.wl_group.specs.Guess.{thought_before, IsRightBelow, KeepsGuess}
+use Rattle.wl_group.specs.Kept.{IsCell}
 use Rattle.wl_group.specs.Member.{Member}
 use Rattle.wl_group.specs.Running.{IsCellOf}
 
@@ -18,7 +19,8 @@ pub record HasRunAhead (old new : Cell) : Type 0 where
   pub more : List Level
   pub to : (plan : Plan) (i : ℕ) (m : Member) → IsCellOf plan i m old → (changed : ℕ) × IsCellOf plan i (record { saw = m.saw ++ more; changed = changed }) new
 
--- The cell of node j saw what the node sees if the guess is right below its next quantum. It drives what is thought, and so far keeps to the guess.
+-- The cell of node j saw what the node sees if the guess is right below its next quantum, and is then the one that a group keeps. It drives what is
+-- thought, and so far keeps to the guess.
 -- All that was driven before the guess has come there.
 pub record RunsBeside (plan : Plan) (guess : Guess) (j : ℕ) (cell : Cell) : Type 0 where
   pub member : Member
@@ -26,6 +28,7 @@ pub record RunsBeside (plan : Plan) (guess : Guess) (j : ℕ) (cell : Cell) : Ty
   pub counted : length member.saw ≡ quanta_of cell.node
   pub inside : AreInside (line_of plan) j (quanta_of cell.node)
   pub seen : IsRightBelow (line_of plan) guess cell.next → member.saw ≡ seen (line_of plan) j (quanta_of cell.node)
+  pub right : IsRightBelow (line_of plan) guess cell.next → IsCell plan j cell
   pub drive : (line_of plan).drives j member.saw ≡ thought_before guess j cell.next
   pub keeps : KeepsGuess (line_of plan) guess cell.next j
   pub reached : (i : ℕ) → i < (line_of plan).nodes → guess.from + (line_of plan).delay i j ≤ cell.next

@@ -17,5 +17,6 @@ pub mod Said
 pub mod Stored
 pub mod Through
 pub mod Ticks
+pub mod Trails
 pub mod ValueLaws
 pub mod Ways

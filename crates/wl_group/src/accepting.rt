@@ -8,10 +8,12 @@ ghost use Rattle.wl_group.specs.Guess.{IsRightBelow, KeepsGuess};
 ghost use Rattle.wl_replica.specs.State.{slots_of};
 ghost use Rattle.wl_replica.specs.Known.{horizon};
 ghost use Rattle.wl_group.specs.Accepted.{HasSaid, HasSaidAll};
+ghost use Rattle.wl_group.specs.Trails.{AreTrails};
 
 use crate::group::Group;
 use crate::guess::Guess;
 use crate::laws::{guess_laws, value_laws};
+use crate::trail::Trails;
 use std::alloc::{AllocError, Global};
 use wl_pulse::count_until;
 use wl_record_core::Record;
@@ -21,15 +23,18 @@ impl Group {
     ghost use Rattle.wl_group.specs.Running.{HasRunOn};
 
     /// Takes what all nodes do below a tick, by a guess to which all keep up to there, and runs its members along it. Returns what the
-    /// members say: their changes, and their silences up to that tick. Refused out of memory, it may have done some of it.
+    /// members say: their changes, and their silences up to that tick. Members that left trails beside the guess go on from their ends. Refused
+    /// out of memory, it may have done some of it.
     pub fn accept(
         &mut self,
         alloc: Global,
         guess: &Guess,
         until: u64,
+        trails: &Trails,
     ) -> Result<Vec<Record>, AllocError>
         requires keep { (j : ℕ) → j < length self.old.plan.nodes
             → KeepsGuess (line_of self.old.plan) guess.now until j }
+        requires trails { AreTrails self.old.plan guess.now trails.now }
         ensures said { IfOk result (λ said. HasRunOn self.old self.new said.items) }
         ensures taken { IfOk result (λ said. HasSaidAll self.old self.new said.items) }
         ensures err { OnErr result ((some : List Told) × HasRunOn self.old self.new some
@@ -46,7 +51,7 @@ impl Group {
             self.learn(i, guess, until, &mut said)?;
         }
         for j in 0..self.replica.nodes() {
-            self.run_along(j, guess, until)?;
+            self.run_along(j, guess, until, trails)?;
         }
         Ok(said)
     }

@@ -7,6 +7,7 @@ ghost use Rattle.wl_group.specs.Accepted.{HasGoneAlong, HasSaid};
 ghost use Rattle.wl_group.specs.Guess.{IsRightBelow};
 ghost use Rattle.wl_group.specs.Heard.{IsDisturbed};
 ghost use Rattle.wl_group.specs.Kept.{IsCell};
+ghost use Rattle.wl_group.specs.Trails.{AreTrails};
 
 use crate::begun::has_come;
 use crate::cell::Cell;
@@ -14,17 +15,26 @@ use crate::following::thought_at;
 use crate::group::Group;
 use crate::guess::Guess;
 use crate::laws::value_laws;
+use crate::trail::Trails;
 use std::alloc::AllocError;
 use wl_plan::CheckedPlan;
 use wl_pulse::Pulse;
 
 impl Group {
     /// Runs node `j` through its quanta before a tick, if it is a member, along a guess that is right up to there. It stays where it is unless
-    /// it and the line at its place are known up to there. Refused out of memory, it may have run some of them.
-    pub(crate) fn run_along(&mut self, j: u8, guess: &Guess, until: u64) -> Result<(), AllocError>
+    /// it and the line at its place are known up to there. If it left a trail it needn't run up to its end. Refused out of memory, it may have
+    /// run some of them.
+    pub(crate) fn run_along(
+        &mut self,
+        j: u8,
+        guess: &Guess,
+        until: u64,
+        trails: &Trails,
+    ) -> Result<(), AllocError>
         requires right { IsRightBelow (line_of self.old.plan) guess.now until }
         requires end { until ≤ self.old.plan.end }
         requires node { j < length self.old.plan.nodes }
+        requires trails { AreTrails self.old.plan guess.now trails.now }
         ensures { HasSaid self.old self.new [] [] }
     {
         value_laws();
@@ -41,7 +51,7 @@ impl Group {
             return Ok(());
         }
         let stop = cell.last_due(&self.plan, j, until);
-        cell.go_along(&self.plan, j, guess, stop, disturbance)
+        cell.go_along(&self.plan, j, guess, stop, trails, disturbance)
     }
 }
 
@@ -72,15 +82,16 @@ impl Cell {
         clock.at(clock.first_not_before(tick + 1) - 1)
     }
 
-    /// Runs node `j` through its quanta before a tick, along a guess that is right up to there. Refused out of memory, it may have run some
-    /// of them.
+    /// Runs node `j` through its quanta before a tick, along a guess that is right up to there; not through those of its trail. Refused out of
+    /// memory, it may have run some of them.
     fn go_along(
         &mut self,
         plan: &CheckedPlan,
         j: u8,
         guess: &Guess,
         until: u64,
-        disturbance: Pulse,
+        trails: &Trails,
+        mut disturbance: Pulse,
     ) -> Result<(), AllocError>
         requires node { j < length plan.now.nodes }
         requires cell { IsCell plan.now j self.old }
@@ -89,27 +100,20 @@ impl Cell {
         requires come { (i : ℕ) → i < length plan.now.nodes
             → guess.now.from + (line_of plan.now).delay i j ≤ self.old.next }
         requires stop { until ≤ plan.now.end }
+        requires trails { AreTrails plan.now guess.now trails.now }
         requires disturbance { IsDisturbed plan.now j disturbance }
         ensures { HasGoneAlong plan.now j until self.old self.new }
     {
         plan.laws();
         wl_plan::simulation_laws();
-        let mut disturbance = disturbance;
+        self.take_trail(plan, j, guess, until, trails);
         let mut come = 0;
         while self.next < until {
-            let stretch = thought_at(
-                plan,
-                guess,
-                &self.ways,
-                j,
-                self.next,
-                &mut come,
-                &mut disturbance,
-            );
+            let (ways, tick) = (&self.ways, self.next);
+            let stretch = thought_at(plan, guess, ways, j, tick, &mut come, &mut disturbance);
             let stretch = Pulse {
-                from: stretch.from,
                 until: stretch.until.min(until),
-                dominant: stretch.dominant,
+                ..stretch
             };
             self.go_in(plan, j, stretch, until)?;
         }

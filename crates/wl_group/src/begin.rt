@@ -164,7 +164,8 @@ fn take_first(
     requires node { i < length plan.now.nodes }
     requires nodes { replica.old.nodes ≡ length plan.now.nodes }
     ensures { OnOk result ((before : List Told) → replica.old ≡ state_of (length plan.now.nodes) before
-        → replica.new ≡ state_of (length plan.now.nodes) (before ++ (if is_chosen chosen.now i then Silence i 0 (reach (line_of plan.now) i []) ∷ [] else []))) }
+        → replica.new ≡ state_of (length plan.now.nodes) (before
+        ++ (if is_chosen chosen.now i then Silence i 0 (reach (line_of plan.now) i []) ∷ [] else []))) }
 {
     plan.laws();
     if !chosen[i as usize] {

@@ -8,18 +8,21 @@ ghost use Rattle.wl_group.specs.Guess.{thought, thought_before, KeepsGuess};
 ghost use Rattle.wl_group.specs.Heard.{IsDisturbed};
 ghost use Rattle.wl_group.specs.Kept.{IsCell};
 ghost use Rattle.wl_group.specs.Running.{HasNotGone};
+ghost use Rattle.wl_group.specs.Trails.{IsTrailOf};
 ghost use Rattle.wl_group.specs.Ways.{AreWays};
 
 use crate::cell::{Cell, Ways};
 use crate::guess::Guess;
 use crate::heard::disturbance_around;
+use crate::trail::Trail;
 use std::alloc::AllocError;
 use wl_plan::CheckedPlan;
 use wl_pulse::{Pulse, change_at, count_until, pulse_of};
 use wl_record_core::MOST_EDGES;
 
 impl Cell {
-    /// Returns a tick below which node `j` keeps to a guess; at most `until`. It is run beside the guess, and goes back to where it was.
+    /// Returns a tick below which node `j` keeps to a guess, and its trail, if it left one. It is run beside the guess, and goes back to where
+    /// it was.
     pub(crate) fn keeps_to(
         &mut self,
         plan: &CheckedPlan,
@@ -27,13 +30,14 @@ impl Cell {
         guess: &Guess,
         until: u64,
         disturbance: Pulse,
-    ) -> Result<u64, AllocError>
+    ) -> Result<(u64, Option<Trail>), AllocError>
         requires node { j < length plan.now.nodes }
         requires cell { IsCell plan.now j self.old }
         requires follows { RunsBeside plan.now guess.now j self.old }
         requires stop { until ≤ plan.now.end }
         requires disturbance { IsDisturbed plan.now j disturbance }
-        ensures keeps { IfOk result (λ kept. KeepsGuess (line_of plan.now) guess.now kept j) }
+        ensures keeps { IfOk result (λ kept. KeepsGuess (line_of plan.now) guess.now kept.0 j) }
+        ensures trail { IfOk result (λ kept. IfSome kept.1 (IsTrailOf plan.now guess.now)) }
         ensures same { HasNotGone self.old self.new }
     {
         let mark = self.node.keep();
@@ -45,7 +49,8 @@ impl Cell {
         kept
     }
 
-    /// Runs node `j` beside a guess as long as it keeps to it, up to a tick. Returns a tick below which it does.
+    /// Runs node `j` beside a guess as long as it keeps to it, up to a tick. Returns a tick below which it does, and the trail that it left some
+    /// bits before its end.
     fn follow(
         &mut self,
         plan: &CheckedPlan,
@@ -53,23 +58,29 @@ impl Cell {
         guess: &Guess,
         until: u64,
         disturbance: Pulse,
-    ) -> Result<u64, AllocError>
+    ) -> Result<(u64, Option<Trail>), AllocError>
         requires node { j < length plan.now.nodes }
         requires follows { RunsBeside plan.now guess.now j self.old }
         requires stop { until ≤ plan.now.end }
         requires disturbance { IsDisturbed plan.now j disturbance }
-        ensures keeps { IfOk result (λ kept. KeepsGuess (line_of plan.now) guess.now kept j) }
+        ensures keeps { IfOk result (λ kept. KeepsGuess (line_of plan.now) guess.now kept.0 j) }
+        ensures trail { IfOk result (λ kept. IfSome kept.1 (IsTrailOf plan.now guess.now)) }
         ensures ahead { HasRunAhead self.old self.new }
     {
+        plan.laws();
         let mut disturbance = disturbance;
         let mut come = 0;
+        let mut trail = None;
+        let begin = self.trail_begin(until);
         while self.next < until {
-            let kept = self.follow_row(plan, j, guess, until, &mut come, &mut disturbance)?;
+            trail = self.trail_by(plan, j, guess, begin, trail);
+            let stop = stop_by(self.next, begin, until);
+            let kept = self.follow_row(plan, j, guess, stop, &mut come, &mut disturbance)?;
             if let Some(kept) = kept {
-                return Ok(kept);
+                return Ok((kept, trail));
             }
         }
-        Ok(until)
+        Ok((until, trail))
     }
 
     /// Runs quanta of node `j` in a row beside a guess: one at least, all below a tick. Returns nothing if it keeps to the guess so far, and
@@ -115,6 +126,16 @@ impl Cell {
         }
         Ok(None)
     }
+}
+
+/// Returns the first of two ticks that is after a tick: the later one is.
+fn stop_by(next: u64, first: u64, until: u64) -> u64
+    requires due { next < until }
+    requires order { first ≤ until }
+    ensures due { next < result }
+    ensures in_time { result ≤ until }
+{
+    if next < first { first } else { until }
 }
 
 /// Returns the tick before which a row of quanta ends that begins at tick `next`. It is `until` at most, and the next one or no later than

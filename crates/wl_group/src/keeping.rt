@@ -1,39 +1,51 @@
 //! Which members keep to a guess.
-ghost use Rattle.std.specs.Prelude.{◌≡◌, ◌<◌, ◌≤◌, true, IfOk};
+ghost use Rattle.std.specs.Prelude.{◌≡◌, ◌<◌, ◌≤◌, true, IfOk, IfSome};
 ghost use Rattle.wl_plan.specs.PlanLine.{line_of};
 ghost use Rattle.wl_group.specs.Guess.{AllKeepTo, KeepsGuess};
+ghost use Rattle.wl_group.specs.Trails.{IsTrailOf, AreTrails};
 
 use crate::begun::can_follow;
 use crate::group::Group;
 use crate::guess::Guess;
 use crate::laws::{guess_laws, value_laws};
+use crate::trail::{Trail, Trails};
 use std::alloc::AllocError;
 
 impl Group {
     ghost use Rattle.wl_group.specs.GroupValue.{belongs};
 
     /// Returns a tick below which all members keep to a guess, as long as all nodes do; at most `until`. Each is run beside the guess, and goes
-    /// back to where it was. Refused out of memory.
-    pub fn keeps_to(&mut self, guess: &Guess, until: u64) -> Result<u64, AllocError>
-        ensures keeps { IfOk result (λ kept. AllKeepTo (line_of self.old.plan) guess.now kept (belongs self.old)) }
+    /// back to where it was. With the tick come the trails that they left, which make it cheaper to accept the guess. Refused out of memory.
+    pub fn keeps_to(&mut self, guess: &Guess, until: u64) -> Result<(u64, Trails), AllocError>
+        ensures keeps { IfOk result (λ kept. AllKeepTo (line_of self.old.plan) guess.now kept.0 (belongs self.old)) }
+        ensures trails { IfOk result (λ kept. AreTrails self.old.plan guess.now kept.1) }
         ensures same { self.new ≡ self.old }
     {
         value_laws();
         guess_laws();
         let mut kept = until.min(self.plan.end);
+        let mut trails = Trails::with_room(self.alloc, self.cells.len())?;
         for j in 0..self.replica.nodes() {
-            kept = self.member_keeps_to(j, guess, kept)?;
+            let (tick, trail) = self.member_keeps_to(j, guess, kept)?;
+            trails.add(trail)?;
+            kept = tick;
         }
-        Ok(kept)
+        Ok((kept, trails))
     }
 
-    /// Returns a tick below which node `j` keeps to a guess, if it is a member; at most `until`.
-    fn member_keeps_to(&mut self, j: u8, guess: &Guess, until: u64) -> Result<u64, AllocError>
+    /// Returns a tick below which node `j` keeps to a guess, if it is a member; at most `until`. With it comes its trail, if it left one.
+    fn member_keeps_to(
+        &mut self,
+        j: u8,
+        guess: &Guess,
+        until: u64,
+    ) -> Result<(u64, Option<Trail>), AllocError>
         requires node { j < self.old.replica.nodes }
         requires stop { until ≤ self.old.plan.end }
         ensures keeps { IfOk result (λ kept. belongs self.old j ≡ true
-            → KeepsGuess (line_of self.old.plan) guess.now kept j) }
-        ensures few { IfOk result (λ kept. kept ≤ until) }
+            → KeepsGuess (line_of self.old.plan) guess.now kept.0 j) }
+        ensures few { IfOk result (λ kept. kept.0 ≤ until) }
+        ensures trail { IfOk result (λ kept. IfSome kept.1 (IsTrailOf self.old.plan guess.now)) }
         ensures same { self.new ≡ self.old }
     {
         value_laws();
@@ -42,12 +54,12 @@ impl Group {
         wl_plan::checked_is_sound();
         let disturbance = self.disturbances[j as usize];
         let Some(cell) = &mut self.cells[j as usize] else {
-            return Ok(until);
+            return Ok((until, None));
         };
         if !can_follow(&self.plan, &self.replica, cell, j, guess) {
-            return Ok(until.min(guess.from));
+            return Ok((until.min(guess.from), None));
         }
-        let kept = cell.keeps_to(&self.plan, j, guess, until, disturbance)?;
-        Ok(kept.min(until))
+        let (kept, trail) = cell.keeps_to(&self.plan, j, guess, until, disturbance)?;
+        Ok((kept.min(until), trail))
     }
 }

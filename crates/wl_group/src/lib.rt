@@ -18,9 +18,11 @@ mod heard;
 mod keeping;
 mod laws;
 mod leading;
+mod trail;
 
 pub use answer::{Advance, Emission};
 pub use begin::first_silence;
 pub use group::Group;
 pub use guess::Guess;
 pub use laws::{advance_laws, group_laws, guess_laws, true_replicas_agree, value_laws};
+pub use trail::Trails;

@@ -156,7 +156,7 @@ pub record AreTotals (node : Node) (t : NodeTotals) : Type 0 where
   pub errors : (levels : List Level) → IsNode levels node → t.errors ≡ error_count (history_of (node_setup node) levels)
   pub unsent : (levels : List Level) → IsNode levels node → t.unsent ≡ unsent_count (node_setup node) (history_of (node_setup node) levels)
 
-totals_as : (node : Node) (levels : List Level) (t : NodeTotals) → IsNode levels node → AreTotals node t
+pub totals_as : (node : Node) (levels : List Level) (t : NodeTotals) → IsNode levels node → AreTotals node t
     → t ≡ node_totals (outcome_of_history (node_setup node) [] (history_of (node_setup node) levels))
 totals_as node levels t is read = λ i. record {
   samples = read.samples levels is i;

@@ -21,4 +21,4 @@ pub use outcome::{
     Changes, Frames, NodeOutcome, NodeOutcomes, NodeTotals, Outcome, Phases, Totals,
 };
 pub use records::records_of;
-pub use so_far::node_outcome;
+pub use so_far::{node_outcome, node_totals};

@@ -10,8 +10,8 @@ use Rattle.wl_worker.specs.Handed.{Took}
 pub gave_nothing : {L : Type 0} (gave : L → L → List Record → Type 0) (g : GroupValue) → GaveSince gave g g
 gave_nothing gave g = record { before = g.emitted; given = []; begun = inl refl; emitted = sym (append-nil g.emitted); all = none }
 
-pub gave_anew : {L : Type 0} (gave : L → L → List Record → Type 0) (old new : GroupValue) (plan : Plan) (chosen : ℕ → Bool) → new ≡ initial_group plan chosen → GaveSince gave old new
-gave_anew gave old new plan chosen e = record { before = []; given = []; begun = inr refl; emitted = ap (λ (g : GroupValue). g.emitted) e; all = none }
+pub gave_anew : {L : Type 0} (gave : L → L → List Record → Type 0) (old new : GroupValue) (lists : Bool) (plan : Plan) (chosen : ℕ → Bool) → new ≡ initial_group lists plan chosen → GaveSince gave old new
+gave_anew gave old new lists plan chosen e = record { before = []; given = []; begun = inr refl; emitted = ap (λ (g : GroupValue). g.emitted) e; all = none }
 
 pub gave_more : {L : Type 0} (gave : L → L → List Record → Type 0) (old mid new : GroupValue) → GaveSince gave old mid → GaveMore gave mid new → GaveSince gave old new
 gave_more gave old mid new since turn = record {

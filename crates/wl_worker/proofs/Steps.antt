@@ -13,6 +13,9 @@ took_plan old new t = ap (λ (g : GroupValue). g.plan) t.taken
 pub took_members : (old new : GroupValue) → Took old new → belongs new ≡ belongs old
 took_members old new t = ap belongs t.taken
 
+pub took_lists : (old new : GroupValue) → Took old new → new.lists ≡ old.lists
+took_lists old new t = ap (λ (g : GroupValue). g.lists) t.taken
+
 -- what a link is of, it is of with the group's plan after a fetch
 pub took_of : (P : Plan → Type 0) (old new : GroupValue) → Took old new → P old.plan → P new.plan
 took_of P old new t p = subst P (sym (took_plan old new t)) p

@@ -14,8 +14,8 @@ abbrev pub no_plan : Plan
 no_plan = record { nodes = []; topology = record { places = []; per = 0 }; disturbances = []; end = 0 }
 
 -- Once it has begun its group has its share of the plan. What it keeps of claims is true. If it is done the members are at their ends.
-pub record IsTask (plan : Plan) (workers worker : ℕ) (group : Option GroupValue) (agreement : Agreement) (is_done : Bool) (fault : Option Fault) : Type 0 where
-  pub share : IfSome group (IsShare plan workers worker)
+pub record IsTask (lists : Bool) (plan : Plan) (workers worker : ℕ) (group : Option GroupValue) (agreement : Agreement) (is_done : Bool) (fault : Option Fault) : Type 0 where
+  pub share : IfSome group (IsShare lists plan workers worker)
   pub agreed : IsAgreementOf plan agreement
   pub ended : IsTrue is_done → IfSome group MembersEnded
   pub cause : IfSome fault (λ why. why ≢ Workers)

@@ -6,8 +6,9 @@ use Rattle.wl_group.specs.GroupValue.{GroupValue, belongs, has_ended}
 abbrev pub MembersEnded : GroupValue → Type 0
 MembersEnded g = (i : ℕ) → belongs g i ≡ true → has_ended g i ≡ true
 
--- the plan and the members that were handed in, all at the end
+-- the plan and the members that were handed in, of the same kind, all at the end
 pub record HasFinished (old new : GroupValue) : Type 0 where
   pub plan : new.plan ≡ old.plan
   pub members : belongs new ≡ belongs old
+  pub lists : new.lists ≡ old.lists
   pub ended : MembersEnded new

@@ -6,7 +6,8 @@ ghost use Rattle.wl_plan.specs.declared.plan.Plan.{Plan as GivenPlan};
 ghost use Rattle.wl_group.specs.Chosen.{is_chosen};
 ghost use Rattle.wl_group.specs.GroupValue.{belongs};
 ghost use Rattle.wl_group.specs.Guess.{IsSameGuess};
-ghost use Rattle.wl_worker.specs.Agreements.{IsAgreementOf};
+ghost use Rattle.wl_group.specs.Trails.{AreTrails};
+ghost use Rattle.wl_worker.specs.Agreements.{IsAgreementOf, IsAskedOf};
 ghost use Rattle.wl_worker.specs.Claims.{IsClaimOf, AreClaimsOf};
 ghost use Rattle.wl_worker.specs.Handed.{AreTrueOfPlan};
 
@@ -15,15 +16,24 @@ use crate::link::{Link, LinkFault};
 use crate::pace::Pace;
 use std::alloc::{AllocError, Global};
 use std::sync::Arc;
-use wl_group::{Group, Guess, guess_laws};
+use wl_group::{Group, Guess, Trails, guess_laws};
 use wl_record_core::Record;
 use wl_topology::MOST_NODES;
+
+/// A guess that is asked about.
+#[derive(Drop)]
+pub(crate) struct Asked {
+    /// What all claims that came of it say together, with the worker's own.
+    pub(crate) claim: Claim,
+    /// The trails that the worker's members left beside it.
+    pub(crate) trails: Trails,
+}
 
 /// What a worker keeps of the claims that came.
 #[derive(Drop)]
 pub(crate) struct Agreement {
-    /// What all claims of the current guess say together; none if nothing is asked.
-    pub(crate) current: Option<Claim>,
+    /// The current guess; none if nothing is asked.
+    pub(crate) current: Option<Asked>,
     /// The worker asks nothing before its least promise is at this tick.
     pub(crate) after: u64,
 }
@@ -65,6 +75,7 @@ pub(crate) fn answer_claims<L: Link>(
     ensures emitted { IfOk result (λ answer. group.new.emitted ≡ group.old.emitted ++ answer.said.items) }
     ensures plan { group.new.plan ≡ group.old.plan }
     ensures members { belongs group.new ≡ belongs group.old }
+    ensures lists { group.new.lists ≡ group.old.lists }
 {
     let worker = link.worker();
     let mut answer = Answer {
@@ -101,6 +112,7 @@ fn heed(
         → group.new.emitted ≡ before ++ answer.new.said.items) }
     ensures plan { group.new.plan ≡ group.old.plan }
     ensures members { belongs group.new ≡ belongs group.old }
+    ensures lists { group.new.lists ≡ group.old.lists }
 {
     put(group, worker, agreement, claim, &mut answer.claims)?;
     settle(alloc, group, agreement, &mut answer.said)
@@ -126,47 +138,56 @@ fn put(
         agreement.current = with_claim(group, agreement.current.take(), claim);
         return Ok(());
     }
-    let own = own_claim(group, &claim.guess, claim.until, false, worker)?;
-    agreement.current = Some(merged(group, claim, &own));
+    let (own, trails) = own_claim(group, &claim.guess, claim.until, false, worker)?;
+    agreement.current = Some(Asked {
+        claim: merged(group, claim, &own),
+        trails,
+    });
     claims.push(own)?;
     Ok(())
 }
 
-/// Returns what the claims of the current guess say with one more, which counts if its guess is the same.
-fn with_claim(group: &Group, current: Option<Claim>, claim: Claim) -> Option<Claim>
-    requires current { IfSome current (IsClaimOf group.now.plan) }
+/// Returns the current guess with one claim more, which counts if its guess is the same.
+fn with_claim(group: &Group, current: Option<Asked>, claim: Claim) -> Option<Asked>
+    requires current { IfSome current (IsAskedOf group.now.plan) }
     requires claim { IsClaimOf group.now.plan claim }
-    ensures { IfSome result (IsClaimOf group.now.plan) }
+    ensures { IfSome result (IsAskedOf group.now.plan) }
 {
     let Some(current) = current else {
         return None;
     };
-    if !current.guess.is(&claim.guess) {
+    if !current.claim.guess.is(&claim.guess) {
         return Some(current);
     }
-    Some(merged(group, current, &claim))
+    Some(Asked {
+        claim: merged(group, current.claim, &claim),
+        trails: current.trails,
+    })
 }
 
-/// Returns how far a group's members keep to a guess, at most up to a tick, as a claim of a worker. Refused only when out of memory.
+/// Returns how far a group's members keep to a guess, at most up to a tick, as a claim of a worker, and the trails that they left. Refused
+/// only when out of memory.
 fn own_claim(
     group: &mut Group,
     guess: &Arc<Guess>,
     until: u64,
     asks: bool,
     worker: u8,
-) -> Result<Claim, AllocError>
-    ensures claim { IfOk result (IsClaimOf group.old.plan) }
-    ensures guess { IfOk result (λ claim. arc_value claim.guess ≡ arc_value guess.now) }
+) -> Result<(Claim, Trails), AllocError>
+    ensures claim { IfOk result (λ own. IsClaimOf group.old.plan own.0) }
+    ensures guess { IfOk result (λ own. arc_value own.0.guess ≡ arc_value guess.now) }
+    ensures trails { IfOk result (λ own. AreTrails group.old.plan (arc_value guess.now) own.1) }
     ensures same { group.new ≡ group.old }
 {
-    let until = group.keeps_to(guess, until)?;
-    Ok(Claim {
+    let (until, trails) = group.keeps_to(guess, until)?;
+    let claim = Claim {
         guess: Arc::try_clone(guess)?,
         until,
         nodes: group.chosen(),
         asks,
         worker,
-    })
+    };
+    Ok((claim, trails))
 }
 
 /// Returns what two claims of one guess say together: the nodes of both keep to it, up to the lesser tick.
@@ -175,7 +196,8 @@ fn merged(group: &Group, claim: Claim, other: &Claim) -> Claim
     requires guess { IsSameGuess (arc_value claim.guess) (arc_value other.now.guess) }
     requires claim { IsClaimOf group.now.plan claim }
     requires other { IsClaimOf group.now.plan other.now }
-    ensures { IsClaimOf group.now.plan result }
+    ensures claim { IsClaimOf group.now.plan result }
+    ensures guess { result.guess ≡ claim.guess }
 {
     guess_laws();
     let _ = group;
@@ -227,14 +249,16 @@ fn settle(
         → group.new.emitted ≡ before ++ said.new.items) }
     ensures plan { group.new.plan ≡ group.old.plan }
     ensures members { belongs group.new ≡ belongs group.old }
+    ensures lists { group.new.lists ≡ group.old.lists }
 {
     let Some(current) = &agreement.current else {
         return Ok(());
     };
-    if !names_all(&current.nodes, group.plan().nodes()) {
+    let claim = &current.claim;
+    if !names_all(&claim.nodes, group.plan().nodes()) {
         return Ok(());
     }
-    let records = group.accept(alloc, &current.guess, current.until)?;
+    let records = group.accept(alloc, &claim.guess, claim.until, &current.trails)?;
     said.extend_from_slice(&records)?;
     agreement.current = None;
     Ok(())
@@ -260,23 +284,22 @@ pub(crate) fn ask<L: Link>(
     if agreement.current.is_some() || promise < agreement.after {
         return Ok(());
     }
-    let Some(claim) = guessed(alloc, group, link.worker())? else {
+    let Some(asked) = guessed(alloc, group, link.worker())? else {
         return Ok(());
     };
     agreement.after = promise.saturating_add(pace.bit);
-    if claim.until < agreement.after.saturating_add(pace.bit) {
+    if asked.claim.until < agreement.after.saturating_add(pace.bit) {
         return Ok(());
     }
-    let own = claim.copied()?;
-    link.claim(claim)?;
-    agreement.current = Some(own);
+    link.claim(asked.claim.copied()?)?;
+    agreement.current = Some(asked);
     Ok(())
 }
 
-/// Returns a claim of a worker that asks about what the group guesses, if it guesses. One that no node sends is asked only by the worker
-/// that has node 0.
-fn guessed(alloc: Global, group: &mut Group, worker: u8) -> Result<Option<Claim>, AllocError>
-    ensures claim { IfOk result (λ claim. IfSome claim (IsClaimOf group.old.plan)) }
+/// Returns what the group guesses, if it guesses, with a claim of a worker that asks about it. A guess that no node sends is asked about only
+/// by the worker that has node 0.
+fn guessed(alloc: Global, group: &mut Group, worker: u8) -> Result<Option<Asked>, AllocError>
+    ensures asked { IfOk result (λ asked. IfSome asked (IsAskedOf group.old.plan)) }
     ensures same { group.new ≡ group.old }
 {
     let Some((guess, until)) = group.guess(alloc)? else {
@@ -286,6 +309,6 @@ fn guessed(alloc: Global, group: &mut Group, worker: u8) -> Result<Option<Claim>
         return Ok(None);
     }
     let guess = Arc::new(alloc, guess)?;
-    let claim = own_claim(group, &guess, until, true, worker)?;
-    Ok(Some(claim))
+    let (claim, trails) = own_claim(group, &guess, until, true, worker)?;
+    Ok(Some(Asked { claim, trails }))
 }

@@ -22,7 +22,7 @@ const LOOKS: u32 = 1_000;
 
 /// What the types of a run know of it. No value of it is made.
 pub(crate) trait OfRun {
-    ghost use Rattle.std.specs.Prelude.{ℕ};
+    ghost use Rattle.std.specs.Prelude.{ℕ, Bool};
     ghost use Rattle.wl_plan.specs.declared.plan.Plan.{Plan as GivenPlan};
 
     /// The run's plan.
@@ -30,14 +30,20 @@ pub(crate) trait OfRun {
 
     /// How many workers it has.
     ghost workers: { ℕ };
+
+    /// Whether their nodes list their samples.
+    ghost lists: { Bool };
 }
 
 impl OfRun for Brand {
+    ghost use Rattle.std.specs.Prelude.{false};
     ghost use Rattle.wl_worker.specs.Crews.{no_plan};
 
     ghost plan = { no_plan };
 
     ghost workers = { 0 };
+
+    ghost lists = { false };
 }
 
 /// A worker between two turns.
@@ -68,7 +74,7 @@ impl<L: Link + Drop, B: OfRun> Model for Task<L, B> {
     ghost view = { λ _. tt };
 
     ghost invariant = { λ t. (t.worker < B.workers) × L.is_of t.link B.plan
-        × IsTask B.plan B.workers t.worker t.group t.agreement t.is_done t.fault };
+        × IsTask B.lists B.plan B.workers t.worker t.group t.agreement t.is_done t.fault };
 }
 
 impl<L: Link + Drop, B: OfRun> Task<L, B> {
@@ -112,11 +118,13 @@ impl<L: Link + Drop, B: OfRun> Task<L, B> {
         alloc: Global,
         plan: &CheckedPlan,
         workers: u8,
+        lists: bool,
         pace: Pace,
         gate: &G,
     )
         requires plan { plan.now ≡ B.plan }
         requires workers { workers ≡ B.workers }
+        requires lists { lists ≡ B.lists }
     {
         self.is_done = false;
         let next = next_turn(
@@ -124,6 +132,7 @@ impl<L: Link + Drop, B: OfRun> Task<L, B> {
             plan,
             workers,
             self.worker,
+            lists,
             pace,
             gate,
             &mut self.group,
@@ -150,7 +159,7 @@ impl<L: Link + Drop, B: OfRun> Task<L, B> {
 
     /// Returns its end: the group, whose members are at theirs, or its fault. One that has no end has stopped.
     fn into_end(self, worker: u8) -> Result<Group, Fault>
-        ensures { IsEnd B.plan B.workers worker result }
+        ensures { IsEnd B.lists B.plan B.workers worker result }
     {
         let Task {
             worker: own,
@@ -175,6 +184,7 @@ fn next_turn<L: Link, G: Gate>(
     plan: &CheckedPlan,
     workers: u8,
     worker: u8,
+    lists: bool,
     pace: Pace,
     gate: &G,
     group: &mut Option<Group>,
@@ -185,10 +195,10 @@ fn next_turn<L: Link, G: Gate>(
 ) -> Result<Next, Fault>
     requires number { worker < workers }
     requires of { L.is_of link.old plan.now }
-    requires share { IfSome group.old (IsShare plan.now workers worker) }
+    requires share { IfSome group.old (IsShare lists plan.now workers worker) }
     requires agreement { IsAgreementOf plan.now agreement.old }
     ensures of { L.is_of link.new plan.now }
-    ensures share { IfSome group.new (IsShare plan.now workers worker) }
+    ensures share { IfSome group.new (IsShare lists plan.now workers worker) }
     ensures agreement { IsAgreementOf plan.now agreement.new }
     ensures ended { IfOk result (λ next. next ≡ Next.End → IfSome group.new MembersEnded) }
     ensures fault { IfErr result (λ fault. fault ≢ Fault.Workers) }
@@ -201,7 +211,7 @@ fn next_turn<L: Link, G: Gate>(
         return Err(Fault::Worker(worker));
     }
     *turn = number + 1;
-    begin_once(alloc, plan, workers, worker, group, link)?;
+    begin_once(alloc, plan, workers, worker, lists, group, link)?;
     match group {
         Some(group) => have_turn(alloc, group, link, gate, agreement, pace, number),
         None => Err(Fault::Worker(worker)),
@@ -214,20 +224,21 @@ fn begin_once<L: Link>(
     plan: &CheckedPlan,
     workers: u8,
     worker: u8,
+    lists: bool,
     group: &mut Option<Group>,
     link: &mut L,
 ) -> Result<(), Fault>
     requires number { worker < workers }
     requires of { L.is_of link.old plan.now }
-    requires share { IfSome group.old (IsShare plan.now workers worker) }
+    requires share { IfSome group.old (IsShare lists plan.now workers worker) }
     ensures of { L.is_of link.new plan.now }
-    ensures share { IfSome group.new (IsShare plan.now workers worker) }
+    ensures share { IfSome group.new (IsShare lists plan.now workers worker) }
     ensures fault { IfErr result (λ fault. fault ≢ Fault.Workers) }
 {
     if group.is_some() {
         return Ok(());
     }
-    let first = share_of(alloc, plan, workers, worker)?;
+    let first = share_of(alloc, plan, workers, worker, lists)?;
     begin(alloc, &first, link)?;
     *group = Some(first);
     Ok(())
@@ -238,6 +249,8 @@ fn begin_once<L: Link>(
 #[derive(Drop)]
 pub(crate) struct Crew<L: Link + Drop, B: OfRun> {
     workers: u8,
+    // Whether the workers' nodes list their samples.
+    lists: bool,
     pace: Pace,
     tasks: Vec<Mutex<Task<L, B>>>,
     // How many turns were had.
@@ -249,6 +262,7 @@ pub(crate) struct Crew<L: Link + Drop, B: OfRun> {
     asleep: Mutex<()>,
     woken: Condvar,
     ghost workers_are: { workers ≡ B.workers },
+    ghost lists_is: { lists ≡ B.lists },
     ghost count: { vec_len tasks ≡ workers },
 }
 
@@ -261,16 +275,19 @@ impl<L: Link + Drop, B: OfRun> Crew<L, B> {
         alloc: Global,
         plan: &CheckedPlan,
         workers: u8,
+        lists: bool,
         links: Vec<L>,
     ) -> Result<Crew<L, B>, AllocError>
         requires plan { plan.now ≡ B.plan }
         requires workers { workers ≡ B.workers }
+        requires lists { lists ≡ B.lists }
         requires links { All (λ l. L.is_of l plan.now) links.items }
         requires count { vec_len links ≡ workers }
     {
         let tasks = tasks_of(alloc, workers, links)?;
         Ok(Crew {
             workers,
+            lists,
             pace: Pace::of(plan),
             tasks,
             turns: AtomicU64::new(0),
@@ -374,7 +391,7 @@ impl<L: Link + Drop, B: OfRun> Crew<L, B> {
         if !task.is_ready() {
             return None;
         }
-        task.have_turn(alloc, plan, self.workers, self.pace, gate);
+        task.have_turn(alloc, plan, self.workers, self.lists, self.pace, gate);
         Some(task.has_ended())
     }
 
@@ -429,7 +446,7 @@ impl<L: Link + Drop, B: OfRun> Crew<L, B> {
     pub(crate) fn into_ends(self, ends: Vec<Result<Group, Fault>>) -> Vec<Result<Group, Fault>>
         requires room { (vec_len ends ≡ 0) × (B.workers ≤ vec_capacity ends) }
         ensures count { vec_len result ≡ B.workers }
-        ensures ends { EndsKept B.plan B.workers result.items }
+        ensures ends { EndsKept B.lists B.plan B.workers result.items }
     {
         let Crew { tasks, .. } = self;
         ends_of(tasks, ends)
@@ -444,7 +461,7 @@ fn ends_of<L: Link + Drop, B: OfRun>(
     requires few { vec_len tasks < 256 }
     requires room { (vec_len ends ≡ 0) × (vec_len tasks ≤ vec_capacity ends) }
     ensures count { vec_len result ≡ vec_len tasks }
-    ensures ends { EndsKept B.plan B.workers result.items }
+    ensures ends { EndsKept B.lists B.plan B.workers result.items }
 {
     let mut ends = ends;
     let mut worker = 0u8;

@@ -20,11 +20,12 @@ mod over_mail;
 mod pace;
 mod plan_name;
 mod threads;
+mod totals;
 mod turns;
 
 pub use bell::{Bell, MOST_WORKERS, Rings};
 pub use board::{Board, OfPlan};
-pub use by_links::{LinkKind, simulate, simulate_by};
+pub use by_links::{LinkKind, simulate, simulate_by, totals_by};
 pub use claim::Claim;
 pub use giving::Given;
 pub use hub_link::HubLink;

@@ -2,8 +2,8 @@
 ghost use Rattle.std.specs.Prelude.{◌≡◌, ◌<◌, ◌⊎◌, ◌↔◌, All, Err, IfOk, vec_len};
 ghost use Rattle.wl_hub.specs.Passes.{IsPassOf};
 ghost use Rattle.wl_plan.specs.declared.plan.Plan.{Plan as GivenPlan};
-ghost use Rattle.wl_serial.specs.Outcome.{outcome_of};
 ghost use Rattle.wl_worker.specs.Boards.{IsBoardOf};
+ghost use Rattle.wl_worker.specs.NodesOfWorker.{HaveEnded};
 ghost use Rattle.wl_worker.specs.PlanName.{AreNumbered, IsOfPlan};
 
 use crate::bell::{Bell, MOST_WORKERS};
@@ -11,23 +11,26 @@ use crate::board::Board;
 use crate::hub_link::HubLink;
 use crate::link::{Fault, Gate};
 use crate::plan_name::{PlanName, shape_of_plan};
-use crate::threads::simulate_links;
+use crate::threads::run_links;
 use std::alloc::{AllocError, Global};
 use std::sync::Wait;
 use std::thread::Threads;
+use wl_group::Group;
 use wl_hub::{Hub, Pass};
 use wl_plan::CheckedPlan;
-use wl_serial::Outcome;
 
-/// Returns the outcome of the one-thread simulation of a plan, by this many workers over one hub.
-pub(crate) fn simulate_over_hub<R: Threads + Wait + Sync, G: Gate + Sync>(
+/// Runs this many workers of a plan over one hub, and returns their ends, in order. Their nodes list their samples and phase errors, or only
+/// count them.
+pub(crate) fn run_over_hub<R: Threads + Wait + Sync, G: Gate + Sync>(
     rt: &R,
     alloc: Global,
     plan: &CheckedPlan,
     workers: u8,
+    lists: bool,
     gate: &G,
-) -> Result<Outcome, Fault>
-    ensures outcome { IfOk result (λ outcome. outcome ≡ outcome_of plan.now) }
+) -> Result<Vec<Result<Group, Fault>>, Fault>
+    ensures ends { IfOk result (λ ends. HaveEnded lists plan.now workers ends.items) }
+    ensures some { IfOk result (λ _. 0 < workers) }
     ensures workers { result ≡ Err Fault.Workers ↔ (workers ≡ 0) ⊎ (8 < workers) }
 {
     if workers == 0 || usize::from(workers) > MOST_WORKERS {
@@ -41,7 +44,7 @@ pub(crate) fn simulate_over_hub<R: Threads + Wait + Sync, G: Gate + Sync>(
     let bell = Bell::new(alloc, workers, plan.nodes())?;
     let board = Board::new(alloc, plan)?;
     let links = hub_links(rt, alloc, &hub, pass, &bell, &board, workers)?;
-    simulate_links(rt, alloc, plan, links, gate)
+    run_links(rt, alloc, plan, lists, links, gate)
 }
 
 /// Returns a link for each of this many workers, over a board and over a pass of its own that is split off a pass of the hub. Refused only

@@ -38,42 +38,48 @@ pub fn simulate_over<R: Threads + Wait + Sync, L: Link + Send + Drop, G: Gate + 
     requires numbered { AreNumbered L.number links.items }
     ensures outcome { IfOk result (λ outcome. outcome ≡ outcome_of plan) }
     ensures workers { result ≡ Err Fault.Workers ↔ (vec_len links ≡ 0) ⊎ (8 < vec_len links) }
-    ensures fault { IfErr result (IsFaultOfRun plan (vec_len links)) }
+    ensures fault { IfErr result (IsFaultOfRun true plan (vec_len links)) }
 {
-    simulate_links(rt, alloc, &CheckedPlan::of(plan), links, gate)
+    let plan = CheckedPlan::of(plan);
+    if links.is_empty() || links.len() > MOST_WORKERS {
+        return Err(Fault::Workers);
+    }
+    let workers = links.len() as u8;
+    let ends = run_all(rt, alloc, &plan, workers, true, links, gate)?;
+    outcome_of_ends(alloc, &plan, workers, ends.as_slice())
 }
 
-/// Returns what `simulate_over` returns, of a checked plan.
-pub(crate) fn simulate_links<R: Threads + Wait + Sync, L: Link + Send + Drop, G: Gate + Sync>(
+/// Runs all workers of these links to their ends, and returns these, in order. Their nodes list their samples and phase errors, or only count
+/// them.
+pub(crate) fn run_links<R: Threads + Wait + Sync, L: Link + Send + Drop, G: Gate + Sync>(
     rt: &R,
     alloc: Global,
     plan: &CheckedPlan,
+    lists: bool,
     links: Vec<L>,
     gate: &G,
-) -> Result<Outcome, Fault>
+) -> Result<Vec<Result<Group, Fault>>, Fault>
     requires links { All (λ l. L.is_of l plan.now) links.items }
-    requires numbered { AreNumbered L.number links.items }
-    ensures outcome { IfOk result (λ outcome. outcome ≡ outcome_of plan.now) }
+    ensures ends { IfOk result (λ ends. HaveEnded lists plan.now (vec_len links) ends.items) }
+    ensures some { IfOk result (λ _. 0 < vec_len links) }
     ensures workers { result ≡ Err Fault.Workers ↔ (vec_len links ≡ 0) ⊎ (8 < vec_len links) }
-    ensures fault { IfErr result (IsFaultOfRun plan.now (vec_len links)) }
 {
     if links.is_empty() || links.len() > MOST_WORKERS {
         return Err(Fault::Workers);
     }
     let workers = links.len() as u8;
-    let ends = run_all(rt, alloc, plan, workers, links, gate)?;
-    outcome_of_ends(alloc, plan, workers, ends.as_slice())
+    run_all(rt, alloc, plan, workers, lists, links, gate)
 }
 
 /// Returns the outcome of all workers together, or the first of their faults.
-fn outcome_of_ends(
+pub(crate) fn outcome_of_ends(
     alloc: Global,
     plan: &CheckedPlan,
     workers: u8,
     ends: &[Result<Group, Fault>],
 ) -> Result<Outcome, Fault>
     requires some { 0 < workers }
-    requires ends { HaveEnded plan.now workers ends.now }
+    requires ends { HaveEnded true plan.now workers ends.now }
     ensures outcome { IfOk result (λ outcome. outcome ≡ outcome_of plan.now) }
     ensures fault { IfErr result (IsFaultOfEnds ends.now) }
     ensures cause { result ≢ Err Fault.Workers }
@@ -93,15 +99,16 @@ fn run_all<R: Threads + Wait + Sync, L: Link + Send + Drop, G: Gate + Sync>(
     alloc: Global,
     plan: &CheckedPlan,
     workers: u8,
+    lists: bool,
     links: Vec<L>,
     gate: &G,
 ) -> Result<Vec<Result<Group, Fault>>, Fault>
     requires links { All (λ l. L.is_of l plan.now) links.items }
     requires count { vec_len links ≡ workers }
-    ensures ends { IfOk result (λ ends. HaveEnded plan.now workers ends.items) }
+    ensures ends { IfOk result (λ ends. HaveEnded lists plan.now workers ends.items) }
     ensures fault { IfErr result (λ fault. fault ≡ Fault.Memory) }
 {
-    run_as::<R, L, G, Brand>(rt, alloc, plan, workers, links, gate)
+    run_as::<R, L, G, Brand>(rt, alloc, plan, workers, lists, links, gate)
 }
 
 /// Does the same with types that know the run.
@@ -110,18 +117,20 @@ fn run_as<R: Threads + Wait + Sync, L: Link + Send + Drop, G: Gate + Sync, B: Of
     alloc: Global,
     plan: &CheckedPlan,
     workers: u8,
+    lists: bool,
     links: Vec<L>,
     gate: &G,
 ) -> Result<Vec<Result<Group, Fault>>, Fault>
     requires plan { plan.now ≡ B.plan }
     requires workers { workers ≡ B.workers }
+    requires lists { lists ≡ B.lists }
     requires links { All (λ l. L.is_of l plan.now) links.items }
     requires count { vec_len links ≡ workers }
-    ensures ends { IfOk result (λ ends. HaveEnded plan.now workers ends.items) }
+    ensures ends { IfOk result (λ ends. HaveEnded lists plan.now workers ends.items) }
     ensures fault { IfErr result (λ fault. fault ≡ Fault.Memory) }
 {
     let ends = Vec::with_capacity(alloc, usize::from(workers))?;
-    let crew = Crew::<L, B>::new(alloc, plan, workers, links)?;
+    let crew = Crew::<L, B>::new(alloc, plan, workers, lists, links)?;
     run_crew(rt, alloc, plan, workers, &crew, gate);
     Ok(crew.into_ends(ends))
 }
@@ -189,7 +198,7 @@ fn start<'s, E, R: Wait + Sync, L: Link + Send + Drop, G: Gate + Sync, B: OfRun 
 }
 
 /// Returns the first fault of these ends: by the order of faults, and then by worker.
-fn first_fault(ends: &[Result<Group, Fault>]) -> Option<Fault>
+pub(crate) fn first_fault(ends: &[Result<Group, Fault>]) -> Option<Fault>
     ensures { IsLowestFault ends.now result }
 {
     let mut first = None;
@@ -229,7 +238,7 @@ fn outcome_from(
 ) -> Result<Outcome, AllocError>
     requires count { (0 < workers) × (length ends.now ≡ workers) }
     requires ended { All IsOk ends.now }
-    requires kept { EndsKept plan.now workers ends.now }
+    requires kept { EndsKept true plan.now workers ends.now }
     ensures { IfOk result (λ outcome. outcome ≡ outcome_of plan.now) }
 {
     outcome_node_by_node();
@@ -254,7 +263,7 @@ fn node_from(
 ) -> Result<NodeOutcome, AllocError>
     requires count { (0 < workers) × (length ends.now ≡ workers) }
     requires ended { All IsOk ends.now }
-    requires kept { EndsKept plan.now workers ends.now }
+    requires kept { EndsKept true plan.now workers ends.now }
     requires node { i < length plan.now.nodes }
     ensures { IfOk result (λ outcome. outcome ≡ node_outcome_of plan.now i) }
 {
@@ -270,6 +279,7 @@ fn outcome_at_end(alloc: Global, group: &Group, i: u8) -> Result<NodeOutcome, Al
     requires node { i < length group.now.plan.nodes }
     requires member { belongs group.now i ≡ true }
     requires ended { has_ended group.now i ≡ true }
+    requires lists { group.now.lists ≡ true }
     ensures { IfOk result (λ outcome. outcome ≡ node_outcome_of group.now.plan i) }
 {
     wl_plan::checked_is_sound();

@@ -141,6 +141,7 @@ pub(crate) fn have_turn<L: Link, G: Gate>(
         → GaveSince L.gave first group.new) }
     ensures plan { group.new.plan ≡ group.old.plan }
     ensures members { belongs group.new ≡ belongs group.old }
+    ensures lists { group.new.lists ≡ group.old.lists }
     ensures fault { IfErr result (λ fault. fault ≢ Fault.Workers) }
 {
     let worker = link.worker();
@@ -163,7 +164,6 @@ pub(crate) fn have_turn<L: Link, G: Gate>(
 }
 
 /// Begins again before a turn, if the gate asks it.
-#[tactic(auto, using(crate::proofs::Emitted::gave_anew))]
 fn restart_if_asked<L: Link, G: Gate>(
     alloc: Global,
     group: &mut Group,
@@ -177,13 +177,17 @@ fn restart_if_asked<L: Link, G: Gate>(
         → GaveSince L.gave first group.new) }
     ensures plan { group.new.plan ≡ group.old.plan }
     ensures members { belongs group.new ≡ belongs group.old }
+    ensures lists { group.new.lists ≡ group.old.lists }
     ensures fault { IfErr result (λ fault. fault ≢ Fault.Workers) }
 {
     let worker = link.worker();
     if !gate.restart(worker, turn) {
         return Ok(());
     }
-    begin_anew(alloc, group, link).map_err(|fault| fault_of(fault, worker))
+    match begin_anew(alloc, group, link) {
+        Ok(()) => Ok(()),
+        Err(fault) => Err(fault_of(fault, worker)),
+    }
 }
 
 /// Returns the worker's fault if its link has this one.
@@ -201,11 +205,12 @@ fn fault_of(fault: LinkFault, worker: u8) -> Fault
 fn begin_anew<L: Link>(alloc: Global, group: &mut Group, link: &mut L) -> Result<(), LinkFault>
     requires { L.is_of link.old group.old.plan }
     ensures same { (p : GivenPlan) → L.is_of link.old p → L.is_of link.new p }
-    ensures fresh { OnOk result (group.new ≡ initial_group group.old.plan (belongs group.old)) }
+    ensures fresh { OnOk result (group.new ≡ initial_group group.old.lists group.old.plan (belongs group.old)) }
     ensures rewound { OnOk result (L.is_rewound link.new) }
     ensures began { OnOk result ((rewound : L) × L.is_rewound rewound × GaveFirst L.gave group.new rewound link.new) }
     ensures plan { group.new.plan ≡ group.old.plan }
     ensures members { belongs group.new ≡ belongs group.old }
+    ensures lists { group.new.lists ≡ group.old.lists }
 {
     group.restart()?;
     link.rewind();
@@ -255,6 +260,7 @@ fn step<L: Link>(
     ensures agreement { IsAgreementOf group.old.plan agreement.new }
     ensures plan { group.new.plan ≡ group.old.plan }
     ensures members { belongs group.new ≡ belongs group.old }
+    ensures lists { group.new.lists ≡ group.old.lists }
     ensures blocked { IfOk result (λ waits. IsTrue waits → IsBlocked group.new) }
     ensures gave { OnOk result (GaveMore L.gave group.old group.new) }
 {
@@ -280,12 +286,13 @@ fn post<L: Link>(group: &Group, link: &mut L, claims: Vec<Claim>) -> Result<(), 
 }
 
 /// Fetches what others gave.
-#[tactic(auto, using(crate::proofs::Steps::took_members, crate::proofs::Emitted::took_emitted))]
+#[tactic(auto, using(crate::proofs::Steps::took_members, crate::proofs::Steps::took_lists, crate::proofs::Emitted::took_emitted))]
 fn come<L: Link>(alloc: Global, group: &mut Group, link: &mut L) -> Result<(), LinkFault>
     requires { L.is_of link.old group.old.plan }
     ensures same { (p : GivenPlan) → L.is_of link.old p → L.is_of link.new p }
     ensures plan { group.new.plan ≡ group.old.plan }
     ensures members { belongs group.new ≡ belongs group.old }
+    ensures lists { group.new.lists ≡ group.old.lists }
     ensures emitted { group.new.emitted ≡ group.old.emitted }
 {
     link.fetch(alloc, group)?;
@@ -313,6 +320,7 @@ fn say_after(
         → group.new.emitted ≡ before ++ now.records.items) }
     ensures plan { group.new.plan ≡ group.old.plan }
     ensures members { belongs group.new ≡ belongs group.old }
+    ensures lists { group.new.lists ≡ group.old.lists }
 {
     if said.is_empty() {
         return say(alloc, group, rows);
@@ -331,6 +339,7 @@ fn say(alloc: Global, group: &mut Group, rows: u32) -> Result<Said, AllocError>
     ensures emitted { IfOk result (λ said. group.new.emitted ≡ group.old.emitted ++ said.records.items) }
     ensures plan { group.new.plan ≡ group.old.plan }
     ensures members { belongs group.new ≡ belongs group.old }
+    ensures lists { group.new.lists ≡ group.old.lists }
 {
     let mut records = Vec::with_capacity(alloc, 2 * rows as usize)?;
     for _ in 0..rows {
@@ -357,6 +366,7 @@ fn run_least(group: &mut Group, said: &mut Vec<Record>) -> Result<bool, AllocErr
         → group.new.emitted ≡ before ++ said.new.items) }
     ensures plan { group.new.plan ≡ group.old.plan }
     ensures members { belongs group.new ≡ belongs group.old }
+    ensures lists { group.new.lists ≡ group.old.lists }
 {
     match least_promised(group) {
         Some(i) => run_member(group, i, said),
@@ -375,6 +385,7 @@ fn run_member(group: &mut Group, i: u8, said: &mut Vec<Record>) -> Result<bool, 
         → group.new.emitted ≡ before ++ said.new.items) }
     ensures plan { group.new.plan ≡ group.old.plan }
     ensures members { belongs group.new ≡ belongs group.old }
+    ensures lists { group.new.lists ≡ group.old.lists }
 {
     let Some(emission) = group.go(i)? else {
         return Ok(false);

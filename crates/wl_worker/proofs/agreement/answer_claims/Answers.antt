@@ -17,4 +17,5 @@ loop-preserved g c =
       emitted = did.said c.args.group.now.emitted was.emitted;
       plan = did.plan ∙ was.plan;
       members = did.members ∙ was.members;
+      lists = did.lists ∙ was.lists;
     }

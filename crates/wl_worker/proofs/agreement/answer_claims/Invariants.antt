@@ -15,4 +15,5 @@ invariant-loop g l = record {
   emitted : l.group.emitted ≡ l.fn.group.emitted ++ l.answer.said.items;
   plan : l.group.plan ≡ l.fn.group.plan;
   members : belongs l.group ≡ belongs l.fn.group;
+  lists : l.group.lists ≡ l.fn.group.lists;
 }

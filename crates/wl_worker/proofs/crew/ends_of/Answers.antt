@@ -17,7 +17,7 @@ loop-task-preserved g c =
       (let m = was.0 in let l = pushed.len in let s = step.1 in omega arith),
       (let m = was.1 in let l = pushed.capacity in omega arith),
       search rules,
-      (λ w d b. one_behind ends c.push_reserved.new.self.items c.into_end.result (length ends) (λ j end. IsEnd plan workers j end) pushed.items refl was.3
-          (subst (λ j. IsEnd plan workers j c.into_end.result) same c.into_end.ensures)
+      (λ w d b. one_behind ends c.push_reserved.new.self.items c.into_end.result (length ends) (λ j end. IsEnd g.B.OfRun.lists plan workers j end) pushed.items refl was.3
+          (subst (λ j. IsEnd g.B.OfRun.lists plan workers j c.into_end.result) same c.into_end.ensures)
           w d (let l = pushed.len in let more_ok = c.push_reserved.new.self.ok in omega arith)),
     )

@@ -7,5 +7,5 @@ use Rattle.wl_worker.proofs.crew.next_turn.Goals as goal
 pub returns-in-Some-group-clause-share : goal.returns-in-Some-group-clause-share
 returns-in-Some-group-clause-share g c =
     let plan = c.args.plan.now in
-    let before = subst (λ group. IfSome group (IsShare plan c.args.workers c.args.worker)) c.in-Some-group.is c.begin_once.ensures.share in
-    share_kept plan c.args.workers c.args.worker c.in-Some-group.group c.have_turn.new.group before c.have_turn.ensures.plan c.have_turn.ensures.members
+    let before = subst (λ group. IfSome group (IsShare c.args.lists plan c.args.workers c.args.worker)) c.in-Some-group.is c.begin_once.ensures.share in
+    share_kept c.args.lists plan c.args.workers c.args.worker c.in-Some-group.group c.have_turn.new.group before c.have_turn.ensures.plan c.have_turn.ensures.lists c.have_turn.ensures.members

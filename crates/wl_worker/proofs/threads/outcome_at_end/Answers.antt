@@ -16,5 +16,5 @@ returns c =
     leb-true g.plan.end (next_tick (line_of g.plan) c.args.i (members_now g c.args.i)) (and_parts (belongs g c.args.i) _ c.requires.ended).1 in
     IfOk-weaker c.node_outcome.result _ (λ told. told ≡ node_outcome_of g.plan c.args.i)
     (λ told is. outcome_here c.group_laws.ensures c.checked_is_sound.ensures g c.node.ensures.holds c.args.i c.requires.node c.requires.member late _ c.node.ensures.setup
-    c.in_ok-changes.changes (c.in_ok-changes.ensures.whole c.requires.ended) told (is c.node.ensures.keeps (members_now g c.args.i).saw c.node.ensures.node))
+    c.in_ok-changes.changes (c.in_ok-changes.ensures.whole c.requires.ended) told (is (c.node.ensures.keeps c.requires.lists) (members_now g c.args.i).saw c.node.ensures.node))
     c.node_outcome.ensures

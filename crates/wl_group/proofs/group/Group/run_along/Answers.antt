@@ -7,6 +7,7 @@ use Rattle.wl_plan.specs.PlanLine.{line_of}
 use Rattle.wl_group.specs.Accepted.{HasSaid}
 use Rattle.wl_group.specs.GroupValue.{GroupValue, IsGroupValue}
 use Rattle.wl_group.specs.Kept.{group_value, IsKept}
+use Rattle.wl_group.specs.Trails.{AreTrails}
 use Rattle.wl_group.proofs.AcceptProofs.{said_nothing}
 use Rattle.wl_group.proofs.AlongProofs.{cell_found, said_at_rest, group_along}
 use Rattle.wl_group.proofs.group.Group.run_along.Goals as goal
@@ -53,3 +54,9 @@ returns-then-not-can_go_along c =
     let kept = c.self.invariant.kept in
     let is = cell_found g.plan g.lists g.cells.items g.replica g.emitted.items kept now c.self.view_is i c.requires.node c.index_mut.result.now c.in-Some.cell c.index_mut.ensures.value c.in-Some.is in
     said_at_rest g.plan g.lists g.cells.items g.replica g.emitted.items kept now c.self.view_is i c.in-Some.cell is
+
+pub go_along-requires-clause-trails : goal.go_along-requires-clause-trails
+go_along-requires-clause-trails c = subst (λ (v : GroupValue). AreTrails v.plan c.args.guess.now c.args.trails.now) (sym c.self.view_is) c.requires.trails
+
+pub go_along-requires-clause-disturbance : goal.go_along-requires-clause-disturbance
+go_along-requires-clause-disturbance c = c.self.invariant.disturbances c.args.j
