@@ -10,7 +10,7 @@ rows=$(dirname "$0")/../crates/test_workers
 scratch=$(mktemp -d)
 trap 'rm -rf "$scratch"' EXIT
 sed -n '/^letters$/,/^---$/p' "$rows/stdin" | sed '/^---$/d' > "$scratch/stdin"
-sed -n '/^letters:$/,$p' "$rows/stdout" > "$scratch/stdout"
+sed -n '/^letters:$/,/^[0-9]* workers/p' "$rows/stdout" | sed '/^[0-9]* workers/d' > "$scratch/stdout"
 gcc -O2 -shared -fPIC -o "$scratch/refuse.so" "$(dirname "$0")/refuse.c" -ldl
 
 attempt() { # N: runs with the Nth allocation refused
