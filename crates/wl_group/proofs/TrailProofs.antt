@@ -5,7 +5,7 @@ use Rattle.wl_level.specs.declared.Level.{Level}
 use Rattle.wl_record_core.specs.Truth.{count_below}
 use Rattle.wl_node.specs.declared.mark.Mark.{Mark}
 use Rattle.wl_node.specs.declared.node.Node.{Node}
-use Rattle.wl_node.specs.Marks.{HasAhead, LiesAhead, IsMark, quanta_marked}
+use Rattle.wl_node.specs.Marks.{LiesAhead, IsMark, quanta_marked}
 use Rattle.wl_node.specs.Reached.{IsNode, keeps_lists, node_setup, quanta_of}
 use Rattle.wl_plan.specs.declared.plan.Plan.{Plan}
 use Rattle.wl_plan.specs.PlanLine.{setup_at, line_of, table_of}

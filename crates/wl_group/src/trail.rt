@@ -3,13 +3,11 @@ ghost use Rattle.std.specs.Prelude.{◌≡◌, ◌<◌, ◌≤◌, ◌^◌, leng
 ghost use Rattle.wl_node.specs.Reached.{quanta_of};
 ghost use Rattle.wl_plan.specs.PlanLine.{line_of};
 ghost use Rattle.wl_plan.specs.Simulation.{AreInside};
-ghost use Rattle.wl_plan.specs.declared.plan.Plan.{Plan as GivenPlan};
 ghost use Rattle.wl_group.specs.Accepted.{HasGoneAlong};
 ghost use Rattle.wl_group.specs.Following.{RunsBeside};
 ghost use Rattle.wl_group.specs.Guess.{IsRightBelow};
 ghost use Rattle.wl_group.specs.Kept.{IsCell};
 ghost use Rattle.wl_group.specs.Trails.{IsTrailOf, AreTrails};
-ghost use Rattle.wl_group.specs.declared.guess.Guess.{Guess as GivenGuess};
 
 use crate::cell::Cell;
 use crate::guess::Guess;

@@ -1,4 +1,4 @@
-use Rattle.std.proofs.Common.{◌-◌, ◌≤◌}
+use Rattle.std.proofs.Common.{◌-◌}
 use Rattle.std.specs.Prelude.{IfSome}
 use Rattle.wl_group.specs.Following.{RunsBeside, HasRunAhead}
 use Rattle.wl_group.specs.Heard.{IsDisturbed}
