@@ -2,8 +2,8 @@
 """Measures runs by workers beside runs by one thread.
 
 usage: workers.py PROGRAM table [ROUNDS]     PROGRAM is the built wl_sim: whole processes, one thread and workers in turns, on the same three plans
-                                             and on a longer one with such delays: wall and processor time (the median of the rounds) beside
-                                             one thread's, and peak memory; the table of docs/change/speed.md
+                                             and on a longer one with such delays: wall and processor time of that process alone (the median of
+                                             the rounds) beside one thread's, and peak memory, by GNU time; the table of docs/change/speed.md
        workers.py PROGRAM speed [ROUNDS]     PROGRAM is the built test_workers: three plans of 16 nodes with 60,000 quanta each, by one thread and by
                                              1, 2 and 4 workers and either link in turns; the table of docs/proof/workers.md
 
@@ -13,7 +13,6 @@ are voluntary context switches (getrusage) beyond those of one thread, the media
 """
 import os
 import re
-import resource
 import statistics
 import subprocess
 import sys
@@ -89,7 +88,6 @@ def speed(rows, rounds):
     print(f"\n{model}, {os.cpu_count()} processors, load {os.getloadavg()[0]:.1f}, {rounds} rounds, {date.today()}")
 
 
-SPENT = [0.0]  # the processor time of all children so far
 TWO, FOUR, MAIL = ["--workers", "2"], ["--workers", "4"], ["--link", "mail"]
 ASKED = [
     ("busy", TWO), ("busy", TWO + MAIL), ("busy", FOUR), ("busy", FOUR + MAIL), ("mostly idle", TWO), ("mostly idle", TWO + MAIL),
@@ -98,31 +96,50 @@ ASKED = [
 ]
 
 
-def whole(words, text):
-    """One process: wall and processor time in seconds, peak memory in MiB (GNU time starts it, so that it isn't that of this Python), and what it wrote."""
-    start = time.monotonic()
-    ran = subprocess.run(["/usr/bin/time", "-f", "%M", *words], input=text.encode(), capture_output=True, timeout=600)
-    wall = time.monotonic() - start
-    usage = resource.getrusage(resource.RUSAGE_CHILDREN)
-    spent, SPENT[0] = usage.ru_utime + usage.ru_stime - SPENT[0], usage.ru_utime + usage.ru_stime
-    if ran.returncode: sys.exit(f"{words}: status {ran.returncode}")
-    return wall, spent, int(ran.stderr.split()[-1]) / 1024, ran.stdout
+def whole(words, source):
+    """One process that reads a file: its wall and processor time in seconds, and what it wrote."""
+    source.seek(0)
+    with tempfile.TemporaryFile() as sink:
+        start = time.monotonic()
+        child = subprocess.Popen(words, stdin=source, stdout=sink)
+        _, child.returncode, usage = os.wait4(child.pid, 0)
+        wall = time.monotonic() - start
+        if child.returncode: sys.exit(f"{words}: status {child.returncode}")
+        sink.seek(0)
+        return wall, usage.ru_utime + usage.ru_stime, sink.read()
+
+
+def peak(words, source):
+    """The peak memory of one process in MiB. GNU time starts it, so that it isn't that of this Python."""
+    source.seek(0)
+    ran = subprocess.run(["/usr/bin/time", "-f", "%M", *words], stdin=source, capture_output=True, timeout=600)
+    return int(ran.stderr.split()[-1]) / 1024
+
+
+def row(program, name, options, source, rounds):
+    """One row of the table."""
+    alone, many = [], []
+    for _ in range(rounds):
+        alone.append(whole([program, "run"], source))
+        many.append(whole([program, "run", *options], source))
+    if len({ran[2] for ran in alone + many}) != 1: sys.exit(f"{name} {options}: the reports differ")
+    (wall, cpu), (wall2, cpu2) = [[statistics.median(ran[k] for ran in runs) for k in (0, 1)] for runs in (alone, many)]
+    most = max(peak([program, "run", *options], source) for _ in range(3))
+    return (f"{wall * 1e3:.1f}, {wall2 * 1e3:.1f} | {wall2 / wall:.2f} | {cpu * 1e3:.1f}, {cpu2 * 1e3:.1f} | {cpu2 / cpu:.2f} |"
+            f" {most:.0f} |")
 
 
 def table(program, rounds):
     inputs = plans() | {"these, 1,040,000 quanta": delayed(made("21", "1040000"))}
-    whole(["true"], "")
+    everywhere = os.sched_getaffinity(0)
     print("| Plan | Run | Wall, ms: one thread, workers | Ratio | Processor, ms: one thread, workers | Ratio | Peak, MiB |\n|---|---|---|---|---|---|---|")
     for name, options in ASKED:
-        one = ["taskset", "-c", "0"] if "8" in options else []
-        alone, many = [], []
-        for _ in range(rounds):
-            alone.append(whole([*one, program, "run"], inputs[name]))
-            many.append(whole([*one, program, "run", *options], inputs[name]))
-        if len({ran[3] for ran in alone + many}) != 1: sys.exit(f"{name} {options}: the reports differ")
-        (wall, cpu), (wall2, cpu2) = [[statistics.median(ran[k] for ran in runs) for k in (0, 1)] for runs in (alone, many)]
-        print(f"| {name} | {' '.join(options)}{', one processor' if one else ''} | {wall * 1e3:.0f}, {wall2 * 1e3:.0f} | {wall2 / wall:.1f} |",
-              f"{cpu * 1e3:.0f}, {cpu2 * 1e3:.0f} | {cpu2 / cpu:.1f} | {max(ran[2] for ran in many):.0f} |", flush=True)
+        one = "8" in options
+        # (what is started has the processors of this process)
+        os.sched_setaffinity(0, {min(everywhere)} if one else everywhere)
+        with tempfile.TemporaryFile() as source:
+            source.write(inputs[name].encode())
+            print(f"| {name} | {' '.join(options)}{', one processor' if one else ''} | {row(program, name, options, source, rounds)}", flush=True)
     print(f"\n{os.cpu_count()} processors, load {os.getloadavg()[0]:.1f}, the median of {rounds} rounds, {date.today()}")
 
 

@@ -1,5 +1,5 @@
 -- Quanta of a member in a row, through one stretch of the line after another: where they take the node, and that the group is one after them.
-use Rattle.std.proofs.Common.{◌≡◌, ℕ, suc, ◌+◌, ◌-◌, ◌<◌, ◌≤◌, Bool, true, false, inl, inr, List, [], ◌∷◌, ◌++◌, length, replicate, All, nat_lt, slice_index_or, refl, sym, ◌∙◌, ap, subst, arith, if◌then◌else◌}
+use Rattle.std.proofs.Common.{◌≡◌, ℕ, suc, ◌+◌, ◌-◌, ◌<◌, ◌≤◌, Bool, true, false, inl, inr, List, [], ◌∷◌, ◌++◌, length, All, nat_lt, slice_index_or, refl, sym, ◌∙◌, ap, subst, arith, if◌then◌else◌}
 use Rattle.std.proofs.lemmas.Bool.{cases_lt, cases_Bool, cond-true, cond-false}
 use Rattle.std.specs.Prelude.{slice_set, min, Contains}
 use Rattle.std.specs.List.{AllByRecursion}
@@ -288,15 +288,6 @@ changed_most plan s i b cell is =
 -- ---- stretches that are found one after another
 
 module _ (l : Line) (j t : ℕ) where
-  pub ahead_one : (s : Pulse) (n : ℕ) → IsStretch l j s → s.from ≤ t → t < s.until → AreAhead l j t (replicate (suc n) s) 1
-  ahead_one s n stay from until = record {
-    few = omega arith;
-    each = λ m c. (let e : 0 ≡ m = omega arith in subst (λ x. IsStretch l j (slice_index_or (replicate (suc n) s) x no_stretch)) e stay);
-    from = λ c. from;
-    until = λ c. until;
-    joined = λ m c. absurd (omega arith);
-  }
-
   pub ahead_more : (ss : List Pulse) (n : ℕ) (s : Pulse) → 0 < n → n < length ss → AreAhead l j t ss n → IsStretch l j s → s.from ≤ (slice_index_or ss (n - 1) no_stretch).until
       → AreAhead l j t (slice_set ss n s) (n + 1)
   ahead_more ss n s some room a stay from =

@@ -46,7 +46,8 @@ impl Group {
         guess_laws();
         wl_replica::joining_is_a_join();
         let until = until.min(self.plan.end);
-        let mut said = Vec::new(alloc);
+        let most = guess.changes.len().saturating_add(self.cells.len());
+        let mut said = Vec::with_capacity(alloc, most)?;
         for i in 0..self.replica.nodes() {
             self.learn(i, guess, until, &mut said)?;
         }

@@ -4,7 +4,7 @@ ghost use Rattle.std.specs.Prelude.{◌≡◌, ℕ, suc, ◌+◌, ◌<◌, ◌�
 ghost use Rattle.wl_plan.specs.PlanLine.{line_of};
 ghost use Rattle.wl_group.specs.declared.advance.TheConstants.{MOST_EMITTED};
 
-use crate::ahead::{MOST_AHEAD, run_over};
+use crate::ahead::{Ahead, MOST_AHEAD, run_over};
 use crate::answer::{Advance, Emission};
 use crate::group::Group;
 use crate::heard::{known_by, known_of};
@@ -96,7 +96,8 @@ impl Group {
         wl_plan::simulation_laws();
         wl_plan::checked_is_sound();
         let end = known.min(self.plan.end);
-        let ahead = self.look_ahead(i, end, more);
+        let mut ahead = Ahead::nothing();
+        self.look_ahead(i, end, more, &mut ahead);
         let Some(cell) = &mut self.cells[i as usize] else {
             unreachable!()
         };

@@ -19,7 +19,7 @@ use crate::heard::{disturbance_around, stretch_around};
 use crate::laws::{group_laws, value_laws};
 use std::alloc::{AllocError, Global};
 use wl_plan::CheckedPlan;
-use wl_pulse::Pulse;
+use wl_pulse::{Pulse, SILENCE};
 use wl_record_core::Record;
 use wl_replica::Replica;
 
@@ -33,35 +33,42 @@ pub(crate) struct Ahead {
     pub(crate) count: usize,
 }
 
+impl Ahead {
+    /// Returns room for stretches that are still to be found.
+    pub(crate) fn nothing() -> Ahead {
+        Ahead {
+            stretches: [SILENCE; MOST_AHEAD],
+            count: 0,
+        }
+    }
+}
+
 impl Group {
     ghost use Rattle.wl_group.specs.GroupValue.{belongs, members_now};
     ghost use Rattle.wl_group.specs.Member.{next_tick};
 
-    /// Returns the stretches of the line at a member's place, one after another from its next quantum on, up to a tick up to which it is
-    /// known there: the first one, and at most this many more.
-    pub(crate) fn look_ahead(&mut self, i: u8, end: u64, more: u8) -> Ahead
+    /// Finds the stretches of the line at a member's place, one after another from its next quantum on, up to a tick up to which it is known
+    /// there: the first one, and at most this many more. They take the place of those that were found before.
+    pub(crate) fn look_ahead(&mut self, i: u8, end: u64, more: u8, ahead: &mut Ahead)
         requires member { belongs self.old i ≡ true }
         requires early { end < 2 ^ 64 - 1 }
         requires due { next_tick (line_of self.old.plan) i (members_now self.old i) < end }
         requires known { let l = line_of self.old.plan in
             end ≤ place_horizon l.nodes l.delay (slots_of self.old.replica) i }
         ensures same { self.new ≡ self.old }
-        ensures some { 0 < result.count }
+        ensures some { 0 < ahead.new.count }
         ensures ahead { let l = line_of self.old.plan in
-            AreAhead l i (next_tick l i (members_now self.old i)) result.stretches result.count }
+            AreAhead l i (next_tick l i (members_now self.old i)) ahead.new.stretches ahead.new.count }
     {
         value_laws();
         let tick = self.due(i);
-        let mut ahead = Ahead {
-            stretches: [self.find(i, tick); MOST_AHEAD],
-            count: 1,
-        };
+        ahead.stretches[0] = self.find(i, tick);
+        ahead.count = 1;
         for _ in 0..more {
-            if !self.look_on(i, end, &mut ahead) {
-                return ahead;
+            if !self.look_on(i, end, ahead) {
+                return;
             }
         }
-        ahead
     }
 
     /// Finds one stretch more, if there is room for it and the last one is over before a tick up to which the line is known. Returns whether

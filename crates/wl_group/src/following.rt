@@ -8,21 +8,21 @@ ghost use Rattle.wl_group.specs.Guess.{thought, thought_before, KeepsGuess};
 ghost use Rattle.wl_group.specs.Heard.{IsDisturbed};
 ghost use Rattle.wl_group.specs.Kept.{IsCell};
 ghost use Rattle.wl_group.specs.Running.{HasNotGone};
-ghost use Rattle.wl_group.specs.Trails.{IsTrailOf};
+ghost use Rattle.wl_group.specs.Trails.{AreTrails};
 ghost use Rattle.wl_group.specs.Ways.{AreWays};
 
 use crate::cell::{Cell, Ways};
 use crate::guess::Guess;
 use crate::heard::disturbance_around;
-use crate::trail::Trail;
+use crate::trail::Trails;
 use std::alloc::AllocError;
 use wl_plan::CheckedPlan;
 use wl_pulse::{Pulse, change_at, count_until, pulse_of};
 use wl_record_core::MOST_EDGES;
 
 impl Cell {
-    /// Returns a tick below which node `j` keeps to a guess, and its trail, if it left one. It is run beside the guess, and goes back to where
-    /// it was.
+    /// Returns a tick below which node `j` keeps to a guess. It is run beside the guess, leaves a trail if it comes so far, and goes back to
+    /// where it was.
     pub(crate) fn keeps_to(
         &mut self,
         plan: &CheckedPlan,
@@ -30,57 +30,60 @@ impl Cell {
         guess: &Guess,
         until: u64,
         disturbance: Pulse,
-    ) -> Result<(u64, Option<Trail>), AllocError>
+        trails: &mut Trails,
+    ) -> Result<u64, AllocError>
         requires node { j < length plan.now.nodes }
         requires cell { IsCell plan.now j self.old }
         requires follows { RunsBeside plan.now guess.now j self.old }
         requires stop { until ≤ plan.now.end }
         requires disturbance { IsDisturbed plan.now j disturbance }
-        ensures keeps { IfOk result (λ kept. KeepsGuess (line_of plan.now) guess.now kept.0 j) }
-        ensures trail { IfOk result (λ kept. IfSome kept.1 (IsTrailOf plan.now guess.now)) }
+        requires trails { AreTrails plan.now guess.now trails.old }
+        ensures keeps { IfOk result (λ kept. KeepsGuess (line_of plan.now) guess.now kept j) }
+        ensures trails { AreTrails plan.now guess.now trails.new }
         ensures same { HasNotGone self.old self.new }
     {
         let mark = self.node.keep();
         let (next, changed) = (self.next, self.changed);
-        let kept = self.follow(plan, j, guess, until, disturbance);
+        let kept = self.follow(plan, j, guess, until, disturbance, trails);
         self.node.back(&mark);
         self.next = next;
         self.changed = changed;
         kept
     }
 
-    /// Runs node `j` beside a guess as long as it keeps to it, up to a tick. Returns a tick below which it does, and the trail that it left some
-    /// bits before its end.
+    /// Runs node `j` beside a guess as long as it keeps to it, up to a tick. Returns a tick below which it does. Some bits before its end it leaves
+    /// a trail.
     fn follow(
         &mut self,
         plan: &CheckedPlan,
         j: u8,
         guess: &Guess,
         until: u64,
-        disturbance: Pulse,
-    ) -> Result<(u64, Option<Trail>), AllocError>
+        mut disturbance: Pulse,
+        trails: &mut Trails,
+    ) -> Result<u64, AllocError>
         requires node { j < length plan.now.nodes }
         requires follows { RunsBeside plan.now guess.now j self.old }
         requires stop { until ≤ plan.now.end }
         requires disturbance { IsDisturbed plan.now j disturbance }
-        ensures keeps { IfOk result (λ kept. KeepsGuess (line_of plan.now) guess.now kept.0 j) }
-        ensures trail { IfOk result (λ kept. IfSome kept.1 (IsTrailOf plan.now guess.now)) }
+        requires trails { AreTrails plan.now guess.now trails.old }
+        ensures keeps { IfOk result (λ kept. KeepsGuess (line_of plan.now) guess.now kept j) }
+        ensures trails { AreTrails plan.now guess.now trails.new }
         ensures ahead { HasRunAhead self.old self.new }
     {
         plan.laws();
-        let mut disturbance = disturbance;
         let mut come = 0;
-        let mut trail = None;
         let begin = self.trail_begin(until);
+        let mut has_left = false;
         while self.next < until {
-            trail = self.trail_by(plan, j, guess, begin, trail);
+            self.leave_trail(plan, j, guess, begin, &mut has_left, trails)?;
             let stop = stop_by(self.next, begin, until);
             let kept = self.follow_row(plan, j, guess, stop, &mut come, &mut disturbance)?;
             if let Some(kept) = kept {
-                return Ok((kept, trail));
+                return Ok(kept);
             }
         }
-        Ok((until, trail))
+        Ok(until)
     }
 
     /// Runs quanta of node `j` in a row beside a guess: one at least, all below a tick. Returns nothing if it keeps to the guess so far, and

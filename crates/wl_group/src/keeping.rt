@@ -1,14 +1,14 @@
 //! Which members keep to a guess.
-ghost use Rattle.std.specs.Prelude.{◌≡◌, ◌<◌, ◌≤◌, true, IfOk, IfSome};
+ghost use Rattle.std.specs.Prelude.{◌≡◌, ◌<◌, ◌≤◌, true, IfOk};
 ghost use Rattle.wl_plan.specs.PlanLine.{line_of};
 ghost use Rattle.wl_group.specs.Guess.{AllKeepTo, KeepsGuess};
-ghost use Rattle.wl_group.specs.Trails.{IsTrailOf, AreTrails};
+ghost use Rattle.wl_group.specs.Trails.{AreTrails};
 
 use crate::begun::can_follow;
 use crate::group::Group;
 use crate::guess::Guess;
 use crate::laws::{guess_laws, value_laws};
-use crate::trail::{Trail, Trails};
+use crate::trail::Trails;
 use std::alloc::AllocError;
 
 impl Group {
@@ -26,26 +26,26 @@ impl Group {
         let mut kept = until.min(self.plan.end);
         let mut trails = Trails::with_room(self.alloc, self.cells.len())?;
         for j in 0..self.replica.nodes() {
-            let (tick, trail) = self.member_keeps_to(j, guess, kept)?;
-            trails.add(trail)?;
-            kept = tick;
+            kept = self.member_keeps_to(j, guess, kept, &mut trails)?;
         }
         Ok((kept, trails))
     }
 
-    /// Returns a tick below which node `j` keeps to a guess, if it is a member; at most `until`. With it comes its trail, if it left one.
+    /// Returns a tick below which node `j` keeps to a guess, if it is a member; at most `until`. It leaves a trail if it comes so far.
     fn member_keeps_to(
         &mut self,
         j: u8,
         guess: &Guess,
         until: u64,
-    ) -> Result<(u64, Option<Trail>), AllocError>
+        trails: &mut Trails,
+    ) -> Result<u64, AllocError>
         requires node { j < self.old.replica.nodes }
         requires stop { until ≤ self.old.plan.end }
+        requires trails { AreTrails self.old.plan guess.now trails.old }
         ensures keeps { IfOk result (λ kept. belongs self.old j ≡ true
-            → KeepsGuess (line_of self.old.plan) guess.now kept.0 j) }
-        ensures few { IfOk result (λ kept. kept.0 ≤ until) }
-        ensures trail { IfOk result (λ kept. IfSome kept.1 (IsTrailOf self.old.plan guess.now)) }
+            → KeepsGuess (line_of self.old.plan) guess.now kept j) }
+        ensures few { IfOk result (λ kept. kept ≤ until) }
+        ensures trails { AreTrails self.old.plan guess.now trails.new }
         ensures same { self.new ≡ self.old }
     {
         value_laws();
@@ -54,12 +54,12 @@ impl Group {
         wl_plan::checked_is_sound();
         let disturbance = self.disturbances[j as usize];
         let Some(cell) = &mut self.cells[j as usize] else {
-            return Ok((until, None));
+            return Ok(until);
         };
         if !can_follow(&self.plan, &self.replica, cell, j, guess) {
-            return Ok((until.min(guess.from), None));
+            return Ok(until.min(guess.from));
         }
-        let (kept, trail) = cell.keeps_to(&self.plan, j, guess, until, disturbance)?;
-        Ok((kept.min(until), trail))
+        let kept = cell.keeps_to(&self.plan, j, guess, until, disturbance, trails)?;
+        Ok(kept.min(until))
     }
 }

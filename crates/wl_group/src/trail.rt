@@ -1,5 +1,5 @@
 //! Where members came beside a guess, so that they needn't run there again along it.
-ghost use Rattle.std.specs.Prelude.{◌≡◌, ◌<◌, ◌≤◌, ◌^◌, length, IfOk, IfSome, OnOk};
+ghost use Rattle.std.specs.Prelude.{◌≡◌, ◌<◌, ◌≤◌, ◌^◌, length, IfOk, IfSome};
 ghost use Rattle.wl_node.specs.Reached.{quanta_of};
 ghost use Rattle.wl_plan.specs.PlanLine.{line_of};
 ghost use Rattle.wl_plan.specs.Simulation.{AreInside};
@@ -51,14 +51,12 @@ impl Trails {
         })
     }
 
-    /// Adds a trail, if there is one.
-    pub(crate) fn add(&mut self, trail: Option<Trail>) -> Result<(), AllocError>
-        ensures { OnOk result ((plan : GivenPlan) (guess : GivenGuess) → AreTrails plan guess self.old
-            → IfSome trail (IsTrailOf plan guess) → AreTrails plan guess self.new) }
+    /// Adds a trail. Refused when out of memory.
+    fn add(&mut self, trail: Trail) -> Result<(), AllocError>
+        ensures { (plan : GivenPlan) (guess : GivenGuess) → AreTrails plan guess self.old
+            → IsTrailOf plan guess trail → AreTrails plan guess self.new }
     {
-        if let Some(trail) = trail {
-            self.of.push(trail)?;
-        }
+        self.of.push(trail)?;
         Ok(())
     }
 
@@ -87,23 +85,26 @@ impl Cell {
         tick.min(until)
     }
 
-    /// Returns the trail of node `j`, which follows a guess: the one that it left, or one from here, if it has come to a tick.
-    pub(crate) fn trail_by(
+    /// Leaves a trail of node `j`, which follows a guess, if it left none and has come to a tick. Refused when out of memory.
+    pub(crate) fn leave_trail(
         &self,
         plan: &CheckedPlan,
         j: u8,
         guess: &Guess,
         begin: u64,
-        left: Option<Trail>,
-    ) -> Option<Trail>
+        has_left: &mut bool,
+        trails: &mut Trails,
+    ) -> Result<(), AllocError>
         requires follows { RunsBeside plan.now guess.now j self.now }
-        requires left { IfSome left (IsTrailOf plan.now guess.now) }
-        ensures { IfSome result (IsTrailOf plan.now guess.now) }
+        requires trails { AreTrails plan.now guess.now trails.old }
+        ensures { AreTrails plan.now guess.now trails.new }
     {
-        if left.is_some() || self.next < begin {
-            return left;
+        if *has_left || self.next < begin {
+            return Ok(());
         }
-        Some(self.trail(plan, j, guess))
+        *has_left = true;
+        let trail = self.trail(plan, j, guess);
+        trails.add(trail)
     }
 
     /// Returns the trail of node `j`, which follows a guess.

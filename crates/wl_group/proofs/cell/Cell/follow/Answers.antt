@@ -6,7 +6,7 @@ use Rattle.wl_group.proofs.FollowProofs.{ahead_none, ahead_more, keeps_earlier}
 use Rattle.wl_group.proofs.cell.Cell.follow.Goals as goal
 
 pub loop-self-init : goal.loop-self-init
-loop-self-init c = record { follows = c.requires.follows; ahead = ahead_none c.args.self.now; disturbance = c.requires.disturbance; trail = tt }
+loop-self-init c = record { follows = c.requires.follows; ahead = ahead_none c.args.self.now; disturbance = c.requires.disturbance; trails = c.requires.trails }
 
 pub returns-in_err-kept-clause-ahead : goal.returns-in_err-kept-clause-ahead
 returns-in_err-kept-clause-ahead c = ahead_more c.args.self.now c.loop-self.self c.follow_row.new.self c.loop-self.invariant.ahead c.in_err-kept.ensures.ahead
@@ -19,7 +19,7 @@ loop-self-preserved c = record {
   follows = subst (λ o. IfNone o (RunsBeside c.args.plan.now c.args.guess.now c.args.j c.follow_row.new.self)) c.in_default.is c.in_ok-kept.ensures.follows;
   ahead = ahead_more c.args.self.now c.loop-self.self c.follow_row.new.self c.loop-self.invariant.ahead c.in_ok-kept.ensures.ahead;
   disturbance = c.in_ok-kept.ensures.disturbance;
-  trail = c.trail_by-trail.ensures;
+  trails = c.in_ok-leave_trail.ensures;
 }
 
 pub returns-clause-keeps : goal.returns-clause-keeps

@@ -1,8 +1,7 @@
 use Rattle.std.proofs.Common.{◌-◌}
-use Rattle.std.specs.Prelude.{IfSome}
 use Rattle.wl_group.specs.Following.{RunsBeside, HasRunAhead}
 use Rattle.wl_group.specs.Heard.{IsDisturbed}
-use Rattle.wl_group.specs.Trails.{IsTrailOf}
+use Rattle.wl_group.specs.Trails.{AreTrails}
 use Rattle.wl_group.proofs.cell.Cell.follow.Given as goal
 
 abbrev pub invariant-loop-self : goal.invariant-loop-self
@@ -10,7 +9,7 @@ invariant-loop-self l = record {
   follows : RunsBeside l.plan l.guess l.j l.self;
   ahead : HasRunAhead l.fn.self l.self;
   disturbance : IsDisturbed l.plan l.j l.disturbance;
-  trail : IfSome l.trail (IsTrailOf l.plan l.guess);
+  trails : AreTrails l.plan l.guess l.trails;
 }
 
 -- proposed from the loop's first test

@@ -3,7 +3,8 @@ use Rattle.std.proofs.Common.{◌≡◌, ◌≤◌, [], sym, subst, arith}
 use Rattle.wl_plan.specs.declared.plan.Plan.{Plan}
 use Rattle.wl_plan.specs.PlanLine.{line_of}
 use Rattle.wl_group.specs.Guess.{IsRightBelow}
-use Rattle.wl_group.proofs.AcceptProofs.{said_then, said_still, said_in_all, said_all}
+use Rattle.wl_group.specs.GroupValue.{IsGroupValue}
+use Rattle.wl_group.proofs.AcceptProofs.{said_nothing, said_then, said_still, said_in_all, said_all}
 use Rattle.wl_group.proofs.Callers.{on_err}
 use Rattle.wl_group.proofs.group.Group.accept.Goals as goal
 use Rattle.wl_group.proofs.group.Group.accept.Goals.{After-min-until}
@@ -22,6 +23,12 @@ learn-requires-clause-right c = right ((goal.at.learn-requires-clause-right c).A
 pub run_along-requires-clause-right : goal.run_along-requires-clause-right
 run_along-requires-clause-right c = right ((goal.at.run_along-requires-clause-right c).After-min-until) c.loop-j.self.plan c.loop-j.invariant.plan
 
+pub returns-in_err-said-clause-err : goal.returns-in_err-said-clause-err
+returns-in_err-said-clause-err c =
+    let g = c.args.self.now in
+    let none = said_nothing g [] (subst IsGroupValue c.self.view_is c.self.invariant.kept.value) in
+    on_err c.from_residual.result ([], said_in_all g g [] none, said_all c.joining_is_a_join.ensures g g [] none)
+
 pub loop-i-preserved : goal.loop-i-preserved
 loop-i-preserved c =
     said_then c.args.self.now c.loop-i.self c.learn.new.self [] c.loop-i.said.items c.learn.new.said.items c.loop-i.invariant c.learn.ensures.said
@@ -29,7 +36,7 @@ loop-i-preserved c =
 pub returns-in_err-learn-clause-err : goal.returns-in_err-learn-clause-err
 returns-in_err-learn-clause-err c =
     let all = said_then c.args.self.now c.loop-i.self c.learn.new.self [] c.loop-i.said.items c.learn.new.said.items c.loop-i.invariant c.learn.ensures.said in
-    on_err c.from_residual.result (
+    on_err c.from_residual-in_err-learn.result (
       c.learn.new.said.items,
       said_in_all c.args.self.now c.learn.new.self c.learn.new.said.items all,
       said_all c.joining_is_a_join.ensures c.args.self.now c.learn.new.self c.learn.new.said.items all,

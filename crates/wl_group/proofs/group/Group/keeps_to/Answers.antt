@@ -5,8 +5,7 @@ use Rattle.wl_plan.specs.declared.plan.Plan.{Plan}
 use Rattle.wl_plan.specs.PlanLine.{line_of}
 use Rattle.wl_group.specs.GroupValue.{GroupValue, belongs}
 use Rattle.wl_group.specs.Guess.{KeepsGuess}
-use Rattle.std.specs.Prelude.{IfSome}
-use Rattle.wl_group.specs.Trails.{IsTrailOf}
+use Rattle.wl_group.specs.Trails.{AreTrails}
 use Rattle.wl_group.proofs.FollowProofs.{belongs_there, keeps_earlier}
 use Rattle.wl_group.proofs.group.Group.keeps_to.Goals as goal
 
@@ -36,29 +35,25 @@ member_keeps_to-requires-clause-stop c =
     let f = h.stop in
     omega (arith, e, f)
 
-pub returns-in_err-tick-clause-same : goal.returns-in_err-tick-clause-same
-returns-in_err-tick-clause-same c = c.in_err-tick.ensures.same ∙ c.loop-j.invariant.same
-
-pub returns-in_err-add-clause-same : goal.returns-in_err-add-clause-same
-returns-in_err-add-clause-same c = c.in_ok-tick.ensures.same ∙ c.loop-j.invariant.same
+pub returns-in_err-kept-clause-same : goal.returns-in_err-kept-clause-same
+returns-in_err-kept-clause-same c = c.in_err-kept.ensures.same ∙ c.loop-j.invariant.same
 
 pub loop-j-preserved : goal.loop-j-preserved
 loop-j-preserved c =
     let h = c.loop-j.invariant in
     let l = line_of c.args.self.now.plan in
     let guess = c.args.guess.now in
-    let few = c.in_ok-tick.ensures.few in
-    let own : belongs c.args.self.now c.loop-j.j ≡ true → KeepsGuess l guess c.in_ok-tick.tick c.loop-j.j =
-    subst (λ (v : GroupValue). belongs v c.loop-j.j ≡ true → KeepsGuess (line_of v.plan) guess c.in_ok-tick.tick c.loop-j.j) h.same c.in_ok-tick.ensures.keeps in
+    let few = c.in_ok-kept.ensures.few in
+    let own : belongs c.args.self.now c.loop-j.j ≡ true → KeepsGuess l guess c.in_ok-kept.kept c.loop-j.j =
+    subst (λ (v : GroupValue). belongs v c.loop-j.j ≡ true → KeepsGuess (line_of v.plan) guess c.in_ok-kept.kept c.loop-j.j) h.same c.in_ok-kept.ensures.keeps in
     record {
-      same = c.in_ok-tick.ensures.same ∙ h.same;
+      same = c.in_ok-kept.ensures.same ∙ h.same;
       stop = (let f = h.stop in omega (arith, few, f));
       nodes = h.nodes;
-      trails = c.in_ok-add.ensures c.args.self.now.plan guess h.trails
-          (subst (λ (v : GroupValue). IfSome c.in_ok-tick.trail (IsTrailOf v.plan guess)) h.same c.in_ok-tick.ensures.trail);
+      trails = subst (λ (v : GroupValue). AreTrails v.plan guess c.member_keeps_to.new.trails) h.same c.member_keeps_to.ensures.trails;
       all = λ i b member. elim (cases_eq i c.loop-j.j) [
-        | inl e ↦ subst (λ n. KeepsGuess l guess c.in_ok-tick.tick n) (sym e) (own (subst (λ n. belongs c.args.self.now n ≡ true) e member))
-        | inr n ↦ keeps_earlier l guess c.loop-j.kept c.in_ok-tick.tick i few (h.all i (omega (arith, b, n)) member)
+        | inl e ↦ subst (λ n. KeepsGuess l guess c.in_ok-kept.kept n) (sym e) (own (subst (λ n. belongs c.args.self.now n ≡ true) e member))
+        | inr n ↦ keeps_earlier l guess c.loop-j.kept c.in_ok-kept.kept i few (h.all i (omega (arith, b, n)) member)
       ];
     }
 

@@ -3,6 +3,7 @@ use Rattle.std.proofs.Common.{◌≡◌, get_or, Some, None, refl, ◌∙◌, su
 use Rattle.wl_plan.specs.PlanLine.{line_of}
 use Rattle.wl_group.specs.GroupValue.{GroupValue}
 use Rattle.wl_group.specs.Guess.{KeepsGuess}
+use Rattle.wl_group.specs.Trails.{AreTrails}
 use Rattle.wl_group.proofs.FollowProofs.{in_list, known_kept, keeps_earlier}
 use Rattle.wl_group.proofs.OverProofs.{inside_kept}
 use Rattle.wl_group.proofs.RunProofs.{cell_read, kept_stays, value_stays}
@@ -76,3 +77,9 @@ pub returns-clause-keeps : goal.returns-clause-keeps
 returns-clause-keeps c member =
     let keeps = keeps_earlier (line_of c.self.inside.plan) c.args.guess.now c.in_ok-kept.kept c.min-2.result c.args.j (omega (arith, c.min-2.ensures)) c.in_ok-kept.ensures.keeps in
     subst (λ (v : GroupValue). KeepsGuess (line_of v.plan) c.args.guess.now c.min-2.result c.args.j) c.self.view_is keeps
+
+pub returns-in_err-kept-clause-trails : goal.returns-in_err-kept-clause-trails
+returns-in_err-kept-clause-trails c = subst (λ (v : GroupValue). AreTrails v.plan c.args.guess.now c.keeps_to.new.trails) c.self.view_is c.in_err-kept.ensures.trails
+
+pub returns-clause-trails : goal.returns-clause-trails
+returns-clause-trails c = subst (λ (v : GroupValue). AreTrails v.plan c.args.guess.now c.keeps_to.new.trails) c.self.view_is c.keeps_to.ensures.trails

@@ -30,7 +30,7 @@ found laws sound plan lists cells replica emitted kept now view i may o cell r i
 
 -- the group is as it was before the line was looked at
 as_it_was : (c : In-Some) → ◌≡◌ {A = GroupValue} (group_value c.self-2.inside.plan c.self-2.inside.lists c.self-2.inside.cells.items c.self-2.inside.replica c.self-2.inside.emitted.items) c.args.self.now
-as_it_was c = c.self-2.view_is ∙ c.look_ahead-ahead.ensures.same
+as_it_was c = c.self-2.view_is ∙ c.look_ahead.ensures.same
 
 -- and has this cell
 cell_is : (c : In-Some) → get_or c.self-2.inside.cells.items c.args.i None ≡ Some c.in-Some.cell
@@ -73,10 +73,10 @@ run_over-requires-clause-ahead c =
     let now = c.args.self.now in
     let i = c.args.i in
     let t = next_tick (line_of now.plan) i (members_now now i) in
-    let ss = c.look_ahead-ahead.result.stretches in
-    let n = c.look_ahead-ahead.result.count in
+    let ss = c.look_ahead.new.ahead.stretches in
+    let n = c.look_ahead.new.ahead.count in
     subst (λ x. AreAhead (line_of c.self-2.inside.plan) i x ss n) (sym (next_is at))
-    (subst (λ (x : GroupValue). AreAhead (line_of x.plan) i t ss n) (sym (as_it_was at)) c.look_ahead-ahead.ensures.ahead)
+    (subst (λ (x : GroupValue). AreAhead (line_of x.plan) i t ss n) (sym (as_it_was at)) c.look_ahead.ensures.ahead)
 
 pub run_over-requires-clause-inside : goal.run_over-requires-clause-inside
 run_over-requires-clause-inside c =
