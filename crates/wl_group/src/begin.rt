@@ -52,7 +52,8 @@ pub(crate) fn fresh_cells(
     chosen: &Chosen,
     lists: bool,
 ) -> Result<Vec<Option<Cell>>, AllocError>
-    ensures ran { IfOk result (λ cells. ran_of cells.items ≡ (initial_group lists plan.now (is_chosen chosen.now)).ran) }
+    ensures ran { IfOk result
+        (λ cells. ran_of cells.items ≡ (initial_group lists plan.now (is_chosen chosen.now)).ran) }
     ensures cells { IfOk result (λ cells. AreCells plan.now cells.items) }
     ensures listing { IfOk result (λ cells. AreListing lists cells.items) }
 {

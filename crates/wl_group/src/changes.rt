@@ -24,7 +24,10 @@ impl Group {
     pub fn changes(&self, alloc: Global, node: u8) -> Result<Listed<u64>, AllocError>
         requires { belongs self.now node ≡ true }
         ensures so_far { IfOk result (λ list. list
-            ≡ take (count_below (next_tick (line_of self.now.plan) node (members_now self.now node)) (table_of self.now.plan node)) (table_of self.now.plan node)) }
+            ≡ take
+            (count_below (next_tick (line_of self.now.plan) node (members_now self.now node))
+            (table_of self.now.plan node))
+            (table_of self.now.plan node)) }
         ensures whole { has_ended self.now node ≡ true → IfOk result (λ list. list ≡ table_of self.now.plan node) }
     {
         value_laws();
