@@ -14,6 +14,9 @@ use wl_record_core::Record;
 use wl_replica::Replica;
 use wl_topology::MOST_NODES;
 
+/// For how many emitted records a group has room from the start: 64 KiB.
+const EMITTED_AT_FIRST: usize = 4_096;
+
 /// Some nodes of a plan, each of them as far as the line at its place is known, and what is known of all nodes.
 ///
 /// A group runs its nodes without waiting for others: a node may run its next quantum if all that the line can have at its place by then is
@@ -113,13 +116,14 @@ impl Group {
         let cells = fresh_cells(alloc, &plan, &chosen, lists)?;
         let replica = first_replica(alloc, &plan, &chosen)?;
         let sources = nothing_asked(alloc)?;
+        let emitted = Vec::with_capacity(alloc, EMITTED_AT_FIRST)?;
         Ok(Group {
             alloc,
             plan,
             lists,
             cells,
             replica,
-            emitted: Vec::new(alloc),
+            emitted,
             awaited: [0; MOST_NODES],
             far: [1; MOST_NODES],
             lead: 0,

@@ -87,6 +87,17 @@ fn sure(replica: &Replica, node: u8, tick: u64, guess: u32) -> u32
     count
 }
 
+/// Returns a guess how many of a node's first `run` changes are not after a tick: all but two, if these have come, or else another one.
+fn near(replica: &Replica, node: u8, run: u32, tick: u64, guess: u32) -> u32
+    ensures { result ≤ run }
+{
+    let most = run.saturating_sub(2);
+    if guess < most && change_at(replica, node, most - 1) <= tick {
+        return most;
+    }
+    guess.min(run)
+}
+
 /// Returns how many of a node's first `run` changes are not after a tick, and the tick below which it has no more, as far as that is known. A
 /// guess says how many it may be.
 fn changes_until(
@@ -102,7 +113,7 @@ fn changes_until(
     ensures change { result.0 < run → result.1 ≤ edge_tick replica.now node result.0 }
     ensures later { tick < known → tick < result.1 }
 {
-    let mut count = sure(replica, node, tick, guess.min(run));
+    let mut count = sure(replica, node, tick, near(replica, node, run, tick, guess));
     while count < run {
         let next = change_at(replica, node, count);
         if tick < next {

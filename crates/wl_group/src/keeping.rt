@@ -15,20 +15,26 @@ impl Group {
     ghost use Rattle.wl_group.specs.GroupValue.{belongs};
 
     /// Returns a tick below which all members keep to a guess, as long as all nodes do; at most `until`. Each is run beside the guess, and goes
-    /// back to where it was. With the tick come the trails that they left, which make it cheaper to accept the guess. Refused out of memory.
-    pub fn keeps_to(&mut self, guess: &Guess, until: u64) -> Result<(u64, Trails), AllocError>
-        ensures keeps { IfOk result (λ kept. AllKeepTo (line_of self.old.plan) guess.now kept.0 (belongs self.old)) }
-        ensures trails { IfOk result (λ kept. AreTrails self.old.plan guess.now kept.1) }
+    /// back to where it was. The trails that they left, which make it cheaper to accept the guess, take the place of others. Refused out of
+    /// memory.
+    pub fn keeps_to(
+        &mut self,
+        guess: &Guess,
+        until: u64,
+        trails: &mut Trails,
+    ) -> Result<u64, AllocError>
+        ensures keeps { IfOk result (λ kept. AllKeepTo (line_of self.old.plan) guess.now kept (belongs self.old)) }
+        ensures trails { AreTrails self.old.plan guess.now trails.new }
         ensures same { self.new ≡ self.old }
     {
         value_laws();
         guess_laws();
         let mut kept = until.min(self.plan.end);
-        let mut trails = Trails::with_room(self.alloc, self.cells.len())?;
+        trails.clear();
         for j in 0..self.replica.nodes() {
-            kept = self.member_keeps_to(j, guess, kept, &mut trails)?;
+            kept = self.member_keeps_to(j, guess, kept, trails)?;
         }
-        Ok((kept, trails))
+        Ok(kept)
     }
 
     /// Returns a tick below which node `j` keeps to a guess, if it is a member; at most `until`. It leaves a trail if it comes so far.

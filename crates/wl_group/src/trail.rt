@@ -17,7 +17,7 @@ use wl_plan::CheckedPlan;
 
 /// For how many bits before the end of a guess a member runs again, if it is accepted. By then the guess has ended for some nodes: listeners
 /// acknowledge.
-const BITS_AGAIN: u64 = 3;
+const BITS_AGAIN: u64 = 2;
 
 /// Where a member came beside a guess.
 #[derive(Drop)]
@@ -42,13 +42,18 @@ impl Trails {
     ghost use Rattle.wl_plan.specs.declared.plan.Plan.{Plan as GivenPlan};
     ghost use Rattle.wl_group.specs.declared.guess.Guess.{Guess as GivenGuess};
 
-    /// Returns the trails of no member, with room for some. Refused only when out of memory.
-    pub(crate) fn with_room(alloc: Global, count: usize) -> Result<Trails, AllocError>
-        ensures { IfOk result (λ trails. (plan : GivenPlan) (guess : GivenGuess) → AreTrails plan guess trails) }
+    /// Returns the trails of no member. They take no memory.
+    pub fn new(alloc: Global) -> Trails {
+        Trails {
+            of: Vec::new(alloc),
+        }
+    }
+
+    /// Takes all trails away. The memory that they had is kept for others.
+    pub(crate) fn clear(&mut self)
+        ensures { (plan : GivenPlan) (guess : GivenGuess) → AreTrails plan guess self.new }
     {
-        Ok(Trails {
-            of: Vec::with_capacity(alloc, count)?,
-        })
+        self.of.clear();
     }
 
     /// Adds a trail. Refused when out of memory.

@@ -7,6 +7,7 @@ ghost use Rattle.wl_group.specs.Chosen.{is_chosen};
 ghost use Rattle.wl_group.specs.GroupValue.{belongs};
 ghost use Rattle.wl_group.specs.Guess.{IsSameGuess};
 ghost use Rattle.wl_group.specs.Trails.{AreTrails};
+ghost use Rattle.wl_group.specs.declared.trail.Trails.{Trails as GivenTrails};
 ghost use Rattle.wl_worker.specs.Agreements.{IsAgreementOf, IsAskedOf};
 ghost use Rattle.wl_worker.specs.Claims.{IsClaimOf, AreClaimsOf};
 ghost use Rattle.wl_worker.specs.Handed.{AreTrueOfPlan};
@@ -20,31 +21,25 @@ use wl_group::{Group, Guess, Trails, guess_laws};
 use wl_record_core::Record;
 use wl_topology::MOST_NODES;
 
-/// A guess that is asked about.
-#[derive(Drop)]
-pub(crate) struct Asked {
-    /// What all claims that came of it say together, with the worker's own.
-    pub(crate) claim: Claim,
-    /// The trails that the worker's members left beside it.
-    pub(crate) trails: Trails,
-}
-
 /// What a worker keeps of the claims that came.
 #[derive(Drop)]
 pub(crate) struct Agreement {
-    /// The current guess; none if nothing is asked.
-    pub(crate) current: Option<Asked>,
+    /// What all claims of the current guess say together, with the worker's own; none if nothing is asked.
+    pub(crate) current: Option<Claim>,
+    /// The trails that the worker's members left beside that guess. One room for them serves all guesses.
+    pub(crate) trails: Trails,
     /// The worker asks nothing before its least promise is at this tick.
     pub(crate) after: u64,
 }
 
 impl Agreement {
     /// Returns the agreement before any claim came.
-    pub(crate) fn new() -> Agreement
+    pub(crate) fn new(alloc: Global) -> Agreement
         ensures { result.current ≡ None }
     {
         Agreement {
             current: None,
+            trails: Trails::new(alloc),
             after: 0,
         }
     }
@@ -134,60 +129,57 @@ fn put(
     ensures claims { AreClaimsOf group.old.plan claims.new.items }
     ensures same { group.new ≡ group.old }
 {
+    let current = agreement.current.take();
     if !claim.asks {
-        agreement.current = with_claim(group, agreement.current.take(), claim);
+        agreement.current = with_claim(group, current, claim);
         return Ok(());
     }
-    let (own, trails) = own_claim(group, &claim.guess, claim.until, false, worker)?;
-    agreement.current = Some(Asked {
-        claim: merged(group, claim, &own),
-        trails,
-    });
+    let (guess, trails) = (&claim.guess, &mut agreement.trails);
+    let own = own_claim(group, guess, claim.until, false, worker, trails)?;
+    agreement.current = Some(merged(group, claim, &own));
     claims.push(own)?;
     Ok(())
 }
 
 /// Returns the current guess with one claim more, which counts if its guess is the same.
-fn with_claim(group: &Group, current: Option<Asked>, claim: Claim) -> Option<Asked>
-    requires current { IfSome current (IsAskedOf group.now.plan) }
+fn with_claim(group: &Group, current: Option<Claim>, claim: Claim) -> Option<Claim>
+    requires current { IfSome current (IsClaimOf group.now.plan) }
     requires claim { IsClaimOf group.now.plan claim }
-    ensures { IfSome result (IsAskedOf group.now.plan) }
+    ensures { (trails : GivenTrails) → IfSome current (IsAskedOf group.now.plan trails)
+        → IfSome result (IsAskedOf group.now.plan trails) }
 {
     let Some(current) = current else {
         return None;
     };
-    if !current.claim.guess.is(&claim.guess) {
+    if !current.guess.is(&claim.guess) {
         return Some(current);
     }
-    Some(Asked {
-        claim: merged(group, current.claim, &claim),
-        trails: current.trails,
-    })
+    Some(merged(group, current, &claim))
 }
 
-/// Returns how far a group's members keep to a guess, at most up to a tick, as a claim of a worker, and the trails that they left. Refused
-/// only when out of memory.
+/// Returns how far a group's members keep to a guess, at most up to a tick, as a claim of a worker. The trails that they left take the place
+/// of others. Refused only when out of memory.
 fn own_claim(
     group: &mut Group,
     guess: &Arc<Guess>,
     until: u64,
     asks: bool,
     worker: u8,
-) -> Result<(Claim, Trails), AllocError>
-    ensures claim { IfOk result (λ own. IsClaimOf group.old.plan own.0) }
-    ensures guess { IfOk result (λ own. arc_value own.0.guess ≡ arc_value guess.now) }
-    ensures trails { IfOk result (λ own. AreTrails group.old.plan (arc_value guess.now) own.1) }
+    trails: &mut Trails,
+) -> Result<Claim, AllocError>
+    ensures claim { IfOk result (λ own. IsClaimOf group.old.plan own) }
+    ensures guess { IfOk result (λ own. arc_value own.guess ≡ arc_value guess.now) }
+    ensures trails { AreTrails group.old.plan (arc_value guess.now) trails.new }
     ensures same { group.new ≡ group.old }
 {
-    let (until, trails) = group.keeps_to(guess, until)?;
-    let claim = Claim {
+    let until = group.keeps_to(guess, until, trails)?;
+    Ok(Claim {
         guess: Arc::try_clone(guess)?,
         until,
         nodes: group.chosen(),
         asks,
         worker,
-    };
-    Ok((claim, trails))
+    })
 }
 
 /// Returns what two claims of one guess say together: the nodes of both keep to it, up to the lesser tick.
@@ -251,14 +243,13 @@ fn settle(
     ensures members { belongs group.new ≡ belongs group.old }
     ensures lists { group.new.lists ≡ group.old.lists }
 {
-    let Some(current) = &agreement.current else {
+    let Some(claim) = &agreement.current else {
         return Ok(());
     };
-    let claim = &current.claim;
     if !names_all(&claim.nodes, group.plan().nodes()) {
         return Ok(());
     }
-    let records = group.accept(alloc, &claim.guess, claim.until, &current.trails)?;
+    let records = group.accept(alloc, &claim.guess, claim.until, &agreement.trails)?;
     said.extend_from_slice(&records)?;
     agreement.current = None;
     Ok(())
@@ -284,22 +275,27 @@ pub(crate) fn ask<L: Link>(
     if agreement.current.is_some() || promise < agreement.after {
         return Ok(());
     }
-    let Some(asked) = guessed(alloc, group, link.worker())? else {
+    let Some(claim) = guessed(alloc, group, link.worker(), &mut agreement.trails)? else {
         return Ok(());
     };
     agreement.after = promise.saturating_add(pace.bit);
-    if asked.claim.until < agreement.after.saturating_add(pace.bit) {
+    if claim.until < agreement.after.saturating_add(pace.bit) {
         return Ok(());
     }
-    link.claim(asked.claim.copied()?)?;
-    agreement.current = Some(asked);
+    link.claim(claim.copied()?)?;
+    agreement.current = Some(claim);
     Ok(())
 }
 
-/// Returns what the group guesses, if it guesses, with a claim of a worker that asks about it. A guess that no node sends is asked about only
-/// by the worker that has node 0.
-fn guessed(alloc: Global, group: &mut Group, worker: u8) -> Result<Option<Asked>, AllocError>
-    ensures asked { IfOk result (λ asked. IfSome asked (IsAskedOf group.old.plan)) }
+/// Returns a claim of a worker that asks about what the group guesses, if it guesses. The trails that the members left beside that take the
+/// place of others. A guess that no node sends is asked about only by the worker that has node 0.
+fn guessed(
+    alloc: Global,
+    group: &mut Group,
+    worker: u8,
+    trails: &mut Trails,
+) -> Result<Option<Claim>, AllocError>
+    ensures asked { IfOk result (λ asked. IfSome asked (IsAskedOf group.old.plan trails.new)) }
     ensures same { group.new ≡ group.old }
 {
     let Some((guess, until)) = group.guess(alloc)? else {
@@ -309,6 +305,6 @@ fn guessed(alloc: Global, group: &mut Group, worker: u8) -> Result<Option<Asked>
         return Ok(None);
     }
     let guess = Arc::new(alloc, guess)?;
-    let (claim, trails) = own_claim(group, &guess, until, true, worker)?;
-    Ok(Some(Asked { claim, trails }))
+    let claim = own_claim(group, &guess, until, true, worker, trails)?;
+    Ok(Some(claim))
 }

@@ -79,7 +79,7 @@ impl<L: Link + Drop, B: OfRun> Model for Task<L, B> {
 
 impl<L: Link + Drop, B: OfRun> Task<L, B> {
     /// Returns a worker before its first turn.
-    fn new(worker: u8, link: L) -> Task<L, B>
+    fn new(alloc: Global, worker: u8, link: L) -> Task<L, B>
         requires number { worker < B.workers }
         requires link { L.is_of link B.plan }
     {
@@ -87,7 +87,7 @@ impl<L: Link + Drop, B: OfRun> Task<L, B> {
             worker,
             link,
             group: None,
-            agreement: Agreement::new(),
+            agreement: Agreement::new(alloc),
             turn: 0,
             awaited: None,
             is_done: false,
@@ -487,7 +487,7 @@ fn tasks_of<L: Link + Drop, B: OfRun>(
     let mut tasks = Vec::with_capacity(alloc, links.len())?;
     let mut worker = 0u8;
     for link in links {
-        tasks.push(Mutex::new(Task::new(worker, link)))?;
+        tasks.push(Mutex::new(Task::new(alloc, worker, link)))?;
         worker += 1;
     }
     Ok(tasks)

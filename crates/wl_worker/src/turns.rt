@@ -1,5 +1,5 @@
 //! One worker: its turns, from the first silences of its members to their end.
-ghost use Rattle.std.specs.Prelude.{◌≡◌, ◌≢◌, ◌+◌, ◌++◌, ◌<◌, ◌≤◌, true, false, List, None, IsTrue, IfOk, IfErr, IfSome, IfNone, OnOk};
+ghost use Rattle.std.specs.Prelude.{◌≡◌, ◌≢◌, ◌+◌, ◌++◌, ◌<◌, ◌≤◌, true, false, List, None, IsTrue, IfOk, IfErr, IfSome, IfNone, OnOk, Some};
 ghost use Rattle.wl_record_core.specs.declared.record.Record.{Record as Told};
 ghost use Rattle.wl_plan.specs.declared.plan.Plan.{Plan as GivenPlan};
 ghost use Rattle.wl_group.specs.GroupValue.{GroupValue, belongs, may_run, initial_group};
@@ -86,7 +86,7 @@ fn run<L: Link, G: Gate>(
 {
     let worker = link.worker();
     let pace = Pace::of(group.plan());
-    let mut agreement = Agreement::new();
+    let mut agreement = Agreement::new(alloc);
     begin(alloc, group, link)?;
     for turn in 0..MOST_TURNS {
         match have_turn(alloc, group, link, gate, &mut agreement, pace, turn)? {
@@ -442,19 +442,29 @@ fn awaited_by(group: &Group, i: u8, near: u64) -> u64
 }
 
 /// Returns the one of the nodes up to `i` with the least promise, by the one of those before it.
-#[tactic(auto, using(crate::proofs::Promises::left_out, crate::proofs::Promises::first_one))]
 fn least_with(group: &Group, least: Option<u8>, i: u8) -> Option<u8>
     requires before { IsLeastOf group.now i least }
     requires node { i < group.now.replica.nodes }
     ensures { IsLeastOf group.now (i + 1) result }
 {
-    if !group.has(i) {
-        return least;
+    match least {
+        Some(first) => lesser_of(group, first, i),
+        None => first_with(group, i),
     }
-    let Some(first) = least else {
-        return first_with(group, i);
-    };
+}
+
+/// Returns the first member so far with the least promise, or a node after it, if that is a member with a lesser one. Promises come first:
+/// they lie side by side, and members far apart.
+#[tactic(auto, using(crate::proofs::Promises::left_out))]
+fn lesser_of(group: &Group, first: u8, i: u8) -> Option<u8>
+    requires before { IsLeastOf group.now i (Some first) }
+    requires node { i < group.now.replica.nodes }
+    ensures { IsLeastOf group.now (i + 1) result }
+{
     if group.replica().horizon(first) <= group.replica().horizon(i) {
+        return Some(first);
+    }
+    if !group.has(i) {
         return Some(first);
     }
     if group.has_ended(i) {
@@ -463,13 +473,15 @@ fn least_with(group: &Group, least: Option<u8>, i: u8) -> Option<u8>
     Some(i)
 }
 
-/// Returns a member if it isn't at its end: the first one that isn't.
+/// Returns a node if it is a member that isn't at its end: the first one.
 #[tactic(auto, using(crate::proofs::Promises::left_out, crate::proofs::Promises::first_one))]
 fn first_with(group: &Group, i: u8) -> Option<u8>
     requires before { IsLeastOf group.now i None }
-    requires member { belongs group.now i ≡ true }
     ensures { IsLeastOf group.now (i + 1) result }
 {
+    if !group.has(i) {
+        return None;
+    }
     if group.has_ended(i) {
         return None;
     }

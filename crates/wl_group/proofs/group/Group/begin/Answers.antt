@@ -13,9 +13,9 @@ invariant_of-result c =
     let plan = c.of-plan.result in
     record {
       kept = begun_kept c.value_laws.ensures c.args.lists plan plan (is_chosen c.chosen_of-chosen.result) (names c.args.members.now)
-          c.in_ok-cells.cells.items c.in_ok-replica.replica c.new.result.items
+          c.in_ok-cells.cells.items c.in_ok-replica.replica c.in_ok-emitted.emitted.items
           (subst IsChecked (sym (c.of-plan.ensures ∙ c.in_ok-clone_in.ensures)) c.requires.checked) refl c.chosen_of-chosen.ensures
-          c.in_ok-cells.ensures.ran c.in_ok-cells.ensures.cells c.in_ok-cells.ensures.listing c.in_ok-replica.ensures c.new.ensures.items;
+          c.in_ok-cells.ensures.ran c.in_ok-cells.ensures.cells c.in_ok-cells.ensures.listing c.in_ok-replica.ensures c.in_ok-emitted.ensures.items;
       stretches = c.nothing_heard.ensures.heard (line_of plan);
       disturbances = c.nothing_heard-2.ensures.disturbances plan;
       sources = c.in_ok-sources.ensures (line_of plan);
@@ -24,8 +24,8 @@ invariant_of-result c =
 pub returns-clause-value : goal.returns-clause-value
 returns-clause-value c =
     begun_value c.args.lists c.of-plan.result c.of-plan.result (is_chosen c.chosen_of-chosen.result) (names c.args.members.now)
-    c.in_ok-cells.cells.items c.in_ok-replica.replica c.new.result.items refl c.chosen_of-chosen.ensures
-    c.in_ok-cells.ensures.ran c.in_ok-replica.ensures c.new.ensures.items
+    c.in_ok-cells.cells.items c.in_ok-replica.replica c.in_ok-emitted.emitted.items refl c.chosen_of-chosen.ensures
+    c.in_ok-cells.ensures.ran c.in_ok-replica.ensures c.in_ok-emitted.ensures.items
     ∙ ap (λ (p : Plan). initial_group c.args.lists p (names c.args.members.now)) (c.of-plan.ensures ∙ c.in_ok-clone_in.ensures)
 
 pub returns-clause-begun : goal.returns-clause-begun

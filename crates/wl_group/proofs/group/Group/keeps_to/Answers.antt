@@ -17,7 +17,7 @@ loop-j-init c = record {
       let f = c.min-kept.ensures in
       omega (arith, e, f);
   nodes = c.nodes-j-end.ensures.value ∙ ap (λ (v : GroupValue). v.replica.nodes) c.self.view_is;
-  trails = c.in_ok-trails.ensures c.args.self.now.plan c.args.guess.now;
+  trails = c.clear.ensures c.args.self.now.plan c.args.guess.now;
   all = λ i b. absurd (omega (arith, b));
 }
 
