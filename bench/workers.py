@@ -13,6 +13,7 @@ are voluntary context switches (getrusage) beyond those of one thread, the media
 """
 import os
 import re
+import signal
 import statistics
 import subprocess
 import sys
@@ -88,6 +89,8 @@ def speed(rows, rounds):
     print(f"\n{model}, {os.cpu_count()} processors, load {os.getloadavg()[0]:.1f}, {rounds} rounds, {date.today()}")
 
 
+# for how many seconds a process may run
+LIMIT = 600
 TWO, FOUR, MAIL = ["--workers", "2"], ["--workers", "4"], ["--link", "mail"]
 ASKED = [
     ("busy", TWO), ("busy", TWO + MAIL), ("busy", FOUR), ("busy", FOUR + MAIL), ("mostly idle", TWO), ("mostly idle", TWO + MAIL),
@@ -102,8 +105,11 @@ def whole(words, source):
     with tempfile.TemporaryFile() as sink:
         start = time.monotonic()
         child = subprocess.Popen(words, stdin=source, stdout=sink)
+        signal.signal(signal.SIGALRM, lambda *_: child.kill())
+        signal.alarm(LIMIT)
         _, child.returncode, usage = os.wait4(child.pid, 0)
         wall = time.monotonic() - start
+        signal.alarm(0)
         if child.returncode: sys.exit(f"{words}: status {child.returncode}")
         sink.seek(0)
         return wall, usage.ru_utime + usage.ru_stime, sink.read()
@@ -112,7 +118,7 @@ def whole(words, source):
 def peak(words, source):
     """The peak memory of one process in MiB. GNU time starts it, so that it isn't that of this Python."""
     source.seek(0)
-    ran = subprocess.run(["/usr/bin/time", "-f", "%M", *words], stdin=source, capture_output=True, timeout=600)
+    ran = subprocess.run(["/usr/bin/time", "-f", "%M", *words], stdin=source, capture_output=True, timeout=LIMIT)
     return int(ran.stderr.split()[-1]) / 1024
 
 
