@@ -43,7 +43,9 @@ impl Trails {
     ghost use Rattle.wl_group.specs.declared.guess.Guess.{Guess as GivenGuess};
 
     /// Returns the trails of no member. They take no memory.
-    pub fn new(alloc: Global) -> Trails {
+    pub fn new(alloc: Global) -> Trails
+        ensures { (plan : GivenPlan) (guess : GivenGuess) → AreTrails plan guess result }
+    {
         Trails {
             of: Vec::new(alloc),
         }
