@@ -326,13 +326,20 @@ for records in check/formats/*.json; do
   runs "JSON of $(basename "$records")" "${by_hand%.*}.toml" 0 "$records" "$room/none" "${by_hand##*.}" --format json
 done
 . .ci/settings.sh
-# There is a thread for each worker; the program's own is one of them.
+# There is a thread for each worker; the program's own is one of them. With long delays and a processor for each it only
+# waits.
 python3 -Bc 'import sys; sys.path.insert(0, "bench"); import worst; print(worst.plan(nodes=16, quanta=200_000))' > "$room/busy.toml"
 for workers in 1 2 3 8; do
   for link in hub mail; do
     found=$(threads "$program" run --workers "$workers" --link "$link" "$room/busy.toml")
     is "threads of a run by $workers workers, $link: $found" [ "$found" = "$workers" ]
   done
+done
+python3 -Bc 'import sys; sys.path.insert(0, "bench"); import worst; print(worst.plan(nodes=16, quanta=1_000_000))' | sed -E 's/^out = .*/out = 40000/' > "$room/far.toml"
+for link in hub mail; do
+  one=$(threads taskset -c "$(taskset -pc $$ | sed -E 's/.*: ([0-9]+).*/\1/')" "$program" run --workers 2 --link "$link" "$room/far.toml")
+  all=$(threads "$program" run --workers 2 --link "$link" "$room/far.toml")
+  is "threads of a run by 2 workers with long delays, $link: $one on one processor, $all on all" [ "$one" = 2 -a "$all" = "$(($(nproc) > 1 ? 3 : 2))" ]
 done
 
 while IFS= read -r words; do

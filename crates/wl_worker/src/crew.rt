@@ -10,6 +10,7 @@ use crate::nodes_of_worker::share_of;
 use crate::pace::Pace;
 use crate::turns::{MOST_TURNS, Next, begin, have_turn, wait_until};
 use std::alloc::{AllocError, Global};
+use std::hint::spin_loop;
 use std::marker::{Brand, Model, PhantomData};
 use std::sync::atomic::{AtomicU64, Ordering};
 use std::sync::{Condvar, Mutex, Wait};
@@ -19,6 +20,9 @@ use wl_plan::CheckedPlan;
 
 /// How often a thread without work looks for news before it sleeps, if delays are long. Between two looks it lets other threads run.
 const LOOKS: u32 = 1_000;
+
+/// How often a thread that has a worker of its own looks at that one before it looks at others.
+const TRIES: u32 = 100;
 
 /// What the types of a run know of it. No value of it is made.
 pub(crate) trait OfRun {
@@ -246,13 +250,19 @@ fn begin_once<L: Link>(
 
 /// All workers of a run, and what its threads wait at. A thread has a turn of any worker that may have one and that no other thread has at
 /// that moment. If it finds none it sleeps. Not all sleep while a worker may have a turn.
+///
+/// If each worker has a processor of its own, its thread has its turns first. What a worker keeps then stays where it is at hand.
 #[derive(Drop)]
 pub(crate) struct Crew<L: Link + Drop, B: OfRun> {
     workers: u8,
     // Whether the workers' nodes list their samples.
     lists: bool,
     pace: Pace,
+    // Whether each worker has a thread and a processor of its own.
+    is_apart: bool,
     tasks: Vec<Mutex<Task<L, B>>>,
+    // Whether threads may begin: 1 if so.
+    begun: AtomicU64,
     // How many turns were had.
     turns: AtomicU64,
     // How many workers have not ended.
@@ -270,12 +280,14 @@ impl<L: Link + Drop, B: OfRun> Crew<L, B> {
     ghost use Rattle.std.specs.Prelude.{◌≡◌, ◌≤◌, All, IfOk, vec_len, vec_capacity};
     ghost use Rattle.wl_worker.specs.NodesOfWorker.{EndsKept};
 
-    /// Returns the workers of these links before their first turns. Refused only when out of memory.
+    /// Returns the workers of these links before their first turns, for a thread and a processor each if they are apart. Refused only when out
+    /// of memory.
     pub(crate) fn new(
         alloc: Global,
         plan: &CheckedPlan,
         workers: u8,
         lists: bool,
+        is_apart: bool,
         links: Vec<L>,
     ) -> Result<Crew<L, B>, AllocError>
         requires plan { plan.now ≡ B.plan }
@@ -289,7 +301,9 @@ impl<L: Link + Drop, B: OfRun> Crew<L, B> {
             workers,
             lists,
             pace: Pace::of(plan),
+            is_apart,
             tasks,
+            begun: AtomicU64::new(u64::from(!is_apart)),
             turns: AtomicU64::new(0),
             left: AtomicU64::new(u64::from(workers)),
             idle: AtomicU64::new(0),
@@ -298,7 +312,28 @@ impl<L: Link + Drop, B: OfRun> Crew<L, B> {
         })
     }
 
-    /// Has turns of workers until all have ended, those of worker `first` before others.
+    /// True if each worker has a thread and a processor of its own.
+    pub(crate) fn is_apart(&self) -> bool {
+        self.is_apart
+    }
+
+    /// Lets all threads begin.
+    pub(crate) fn begin(&self) {
+        self.begun.store(1, Ordering::SeqCst);
+    }
+
+    // Waits until threads may begin, and lets others run meanwhile. Who makes the threads would else share its processor with the first one
+    // that works, for some milliseconds.
+    fn wait_to_begin<R: Wait>(&self, rt: &R) {
+        for _ in rt.forever() {
+            if self.begun.load(Ordering::SeqCst) > 0 {
+                return;
+            }
+            thread::yield_now();
+        }
+    }
+
+    /// Has turns of workers until all have ended, those of worker `first` before others. It begins once it may.
     pub(crate) fn tend<R: Wait, G: Gate>(
         &self,
         rt: &R,
@@ -309,17 +344,58 @@ impl<L: Link + Drop, B: OfRun> Crew<L, B> {
     )
         requires { plan.now ≡ B.plan }
     {
-        let mut at = usize::from(first);
+        self.wait_to_begin(rt);
+        let own = usize::from(first);
+        let mut at = own;
         for _ in rt.forever() {
             let turns = self.turns.load(Ordering::SeqCst);
             if self.left.load(Ordering::SeqCst) == 0 {
                 return;
             }
-            match self.run_some(rt, alloc, plan, at, gate) {
+            match self.run_next(rt, alloc, plan, own, at, gate) {
                 Some(ran) => at = ran,
                 None => self.rest(rt, turns),
             }
         }
+    }
+
+    /// Has a turn of the thread's own worker, if workers are apart; if that may have none for a while, or they aren't, of another one. Returns
+    /// which one it was; none if there is none.
+    fn run_next<R: Wait, G: Gate>(
+        &self,
+        rt: &R,
+        alloc: Global,
+        plan: &CheckedPlan,
+        own: usize,
+        from: usize,
+        gate: &G,
+    ) -> Option<usize>
+        requires { plan.now ≡ B.plan }
+    {
+        if self.is_apart && self.run_own(rt, alloc, plan, own, gate) {
+            return Some(own);
+        }
+        self.run_some(rt, alloc, plan, from, gate)
+    }
+
+    /// Has a turn of the thread's own worker, if that may have one soon. Returns whether it had.
+    fn run_own<R: Wait, G: Gate>(
+        &self,
+        rt: &R,
+        alloc: Global,
+        plan: &CheckedPlan,
+        own: usize,
+        gate: &G,
+    ) -> bool
+        requires { plan.now ≡ B.plan }
+    {
+        for _ in 0..TRIES {
+            if self.run_at(rt, alloc, plan, own, gate) {
+                return true;
+            }
+            spin_loop();
+        }
+        false
     }
 
     /// Has a turn of the first worker that may have one and that no thread has, from this one on. Returns which one it was; none if there is

@@ -168,6 +168,12 @@ pub trait Link {
         true
     }
 
+    /// Returns how many rows of quanta members run at most before the worker gives what they said, where workers run beside one another. With
+    /// more, others wait longer for it; with fewer, it gives and fetches more often. It decides nothing but speed.
+    fn rows(&self) -> u32 {
+        4
+    }
+
     /// Lets the others know that this worker stopped.
     fn stop(&mut self)
         ensures same { (p : GivenPlan) → is_of self.old p → is_of self.new p }

@@ -185,6 +185,11 @@ impl<'h, R: Wait, B: KnownPlan> Link for MailLink<'h, R, B> {
         self.rings_seen.has_rung(self.bell)
     }
 
+    /// Returns 8: with fewer rows, letters would cost more than they save.
+    fn rows(&self) -> u32 {
+        8
+    }
+
     fn stop(&mut self) {
         self.bell.stop(self.rt, self.worker);
     }

@@ -1,17 +1,18 @@
 //! How workers take turns. It decides nothing but speed.
+use crate::link::Link;
 use wl_plan::CheckedPlan;
 
 /// From this many quanta on the least delay is long.
 const LONG_DELAY: u64 = 64;
+
+/// How many rows of quanta members run at most before a worker gives what they said, if no delay is long. The other workers wait meanwhile.
+const ROWS: u32 = 32;
 
 /// How workers of a plan take turns.
 #[derive(Clone, Copy, Drop)]
 pub(crate) struct Pace {
     /// By how many ticks less than its least promise a blocked worker waits for: half of the least delay.
     pub(crate) near: u64,
-    /// How many rows of quanta at most members run before the worker gives what was said. So others needn't wait until it has run all that
-    /// it can. With fewer it would give and fetch more often. With long delays workers run beside one another, and fewer are better.
-    pub(crate) rows: u32,
     /// How many ticks a bit of node 0 takes.
     pub(crate) bit: u64,
     /// Whether the least delay is long: then workers can run beside one another.
@@ -25,10 +26,14 @@ impl Pace {
         let is_long = is_long(plan, delay);
         Pace {
             near: delay / 2,
-            rows: if is_long { 4 } else { 32 },
             bit: bit_of(plan),
             is_long,
         }
+    }
+
+    /// Returns how many rows of quanta members run at most before a worker gives what they said by this link.
+    pub(crate) fn rows<L: Link>(self, link: &L) -> u32 {
+        if self.is_long { link.rows() } else { ROWS }
     }
 }
 

@@ -10,6 +10,7 @@ ghost use Rattle.wl_worker.specs.PlanName.{AreNumbered};
 use crate::bell::MOST_WORKERS;
 use crate::crew::{Crew, OfRun};
 use crate::link::{Fault, Gate, Link};
+use crate::pace::Pace;
 use std::alloc::{AllocError, Global};
 use std::marker::Brand;
 use std::sync::Wait;
@@ -21,8 +22,9 @@ use wl_plan::{CheckedPlan, Plan};
 use wl_serial::{NodeOutcome, Outcome, node_outcome, outcome_node_by_node};
 
 /// Returns the outcome of the one-thread simulation of a plan, by one worker for each link. Link `w` is that of worker `w`, which runs the
-/// nodes `i` with `i` mod workers equal to `w`. There is a thread for each worker, the caller's among them. It begins with that worker, and
-/// has turns of others while that one waits.
+/// nodes `i` with `i` mod workers equal to `w`. There is a thread for each worker. It begins with that worker, and has turns of others while
+/// that one waits. The caller's thread is one of them, unless workers can run beside one another and each has a processor of its own: then
+/// the caller only waits.
 ///
 /// If it fails there is no partial outcome. Of several faults it is the first by `Fault`'s order, and of these the lowest worker's. If no
 /// thread can be made for a worker, that worker has stopped, and no more are started.
@@ -130,7 +132,8 @@ fn run_as<R: Threads + Wait + Sync, L: Link + Send + Drop, G: Gate + Sync, B: Of
     ensures fault { IfErr result (λ fault. fault ≡ Fault.Memory) }
 {
     let ends = Vec::with_capacity(alloc, usize::from(workers))?;
-    let crew = Crew::<L, B>::new(alloc, plan, workers, lists, links)?;
+    let is_apart = Pace::of(plan).is_long && usize::from(workers) <= processors(rt);
+    let crew = Crew::<L, B>::new(alloc, plan, workers, lists, is_apart, links)?;
     run_crew(rt, alloc, plan, workers, &crew, gate);
     Ok(crew.into_ends(ends))
 }
@@ -155,8 +158,17 @@ fn run_crew<R: Threads + Wait + Sync, L: Link + Send + Drop, G: Gate + Sync, B: 
     );
 }
 
-/// Starts a thread of this scope for each worker but the first, up to one for which none can be made: that worker has stopped. Then it has
-/// turns of workers itself, until all have ended.
+/// Returns how many processors the run may use; 1 if the system doesn't say.
+fn processors<R: Threads>(rt: &R) -> usize {
+    match thread::available_parallelism(rt) {
+        Ok(processors) => processors.get(),
+        Err(_) => 1,
+    }
+}
+
+/// Starts a thread of this scope for each worker, up to one for which none can be made: that worker has stopped. If workers aren't apart, the
+/// caller's is the first of them, and has turns of workers itself until all have ended. If they are, the caller leaves its processor to them:
+/// a kernel may put a new thread on that of its maker, and leave another processor idle.
 fn start_all<'s, E, R: Wait + Sync, L: Link + Send + Drop, G: Gate + Sync, B: OfRun + Send>(
     scope: &Scope<'s, E>,
     rt: &'s R,
@@ -168,12 +180,16 @@ fn start_all<'s, E, R: Wait + Sync, L: Link + Send + Drop, G: Gate + Sync, B: Of
 )
     requires { plan.now ≡ B.plan }
 {
-    for worker in 1..workers {
+    let first = if crew.is_apart() { 0 } else { 1 };
+    for worker in first..workers {
         if !start(scope, rt, alloc, plan, worker, crew, gate) {
             break;
         }
     }
-    crew.tend(rt, alloc, plan, 0, gate);
+    crew.begin();
+    if !crew.is_apart() {
+        crew.tend(rt, alloc, plan, 0, gate);
+    }
 }
 
 /// Starts a thread that has turns of workers, those of this one first. Returns false if none can be made; then the worker has stopped.

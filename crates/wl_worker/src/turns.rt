@@ -149,9 +149,8 @@ pub(crate) fn have_turn<L: Link, G: Gate>(
         return Err(Fault::Worker(worker));
     }
     restart_if_asked(alloc, group, link, gate, turn)?;
-    let waits = step(alloc, group, link, pace.rows, agreement).map_err(|fault| fault_of(
-        fault, worker,
-    ))?;
+    let rows = pace.rows(link);
+    let waits = step(alloc, group, link, rows, agreement).map_err(|fault| fault_of(fault, worker))?;
     let least = least_promised(group);
     let Some(least) = least else {
         return Ok(Next::End);
