@@ -256,7 +256,7 @@ impl Bell {
 
     /// True if the bell rang again since `heard` for another worker, or some worker stopped: `wait_past` would return at once.
     pub fn has_rung(&self, heard: Rings) -> bool {
-        self.rings.load(Ordering::SeqCst) != heard.count
+        self.rings.load(Ordering::SeqCst) != heard.count || self.halted.load(Ordering::SeqCst) > 0
     }
 
     // Sleeps until the bell has rung again, or some worker stopped.
