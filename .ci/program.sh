@@ -18,7 +18,7 @@
 # - sweeps: known answers, what is refused, files, memory (.ci/sweeps.sh)
 # - command lines that name no task, or are no text: status 2, and nothing on standard output
 # - a run that doesn't end in 300 seconds, as one whose workers wait for each other for ever, has failed
-# - a reader and a writer that fail, with their hints, and threads that can't be made: status 3
+# - a reader and a writer that fail, with their hints, and threads that can't be made: status 3; and runs of workers under many limits on memory
 # - as many workers as were asked for, by their threads, and by the link that was asked for
 # - each allocation refused in turn, of some commands and amid the events of a world; a disk that fails; worlds that restart
 set -uo pipefail
@@ -491,6 +491,17 @@ until limited "$limit" --workers 2 || [ "$limit" -gt 400000 ]; do limit=$((limit
 ended=0
 limited "$limit" --workers 8 || ended=$?
 is "eight workers where there is room for two (status $ended)" [ "$ended" = 3 -a ! -s "$room/out" ]
+# A worker that can't be made stops before the others have waited once: they have to hear of it. Under each of these limits a run ends.
+python3 bench/plan.py | sed -E 's/^out = .*/out = 40000/' > "$room/delayed.toml"
+for kind in '2 mail' '4 mail' '2 hub' '4 hub'; do
+  others=
+  for most in $(seq 10000 1500 60000); do
+    ended=0
+    (ulimit -v "$most" && timeout 20 "$program" run --workers "${kind% *}" --link "${kind#* }" "$room/delayed.toml" > "$room/out" 2> "$room/err") || ended=$?
+    [ "$ended" = 0 ] || [ "$ended" = 3 -a ! -s "$room/out" ] || others+=" $most KiB: $ended"
+  done
+  is "workers that can't be made, $kind: $others" [ -z "$others" ]
+done
 
 world=crates/test_worlds/out/test_worlds
 if [ -x "$world" ]; then
