@@ -25,6 +25,7 @@ Seed 1 and one process by default. Input N of a seed is always the same, in howe
   version-3     plans of version 3 with what it has more; --bits N, --workers N
   cyclic        repeats, on the plans of plans/
   workers       runs by 2 to 8 workers and either link beside one thread
+  work          PROGRAM is test_workers: workers by threads of its own and either link beside one thread
   engines       PROGRAM is test_engine: the engine that jumps beside one that goes quantum by quantum
   replicas      PROGRAM is test_replica: lists of takes and joins
   programs      another built program, --beside PROGRAM, on the same inputs
@@ -59,7 +60,7 @@ WHATS = {
     "repeats": ("versions", "repeats", 1_000, {"bits": "0"}),
     "version-3": ("versions", "version_3", 1_000, {"bits": "0", "workers": ""}),
     "cyclic": ("versions", "cyclic", 0, {}),
-    "workers": ("threads", "workers", 500, {}),
+    **{name: ("threads", name, 500, {}) for name in ("workers", "work")},
     "engines": ("engines", "engines", 2_000, {}),
     "replicas": ("replicas", "replicas", 1_000, {}),
     "programs": ("programs", "programs", 1_000, {"beside": ""}),

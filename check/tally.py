@@ -23,9 +23,10 @@ def options_of(usage, words, values):
     return options
 
 
-def asked(program, *words, text=b""):
-    """Standard output, standard error and status."""
-    done = subprocess.run([program, *words], input=text, capture_output=True)
+def asked(program, *words, text=b"", limit=None):
+    """Standard output, standard error and status; a program that stands still for so many seconds has none."""
+    try: done = subprocess.run([program, *words], input=text, capture_output=True, timeout=limit)
+    except subprocess.TimeoutExpired: return "", "no answer", None
     return done.stdout.decode("utf-8", "replace"), done.stderr.decode("utf-8", "replace"), done.returncode
 
 

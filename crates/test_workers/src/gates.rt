@@ -59,6 +59,19 @@ pub struct HeldTurn {
     pub turns: TurnCounts,
 }
 
+impl HeldTurn {
+    /// Returns such a gate, at which no worker had a turn: for this worker, turn and number of polls. Refused only when out of memory.
+    pub fn new(alloc: Global, held: (u8, u64, u64)) -> Result<HeldTurn, AllocError> {
+        let (worker, turn, polls) = held;
+        Ok(HeldTurn {
+            worker,
+            turn,
+            polls,
+            turns: TurnCounts::new(alloc)?,
+        })
+    }
+}
+
 impl Gate for HeldTurn {
     fn turn(&self, worker: u8, turn: u64) -> bool {
         if worker != self.worker || turn != self.turn {

@@ -10,8 +10,10 @@
 //!   were asked, and both times its link was rewound and something given next.
 //! - `random N K S`: K runs by N workers, of whom random ones restart before random turns; the number S seeds what is random. A run counts
 //!   if at least one restart was asked.
+//! - `work N K`: the same as `again`, each worker by `work` in a thread of this program. `work N K S` is the same as `random`.
 //! - `hold W T P N`: one run by N workers, in which a gate holds worker W before its turn T for P polls and then refuses it; the others sleep
 //!   by then, and have had a hundred turns at most.
+//! - `work-hold W T P N`: the same, each worker by `work` in a thread of this program.
 //! - `turns N K M`: one run by N workers; whether each of them had at least K turns, and at most M.
 //! - `overlap N P`: one run by N workers. Workers 0 and 1 are each held in their first turn until the other one is in its first turn too,
 //!   for at most P polls; then the turn is refused.
@@ -36,6 +38,7 @@
 //! one-thread simulation's, byte for byte.
 #![tactic(auto)]
 
+mod by_work;
 mod failing;
 mod gates;
 mod handed;

@@ -9,6 +9,9 @@ const ONE_IN: u64 = 16;
 /// One of this many first turns of worker 0 is chosen too, so that no run is without a restart.
 const FIRST_TURNS: u64 = 4;
 
+/// How many restarts at random turns are asked at most. With more a long run might never end: after each a worker runs again from its start.
+const MOST_RESTARTS: u64 = 32;
+
 /// The turns of workers before which restarts are asked.
 #[derive(Clone, Copy)]
 pub enum When {
@@ -51,7 +54,7 @@ impl Gate for Restarts {
         let wanted = match self.when {
             When::Never => false,
             When::Twice(one, first, second) => worker == one && (turn == first || turn == second),
-            When::Random(seed) => is_chosen(seed, worker, turn),
+            When::Random(seed) => self.asked() < MOST_RESTARTS && is_chosen(seed, worker, turn),
         };
         if wanted {
             self.asked.fetch_add(1, Ordering::SeqCst);

@@ -1,5 +1,6 @@
 //! Runs of a plan by workers, and what is answered to them.
 
+use crate::by_work::run_by_work;
 use crate::failing::{fault_of_two, runs_gone};
 use crate::gates::{ANY_TURN, HeldTurn, LastTurn, OneRefusal, Overlap, TurnCounts};
 use crate::handed::tell_foreign;
@@ -7,7 +8,7 @@ use crate::letters::tell_posts;
 use crate::links::{run_over, tell_links, tell_silence};
 use crate::restarts::{Restarts, When};
 use crate::silent::{Silent, silent_links};
-use crate::steps::{Kind, Step, by};
+use crate::steps::{Kind, Runner, Step, by};
 use crate::watched::Counts;
 use anyhow::{Result, bail};
 use std::alloc::{AllocError, Global};
@@ -18,7 +19,7 @@ use std::thread::Threads;
 use wl_group::Group;
 use wl_plan::CheckedPlan;
 use wl_report::report;
-use wl_serial::Outcome;
+use wl_serial::{Outcome, Totals};
 use wl_worker::{Fault, Gate, LinkKind, simulate, simulate_by, simulate_over, work};
 
 /// The most turns of a worker that waits for another one which had a few.
@@ -54,13 +55,20 @@ impl Display for End {
 /// Returns the end of a run by this outcome or fault; `alone` is the report of the one-thread simulation.
 fn end_of(alloc: Global, alone: &[u8], ran: Result<Outcome, Fault>) -> Result<End, AllocError> {
     match ran {
-        Ok(outcome) => {
-            let totals = outcome.totals(alloc)?;
-            if report(alloc, &totals)?.as_slice() == alone {
-                return Ok(End::AsOneThread);
-            }
-            Ok(End::Differs)
-        }
+        Ok(outcome) => end_of_totals(alloc, alone, Ok(outcome.totals(alloc)?)),
+        Err(fault) => Ok(End::Fault(fault)),
+    }
+}
+
+/// Returns the end of a run by what a report says of it, or its fault.
+fn end_of_totals(
+    alloc: Global,
+    alone: &[u8],
+    ran: Result<Totals, Fault>,
+) -> Result<End, AllocError> {
+    match ran {
+        Ok(totals) if report(alloc, &totals)?.as_slice() == alone => Ok(End::AsOneThread),
+        Ok(_) => Ok(End::Differs),
         Err(fault) => Ok(End::Fault(fault)),
     }
 }
@@ -107,6 +115,10 @@ fn run<R: Threads + Wait + Sync>(
         Kind::Held(worker, turn, polls) => {
             let held = (worker, turn, polls);
             run_held(rt, alloc, plan, alone, workers, link, held)?
+        }
+        Kind::WorkHeld(worker, turn, polls) => {
+            let held = (worker, turn, polls);
+            run_work_held(rt, alloc, plan, alone, workers, link, held)?
         }
         Kind::Turns(least, most) => {
             let gate = TurnCounts::new(alloc)?;
@@ -172,18 +184,33 @@ fn run_held<R: Threads + Wait + Sync>(
     link: LinkKind,
     held: (u8, u64, u64),
 ) -> Result<End, AllocError> {
-    let (worker, turn, polls) = held;
-    let gate = HeldTurn {
-        worker,
-        turn,
-        polls,
-        turns: TurnCounts::new(alloc)?,
-    };
+    let gate = HeldTurn::new(alloc, held)?;
     let end = run_by(rt, alloc, plan, alone, workers, link, &gate)?;
+    Ok(waited(&gate, workers, end))
+}
+
+/// Runs a plan by this many workers, each by a thread of this program; one of them is held before one of its turns and then refused it. The
+/// others sleep by then, and have few turns.
+fn run_work_held<R: Threads + Wait + Sync>(
+    rt: &R,
+    alloc: Global,
+    plan: &CheckedPlan,
+    alone: &[u8],
+    workers: u8,
+    link: LinkKind,
+    held: (u8, u64, u64),
+) -> Result<End, AllocError> {
+    let gate = HeldTurn::new(alloc, held)?;
+    let ran = run_by_work(rt, alloc, plan, workers, link, &gate);
+    Ok(waited(&gate, workers, end_of_totals(alloc, alone, ran)?))
+}
+
+/// Returns the end of a run if each worker that wasn't held had few turns.
+fn waited(gate: &HeldTurn, workers: u8, end: End) -> End {
     if (0..workers).all(|one| gate.turns.of(one) <= MOST_WAITING) {
-        return Ok(end);
+        return end;
     }
-    Ok(End::ManyTurns)
+    End::ManyTurns
 }
 
 /// Returns what is answered to a step; `alone` is the report of the one-thread simulation.
@@ -200,10 +227,15 @@ pub fn answer<R: Threads + Wait + Sync>(
             let named = by(link);
             Ok(format!(in alloc; "{workers} workers{named}{kind}: {end}")?)
         }
-        Step::Again(workers, link, runs, seed) => {
-            let same = runs_as_one(rt, alloc, plan, alone, workers, link, (runs, seed))?;
+        Step::Again(workers, link, runs, seed, who) => {
+            let same = runs_as_one(rt, alloc, plan, alone, workers, link, (runs, seed), who)?;
             let (named, restarts) = (by(link), if seed.is_some() { " with restarts" } else { "" });
-            Ok(format!(in alloc; "{same} of {runs} runs{restarts}{named}: as one thread")?)
+            let by_work = if who == Runner::Caller {
+                " by work"
+            } else {
+                ""
+            };
+            Ok(format!(in alloc; "{same} of {runs} runs{by_work}{restarts}{named}: as one thread")?)
         }
         Step::Count(workers, link) => counts(rt, alloc, plan, alone, workers, link),
         Step::Links(link, node, count, until) => {
@@ -245,6 +277,7 @@ fn runs_as_one<R: Threads + Wait + Sync>(
     workers: u8,
     link: LinkKind,
     asked: (u32, Option<u64>),
+    who: Runner,
 ) -> Result<u32, AllocError> {
     let (runs, seed) = asked;
     let mut same = 0u32;
@@ -253,7 +286,13 @@ fn runs_as_one<R: Threads + Wait + Sync>(
             Some(seed) => When::Random(seed.wrapping_add(u64::from(number))),
             None => When::Never,
         });
-        let end = run_by(rt, alloc, plan, alone, workers, link, &gate)?;
+        let end = match who {
+            Runner::Library => run_by(rt, alloc, plan, alone, workers, link, &gate)?,
+            Runner::Caller => {
+                let ran = run_by_work(rt, alloc, plan, workers, link, &gate);
+                end_of_totals(alloc, alone, ran)?
+            }
+        };
         if end == End::AsOneThread && (seed.is_none() || gate.asked() > 0) {
             same = same.saturating_add(1);
         }

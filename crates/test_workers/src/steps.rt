@@ -11,8 +11,8 @@ use wl_worker::{LinkFault, LinkKind};
 pub enum Step {
     /// One run by this many workers, over this kind of link.
     Run(u8, LinkKind, Kind),
-    /// `.2` runs by `.0` workers; if `.3` is a seed, random ones of them restart.
-    Again(u8, LinkKind, u32, Option<u64>),
+    /// `.2` runs by `.0` workers; if `.3` is a seed, random ones of them restart. They are run by the threads `.4`.
+    Again(u8, LinkKind, u32, Option<u64>, Runner),
     /// One run by this many workers, and what they did.
     Count(u8, LinkKind),
     /// What of a silence, by its node, count and end, comes by a link.
@@ -31,6 +31,15 @@ pub enum Step {
     Foreign,
 }
 
+/// Who runs workers.
+#[derive(Clone, Copy, PartialEq, Eq)]
+pub enum Runner {
+    /// The library's threads, all workers together.
+    Library,
+    /// Threads of this program, each one worker.
+    Caller,
+}
+
 /// How workers run.
 #[derive(Clone, Copy)]
 pub enum Kind {
@@ -40,6 +49,8 @@ pub enum Kind {
     Stop(u8, u64),
     /// Worker `.0` is held before turn `.1` for `.2` polls, and then refused it.
     Held(u8, u64, u64),
+    /// The same, each worker by a thread of this program.
+    WorkHeld(u8, u64, u64),
     /// Worker `.0` restarts before turns `.1` and `.2`.
     Restart(u8, u64, u64),
     /// Each has at least `.0` turns, and at most `.1`.
@@ -58,6 +69,7 @@ impl Display for Kind {
             Kind::Free => Ok(()),
             Kind::Stop(..) => f.write_str(", a turn refused"),
             Kind::Held(worker, ..) => write!(f, ", worker {worker} held and refused"),
+            Kind::WorkHeld(worker, ..) => write!(f, " by work, worker {worker} held and refused"),
             Kind::Restart(worker, ..) => write!(f, ", worker {worker} restarted twice"),
             Kind::Turns(least, most) => write!(f, ", each with {least} to {most} turns"),
             Kind::Overlap(_) => f.write_str(", first turns at once"),
@@ -134,6 +146,10 @@ fn step_of_many(
             let workers = u8::try_from(workers).ok()?;
             Some(Step::Run(workers, kind, Kind::Held(many, turn, polls)))
         }
+        ("work-hold", (Some(turn), Some(polls), Some(workers))) => {
+            let workers = u8::try_from(workers).ok()?;
+            Some(Step::Run(workers, kind, Kind::WorkHeld(many, turn, polls)))
+        }
         ("restart", (Some(first), Some(second), Some(workers))) => {
             let workers = u8::try_from(workers).ok()?;
             Some(Step::Run(workers, kind, Kind::Restart(many, first, second)))
@@ -142,12 +158,6 @@ fn step_of_many(
         ("overlap", (Some(polls), None, _)) => Some(Step::Run(many, kind, Kind::Overlap(polls))),
         ("over", (None, ..)) => Some(Step::Run(many, kind, Kind::Over)),
         ("silent", (Some(turn), None, _)) => Some(Step::Run(many, kind, Kind::Silent(turn))),
-        ("again", (Some(runs), None, _)) => {
-            Some(Step::Again(many, kind, u32::try_from(runs).ok()?, None))
-        }
-        ("random", (Some(runs), Some(seed), None)) => {
-            Some(Step::Again(many, kind, u32::try_from(runs).ok()?, Some(seed)))
-        }
         ("count", (None, ..)) => Some(Step::Count(many, kind)),
         ("links", (Some(count), Some(until), None)) => {
             Some(Step::Links(kind, many, u32::try_from(count).ok()?, until))
@@ -156,8 +166,24 @@ fn step_of_many(
         ("faults", (Some(second), None, _)) => {
             Some(Step::Faults(fault_of(u64::from(many))?, fault_of(second)?))
         }
-        _ => None,
+        _ => step_of_runs(verb, kind, many, then),
     }
+}
+
+/// Returns the step of a word that asks for some runs, one after another.
+fn step_of_runs(
+    verb: &str,
+    kind: LinkKind,
+    many: u8,
+    then: (Option<u64>, Option<u64>, Option<u64>),
+) -> Option<Step> {
+    let (runs, seed, runner) = match (verb, then) {
+        ("again", (Some(runs), None, None)) => (runs, None, Runner::Library),
+        ("random", (Some(runs), Some(seed), None)) => (runs, Some(seed), Runner::Library),
+        ("work", (Some(runs), seed, None)) => (runs, seed, Runner::Caller),
+        _ => return None,
+    };
+    Some(Step::Again(many, kind, u32::try_from(runs).ok()?, seed, runner))
 }
 
 /// Returns the fault of this number, by their order.
