@@ -24,6 +24,10 @@ const LOOKS: u32 = 1_000;
 /// How often a thread that has a worker of its own looks at that one before it looks at others.
 const TRIES: u32 = 100;
 
+/// How many words of memory a thread takes before it begins, and gives back: 120,000 bytes. C libraries ask the kernel for pieces of 128 KiB
+/// one by one (mallopt(3), M_MMAP_THRESHOLD), and keep smaller ones at hand.
+const AT_HAND: usize = 15_000;
+
 /// What the types of a run know of it. No value of it is made.
 pub(crate) trait OfRun {
     ghost use Rattle.std.specs.Prelude.{ℕ, Bool};
@@ -261,6 +265,8 @@ pub(crate) struct Crew<L: Link + Drop, B: OfRun> {
     // Whether each worker has a thread and a processor of its own.
     is_apart: bool,
     tasks: Vec<Mutex<Task<L, B>>>,
+    // How many threads have memory at hand.
+    ready: AtomicU64,
     // Whether threads may begin: 1 if so.
     begun: AtomicU64,
     // How many turns were had.
@@ -303,6 +309,7 @@ impl<L: Link + Drop, B: OfRun> Crew<L, B> {
             pace: Pace::of(plan),
             is_apart,
             tasks,
+            ready: AtomicU64::new(0),
             begun: AtomicU64::new(u64::from(!is_apart)),
             turns: AtomicU64::new(0),
             left: AtomicU64::new(u64::from(workers)),
@@ -322,15 +329,25 @@ impl<L: Link + Drop, B: OfRun> Crew<L, B> {
         self.begun.store(1, Ordering::SeqCst);
     }
 
-    // Waits until threads may begin, and lets others run meanwhile. Who makes the threads would else share its processor with the first one
-    // that works, for some milliseconds.
-    fn wait_to_begin<R: Wait>(&self, rt: &R) {
-        for _ in rt.forever() {
-            if self.begun.load(Ordering::SeqCst) > 0 {
-                return;
-            }
-            thread::yield_now();
+    // Waits until threads may begin. Who makes the threads would else share its processor with the first one that works, for some
+    // milliseconds.
+    fn wait_to_begin<R: Wait>(&self, rt: &R, alloc: Global, first: u8) {
+        if self.is_apart {
+            self.get_memory(rt, alloc, first);
         }
+        wait_for(rt, &self.begun, 1);
+    }
+
+    // Gets memory at hand for the thread of worker `first`, after the threads before it. If several ask the kernel at once, they sleep at its
+    // lock on the address space, and it may wake one on the processor of another, where it stays.
+    fn get_memory<R: Wait>(&self, rt: &R, alloc: Global, first: u8) {
+        wait_for(rt, &self.ready, u64::from(first));
+        // (what is refused here is asked for again where it is needed)
+        match Vec::<u64>::with_capacity(alloc, AT_HAND) {
+            Ok(room) => drop(room),
+            Err(AllocError) => {}
+        }
+        self.ready.fetch_add(1, Ordering::SeqCst);
     }
 
     /// Has turns of workers until all have ended, those of worker `first` before others. It begins once it may.
@@ -344,7 +361,7 @@ impl<L: Link + Drop, B: OfRun> Crew<L, B> {
     )
         requires { plan.now ≡ B.plan }
     {
-        self.wait_to_begin(rt);
+        self.wait_to_begin(rt, alloc, first);
         let own = usize::from(first);
         let mut at = own;
         for _ in rt.forever() {
@@ -526,6 +543,16 @@ impl<L: Link + Drop, B: OfRun> Crew<L, B> {
     {
         let Crew { tasks, .. } = self;
         ends_of(tasks, ends)
+    }
+}
+
+/// Waits until a count has come so far, and lets other threads run meanwhile.
+fn wait_for<R: Wait>(rt: &R, count: &AtomicU64, least: u64) {
+    for _ in rt.forever() {
+        if count.load(Ordering::SeqCst) >= least {
+            return;
+        }
+        thread::yield_now();
     }
 }
 
