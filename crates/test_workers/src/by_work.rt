@@ -109,11 +109,11 @@ fn members_of(alloc: Global, nodes: u8, workers: u8, worker: u8) -> Result<Vec<u
 }
 
 /// Adds a number, if it is wanted.
-fn add(members: &mut Vec<u8>, i: u8, wanted: bool) -> Result<(), AllocError>
-    ensures below { OnOk result ((n : ℕ) → i < n → AreBelow n members.old.items → AreBelow n members.new.items) }
+fn add(list: &mut Vec<u8>, i: u8, wanted: bool) -> Result<(), AllocError>
+    ensures below { OnOk result ((n : ℕ) → i < n → AreBelow n list.old.items → AreBelow n list.new.items) }
 {
     if wanted {
-        members.push(i)?;
+        list.push(i)?;
     }
     Ok(())
 }

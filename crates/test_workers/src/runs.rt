@@ -90,6 +90,26 @@ fn run_by<R: Threads + Wait + Sync, G: Gate + Sync>(
     end_of(alloc, alone, ran)
 }
 
+/// Does the same by threads of the library, or by those of this program.
+fn run_as<R: Threads + Wait + Sync, G: Gate + Sync>(
+    rt: &R,
+    alloc: Global,
+    plan: &CheckedPlan,
+    alone: &[u8],
+    workers: u8,
+    link: LinkKind,
+    gate: &G,
+    who: Runner,
+) -> Result<End, AllocError> {
+    match who {
+        Runner::Library => run_by(rt, alloc, plan, alone, workers, link, gate),
+        Runner::Caller => {
+            let ran = run_by_work(rt, alloc, plan, workers, link, gate);
+            end_of_totals(alloc, alone, ran)
+        }
+    }
+}
+
 /// Runs a plan by this many workers.
 fn run<R: Threads + Wait + Sync>(
     rt: &R,
@@ -114,11 +134,11 @@ fn run<R: Threads + Wait + Sync>(
         }
         Kind::Held(worker, turn, polls) => {
             let held = (worker, turn, polls);
-            run_held(rt, alloc, plan, alone, workers, link, held)?
+            run_held(rt, alloc, plan, alone, workers, link, held, Runner::Library)?
         }
         Kind::WorkHeld(worker, turn, polls) => {
             let held = (worker, turn, polls);
-            run_work_held(rt, alloc, plan, alone, workers, link, held)?
+            run_held(rt, alloc, plan, alone, workers, link, held, Runner::Caller)?
         }
         Kind::Turns(least, most) => {
             let gate = TurnCounts::new(alloc)?;
@@ -183,26 +203,11 @@ fn run_held<R: Threads + Wait + Sync>(
     workers: u8,
     link: LinkKind,
     held: (u8, u64, u64),
+    who: Runner,
 ) -> Result<End, AllocError> {
     let gate = HeldTurn::new(alloc, held)?;
-    let end = run_by(rt, alloc, plan, alone, workers, link, &gate)?;
+    let end = run_as(rt, alloc, plan, alone, workers, link, &gate, who)?;
     Ok(waited(&gate, workers, end))
-}
-
-/// Runs a plan by this many workers, each by a thread of this program; one of them is held before one of its turns and then refused it. The
-/// others sleep by then, and have few turns.
-fn run_work_held<R: Threads + Wait + Sync>(
-    rt: &R,
-    alloc: Global,
-    plan: &CheckedPlan,
-    alone: &[u8],
-    workers: u8,
-    link: LinkKind,
-    held: (u8, u64, u64),
-) -> Result<End, AllocError> {
-    let gate = HeldTurn::new(alloc, held)?;
-    let ran = run_by_work(rt, alloc, plan, workers, link, &gate);
-    Ok(waited(&gate, workers, end_of_totals(alloc, alone, ran)?))
 }
 
 /// Returns the end of a run if each worker that wasn't held had few turns.
@@ -286,13 +291,7 @@ fn runs_as_one<R: Threads + Wait + Sync>(
             Some(seed) => When::Random(seed.wrapping_add(u64::from(number))),
             None => When::Never,
         });
-        let end = match who {
-            Runner::Library => run_by(rt, alloc, plan, alone, workers, link, &gate)?,
-            Runner::Caller => {
-                let ran = run_by_work(rt, alloc, plan, workers, link, &gate);
-                end_of_totals(alloc, alone, ran)?
-            }
-        };
+        let end = run_as(rt, alloc, plan, alone, workers, link, &gate, who)?;
         if end == End::AsOneThread && (seed.is_none() || gate.asked() > 0) {
             same = same.saturating_add(1);
         }
