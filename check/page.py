@@ -1,7 +1,7 @@
 #!/usr/bin/env python3
 """Opens pages of runs and of sweeps in a browser (chromium, headless), and looks at what they show and do.
 
-usage: page.py PROGRAM [PLAN..]               the pages of these plans; without one those of all examples, and the pages of some sweeps
+usage: page.py PROGRAM [PLAN..]               the pages of these plans and of IDLE; without one those of all examples, and the pages of some sweeps
        page.py PROGRAM --sweeps               the pages of sweeps alone
        page.py PROGRAM --busy [SECONDS]       how long the page of 16 nodes with 60,000 quanta each takes to open; it may be 2 seconds
        page.py PROGRAM --lint                 the scripts of the pages by a linter: node's reader, and the rules of RULES
@@ -10,7 +10,9 @@ usage: page.py PROGRAM [PLAN..]               the pages of these plans; without 
 
 Each page has to draw itself whole, with no word in the browser's console. The page of a run has to draw each frame of the report, with the
 report's nodes and verdict, and a row or a paragraph for each line of margin and traffic. Keys, wheel and drag have to zoom and scroll. A part of
-the run that the address names has to be what is shown. The page of a sweep has to have a cell for each row of the sweep, coloured by what the
+the run that the address names has to be what is shown. Column by column of pixels, far and near, edges have to be drawn if the waveform (`vcd`)
+has some there, a line at the level's height if it has none, and a disturbance while it has one. Of IDLE, a plan with long gaps between its
+frames, as much has to be drawn without edges as the bus is at rest. The page of a sweep has to have a cell for each row of the sweep, coloured by what the
 sweep says of that row alone, and to show the words of the first member that isn't clean.
 """
 import html
@@ -20,6 +22,7 @@ import shlex
 import subprocess
 import sys
 import tempfile
+from bisect import bisect_left, bisect_right
 from pathlib import Path
 
 from browser import Browser, is_here
@@ -87,6 +90,132 @@ def moves(check, browser, end):
     check.want(check.shown() == (0, end) and browser.value("document.getElementById('status').textContent") != "", "0 doesn't show the whole run")
 
 
+IDLE_BIT = 4_000  # ticks
+IDLE = """version = 3
+end = 250_000_000
+per = 5
+sync = "book"
+[[node]]
+name = "engine"
+offset = 0
+ppm = 0
+x = 0
+{node}frame = [{{ id = 0x0C0, dlc = 8, bytes = [1, 2, 3, 4, 5, 6, 7, 8], ready = 400, every = 20000 }}, {{ id = 0x3C0, dlc = 0, ready = 9000, every = 33000 }}]
+[[node]]
+name = "brake"
+offset = 100
+ppm = 100
+x = 20
+{node}frame = [{{ id = 0x180, dlc = 8, bytes = [0, 0, 0, 0, 255, 255, 255, 255], ready = 3000, every = 26000 }}]
+""".format(node="quantum = 500\nprop = 3\nps1 = 2\nps2 = 2\nsjw = 1\nout = 120\nin = 130\n")
+
+# The colour of each level, its signal in the dump, and lines of pixels of a node's row: of recessive, between both levels, of dominant
+LEVELS = [("drive", "t", (30, 35, 40)), ("found", "r", (46, 52, 58))]
+STRUCK, LABEL = 42, range(62, 71)  # the lines of pixels of the bars over disturbances, and of their label
+CLEAR, SOLID = 8, 140  # a column is free of a colour up to CLEAR of 255; an edge, a line 1.2 pixels wide, covers its column by 0.6 or more
+NEAR = 0.65  # as far from an edge, in pixels, its line may reach
+
+
+def changes_of(dump):
+    """The changes of each signal of the dump, by its name there (`t0`), as their ticks and their levels; and the end."""
+    changes, now = {}, 0
+    for line in dump.splitlines():
+        if line.startswith("#"): now = int(line[1:])
+        elif line[:1] in ("0", "1"):
+            ticks, levels = changes.setdefault(line[1:], ([], []))
+            ticks.append(now)
+            levels.append(int(line[0]))
+    return changes, now
+
+
+def opaque(browser, ink, node, lines, x="LEFT", wide="places()"):
+    """How opaque each pixel of some lines of a node's row is, 0 to 255, if all colours but one are made transparent."""
+    return browser.value(f"""(() => {{
+      const style = document.documentElement.style, others = INKS.filter((name) => name !== "{ink}");
+      for (const name of others) style.setProperty("--" + name, "transparent");
+      draw();
+      const copy = new OffscreenCanvas(canvas.width, canvas.height).getContext("2d", {{ willReadFrequently: true }});
+      copy.drawImage(canvas, 0, 0);
+      const found = {list(lines)}.map((line) => copy.getImageData({x}, AXIS + ROW * {node} + line, {wide}, 1).data);
+      for (const name of others) style.removeProperty("--" + name);
+      draw();
+      return found.map((line) => Array.from(line).filter((_, at) => at % 4 === 3));
+    }})()""")
+
+
+def level_fault(rows, ticks, levels, low, high):
+    """What is drawn wrong of a level: the first column of pixels, and why."""
+    recessive, between, dominant = rows
+    scale = len(between) / (high - low)
+    for column, covered in enumerate(between):
+        begins, ends = low + column / scale, low + (column + 1) / scale
+        edges = bisect_left(ticks, ends) - bisect_left(ticks, begins) if column and column + 1 < len(between) else 0
+        near = bisect_right(ticks, ends + NEAR / scale) - bisect_left(ticks, begins - NEAR / scale)
+        if edges and covered < SOLID: return f"column {column}, ticks {begins:.0f} to {ends:.0f}: {edges} edges, and none is drawn"
+        if near: continue
+        if covered > CLEAR: return f"column {column}, ticks {begins:.0f} to {ends:.0f}: no edge, and one is drawn"
+        level = levels[bisect_right(ticks, begins) - 1]
+        if (recessive[column] > CLEAR, dominant[column] > CLEAR) != (level == 1, level == 0):
+            return f"column {column}, ticks {begins:.0f} to {ends:.0f}: the line isn't at level {level}"
+    return None
+
+
+def struck_columns(ticks, levels, end, low, high, wide, slack):
+    """The columns of pixels that disturbances reach by more than `slack` pixels."""
+    scale, found = wide / (high - low), set()
+    for tick, level, until in zip(ticks, levels, [*ticks[1:], end]):
+        if level: found |= {column for column in range(wide) if (tick - low) * scale < column + 1 - slack and (until - low) * scale > column + slack}
+    return found
+
+
+def title_at(browser, node, column):
+    """What the plot says of the pointer over a column of pixels of a node's row."""
+    browser.value("canvas.scrollIntoView()")
+    x, y = browser.value(f"(({{x, y}}) => [x + LEFT + {column} + 0.5, y + AXIS + ROW * {node} + 50])(canvas.getBoundingClientRect())")
+    browser.mouse("mouseMoved", x, y)
+    return browser.value("canvas.title")
+
+
+def drawn_faults(check, browser, page, changes, end, low, high):
+    """What of a part of the run isn't drawn as the dump has it: levels and disturbances, column by column of pixels."""
+    browser.open(f"file://{page}#{low}-{high}")
+    low, high, nodes = browser.value("[view.from, view.to, data.nodes.length]")
+    what = f"ticks {low:.0f} to {high:.0f}, node"
+    for node in range(nodes):
+        for ink, letter, lines in LEVELS:
+            fault = level_fault(opaque(browser, ink, node, lines), *changes[f"{letter}{node}"], low, high)
+            check.want(not fault, f"{what} {node}, {ink}: {fault}")
+        bars, = opaque(browser, "disturb", node, [STRUCK])
+        drawn, struck = {column for column, covered in enumerate(bars) if covered}, changes[f"n{node}"]
+        least, most = (struck_columns(*struck, end, low, high, len(bars), slack) for slack in (1e-6, -1e-6))
+        check.want(least <= drawn <= most, f"{what} {node}: disturbances in {len(least)} columns, drawn in {len(drawn)}: {sorted(least ^ drawn)[:6]} ..")
+        label = any(covered for line in opaque(browser, "disturb", node, LABEL, "0", "LEFT") for covered in line)
+        check.want(label == (1 in struck[1]), f"{what} {node}: {'a' if label else 'no'} label of disturbances")
+        if least: check.want("disturbance" in title_at(browser, node, min(least)), f"{what} {node}: the pointer over a disturbance shows no word of it")
+    check.want(not browser.said, f"{what}: the console says {browser.said}")
+
+
+def parts_of(changes, end):
+    """The whole run, a tenth and a hundredth of it: around disturbances, or where edges are."""
+    ticks = changes["n0"][0][1:] or changes["r0"][0][1:] or [end // 2]
+    middle = ticks[len(ticks) // 2]
+    return [(0, end)] + [(max(0, middle - end // by), middle + end // by) for by in (20, 200)]
+
+
+def idle_faults(check, browser, page, changes, end):
+    """The share of columns without an edge has to be the share of time at rest, but for a pixel at each end of a frame; far and near."""
+    for low, high in [(0, end), (100_000_000, 124_000_000), (100_000_000, 102_400_000), (100_180_000, 100_420_000)]:
+        drawn_faults(check, browser, page, changes, end, low, high)
+        for node in range(2):
+            between, = opaque(browser, "found", node, [LEVELS[1][2][1]])
+            ticks = [low] + [tick for tick in changes[f"r{node}"][0] if low < tick < high] + [high]
+            # stuff bits leave no more than five equal bits within a frame, up to its delimiters
+            rests = [after - before for before, after in zip(ticks, ticks[1:]) if after - before > 6 * IDLE_BIT]
+            quiet, wanted = sum(covered < SOLID for covered in between), sum(rests) * len(between) / (high - low)
+            if (high - low) / len(between) < IDLE_BIT: continue  # here bits are wider than a column, and have columns without an edge, too
+            check.want(abs(quiet - wanted) <= 2 * len(rests), f"ticks {low} to {high}, node {node}: {quiet} of {len(between)} columns without an edge, and the bus rests for {wanted:.0f}")
+
+
 def run_faults(program, plan, browser, folder):
     report = said(program, "run", plan)
     page = folder / (Path(plan).stem + ".html")
@@ -108,6 +237,9 @@ def run_faults(program, plan, browser, folder):
     check.want(not browser.said, f"the console says {browser.said}")
     browser.open(f"file://{page}#1000-3000")
     check.want(check.shown() == (1000, min(3000, end)) and not browser.said, f"the named part is not what is shown, but {check.shown()}")
+    changes, end = changes_of(said(program, "vcd", plan))
+    for low, high in parts_of(changes, end): drawn_faults(check, browser, page, changes, end, low, high)
+    if Path(plan).stem == "idle": idle_faults(check, browser, page, changes, end)
     print(f"{Path(plan).stem}: {page.stat().st_size:,} bytes, {frames} frames, shown after {took / 1000:.2f} s", *check.wrong, sep="\n  ")
     return len(check.wrong)
 
@@ -271,7 +403,8 @@ def main():
                 browser.open(f"file://{page}#{words[2]}")
                 browser.picture(Path(words[3]))
                 return
-            plans = [] if words == ["--sweeps"] else words or sorted((TOP / "examples").glob("*.toml"))
+            (folder / "idle.toml").write_text(IDLE)
+            plans = [] if words == ["--sweeps"] else [*(words or sorted((TOP / "examples").glob("*.toml"))), folder / "idle.toml"]
             sweeps = SWEEPS if words in ([], ["--sweeps"]) else []
             wrong = sum(run_faults(program, plan, browser, folder) for plan in plans)
             wrong += sum(sweep_faults(program, name, asked, browser, folder) for name, asked in sweeps)

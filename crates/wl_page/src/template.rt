@@ -10,8 +10,8 @@ pub(crate) const HEAD: &str = r##"<!doctype html>
 <meta name="viewport" content="width=device-width, initial-scale=1">
 <title>Wireline: a run</title>
 <style>
-:root { color-scheme: light dark; --back: #fff; --text: #1c2430; --faint: #c9d0d8; --drive: #7a4bb5; --found: #0b6fa4; --sample: #2e7d32; --sync: #b26a00; --field: #dbe7f3; --stuff: #eceff2; --error: #b3261e; --good: #2e7d32; --cursor: #b26a00; }
-@media (prefers-color-scheme: dark) { :root { --back: #14181d; --text: #dfe5ec; --faint: #3a434d; --drive: #c3a0ee; --found: #6db9e6; --sample: #7fc783; --sync: #e8a94a; --field: #23384c; --stuff: #2b323a; --error: #ff8a80; --good: #7fc783; --cursor: #e8a94a; } }
+:root { color-scheme: light dark; --back: #fff; --text: #1c2430; --faint: #c9d0d8; --drive: #7a4bb5; --found: #0b6fa4; --sample: #2e7d32; --sync: #b26a00; --field: #dbe7f3; --stuff: #eceff2; --error: #b3261e; --good: #2e7d32; --cursor: #b26a00; --disturb: #c2187a; }
+@media (prefers-color-scheme: dark) { :root { --back: #14181d; --text: #dfe5ec; --faint: #3a434d; --drive: #c3a0ee; --found: #6db9e6; --sample: #7fc783; --sync: #e8a94a; --field: #23384c; --stuff: #2b323a; --error: #ff8a80; --good: #7fc783; --cursor: #e8a94a; --disturb: #ff7ac0; } }
 body { margin: 0 auto; max-width: 1400px; padding: 0 16px 32px; background: var(--back); color: var(--text); font: 14px/1.45 system-ui, sans-serif; }
 h1 { font-size: 20px; margin: 16px 0 4px; }
 h2 { font-size: 16px; margin: 24px 0 6px; }
@@ -48,7 +48,7 @@ svg .wire { stroke: var(--text); stroke-width: 1.5; } svg .node { fill: var(--fo
 <span id="status" role="status"></span>
 </div>
 <canvas id="plot" tabindex="0" role="img" aria-labelledby="waveform" aria-describedby="help"></canvas>
-<p id="help">Each node has what it drives and what it finds, high for recessive; the fields of frames above; bit starts and samples (triangles) below; errors, flags and frames where they are. Arrow keys move, + and - zoom, 0 shows the whole run, n and p go to the next and previous event; so do wheel, drag and double click.</p>
+<p id="help">Each node has what it drives and what it finds, high for recessive; bands where a disturbance strikes it; the fields of frames above; bit starts and samples (triangles) below; errors, flags and frames where they are. Arrow keys move, + and - zoom, 0 shows the whole run, n and p go to the next and previous event; so do wheel, drag and double click.</p>
 <h2>Events</h2>
 <div class="scroll" tabindex="0" role="region" aria-label="Events"><table id="events"><thead><tr><th scope="col">tick</th><th scope="col">node</th><th scope="col">bit</th><th scope="col">what</th></tr></thead><tbody></tbody></table><button type="button" id="more" hidden></button></div>
 <h2>Nodes at the end</h2>
@@ -258,7 +258,7 @@ const view = { from: 0, to: data.wave.end, cursor: null, frames: 0 };
 const canvas = document.getElementById("plot");
 const status = document.getElementById("status");
 const LEFT = 96, AXIS = 22, ROW = 86, PAD = 8, SHORTEST = 20;
-const INKS = ["text", "faint", "drive", "found", "sample", "sync", "field", "stuff", "error", "good", "cursor"];
+const INKS = ["text", "faint", "drive", "found", "sample", "sync", "field", "stuff", "error", "good", "cursor", "disturb"];
 const ink = {};
 
 const places = () => view.width - LEFT - PAD;
@@ -286,25 +286,41 @@ function bitLength() {
 
 // ---- Drawing
 
+// A level as a line. A column of pixels with more edges than a line can show is a block, which ends with the column.
 function drawLevel(pen, { times, values }, top, height, colour) {
   const first = Math.max(0, countUpTo(times, view.from) - 1), last = countUpTo(times, view.to);
+  const heightAt = (at) => top + (values[at] ? 0 : height), blocks = new Path2D();
   pen.strokeStyle = pen.fillStyle = colour;
   pen.beginPath();
-  let y = top + (values[first] ? 0 : height);
-  pen.moveTo(LEFT, y);
-  for (let at = first + 1; at < last; at += 1) {
-    const x = place(times[at]);
-    pen.lineTo(x, y);
-    y = top + (values[at] ? 0 : height);
-    pen.lineTo(x, y);
-    if (last - at > 3 && place(times[at + 1]) - x < 0.25) { // more changes than points: a block up to the next one that shows
-      const next = Math.min(last - 1, countUpTo(times, tickAt(x + 1)));
-      pen.fillRect(x, top, Math.max(1, place(times[next]) - x), height);
-      at = Math.max(at, next - 1);
-    }
+  pen.moveTo(LEFT, heightAt(first));
+  for (let at = first + 1, after = at; at < last; at = after) {
+    const x = place(times[at]), column = Math.floor(x), edges = Math.min(last, countUpTo(times, tickAt(column + 1))) - at;
+    after = edges > 2 ? at + edges : at + 1;
+    if (edges > 2) blocks.rect(column, top, 1, height);
+    pen.lineTo(x, heightAt(at - 1));
+    pen.lineTo(x, heightAt(after - 1));
   }
-  pen.lineTo(LEFT + places(), y);
+  pen.lineTo(LEFT + places(), heightAt(last - 1));
   pen.stroke();
+  pen.fill(blocks);
+}
+
+// Where disturbances strike a node: a bar over each column of pixels that they reach, and a band over what the node finds there.
+function drawDisturbed(pen, { times, values }, top) {
+  const bars = new Path2D(), bands = new Path2D();
+  pen.font = "10px system-ui, sans-serif";
+  for (let at = Math.max(0, countUpTo(times, view.from) - 1); at < times.length && times[at] < view.to; at += 1) {
+    if (!values[at]) continue;
+    const x = Math.floor(place(Math.max(view.from, times[at]))), end = Math.ceil(place(Math.min(view.to, times[at + 1] ?? data.wave.end)));
+    bars.rect(x, top, end - x, 3);
+    bands.rect(x, top + 3, end - x, 16);
+    drawWords(pen, "disturbance", x, end, top + 14, true);
+  }
+  pen.fillStyle = ink.disturb;
+  pen.fill(bars);
+  pen.globalAlpha = 0.25;
+  pen.fill(bands);
+  pen.globalAlpha = 1;
 }
 
 function drawMarks(pen, times, y, colour, shape) {
@@ -393,15 +409,21 @@ function drawNode(pen, node, number, top) {
   pen.font = "10px system-ui, sans-serif";
   pen.fillText("drives", 4, top + 38);
   pen.fillText("finds", 4, top + 56);
+  const disturbed = signals.get("n" + number);
+  if (disturbed.values.includes(1)) {
+    pen.fillStyle = ink.disturb;
+    pen.fillText("disturbance", 4, top + 70);
+  }
   pen.save();
   pen.beginPath();
   pen.rect(LEFT, 0, places(), top + ROW);
   pen.clip();
   drawFields(pen, node, top + 14);
+  drawMarks(pen, signals.get("b" + number).times, top + 40, ink.faint, stroke);
+  drawDisturbed(pen, disturbed, top + 41);
   drawLevel(pen, signals.get("t" + number), top + 30, 10, ink.drive);
   drawLevel(pen, signals.get("r" + number), top + 46, 12, ink.found);
   drawMarks(pen, node.samples, top + 60, ink.sample, triangle);
-  drawMarks(pen, signals.get("b" + number).times, top + 40, ink.faint, stroke);
   drawMarks(pen, node.syncs, top + 53, ink.sync, stroke);
   drawEvents(pen, node, top + 60);
   drawSteps(pen, number, top);
@@ -438,10 +460,12 @@ canvas.addEventListener("pointerdown", (press) => { held = { x: press.clientX, f
 canvas.addEventListener("pointermove", (moved) => {
   if (held) { const by = ((moved.clientX - held.x) / places()) * (held.to - held.from); show(held.from - by, held.to - by); return; }
   const tick = tickAt(xOf(moved)), near = ((view.to - view.from) / places()) * 5;
-  const node = data.nodes[Math.floor((moved.clientY - canvas.getBoundingClientRect().top - AXIS) / ROW)];
+  const number = Math.floor((moved.clientY - canvas.getBoundingClientRect().top - AXIS) / ROW), node = data.nodes[number];
   if (!node) { canvas.title = ""; return; }
   const field = node.fields[countUpTo(node.ends, tick)], found = node.marks.slice(countUpTo(node.ticks, tick - near), countUpTo(node.ticks, tick + near));
-  canvas.title = [`tick ${Math.round(tick)}`, field && field.from <= tick ? field.name : "", ...found.map((event) => event.what)].filter(Boolean).join("; ");
+  const { times, values } = signals.get("n" + number), struck = values.slice(Math.max(0, countUpTo(times, tick - near) - 1), countUpTo(times, tick + near)).includes(1);
+  const said = [field && field.from <= tick && field.name, struck && "disturbance", ...found.map((event) => event.what)];
+  canvas.title = [`tick ${Math.round(tick)}`, ...said].filter(Boolean).join("; ");
 });
 for (const ended of ["pointerup", "pointercancel"]) canvas.addEventListener(ended, () => { held = null; });
 canvas.addEventListener("wheel", (turned) => {
