@@ -1,7 +1,7 @@
 #!/usr/bin/env python3
 """Looks for what makes the sources hard to read, and fails if it finds something that accepted.txt doesn't have with a reason.
 
-usage: house.py [--all] [repeats|wide|names|unused|long|english|comments|links|quotes|cites|edits]..     all of them if none is named; --all shows what is accepted, too
+usage: house.py [--all] [repeats|wide|names|unused|long|english|comments|links|quotes|cites|edits|flags]..     all of them if none is named; --all shows what is accepted, too
 
 repeats  lemma statements that stand more than once, up to the names of their variables (definitions and proofs are read, bodies not; a module's own
          name for a lemma of another one is none)
@@ -16,11 +16,14 @@ links    links of pages that lead to no file or to no heading
 quotes   code that a page quotes from a file that it names just above, and that isn't there
 cites    words of code that a page links to a source which hasn't them; of `Type::function` the function
 edits    wrong bodies whose old text isn't once in the file that they name
+flags    commands of the toolchain (`rt ..`) in pages, and their flags, that its help doesn't have; not looked at if there is no `rt` on the path
 
 Each search yields what accepted.txt may name, and the line that is printed. A line of accepted.txt is `KIND: WHAT`, or `KIND N: WHAT` if there may be N of
 them, below the line `reason: ..`. The status is 1 if something is found that isn't accepted; what is accepted and no longer found is only named.
 """
 import re
+import shutil
+import subprocess
 import sys
 from collections import Counter, defaultdict
 from pathlib import Path
@@ -296,6 +299,56 @@ def edits():
                 texts[file] = texts[file].replace(old, line[4:].removeprefix(" "))
 
 
+FLAG = r"--[a-z][a-z-]*"
+
+
+def help_of(*words):
+    """Returns what a command says of itself."""
+    ran = subprocess.run(words, stdin=subprocess.DEVNULL, capture_output=True, text=True, timeout=60)
+    return ran.stdout + ran.stderr
+
+
+def toolchain(rt):
+    """Returns the flags of each command of the toolchain by its help: those of its line of usage, of its own help if it has one, and rattle's if it takes them."""
+    said, rattle, commands = help_of(rt, "help"), str(Path(rt).resolve().with_name("rattle")), {"help": set()}
+    passed_on = set(re.findall(FLAG, said + help_of(rattle, "check", "--help") + help_of(rattle, "build", "--help")))
+    for names, rest in re.findall(r"(?m)^(?:usage:)? +rt ([a-z|-]+)(.*)$", said):
+        usage = re.split(r"\s{3,}", rest)[0]
+        for name in names.split("|"):
+            more = "--help " + help_of(rt, name, "--help") if f"rt {name} --help says more" in said else ""
+            commands[name] = set(re.findall(FLAG, usage + more)) | (passed_on if "rattle's flags" in usage else set())
+    return commands
+
+
+def codes(text):
+    """Yields the line and the words of each piece of code of a page: a span of its text, or a line of a block up to its remark."""
+    fenced, lines = False, text.splitlines()
+    for at, line in enumerate(lines):
+        is_fence = line.lstrip().startswith("```")
+        if is_fence: fenced = not fenced
+        elif fenced or line.startswith("    "): yield at + 1, re.split(r"\s#", line)[0]
+        if is_fence or fenced or line.startswith("    "): lines[at] = ""
+    left = "\n".join(lines)
+    for found in re.finditer(r"`([^`]+)`", left):
+        yield left.count("\n", 0, found.start()) + 1, found[1].replace("\n", " ")
+
+
+def flags():
+    rt = shutil.which("rt")
+    if not rt:
+        print("  there is no `rt` on the path: the commands of pages are not compared with its help")
+        return
+    commands = toolchain(rt)
+    for path in pages():
+        name = path.relative_to(TOP)
+        for line, words in codes(path.read_text(encoding="utf-8")):
+            for verb, rest in re.findall(r"(?<![\w./-])rt +([a-z][a-z-]*)([^|&;()`]*)", words):
+                unknown = [] if verb in commands else [f"rt {verb}"]
+                unknown += [f"rt {verb} {it}" for it in re.findall(FLAG, rest.split(" -- ")[0]) if verb in commands and it not in commands[verb]]
+                for it in unknown:
+                    yield f"{name} {it}", f"{name}:{line} `{it}` isn't in the help of `rt`"
+
+
 def accepted():
     """Returns how many of each kind and thing are accepted; each has a reason above it."""
     found, reason = Counter(), None
@@ -309,7 +362,7 @@ def accepted():
 
 
 def main():
-    every = {it.__name__: it for it in (repeats, wide, names, unused, long, english, comments, links, quotes, cites, edits)}
+    every = {it.__name__: it for it in (repeats, wide, names, unused, long, english, comments, links, quotes, cites, edits, flags)}
     words, left, bad = sys.argv[1:], accepted(), 0
     show = "--all" in words
     for kind in [it for it in words if it != "--all"] or every:
