@@ -12,11 +12,11 @@ long     files of more than 800 lines, functions of more than 40
 english  of each page: sentences of more than 30 words, lines of more than 100 columns, and words that CONTRIBUTING asks not to use
 comments of the doc comments of src/: sentences of more than 30 words, words to avoid, and functions with an answer whose comment doesn't begin with
          it ('Returns ..', 'True if ..') or with a verb
+flags    commands of the toolchain (`rt ..`) in pages, and their flags, that its help doesn't have; not looked at if there is no `rt` on the path
 links    links of pages that lead to no file or to no heading
 quotes   code that a page quotes from a file that it names just above, and that isn't there
 cites    words of code that a page links to a source which hasn't them; of `Type::function` the function
 edits    wrong bodies whose old text isn't once in the file that they name
-flags    commands of the toolchain (`rt ..`) in pages, and their flags, that its help doesn't have; not looked at if there is no `rt` on the path
 
 Each search yields what accepted.txt may name, and the line that is printed. A line of accepted.txt is `KIND: WHAT`, or `KIND N: WHAT` if there may be N of
 them, below the line `reason: ..`. The status is 1 if something is found that isn't accepted; what is accepted and no longer found is only named.
