@@ -1,12 +1,13 @@
 #!/usr/bin/env bash
 # Runs a built program of Wireline as a user would, and compares status, standard output and the fault's line, byte for byte.
 # usage: program.sh PROGRAM
-# - each plan of examples/ with the report beside it, and each of those plans through check, records and candump, which must accept it;
-#   and by 2, 3 and 8 workers over either link; a bus with long delays by 2 and 3
-# - the explanation, the trace and the waveform of each of them as check/plain.py gives them, the traffic and the margin as check/traffic.py and
-#   check/margin.py do; the same of plans as no example is; and the explanations of plans with every doubt, by the book and
+# - each plan of examples/ with the report beside it, and each of those plans through candump, which must accept it; and by 2, 3 and 8 workers over
+#   either link; a bus with long delays by 2 and 3
+# - the check, the records, the explanation, the trace and the waveform of each of them as check/plain.py gives them, the traffic and the margin as
+#   check/traffic.py and check/margin.py do; the same of plans as no example is; and the explanations of plans with every doubt, by the book and
 #   not, and of one whose clocks change their rates
 # - the log of one plan, as ticks of three lengths have it, and the waveform of one, as ticks of two have it
+# - the rows of check/rows (check/rows.py): record texts, plans, margins, settings, sweeps
 # - two nodes with full queues, as check/plain.py reports them, and their trace, a long one, in other formats; a bus that idles, in less than 200 ms;
 #   a table of 80,000 keys, in less than 3 s; the traffic of 8,000 messages, in less than 4 s; the margins of 16 nodes, in less than 0.4 s
 # - each row of .ci/refused.txt: the status, the one line on standard error, nothing on standard output but what explain says of it, and the hint
@@ -50,23 +51,23 @@ runs() { # runs NAME INPUT STATUS STDOUT STDERR WORDS..: STDERR '-' where it is 
 for report in examples/*.report; do
   name=$(basename "$report" .report)
   runs "run of $name" "examples/$name.toml" 0 "$report" "$room/none" run
-  for word in check records; do
-    "$program" "$word" < "examples/$name.toml" > "$room/out" 2> "$room/err"
-    is "$word of $name" [ $? = 0 -a -s "$room/out" -a ! -s "$room/err" ]
+  for word in check records explain trace vcd; do
+    python3 -B check/plain.py "$word" < "examples/$name.toml" > "$room/wanted"
+    runs "$word of $name" "examples/$name.toml" 0 "$room/wanted" "$room/none" "$word"
   done
-  python3 check/plain.py explain < "examples/$name.toml" > "$room/explained"
-  runs "explain of $name" "examples/$name.toml" 0 "$room/explained" "$room/none" explain
-  python3 check/plain.py trace < "examples/$name.toml" > "$room/traced"
-  runs "trace of $name" "examples/$name.toml" 0 "$room/traced" "$room/none" trace
   python3 -B check/traffic.py text < "examples/$name.toml" > "$room/traffic"
   runs "traffic of $name" "examples/$name.toml" 0 "$room/traffic" "$room/none" traffic
   "$program" candump < "examples/$name.toml" > "$room/out" 2> "$room/err"
   is "candump of $name" [ $? = 0 -a ! -s "$room/err" ]
   is "lines of candump of $name" [ "$(grep -c '^frame [0-9]* sent ' "$report")" = "$(wc -l < "$room/out")" ]
-  python3 check/plain.py vcd < "examples/$name.toml" > "$room/waved"
-  runs "vcd of $name" "examples/$name.toml" 0 "$room/waved" "$room/none" vcd
   python3 -B check/margin.py < "examples/$name.toml" > "$room/beyond"
   runs "margin of $name" "examples/$name.toml" 0 "$room/beyond" "$room/none" margin
+done
+
+# Rows of check/rows, by the program as each compiler built it.
+for build in "$program" "$program.by-rattle"; do
+  [ "$build" = "$program" ] || [ -x "$build" -a ! "$build" -ot "$program" ] || continue
+  is "the rows of check/rows by $(basename "$build")" python3 -B check/rows.py "$build"
 done
 
 # Plans as no example is: outside of the condition for margins, a node that misses a frame, remote frames, codes above 8, a CRC error, long queues,

@@ -134,7 +134,7 @@ SELDOM = ["n0.ppm=-9..9:9", "quantum=9..11", "num=9..11", "every=100..300:100", 
 
 def sweep_words(rng, plan):
     """The words of a command line, and the request that they are."""
-    request = of_sweeps.request_of("")
+    request = of_sweeps.request_of([])
     request |= {"runs": rng.choice([1, 2, 3, 5]), "seed": rng.choice([1, 7, rng.randrange(2**32)]), "workers": 1}
     request |= {"offsets": rng.random() < 0.3, "ppm": rng.random() < 0.3, "worst": rng.random() < 0.15}
     if rng.random() < 0.3: request["step"] = rng.choice([1, 3, 100])
@@ -157,8 +157,7 @@ def swept(program, text, request):
         said, clean = of_sweeps.Sweep(text, request).says(Serial(), program)
         return said, "", 0 if clean else 1
     except of_sweeps.Refused as refused:
-        fault, of_word, _ = re.fullmatch(r"fault: (.*), of a word: (\w+), of the plan: (\w+)\n", refused.line).groups()
-        return "", f"fault: {fault}\n", 2 if of_word == "true" else 1
+        return "", f"{refused}\n", refused.status
 
 
 def sweeps(tally, program, seed, numbers, options):
@@ -178,7 +177,7 @@ def sweeps(tally, program, seed, numbers, options):
         try:
             printed = of_sweeps.Sweep(text.decode(), request | {"print": 0}).prints(0), "", 0
         except of_sweeps.Refused as refused:
-            printed = "", refused.line, 2
+            printed = "", f"{refused}\n", refused.status
         tally.compare(name, "sweep --print 0", text, asked(program, "sweep", *words, "--print", "0", text=text), printed)
 
 

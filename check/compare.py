@@ -26,7 +26,7 @@ Seed 1 and one process by default. Input N of a seed is always the same, in howe
   cyclic        repeats, on the plans of plans/
   workers       runs by 2 to 8 workers and either link beside one thread
   work          PROGRAM is test_workers: workers by threads of its own and either link beside one thread
-  engines       PROGRAM is test_engine: the engine that jumps beside one that goes quantum by quantum
+  engines       run and records on plans of up to 16 nodes, far apart and with clocks far off, beside plain.py's engine, which goes quantum by quantum
   replicas      PROGRAM is test_replica: lists of takes and joins
   programs      another built program, --beside PROGRAM, on the same inputs
   rooms         PROGRAM is -: when plain.py's nodes have sent their frames beside the least quanta that explain counts for them
@@ -61,7 +61,7 @@ WHATS = {
     "version-3": ("versions", "version_3", 1_000, {"bits": "0", "workers": ""}),
     "cyclic": ("versions", "cyclic", 0, {}),
     **{name: ("threads", name, 500, {}) for name in ("workers", "work")},
-    "engines": ("engines", "engines", 2_000, {}),
+    "engines": ("engines", "engines", 500, {}),
     "replicas": ("replicas", "replicas", 1_000, {}),
     "programs": ("programs", "programs", 1_000, {"beside": ""}),
     "rooms": ("rooms", "rooms", 1_000, {}),

@@ -1,15 +1,19 @@
-"""The comparison `engines`: random plans by test_engine, whose two engines jump and go quantum by quantum.
+"""The comparison `engines`: random plans by the program's engine, which jumps, beside that of plain.py, which goes quantum by quantum.
 
 Half of the plans are those of random_plans.py; the others have 1 to 16 nodes, clocks that are off by up to 5 %, delays up to 800,000 ticks, and
-disturbances from tick 0 on. It counts how many samples, frames and changes the engines agreed on.
+disturbances from tick 0 on. `run` and `records` have to be the same. It counts how many samples, frames and changes that were.
 """
 import random
 import re
 import sys
 
 sys.dont_write_bytecode = True
+import plain
 import random_plans
 from tally import asked
+
+# What the two texts say of how much happened
+COUNTED = {"run": {"samples": r"^node .* samples (\d+)", "frames": r"^frame \d+ \S+ ()"}, "records": {"changes": r"^E ()"}}
 
 
 def wide_plan(rng):
@@ -47,13 +51,11 @@ def text_of(seed, number):
 
 
 def engines(tally, program, seed, numbers, options):
-    texts = [text_of(seed, number) for number in numbers]
-    out, _, status = asked(program, text="---\n".join(texts).encode())
-    lines = out.splitlines() if status == 0 else []
-    for number, text, line in zip(numbers, texts, (lines + [f"status {status}"] * len(texts))[:len(texts)]):
+    for number in numbers:
+        text = text_of(seed, number).encode()
         tally.tried += 1
-        word = line.split(":")[0]
-        if word not in ("same", "refused"): tally.differs(f"plan {number} of seed {seed}", "both engines", text.encode(), line, "same")
-        else: tally.count("plans", word)
-        if word == "same":
-            for times, what in re.findall("([0-9]+) ([a-z]+)", line): tally.count("agreed on", what, int(times))
+        for word in "run", "records":
+            wanted = plain.answer(word, text)
+            tally.compare(f"plan {number} of seed {seed}", word, text, asked(program, word, text=text), wanted)
+            if word == "run": tally.count("plans", "refused" if wanted[2] else "run")
+            for what, form in COUNTED[word].items(): tally.count("agreed on", what, sum(int(found or 1) for found in re.findall(form, wanted[0], re.M)))

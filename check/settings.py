@@ -2,7 +2,6 @@
 """The settings of a bus, by an independent program: what `settings` has to write of a text, from the three inequalities as margin.py has them.
 
 usage: settings.py [--tick TIME] [--best N | --plan] < TEXT
-       settings.py rows < crates/test_settings/stdin        what test_settings has to write
 """
 import sys
 from fractions import Fraction
@@ -182,21 +181,7 @@ def settings_text(text, tick=1000, best=None, plan=False):
     return plan_text(top, first, rows[0].setting, tick)
 
 
-def answer(text, request):
-    """Returns what is answered to a request of a row."""
-    word, tick = request.split()
-    try: return settings_text(text.encode(), int(tick), int(word) if word.isdigit() else None, word == "plan")
-    except Fault as fault: return f"fault: {fault}\n"
-
-
-def rows(blocks):
-    for block in blocks.split("---\n"):
-        text, _, requests = block.partition("asked\n")
-        yield "".join(f"> {request}\n{answer(text, request)}" for request in requests.splitlines()) + "---\n"
-
-
 def main():
-    if sys.argv[1:] == ["rows"]: return sys.stdout.writelines(rows(sys.stdin.read()))
     words, tick, best, plan = sys.argv[1:], 1000, None, False
     while words:
         word = words.pop(0)

@@ -1,8 +1,8 @@
 #!/usr/bin/env python3
-"""Makes the tables of docs/use/settings.md, by the built programs test_settings and, for sweeps, wl_sim.
+"""Makes the tables of docs/use/settings.md, by the built program wl_sim.
 
-usage: settings_tables.py ROWS pairs PROGRAM            20 pairs of a clock and a bit rate: count, first row, sweeps at its longest cable
-       settings_tables.py ROWS can-calc [CAN_CALC]      beside can-calc-bit-timing of can-utils, for its controllers, clocks and bit rates
+usage: settings_tables.py PROGRAM pairs                    20 pairs of a clock and a bit rate: count, first row, sweeps at its longest cable
+       settings_tables.py PROGRAM can-calc [CAN_CALC]      beside can-calc-bit-timing of can-utils, for its controllers, clocks and bit rates
 """
 import re
 import subprocess
@@ -25,10 +25,9 @@ def text(name, clock, rate, rate_error=0, prescaler=1024):
             f'rate_error = {rate_error}\n[[controller]]\nname = "{name}"\nclock = {clock}\nprescaler = {prescaler}\n')
 
 
-def ask(rows, given, request):
-    """Returns the lines of what test_settings answers, with ticks of a nanosecond."""
-    asked = f"{given}asked\n{request} 1000\n"
-    return subprocess.run([rows], input=asked.encode(), capture_output=True, check=False).stdout.decode().splitlines()[1:-1]
+def ask(program, given, *words):
+    """Returns the lines of the settings of a text, with ticks of a nanosecond."""
+    return subprocess.run([program, "settings", *words], input=given.encode(), capture_output=True, check=False).stdout.decode().splitlines()
 
 
 @cache
@@ -46,15 +45,15 @@ def swept(program, plan, step, signs):
     return subprocess.run(words, input=plan.encode(), capture_output=True, check=False).stdout.decode().splitlines()[0]
 
 
-def pairs(rows, program):
+def pairs(program):
     for clock in 16, 20, 40, 80:
         for rate in 1000, 500, 250, 125, 50:
             given = text(f"c{clock}", clock * 1_000_000, rate)
             begun = time.monotonic()
-            lines = ask(rows, given, "all")
+            lines = ask(program, given)
             took = time.monotonic() - begun
             row = ROW.match(lines[1]).groups()
-            plan = "\n".join(ask(rows, given, "plan")[1:]).replace(f"\nx = {CABLES[rate]}\n", f"\nx = {row[12]}\n") + "\n"
+            plan = "\n".join(ask(program, given, "--plan")[1:]).replace(f"\nx = {CABLES[rate]}\n", f"\nx = {row[12]}\n") + "\n"
             step = 1_000_000 // rate // 1000  # of the ticks of a bit, so that there are 1,000 offsets
             found = [swept(program, plan, step, signs) for signs in ((0, 0), (1, -1), (-1, 1))]
             count = lines[0].split(": ")[1].split()[0]
@@ -79,7 +78,7 @@ def proposals(can_calc):
                 yield name, clock, rate, (brp, prop, ps1, ps2, sjw)
 
 
-def beside(rows_program, can_calc):
+def beside(program, can_calc):
     for name, clock, rate, proposed in proposals(can_calc):
         if proposed is None:
             print(f"| {name} | {clock / 1e6:.8g} | {rate} | none | | | |", flush=True)
@@ -88,7 +87,7 @@ def beside(rows_program, can_calc):
         divisor = rate * 1000 * brp * (1 + prop + ps1 + ps2)
         error = ceil(Fraction(abs(clock - divisor) * 1_000_000, divisor))
         said = f"{brp}, {prop}/{ps1}/{ps2}/{sjw}"
-        lines = ask(rows_program, text(name, clock, rate, min(error, 100_000), PRESCALERS[name]), "all")
+        lines = ask(program, text(name, clock, rate, min(error, 100_000), PRESCALERS[name]))
         rows = [found.groups() for found in map(ROW.match, lines[1:]) if found]
         own = next((row for row in rows if tuple(int(n) for n in row[1:6]) == proposed), None)
         wider = next((row for row in rows if tuple(int(n) for n in row[1:5]) == proposed[:4]), None)
@@ -101,7 +100,7 @@ def beside(rows_program, can_calc):
 
 
 def main():
-    if len(sys.argv) == 4 and sys.argv[2] == "pairs": pairs(sys.argv[1], sys.argv[3])
+    if sys.argv[2:] == ["pairs"]: pairs(sys.argv[1])
     elif len(sys.argv) in (3, 4) and sys.argv[2] == "can-calc": beside(sys.argv[1], (sys.argv[3:] or ["can-calc-bit-timing"])[0])
     else: sys.exit(__doc__)
 

@@ -1,8 +1,7 @@
 #!/usr/bin/env python3
 """Sweeps by an independent program: what `sweep` says of a plan, and the plans of its members, from docs/use/sweeps.md; members run by plain.py.
 
-usage: sweeps.py answers [--program PROGRAM] [--jobs N] < crates/test_sweeps/stdin     what test_sweeps has to answer
-       sweeps.py says [--program PROGRAM] [--jobs N] PLAN WORD..                      what is said of one plan; words as those rows have them
+usage: sweeps.py [--program PROGRAM] [--jobs N] WORD.. < PLAN      standard output, standard error and status as `sweep WORD..` has them
 
 With --program members are run by a build of wl_sim in the place of plain.py: less independent, and a thousand times as fast.
 """
@@ -24,14 +23,14 @@ CLOCK = ("num", "den", "quantum", "ppm")
 TOP = ("end", "per")
 REPEAT = ("every", "count")
 KEYS = TOP + CLOCK + REPEAT + ("offset", "prop", "ps1", "ps2", "sjw", "x", "out", "in", "tolerance")
-FAULT = "fault: {}, of a word: {}, of the plan: {}\n"
 
 
 class Refused(Exception):
-    """Why a sweep isn't run: its fault, and whether it is a word's."""
+    """Why a sweep isn't run: its fault, and the status, 2 for a fault of a word and 1 for one of the plan."""
 
-    def __init__(self, fault, of_word=True):
-        self.line = FAULT.format(fault, str(of_word).lower(), str(not of_word).lower())
+    def __init__(self, fault, status=2):
+        super().__init__(f"fault: {fault}")
+        self.status = status
 
 
 # ---- A plan's text: a table of its keys, with the rates of each node as a list in all versions
@@ -43,7 +42,7 @@ def read(text):
     try:
         plain.read_plan(text.encode())
     except plain.Fault as fault:
-        raise Refused(fault, of_word=False)
+        raise Refused(fault, 1)
     return tables(text)
 
 
@@ -339,7 +338,7 @@ class Sweep:
         try:
             plan = read(text)
         except Refused as refused:  # of a refused plan that gets frames the fault is the one that it has with them
-            if not request["worst"] or re.match("fault: (" + "|".join(OF_TEXT) + r")\b", refused.line): raise
+            if not request["worst"] or re.match("fault: (" + "|".join(OF_TEXT) + r")\b", str(refused)): raise
             plan = tables(text)
         self.plan = with_worst(plan) if request["worst"] else plan
         read(plan_text(self.plan))  # a node may have no room for one frame more
@@ -391,60 +390,42 @@ class Sweep:
         return f"# member {n}{changes(*self.rows[row], self.options, run)}\n{self.text(row, run)}"
 
 
-# ---- Rows
+# ---- The command line
 
-def request_of(line):
-    request = {"runs": 1000, "seed": 1, "step": None, "workers": 1, "print": None, "again": None, "offsets": False, "ppm": False, "worst": False,
-               "ranges": []}
-    for word in line.split():
-        key, equals, value = word.partition("=")
-        if equals and key in ("runs", "seed", "step", "workers", "print", "again"): request[key] = int(value)
-        elif word in ("offsets", "ppm", "worst"): request[word] = True
-        else: request["ranges"].append(word)
+FLAGS = {"--keep-offsets": "offsets", "--keep-ppm": "ppm", "--worst": "worst"}
+
+
+def request_of(words):
+    """Returns what the words of a command line ask for."""
+    request = {"runs": 1000, "seed": 1, "step": None, "workers": 1, "print": None, "offsets": False, "ppm": False, "worst": False, "ranges": []}
+    words = list(words)
+    while words:
+        word = words.pop(0)
+        if word in FLAGS: request[FLAGS[word]] = True
+        elif word == "--vary": request["ranges"].append(words.pop(0))
+        else: request[word.removeprefix("--")] = int(words.pop(0))
     return request
-
-
-def swept(text, request, pool, program):
-    try:
-        said, clean = Sweep(text, request).says(pool, program)
-    except Refused as refused:
-        return refused.line
-    return f"{said}all clean: {str(clean).lower()}\n"
-
-
-def printed(text, request, n):
-    try:
-        return Sweep(text, request | {"print": n}).prints(n)
-    except Refused as refused:
-        return refused.line
-
-
-def answer(text, line, pool, program):
-    request = request_of(line)
-    if request["again"] is not None:
-        once = printed(text, request, request["again"])
-        alone = request_of("runs=1")
-        same = once.partition("\n")[2] == printed(once, alone, 0).partition("\n")[2]
-        return f"the same again: {str(same).lower()}\n{swept(once, alone, pool, program)}"
-    if request["print"] is not None: return printed(text, request, request["print"])
-    return swept(text, request, pool, program)
 
 
 def main():
     words, program, jobs = sys.argv[1:], None, os.cpu_count()
-    while len(words) > 1 and words[1] in ("--program", "--jobs"):
-        if words[1] == "--jobs": jobs = int(words[2])
-        else: program = words[2]
-        del words[1:3]
+    while words[:1] in (["--program"], ["--jobs"]):
+        if words[0] == "--jobs": jobs = int(words[1])
+        else: program = words[1]
+        del words[:2]
+    try:
+        request, text = request_of(words), sys.stdin.read()
+    except (IndexError, ValueError):
+        sys.exit(sys.stderr.write(__doc__) and 2)
     with Pool(jobs) as pool:
-        if words[:1] == ["says"] and len(words) > 1:
-            sys.stdout.write(answer(open(words[1]).read(), " ".join(words[2:]), pool, program))
-        elif words == ["answers"]:
-            for block in sys.stdin.read().split("---\n"):
-                text, _, lines = block.partition("asked\n")
-                sys.stdout.write("".join(f"> {line}\n{answer(text, line, pool, program)}" for line in lines.splitlines()) + "---\n")
-        else:
-            sys.exit(sys.stderr.write(__doc__) and 2)
+        try:
+            sweep = Sweep(text, request)
+            said, is_clean = (sweep.prints(request["print"]), True) if request["print"] is not None else sweep.says(pool, program)
+        except Refused as refused:
+            sys.stderr.write(f"{refused}\n")
+            sys.exit(refused.status)
+    sys.stdout.write(said)
+    sys.exit(0 if is_clean else 1)
 
 
 if __name__ == "__main__":
