@@ -11,7 +11,7 @@ use Rattle.wl_group.specs.Advanced.{emitted, blocked, ended, can_advance, run_ne
 use Rattle.wl_group.specs.GroupValue.{GroupValue, Matches, quanta_at, belongs, members_now, may_run, emission_at, run_on}
 use Rattle.wl_group.specs.Running.{HasRunNext, HasReplied, Ran, none, more}
 use Rattle.wl_group.specs.ValueLaws.{ValueLaws}
-use Rattle.wl_group.proofs.Callers.{is_there}
+use Rattle.wl_group.proofs.Facts.{is_there}
 use Rattle.wl_group.proofs.AdvanceProofs.{advance_laws}
 
 -- a node that may run, and ran, advanced

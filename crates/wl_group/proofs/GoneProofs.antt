@@ -11,11 +11,12 @@ use Rattle.wl_record_core.specs.declared.record.Record.{Record}
 use Rattle.wl_record_core.specs.declared.record.Record.TheVariants.{Edge, Silence}
 use Rattle.wl_record_core.specs.Truth.{count_below, AreTrueOf}
 use Rattle.wl_record_core.specs.TableLaws.{TableLaws}
-use Rattle.wl_replica.specs.Slots.{Contents, slots_only, slots_of_records, IsBelow}
+use Rattle.wl_replica.specs.Slots.{Contents, slots_only, slots_of_records, HoldsTrue, IsBelow}
 use Rattle.wl_replica.specs.SlotsOf.{SlotsOfStates}
 use Rattle.wl_replica.specs.State.{state_of, slots_of, state_with_records, Fits}
 use Rattle.wl_replica.specs.Known.{is_tick, horizon, place_horizon}
 use Rattle.wl_replica.specs.KnownLaws.{SlotsLaws, KnownLaws}
+use Rattle.wl_plan.specs.declared.plan.Plan.{Plan}
 use Rattle.wl_plan.specs.Limits.{most_quanta}
 use Rattle.wl_plan.specs.Line.{found, reach}
 use Rattle.wl_plan.specs.PlanLine.{line_of, table_of}
@@ -24,17 +25,19 @@ use Rattle.wl_plan.specs.SimulationLaws.{SimulationLaws}
 use Rattle.wl_plan.specs.Sound.{IsSound}
 use Rattle.wl_plan.specs.Checked.{CheckedIsSound}
 use Rattle.wl_group.specs.Member.{Member, next_tick, turns, member_after_quantum, edge_said}
-use Rattle.wl_group.specs.Party.{Party}
+use Rattle.wl_group.specs.Party.{Party, slots}
 use Rattle.wl_group.specs.Holds.{IsMember}
 use Rattle.wl_group.specs.GroupLaws.{GroupLaws}
 use Rattle.wl_group.specs.Running.{quanta_to_come}
 use Rattle.wl_group.specs.ValueLaws.{ValueLaws}
 use Rattle.wl_group.specs.GroupValue.{GroupValue, IsGroupValue, Matches, quanta_at, belongs, member_after, member_at, members_now, with_records}
+use Rattle.wl_group.specs.Led.{LedTo}
 use Rattle.wl_group.specs.Going.{told_by, gone_on, AdvancesTo, HasGoneOn}
 use Rattle.wl_group.specs.Through.{spoken, Stays}
-use Rattle.wl_group.proofs.Callers.{true_append}
+use Rattle.wl_group.proofs.Facts.{true_append}
 use Rattle.wl_group.proofs.GoingProofs.{OneByOne, one_by_one, node, inside_all, own_before}
 use Rattle.wl_group.proofs.GroupProofs.{place_keeps, count_most}
+use Rattle.wl_group.proofs.LedProofs.{both_in, known_with, ran_beside}
 use Rattle.wl_group.proofs.RunProofs.{true_fits, some_there}
 use Rattle.wl_group.proofs.ThroughProofs.{next_is}
 
@@ -270,6 +273,33 @@ module _ (laws : ValueLaws) (groups : GroupLaws) (tables : TableLaws) (joins : S
         some = λ r c. one.last m refl r c;
       }
 
+  -- and they lead each party that covers the group to one that covers it after them
+  led : LedTo g (gone_on g i (k + suc m) (spoken (line_of g.plan) i (k + m)))
+  led =
+      let rs = spoken (line_of g.plan) i (k + m) in
+      let on = laws.all_run g one.h one.rs v one.steps in
+      record {
+        plan = refl;
+        lists = refl;
+        members = belongs_still;
+        led = λ p c.
+            let r = ran_beside laws groups tables joins knows sims states sound g one.h one.rs v one.steps p c in
+            let said : (e : Record) → Contains rs e → Contains one.rs e = λ e a. one.last m refl e a in (
+              r.q,
+              r.led,
+              record {
+                members = λ j o. r.covers.members j (ap (λ xs. is_some (slice_index_or xs j None)) one.quanta ∙ o)
+                    ∙ (ap (λ x. member_at (line_of x) j (slice_index_or one.h.ran j None)) on.plan
+                    ∙ ap (λ xs. member_at (line_of g.plan) j (slice_index_or xs j None)) one.quanta);
+                known = rs ++ c.known;
+                replica = known_with laws groups tables joins knows sims states sound p g c rs;
+                taken = both_in rs c.known r.q.taken (λ e a. r.said e (said e a)) (λ e a. r.taken e (c.taken e a));
+                emitted = both_in g.emitted rs r.q.emitted (λ e a. r.emitted e (c.emitted e a)) (λ e a. r.emits_too e (said e a));
+                truth = subst (λ (x : Plan). HoldsTrue (length x.nodes) (table_of x) (slots r.q)) on.plan r.covers.truth;
+              },
+            );
+      }
+
   pub gone_over : HasGoneOn i g (gone_on g i (k + suc m) (spoken (line_of g.plan) i (k + m))) (spoken (line_of g.plan) i (k + m))
   gone_over = record {
     k = k;
@@ -279,6 +309,7 @@ module _ (laws : ValueLaws) (groups : GroupLaws) (tables : TableLaws) (joins : S
     said_is = said_is;
     new_is = refl;
     advances = advances;
+    led = led;
     said_true = said_true;
     fewer = left_less g.ran i k (k + suc m) ran (omega arith)
         (s.few_quanta i k b (subst (λ q. (line_of g.plan).instant i q < g.plan.end) (let e : k + 0 ≡ k = omega arith in e) (early 0 (omega arith))));

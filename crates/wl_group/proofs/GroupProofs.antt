@@ -23,7 +23,7 @@ use Rattle.wl_group.specs.Party.{Party, slots, initial_silences, initial_party, 
 use Rattle.wl_group.specs.Advanced.{emission_of, run_next, Steps, none, more}
 use Rattle.wl_group.specs.Holds.{IsMember, IsGroup, IsTold}
 use Rattle.wl_group.specs.GroupLaws.{WaveIsLevel, GroupLaws}
-use Rattle.wl_group.proofs.Callers.{put_at, true_append}
+use Rattle.wl_group.proofs.Facts.{put_at, true_append}
 
 -- an entry that is there has a place of the list
 get_below : (xs : List ℕ) (s t : ℕ) → slice_get xs s ≡ Some t → s < length xs

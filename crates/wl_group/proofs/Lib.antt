@@ -1,23 +1,11 @@
-pub mod Callers
-mod AcceptProofs
-mod AlongProofs
+mod Facts
 mod AdvanceProofs
 mod BeginProofs
-mod BegunProofs
 mod CellProofs
 mod ChangesProofs
-mod CountProofs
 mod HeardProofs
 mod GoingProofs
-mod FollowProofs
-mod FollowedProofs
-mod FollowRowProofs
-mod LeadProofs
 mod GroupProofs
-mod GuessProofs
-mod ThoughtProofs
-mod TickProofs
-mod TrailProofs
 mod Rows
 mod ValueProofs
 mod RunProofs
@@ -29,3 +17,4 @@ mod GoneProofs
 mod OverProofs
 mod WayProofs
 mod AllProofs
+mod LedProofs

@@ -21,7 +21,7 @@ use Rattle.wl_group.specs.GroupValue.{GroupValue, IsGroupValue, quanta_at, belon
 use Rattle.wl_group.specs.Kept.{quanta_kept, ran_of, group_value, IsCell, AreCells, AreListing, IsKept}
 use Rattle.wl_group.specs.Running.{IsCellOf, HasNotGone, quanta_to_come}
 use Rattle.wl_group.specs.ValueLaws.{ValueLaws}
-use Rattle.wl_group.proofs.Callers.{is_there}
+use Rattle.wl_group.proofs.Facts.{is_there}
 use Rattle.wl_replica.proofs.Callers.{some_is}
 
 -- ---- places of a list

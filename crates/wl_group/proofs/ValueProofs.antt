@@ -33,7 +33,7 @@ use Rattle.wl_group.specs.GroupLaws.{GroupLaws}
 use Rattle.wl_group.specs.GroupValue.{GroupValue, IsGroupValue, Matches, quanta_at, belongs, member_after, member_at, members_now, initial_group, may_run, with_records, with_state, reads_at, emission_at, run_on}
 use Rattle.wl_group.specs.ValueLaws.{ValueLaws}
 use Rattle.wl_group.proofs.RunProofs.{true_fits}
-use Rattle.wl_group.proofs.Callers.{put_at, true_append, is_there}
+use Rattle.wl_group.proofs.Facts.{put_at, true_append, is_there}
 use Rattle.wl_group.proofs.GroupProofs.{group_laws, group_joins, member_keeps, member_joined}
 
 -- ---- the list of quanta

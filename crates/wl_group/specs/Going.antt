@@ -13,6 +13,7 @@ use Rattle.wl_group.specs.Party.{Party}
 use Rattle.wl_group.specs.Advanced.{Steps}
 use Rattle.wl_group.specs.Member.{next_tick}
 use Rattle.wl_group.specs.Running.{quanta_left}
+use Rattle.wl_group.specs.Led.{LedTo}
 use Rattle.wl_group.specs.GroupValue.{GroupValue, Matches, quanta_at, belongs, member_after, members_now}
 
 -- what a group says after n quanta in a row of node i, which had run k: the change of its drive, which is at the last of them, and its promise then
@@ -51,6 +52,7 @@ pub record HasGoneOn (i : ℕ) (old new : GroupValue) (said : List Record) : Typ
   pub said_is : said ≡ told_by old i k n
   pub new_is : new ≡ gone_on old i (k + n) said
   pub advances : (p : Party) → Matches p old → AdvancesTo old new said p
+  pub led : LedTo old new
   pub said_true : AreTrueOf (length old.plan.nodes) (table_of old.plan) said
   pub fewer : quanta_left new < quanta_left old
 

@@ -142,7 +142,7 @@ impl Group {
     }
 
     /// Returns the tick below which the line is known at a member's place.
-    pub(crate) fn known_at(&self, node: u8) -> u64
+    fn known_at(&self, node: u8) -> u64
         requires { belongs self.now node ≡ true }
         ensures { IsKnownAt self.now node result }
     {

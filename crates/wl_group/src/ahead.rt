@@ -100,7 +100,7 @@ impl Group {
     }
 
     /// Returns the stretch of the line at a member's place that has this tick, at which it is known there.
-    pub(crate) fn find(&mut self, i: u8, tick: u64) -> Pulse
+    fn find(&mut self, i: u8, tick: u64) -> Pulse
         requires member { belongs self.old i ≡ true }
         requires early { tick < 2 ^ 64 - 1 }
         requires known { let l = line_of self.old.plan in
@@ -244,7 +244,7 @@ impl Cell {
 
     /// Runs quanta of node `i` in a row in one stretch of the line and before a tick: one at least, and none after one that changes its
     /// drive. Returns true if the last one changed it. Refused if memory runs out before the first, and the member is where it was.
-    pub(crate) fn go_in(
+    fn go_in(
         &mut self,
         plan: &CheckedPlan,
         i: u8,

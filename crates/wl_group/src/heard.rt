@@ -63,7 +63,7 @@ pub(crate) fn nothing_asked(alloc: Global) -> Result<Vec<Sources>, AllocError>
 }
 
 /// Returns the tick of a node's change; 0 if it isn't known.
-pub(crate) fn change_at(replica: &Replica, node: u8, seq: u32) -> u64
+fn change_at(replica: &Replica, node: u8, seq: u32) -> u64
     ensures { result ≡ tick_in ((slots_of replica.now).edge node seq) }
 {
     match replica.slot(Slot::EdgeAt { node, seq }) {

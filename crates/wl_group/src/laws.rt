@@ -3,7 +3,8 @@
 ghost use Rattle.wl_group.specs.ValueLaws.{ValueLaws};
 ghost use Rattle.wl_group.specs.GroupLaws.{GroupLaws, WaveIsLevel};
 ghost use Rattle.wl_group.specs.AdvanceLaws.{AdvanceLaws};
-ghost use Rattle.wl_group.specs.Guess.{KeepingLaws};
+ghost use Rattle.wl_group.specs.Led.{LedLaws};
+ghost use Rattle.wl_group.specs.PartyLaws.{PartyLaws};
 
 /// Law: what holds of groups as their calls see them: each group begins, takes and runs as the party of the
 /// machine that it is, what it emits is true, and it stays where the one-thread simulation has it.
@@ -47,9 +48,24 @@ pub fn advance_laws()
     ensures { AdvanceLaws }
 {}
 
-/// Law: promises under a condition hold together. If each node drives what is thought as long as all nodes did so before, all do so. Guesses
-/// that say the same are kept alike, and what is kept up to a tick is kept up to an earlier one.
-#[tactic(auto, using(crate::proofs::GuessProofs::guess_laws))]
-pub fn guess_laws()
-    ensures { KeepingLaws }
+/// Law: of a family of parties or members with one put at a place, that one is there, and all others are as they were. True records
+/// that are appended to true ones are true.
+#[tactic(auto, using(crate::proofs::Facts::party_laws))]
+pub fn party_laws()
+    ensures { PartyLaws }
 {}
+
+/// Law: what a group takes that is true, what its members run and what begins again leads its party to the party that it is then. So
+/// whatever a group does, one after another, is a list of deliveries, advances and restarts.
+pub fn led_laws()
+    ensures { LedLaws }
+{
+    value_laws();
+    group_laws();
+    wl_record_core::table_laws();
+    wl_replica::slots_laws();
+    wl_replica::known_laws();
+    wl_replica::slots_of_states();
+    wl_plan::simulation_laws();
+    wl_plan::checked_is_sound();
+}

@@ -14,7 +14,7 @@ use Rattle.wl_group.specs.ValueLaws.{ValueLaws}
 use Rattle.wl_group.specs.GroupValue.{GroupValue, belongs, members_now, may_run}
 use Rattle.wl_group.specs.Kept.{group_value, IsKept}
 use Rattle.wl_group.specs.Through.{AreAhead}
-use Rattle.wl_group.proofs.Callers.{on_err}
+use Rattle.wl_group.proofs.Facts.{on_err}
 use Rattle.wl_group.proofs.RunProofs.{cell_read, in_cells, few_changed, value_stays, kept_stays}
 use Rattle.wl_group.proofs.OverProofs.{next_kept, inside_kept, may_say_over, kept_over, has_gone_over, has_run_next, due_before, next_before}
 use Rattle.wl_group.proofs.group.Group.run_row.Goals as goal
