@@ -16,6 +16,7 @@ use Rattle.wl_plan.specs.Checked.{CheckedIsSound}
 use Rattle.wl_plan.specs.declared.plan.Plan.{Plan}
 use Rattle.wl_replica.specs.KnownLaws.{KnownLaws}
 use Rattle.wl_group.specs.GroupLaws.{GroupLaws}
+use Rattle.wl_group.specs.PartyLaws.{PartyLaws}
 use Rattle.wl_group.specs.Member.{Member, next_tick}
 use Rattle.wl_group.specs.GroupValue.{GroupValue, quanta_at, member_at, members_now, has_ended, belongs as has}
 use Rattle.wl_world.specs.Scene.{Cast, Scene, is_of_group, start, possible, done, run}
@@ -134,7 +135,7 @@ ended_at v s e h i g there m =
 
 -- ---- fewer quanta are left
 
-module _ (sims : SimulationLaws) (sounds : CheckedIsSound) (laws : GroupingLaws) (knows : KnownLaws) (groups : GroupLaws) where
+module _ (sims : SimulationLaws) (sounds : CheckedIsSound) (laws : GroupingLaws) (knows : KnownLaws) (groups : GroupLaws) (family : PartyLaws) where
   -- of the scene that a world is, for the line and the cast of an earlier one
   left_on : (l : Line) (c : Cast) (v : WorldValue) → line_of v.plan ≡ l → cast_of v.numbers ≡ c → IsStaffed v → (w : Scene) → IsWorldAt w v → quanta_left_in l c w ≡ quanta_left_of v
   left_on l c v p q s w at = set_on (λ k d. quanta_left_in k d w ≡ quanta_left_of v) l (line_of v.plan) c (cast_of v.numbers) p q (left_is laws sims v s w at)
@@ -161,7 +162,7 @@ module _ (sims : SimulationLaws) (sounds : CheckedIsSound) (laws : GroupingLaws)
       let y = can w is.reached.1 in
       let x = done l c w (Advance h i) in
       let there : IsWorldAt x new = subst (λ z. IsWorldAt z new) (cond-true (possible l c w (Advance h i)) x w y) (step w is.reached.1).1 in
-      let one : quanta_left_in l c w ≡ suc (quanta_left_in l c x) = advance_lowers sims l s c w (faithful knows groups l s c w (world_holds knows groups l s c is.reached.0)) h i y in
+      let one : quanta_left_in l c w ≡ suc (quanta_left_in l c x) = advance_lowers sims family l s c w (faithful knows groups family l s c w (world_holds knows groups family l s c is.reached.0)) h i y in
       let had = left_on l c old refl refl is.staffed w is.reached.1 in
       let has_now = left_on l c new (ap line_of p) (ap cast_of q) will.staffed x there in
       omega arith
@@ -178,12 +179,12 @@ module _ (sims : SimulationLaws) (sounds : CheckedIsSound) (laws : GroupingLaws)
       let m = made w is.reached.1 in
       let x = run l c m.0 w in
       let r = round x m.2 m.3 in
-      let v = world_holds knows groups l s c is.reached.0 in
-      let vx = run_holds knows groups l s c m.0 w v in
-      let t = run_told knows groups l s c is.reached.0 (start l c) (start_holds knows groups l s c) (start_told knows groups l s c) in
-      let tx = run_told knows groups l s c m.0 w v t in
+      let v = world_holds knows groups family l s c is.reached.0 in
+      let vx = run_holds knows groups family l s c m.0 w v in
+      let t = run_told knows groups family l s c is.reached.0 (start l c) (start_holds knows groups family l s c) (start_told knows groups family l s c) in
+      let tx = run_told knows groups family l s c m.0 w v t in
       let y = run l c r.1 (run l c r.0 x) in
-      let less : quanta_left_in l c y < quanta_left_in l c x = round_lowers sims knows groups l s c (in_groups old is.staffed) x vx tx (unended x m.2) r.0 r.1 r.2 in
+      let less : quanta_left_in l c y < quanta_left_in l c x = round_lowers sims knows groups family l s c (in_groups old is.staffed) x vx tx (unended x m.2) r.0 r.1 r.2 in
       let had = left_on l c mid (ap line_of mp) (ap cast_of mn) mids.staffed x m.2 in
       let has_now = left_on l c new (ap line_of np) (ap cast_of nn) news.staffed y r.3 in
       omega arith
@@ -199,6 +200,6 @@ module _ (sims : SimulationLaws) (sounds : CheckedIsSound) (laws : GroupingLaws)
         let w = run l c is.reached.0 (start l c) in
         let at = is.reached.1 in
         let same = left_is laws sims v is.staffed w at in
-        let none = none_left sims l s c (in_groups v is.staffed) w (faithful knows groups l s c w (world_holds knows groups l s c is.reached.0)) in
+        let none = none_left sims family l s c (in_groups v is.staffed) w (faithful knows groups family l s c w (world_holds knows groups family l s c is.reached.0)) in
         (λ z. ended_here laws sims v is.staffed w at (none.0 (same ∙ z)), λ e. sym same ∙ none.1 (ended_there laws sims v is.staffed w at e));
   }

@@ -20,6 +20,7 @@ use Rattle.wl_plan.specs.Groupings.{GroupingLaws, groups_of, group_of}
 use Rattle.wl_group.specs.Party.{slots}
 use Rattle.wl_group.specs.Holds.{IsMember}
 use Rattle.wl_group.specs.GroupLaws.{GroupLaws}
+use Rattle.wl_group.specs.PartyLaws.{PartyLaws}
 use Rattle.wl_group.specs.GroupValue.{GroupValue, quanta_at, member_at, members_now}
 use Rattle.wl_group.specs.ValueLaws.{ValueLaws}
 use Rattle.wl_world.specs.declared.events.Event.{Event}
@@ -113,7 +114,7 @@ settle_grown l c old new (Err e) ok err before was = let s = err before was in g
 
 -- ---- no stall
 
-module _ (knows : KnownLaws) (groups : GroupLaws) (values : ValueLaws) (taking : TakingIsJoining) (has_slots : SlotsOfStates) (sounds : CheckedIsSound) (sims : SimulationLaws)
+module _ (knows : KnownLaws) (groups : GroupLaws) (family : PartyLaws) (values : ValueLaws) (taking : TakingIsJoining) (has_slots : SlotsOfStates) (sounds : CheckedIsSound) (sims : SimulationLaws)
     (laws : GroupingLaws) where
   -- who knows all that was emitted has the slots of one that took it once more
   slots_with : (v : WorldValue) → KnowEmitted v → IsStaffed v → (w : Scene) → IsWorldAt w v → (h : ℕ) (g : GroupValue) → slice_get v.groups h ≡ Some g
@@ -135,10 +136,10 @@ module _ (knows : KnownLaws) (groups : GroupLaws) (values : ValueLaws) (taking :
       let s = sounds v.plan is.staffed.checked in
       let w = run l c is.reached.0 (start l c) in
       let at = is.reached.1 in
-      let scene = world_holds knows groups l s c is.reached.0 in
-      let told = run_told knows groups l s c is.reached.0 (start l c) (start_holds knows groups l s c) (start_told knows groups l s c) in
-      let gs = in_groups sims sounds laws knows groups v is.staffed in
-      elim (some_can_by knows groups l s c w gs (λ h hb i b.
+      let scene = world_holds knows groups family l s c is.reached.0 in
+      let told = run_told knows groups family l s c is.reached.0 (start l c) (start_holds knows groups family l s c) (start_told knows groups family l s c) in
+      let gs = in_groups sims sounds laws knows groups family v is.staffed in
+      elim (some_can_by knows groups family l s c w gs (λ h hb i b.
       let g = get_at v.groups h (subst (λ n. h < n) (sym is.staffed.count) hb) in
       let same = slots_with v know is.staffed w at h g.0 g.1 in
       let own = (scene.groups (c.group_of i) (gs i b)).each i b (eq-eqb _ _ refl) in

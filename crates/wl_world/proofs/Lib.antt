@@ -1,4 +1,5 @@
 mod Lists
+mod Puts
 mod WorldProofs
 mod NoStallProofs
 mod SettlingProofs

@@ -7,6 +7,7 @@ use Rattle.wl_record_core.specs.declared.record.Record.{Record}
 use Rattle.wl_plan.specs.Line.{Line}
 use Rattle.wl_group.specs.Party.{Party}
 use Rattle.wl_group.specs.Advanced.{can_advance, run_next}
+use Rattle.wl_group.specs.PartyLaws.{PartyLaws}
 use Rattle.wl_world.specs.declared.events.Event.{Event}
 use Rattle.wl_world.specs.declared.events.Event.TheVariants.{Advance, Deliver, Join, Restart}
 use Rattle.wl_world.specs.declared.events.Answer.{Answer}
@@ -16,7 +17,7 @@ use Rattle.wl_world.specs.Settling.{IsMove, IsDelivery, IsAdvance, Rounds, settl
 use Rattle.wl_world.specs.Steps.{HasStepped}
 use Rattle.wl_world.specs.WorldValue.{WorldValue, IsWorldAt}
 use Rattle.wl_world.specs.Moves.{IsAdvanceOf, HasTaken, KnowsBelow, IsStuckAt, MovesLed, HasHanded, HasHandedAll, HasExhausted, HasExhaustedAll, HasRounded}
-use Rattle.wl_group.proofs.Callers.{put_at}
+use Rattle.wl_world.proofs.Puts.{put_at}
 use Rattle.wl_world.proofs.WorldProofs.{run_grows}
 use Rattle.wl_world.proofs.SettlingProofs.{delivered, moves_keep}
 use Rattle.wl_world.proofs.RoundProofs.{run_append, delivery_is_move, advance_is_move}
@@ -67,28 +68,28 @@ module _ (l : Line) (c : Cast) where
   emitted_kept (Join h k ∷ ds) p w = absurd p.0
   emitted_kept (Restart h ∷ ds) p w = absurd p.0
 
-  runs_keep : (es : List Event) → AllByRecursion IsMove es → (w : Scene) (g : ℕ) (r : Record) → Contains (w.parties g).taken r → Contains ((run l c es w).parties g).taken r
-  runs_keep [] p w g r t = t
-  runs_keep (e ∷ es) p w g r t = runs_keep es p.1 (happens l c w e) g r (moves_keep l c w e p.0 g r t)
+  runs_keep : PartyLaws → (es : List Event) → AllByRecursion IsMove es → (w : Scene) (g : ℕ) (r : Record) → Contains (w.parties g).taken r → Contains ((run l c es w).parties g).taken r
+  runs_keep family [] p w g r t = t
+  runs_keep family (e ∷ es) p w g r t = runs_keep family es p.1 (happens l c w e) g r (moves_keep family l c w e p.0 g r t)
 
-  advance_else : (w : Scene) (k i j : ℕ) → (j ≡ k → ⊥) → (happens l c w (Advance k i)).parties j ≡ w.parties j
-  advance_else w k i j n = elim (cases_Bool (possible l c w (Advance k i))) [
+  advance_else : PartyLaws → (w : Scene) (k i j : ℕ) → (j ≡ k → ⊥) → (happens l c w (Advance k i)).parties j ≡ w.parties j
+  advance_else family w k i j n = elim (cases_Bool (possible l c w (Advance k i))) [
     | inl y ↦
         ap (λ (x : Scene). x.parties j) (cond-true (possible l c w (Advance k i)) (done l c w (Advance k i)) w y)
-        ∙ put_at w.parties k (run_next l i (w.parties k)) (λ q. q ≡ w.parties j) j (λ e. absurd (n e)) (λ _. refl)
+        ∙ put_at family.parties w.parties k (run_next l i (w.parties k)) (λ q. q ≡ w.parties j) j (λ e. absurd (n e)) (λ _. refl)
     | inr x ↦ ap (λ (x : Scene). x.parties j) (cond-false (possible l c w (Advance k i)) (done l c w (Advance k i)) w x)
   ]
 
-  others_stay : (h : ℕ) (qs : List Event) → AllByRecursion (IsAdvanceOf h) qs → (w : Scene) (j : ℕ) → (j ≡ h → ⊥) → (run l c qs w).parties j ≡ w.parties j
-  others_stay h [] p w j n = refl
-  others_stay h (Advance k i ∷ qs) p w j n = others_stay h qs p.1 (happens l c w (Advance k i)) j n ∙ advance_else w k i j (λ e. n (e ∙ p.0))
-  others_stay h (Deliver k i ∷ qs) p w j n = absurd p.0
-  others_stay h (Join k i ∷ qs) p w j n = absurd p.0
-  others_stay h (Restart k ∷ qs) p w j n = absurd p.0
+  others_stay : PartyLaws → (h : ℕ) (qs : List Event) → AllByRecursion (IsAdvanceOf h) qs → (w : Scene) (j : ℕ) → (j ≡ h → ⊥) → (run l c qs w).parties j ≡ w.parties j
+  others_stay family h [] p w j n = refl
+  others_stay family h (Advance k i ∷ qs) p w j n = others_stay family h qs p.1 (happens l c w (Advance k i)) j n ∙ advance_else family w k i j (λ e. n (e ∙ p.0))
+  others_stay family h (Deliver k i ∷ qs) p w j n = absurd p.0
+  others_stay family h (Join k i ∷ qs) p w j n = absurd p.0
+  others_stay family h (Restart k ∷ qs) p w j n = absurd p.0
 
-  stuck_stays : (h k : ℕ) → (h ≡ k → ⊥) → (qs : List Event) → AllByRecursion (IsAdvanceOf k) qs → (w : Scene) → IsStuckAt l c h w → IsStuckAt l c h (run l c qs w)
-  stuck_stays h k n qs p w s i =
-      ap (λ (q : Party). nat_lt h c.groups && (nat_lt i l.nodes && can_advance l (is_of_group c h) q i)) (others_stay k qs p w h n) ∙ s i
+  stuck_stays : PartyLaws → (h k : ℕ) → (h ≡ k → ⊥) → (qs : List Event) → AllByRecursion (IsAdvanceOf k) qs → (w : Scene) → IsStuckAt l c h w → IsStuckAt l c h (run l c qs w)
+  stuck_stays family h k n qs p w s i =
+      ap (λ (q : Party). nat_lt h c.groups && (nat_lt i l.nodes && can_advance l (is_of_group c h) q i)) (others_stay family k qs p w h n) ∙ s i
 
   -- ---- moves, one after another
 
@@ -115,9 +116,9 @@ module _ (l : Line) (c : Cast) where
   pub handed_none : (h a : ℕ) (v : WorldValue) → HasHanded l c h a a v v
   handed_none h a v w at = ([], tt, at, λ k r p q e. absurd (omega arith))
 
-  pub handed_more : (h a b : ℕ) (old mid new : WorldValue) (x : Answer) → h < c.groups → HasHanded l c h a b old mid → HasStepped IsWorldAt l c (Deliver h b) mid new x
+  pub handed_more : PartyLaws → (h a b : ℕ) (old mid new : WorldValue) (x : Answer) → h < c.groups → HasHanded l c h a b old mid → HasStepped IsWorldAt l c (Deliver h b) mid new x
       → HasHanded l c h a (b + 1) old new
-  handed_more h a b old mid new x hb p s w at =
+  handed_more family h a b old mid new x hb p s w at =
       let d = p w at in
       let y = run l c d.0 w in
       let e : run l c (d.0 ++ Deliver h b ∷ []) w ≡ happens l c y (Deliver h b) = run_append l c d.0 (Deliver h b ∷ []) w in (
@@ -125,8 +126,8 @@ module _ (l : Line) (c : Cast) where
         all_append IsDelivery d.0 (Deliver h b ∷ []) d.1 (tt, tt),
         subst (λ z. IsWorldAt z new) (sym e) (s y d.2).1,
         λ k r f t g. subst (λ z. Contains (z.parties h).taken r) (sym e) (elim (cases_eq k b) [
-          | inl same ↦ delivered l c y h b r hb (ap (λ es. slice_get es b) (emitted_kept d.0 d.1 w) ∙ (ap (slice_get w.emitted) (sym same) ∙ g))
-          | inr other ↦ moves_keep l c y (Deliver h b) tt h r (d.3 k r f (omega arith) g)
+          | inl same ↦ delivered family l c y h b r hb (ap (λ es. slice_get es b) (emitted_kept d.0 d.1 w) ∙ (ap (slice_get w.emitted) (sym same) ∙ g))
+          | inr other ↦ moves_keep family l c y (Deliver h b) tt h r (d.3 k r f (omega arith) g)
         ]),
       )
 
@@ -136,8 +137,8 @@ module _ (l : Line) (c : Cast) where
   pub handed_all_none : (a b : ℕ) (v : WorldValue) → HasHandedAll l c 0 a b v v
   handed_all_none a b v w at = ([], tt, at, λ h f. absurd (omega arith))
 
-  pub handed_all_more : (n a b : ℕ) (old mid new : WorldValue) → HasHandedAll l c n a b old mid → HasHanded l c n a b mid new → HasHandedAll l c (n + 1) a b old new
-  handed_all_more n a b old mid new all one w at =
+  pub handed_all_more : PartyLaws → (n a b : ℕ) (old mid new : WorldValue) → HasHandedAll l c n a b old mid → HasHanded l c n a b mid new → HasHandedAll l c (n + 1) a b old new
+  handed_all_more family n a b old mid new all one w at =
       let p = all w at in
       let x = run l c p.0 w in
       let q = one x p.2 in
@@ -147,7 +148,7 @@ module _ (l : Line) (c : Cast) where
         subst (λ y. IsWorldAt y new) (sym e) q.2,
         λ h f k r s t g. subst (λ y. Contains (y.parties h).taken r) (sym e) (elim (cases_eq h n) [
           | inl same ↦ subst (λ m. Contains ((run l c q.0 x).parties m).taken r) (sym same) (q.3 k r s t (ap (λ es. slice_get es k) (emitted_kept p.0 p.1 w) ∙ g))
-          | inr other ↦ runs_keep q.0 (all_as IsDelivery IsMove delivery_is_move q.0 q.1) x h r (p.3 h (omega arith) k r s t g)
+          | inr other ↦ runs_keep family q.0 (all_as IsDelivery IsMove delivery_is_move q.0 q.1) x h r (p.3 h (omega arith) k r s t g)
         ]),
       )
 
@@ -180,8 +181,8 @@ module _ (l : Line) (c : Cast) where
   pub exhausted_all_none : (v : WorldValue) → HasExhaustedAll l c 0 v v
   exhausted_all_none v w at = ([], tt, at, λ h f. absurd (omega arith))
 
-  pub exhausted_all_more : (n : ℕ) (old mid new : WorldValue) → HasExhaustedAll l c n old mid → HasExhausted l c n mid new → HasExhaustedAll l c (n + 1) old new
-  exhausted_all_more n old mid new all one w at =
+  pub exhausted_all_more : PartyLaws → (n : ℕ) (old mid new : WorldValue) → HasExhaustedAll l c n old mid → HasExhausted l c n mid new → HasExhaustedAll l c (n + 1) old new
+  exhausted_all_more family n old mid new all one w at =
       let p = all w at in
       let x = run l c p.0 w in
       let q = one x p.2 in
@@ -191,7 +192,7 @@ module _ (l : Line) (c : Cast) where
         subst (λ y. IsWorldAt y new) (sym e) q.2,
         λ h f. subst (IsStuckAt l c h) (sym e) (elim (cases_eq h n) [
           | inl same ↦ subst (λ m. IsStuckAt l c m (run l c q.0 x)) (sym same) q.3
-          | inr other ↦ stuck_stays h n other q.0 q.1 x (p.3 h (omega arith))
+          | inr other ↦ stuck_stays family h n other q.0 q.1 x (p.3 h (omega arith))
         ]),
       )
 
@@ -200,11 +201,11 @@ module _ (l : Line) (c : Cast) where
 
   -- ---- rounds
 
-  module _ (a b : ℕ) (w : Scene) (knows : KnowsBelow c a w) (ds : List Event) (handed : AllByRecursion IsDelivery ds) (took : (h : ℕ) → h < c.groups → HasTaken h a b w (run l c ds w)) where
+  module _ (family : PartyLaws) (a b : ℕ) (w : Scene) (knows : KnowsBelow c a w) (ds : List Event) (handed : AllByRecursion IsDelivery ds) (took : (h : ℕ) → h < c.groups → HasTaken h a b w (run l c ds w)) where
     -- what was handed over then, and what had been before
     known_now : (h : ℕ) → h < c.groups → (k : ℕ) (r : Record) → k < b → slice_get w.emitted k ≡ Some r → Contains ((run l c ds w).parties h).taken r
     known_now h f k r t g = elim (cases_lt k a) [
-      | inl low ↦ runs_keep ds (all_as IsDelivery IsMove delivery_is_move ds handed) w h r (knows h f k r (omega arith) low g)
+      | inl low ↦ runs_keep family ds (all_as IsDelivery IsMove delivery_is_move ds handed) w h r (knows h f k r (omega arith) low g)
       | inr high ↦ took h f k r high t g
     ]
 
@@ -217,7 +218,7 @@ module _ (l : Line) (c : Cast) where
         let here : k < length x.emitted = subst (λ es. k < length es) (sym same) (omega arith) in
         let was : slice_get w.emitted k ≡ Some r =
         ap (λ es. slice_get es k) (sym same) ∙ (sym (get_left x.emitted more.0 k here) ∙ (ap (λ es. slice_get es k) (sym more.1) ∙ g)) in
-        runs_keep qs (all_as IsAdvance IsMove advance_is_move qs runs) x h r (known_now h f k r t was)
+        runs_keep family qs (all_as IsAdvance IsMove advance_is_move qs runs) x h r (known_now h f k r t was)
 
     all_known : b ≡ length w.emitted → (h : ℕ) → h < c.groups → (r : Record) → Contains (run l c ds w).emitted r → Contains ((run l c ds w).parties h).taken r
     all_known all h f r t =
@@ -227,8 +228,8 @@ module _ (l : Line) (c : Cast) where
         let below : t.0 < length w.emitted = subst (λ es. t.0 < length es) same here in
         known_now h f t.0 r (omega arith) (ap (λ es. slice_get es t.0) (sym same) ∙ get_there x.emitted t.0 r here t.2)
 
-  pub rounded : (a b : ℕ) (old mid new : WorldValue) → b ≡ length old.emitted → HasHandedAll l c c.groups a b old mid → HasExhaustedAll l c c.groups mid new → HasRounded l c a b old new
-  rounded a b old mid new all p s w at knows =
+  pub rounded : PartyLaws → (a b : ℕ) (old mid new : WorldValue) → b ≡ length old.emitted → HasHandedAll l c c.groups a b old mid → HasExhaustedAll l c c.groups mid new → HasRounded l c a b old new
+  rounded family a b old mid new all p s w at knows =
       let d = p w at in
       let x = run l c d.0 w in
       let q = s x d.2 in
@@ -238,14 +239,14 @@ module _ (l : Line) (c : Cast) where
         record {
           delivers = d.1;
           runs = q.1;
-          taken = all_known a b w knows d.0 d.1 d.3 count;
+          taken = all_known family a b w knows d.0 d.1 d.3 count;
           stuck = λ h i. elim (cases_lt h c.groups) [
             | inl f ↦ q.3 h f i
             | inr n ↦ ap (λ t. t && (nat_lt i l.nodes && can_advance l (is_of_group c h) ((run l c q.0 x).parties h) i)) (le-ltb h c.groups n)
           ];
         },
         q.2,
-        known_later a b w knows d.0 d.1 d.3 q.0 q.1 count,
+        known_later family a b w knows d.0 d.1 d.3 q.0 q.1 count,
       )
 
   -- So many rounds led from one world to the other, in which each group has now taken the first records: what follows them counts on.

@@ -15,9 +15,10 @@ use Rattle.wl_group.specs.Party.{Party, slots, put, initial_party, party_with}
 use Rattle.wl_group.specs.Advanced.{run_next, emission_of}
 use Rattle.wl_group.specs.Holds.{IsTold}
 use Rattle.wl_group.specs.GroupLaws.{GroupLaws}
+use Rattle.wl_group.specs.PartyLaws.{PartyLaws}
 use Rattle.wl_world.specs.Scene.{Cast, Scene, start, possible, done, happens, run, at_most_one}
 use Rattle.wl_world.specs.Headline.{member_of, HasAll, AllAtEnd, NoStall}
-use Rattle.wl_group.proofs.Callers.{put_at, true_append}
+use Rattle.wl_world.proofs.Puts.{put_at}
 use Rattle.wl_world.proofs.WorldProofs.{IsWorld, may_advance, start_holds, emission_true, happens_holds, world_holds}
 
 -- each node's changes so far and its silence up to its next quantum were emitted, and its first silence too
@@ -26,11 +27,11 @@ pub record IsToldWorld (l : Line) (c : Cast) (w : Scene) : Type 0 where
   pub told : (i : ℕ) → i < l.nodes → IsTold l i (member_of w (c.group_of i) i) (slots_of_records w.emitted)
 
 -- where only a party is written, and each of its members is as it was or fresh
-told_same : (l : Line) (c : Cast) (w : Scene) (h : ℕ) (p : Party) → IsToldWorld l c w → ((i : ℕ) → (p.members i ≡ (w.parties h).members i) ⊎ (p.members i ≡ fresh))
+told_same : PartyLaws → (l : Line) (c : Cast) (w : Scene) (h : ℕ) (p : Party) → IsToldWorld l c w → ((i : ℕ) → (p.members i ≡ (w.parties h).members i) ⊎ (p.members i ≡ fresh))
     → IsToldWorld l c (record { parties = put w.parties h p; emitted = w.emitted })
-told_same l c w h p v f = record {
+told_same family l c w h p v f = record {
   firsts = v.firsts;
-  told = λ i b. put_at w.parties h p (λ q. IsTold l i (q.members i) (slots_of_records w.emitted)) (c.group_of i)
+  told = λ i b. put_at family.parties w.parties h p (λ q. IsTold l i (q.members i) (slots_of_records w.emitted)) (c.group_of i)
       (λ e. elim (f i) [
         | inl same ↦ subst (λ m. IsTold l i m (slots_of_records w.emitted)) (sym same) (subst (λ k. IsTold l i ((w.parties k).members i) (slots_of_records w.emitted)) e (v.told i b))
         | inr new ↦ subst (λ m. IsTold l i m (slots_of_records w.emitted)) (sym new) (v.firsts i b)
@@ -53,7 +54,7 @@ least_at f (suc n) =
 abbrev pub due_of : Line → Cast → Scene → ℕ → ℕ
 due_of l c w i = next_tick l i (member_of w (c.group_of i) i)
 
-module _ (knows : KnownLaws) (groups : GroupLaws) where
+module _ (knows : KnownLaws) (groups : GroupLaws) (family : PartyLaws) where
   pub start_told : (l : Line) → IsSound l → (c : Cast) → IsToldWorld l c (start l c)
   start_told l s c = record { firsts = groups.told_first l s; told = groups.told_first l s }
 
@@ -65,25 +66,25 @@ module _ (knows : KnownLaws) (groups : GroupLaws) where
       let m = (w.parties h).members i in
       let x = level_read l i m (slots (w.parties h)) in
       let rs = emission_of l (w.parties h) i in
-      let ut : AreTrueOf l.nodes (changes l) (w.emitted ++ rs) = true_append l.nodes (changes l) w.emitted rs v.truth (emission_true knows groups l s c w v h i a) in
+      let ut : AreTrueOf l.nodes (changes l) (w.emitted ++ rs) = family.true_append l.nodes (changes l) w.emitted rs v.truth (emission_true knows groups family l s c w v h i a) in
       let next : IsTold l i (member_after_quantum l i m x) (slots_of_records (w.emitted ++ rs)) =
       groups.told_stepped l s (slots (w.parties h)) g.truth i m a.node (g.each i a.node a.member) a.can w.emitted ut
       (subst (λ k. IsTold l i ((w.parties k).members i) (slots_of_records w.emitted)) own (t.told i a.node)) in
       record {
         firsts = λ j b. groups.told_more l j fresh w.emitted rs ut (t.firsts j b);
-        told = λ j b. put_at w.parties h (run_next l i (w.parties h)) (λ q. IsTold l j (q.members j) (slots_of_records (w.emitted ++ rs))) (c.group_of j)
-            (λ e. put_at (w.parties h).members i (member_after_quantum l i m x) (λ q. IsTold l j q (slots_of_records (w.emitted ++ rs))) j
+        told = λ j b. put_at family.parties w.parties h (run_next l i (w.parties h)) (λ q. IsTold l j (q.members j) (slots_of_records (w.emitted ++ rs))) (c.group_of j)
+            (λ e. put_at family.members (w.parties h).members i (member_after_quantum l i m x) (λ q. IsTold l j q (slots_of_records (w.emitted ++ rs))) j
             (λ e2. subst (λ k. IsTold l k (member_after_quantum l i m x) (slots_of_records (w.emitted ++ rs))) (sym e2) next)
             (λ n. groups.told_more l j ((w.parties h).members j) w.emitted rs ut (subst (λ k. IsTold l j ((w.parties k).members j) (slots_of_records w.emitted)) e (t.told j b))))
             (λ n. groups.told_more l j (member_of w (c.group_of j) j) w.emitted rs ut (t.told j b));
       }
-  event_told l s c w (Deliver h k) v t y = told_same l c w h (party_with (at_most_one (slice_get w.emitted k)) (w.parties h)) t (λ i. inl refl)
-  event_told l s c w (Join h k) v t y = told_same l c w h (party_with (w.parties k).taken (w.parties h)) t (λ i. inl refl)
-  event_told l s c w (Restart h) v t y = told_same l c w h (initial_party l (λ i. c.group_of i == h)) t (λ i. inr refl)
+  event_told l s c w (Deliver h k) v t y = told_same family l c w h (party_with (at_most_one (slice_get w.emitted k)) (w.parties h)) t (λ i. inl refl)
+  event_told l s c w (Join h k) v t y = told_same family l c w h (party_with (w.parties k).taken (w.parties h)) t (λ i. inl refl)
+  event_told l s c w (Restart h) v t y = told_same family l c w h (initial_party l (λ i. c.group_of i == h)) t (λ i. inr refl)
 
   pub run_told : (l : Line) → IsSound l → (c : Cast) (es : List Event) (w : Scene) → IsWorld l c w → IsToldWorld l c w → IsToldWorld l c (run l c es w)
   run_told l s c [] w v t = t
-  run_told l s c (e ∷ es) w v t = run_told l s c es (happens l c w e) (happens_holds knows groups l s c w e v) (elim (cases_Bool (possible l c w e)) [
+  run_told l s c (e ∷ es) w v t = run_told l s c es (happens l c w e) (happens_holds knows groups family l s c w e v) (elim (cases_Bool (possible l c w e)) [
     | inl y ↦ subst (IsToldWorld l c) (sym (cond-true (possible l c w e) (done l c w e) w y)) (event_told l s c w e v t y)
     | inr n ↦ subst (IsToldWorld l c) (sym (cond-false (possible l c w e) (done l c w e) w n)) t
   ])
@@ -126,5 +127,5 @@ module _ (knows : KnownLaws) (groups : GroupLaws) where
 
   pub no_stall : NoStall
   no_stall l s c gs es all =
-      some_can l s c (run l c es (start l c)) (world_holds knows groups l s c es)
-      (run_told l s c es (start l c) (start_holds knows groups l s c) (start_told l s c)) gs all
+      some_can l s c (run l c es (start l c)) (world_holds knows groups family l s c es)
+      (run_told l s c es (start l c) (start_holds knows groups family l s c) (start_told l s c)) gs all

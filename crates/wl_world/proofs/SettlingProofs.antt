@@ -13,11 +13,12 @@ use Rattle.wl_plan.specs.SimulationLaws.{SimulationLaws}
 use Rattle.wl_group.specs.Member.{next_tick, member_after_quantum, level_read}
 use Rattle.wl_group.specs.Party.{Party, slots, put, party_with}
 use Rattle.wl_group.specs.Advanced.{run_next, emission_of}
+use Rattle.wl_group.specs.PartyLaws.{PartyLaws}
 use Rattle.wl_world.specs.Scene.{Cast, Scene, possible, at_most_one, done, happens}
 use Rattle.wl_world.specs.Headline.{IsFaithful, AllAtEnd, member_of}
 use Rattle.wl_world.specs.Settling.{IsMove, left_below, quanta_left_in}
 use Rattle.std.proofs.lemmas.List.Elements.{Contains-append_right}
-use Rattle.wl_group.proofs.Callers.{put_at}
+use Rattle.wl_world.proofs.Puts.{put_at}
 use Rattle.wl_world.proofs.WorldProofs.{may_advance}
 
 -- where node i has run one quantum more and the others as many, one fewer is left
@@ -58,14 +59,14 @@ none_of_left l c w zero h = refl
 none_of_left l c w (suc m) h = (let r = none_of_left l c w m (λ i b. h i (omega arith)) in let q = h m (omega arith) in omega arith)
 
 -- a delivery changes no member
-delivered_size : (l : Line) (c : Cast) (w : Scene) (h k n : ℕ) → length (member_of (done l c w (Deliver h k)) (c.group_of n) n).saw ≡ length (member_of w (c.group_of n) n).saw
-delivered_size l c w h k n =
-    put_at w.parties h (party_with (at_most_one (slice_get w.emitted k)) (w.parties h)) (λ q. length (q.members n).saw ≡ length (member_of w (c.group_of n) n).saw) (c.group_of n)
+delivered_size : PartyLaws → (l : Line) (c : Cast) (w : Scene) (h k n : ℕ) → length (member_of (done l c w (Deliver h k)) (c.group_of n) n).saw ≡ length (member_of w (c.group_of n) n).saw
+delivered_size family l c w h k n =
+    put_at family.parties w.parties h (party_with (at_most_one (slice_get w.emitted k)) (w.parties h)) (λ q. length (q.members n).saw ≡ length (member_of w (c.group_of n) n).saw) (c.group_of n)
     (λ e. ap (λ g. length ((w.parties g).members n).saw) (sym e)) (λ o. refl)
 
-pub deliver_keeps : (l : Line) (c : Cast) (w : Scene) (h k : ℕ) → quanta_left_in l c (happens l c w (Deliver h k)) ≡ quanta_left_in l c w
-deliver_keeps l c w h k = elim (cases_Bool (possible l c w (Deliver h k))) [
-  | inl y ↦ ap (quanta_left_in l c) (cond-true (possible l c w (Deliver h k)) (done l c w (Deliver h k)) w y) ∙ left_same l c w (done l c w (Deliver h k)) (delivered_size l c w h k) l.nodes
+pub deliver_keeps : PartyLaws → (l : Line) (c : Cast) (w : Scene) (h k : ℕ) → quanta_left_in l c (happens l c w (Deliver h k)) ≡ quanta_left_in l c w
+deliver_keeps family l c w h k = elim (cases_Bool (possible l c w (Deliver h k))) [
+  | inl y ↦ ap (quanta_left_in l c) (cond-true (possible l c w (Deliver h k)) (done l c w (Deliver h k)) w y) ∙ left_same l c w (done l c w (Deliver h k)) (delivered_size family l c w h k) l.nodes
   | inr n ↦ ap (quanta_left_in l c) (cond-false (possible l c w (Deliver h k)) (done l c w (Deliver h k)) w n)
 ]
 
@@ -78,33 +79,33 @@ get_below [] k r h = cc
 get_below (q ∷ rs) zero r h = omega arith
 get_below (q ∷ rs) (suc k) r h = (let e = get_below rs k r h in omega arith)
 
-pub delivered : (l : Line) (c : Cast) (w : Scene) (h k : ℕ) (r : Record) → h < c.groups → slice_get w.emitted k ≡ Some r
+pub delivered : PartyLaws → (l : Line) (c : Cast) (w : Scene) (h k : ℕ) (r : Record) → h < c.groups → slice_get w.emitted k ≡ Some r
     → Contains ((happens l c w (Deliver h k)).parties h).taken r
-delivered l c w h k r b e =
+delivered family l c w h k r b e =
     let y : possible l c w (Deliver h k) ≡ true = and_from (nat_lt h c.groups) (nat_lt k (length w.emitted)) (lt-ltb h c.groups b) (lt-ltb k (length w.emitted) (get_below w.emitted k r e)) in
     subst (λ x. Contains (x.parties h).taken r) (sym (cond-true (possible l c w (Deliver h k)) (done l c w (Deliver h k)) w y))
-    (put_at w.parties h (party_with (at_most_one (slice_get w.emitted k)) (w.parties h)) (λ q. Contains q.taken r) h (λ e2. taken_there w h k r e) (λ n. absurd (n refl)))
+    (put_at family.parties w.parties h (party_with (at_most_one (slice_get w.emitted k)) (w.parties h)) (λ q. Contains q.taken r) h (λ e2. taken_there w h k r e) (λ n. absurd (n refl)))
 
 -- a group that took more has what it had
-kept : (w : Scene) (h g : ℕ) (p : Party) (rs : List Record) → p.taken ≡ rs ++ (w.parties h).taken → (r : Record) → Contains (w.parties g).taken r → Contains (put w.parties h p g).taken r
-kept w h g p rs same r t =
-    put_at w.parties h p (λ q. Contains q.taken r) g
+kept : PartyLaws → (w : Scene) (h g : ℕ) (p : Party) (rs : List Record) → p.taken ≡ rs ++ (w.parties h).taken → (r : Record) → Contains (w.parties g).taken r → Contains (put w.parties h p g).taken r
+kept family w h g p rs same r t =
+    put_at family.parties w.parties h p (λ q. Contains q.taken r) g
     (λ e. subst (λ xs. Contains xs r) (sym same) (Contains-append_right rs (w.parties h).taken r (subst (λ n. Contains (w.parties n).taken r) e t)))
     (λ n. t)
 
-done_keeps : (l : Line) (c : Cast) (w : Scene) (e : Event) → IsMove e → (g : ℕ) (r : Record) → Contains (w.parties g).taken r → Contains ((done l c w e).parties g).taken r
-done_keeps l c w (Advance h i) m g r t = kept w h g (run_next l i (w.parties h)) (emission_of l (w.parties h) i) refl r t
-done_keeps l c w (Deliver h k) m g r t = kept w h g (party_with (at_most_one (slice_get w.emitted k)) (w.parties h)) (at_most_one (slice_get w.emitted k)) refl r t
-done_keeps l c w (Join h k) m g r t = absurd m
-done_keeps l c w (Restart h) m g r t = absurd m
+done_keeps : PartyLaws → (l : Line) (c : Cast) (w : Scene) (e : Event) → IsMove e → (g : ℕ) (r : Record) → Contains (w.parties g).taken r → Contains ((done l c w e).parties g).taken r
+done_keeps family l c w (Advance h i) m g r t = kept family w h g (run_next l i (w.parties h)) (emission_of l (w.parties h) i) refl r t
+done_keeps family l c w (Deliver h k) m g r t = kept family w h g (party_with (at_most_one (slice_get w.emitted k)) (w.parties h)) (at_most_one (slice_get w.emitted k)) refl r t
+done_keeps family l c w (Join h k) m g r t = absurd m
+done_keeps family l c w (Restart h) m g r t = absurd m
 
-pub moves_keep : (l : Line) (c : Cast) (w : Scene) (e : Event) → IsMove e → (g : ℕ) (r : Record) → Contains (w.parties g).taken r → Contains ((happens l c w e).parties g).taken r
-moves_keep l c w e m g r t = elim (cases_Bool (possible l c w e)) [
-  | inl y ↦ subst (λ x. Contains (x.parties g).taken r) (sym (cond-true (possible l c w e) (done l c w e) w y)) (done_keeps l c w e m g r t)
+pub moves_keep : PartyLaws → (l : Line) (c : Cast) (w : Scene) (e : Event) → IsMove e → (g : ℕ) (r : Record) → Contains (w.parties g).taken r → Contains ((happens l c w e).parties g).taken r
+moves_keep family l c w e m g r t = elim (cases_Bool (possible l c w e)) [
+  | inl y ↦ subst (λ x. Contains (x.parties g).taken r) (sym (cond-true (possible l c w e) (done l c w e) w y)) (done_keeps family l c w e m g r t)
   | inr n ↦ subst (λ x. Contains (x.parties g).taken r) (sym (cond-false (possible l c w e) (done l c w e) w n)) t
 ]
 
-module _ (sims : SimulationLaws) where
+module _ (sims : SimulationLaws) (family : PartyLaws) where
   -- a node whose next quantum is below the end has one left
   has_left : (l : Line) → IsSound l → (i k : ℕ) → i < l.nodes → l.instant i k < l.stop → k < ran l i l.stop
   has_left l s i k b h = elim (cases_lt k (ran l i l.stop)) [
@@ -127,12 +128,12 @@ module _ (sims : SimulationLaws) where
       subst (λ g. length ((w.parties g).members i).saw < ran l i l.stop) (sym own) (has_left l s i (length m.saw) a.node early) in
       let longer : length n.saw ≡ suc (length m.saw) = length-append m.saw (level_read l i m (slots (w.parties h)) ∷ []) ∙ add-one (length m.saw) in
       left_after l c w (done l c w (Advance h i)) i
-      (put_at w.parties h (run_next l i (w.parties h)) (λ q. length (q.members i).saw ≡ suc (length (member_of w (c.group_of i) i).saw)) (c.group_of i)
-      (λ e. put_at (w.parties h).members i n (λ q. length q.saw ≡ suc (length (member_of w (c.group_of i) i).saw)) i
+      (put_at family.parties w.parties h (run_next l i (w.parties h)) (λ q. length (q.members i).saw ≡ suc (length (member_of w (c.group_of i) i).saw)) (c.group_of i)
+      (λ e. put_at family.members (w.parties h).members i n (λ q. length q.saw ≡ suc (length (member_of w (c.group_of i) i).saw)) i
       (λ e2. longer ∙ ap suc (ap (λ g. length ((w.parties g).members i).saw) (sym own))) (λ o. absurd (o refl)))
       (λ o. absurd (o own)))
-      (λ j ne. put_at w.parties h (run_next l i (w.parties h)) (λ q. length (q.members j).saw ≡ length (member_of w (c.group_of j) j).saw) (c.group_of j)
-      (λ e. put_at (w.parties h).members i n (λ q. length q.saw ≡ length (member_of w (c.group_of j) j).saw) j
+      (λ j ne. put_at family.parties w.parties h (run_next l i (w.parties h)) (λ q. length (q.members j).saw ≡ length (member_of w (c.group_of j) j).saw) (c.group_of j)
+      (λ e. put_at family.members (w.parties h).members i n (λ q. length q.saw ≡ length (member_of w (c.group_of j) j).saw) j
       (λ e2. absurd (ne e2)) (λ o. ap (λ g. length ((w.parties g).members j).saw) (sym e)))
       (λ o. refl))
       some l.nodes a.node

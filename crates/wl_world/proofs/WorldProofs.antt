@@ -17,10 +17,11 @@ use Rattle.wl_group.specs.Party.{Party, slots, put, initial_party, party_with}
 use Rattle.wl_group.specs.Advanced.{can_advance, run_next, emission_of}
 use Rattle.wl_group.specs.Holds.{IsGroup}
 use Rattle.wl_group.specs.GroupLaws.{GroupLaws}
+use Rattle.wl_group.specs.PartyLaws.{PartyLaws}
 use Rattle.wl_world.specs.Scene.{Cast, is_of_group, Scene, start, possible, at_most_one, done, happens, run}
 use Rattle.wl_world.specs.Headline.{IsFaithful, Grows, Headline}
 use Rattle.std.proofs.lemmas.List.Elements.{Contains-append_left, Contains-append_right, Contains-append_cases}
-use Rattle.wl_group.proofs.Callers.{put_at, true_append}
+use Rattle.wl_world.proofs.Puts.{put_at}
 use Rattle.wl_world.proofs.Lists.{true_member}
 
 -- What holds of a scene.
@@ -44,23 +45,23 @@ may_advance l c w h i y =
     record { group = ltb-true h c.groups p1.0; node = ltb-true i l.nodes p2.0; member = p3.0; can = p3.1 }
 
 -- a scene of which one party is written
-party_put : (l : Line) (c : Cast) (w : Scene) → IsWorld l c w → (h : ℕ) (p : Party) → (h < c.groups → IsGroup l (is_of_group c h) p.members (slots p))
+party_put : PartyLaws → (l : Line) (c : Cast) (w : Scene) → IsWorld l c w → (h : ℕ) (p : Party) → (h < c.groups → IsGroup l (is_of_group c h) p.members (slots p))
     → (k : ℕ) → k < c.groups → IsGroup l (is_of_group c k) (put w.parties h p k).members (slots (put w.parties h p k))
-party_put l c w v h p f k b =
-    put_at w.parties h p (λ q. IsGroup l (is_of_group c k) q.members (slots q)) k
+party_put family l c w v h p f k b =
+    put_at family.parties w.parties h p (λ q. IsGroup l (is_of_group c k) q.members (slots q)) k
     (λ e. subst (λ n. IsGroup l (is_of_group c n) p.members (slots p)) (sym e) (f (subst (λ n. n < c.groups) e b)))
     (λ n. v.groups k b)
 
 -- and what it told
-told_put : (l : Line) (c : Cast) (w : Scene) → IsWorld l c w → (h : ℕ) (p : Party) (more : List Record) → ((r : Record) → Contains p.emitted r → Contains (w.emitted ++ more) r)
+told_put : PartyLaws → (l : Line) (c : Cast) (w : Scene) → IsWorld l c w → (h : ℕ) (p : Party) (more : List Record) → ((r : Record) → Contains p.emitted r → Contains (w.emitted ++ more) r)
     → (k : ℕ) (r : Record) → Contains (put w.parties h p k).emitted r → Contains (w.emitted ++ more) r
-told_put l c w v h p more f k =
-    put_at w.parties h p (λ q. (r : Record) → Contains q.emitted r → Contains (w.emitted ++ more) r) k
+told_put family l c w v h p more f k =
+    put_at family.parties w.parties h p (λ q. (r : Record) → Contains q.emitted r → Contains (w.emitted ++ more) r) k
     (λ e. f) (λ n r t. Contains-append_left w.emitted more r (v.told k r t))
 
-told_kept : (l : Line) (c : Cast) (w : Scene) → IsWorld l c w → (h : ℕ) (p : Party) → ((r : Record) → Contains p.emitted r → Contains w.emitted r)
+told_kept : PartyLaws → (l : Line) (c : Cast) (w : Scene) → IsWorld l c w → (h : ℕ) (p : Party) → ((r : Record) → Contains p.emitted r → Contains w.emitted r)
     → (k : ℕ) (r : Record) → Contains (put w.parties h p k).emitted r → Contains w.emitted r
-told_kept l c w v h p f k = put_at w.parties h p (λ q. (r : Record) → Contains q.emitted r → Contains w.emitted r) k (λ e. f) (λ n. v.told k)
+told_kept family l c w v h p f k = put_at family.parties w.parties h p (λ q. (r : Record) → Contains q.emitted r → Contains w.emitted r) k (λ e. f) (λ n. v.told k)
 
 nothing_told : (es : List Record) (r : Record) → Contains [] r → Contains es r
 nothing_told es r h = absurd (let b = h.1 in omega arith)
@@ -85,7 +86,7 @@ run_grows l c (e ∷ es) w =
     let b = run_grows l c es (happens l c w e) in
     (a.0 ++ b.0, b.1 ∙ (ap (λ v. v ++ b.0) a.1 ∙ append_assoc w.emitted a.0 b.0))
 
-module _ (knows : KnownLaws) (groups : GroupLaws) where
+module _ (knows : KnownLaws) (groups : GroupLaws) (family : PartyLaws) where
   pub start_holds : (l : Line) → IsSound l → (c : Cast) → IsWorld l c (start l c)
   start_holds l s c = record {
     truth = groups.firsts_true l s (λ i. true);
@@ -103,19 +104,19 @@ module _ (knows : KnownLaws) (groups : GroupLaws) where
   event_holds l s c w (Advance h i) v y =
       let a = may_advance l c w h i y in
       record {
-        truth = true_append l.nodes (changes l) w.emitted _ v.truth (emission_true l s c w v h i a);
-        groups = party_put l c w v h (run_next l i (w.parties h)) (λ b. groups.running_holds l s (is_of_group c h) i (w.parties h) (v.groups h b) a.node a.member a.can);
-        told = told_put l c w v h (run_next l i (w.parties h)) (emission_of l (w.parties h) i) (λ r t. elim (Contains-append_cases (w.parties h).emitted (emission_of l (w.parties h) i) r t) [
+        truth = family.true_append l.nodes (changes l) w.emitted _ v.truth (emission_true l s c w v h i a);
+        groups = party_put family l c w v h (run_next l i (w.parties h)) (λ b. groups.running_holds l s (is_of_group c h) i (w.parties h) (v.groups h b) a.node a.member a.can);
+        told = told_put family l c w v h (run_next l i (w.parties h)) (emission_of l (w.parties h) i) (λ r t. elim (Contains-append_cases (w.parties h).emitted (emission_of l (w.parties h) i) r t) [
           | inl x ↦ Contains-append_left w.emitted (emission_of l (w.parties h) i) r (v.told h r x)
           | inr x ↦ Contains-append_right w.emitted (emission_of l (w.parties h) i) r x
         ]);
       }
   event_holds l s c w (Deliver h k) v y = record {
     truth = v.truth;
-    groups = party_put l c w v h (party_with (at_most_one (slice_get w.emitted k)) (w.parties h)) (λ b.
+    groups = party_put family l c w v h (party_with (at_most_one (slice_get w.emitted k)) (w.parties h)) (λ b.
         groups.taking_holds l s (is_of_group c h) (at_most_one (slice_get w.emitted k)) (w.parties h) (v.groups h b)
         (knows.true_records l.nodes (changes l) (at_most_one (slice_get w.emitted k)) (comes (slice_get w.emitted k) refl)));
-    told = told_kept l c w v h (party_with (at_most_one (slice_get w.emitted k)) (w.parties h)) (v.told h);
+    told = told_kept family l c w v h (party_with (at_most_one (slice_get w.emitted k)) (w.parties h)) (v.told h);
   }
     where
       comes : (o : Option Record) → slice_get w.emitted k ≡ o → AreTrueOf l.nodes (changes l) (at_most_one o)
@@ -125,14 +126,14 @@ module _ (knows : KnownLaws) (groups : GroupLaws) where
       let p = and_parts (nat_lt h c.groups) (nat_lt k c.groups) y in
       record {
         truth = v.truth;
-        groups = party_put l c w v h (party_with (w.parties k).taken (w.parties h))
+        groups = party_put family l c w v h (party_with (w.parties k).taken (w.parties h))
             (λ b. groups.taking_holds l s (is_of_group c h) (w.parties k).taken (w.parties h) (v.groups h b) (v.groups k (ltb-true k c.groups p.1)).truth);
-        told = told_kept l c w v h (party_with (w.parties k).taken (w.parties h)) (v.told h);
+        told = told_kept family l c w v h (party_with (w.parties k).taken (w.parties h)) (v.told h);
       }
   event_holds l s c w (Restart h) v y = record {
     truth = v.truth;
-    groups = party_put l c w v h (initial_party l (is_of_group c h)) (λ b. groups.begun_holds l s (is_of_group c h));
-    told = told_kept l c w v h (initial_party l (is_of_group c h)) (nothing_told w.emitted);
+    groups = party_put family l c w v h (initial_party l (is_of_group c h)) (λ b. groups.begun_holds l s (is_of_group c h));
+    told = told_kept family l c w v h (initial_party l (is_of_group c h)) (nothing_told w.emitted);
   }
 
   pub happens_holds : (l : Line) → IsSound l → (c : Cast) (w : Scene) (e : Event) → IsWorld l c w → IsWorld l c (happens l c w e)

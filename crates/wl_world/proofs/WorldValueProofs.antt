@@ -18,6 +18,7 @@ use Rattle.wl_group.specs.Member.{next_tick, can_run}
 use Rattle.wl_group.specs.Party.{Party, slots, put, initial_silences, initial_party, party_with}
 use Rattle.wl_group.specs.Advanced.{Reply, emitted, blocked, ended, can_advance, emission_of, reply_of, run_next, HasAdvanced}
 use Rattle.wl_group.specs.AdvanceLaws.{AdvanceLaws}
+use Rattle.wl_group.specs.PartyLaws.{PartyLaws}
 use Rattle.wl_group.specs.GroupValue.{GroupValue, IsGroupValue, Matches, names, may_run, belongs as has}
 use Rattle.wl_group.specs.ValueLaws.{ValueLaws}
 use Rattle.wl_world.specs.declared.events.Event.{Event}
@@ -28,7 +29,7 @@ use Rattle.wl_world.specs.Scene.{Cast, Scene, is_of_group, start, possible, at_m
 use Rattle.wl_world.specs.Headline.{Headline}
 use Rattle.wl_world.specs.Steps.{HasStepped}
 use Rattle.wl_world.specs.WorldValue.{WorldValue, world_value, cast_of, IsWorldAt, IsStaffed, IsWorldValue, IsFirstGroup, AreFirst}
-use Rattle.wl_group.proofs.Callers.{put_at}
+use Rattle.wl_world.proofs.Puts.{put_at}
 use Rattle.wl_world.proofs.Lists.{true_member}
 use Rattle.wl_world.proofs.RoundProofs.{run_append}
 
@@ -144,13 +145,13 @@ staffed_put v h old new es s b e p f m = record {
       (λ same. m ∙ (s.members h old e ∙ ap (is_of_group (cast_of v.numbers)) (sym same))) (λ q _. s.members j x q);
 }
 
-at_put : (v : WorldValue) (w : Scene) (h : ℕ) (new : GroupValue) (q : Party) (es more : List Record) → IsWorldAt w v → h < length v.groups → Matches q new → es ≡ more
+at_put : PartyLaws → (v : WorldValue) (w : Scene) (h : ℕ) (new : GroupValue) (q : Party) (es more : List Record) → IsWorldAt w v → h < length v.groups → Matches q new → es ≡ more
     → IsWorldAt (record { parties = put w.parties h q; emitted = more }) (with_group v h new es)
-at_put v w h new q es more at b m e = record {
+at_put family v w h new q es more at b m e = record {
   emitted = e;
   groups = λ j x r. set_cases v.groups h j new x (λ y. Matches (put w.parties h q j) y) b r
-      (λ same. put_at w.parties h q (λ p. Matches p new) j (λ _. m) (λ n. absurd (n same)))
-      (λ r' n. put_at w.parties h q (λ p. Matches p x) j (λ same. absurd (n same)) (λ _. at.groups j x r'));
+      (λ same. put_at family.parties w.parties h q (λ p. Matches p new) j (λ _. m) (λ n. absurd (n same)))
+      (λ r' n. put_at family.parties w.parties h q (λ p. Matches p x) j (λ same. absurd (n same)) (λ _. at.groups j x r'));
 }
 
 has_done : (l : Line) (c : Cast) (w : Scene) (e : Event) (new : WorldValue) → possible l c w e ≡ true → IsWorldAt (done l c w e) new → (Done ≡ answer l c w e) × IsWorldAt (happens l c w e) new
@@ -212,13 +213,13 @@ truth_of v h k old other i g f is =
 
 -- ---- the four steps
 
-pub delivers : (v : WorldValue) (h k : ℕ) (old new : GroupValue) (r : Record) → IsStaffed v → h < length v.groups → slice_get v.groups h ≡ Some old → slice_get v.emitted k ≡ Some r
+pub delivers : PartyLaws → (v : WorldValue) (h k : ℕ) (old new : GroupValue) (r : Record) → IsStaffed v → h < length v.groups → slice_get v.groups h ≡ Some old → slice_get v.emitted k ≡ Some r
     → ((p : Party) → Matches p old → Matches (party_with (r ∷ []) p) new)
     → HasStepped IsWorldAt (line_of v.plan) (cast_of v.numbers) (Deliver h k) v (with_group v h new v.emitted) Done
-delivers v h k old new r s b g t after w at =
+delivers family v h k old new r s b g t after w at =
     has_done (line_of v.plan) (cast_of v.numbers) w (Deliver h k) (with_group v h new v.emitted)
     (and_from (nat_lt h (groups_of v.numbers)) (nat_lt k (length w.emitted)) (is_group v h s b) (lt-ltb k (length w.emitted) (subst (λ xs. k < length xs) at.emitted (slice_get_within v.emitted k r t))))
-    (at_put v w h new (party_with (at_most_one (slice_get w.emitted k)) (w.parties h)) v.emitted w.emitted at b
+    (at_put family v w h new (party_with (at_most_one (slice_get w.emitted k)) (w.parties h)) v.emitted w.emitted at b
     (subst (λ o. Matches (party_with (at_most_one o) (w.parties h)) new) (sym (ap (λ xs. slice_get xs k) (sym at.emitted) ∙ t)) (after (w.parties h) (at.groups h old g)))
     at.emitted)
 
@@ -229,13 +230,13 @@ idle_delivery v h k s (inr b) w at =
     has_idled (line_of v.plan) (cast_of v.numbers) w (Deliver h k) v
     (right_false (nat_lt h (groups_of v.numbers)) (nat_lt k (length w.emitted)) (le-ltb k (length w.emitted) (subst (λ xs. length xs ≤ k) at.emitted b))) at
 
-pub joins : (v : WorldValue) (h k : ℕ) (old other new : GroupValue) → IsStaffed v → h < length v.groups → k < length v.groups → slice_get v.groups h ≡ Some old → slice_get v.groups k ≡ Some other
+pub joins : PartyLaws → (v : WorldValue) (h k : ℕ) (old other new : GroupValue) → IsStaffed v → h < length v.groups → k < length v.groups → slice_get v.groups h ≡ Some old → slice_get v.groups k ≡ Some other
     → ((p : Party) (rs : List Record) → Matches p old → other.replica ≡ state_of (length old.plan.nodes) rs → Matches (party_with rs p) new)
     → HasStepped IsWorldAt (line_of v.plan) (cast_of v.numbers) (Join h k) v (with_group v h new v.emitted) Done
-joins v h k old other new s b d g f after w at =
+joins family v h k old other new s b d g f after w at =
     has_done (line_of v.plan) (cast_of v.numbers) w (Join h k) (with_group v h new v.emitted)
     (and_from (nat_lt h (groups_of v.numbers)) (nat_lt k (groups_of v.numbers)) (is_group v h s b) (is_group v k s d))
-    (at_put v w h new (party_with (w.parties k).taken (w.parties h)) v.emitted w.emitted at b
+    (at_put family v w h new (party_with (w.parties k).taken (w.parties h)) v.emitted w.emitted at b
     (after (w.parties h) (w.parties k).taken (at.groups h old g)
     (subst (λ (p : Plan). other.replica ≡ state_of (length p.nodes) (w.parties k).taken) (s.plans k other f ∙ sym (s.plans h old g)) (at.groups k other f).replica))
     at.emitted)
@@ -246,11 +247,11 @@ idle_join v h k s (inl b) w at =
 idle_join v h k s (inr b) w at =
     has_idled (line_of v.plan) (cast_of v.numbers) w (Join h k) v (right_false (nat_lt h (groups_of v.numbers)) (nat_lt k (groups_of v.numbers)) (no_group v k s b)) at
 
-pub restarts : (v : WorldValue) (h : ℕ) (old new : GroupValue) → IsStaffed v → h < length v.groups → slice_get v.groups h ≡ Some old → Matches (initial_party (line_of old.plan) (has old)) new
+pub restarts : PartyLaws → (v : WorldValue) (h : ℕ) (old new : GroupValue) → IsStaffed v → h < length v.groups → slice_get v.groups h ≡ Some old → Matches (initial_party (line_of old.plan) (has old)) new
     → HasStepped IsWorldAt (line_of v.plan) (cast_of v.numbers) (Restart h) v (with_group v h new v.emitted) Done
-restarts v h old new s b g m w at =
+restarts family v h old new s b g m w at =
     has_done (line_of v.plan) (cast_of v.numbers) w (Restart h) (with_group v h new v.emitted) (is_group v h s b)
-    (at_put v w h new (initial_party (line_of v.plan) (is_of_group (cast_of v.numbers) h)) v.emitted w.emitted at b
+    (at_put family v w h new (initial_party (line_of v.plan) (is_of_group (cast_of v.numbers) h)) v.emitted w.emitted at b
     (subst (λ f. Matches (initial_party (line_of v.plan) f) new) (s.members h old g) (subst (λ (p : Plan). Matches (initial_party (line_of p) (has old)) new) (s.plans h old g) m))
     at.emitted)
 
@@ -278,14 +279,14 @@ is_node laws v h i s b m = elim (cases_lt i (length v.numbers)) [
   | inr outside ↦ absurd (false≢true (sym (laws.no_node v.numbers h i (let few = laws.few v.numbers s.grouping.1 in let there : h < groups_of v.numbers = subst (λ n. h < n) s.count b in omega arith) outside) ∙ m))
 ]
 
-pub advances : GroupingLaws → (v : WorldValue) (h i : ℕ) (old new : GroupValue) (rs : List Record) → IsStaffed v → h < length v.groups → slice_get v.groups h ≡ Some old
+pub advances : PartyLaws → GroupingLaws → (v : WorldValue) (h i : ℕ) (old new : GroupValue) (rs : List Record) → IsStaffed v → h < length v.groups → slice_get v.groups h ≡ Some old
     → HasAdvanced Matches (line_of old.plan) (has old) i old new (emitted rs)
     → HasStepped IsWorldAt (line_of v.plan) (cast_of v.numbers) (Advance h i) v (with_group v h new (v.emitted ++ rs)) Done
-advances laws v h i old new rs s b g ad w at =
+advances family laws v h i old new rs s b g ad w at =
     has_done l c w (Advance h i) (with_group v h new (v.emitted ++ rs))
     (and_from (nat_lt h c.groups) (nat_lt i l.nodes && can_advance l test p i) (is_group v h s b)
     (and_from (nat_lt i l.nodes) (can_advance l test p i) (lt-ltb i l.nodes (is_node laws v h i s b (and_parts (test i) (can_run l i (p.members i) (slots p)) parts.0).0)) parts.0))
-    (at_put v w h new (run_next l i p) (v.emitted ++ rs) (w.emitted ++ emission_of l p i) at b
+    (at_put family v w h new (run_next l i p) (v.emitted ++ rs) (w.emitted ++ emission_of l p i) at b
     (subst (λ q. Matches q new) (cond-true (can_advance l test p i) (run_next l i p) p parts.0) (so.after p (at.groups h old g)))
     (ap (λ xs. xs ++ rs) at.emitted ∙ ap (λ xs. w.emitted ++ xs) parts.1))
   where

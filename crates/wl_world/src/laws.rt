@@ -17,6 +17,7 @@ pub fn headline()
     wl_replica::slots_of_states();
     wl_replica::known_laws();
     wl_group::group_laws();
+    wl_group::party_laws();
 }
 
 /// Law: the headline of a world as its calls see it. What was emitted is true. Each group knows nothing but the truth, and below each
@@ -44,6 +45,7 @@ pub fn no_stall()
     wl_plan::simulation_laws();
     wl_plan::grouping_laws();
     wl_group::group_laws();
+    wl_group::party_laws();
     wl_group::value_laws();
 }
 
@@ -59,4 +61,5 @@ pub fn settling_laws()
     wl_plan::grouping_laws();
     wl_replica::known_laws();
     wl_group::group_laws();
+    wl_group::party_laws();
 }

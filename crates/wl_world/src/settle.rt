@@ -5,6 +5,7 @@ ghost use Rattle.wl_plan.specs.Checked.{CheckedIsSound};
 ghost use Rattle.wl_plan.specs.Groupings.{GroupingLaws};
 ghost use Rattle.wl_plan.specs.SimulationLaws.{SimulationLaws};
 ghost use Rattle.wl_group.specs.GroupLaws.{GroupLaws};
+ghost use Rattle.wl_group.specs.PartyLaws.{PartyLaws};
 ghost use Rattle.wl_group.specs.GroupValue.{belongs as has, has_ended};
 
 use crate::world::World;
@@ -31,12 +32,14 @@ fn laws_of_rounds()
     ensures grouping { GroupingLaws }
     ensures known { KnownLaws }
     ensures groups { GroupLaws }
+    ensures family { PartyLaws }
 {
     wl_plan::simulation_laws();
     wl_plan::checked_is_sound();
     wl_plan::grouping_laws();
     wl_replica::known_laws();
     wl_group::group_laws();
+    wl_group::party_laws();
 }
 
 impl World {
@@ -112,6 +115,7 @@ impl World {
         ensures plan { self.new.plan ≡ self.old.plan }
         ensures grouping { self.new.numbers ≡ self.old.numbers }
     {
+        wl_group::party_laws();
         let to = self.emitted.len() as u64;
         self.deliver_to_all(from, to)?;
         self.advance_all()?;
@@ -125,6 +129,7 @@ impl World {
         ensures plan { self.new.plan ≡ self.old.plan }
         ensures grouping { self.new.numbers ≡ self.old.numbers }
     {
+        wl_group::party_laws();
         for group in 0..self.grouping.groups() {
             self.deliver_to(group, from, to)?;
         }
@@ -139,6 +144,7 @@ impl World {
         ensures plan { self.new.plan ≡ self.old.plan }
         ensures grouping { self.new.numbers ≡ self.old.numbers }
     {
+        wl_group::party_laws();
         for number in from..to {
             self.deliver(group, number)?;
         }
@@ -152,6 +158,7 @@ impl World {
         ensures plan { self.new.plan ≡ self.old.plan }
         ensures grouping { self.new.numbers ≡ self.old.numbers }
     {
+        wl_group::party_laws();
         for group in 0..self.grouping.groups() {
             self.advance_group(group)?;
         }

@@ -84,6 +84,7 @@ impl World {
     {
         wl_plan::grouping_laws();
         wl_group::advance_laws();
+        wl_group::party_laws();
         if group as usize >= self.groups.len() {
             return Ok(Answer::Idle);
         }
@@ -108,6 +109,7 @@ impl World {
     {
         headline();
         wl_plan::checked_is_sound();
+        wl_group::party_laws();
         if group as usize >= self.groups.len() || number >= self.emitted.len() as u64 {
             return Ok(Answer::Idle);
         }
@@ -124,6 +126,7 @@ impl World {
         ensures plan { self.new.plan ≡ self.old.plan }
         ensures grouping { self.new.numbers ≡ self.old.numbers }
     {
+        wl_group::party_laws();
         if group as usize >= self.groups.len() || other as usize >= self.groups.len() {
             return Ok(Answer::Idle);
         }
@@ -142,6 +145,7 @@ impl World {
         ensures plan { self.new.plan ≡ self.old.plan }
         ensures grouping { self.new.numbers ≡ self.old.numbers }
     {
+        wl_group::party_laws();
         if group as usize >= self.groups.len() {
             return Ok(Answer::Idle);
         }

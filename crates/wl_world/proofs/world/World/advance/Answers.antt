@@ -33,7 +33,7 @@ invariant_of-self-in-Emitted c =
     (sym (c.append.ensures ∙ (ap (λ rs. rs ++ c.deref.result.now) c.in_ok-reserve.ensures.items ∙ ap (λ rs. c.self.inside.emitted.items ++ rs) c.deref.ensures.0)))
     (world_stepped (value a) c.args.group c.index_mut-runner.result.now c.advance.new.self (c.self.inside.emitted.items ++ c.in-Emitted.emission.items) (Advance c.args.group c.args.node) Done c.self.invariant
     (place a) (old_is a) c.advance.ensures.plan c.advance.ensures.lists c.advance.ensures.members
-    (advances c.grouping_laws.ensures (value a) c.args.group c.args.node c.index_mut-runner.result.now c.advance.new.self c.in-Emitted.emission.items c.self.invariant.staffed (place a) (old_is a) (did d)))
+    (advances c.party_laws.ensures c.grouping_laws.ensures (value a) c.args.group c.args.node c.index_mut-runner.result.now c.advance.new.self c.in-Emitted.emission.items c.self.invariant.staffed (place a) (old_is a) (did d)))
 
 pub returns-in-Emitted-clause-ok : goal.returns-in-Emitted-clause-ok
 returns-in-Emitted-clause-ok c =
@@ -44,7 +44,7 @@ returns-in-Emitted-clause-ok c =
     (subst (λ es. HasStepped IsWorldAt (line_of c.self.inside.plan) (cast_of c.self.inside.grouping) (Advance c.args.group c.args.node) (value a)
     (world_value c.self.inside.plan c.self.inside.grouping (slice_set c.self.inside.groups.items c.args.group c.advance.new.self) es) Done)
     (sym (c.append.ensures ∙ (ap (λ rs. rs ++ c.deref.result.now) c.in_ok-reserve.ensures.items ∙ ap (λ rs. c.self.inside.emitted.items ++ rs) c.deref.ensures.0)))
-    (advances c.grouping_laws.ensures (value a) c.args.group c.args.node c.index_mut-runner.result.now c.advance.new.self c.in-Emitted.emission.items c.self.invariant.staffed (place a) (old_is a) (did d)))
+    (advances c.party_laws.ensures c.grouping_laws.ensures (value a) c.args.group c.args.node c.index_mut-runner.result.now c.advance.new.self c.in-Emitted.emission.items c.self.invariant.staffed (place a) (old_is a) (did d)))
 
 pub returns-in-Blocked-clause-ok : goal.returns-in-Blocked-clause-ok
 returns-in-Blocked-clause-ok c =

@@ -28,7 +28,7 @@ loop-group-preserved c =
     record {
       same_plan = c.in_ok-advance_group.ensures.plan ∙ c.loop-group.invariant.same_plan;
       same_numbers = c.in_ok-advance_group.ensures.grouping ∙ c.loop-group.invariant.same_numbers;
-      exhausted = exhausted_all_more line cast c.loop-group.group c.args.self.now mid new c.loop-group.invariant.exhausted
+      exhausted = exhausted_all_more line cast c.party_laws.ensures c.loop-group.group c.args.self.now mid new c.loop-group.invariant.exhausted
           (set_on (λ l d. HasExhausted l d c.loop-group.group mid new) line (line_of mid.plan) cast (cast_of mid.numbers)
           (ap line_of c.loop-group.invariant.same_plan) (ap cast_of c.loop-group.invariant.same_numbers) c.in_ok-advance_group.ensures.stuck);
     }

@@ -28,7 +28,7 @@ returns-in_err-advance-clause-moved c =
 pub loop-node-smaller : goal.loop-node-smaller
 loop-node-smaller c =
     let laws = c.laws_of_rounds.ensures in
-    advance_fewer laws.simulation laws.sound laws.grouping laws.known laws.groups c.loop-node.self c.advance.new.self c.loop-node.invariant.holds
+    advance_fewer laws.simulation laws.sound laws.grouping laws.known laws.groups laws.family c.loop-node.self c.advance.new.self c.loop-node.invariant.holds
     (subst IsWorldValue c.self-in-Some.view_is c.self-in-Some.invariant) c.in_ok-advance.ensures.plan c.in_ok-advance.ensures.grouping c.args.group c.in-Some.node c.in_ok-advance.field-0
     c.in-Some.ensures.ready c.in_ok-advance.ensures.ok
 

@@ -33,11 +33,11 @@ invariant_of-self-2 c =
     let a = (goal.at.invariant_of-self-2 c).After-index_mut-taker in
     world_stepped (value a) c.args.group c.index_mut-taker.result.now c.take.new.self c.self.inside.emitted.items (Deliver c.args.group c.args.number) Done c.self.invariant (place a) (old_is a)
     (ap (λ (g : GroupValue). g.plan) c.in_ok-take.ensures.ok) (ap (λ (g : GroupValue). g.lists) c.in_ok-take.ensures.ok) (ap has c.in_ok-take.ensures.ok)
-    (delivers (value a) c.args.group c.args.number c.index_mut-taker.result.now c.take.new.self c.index-entry.result.now c.self.invariant.staffed (place a) (old_is a) (entry_is a) c.in_ok-take.ensures.after)
+    (delivers c.party_laws.ensures (value a) c.args.group c.args.number c.index_mut-taker.result.now c.take.new.self c.index-entry.result.now c.self.invariant.staffed (place a) (old_is a) (entry_is a) c.in_ok-take.ensures.after)
 
 pub returns-clause-ok : goal.returns-clause-ok
 returns-clause-ok c =
     let a = (goal.at.returns-clause-ok c).After-index_mut-taker in
     subst (λ (u : WorldValue). HasStepped IsWorldAt (line_of u.plan) (cast_of u.numbers) (Deliver c.args.group c.args.number) u
     (world_value c.self.inside.plan c.self.inside.grouping (slice_set c.self.inside.groups.items c.args.group c.take.new.self) c.self.inside.emitted.items) Done) c.self.view_is
-    (delivers (value a) c.args.group c.args.number c.index_mut-taker.result.now c.take.new.self c.index-entry.result.now c.self.invariant.staffed (place a) (old_is a) (entry_is a) c.in_ok-take.ensures.after)
+    (delivers c.party_laws.ensures (value a) c.args.group c.args.number c.index_mut-taker.result.now c.take.new.self c.index-entry.result.now c.self.invariant.staffed (place a) (old_is a) (entry_is a) c.in_ok-take.ensures.after)

@@ -25,7 +25,7 @@ loop-number-preserved c =
     record {
       same_plan = c.in_ok-deliver.ensures.plan ∙ c.loop-number.invariant.same_plan;
       same_numbers = c.in_ok-deliver.ensures.grouping ∙ c.loop-number.invariant.same_numbers;
-      handed = handed_more line cast c.args.group c.args.from c.loop-number.number c.args.self.now old new answer c.requires c.loop-number.invariant.handed
+      handed = handed_more line cast c.party_laws.ensures c.args.group c.args.from c.loop-number.number c.args.self.now old new answer c.requires c.loop-number.invariant.handed
           (stepped_on IsWorldAt line (line_of old.plan) cast (cast_of old.numbers) (Deliver c.args.group c.loop-number.number) old new answer
           (ap line_of c.loop-number.invariant.same_plan) (ap cast_of c.loop-number.invariant.same_numbers) c.in_ok-deliver.ensures.ok);
     }

@@ -44,10 +44,10 @@ fewer c =
     let cast = cast_of c.args.self.now.numbers in
     let mid = c.loop-self.self in
     let new = c.round.new.self in
-    round_fewer laws.simulation laws.sound laws.grouping laws.known laws.groups c.args.self.now mid new c.loop-self.rounds c.loop-self.known c.in_ok-known.known
+    round_fewer laws.simulation laws.sound laws.grouping laws.known laws.groups laws.family c.args.self.now mid new c.loop-self.rounds c.loop-self.known c.in_ok-known.known
     (subst IsWorldValue c.self.view_is c.self.invariant) made.holds (subst IsWorldValue c.self-in-loop-self.view_is c.self-in-loop-self.invariant) made.same_plan made.same_numbers
     (c.in_ok-known.ensures.plan ∙ made.same_plan) (c.in_ok-known.ensures.grouping ∙ made.same_numbers) made.made
-    (unended_on laws.simulation laws.sound laws.grouping laws.known laws.groups line cast mid (ap line_of made.same_plan) (ap cast_of made.same_numbers) made.holds.staffed
+    (unended_on laws.simulation laws.sound laws.grouping laws.known laws.groups laws.family line cast mid (ap line_of made.same_plan) (ap cast_of made.same_numbers) made.holds.staffed
     (λ e. false≢true (c.loop-self-test.ensures.1 e)))
     (set_on (λ l d. HasRounded l d c.loop-self.known c.in_ok-known.known mid new) line (line_of mid.plan) cast (cast_of mid.numbers) (ap line_of made.same_plan) (ap cast_of made.same_numbers)
     c.in_ok-known.ensures.rounded)
@@ -77,7 +77,7 @@ loop-self-preserved c =
       same_numbers = c.in_ok-known.ensures.grouping ∙ made.same_numbers;
       holds = subst IsWorldValue c.self-in-loop-self.view_is c.self-in-loop-self.invariant;
       made = made_more line cast c.loop-self.rounds c.loop-self.known c.in_ok-known.known c.args.self.now mid new made.made
-          (unended_on laws.simulation laws.sound laws.grouping laws.known laws.groups line cast mid (ap line_of made.same_plan) (ap cast_of made.same_numbers) made.holds.staffed
+          (unended_on laws.simulation laws.sound laws.grouping laws.known laws.groups laws.family line cast mid (ap line_of made.same_plan) (ap cast_of made.same_numbers) made.holds.staffed
           (λ e. false≢true (c.loop-self-test.ensures.1 e)))
           (set_on (λ l d. HasRounded l d c.loop-self.known c.in_ok-known.known mid new) line (line_of mid.plan) cast (cast_of mid.numbers) (ap line_of made.same_plan)
           (ap cast_of made.same_numbers) c.in_ok-known.ensures.rounded);
@@ -93,6 +93,6 @@ returns-clause-settled c = λ before h.
     let mid = c.loop-self.self in
     let made = c.loop-self.invariant in
     let s = made_ended line cast c.loop-self.rounds c.loop-self.known c.args.self.now mid made.made
-    (ended_on laws.simulation laws.sound laws.grouping laws.known laws.groups line cast mid (ap line_of made.same_plan) (ap cast_of made.same_numbers) made.holds.staffed (c.loop-self-test.ensures.0 refl))
+    (ended_on laws.simulation laws.sound laws.grouping laws.known laws.groups laws.family line cast mid (ap line_of made.same_plan) (ap cast_of made.same_numbers) made.holds.staffed (c.loop-self-test.ensures.0 refl))
     (run line cast before (start line cast)) h in
     (s.0, s.1, at_start IsWorldAt line cast before s.0 mid s.2)

@@ -42,7 +42,7 @@ invariant_of-self-2 c =
     let a = (goal.at.invariant_of-self-2 c).After-index_mut-taker in
     world_stepped (value a) c.args.group c.index_mut-taker.result.now c.join.new.self c.self.inside.emitted.items (Join c.args.group c.args.other) Done c.self.invariant (place a) (old_is a)
     (ap (λ (g : GroupValue). g.plan) c.in_ok-join.ensures.ok) (ap (λ (g : GroupValue). g.lists) c.in_ok-join.ensures.ok) (ap has c.in_ok-join.ensures.ok)
-    (joins (value a) c.args.group c.args.other c.index_mut-taker.result.now c.index-giver.result.now c.join.new.self c.self.invariant.staffed (place a) (other_place a) (old_is a) (other_is a)
+    (joins c.party_laws.ensures (value a) c.args.group c.args.other c.index_mut-taker.result.now c.index-giver.result.now c.join.new.self c.self.invariant.staffed (place a) (other_place a) (old_is a) (other_is a)
     (λ p rs m e. c.in_ok-join.ensures.after p rs m (given_is a ∙ e)))
 
 pub returns-clause-ok : goal.returns-clause-ok
@@ -50,5 +50,5 @@ returns-clause-ok c =
     let a = (goal.at.returns-clause-ok c).After-index_mut-taker in
     subst (λ (u : WorldValue). HasStepped IsWorldAt (line_of u.plan) (cast_of u.numbers) (Join c.args.group c.args.other) u
     (world_value c.self.inside.plan c.self.inside.grouping (slice_set c.self.inside.groups.items c.args.group c.join.new.self) c.self.inside.emitted.items) Done) c.self.view_is
-    (joins (value a) c.args.group c.args.other c.index_mut-taker.result.now c.index-giver.result.now c.join.new.self c.self.invariant.staffed (place a) (other_place a) (old_is a) (other_is a)
+    (joins c.party_laws.ensures (value a) c.args.group c.args.other c.index_mut-taker.result.now c.index-giver.result.now c.join.new.self c.self.invariant.staffed (place a) (other_place a) (old_is a) (other_is a)
     (λ p rs m e. c.in_ok-join.ensures.after p rs m (given_is a ∙ e)))

@@ -24,11 +24,11 @@ invariant_of-self-2 c =
     let a = (goal.at.invariant_of-self-2 c).After-index_mut-again in
     world_stepped (value a) c.args.group c.index_mut-again.result.now c.restart.new.self c.self.inside.emitted.items (Restart c.args.group) Done c.self.invariant (place a) (old_is a)
     (ap (λ (g : GroupValue). g.plan) c.in_ok-restart.ensures.ok) c.restart.ensures.lists c.restart.ensures.members
-    (restarts (value a) c.args.group c.index_mut-again.result.now c.restart.new.self c.self.invariant.staffed (place a) (old_is a) c.in_ok-restart.ensures.begun)
+    (restarts c.party_laws.ensures (value a) c.args.group c.index_mut-again.result.now c.restart.new.self c.self.invariant.staffed (place a) (old_is a) c.in_ok-restart.ensures.begun)
 
 pub returns-clause-ok : goal.returns-clause-ok
 returns-clause-ok c =
     let a = (goal.at.returns-clause-ok c).After-index_mut-again in
     subst (λ (u : WorldValue). HasStepped IsWorldAt (line_of u.plan) (cast_of u.numbers) (Restart c.args.group) u
     (world_value c.self.inside.plan c.self.inside.grouping (slice_set c.self.inside.groups.items c.args.group c.restart.new.self) c.self.inside.emitted.items) Done) c.self.view_is
-    (restarts (value a) c.args.group c.index_mut-again.result.now c.restart.new.self c.self.invariant.staffed (place a) (old_is a) c.in_ok-restart.ensures.begun)
+    (restarts c.party_laws.ensures (value a) c.args.group c.index_mut-again.result.now c.restart.new.self c.self.invariant.staffed (place a) (old_is a) c.in_ok-restart.ensures.begun)

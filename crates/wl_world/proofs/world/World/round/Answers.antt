@@ -26,7 +26,7 @@ returns-clause-rounded c =
     let mid = c.deliver_to_all.new.self in
     let new = c.advance_all.new.self in
     let count : c.len-to.result ≡ length c.self.inside.emitted.items = omega arith in
-    rounded line cast c.args.from c.len-to.result c.args.self.now mid new (count ∙ ap (λ (u : WorldValue). length u.emitted) c.self.view_is) c.in_ok-deliver_to_all.ensures.handed
+    rounded line cast c.party_laws.ensures c.args.from c.len-to.result c.args.self.now mid new (count ∙ ap (λ (u : WorldValue). length u.emitted) c.self.view_is) c.in_ok-deliver_to_all.ensures.handed
     (subst (λ n. HasExhaustedAll line cast n mid new) (ap groups_of c.in_ok-deliver_to_all.ensures.grouping)
     (set_on (λ l d. HasExhaustedAll l d (groups_of mid.numbers) mid new) line (line_of mid.plan) cast (cast_of mid.numbers)
     (ap line_of c.in_ok-deliver_to_all.ensures.plan) (ap cast_of c.in_ok-deliver_to_all.ensures.grouping) c.in_ok-advance_all.ensures.stuck))
