@@ -116,29 +116,30 @@ fn copied(mut words: Vec<u64>, closed: &Closed<(), Global>, count: usize) -> Vec
 }
 
 impl<T: Truth, J: Cell> Board<T, J> {
-    ghost use Rattle.std.specs.Prelude.{◌≡◌, ℕ, List, ◌<◌, ◌≤◌, ◌+◌, ◌++◌, [], None, Some, IfOk, All, length, vec_len, vec_capacity};
+    ghost use Rattle.std.specs.Prelude.{◌≡◌, ℕ, List, ◌<◌, ◌≤◌, ◌+◌, ◌^◌, ◌++◌, [], None, Some, IfOk, length, vec_len, vec_capacity};
     ghost use Rattle.wl_hub.specs.Rule.{kind, greatest_seen, joined, newcomer, both, fresh, Learns, AllTrue, Closes};
 
-    /// Returns a table of these words, all 0, for a name.
+    /// Returns a table whose words are all 0, for a name.
     pub fn open(
         alloc: Global,
         name: &T,
         shape: &Vec<(u32, u32)>,
-        zeros: &[u64],
+        words: usize,
     ) -> Result<(Board<T, J>, Part<T>), AllocError>
-        requires some { 0 < length zeros.now }
-        requires zeros { All (λ w. w ≡ 0) zeros.now }
+        requires some { 0 < words }
         ensures part { IfOk result
             (λ r. (r.1.seat.table_id ≡ r.0.table.shared.table_id) × (r.1.seat.me.0 ≡ fresh name.now shape.now.items)) }
-        ensures key { IfOk result (λ r. (r.0.table.shared.key.words ≡ length zeros.now)
-            × (r.0.table.shared.key.shape.value.items ≡ shape.now.items)) }
+        ensures key { IfOk result
+            (λ r. (r.0.table.shared.key.words ≡ words) × (r.0.table.shared.key.shape.value.items ≡ shape.now.items)) }
+        ensures small { IfOk result (λ r. words < 2 ^ 63) }
     {
+        let zeros = vec![in alloc; 0u64; words]?;
         let about = About {
             name: Snapshot::of(name),
             shape: Snapshot::of(shape),
-            words: zeros.len(),
+            words,
         };
-        let (table, seat) = Table::of_words(alloc, zeros, &about)?;
+        let (table, seat) = Table::of_words(alloc, zeros.as_slice(), &about)?;
         Ok((Board { table }, Part { seat }))
     }
 

@@ -6,7 +6,6 @@ ghost use Rattle.wl_hub.specs.Words.{edge_widths, silence_widths};
 use crate::board::{Board, Part};
 use crate::place::{Firsts, edge_firsts, silence_firsts, totals, words_of};
 use crate::truth::Truth;
-use crate::zeros::{made_zeros, zeros_of};
 use std::alloc::{AllocError, Global};
 use wl_lattice::{FlatWord, MaxWord};
 use wl_record_core::{Record, Slot};
@@ -86,13 +85,8 @@ impl<T: Truth> Hub<T> {
         let (edge_count, silence_count) = totals(shape);
         let (edge_firsts, silence_firsts) = (edge_firsts(shape), silence_firsts(shape));
         let shape = Vec::from_slice(alloc, shape)?;
-        let (edge_words, silence_words) = (edge_count.max(1), silence_count.max(1));
-        // Each table takes a copy of as many as it needs.
-        let most = edge_words.max(silence_words);
-        let made = made_zeros(alloc, most)?;
-        let zeros = zeros_of(&made, most);
-        let (edges, edge_part) = Board::open(alloc, name, &shape, &zeros[..edge_words])?;
-        let (silences, silence_part) = Board::open(alloc, name, &shape, &zeros[..silence_words])?;
+        let (edges, edge_part) = Board::open(alloc, name, &shape, edge_count.max(1))?;
+        let (silences, silence_part) = Board::open(alloc, name, &shape, silence_count.max(1))?;
         let hub = Hub {
             edges,
             silences,

@@ -12,7 +12,6 @@ mod place;
 mod tests;
 mod truth;
 mod view;
-mod zeros;
 
 pub use hub::{Hub, Pass};
 pub use laws::words_tell_records;
