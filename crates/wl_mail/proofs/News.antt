@@ -17,9 +17,13 @@ use Rattle.wl_replica.specs.State.{State, state_of, state_with_record, edge_at, 
 use Rattle.wl_replica.specs.SlotsOf.{SlotsOfStates}
 use Rattle.wl_replica.specs.Laws.{TakingIsJoining, JoinsSlotBySlot}
 use Rattle.wl_mail.specs.Handed.{IsNews}
-use Rattle.wl_group.proofs.Callers.{with_nothing}
 
 -- ---- the words of a slot with one record more
+
+with_nothing : (word : FlatWord) → joined_flat word flat.Nothing ≡ word
+with_nothing flat.Nothing = refl
+with_nothing (flat.Value n) = refl
+with_nothing flat.Clash = refl
 
 edge_more : SlotsOfStates → (s : State) (r : Record) (i n : ℕ) → edge_at (state_with_record s r) (i, n) ≡ joined_flat (edge_at s (i, n)) (edge_in r i n)
 edge_more laws s r i n = ap (λ w. w.edge i n) (laws.one_more s r)

@@ -1,10 +1,10 @@
 //! A letter: a plan and records that are true of it.
-ghost use Rattle.std.specs.Prelude.{◌≡◌, ◌≢◌, ◌↔◌, ℕ, Err, IfErr, IfOk, OnOk, take, true};
+ghost use Rattle.std.specs.Prelude.{◌≡◌, ◌≢◌, ◌↔◌, ℕ, Err, IfOk, OnOk, take, true};
 ghost use Rattle.std.specs.Arc.{arc_value};
 ghost use Rattle.wl_group.specs.GroupValue.{with_records};
 ghost use Rattle.wl_mail.specs.Truth.{AreTrueOfPlan, are_true_of_plan};
 ghost use Rattle.wl_mail.specs.Handed.{Took, TellsNews};
-ghost use Rattle.wl_mail.specs.declared.fault.MailFault.TheVariants.{Foreign, Gone, Memory};
+ghost use Rattle.wl_mail.specs.declared.fault.MailFault.TheVariants.{Foreign, Gone};
 
 use crate::fault::MailFault;
 use crate::hand_over::take_all;
@@ -72,25 +72,11 @@ impl Letter {
         ensures untouched { result ≡ Err Foreign → group.new ≡ group.old }
         ensures there { result ≢ Err Gone }
     {
-        wl_replica::joining_is_a_join();
-        if *self.plan == **group.plan() {
-            return self.hand_to_own(group);
-        }
-        Err(MailFault::Foreign)
-    }
-
-    /// Lets a group of the letter's plan take the records, and returns whether that changed what the group knows. If memory is refused the
-    /// group keeps the records that it took before.
-    pub(crate) fn hand_to_own(&self, group: &mut Group) -> Result<bool, MailFault>
-        requires { arc_value self.now.plan ≡ group.old.plan }
-        ensures all { OnOk result (group.new ≡ with_records (arc_value self.now.records).items group.old) }
-        ensures first { (k : ℕ) × (group.new ≡ with_records (take k (arc_value self.now.records).items) group.old) }
-        ensures took { Took group.old group.new }
-        ensures changed { IfOk result (λ b. TellsNews group.old group.new b) }
-        ensures cause { IfErr result (λ fault. fault ≡ Memory) }
-    {
         wl_plan::test_of_truth();
         wl_replica::joining_is_a_join();
-        Ok(take_all(group, self.records.as_slice())?)
+        if *self.plan == **group.plan() {
+            return Ok(take_all(group, self.records.as_slice())?);
+        }
+        Err(MailFault::Foreign)
     }
 }

@@ -5,13 +5,10 @@ mod fault;
 mod hand_over;
 mod laws;
 mod letter;
-mod plans;
 mod post;
-mod sealed;
 mod senders;
 
 pub use fault::MailFault;
 pub use laws::taking_laws;
 pub use letter::Letter;
-pub use plans::{AnyPlan, KnownPlan};
-pub use post::{Hold, Post, posts, posts_of};
+pub use post::{Hold, Post, posts};

@@ -1,17 +1,14 @@
 //! Posts: the ends of the channels between workers.
-ghost use Rattle.std.specs.Prelude.{◌≡◌, ◌≢◌, ◌⊎◌, ℕ, suc, ◌-◌, ◌<◌, Err, All, IfOk, IsTrue, OnOk, OnErr, Some, map, vec_len, length};
+ghost use Rattle.std.specs.Prelude.{◌≡◌, ◌≢◌, ◌⊎◌, ℕ, suc, ◌-◌, ◌<◌, Err, All, IfOk, OnOk, OnErr, map, vec_len, length};
 ghost use Rattle.std.specs.Arc.{arc_value};
 ghost use Rattle.wl_mail.specs.Truth.{AreTrueOfPlan};
 ghost use Rattle.wl_mail.specs.Handed.{Took, TellsNews};
-ghost use Rattle.wl_mail.specs.Plans.{MayBe};
 ghost use Rattle.wl_mail.specs.Posts.{initial_post, with_sent, rewound, KeepsLetters, HandedOut};
 ghost use Rattle.wl_mail.specs.Senders.{one_letter_more, one_letter_more_to};
 ghost use Rattle.wl_mail.specs.declared.fault.MailFault.TheVariants.{Foreign, Gone, Memory};
 
 use crate::fault::MailFault;
 use crate::letter::Letter;
-use crate::plans::{AnyPlan, KnownPlan};
-use crate::sealed::Sealed;
 use crate::senders::{Senders, senders_of};
 use crossbeam_channel::{Receiver, unbounded};
 use std::alloc::{AllocError, Global};
@@ -26,14 +23,14 @@ use wl_record_core::Record;
 /// Contracts see how many letters went to each of the other workers, and the letters that it received. They also see how many of these it
 /// has handed out since it began or was last rewound.
 #[derive(Drop)]
-pub struct Post<B: KnownPlan = AnyPlan> {
-    senders: Senders<B>,
-    from: Receiver<Sealed<B>>,
-    kept: Vec<Sealed<B>>,
+pub struct Post {
+    senders: Senders,
+    from: Receiver<Letter>,
+    kept: Vec<Letter>,
     handed: usize,
 }
 
-impl<B: KnownPlan> Model for Post<B> {
+impl Model for Post {
     ghost use Rattle.std.specs.Prelude.{◌≤◌, length};
     ghost use Rattle.wl_mail.specs.Posts.{PostValue};
 
@@ -46,11 +43,11 @@ impl<B: KnownPlan> Model for Post<B> {
 
 /// Keeps the receivers of all posts alive, so that no letter is refused because its reader has ended.
 #[derive(Drop)]
-pub struct Hold<B: KnownPlan = AnyPlan> {
-    receivers: Vec<Receiver<Sealed<B>>>,
+pub struct Hold {
+    receivers: Vec<Receiver<Letter>>,
 }
 
-impl<B: KnownPlan> Post<B> {
+impl Post {
     /// Sends a letter of these records, which are true of the plan, to every other worker. `Gone` if a receiver was given up, which a
     /// `Hold` keeps from coming. A refused `send` may have reached some workers, the first ones.
     pub fn send<R: Wait>(
@@ -60,8 +57,7 @@ impl<B: KnownPlan> Post<B> {
         plan: &Plan,
         records: &[Record],
     ) -> Result<(), MailFault>
-        requires truth { AreTrueOfPlan plan.now records.now }
-        requires plan { MayBe B.only plan.now }
+        requires { AreTrueOfPlan plan.now records.now }
         ensures all { OnOk result (self.new ≡ with_sent (map one_letter_more self.old.sent) self.old) }
         ensures some { (k : ℕ) × (self.new ≡ with_sent (one_letter_more_to k self.old.sent) self.old) }
         ensures cause { result ≢ Err Foreign }
@@ -78,8 +74,7 @@ impl<B: KnownPlan> Post<B> {
         plan: &Arc<Plan>,
         records: &[Record],
     ) -> Result<(), MailFault>
-        requires truth { AreTrueOfPlan (arc_value plan.now) records.now }
-        requires plan { MayBe B.only (arc_value plan.now) }
+        requires { AreTrueOfPlan (arc_value plan.now) records.now }
         ensures all { OnOk result (self.new ≡ with_sent (map one_letter_more self.old.sent) self.old) }
         ensures some { (k : ℕ) × (self.new ≡ with_sent (one_letter_more_to k self.old.sent) self.old) }
         ensures cause { result ≢ Err Foreign }
@@ -97,30 +92,9 @@ impl<B: KnownPlan> Post<B> {
     pub fn receive<R: Wait>(
         &mut self,
         rt: &R,
-        alloc: Global,
-        group: &mut Group,
-    ) -> Result<bool, MailFault>
-        ensures kept { KeepsLetters self.old self.new }
-        ensures handed { OnOk result (HandedOut self.old self.new group.old group.new) }
-        ensures took { Took group.old group.new }
-        ensures changed { IfOk result (λ b. TellsNews group.old group.new b) }
-        ensures untouched { (result ≡ Err Foreign) ⊎ (result ≡ Err Gone) → group.new ≡ group.old }
-        ensures foreign { result ≡ Err Foreign → self.new.handed ≡ suc self.old.handed }
-        ensures gone { result ≡ Err Gone → self.new ≡ self.old × (self.old.handed ≡ length self.old.kept) }
-        ensures memory { result ≡ Err Memory → self.new.handed ≡ self.old.handed }
-    {
-        self.receive_of(rt, alloc, group, false)
-    }
-
-    /// Does what `receive` does. If it is sure that all letters are of the group's plan, as their type says, the plans aren't compared.
-    pub fn receive_of<R: Wait>(
-        &mut self,
-        rt: &R,
         _alloc: Global,
         group: &mut Group,
-        is_sure: bool,
     ) -> Result<bool, MailFault>
-        requires sure { IsTrue is_sure → B.only ≡ Some group.old.plan }
         ensures kept { KeepsLetters self.old self.new }
         ensures handed { OnOk result (HandedOut self.old self.new group.old group.new) }
         ensures took { Took group.old group.new }
@@ -132,7 +106,7 @@ impl<B: KnownPlan> Post<B> {
     {
         wl_replica::joining_is_a_join();
         self.await_next(rt)?;
-        match self.kept[self.handed].hand_to(group, is_sure) {
+        match self.kept[self.handed].hand_to(group) {
             Ok(news) => {
                 self.handed += 1;
                 Ok(news)
@@ -192,17 +166,6 @@ impl<B: KnownPlan> Post<B> {
 /// Returns a post for each of this many workers, over one channel of any length each, and a hold on all receivers. Refused only when out of
 /// memory.
 pub fn posts(alloc: Global, workers: u8) -> Result<(Vec<Post>, Hold), AllocError>
-    ensures count { IfOk result (λ r. vec_len r.0 ≡ workers) }
-    ensures others { IfOk result (λ r. All (λ post. post ≡ initial_post (workers - 1)) r.0.items) }
-{
-    posts_of::<AnyPlan>(alloc, workers)
-}
-
-/// Returns what `posts` returns, for letters of the plan that a type says.
-pub fn posts_of<B: KnownPlan>(
-    alloc: Global,
-    workers: u8,
-) -> Result<(Vec<Post<B>>, Hold<B>), AllocError>
     ensures count { IfOk result (λ r. vec_len r.0 ≡ workers) }
     ensures others { IfOk result (λ r. All (λ post. post ≡ initial_post (workers - 1)) r.0.items) }
 {

@@ -1,14 +1,10 @@
 //! The senders of a worker: one to each other worker.
 ghost use Rattle.std.specs.Prelude.{◌≡◌, ◌≢◌, ℕ, ◌-◌, ◌<◌, Err, IfOk, MatchBool, OnOk, OnErr, map, replicate, length};
-ghost use Rattle.std.specs.Arc.{arc_value};
-ghost use Rattle.wl_mail.specs.Plans.{MayBe};
 ghost use Rattle.wl_mail.specs.Senders.{one_letter_more, one_letter_more_to};
 ghost use Rattle.wl_mail.specs.declared.fault.MailFault.TheVariants.{Foreign, Gone, Memory};
 
 use crate::fault::MailFault;
 use crate::letter::Letter;
-use crate::plans::KnownPlan;
-use crate::sealed::Sealed;
 use crossbeam_channel::Sender;
 use std::alloc::{AllocError, Global};
 use std::marker::Model;
@@ -16,19 +12,19 @@ use std::sync::Wait;
 
 /// A sender to another worker, which counts its letters.
 #[derive(Drop)]
-struct CountedSender<B: KnownPlan> {
-    to: Sender<Sealed<B>>,
+struct CountedSender {
+    to: Sender<Letter>,
     // How many letters it sent; at 2^64 - 1 it stays.
     letters: u64,
 }
 
 /// The senders to all other workers. Contracts see how many letters each sent.
 #[derive(Drop)]
-pub(crate) struct Senders<B: KnownPlan> {
-    all: Vec<CountedSender<B>>,
+pub(crate) struct Senders {
+    all: Vec<CountedSender>,
 }
 
-impl<B: KnownPlan> Model for Senders<B> {
+impl Model for Senders {
     ghost use Rattle.std.specs.Prelude.{List, ℕ, map};
 
     ghost Value = { List ℕ };
@@ -47,9 +43,9 @@ fn fault_of(is_out_of_memory: bool) -> MailFault
     }
 }
 
-impl<B: KnownPlan> CountedSender<B> {
+impl CountedSender {
     /// Sends a letter.
-    fn send<R: Wait>(&mut self, rt: &R, letter: Sealed<B>) -> Result<(), MailFault>
+    fn send<R: Wait>(&mut self, rt: &R, letter: Letter) -> Result<(), MailFault>
         ensures ok { OnOk result (self.new.letters ≡ one_letter_more self.old.letters) }
         ensures err { OnErr result (self.new.letters ≡ self.old.letters) }
         ensures cause { result ≢ Err Foreign }
@@ -62,28 +58,27 @@ impl<B: KnownPlan> CountedSender<B> {
     }
 }
 
-impl<B: KnownPlan> Senders<B> {
+impl Senders {
     /// Sends a letter by each sender. Refused, it may have gone by the first ones.
     pub(crate) fn send<R: Wait>(&mut self, rt: &R, letter: &Letter) -> Result<(), MailFault>
-        requires { MayBe B.only (arc_value letter.now.plan) }
         ensures all { OnOk result (self.new ≡ map one_letter_more self.old) }
         ensures some { (k : ℕ) × (self.new ≡ one_letter_more_to k self.old) }
         ensures cause { result ≢ Err Foreign }
     {
         for i in 0..self.all.len() {
             let same = letter.share()?;
-            self.all[i].send(rt, Sealed::of(same))?;
+            self.all[i].send(rt, same)?;
         }
         Ok(())
     }
 }
 
 /// Returns the senders of a worker, by where each worker's letters are sent to.
-pub(crate) fn senders_of<B: KnownPlan>(
+pub(crate) fn senders_of(
     alloc: Global,
-    senders: &[Sender<Sealed<B>>],
+    senders: &[Sender<Letter>],
     worker: usize,
-) -> Result<Senders<B>, AllocError>
+) -> Result<Senders, AllocError>
     requires { worker < length senders.now }
     ensures { IfOk result (λ all. all ≡ replicate (length senders.now - 1) 0) }
 {

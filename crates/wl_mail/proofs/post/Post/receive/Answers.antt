@@ -1,6 +1,6 @@
 use Rattle.std.proofs.Common.{◌+◌}
 use Rattle.wl_mail.proofs.Keeping.{kept_counted, letter_handed}
-use Rattle.wl_mail.proofs.post.Post.receive_of.Goals as goal
+use Rattle.wl_mail.proofs.post.Post.receive.Goals as goal
 
 pub returns-in-Ok-clause-kept : goal.returns-in-Ok-clause-kept
 returns-in-Ok-clause-kept g c =
