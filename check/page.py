@@ -112,6 +112,7 @@ x = 20
 # The colour of each level, its signal in the dump, and lines of pixels of a node's row: of recessive, between both levels, of dominant
 LEVELS = [("drive", "t", (30, 35, 40)), ("found", "r", (46, 52, 58))]
 STRUCK, LABEL = 42, range(62, 71)  # the lines of pixels of the bars over disturbances, and of their label
+SYNCS, CROWDED = 55, 7  # the line of pixels of marks at synchronisations; so many columns on end are no longer a mark and an event's line
 CLEAR, SOLID = 8, 140  # a column is free of a colour up to CLEAR of 255; an edge, a line 1.2 pixels wide, covers its column by 0.6 or more
 NEAR = 0.65  # as far from an edge, in pixels, its line may reach
 
@@ -189,6 +190,8 @@ def drawn_faults(check, browser, page, changes, end, low, high):
         drawn, struck = {column for column, covered in enumerate(bars) if covered}, changes[f"n{node}"]
         least, most = (struck_columns(*struck, end, low, high, len(bars), slack) for slack in (1e-6, -1e-6))
         check.want(least <= drawn <= most, f"{what} {node}: disturbances in {len(least)} columns, drawn in {len(drawn)}: {sorted(least ^ drawn)[:6]} ..")
+        marks, = opaque(browser, "sync", node, [SYNCS])
+        check.want("1" * CROWDED not in "".join("1" if covered else "0" for covered in marks), f"{what} {node}: marks of synchronisations run into one another")
         label = any(covered for line in opaque(browser, "disturb", node, LABEL, "0", "LEFT") for covered in line)
         check.want(label == (1 in struck[1]), f"{what} {node}: {'a' if label else 'no'} label of disturbances")
         if least: check.want("disturbance" in title_at(browser, node, min(least)), f"{what} {node}: the pointer over a disturbance shows no word of it")

@@ -323,11 +323,14 @@ function drawDisturbed(pen, { times, values }, top) {
   pen.globalAlpha = 1;
 }
 
+// Marks at times, but for those that are nearer than four pixels to another one: they would be drawn as a block.
 function drawMarks(pen, times, y, colour, shape) {
-  const first = countUpTo(times, view.from), last = countUpTo(times, view.to);
-  if ((last - first) * 3 > places()) return;
+  const last = countUpTo(times, view.to), near = (4 * (view.to - view.from)) / places();
   pen.fillStyle = pen.strokeStyle = colour;
-  for (let at = first; at < last; at += 1) shape(pen, place(times[at]), y);
+  for (let at = countUpTo(times, view.from); at < last; at += 1) {
+    const isNear = times[at] - times[at - 1] < near || times[at + 1] - times[at] < near; // not so before the first one and after the last one
+    if (!isNear) shape(pen, place(times[at]), y);
+  }
 }
 const triangle = (pen, x, y) => { pen.beginPath(); pen.moveTo(x, y); pen.lineTo(x - 3, y + 5); pen.lineTo(x + 3, y + 5); pen.fill(); };
 const stroke = (pen, x, y) => { pen.beginPath(); pen.moveTo(x, y); pen.lineTo(x, y + 5); pen.stroke(); };
