@@ -2,12 +2,9 @@ mod Emitted
 mod Faults
 mod Fits
 mod Handing
-mod Merged
 mod Named
 mod NodesOfWorker
 mod PassLists
-mod PlanNumbers
-mod Promises
 mod Seen
 mod Steps
 mod Told

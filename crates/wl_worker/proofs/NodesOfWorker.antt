@@ -19,7 +19,8 @@ use Rattle.wl_serial.specs.Outcome.{outcome_of_history, node_outcome_of}
 use Rattle.wl_worker.specs.Finished.{HasFinished}
 use Rattle.wl_worker.specs.declared.link.Fault.{Fault}
 use Rattle.wl_worker.specs.declared.link.Fault.TheVariants.{Workers}
-use Rattle.wl_worker.specs.NodesOfWorker.{IsShare, IsDone, IsEnd, EndsKept, HaveEnded}
+use Rattle.wl_worker.specs.declared.threads.OfShare.{OfShare}
+use Rattle.wl_worker.specs.NodesOfWorker.{IsShare, IsDone, IsEnd, IsPromise, KeepsPromise, EndsKept, HaveEnded}
 
 -- ---- members
 
@@ -68,9 +69,9 @@ pub below_pushed : (xs ys : List ℕ) (i n : ℕ) → ys ≡ xs ++ i ∷ [] → 
 below_pushed xs ys i n e b h =
     subst (All (λ m. m < n)) (sym e) (All-append (λ m. m < n) xs (i ∷ []) h (All-cons (λ m. m < n) i [] b (All-nil (λ m. m < n))))
 
-pub share_is : (lists : Bool) (plan : Plan) (workers worker n : ℕ) (g : GroupValue) (ms xs : List ℕ) → n ≡ length plan.nodes → xs ≡ ms → g.plan ≡ plan → g.lists ≡ lists → belongs g ≡ names xs
-    → ((i : ℕ) → i < n → names ms i ≡ (i % workers == worker)) → IsShare lists plan workers worker g
-share_is lists plan workers worker n g ms xs count same plan_is kind members all = record {
+pub share_is : (plan : Plan) (workers worker n : ℕ) (g : GroupValue) (ms xs : List ℕ) → n ≡ length plan.nodes → xs ≡ ms → g.plan ≡ plan → g.lists ≡ true → belongs g ≡ names xs
+    → ((i : ℕ) → i < n → names ms i ≡ (i % workers == worker)) → IsShare plan workers worker g
+share_is plan workers worker n g ms xs count same plan_is kind members all = record {
   plan_is = plan_is;
   kind = kind;
   members = λ i b.
@@ -80,25 +81,27 @@ share_is lists plan workers worker n g ms xs count same plan_is kind members all
 
 -- ---- what a worker comes to
 
-done_is : (lists : Bool) (plan : Plan) (workers worker : ℕ) (old new : GroupValue) → IsShare lists plan workers worker old → HasFinished old new → IsDone lists plan workers worker new
-done_is lists plan workers worker old new s f = record {
-  share = record { plan_is = f.plan ∙ s.plan_is; kind = f.lists ∙ s.kind; members = λ i b. (λ has. (s.members i b).0 (sym (ap (λ h. h i) f.members) ∙ has), λ of. ap (λ h. h i) f.members ∙ (s.members i b).1 of) };
+done_is : (plan : Plan) (workers worker : ℕ) (old new : GroupValue) → IsShare plan workers worker old → HasFinished old new → IsDone plan workers worker new
+done_is plan workers worker old new s f = record {
+  share = record {
+    plan_is = f.led.plan ∙ s.plan_is;
+    kind = f.led.lists ∙ s.kind;
+    members = λ i b. (λ has. (s.members i b).0 (sym (ap (λ h. h i) f.led.members) ∙ has), λ of. ap (λ h. h i) f.led.members ∙ (s.members i b).1 of);
+  };
   ended = f.ended;
 }
 
--- a group that keeps its plan and its members keeps its share
-pub share_kept : (lists : Bool) (plan : Plan) (workers worker : ℕ) (old new : GroupValue) → IsShare lists plan workers worker old → new.plan ≡ old.plan → new.lists ≡ old.lists → belongs new ≡ belongs old → IsShare lists plan workers worker new
-share_kept lists plan workers worker old new s p k m = record {
-  plan_is = p ∙ s.plan_is;
-  kind = k ∙ s.kind;
-  members = λ i b. (λ has. (s.members i b).0 (sym (ap (λ h. h i) m) ∙ has), λ of. ap (λ h. h i) m ∙ (s.members i b).1 of);
-}
-
 -- a worker that began with its share and finished it, or failed
-pub end_is : (lists : Bool) (plan : Plan) (workers worker : ℕ) (begun : GroupValue) (end : Result GroupValue Fault) → IsShare lists plan workers worker begun
-    → IfOk end (HasFinished begun) → IfErr end (λ fault. fault ≢ Workers) → IsEnd lists plan workers worker end
-end_is lists plan workers worker begun (Ok done) s f e = done_is lists plan workers worker begun done s f
-end_is lists plan workers worker begun (Err fault) s f e = e
+pub end_is : (plan : Plan) (workers worker : ℕ) (begun : GroupValue) (end : Result GroupValue Fault) → IsShare plan workers worker begun
+    → IfOk end (HasFinished begun) → IfErr end (λ fault. fault ≢ Workers) → IsEnd plan workers worker end
+end_is plan workers worker begun (Ok done) s f e = done_is plan workers worker begun done s f
+end_is plan workers worker begun (Err fault) s f e = e
+
+-- what a thread that promised it came to
+pub end_of_promise : (plan : Plan) (workers worker : ℕ) (p : OfShare) (end : Result GroupValue Fault) → IsPromise plan workers worker p → KeepsPromise p end → IsEnd plan workers worker end
+end_of_promise plan workers worker p end is kept =
+    subst (λ w. IsEnd plan workers w end) is.worker_is
+    (subst (λ n. IsEnd plan n p.worker end) is.workers_are (subst (λ q. IsEnd q p.workers p.worker end) is.plan_is kept))
 
 pub both_ok : {A E : Type 0} (r : Result A E) (P Q S : A → Type 0) → ((x : A) → P x → Q x → S x) → IfOk r P → IfOk r Q → IfOk r S
 both_ok (Ok x) P Q S f p q = f x p q
@@ -135,15 +138,15 @@ failed_not_ok : (fault : Fault) (end : Result GroupValue Fault) → end ≡ Err 
 failed_not_ok fault (Ok group) e ok = cc
 failed_not_ok fault (Err other) e ok = cc
 
-pub ended_all : (lists : Bool) (plan : Plan) (workers : ℕ) (ends : List (Result GroupValue Fault)) → EndsKept lists plan workers ends → length ends ≡ workers → HaveEnded lists plan workers ends
-ended_all lists plan workers ends kept all = record { kept = kept; all = λ ok. all }
+pub ended_all : (plan : Plan) (workers : ℕ) (ends : List (Result GroupValue Fault)) → EndsKept plan workers ends → length ends ≡ workers → HaveEnded plan workers ends
+ended_all plan workers ends kept all = record { kept = kept; all = λ ok. all }
 
 -- those before one that could not be started, and then that one
-pub ended_short : (lists : Bool) (plan : Plan) (workers : ℕ) (ends more : List (Result GroupValue Fault)) (fault : Fault) → more ≡ ends ++ Err fault ∷ [] → EndsKept lists plan workers ends → fault ≢ Workers
-    → HaveEnded lists plan workers more
-ended_short lists plan workers ends more fault e kept other =
+pub ended_short : (plan : Plan) (workers : ℕ) (ends more : List (Result GroupValue Fault)) (fault : Fault) → more ≡ ends ++ Err fault ∷ [] → EndsKept plan workers ends → fault ≢ Workers
+    → HaveEnded plan workers more
+ended_short plan workers ends more fault e kept other =
     let longer : length more ≡ length ends + 1 = ap length e ∙ length-append ends (Err fault ∷ []) in record {
-      kept = λ w d b. one_behind ends more (Err fault) (length ends) (λ j end. IsEnd lists plan workers j end) e refl (λ j u low. kept j u low) other w d (omega arith);
+      kept = λ w d b. one_behind ends more (Err fault) (length ends) (λ j end. IsEnd plan workers j end) e refl (λ j u low. kept j u low) other w d (omega arith);
       all = λ ok.
           let last : IsOk (slice_index_or more (length ends) (Err fault)) = ok (length ends) (Err fault) (omega arith) in
           let failed : slice_index_or more (length ends) (Err fault) ≡ Err fault
@@ -152,5 +155,5 @@ ended_short lists plan workers ends more fault e kept other =
     }
 
 -- the end of each worker, where all came to theirs
-pub end_done : (lists : Bool) (plan : Plan) (workers w : ℕ) (end : Result GroupValue Fault) (group : GroupValue) → IsEnd lists plan workers w end → end ≡ Ok group → IsDone lists plan workers w group
-end_done lists plan workers w end group is e = subst (IsEnd lists plan workers w) e is
+pub end_done : (plan : Plan) (workers w : ℕ) (end : Result GroupValue Fault) (group : GroupValue) → IsEnd plan workers w end → end ≡ Ok group → IsDone plan workers w group
+end_done plan workers w end group is e = subst (IsEnd plan workers w) e is

@@ -1,7 +1,3 @@
-pub mod Agreements
-pub mod Boards
-pub mod Claims
-pub mod Crews
 pub mod Faults
 pub mod Finished
 pub mod Given
@@ -9,6 +5,5 @@ pub mod Handed
 pub mod Letters
 pub mod NodesOfWorker
 pub mod PlanName
-pub mod Promised
 pub mod Seen
 pub mod Waiting

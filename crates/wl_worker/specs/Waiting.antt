@@ -1,9 +1,18 @@
 -- Workers that all wait for one another. This project's profile; for a reader who knows simulation: that there is no deadlock (Chandy and Misra 1979).
-use Rattle.std.specs.Prelude.{◌≡◌, ℕ, ◌<◌, ◌≤◌, true, length}
+use Rattle.std.specs.Prelude.{◌≡◌, ℕ, ◌<◌, ◌≤◌, true, false, length}
+use Rattle.wl_replica.specs.State.{slots_of}
+use Rattle.wl_replica.specs.Known.{horizon}
 use Rattle.wl_plan.specs.declared.plan.Plan.{Plan}
-use Rattle.wl_group.specs.GroupValue.{GroupValue, IsGroupValue, belongs}
+use Rattle.wl_group.specs.GroupValue.{GroupValue, IsGroupValue, belongs, may_run}
 use Rattle.wl_worker.specs.Finished.{MembersEnded}
-use Rattle.wl_worker.specs.Promised.{promise_of, IsBlocked}
+
+-- the tick up to which a group knows what node i drives
+abbrev pub promise_of : GroupValue → ℕ → ℕ
+promise_of g i = horizon (slots_of g.replica) i
+
+-- none of its members may run, for any number
+abbrev pub IsBlocked : GroupValue → Type 0
+IsBlocked g = (i : ℕ) → may_run g i ≡ false
 
 -- Groups of a plan, by worker. Each node is a member of one, and no group knows less of a node than the group that has it: what was said has arrived.
 pub record KnowAll (plan : Plan) (workers : ℕ) (groups : ℕ → GroupValue) : Type 0 where

@@ -1,5 +1,5 @@
-//! What a fetch finds: what a pass sees in a hub that a group does not know yet, and how many letters others sent.
-ghost use Rattle.std.specs.Prelude.{◌≡◌, ◌≢◌, ◌<◌, ◌≤◌, ◌||◌, ℕ, false, All, None, Some, IfOk, IfSome, IfNone, length, unwrap_or};
+//! What a fetch finds: what a pass sees in a hub that a group does not know yet.
+ghost use Rattle.std.specs.Prelude.{◌≡◌, ◌≢◌, ◌<◌, ◌≤◌, ◌||◌, ℕ, false, All, IfOk, IfSome, IfNone, length, unwrap_or};
 ghost use Rattle.wl_lattice.specs.declared.FlatWord.TheVariants.{Nothing};
 ghost use Rattle.wl_record_core.specs.declared.record.Record.TheVariants.{Edge, Silence};
 ghost use Rattle.wl_record_core.specs.declared.record.Slot.{Slot as Place};
@@ -13,10 +13,8 @@ ghost use Rattle.wl_worker.specs.Handed.{Took, TellsNews};
 ghost use Rattle.wl_worker.specs.Seen.{IsUnseen, SawOnlyOf, HasChanges, HasSeenOf, HandsSeen};
 ghost use Rattle.wl_worker.specs.PlanName.{IsOfPlan, IsTrueOfName};
 
-use crate::bell::{Bell, Rings};
 use crate::plan_name::PlanName;
 use std::alloc::AllocError;
-use std::sync::Wait;
 use wl_group::Group;
 use wl_hub::{Hub, Pass, words_tell_records};
 use wl_lattice::FlatWord;
@@ -25,77 +23,6 @@ use wl_plan::checked_is_sound;
 use wl_record_core::{Record, Slot};
 use wl_replica::{Word, slots_of_states, states_join_slot_by_slot};
 use wl_topology::MOST_NODES;
-
-/// How often a bell had rung before a look for what came. Only a look makes one, from what the bell said before it. So a worker that waits
-/// until the bell rings again can't miss what was given while it looked.
-#[derive(Clone, Copy, Drop)]
-pub(crate) struct RingCount {
-    rings: Option<Rings>,
-}
-
-impl RingCount {
-    /// Returns the state before any look: no ring was heard.
-    pub(crate) fn nothing() -> RingCount
-        ensures { result.rings ≡ None }
-    {
-        RingCount { rings: None }
-    }
-
-    /// Returns the state after the worker itself gave something: it doesn't wait for the ring of that.
-    pub(crate) fn after_own(self) -> RingCount
-        ensures { self.rings ≡ None → result.rings ≡ None }
-    {
-        RingCount {
-            rings: self.rings.map(|rings| rings.and_own()),
-        }
-    }
-
-    /// Waits until the bell has rung for another worker after the look, or some worker stopped; without a look it doesn't wait. Returns the
-    /// first one that stopped.
-    pub(crate) fn wait<R: Wait>(self, rt: &R, bell: &Bell) -> Option<u8> {
-        match self.rings {
-            Some(rings) => bell.wait_past(rt, rings),
-            None => bell.stopped(rt),
-        }
-    }
-
-    /// True if `wait` would return at once.
-    pub(crate) fn has_rung(self, bell: &Bell) -> bool {
-        match self.rings {
-            Some(rings) => bell.has_rung(rings),
-            None => true,
-        }
-    }
-
-    /// True if `wait_until` would return at once.
-    pub(crate) fn is_reached(self, bell: &Bell, until: u64, claims: u64) -> bool {
-        self.rings.is_none() || bell.is_over(until, claims)
-    }
-
-    /// Waits until all nodes are promised up to a tick, this many claims were put or some worker stopped; without a look it doesn't wait.
-    /// Returns the first one that stopped.
-    pub(crate) fn wait_until<R: Wait>(
-        self,
-        rt: &R,
-        bell: &Bell,
-        worker: u8,
-        until: u64,
-        claims: u64,
-    ) -> Option<u8> {
-        match self.rings {
-            Some(_) => bell.wait_until(rt, worker, until, claims),
-            None => bell.stopped(rt),
-        }
-    }
-}
-
-/// Returns how many letters the workers other than this one have sent, by a bell that had rung so often before; 2^64 - 1 means more.
-pub(crate) fn sent_by_others(bell: &Bell, worker: u8, rings: Rings) -> (u64, RingCount)
-    ensures { result.1.rings ≡ Some rings }
-{
-    let rings_seen = RingCount { rings: Some(rings) };
-    (bell.gives_of_others(worker), rings_seen)
-}
 
 /// True if one of the two is.
 fn either(one: bool, other: bool) -> bool
@@ -265,23 +192,20 @@ pub(crate) fn nothing_handed() -> Handed
     [0; MOST_NODES]
 }
 
-/// Takes what the hub has of all nodes that are no members of the group; its bell had rung so often before. Returns whether something was
-/// taken.
+/// Takes what the hub has of all nodes that are no members of the group. Returns whether something was taken.
 #[tactic(auto, using(crate::proofs::Took::took_nothing, crate::proofs::Took::took_both, crate::proofs::Named::still_of))]
 pub(crate) fn learn_all(
     hub: &Hub<PlanName>,
     pass: &mut Pass<PlanName>,
     group: &mut Group,
     handed: &mut Handed,
-    rings: Rings,
-) -> Result<(bool, RingCount), AllocError>
+) -> Result<bool, AllocError>
     requires here { IsPassOf hub.now pass.old }
     requires of { IsOfPlan hub.now pass.old group.old.plan }
     ensures here { IsPassOf hub.now pass.new }
     ensures name { pass_name pass.new ≡ pass_name pass.old }
     ensures took { Took group.old group.new }
-    ensures changed { IfOk result (λ r. TellsNews group.old group.new r.0) }
-    ensures heard { IfOk result (λ r. r.1.rings ≡ Some rings) }
+    ensures changed { IfOk result (λ b. TellsNews group.old group.new b) }
     ensures known { IfOk result (λ _. HandsSeen hub.now pass.new handed.old handed.new group.old group.new) }
 {
     taking_laws();
@@ -291,5 +215,5 @@ pub(crate) fn learn_all(
         let taken = learn_node(hub, pass, group, node, &mut handed[node as usize])?;
         came = either(came, taken);
     }
-    Ok((came, RingCount { rings: Some(rings) }))
+    Ok(came)
 }

@@ -3,7 +3,6 @@ ghost use Rattle.std.specs.Prelude.{◌≡◌, ◌≢◌, Err, OnOk, map};
 ghost use Rattle.std.specs.Arc.{arc_value};
 ghost use Rattle.wl_plan.specs.declared.plan.Plan.{Plan as GivenPlan};
 ghost use Rattle.wl_hub.specs.Passes.{IsPassOf, pass_name};
-ghost use Rattle.wl_mail.specs.Plans.{MayBe};
 ghost use Rattle.wl_mail.specs.Posts.{with_sent};
 ghost use Rattle.wl_mail.specs.Senders.{one_letter_more, one_letter_more_to};
 ghost use Rattle.wl_mail.specs.declared.fault.MailFault.TheVariants.{Foreign};
@@ -14,7 +13,7 @@ use crate::plan_name::PlanName;
 use std::alloc::Global;
 use std::sync::{Arc, Wait};
 use wl_hub::{Hub, Pass};
-use wl_mail::{KnownPlan, MailFault, Post};
+use wl_mail::{MailFault, Post};
 use wl_plan::Plan;
 use wl_record_core::Record;
 
@@ -48,15 +47,14 @@ pub(crate) fn give_words(
 }
 
 /// Sends a letter of these records, which are true of the plan, to every other worker.
-pub(crate) fn give_letter<R: Wait, B: KnownPlan>(
+pub(crate) fn give_letter<R: Wait>(
     rt: &R,
     alloc: Global,
-    post: &mut Post<B>,
+    post: &mut Post,
     plan: &Arc<Plan>,
     records: &[Record],
 ) -> Result<Given, MailFault>
-    requires truth { AreTrueOfPlan (arc_value plan.now) records.now }
-    requires plan { MayBe B.only (arc_value plan.now) }
+    requires { AreTrueOfPlan (arc_value plan.now) records.now }
     ensures all { OnOk result (post.new ≡ with_sent (map one_letter_more post.old.sent) post.old) }
     ensures some { (k : _) × (post.new ≡ with_sent (one_letter_more_to k post.old.sent) post.old) }
     ensures cause { result ≢ Err Foreign }

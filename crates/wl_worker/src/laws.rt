@@ -11,8 +11,8 @@ pub fn nothing_is_taken()
     wl_mail::taking_laws();
 }
 
-/// Law: workers don't wait for one another for ever. If what each said has arrived at all others, and in each group the member with the
-/// least promise is blocked, all members are at their ends.
+/// Law: workers don't wait for one another for ever. If what each said has arrived at all others, and in no group a member may run, all
+/// members are at their ends.
 #[tactic(auto, using(crate::proofs::Waiting::blocked_have_ended))]
 pub fn blocked_workers_have_ended()
     ensures { BlockedHaveEnded }

@@ -1,8 +1,7 @@
 //! How workers hand records to one another, and what may stop them.
-ghost use Rattle.std.specs.Prelude.{◌≡◌, IfOk, IfSome};
+ghost use Rattle.std.specs.Prelude.{◌≡◌, IfOk};
 ghost use Rattle.wl_worker.specs.Faults.{rank, lower_fault};
 
-use crate::claim::Claim;
 use std::alloc::{AllocError, Global};
 use thiserror::Error;
 use wl_group::Group;
@@ -94,7 +93,6 @@ pub trait Link {
     ghost use Rattle.wl_record_core.specs.declared.record.Record.{Record as Told};
     ghost use Rattle.wl_plan.specs.declared.plan.Plan.{Plan as GivenPlan};
     ghost use Rattle.wl_worker.specs.Handed.{AreTrueOfPlan, Took, TellsNews};
-    ghost use Rattle.wl_worker.specs.Claims.{IsClaimOf};
 
     /// The link is of this plan.
     ghost is_of: { Self → GivenPlan → Type 0 };
@@ -128,51 +126,17 @@ pub trait Link {
         ensures took { Took group.old group.new }
         ensures changed { IfOk result (λ b. TellsNews group.old group.new b) };
 
-    /// Gives a claim that is true of the link's plan to all other workers. A link that carries no claims drops it.
-    fn claim(&mut self, claim: Claim) -> Result<(), LinkFault>
-        requires { (p : GivenPlan) × is_of self.old p × IsClaimOf p claim }
-        ensures same { (p : GivenPlan) → is_of self.old p → is_of self.new p }
-        ensures number { number self.new ≡ number self.old }
-        ensures rewound { is_rewound self.old → is_rewound self.new }
-    {
-        let _ = claim;
-        Ok(())
-    }
-
-    /// Returns the next claim of another worker, if one came. It is true of the link's plan. A link that carries no claims has none.
-    fn next_claim(&mut self) -> Result<Option<Claim>, LinkFault>
-        ensures claim { IfOk result (λ next. IfSome next
-            (λ claim. (p : GivenPlan) → is_of self.old p → IsClaimOf p claim)) }
-        ensures same { (p : GivenPlan) → is_of self.old p → is_of self.new p }
-        ensures number { number self.new ≡ number self.old }
-        ensures rewound { is_rewound self.old → is_rewound self.new }
-    {
-        Ok(None)
-    }
-
     /// Begins again: what was fetched may be fetched again, all of it at the next `fetch`.
     fn rewind(&mut self)
         ensures same { (p : GivenPlan) → is_of self.old p → is_of self.new p }
         ensures number { number self.new ≡ number self.old }
         ensures rewound { is_rewound self.new };
 
-    /// Waits until all nodes are promised up to a tick, claims came or some worker stopped; or only until another worker gave something
-    /// after this link's last `fetch` began. Returns the first one that stopped, if any.
-    fn wait(&mut self, until: u64) -> Option<u8>
+    /// Waits until another worker gave something after this link's last `fetch` began, or some worker stopped. Returns the first one that
+    /// stopped, if any.
+    fn wait(&mut self) -> Option<u8>
         ensures same { (p : GivenPlan) → is_of self.old p → is_of self.new p }
         ensures number { number self.new ≡ number self.old };
-
-    /// True if `wait` for this tick would return at once. A link that can't tell says so, too, and then it is `wait` that waits.
-    fn is_awake(&self, until: u64) -> bool {
-        let _ = until;
-        true
-    }
-
-    /// Returns how many rows of quanta members run at most before the worker gives what they said, where workers run beside one another. With
-    /// more, others wait longer for it; with fewer, it gives and fetches more often. It decides nothing but speed.
-    fn rows(&self) -> u32 {
-        4
-    }
 
     /// Lets the others know that this worker stopped.
     fn stop(&mut self)

@@ -7,24 +7,18 @@ use std::alloc::{AllocError, Global};
 use wl_group::Group;
 use wl_plan::CheckedPlan;
 
-/// Returns the group of a worker, before its first quanta: the nodes `i` with `i` mod `workers` equal to `worker`. They list their samples and
-/// phase errors, or only count them.
-pub(crate) fn share_of(
+/// Returns the group of a worker, before its first quanta: the nodes `i` with `i` mod `workers` equal to `worker`.
+pub fn share_of(
     alloc: Global,
     plan: &CheckedPlan,
     workers: u8,
     worker: u8,
-    lists: bool,
 ) -> Result<Group, AllocError>
     requires worker { worker < workers }
-    ensures { IfOk result (IsShare lists plan.now workers worker) }
+    ensures { IfOk result (IsShare plan.now workers worker) }
 {
     let members = members_of(alloc, plan.nodes(), workers, worker)?;
-    if lists {
-        Group::new(alloc, plan, members.as_slice())
-    } else {
-        Group::counting(alloc, plan, members.as_slice())
-    }
+    Group::new(alloc, plan, members.as_slice())
 }
 
 /// Returns its numbers, of this many nodes.

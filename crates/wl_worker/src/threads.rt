@@ -1,30 +1,46 @@
-//! All workers of a plan by threads, and their outcome.
+//! All workers of a plan, each in a thread of its own, and their outcome.
 ghost use Rattle.std.specs.Prelude.{◌≡◌, ◌≢◌, ◌<◌, ◌≤◌, ◌⊎◌, ◌↔◌, ℕ, true, All, Err, IsOk, IfOk, IfErr, IfSome, IfNone, Some, get_or, length, vec_len, vec_capacity};
 ghost use Rattle.wl_plan.specs.Checked.{IsChecked};
 ghost use Rattle.wl_group.specs.GroupValue.{belongs, has_ended};
 ghost use Rattle.wl_serial.specs.Outcome.{outcome_of, node_outcome_of};
 ghost use Rattle.wl_worker.specs.Faults.{IsLowestFault, IsNextFault};
-ghost use Rattle.wl_worker.specs.NodesOfWorker.{EndsKept, HaveEnded, IsFaultOfEnds, IsFaultOfRun};
+ghost use Rattle.wl_worker.specs.NodesOfWorker.{IsEnd, IsPromise, EndsKept, HaveEnded, IsFaultOfEnds, IsFaultOfRun};
 ghost use Rattle.wl_worker.specs.PlanName.{AreNumbered};
 
 use crate::bell::MOST_WORKERS;
-use crate::crew::{Crew, OfRun};
 use crate::link::{Fault, Gate, Link};
-use crate::pace::Pace;
+use crate::nodes_of_worker::share_of;
+use crate::turns::work;
 use std::alloc::{AllocError, Global};
-use std::marker::Brand;
+use std::snapshot::Snapshot;
 use std::sync::Wait;
+use std::sync::atomic::{AtomicU64, Ordering};
 use std::thread;
-use std::thread::{Scope, Threads};
+use std::thread::{Promise, PromisedHandle, Scope, Threads};
 use wl_group::Group;
 use wl_level::Listed;
 use wl_plan::{CheckedPlan, Plan};
 use wl_serial::{NodeOutcome, Outcome, node_outcome, outcome_node_by_node};
 
+/// What a worker's thread promises of the group that it hands back.
+#[derive(Drop)]
+pub(crate) struct OfShare {
+    plan: Snapshot<CheckedPlan>,
+    workers: u8,
+    worker: u8,
+}
+
+impl Promise<Result<Group, Fault>> for OfShare {
+    ghost use Rattle.wl_worker.specs.NodesOfWorker.{KeepsPromise};
+
+    ghost kept_by = { KeepsPromise };
+}
+
+/// A worker's thread, which promises what it returns.
+type Child = PromisedHandle<Result<Group, Fault>, OfShare>;
+
 /// Returns the outcome of the one-thread simulation of a plan, by one worker for each link. Link `w` is that of worker `w`, which runs the
-/// nodes `i` with `i` mod workers equal to `w`. There is a thread for each worker. It begins with that worker, and has turns of others while
-/// that one waits. The caller's thread is one of them, unless workers can run beside one another and each has a processor of its own: then
-/// the caller only waits.
+/// nodes `i` with `i` mod workers equal to `w`, in a thread of its own.
 ///
 /// If it fails there is no partial outcome. Of several faults it is the first by `Fault`'s order, and of these the lowest worker's. If no
 /// thread can be made for a worker, that worker has stopped, and no more are started.
@@ -40,48 +56,42 @@ pub fn simulate_over<R: Threads + Wait + Sync, L: Link + Send + Drop, G: Gate + 
     requires numbered { AreNumbered L.number links.items }
     ensures outcome { IfOk result (λ outcome. outcome ≡ outcome_of plan) }
     ensures workers { result ≡ Err Fault.Workers ↔ (vec_len links ≡ 0) ⊎ (8 < vec_len links) }
-    ensures fault { IfErr result (IsFaultOfRun true plan (vec_len links)) }
+    ensures fault { IfErr result (IsFaultOfRun plan (vec_len links)) }
 {
-    let plan = CheckedPlan::of(plan);
-    if links.is_empty() || links.len() > MOST_WORKERS {
-        return Err(Fault::Workers);
-    }
-    let workers = links.len() as u8;
-    let ends = run_all(rt, alloc, &plan, workers, true, links, gate)?;
-    outcome_of_ends(alloc, &plan, workers, ends.as_slice())
+    simulate_links(rt, alloc, &CheckedPlan::of(plan), links, gate)
 }
 
-/// Runs all workers of these links to their ends, and returns these, in order. Their nodes list their samples and phase errors, or only count
-/// them.
-pub(crate) fn run_links<R: Threads + Wait + Sync, L: Link + Send + Drop, G: Gate + Sync>(
+/// Returns what `simulate_over` returns, of a checked plan.
+pub(crate) fn simulate_links<R: Threads + Wait + Sync, L: Link + Send + Drop, G: Gate + Sync>(
     rt: &R,
     alloc: Global,
     plan: &CheckedPlan,
-    lists: bool,
     links: Vec<L>,
     gate: &G,
-) -> Result<Vec<Result<Group, Fault>>, Fault>
+) -> Result<Outcome, Fault>
     requires links { All (λ l. L.is_of l plan.now) links.items }
-    ensures ends { IfOk result (λ ends. HaveEnded lists plan.now (vec_len links) ends.items) }
-    ensures some { IfOk result (λ _. 0 < vec_len links) }
+    requires numbered { AreNumbered L.number links.items }
+    ensures outcome { IfOk result (λ outcome. outcome ≡ outcome_of plan.now) }
     ensures workers { result ≡ Err Fault.Workers ↔ (vec_len links ≡ 0) ⊎ (8 < vec_len links) }
+    ensures fault { IfErr result (IsFaultOfRun plan.now (vec_len links)) }
 {
     if links.is_empty() || links.len() > MOST_WORKERS {
         return Err(Fault::Workers);
     }
     let workers = links.len() as u8;
-    run_all(rt, alloc, plan, workers, lists, links, gate)
+    let ends = run_all(rt, alloc, plan, workers, links, gate)?;
+    outcome_of_ends(alloc, plan, workers, ends.as_slice())
 }
 
 /// Returns the outcome of all workers together, or the first of their faults.
-pub(crate) fn outcome_of_ends(
+fn outcome_of_ends(
     alloc: Global,
     plan: &CheckedPlan,
     workers: u8,
     ends: &[Result<Group, Fault>],
 ) -> Result<Outcome, Fault>
     requires some { 0 < workers }
-    requires ends { HaveEnded true plan.now workers ends.now }
+    requires ends { HaveEnded plan.now workers ends.now }
     ensures outcome { IfOk result (λ outcome. outcome ≡ outcome_of plan.now) }
     ensures fault { IfErr result (IsFaultOfEnds ends.now) }
     ensures cause { result ≢ Err Fault.Workers }
@@ -95,126 +105,194 @@ pub(crate) fn outcome_of_ends(
     }
 }
 
-/// Runs all workers to their ends, and returns these, in order. Refused only when out of memory, before any began.
+/// Runs all workers, each in a thread of its own, and returns their ends, in order: of all of them, or of those up to one for which no
+/// thread could be made. Refused only when out of memory, before any began.
 fn run_all<R: Threads + Wait + Sync, L: Link + Send + Drop, G: Gate + Sync>(
     rt: &R,
     alloc: Global,
     plan: &CheckedPlan,
     workers: u8,
-    lists: bool,
     links: Vec<L>,
     gate: &G,
 ) -> Result<Vec<Result<Group, Fault>>, Fault>
     requires links { All (λ l. L.is_of l plan.now) links.items }
+    requires numbered { AreNumbered L.number links.items }
     requires count { vec_len links ≡ workers }
-    ensures ends { IfOk result (λ ends. HaveEnded lists plan.now workers ends.items) }
+    ensures ends { IfOk result (λ ends. HaveEnded plan.now workers ends.items) }
     ensures fault { IfErr result (λ fault. fault ≡ Fault.Memory) }
 {
-    run_as::<R, L, G, Brand>(rt, alloc, plan, workers, lists, links, gate)
-}
-
-/// Does the same with types that know the run.
-fn run_as<R: Threads + Wait + Sync, L: Link + Send + Drop, G: Gate + Sync, B: OfRun + Send>(
-    rt: &R,
-    alloc: Global,
-    plan: &CheckedPlan,
-    workers: u8,
-    lists: bool,
-    links: Vec<L>,
-    gate: &G,
-) -> Result<Vec<Result<Group, Fault>>, Fault>
-    requires plan { plan.now ≡ B.plan }
-    requires workers { workers ≡ B.workers }
-    requires lists { lists ≡ B.lists }
-    requires links { All (λ l. L.is_of l plan.now) links.items }
-    requires count { vec_len links ≡ workers }
-    ensures ends { IfOk result (λ ends. HaveEnded lists plan.now workers ends.items) }
-    ensures fault { IfErr result (λ fault. fault ≡ Fault.Memory) }
-{
-    let ends = Vec::with_capacity(alloc, usize::from(workers))?;
-    let is_apart = Pace::of(plan).is_long && usize::from(workers) <= processors(rt);
-    let crew = Crew::<L, B>::new(alloc, plan, workers, lists, is_apart, links)?;
-    run_crew(rt, alloc, plan, workers, &crew, gate);
-    Ok(crew.into_ends(ends))
-}
-
-/// Runs all workers of a crew to their ends, by a thread for each worker.
-fn run_crew<R: Threads + Wait + Sync, L: Link + Send + Drop, G: Gate + Sync, B: OfRun + Send>(
-    rt: &R,
-    alloc: Global,
-    plan: &CheckedPlan,
-    workers: u8,
-    crew: &Crew<L, B>,
-    gate: &G,
-)
-    requires { plan.now ≡ B.plan }
-{
+    let refused = AtomicU64::new(u64::MAX);
+    let refusal = &refused;
     thread::scope(
         thread::scope_env(),
         rt,
-        |scope|
-            requires { plan.now ≡ B.plan }
-        { start_all(scope, rt, alloc, plan, workers, crew, gate) },
-    );
+        |scope| -> Result<Vec<Result<Group, Fault>>, Fault>
+            requires { All (λ l. L.is_of l plan.now) links.items
+                × AreNumbered L.number links.items × (vec_len links ≡ workers) }
+            ensures ends { IfOk result (λ ends. HaveEnded plan.entry.now workers ends.items) }
+            ensures fault { IfErr result (λ fault. fault ≡ Fault.Memory) }
+        { run_in(scope, rt, alloc, plan, workers, links, gate, refusal) },
+    )
 }
 
-/// Returns how many processors the run may use; 1 if the system doesn't say.
-fn processors<R: Threads>(rt: &R) -> usize {
-    match thread::available_parallelism(rt) {
-        Ok(processors) => processors.get(),
-        Err(_) => 1,
-    }
-}
-
-/// Starts a thread of this scope for each worker, up to one for which none can be made: that worker has stopped. If workers aren't apart, the
-/// caller's is the first of them, and has turns of workers itself until all have ended. If they are, the caller leaves its processor to them:
-/// a kernel may put a new thread on that of its maker, and leave another processor idle.
-fn start_all<'s, E, R: Wait + Sync, L: Link + Send + Drop, G: Gate + Sync, B: OfRun + Send>(
+/// Starts a thread of this scope for each link, and joins them. Room for their ends is made before the first begins.
+fn run_in<'s, E, R: Threads + Wait + Sync, L: Link + Send + Drop + 's, G: Gate + Sync>(
     scope: &Scope<'s, E>,
     rt: &'s R,
     alloc: Global,
     plan: &'s CheckedPlan,
     workers: u8,
-    crew: &'s Crew<L, B>,
+    links: Vec<L>,
     gate: &'s G,
-)
-    requires { plan.now ≡ B.plan }
+    refusal: &'s AtomicU64,
+) -> Result<Vec<Result<Group, Fault>>, Fault>
+    requires links { All (λ l. L.is_of l plan.now) links.items }
+    requires numbered { AreNumbered L.number links.items }
+    requires count { vec_len links ≡ workers }
+    ensures ends { IfOk result (λ ends. HaveEnded plan.now workers ends.items) }
+    ensures fault { IfErr result (λ fault. fault ≡ Fault.Memory) }
 {
-    let first = if crew.is_apart() { 0 } else { 1 };
-    for worker in first..workers {
-        if !start(scope, rt, alloc, plan, worker, crew, gate) {
-            break;
-        }
+    let children = Vec::with_capacity(alloc, usize::from(workers))?;
+    let ends = Vec::with_capacity(alloc, usize::from(workers) + 1)?;
+    let (children, unstarted) = start_all(
+        scope, rt, alloc, plan, workers, links, gate, refusal, children,
+    );
+    let mut ends = join_all(rt, plan, workers, children, ends);
+    if let Some(fault) = unstarted {
+        ends.push_reserved(Err(fault));
     }
-    crew.begin();
-    if !crew.is_apart() {
-        crew.tend(rt, alloc, plan, 0, gate);
-    }
+    Ok(ends)
 }
 
-/// Starts a thread that has turns of workers, those of this one first. Returns false if none can be made; then the worker has stopped.
-fn start<'s, E, R: Wait + Sync, L: Link + Send + Drop, G: Gate + Sync, B: OfRun + Send>(
+/// Starts a thread of this scope for each link, up to one for which none can be made. Returns the threads, and the fault of that worker, if
+/// there is one.
+fn start_all<'s, E, R: Threads + Wait + Sync, L: Link + Send + Drop + 's, G: Gate + Sync>(
     scope: &Scope<'s, E>,
     rt: &'s R,
     alloc: Global,
     plan: &'s CheckedPlan,
-    worker: u8,
-    crew: &'s Crew<L, B>,
+    workers: u8,
+    links: Vec<L>,
     gate: &'s G,
-) -> bool
-    requires { plan.now ≡ B.plan }
+    refusal: &'s AtomicU64,
+    children: Vec<Child>,
+) -> (Vec<Child>, Option<Fault>)
+    requires links { All (λ l. L.is_of l plan.now) links.items }
+    requires numbered { AreNumbered L.number links.items }
+    requires count { vec_len links ≡ workers }
+    requires room { (vec_len children ≡ 0) × (workers ≤ vec_capacity children) }
+    ensures count { vec_len result.0 ≤ workers }
+    ensures promises { (w : ℕ) (d : _) → w < vec_len result.0
+        → IsPromise plan.now workers w (get_or result.0.items w d).promise }
+    ensures all { IfNone result.1 (vec_len result.0 ≡ workers) }
+    ensures fault { IfSome result.1 (λ fault. (fault ≢ Fault.Workers) × (vec_len result.0 < workers)) }
+    ensures worker { IfSome result.1 (λ fault. fault ≡ Fault.Worker (vec_len result.0)) }
 {
-    match scope.spawn(move || crew.tend(rt, alloc, plan, worker, gate)) {
-        Ok(_thread) => true,
-        Err(_no_thread) => {
-            crew.give_up(rt, worker);
-            false
+    let mut children = children;
+    let mut worker = 0;
+    for link in links {
+        match start(scope, rt, alloc, plan, workers, worker, link, gate, refusal) {
+            Ok(child) => children.push_reserved(child),
+            Err(fault) => return (children, Some(fault)),
+        }
+        worker += 1;
+    }
+    (children, None)
+}
+
+/// Joins the threads of workers 0, 1 and so on, and puts their ends into a list with room.
+fn join_all<R: Threads>(
+    rt: &R,
+    plan: &CheckedPlan,
+    workers: u8,
+    children: Vec<Child>,
+    ends: Vec<Result<Group, Fault>>,
+) -> Vec<Result<Group, Fault>>
+    requires promises { (w : ℕ) (d : _) → w < vec_len children
+        → IsPromise plan.now workers w (get_or children.items w d).promise }
+    requires room { (vec_len ends ≡ 0) × (vec_len children < vec_capacity ends) }
+    ensures count { vec_len result ≡ vec_len children }
+    ensures room { vec_capacity result ≡ vec_capacity ends }
+    ensures kept { EndsKept plan.now workers result.items }
+{
+    let _ = plan;
+    let _ = workers;
+    let mut ends = ends;
+    for child in children {
+        ends.push_reserved(child.join(rt));
+    }
+    ends
+}
+
+/// Starts the thread of a worker. If none can be made, the worker stops, and so do all that wait.
+fn start<'s, E, R: Wait + Sync, L: Link + Send + Drop + 's, G: Gate + Sync>(
+    scope: &Scope<'s, E>,
+    rt: &'s R,
+    alloc: Global,
+    plan: &'s CheckedPlan,
+    workers: u8,
+    worker: u8,
+    link: L,
+    gate: &'s G,
+    refusal: &'s AtomicU64,
+) -> Result<Child, Fault>
+    requires worker { worker < workers }
+    requires link { L.is_of link plan.now }
+    requires number { L.number link ≡ worker }
+    ensures promise { IfOk result (λ child. IsPromise plan.now workers worker child.promise) }
+    ensures fault { IfErr result (λ fault. fault ≢ Fault.Workers) }
+    ensures worker { IfErr result (λ fault. fault ≡ Fault.Worker worker) }
+{
+    let promise = OfShare {
+        plan: Snapshot::of(plan),
+        workers,
+        worker,
+    };
+    let run = move || run_one(rt, alloc, plan, workers, worker, link, gate, refusal);
+    match scope.spawn_with(promise, run) {
+        Ok(child) => Ok(child),
+        Err(no_thread) => {
+            // Its part is run here: it stops at once, and with it all workers that wait.
+            refusal.store(u64::from(worker), Ordering::SeqCst);
+            let ended = (no_thread.value)();
+            drop(ended);
+            Err(Fault::Worker(worker))
+        }
+    }
+}
+
+/// Runs one worker, from its group before the first quanta to its end. The worker for which no thread could be made stops.
+fn run_one<R: Wait, L: Link + Drop, G: Gate>(
+    rt: &R,
+    alloc: Global,
+    plan: &CheckedPlan,
+    workers: u8,
+    worker: u8,
+    link: L,
+    gate: &G,
+    refusal: &AtomicU64,
+) -> Result<Group, Fault>
+    requires worker { worker < workers }
+    requires link { L.is_of link plan.now }
+    requires number { L.number link ≡ worker }
+    ensures { IsEnd plan.now workers worker result }
+{
+    let mut link = link;
+    if refusal.load(Ordering::SeqCst) == u64::from(worker) {
+        link.stop();
+        return Err(Fault::Worker(worker));
+    }
+    match share_of(alloc, plan, workers, worker) {
+        Ok(group) => work(rt, alloc, group, link, gate),
+        Err(AllocError) => {
+            link.stop();
+            Err(Fault::Memory)
         }
     }
 }
 
 /// Returns the first fault of these ends: by the order of faults, and then by worker.
-pub(crate) fn first_fault(ends: &[Result<Group, Fault>]) -> Option<Fault>
+fn first_fault(ends: &[Result<Group, Fault>]) -> Option<Fault>
     ensures { IsLowestFault ends.now result }
 {
     let mut first = None;
@@ -254,7 +332,7 @@ fn outcome_from(
 ) -> Result<Outcome, AllocError>
     requires count { (0 < workers) × (length ends.now ≡ workers) }
     requires ended { All IsOk ends.now }
-    requires kept { EndsKept true plan.now workers ends.now }
+    requires kept { EndsKept plan.now workers ends.now }
     ensures { IfOk result (λ outcome. outcome ≡ outcome_of plan.now) }
 {
     outcome_node_by_node();
@@ -279,7 +357,7 @@ fn node_from(
 ) -> Result<NodeOutcome, AllocError>
     requires count { (0 < workers) × (length ends.now ≡ workers) }
     requires ended { All IsOk ends.now }
-    requires kept { EndsKept true plan.now workers ends.now }
+    requires kept { EndsKept plan.now workers ends.now }
     requires node { i < length plan.now.nodes }
     ensures { IfOk result (λ outcome. outcome ≡ node_outcome_of plan.now i) }
 {

@@ -1,6 +1,5 @@
 -- All letters so far, and the next one.
-use Rattle.std.proofs.Common.{◌∙◌, ap, Some, sym, arith}
-use Rattle.wl_group.specs.GroupValue.{GroupValue}
+use Rattle.std.proofs.Common.{arith}
 use Rattle.wl_worker.proofs.Handing.{handed_one}
 use Rattle.wl_worker.proofs.Took.{took_both, changed_both}
 use Rattle.wl_worker.proofs.mail_link.receive_all.Goals as goal
@@ -10,9 +9,8 @@ loop-preserved g c =
     let was = c.loop.invariant in
     let took = c.in_ok-news.ensures.took in (
       (let n = c.in_ok-news.ensures.handed.counted in let m = was.0 in omega arith),
-      took_both c.taking_laws.ensures c.args.group.now c.loop.group c.receive_of.new.group was.1 took,
-      changed_both c.taking_laws.ensures c.args.group.now c.loop.group c.receive_of.new.group was.1 took c.loop.came c.in_ok-news.news was.2 c.in_ok-news.ensures.changed,
-      handed_one c.taking_laws.ensures c.loop.counter c.args.post.now c.loop.post c.receive_of.new.self c.args.group.now c.loop.group c.receive_of.new.group was.0 was.3
+      took_both c.taking_laws.ensures c.args.group.now c.loop.group c.receive.new.group was.1 took,
+      changed_both c.taking_laws.ensures c.args.group.now c.loop.group c.receive.new.group was.1 took c.loop.came c.in_ok-news.news was.2 c.in_ok-news.ensures.changed,
+      handed_one c.taking_laws.ensures c.loop.counter c.args.post.now c.loop.post c.receive.new.self c.args.group.now c.loop.group c.receive.new.group was.0 was.3
           c.in_ok-news.ensures.kept c.in_ok-news.ensures.handed,
-      (λ sure. was.4 sure ∙ ap (λ (group : GroupValue). Some group.plan) (sym took.taken)),
     )
