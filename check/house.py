@@ -16,7 +16,7 @@ flags    commands of the toolchain (`rt ..`) in pages, and their flags, that its
 links    links of pages that lead to no file or to no heading
 quotes   code that a page quotes from a file that it names just above, and that isn't there
 cites    words of code that a page links to a source which hasn't them; of `Type::function` the function
-edits    wrong bodies whose old text isn't once in the file that they name
+edits    wrong bodies whose old text isn't once in the file that they name, or that name no function; rows and signatures that refuse a named mistake, and are gone
 
 Each search yields what accepted.txt may name, and the line that is printed. A line of accepted.txt is `KIND: WHAT`, or `KIND N: WHAT` if there may be N of
 them, below the line `reason: ..`. The status is 1 if something is found that isn't accepted; what is accepted and no longer found is only named.
@@ -26,6 +26,8 @@ import shutil
 import subprocess
 import sys
 from collections import Counter, defaultdict
+from importlib.machinery import SourceFileLoader
+from importlib.util import module_from_spec, spec_from_loader
 from pathlib import Path
 
 TOP = Path(__file__).resolve().parent.parent
@@ -284,19 +286,11 @@ def cites():
 
 
 def edits():
-    for edit in sorted([*TOP.glob("crates/*/must-fail/*.edit"), *TOP.glob("check/wrong-bodies/*/*.edit")]):
-        crate = edit.parent.name if edit.parent.name != "must-fail" else edit.parent.parent.name
-        file, texts = "", {}
-        for line in edit.read_text(encoding="utf-8").splitlines():
-            if line.startswith("file: "):
-                file = TOP / "crates" / crate / line[6:].strip()
-            elif line.startswith("old: "):
-                old = line[5:]
-            elif line.startswith("new:"):
-                if file not in texts: texts[file] = file.read_text(encoding="utf-8") if file.is_file() else ""
-                times = texts[file].count(old)
-                if times != 1: yield edit.relative_to(TOP), f"{edit.relative_to(TOP)}: its old text is there {times} times"
-                texts[file] = texts[file].replace(old, line[4:].removeprefix(" "))
+    loader = SourceFileLoader("wrong", str(TOP / ".ci" / "wrong.py"))
+    wrong = module_from_spec(spec_from_loader("wrong", loader))
+    loader.exec_module(wrong)
+    for what, why in wrong.unfit():
+        yield what, f"{what}: {why}"
 
 
 FLAG = r"--[a-z][a-z-]*"

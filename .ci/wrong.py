@@ -1,0 +1,282 @@
+#!/usr/bin/env python3
+"""Tries wrong bodies: the prover must refuse each, in the function that the edit changes.
+
+usage: wrong.py [--night] [CRATE..]   tries the edits of .ci/wrong-bodies, or with --night those of check/wrong-bodies; of every crate if none is named
+       wrong.py check                 tells whether each edit still fits its source, and whether the table of docs/change/wrong-bodies.md is that of the edits
+       wrong.py page                  writes that table
+
+An edit is a file FOLDER/CRATE/NAME.edit, in the form of the toolchain's edits (`file: PATH`, `old: TEXT`, `new: TEXT`), with two lines more:
+  function: PATH     the function that it changes, as a check prints it without the crate's name
+  mistake: WORDS     in .ci/wrong-bodies: the mistake that was named before the code was written, if the edit makes one of these
+Mistakes that no contract excludes are in .ci/wrong-bodies/by-rows.txt, with the rows or the signature that do.
+
+The libraries below a crate are taken as `rt ci` has just left them; those that are older than their sources are built first. A copy of the crate gets as
+many of its edits as change different functions, and one check of these functions and of what they call. It has to end with status 1. Each edited function
+has to be refused, and each other function that is read has to be proved. So a wrong body costs no second proof of its crate. As many checks run side by
+side as RT_JOBS says; without that, as there are processors that have 3 GB of free memory each. Status 1 if a wrong body was not refused so.
+"""
+import glob
+import importlib.machinery
+import importlib.util
+import os
+import re
+import shutil
+import subprocess
+import sys
+import tempfile
+import time
+from collections import namedtuple
+from concurrent.futures import ThreadPoolExecutor, as_completed
+
+sys.dont_write_bytecode = True
+TOP = os.path.dirname(os.path.dirname(os.path.realpath(__file__)))
+GATE, NIGHT = f"{TOP}/.ci/wrong-bodies", f"{TOP}/check/wrong-bodies"
+PAGE, BEGIN, END = f"{TOP}/docs/change/wrong-bodies.md", "<!-- .ci/wrong.py page begins -->\n", "<!-- .ci/wrong.py page ends -->\n"
+REFUSED = ("not proved", "no proof")
+
+Edit = namedtuple("Edit", "crate name file function mistakes pairs")
+
+
+def read(edit):
+    """Returns the edit of a file: what it changes, and its pairs of a path, an old text and a new one."""
+    path, old, function, mistakes, pairs = "", None, "", [], []
+    with open(edit, encoding="utf-8") as lines:
+        for line in lines.read().splitlines():
+            word, _, text = line.partition(":")
+            text = text.removeprefix(" ")
+            if word == "file": path = text.strip()
+            elif word == "function": function = text.strip()
+            elif word == "mistake": mistakes.append(text.strip())
+            elif word == "old": old = text
+            elif word == "new": pairs.append((path, old, text))
+    crate = os.path.basename(os.path.dirname(edit))
+    return Edit(crate, f"{crate}/{os.path.basename(edit)[: -len('.edit')]}", edit, function, mistakes, pairs)
+
+
+def edits_of(folder, crates):
+    found = [read(it) for it in sorted(glob.glob(f"{folder}/*/*.edit"))]
+    lost = set(crates) - {it.crate for it in found}
+    if lost: sys.exit(f"wrong.py: {folder} has no edits of {', '.join(sorted(lost))}")
+    return [it for it in found if not crates or it.crate in crates]
+
+
+def applied(edit, texts):
+    """Returns the texts with the edit made, by path, or why it can't be made. `texts` has those that differ from the crate's own."""
+    made = dict(texts)
+    if not edit.pairs or not edit.function: return None, "it has no `function:` line or no pair of `old:` and `new:`"
+    for path, old, new in edit.pairs:
+        file = f"{TOP}/crates/{edit.crate}/{path}"
+        if path not in made:
+            if not re.match(r"src/[\w/]+\.rt$", path) or not os.path.isfile(file): return None, f"there is no source {path}"
+            with open(file, encoding="utf-8") as it: made[path] = it.read()
+        count = made[path].count(old) if old else 0
+        if count != 1: return None, f"its old text is {count} times in {path}"
+        made[path] = made[path].replace(old, new)
+    return made, None
+
+
+def runs_of(edits):
+    """Returns runs of edits of one crate each, with the texts that they change: in a run each function is changed once."""
+    runs = []
+    for edit in edits:
+        for run in runs:
+            texts, why = applied(edit, run["texts"])
+            if run["edits"][0].crate == edit.crate and not why and edit.function not in [it.function for it in run["edits"]]:
+                run["edits"].append(edit)
+                run["texts"] = texts
+                break
+        else:
+            texts, why = applied(edit, {})
+            if why: sys.exit(f"{edit.name}: {why}")
+            runs.append({"edits": [edit], "texts": texts})
+    return runs
+
+
+# ---- The toolchain
+
+def kit():
+    """Returns the toolchain's `rt` as a module, with the crates of this repository."""
+    file = os.path.realpath(shutil.which("rt") or sys.exit("wrong.py: no command 'rt' on the PATH"))
+    loader = importlib.machinery.SourceFileLoader("rt_of_the_kit", file)
+    rt = importlib.util.module_from_spec(importlib.util.spec_from_loader("rt_of_the_kit", loader))
+    loader.exec_module(rt)
+    # A crate's sum is asked for by each crate above it: made once.
+    sums, stamp = {}, rt.Crate.stamp
+    rt.Crate.stamp = lambda crate: sums.get(crate.name) or sums.setdefault(crate.name, stamp(crate))
+    rt.Crate.allowed = rt.handles_of(TOP)
+    rt.rtlib.Crate = rt.Crate
+    rt.rtlib.guarded()
+    return rt, {it.name: it for it in rt.rtlib.crates_below(TOP)}
+
+
+def newest(folder, parts):
+    return max((os.stat(f"{at}/{name}").st_mtime for part in parts for at, _, names in os.walk(f"{folder}/{part}") for name in names), default=0)
+
+
+def build(rt, crates, wanted):
+    """Builds the libraries below the wanted crates, but for those that `rt ci` has just left: built without a stamp, and newer than all sources below."""
+    below = {it.name: it for name in wanted for it in crates[name].below()}
+    left = {name: f"{it.folder}/out/rlib" for name, it in below.items()}
+    sources = max((newest(it.folder, rt.rtlib.PARTS) for it in below.values()), default=0)
+    is_ci = all(os.path.isdir(it) and not os.path.isfile(f"{it}/stamp") and newest(it, [""]) > sources for it in left.values())
+    for it in [] if is_ci else below.values():
+        if not it.is_built():
+            print(f"building {it.name} first", flush=True)
+            if it.build_rlib(["--jobs", "1"], anew=False): sys.exit(f"wrong.py: {it.name} could not be built")
+
+
+def words_of(rt, crate, functions):
+    with open(os.devnull, "w", encoding="utf-8") as crate.out:
+        words = crate.words(["--jobs", "1"], keeps=False)
+    return [rt.rtlib.RATTLE, "check", *words, *(it for name in functions for it in ("--only", name))]
+
+
+def checked(rt, crate, run):
+    """Checks a copy of the crate with the run's edits, and returns the status, what was said, and the seconds by the clock."""
+    began = time.time()
+    with tempfile.TemporaryDirectory(prefix="wrong-body-") as room:
+        for part in rt.rtlib.PARTS:
+            if os.path.isdir(f"{crate.folder}/{part}"): shutil.copytree(f"{crate.folder}/{part}", f"{room}/{part}")
+        for path, text in run["texts"].items():
+            with open(f"{room}/{path}", "w", encoding="utf-8") as it: it.write(text)
+        how = {"cwd": room, "stdin": subprocess.DEVNULL, "stdout": subprocess.PIPE, "stderr": subprocess.STDOUT, "errors": "replace"}
+        ran = subprocess.run([*rt.rtlib.guarded(), *run["words"]], check=False, **how)
+    return ran.returncode, ran.stdout, time.time() - began
+
+
+# ---- What a check says
+
+def is_of(name, edit):
+    """True if a name that a check prints is the edited function, or a closure in it."""
+    name = name.removeprefix(f"{edit.crate}::")
+    if name == edit.function: return True
+    module, closure, rest = name.partition("fn::")
+    return bool(closure) and (module + rest).startswith(edit.function + "::")
+
+
+def judged(run, status, said):
+    """Yields each edit of a run with how the prover refused it and None, or with None and why that is no refusal."""
+    verdicts = re.findall(r"(?m)^fn (\S+): (proved|[a-z ]+)(.*)", said)
+    well = status == 1 and re.search(r"(?m)^only=\d+ proved=\d+\n?\Z", said)
+    others = [name for name, verdict, _ in verdicts if verdict != "proved" and not any(is_of(name, it) for it in run["edits"])]
+    for edit in run["edits"]:
+        own = [(verdict, rest) for name, verdict, rest in verdicts if is_of(name, edit)]
+        refusal = next((it for it in own if it[0] in REFUSED), None)
+        if not well: yield edit, None, f"the check ended with status {status} before the prover had tried it: {first_error(said)}"
+        elif others: yield edit, None, f"also not proved: {', '.join(others)}"
+        elif not refusal: yield edit, None, f"the prover says of it: {own[0][0] if own else 'nothing'}"
+        else: yield edit, (refusal[0] + refusal[1])[:150], None
+
+
+def first_error(said):
+    lines = said.splitlines() or ["nothing was said"]
+    return next((it for it in lines if "error" in it), lines[-1])[:300]
+
+
+def tried(rt, crates, runs):
+    """Tries the runs side by side, the longest first, and yields each with what the check said. What was killed is tried again at the end, alone."""
+    jobs = os.environ.get("RT_JOBS", "")
+    jobs = int(jobs) if jobs.isdigit() and int(jobs) else max(1, min(rt.processors(), rt.free() // 3_000_000_000))
+    lines = {name: crates[name].count(rb"\n") for name in {it["edits"][0].crate for it in runs}}
+    runs = sorted(runs, key=lambda it: -lines[it["edits"][0].crate])
+    for run in runs:
+        run["words"] = words_of(rt, crates[run["edits"][0].crate], [it.function for it in run["edits"]])
+    print(f"wrong bodies: {sum(len(it['edits']) for it in runs)} in {len(runs)} checks, {jobs} at once", flush=True)
+    killed = []
+    with ThreadPoolExecutor(jobs) as pool:
+        running = {pool.submit(checked, rt, crates[it["edits"][0].crate], it): it for it in runs}
+        for future in as_completed(running):
+            run, (status, said, seconds) = running[future], future.result()
+            if status >= 0: yield run, status, said, seconds
+            else: killed.append(run)
+    for run in killed: yield (run, *checked(rt, crates[run["edits"][0].crate], run))
+
+
+def attempt(folder, names):
+    edits = edits_of(folder, names)
+    runs = runs_of(edits)
+    rt, crates = kit()
+    build(rt, crates, {it.crate for it in edits})
+    refused, failed = 0, []
+    for run, status, said, seconds in tried(rt, crates, runs):
+        for edit, how, why in judged(run, status, said):
+            word = "refused" if how else "NOT REFUSED" if status >= 0 else "KILLED"
+            print(f"{edit.name}: {word} in {edit.function}: {how or why}", flush=True)
+            refused, failed = refused + bool(how), failed + [edit.name] * (not how)
+        print(f"  {run['edits'][0].crate}: {seconds:.0f} s by the clock", flush=True)
+    print(f"{refused} of {len(edits)} wrong bodies refused, {len(failed)} not{': ' if failed else ''}{' '.join(failed)}")
+    return 1 if failed else 0
+
+
+# ---- The page and the sources
+
+def named():
+    """Yields the rows of the page's table: each named mistake with what refuses it; of the edits first, in the order of their crates."""
+    for edit in edits_of(GATE, []):
+        for mistake in edit.mistakes:
+            yield f"| {mistake} | `{edit.function}` of `{edit.crate}` |"
+    for mistake, ways in by_rows():
+        rows = [text for kind, text in ways if kind == "row"]
+        tests = [text.split()[1] for kind, text in ways if kind == "test"]
+        lacks = [text.split() for kind, text in ways if kind == "lacks"]
+        said = [f"the rows {', '.join(f'`{it}`' for it in rows)}"] * bool(rows) + [f"the test `{it}`" for it in tests]
+        said += [f"the signatures of `{file.removeprefix('crates/')}`: no `{word}`" for file, word in lacks]
+        yield f"| {mistake} | {'; '.join(said)} |"
+
+
+def by_rows():
+    """Yields each mistake of by-rows.txt with its ways of refusal: a kind and a text."""
+    with open(f"{GATE}/by-rows.txt", encoding="utf-8") as it: blocks = it.read().split("\n\n")
+    for lines in ([line.partition(": ") for line in block.splitlines() if line and line[0] != "#"] for block in blocks):
+        if lines: yield lines[0][2], [(kind, text) for kind, _, text in lines[1:]]
+
+
+def text_of(file):
+    with open(file, encoding="utf-8") as it: return it.read()
+
+
+def unfit():
+    """Yields what no longer fits the sources: an edit's file or a mistake, and why."""
+    for edit in [*edits_of(GATE, []), *edits_of(NIGHT, [])]:
+        why = applied(edit, {})[1]
+        if why: yield os.path.relpath(edit.file, TOP), why
+    rows = {line for file in glob.glob(f"{TOP}/crates/*/stdin") for line in text_of(file).splitlines()}
+    for mistake, ways in by_rows():
+        for kind, text in ways:
+            if kind == "row" and text not in rows: yield mistake, f"no program of rows has the line '{text}'"
+            if kind == "test" and f"fn {text.split()[1]}(" not in text_of(f"{TOP}/{text.split()[0]}"): yield mistake, f"{text}: there is no such test"
+            if kind == "lacks" and re.search(rf"\b{text.split()[1]}\b", text_of(f"{TOP}/{text.split()[0]}")): yield mistake, f"{text}: the word is there"
+        if not ways: yield mistake, "nothing is named that refuses it"
+
+
+def paged():
+    """Returns the page with the table as the edits have it."""
+    page = text_of(PAGE)
+    head, rest = page.split(BEGIN)
+    table = "".join(f"{row}\n" for row in ["| Mistake | Refused by |", "|---|---|", *named()])
+    return page, f"{head}{BEGIN}{table}{END}{rest.split(END)[1]}"
+
+
+def check():
+    found = [f"{what}: {why}" for what, why in unfit()]
+    old, new = paged()
+    if old != new: found.append(f"{os.path.relpath(PAGE, TOP)}: its table isn't that of the edits: .ci/wrong.py page writes it")
+    print("\n".join(found), end="\n" if found else "")
+    print(f"wrong bodies: {len(edits_of(GATE, []))} in the gate, {len(edits_of(NIGHT, []))} by night, {len(found)} faults")
+    return 1 if found else 0
+
+
+def main(words):
+    if words == ["check"]: return check()
+    if words == ["page"]:
+        _, new = paged()
+        with open(PAGE, "w", encoding="utf-8") as it: it.write(new)
+        return 0
+    folder = NIGHT if words[:1] == ["--night"] else GATE
+    names = words[folder == NIGHT :]
+    if any(it.startswith("-") for it in names): sys.exit(__doc__)
+    return attempt(folder, names)
+
+
+if __name__ == "__main__":
+    sys.exit(main(sys.argv[1:]))
