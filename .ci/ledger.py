@@ -2,7 +2,7 @@
 """Runs the gate and writes down what each crate costs: processor seconds of its library, its tests and its wrong bodies, and the largest memory.
 
 usage: ledger.py FILE COMMAND..    runs COMMAND; its status is this program's
-       ledger.py --table FILE      prints the table of a ledger in Markdown
+       ledger.py --keep FILE       keeps a ledger as rows of bench/results.tsv
 
 The processes below COMMAND are looked at five times a second, so each loses up to a fifth of a second at its end; the last line of the ledger has what the
 system itself counted for all of them.
@@ -42,7 +42,7 @@ def what_of(pid, known):
         folder = os.readlink(f"/proc/{pid}/cwd")
     except OSError:
         return known
-    if os.path.basename(folder).startswith("rt-edit-"):
+    if os.path.basename(folder).startswith("wrong-body-"):
         kind = "wrong bodies"
     else:
         kind = "tests" if "--test" in words or any(it.endswith("_tests.o") for it in words) else "library"
@@ -114,21 +114,26 @@ def measure(file, command):
     return status
 
 
-def table(file):
+def kept(file):
+    """Keeps a ledger: each crate's row, and what all of it took."""
+    sys.path.insert(0, os.path.join(os.path.dirname(os.path.realpath(__file__)), "..", "bench"))
+    import results
     lines = read(file).splitlines()
-    rows = [it.split("\t") for it in lines if it and not it.startswith("#")]
-    print("| " + " | ".join(rows[0]) + " |")
-    print("|---|" + "---:|" * (len(rows[0]) - 1))
-    for row in rows[1:]:
-        print("| " + " | ".join([f"`{row[0]}`" if row[0] != "all" else "all", *row[1:]]) + " |")
-    for line in lines:
-        if line.startswith("#"):
-            print("\n" + line[2:].split(", status")[0] + ".")
+    rows = [it.split("\t") for it in lines[1:] if not it.startswith("#")]
+    found = [(f"gate by crate / `{row[0]}` / {column}", row[at], unit) for row in rows if row[0] != "all"
+             for at, (column, unit) in enumerate([*((kind, "s") for kind in KINDS), ("largest", "MiB")], 1)]
+    sums = dict(zip(KINDS, next(row for row in rows if row[0] == "all")[1:]))
+    programs = sum(float(row[1]) for row in rows if re.match("test_|example_", row[0]))
+    parts = {"libraries and the program": float(sums["library"]) - programs, "programs of rows and the example": programs, "tests": sums["tests"],
+             "wrong bodies": sums["wrong bodies"]}
+    whole, clock = re.match(r"# (\d+) processor minutes, (\d+) minutes by the clock", lines[-1]).groups()
+    found += [(f"gate / {part} / processor", float(seconds) / 60, "minutes") for part, seconds in parts.items()]
+    results.keep([*found, ("gate / all / processor", whole, "minutes"), ("gate / all / clock", clock, "minutes")])
 
 
 if __name__ == "__main__":
-    if len(sys.argv) == 3 and sys.argv[1] == "--table":
-        table(sys.argv[2])
+    if len(sys.argv) == 3 and sys.argv[1] == "--keep":
+        kept(sys.argv[2])
     elif len(sys.argv) > 2:
         sys.exit(measure(sys.argv[1], sys.argv[2:]))
     else:
