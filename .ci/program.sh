@@ -1,6 +1,6 @@
 #!/usr/bin/env bash
 # Runs a built program of Wireline as a user would, and compares status, standard output and the fault's line, byte for byte.
-# usage: program.sh PROGRAM
+# usage: program.sh PROGRAM [PART..]      every part if none is named: examples cost pages workers refused sweeps formats settings threads words rest
 # - each plan of examples/ with the report beside it, and each of those plans through candump, which must accept it; and by 2, 3 and 8 workers over
 #   either link; a bus with long delays by 2 and 3
 # - the check, the records, the explanation, the trace and the waveform of each of them as check/plain.py gives them, the traffic and the margin as
@@ -32,7 +32,8 @@ else
 fi
 room=$(mktemp -d)
 trap 'rm -rf "$room"' EXIT
-passed=0 failed=0
+parts=" ${*:2} " passed=0 failed=0
+part() { [ "$parts" = "  " ] || [[ $parts == *" $1 "* ]]; } # part NAME: it is one that was asked for
 is() { # is NAME CONDITION..: counts one comparison
   local name=$1
   shift
@@ -47,9 +48,13 @@ runs() { # runs NAME INPUT STATUS STDOUT STDERR WORDS..: STDERR '-' where it is 
   [ "$err" = - ] || is "$name (standard error: $(head -c 200 "$room/err"))" cmp -s "$room/err" "$err"
 }
 
+remedy_of() { grep -F "| \`$1\` |" docs/use/commands.md | sed 's/ |$//;s/.* | //'; }
 : > "$room/none"
+
+if part examples; then
 for report in examples/*.report; do
   name=$(basename "$report" .report)
+  [ -z "${LIGHT-}" ] || [ "$name" != sixteen_nodes ] || continue # what explain and margin say of it takes a build without proof minutes
   runs "run of $name" "examples/$name.toml" 0 "$report" "$room/none" run
   for word in check records explain trace vcd; do
     python3 -B check/plain.py "$word" < "examples/$name.toml" > "$room/wanted"
@@ -118,7 +123,9 @@ for plan in check/margins/*.toml; do
   is "it is beyond the condition: $plan" [ -z "$(grep '^holds for any' "$room/beyond")" ]
   is "it has errors: $plan" [ "$("$program" run < "$plan" | tail -n 1 | cut -d ' ' -f 1-2)" = "verdict faulty" ]
 done
+fi
 
+if part cost; then
 # Full queues: each of two nodes sends 64 frames and receives the other's 64, more than in any example.
 python3 -Bc 'import sys; sys.path.insert(0, "bench"); import worst; print(worst.plan(nodes=2, quanta=200_000))' > "$room/full.toml"
 python3 check/plain.py run < "$room/full.toml" > "$room/full"
@@ -163,7 +170,9 @@ is "the traffic of 8,000 messages takes $used ms" [ "$used" -lt 4000 -a ! -s "$r
 # The terms that each pair of nodes asks for are worked out once for a bus: this plan took more than 600 ms.
 used=$( (TIMEFORMAT='%U %S'; time timeout 300 "$program" margin < examples/sixteen_nodes.toml > "$room/out" 2> "$room/err") 2>&1 | awk '{ print int(1000 * ($1 + $2)) }')
 is "the margins of 16 nodes take $used ms" [ "$used" -lt 400 -a ! -s "$room/err" -a "$(grep -c '^pair ' "$room/out")" = 240 ]
+fi
 
+if part pages; then
 # A page has what the other commands write, each text once, also of a plan whose remarks look like a page's own words.
 printf '# </pre><script>alert(1)</script> &amp; \r\n' | cat - examples/burst.toml > "$room/marked.toml"
 for page in examples/*.toml "$room/marked.toml"; do
@@ -220,7 +229,9 @@ is "the plan of README.md" [ -s "$room/head" -a "$(cat "$room/head")" = "$(bare 
 for name in bounds doubts rates; do
   runs "explain of $name" ".ci/$name.toml" 0 ".ci/$name.explained" "$room/none" explain
 done
+fi
 
+if part workers; then
 for report in examples/*.report; do
   name=$(basename "$report" .report)
   for workers in 2 3 8; do
@@ -276,7 +287,9 @@ second=4294967295 logged 37 54 --from=4294967295 --tick 125ps
 runs "vcd" examples/one_megabit_25m.toml 0 examples/one_megabit_25m.vcd "$room/none" vcd
 sed -E 's/^(\$timescale 1 )ns/\1us/; s/^#([0-9]+)$/#\10/; s/^#00$/#0/' examples/one_megabit_25m.vcd > "$room/wave"
 runs "vcd --tick 10us" examples/one_megabit_25m.toml 0 "$room/wave" "$room/none" vcd --tick 10us
+fi
 
+if part refused; then
 # a row: the command, the status, how the input is made, the fault's line, the input. 'text': with printf's escapes; 'sed': of examples/clean_500k.toml;
 # 'bash': of a command
 # Below it a line 'wrong: ..' and one 'change: ..': what explain says of that input; and 'hint: ..', what `--hint` adds ('line #' for any line)
@@ -315,9 +328,11 @@ while IFS= read -r line; do
 done < .ci/refused.txt
 .ci/faults.py > "$room/out"
 is "faults without a row: $(tr '\n' ' ' < "$room/out")" [ ! -s "$room/out" ]
+fi
+if part rest; then . .ci/files.sh; fi
+if part sweeps; then . .ci/sweeps.sh; fi
 
-. .ci/files.sh
-. .ci/sweeps.sh
+if part formats; then
 ended=0
 python3 -B check/formats.py "$program" examples/clean_500k.toml examples/burst.toml examples/bus_off.toml .ci/bounds.toml .ci/doubts.toml > "$room/out" || ended=$?
 is "JSON and CSV: $(tail -3 "$room/out" | tr '\n' '/')" [ "$ended" = 0 ]
@@ -326,7 +341,10 @@ for records in check/formats/*.json; do
   by_hand=${records%.json}
   runs "JSON of $(basename "$records")" "${by_hand%.*}.toml" 0 "$records" "$room/none" "${by_hand##*.}" --format json
 done
-. .ci/settings.sh
+fi
+if part settings; then . .ci/settings.sh; fi
+
+if part threads; then
 # There is a thread for each worker; the program's own is one of them. With long delays and a processor for each it only
 # waits.
 python3 -Bc 'import sys; sys.path.insert(0, "bench"); import worst; print(worst.plan(nodes=16, quanta=200_000))' > "$room/busy.toml"
@@ -345,7 +363,9 @@ for link in hub mail; do
   all=$(threads "$program" run --workers 2 --link "$link" "$room/far.toml")
   is "threads of a run by 2 workers with long delays, $link: $one on one processor, $all on all" [ "$one" = 2 -a "$all" = "$((processors > 1 ? 3 : 2))" ]
 done
+fi
 
+if part words; then
 while IFS= read -r words; do
   # shellcheck disable=SC2086
   runs "the words '$words'" examples/clean_500k.toml 2 "$room/none" - $words
@@ -466,7 +486,6 @@ for word in merge horizon check records run explain trace candump vcd page margi
 done
 
 # The hints on standard input and output, and on memory, are those of docs/use/commands.md.
-remedy_of() { grep -F "| \`$1\` |" docs/use/commands.md | sed 's/ |$//;s/.* | //'; }
 for word in merge check sweep; do
   printf 'fault: Read\nhint: %s\n' "$(remedy_of Read)" > "$room/fault"
   runs "the hint on a reader that fails, $word" / 3 "$room/none" "$room/fault" "$word" --hint
@@ -475,7 +494,9 @@ for word in merge check sweep; do
   "$program" "$word" --hint < "$input" > /dev/full 2> "$room/err"
   is "the hint on a writer that fails, $word" cmp -s "$room/err" <(printf 'fault: Write\nhint: %s\n' "$(remedy_of Write)")
 done
+fi
 
+if part rest; then
 # The least limit on memory under which the program runs by one thread leaves no room for the stacks of eight more.
 limited() { (ulimit -v "$1" && shift && timeout 300 "$program" run "$@" < examples/clean_500k.toml > "$room/out" 2> "$room/err"); }
 limit=2000
@@ -539,6 +560,7 @@ if command -v gcc > /dev/null; then
   is "settings, each allocation refused" check/refuse.sh "$program" settings examples/settings/narrow_1m.toml
   is "sweep, each allocation refused" check/refuse.sh "$program" sweep examples/clean_500k.toml --runs 3 --workers 2
   [ ! -x "$world" ] || is "worlds, each allocation refused" python3 check/worlds.py "$world" refused
+fi
 fi
 
 echo "$passed passed, $failed failed"

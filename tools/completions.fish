@@ -1,5 +1,5 @@
 # Completions of ./wireline for fish: ./wireline completions fish | source
-complete -c wireline -n __fish_use_subcommand -f -a 'run check explain trace candump vcd page margin traffic settings records merge horizon sweep build completions help'
+complete -c wireline -n __fish_use_subcommand -f -a 'run check explain trace candump vcd page margin traffic settings records merge horizon sweep build test completions help'
 complete -c wireline -n 'not __fish_use_subcommand' -l hint -d 'what to change after a fault'
 complete -c wireline -n 'not __fish_use_subcommand' -l progress -d 'how long the run has taken'
 complete -c wireline -n 'not __fish_use_subcommand' -s o -r -d 'the file to write'
