@@ -6,7 +6,7 @@ usage: beside.py OURS OTHER [WORD..]      RUNS (default 15) is the number of run
        beside.py OURS OTHER counts        millions of instructions of whole processes (callgrind), and how those of `run` grow as a plan doubles
 
 Prints for each input the least wall and processor time of both in milliseconds, the ratios, the peak memory in MiB, and whether both wrote the same.
-These are the tables of docs/change/speed.md.
+KEEP=1 keeps the figures as rows of results.tsv, from which the tables of docs/change/speed.md are made.
 """
 import hashlib
 import os
@@ -17,6 +17,7 @@ import tempfile
 import time
 
 sys.dont_write_bytecode = True
+import results
 import worst
 
 HERE = os.path.dirname(os.path.abspath(__file__))
@@ -83,6 +84,10 @@ def peak(program, command, path, out):
     return int(told.split()[-1]) / 1024
 
 
+def kept(table, row, *cells):
+    results.keep_if_asked([(f"{table} / {row} / {column}", number, unit) for column, number, unit in cells])
+
+
 def said(runs):
     print(f"least of {runs} by turns, load {os.getloadavg()[0]:.1f}, {os.cpu_count()} processors")
 
@@ -113,13 +118,18 @@ def counts(programs):
         text = make()
         ours, other = [instructions(program, command, text) / 1e6 for program in programs]
         print(f"| {name} | {ours:.2f}, {other:.2f} | {ours / other:.2f} |", flush=True)
+        kept("instructions", name, ("ours", ours, "million"), ("plain Rust", other, "million"), ("ratio", ours / other, ""))
     text = made("plan.py")
     print("\n| command on plan.py | millions of instructions |\n|---|---:|")
-    for command in COMMANDS: print(f"| `{command}` | {instructions(programs[0], command, text) / 1e6:.1f} |", flush=True)
+    for command in COMMANDS:
+        count = instructions(programs[0], command, text) / 1e6
+        print(f"| `{command}` | {count:.1f} |", flush=True)
+        kept("commands", f"`{command}`", ("instructions", count, "million"))
     print("\n| busy plan, doubled | millions of instructions | times the one before |\n|---|---:|---:|")
     for name, plans in DOUBLED:
         found = [instructions(programs[0], "run", text.encode()) / 1e6 for text in plans]
         print(f"| {name} | {', '.join(f'{n:.1f}' for n in found)} | {', '.join(f'{n / m:.2f}' for m, n in zip(found, found[1:]))} |", flush=True)
+        kept("doubled", name, *((column, count, "million") for column, count in zip(("first", "second", "third"), found)))
 
 
 def commands(programs, runs):
@@ -137,6 +147,7 @@ def commands(programs, runs):
     print("| command | processor, ms | of the other's `run` | bytes out |\n|---|---:|---:|---:|")
     for (_, command), time_, size in zip(cases[1:], least[1:], sizes[1:]):
         print(f"| `{command}` | {time_ * 1000:.1f} | {time_ / least[0]:.2f} | {size:,} |")
+        kept("commands", f"`{command}`", ("processor", time_ * 1000, "ms"), ("of plain Rust's `run`", time_ / least[0], ""), ("out", size, "bytes"))
     print(f"`run` of the other program: {least[0] * 1000:.1f} ms")
 
 
@@ -165,6 +176,9 @@ def main():
         (wall, cpu), (wall2, cpu2) = least
         print(f"| {name} | {wall * 1000:.1f}, {wall2 * 1000:.1f} | {wall / wall2:.2f} | {cpu * 1000:.1f}, {cpu2 * 1000:.1f} | {cpu / max(cpu2, 1e-4):.2f} |",
               f"{peaks[0]:.0f}, {peaks[1]:.0f} | {'the same' if same else 'DIFFERS'} |", flush=True)
+        if same:
+            ratio = cpu / max(cpu2, 1e-4)
+            kept("beside plain Rust", name, ("ours", cpu * 1000, "ms"), ("plain Rust", cpu2 * 1000, "ms"), ("ratio", ratio, ""), ("peak", peaks[0], "MiB"))
     said(runs)
 
 

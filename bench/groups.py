@@ -1,7 +1,7 @@
 #!/usr/bin/env python3
 """Settles worlds of groups by the built `test_worlds`, with twice as many quanta at each step, and prints a table: seconds of processor time
 (the least of RUNS, 3 by default) and peak memory; where COUNT is set, also the instructions (in millions, by valgrind's cachegrind), and how many
-times as many as in the row before, which a busy machine does not change.
+times as many as in the row before, which a busy machine does not change. KEEP=1 keeps the row with the most quanta of each world in results.tsv.
 
 usage: groups.py [PROGRAM [MOST_OF_TWO [MOST_OF_SIXTEEN]]]      the most quanta a node, 64,000 and 16,000 by default: of the plan of two nodes with
                                                                one frame, one group a node; of the busy plan of 16 nodes (bench/plan.py 21), in
@@ -13,6 +13,9 @@ import subprocess
 import sys
 import tempfile
 from pathlib import Path
+
+sys.dont_write_bytecode = True
+import results
 
 HERE = Path(__file__).resolve().parent
 WORDS = sys.argv[1:] + [str(HERE / "../crates/test_worlds/out/test_worlds"), "64000", "16000"][len(sys.argv) - 1:]
@@ -65,6 +68,10 @@ def main() -> None:
                 steps = counted(Path(folder)) if os.environ.get("COUNT") else 0.0
                 row = [name, f"{quanta:,}", f"{int(told[0]):,}", f"{int(told[1]):,}", f"{seconds:.2f}", times(seconds, before), f"{peak:.1f} MiB"]
                 print(f"| {' | '.join([*row, f'{steps:,.0f}', times(steps, steps_before)])} |", flush=True)
+                if 2 * quanta > most:
+                    cells = [("rounds", told[0], ""), ("records", told[1], ""), ("processor", seconds, "s"), ("peak", peak, "MiB")]
+                    cells += [("instructions", steps, "million")] * bool(steps)
+                    results.keep_if_asked([(f"groups / {name}, {quanta} quanta a node / {column}", number, unit) for column, number, unit in cells])
                 quanta, before, steps_before = 2 * quanta, seconds, steps
 
 

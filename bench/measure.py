@@ -1,12 +1,15 @@
 #!/usr/bin/env python3
 """Runs a program three times (or RUNS times) over an input file and prints the least wall time and the peak memory.
 
-usage: measure.py NAME INPUT PROGRAM [WORD..]
+usage: measure.py NAME INPUT PROGRAM [WORD..]      KEEP=1 keeps both as rows of results.tsv
 """
 import os
 import subprocess
 import sys
 import time
+
+sys.dont_write_bytecode = True
+import results
 
 
 def main() -> None:
@@ -22,6 +25,7 @@ def main() -> None:
         size = os.path.getsize(path + ".out")
     status = os.waitstatus_to_exitcode(status)
     print(f"{name}: status {status}, {size} bytes out, wall {min(walls):.3f} s, peak {peak / 1024:.1f} MiB")
+    if status == 0: results.keep_if_asked([(f"processes / {name} / wall", min(walls), "s"), (f"processes / {name} / peak", peak / 1024, "MiB")])
 
 
 main()

@@ -2,11 +2,15 @@
 """Quanta per second of one idle node, and of a busy one with another that acknowledges, by `wl_sim run`.
 
 usage: node.py [PROGRAM]      PROGRAM is the built wl_sim. Wall time, the least of 20 runs, less that of the same plan with end 0.
+KEEP=1 keeps the figures as rows of results.tsv.
 """
 import os
 import subprocess
 import sys
 import time
+
+sys.dont_write_bytecode = True
+import results
 
 QUANTA, QUANTUM, RUNS = 65_536, 100, 20
 
@@ -36,6 +40,7 @@ def main() -> None:
     for name, frames in [("idle node", [0]), ("busy pair", [64, 0])]:
         spent = least(program, plan(frames, QUANTA * QUANTUM)) - least(program, plan(frames, 0))
         print(f"{name}: {QUANTA * len(frames) / spent / 1e6:.1f} million quanta a second")
+        results.keep_if_asked([(f"node / {name} / quanta", QUANTA * len(frames) / spent / 1e6, "million a second")])
 
 
 main()

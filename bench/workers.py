@@ -3,7 +3,7 @@
 
 usage: workers.py PROGRAM table [ROUNDS]     PROGRAM is the built wl_sim: whole processes, one thread and workers in turns, on the same three plans
                                              and on a longer one with such delays: wall and processor time of that process alone (the median of
-                                             the rounds) beside one thread's, and peak memory, by GNU time; the table of docs/change/speed.md
+                                             the rounds) beside one thread's, and peak memory, by GNU time; KEEP=1 keeps them as rows of results.tsv
        workers.py PROGRAM speed [ROUNDS]     PROGRAM is the built test_workers: three plans of 16 nodes with 60,000 quanta each, by one thread and by
                                              1, 2 and 4 workers and either link in turns; the table of docs/proof/workers.md
 
@@ -23,6 +23,7 @@ from datetime import date
 from pathlib import Path
 
 sys.dont_write_bytecode = True
+import results
 HERE = Path(__file__).resolve().parent
 LINKS = ("hub", "mail")
 RUNS = [(None, 0)] + [(link, workers) for workers in (1, 2, 4) for link in LINKS]
@@ -122,7 +123,7 @@ def peak(words, source):
     return int(ran.stderr.split()[-1]) / 1024
 
 
-def row(program, name, options, source, rounds):
+def row(program, name, options, where, source, rounds):
     """One row of the table."""
     alone, many = [], []
     for _ in range(rounds):
@@ -131,6 +132,9 @@ def row(program, name, options, source, rounds):
     if len({ran[2] for ran in alone + many}) != 1: sys.exit(f"{name} {options}: the reports differ")
     (wall, cpu), (wall2, cpu2) = [[statistics.median(ran[k] for ran in runs) for k in (0, 1)] for runs in (alone, many)]
     most = max(peak([program, "run", *options], source) for _ in range(3))
+    cells = [("one thread, wall", wall * 1e3, "ms"), ("workers, wall", wall2 * 1e3, "ms"), ("ratio, wall", wall2 / wall, ""),
+             ("ratio, processor", cpu2 / cpu, ""), ("peak", most, "MiB")]
+    results.keep_if_asked([(f"workers / {name}: `{' '.join(options)}`{where} / {column}", number, unit) for column, number, unit in cells])
     return (f"{wall * 1e3:.1f}, {wall2 * 1e3:.1f} | {wall2 / wall:.2f} | {cpu * 1e3:.1f}, {cpu2 * 1e3:.1f} | {cpu2 / cpu:.2f} |"
             f" {most:.0f} |")
 
@@ -145,7 +149,8 @@ def table(program, rounds):
         os.sched_setaffinity(0, {min(everywhere)} if one else everywhere)
         with tempfile.TemporaryFile() as source:
             source.write(inputs[name].encode())
-            print(f"| {name} | {' '.join(options)}{', one processor' if one else ''} | {row(program, name, options, source, rounds)}", flush=True)
+            where = ", one processor" if one else ""
+            print(f"| {name} | {' '.join(options)}{where} | {row(program, name, options, where, source, rounds)}", flush=True)
     print(f"\n{os.cpu_count()} processors, load {os.getloadavg()[0]:.1f}, the median of {rounds} rounds, {date.today()}")
 
 

@@ -5,12 +5,15 @@ usage: worst.py PROGRAM [records|texts|plans]...      all three kinds where none
 
 records: record texts at the size limit of 2^27 bytes through `merge` and `horizon`. texts: plan texts at the size limit of 2^20 bytes through `check`.
 plans: plans at their limits through `run`. Prints for each the status, processor seconds at half and at full size, their ratio, and the peak memory in
-MiB at full size.
+MiB at full size. KEEP=1 keeps the figures at full size as rows of results.tsv.
 """
 import os
 import subprocess
 import sys
 import tempfile
+
+sys.dont_write_bytecode = True
+import results
 
 SEQS, COUNTS = 262_145, 262_146  # numbers of edges, of silences
 RECORD_BYTES, PLAN_BYTES = 1 << 27, 1 << 20
@@ -135,6 +138,7 @@ def row(program, command, name, half, full):
         held = peak(program, command, path)
     (_, least), (status, most) = found
     print(f"| {command} | {name} | {status} | {least:.3f} | {most:.3f} | {most / max(least, 0.0005):.2f} | {held:.0f} |", flush=True)
+    results.keep_if_asked([(f"worst / `{command}`: {name} / processor", most, "s"), (f"worst / `{command}`: {name} / peak", held, "MiB")])
 
 
 def main():
