@@ -325,9 +325,10 @@ function drawDisturbed(pen, { times, values }, top) {
 
 // Marks at times, but for those that are nearer than four pixels to another one: they would be drawn as a block.
 function drawMarks(pen, times, y, colour, shape) {
-  const last = countUpTo(times, view.to), near = (4 * (view.to - view.from)) / places();
+  const first = countUpTo(times, view.from), last = countUpTo(times, view.to), near = (4 * (view.to - view.from)) / places();
+  if ((last - first) * 3 > places()) return;
   pen.fillStyle = pen.strokeStyle = colour;
-  for (let at = countUpTo(times, view.from); at < last; at += 1) {
+  for (let at = first; at < last; at += 1) {
     const isNear = times[at] - times[at - 1] < near || times[at + 1] - times[at] < near; // not so before the first one and after the last one
     if (!isNear) shape(pen, place(times[at]), y);
   }
