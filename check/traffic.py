@@ -8,8 +8,10 @@ It is the comparison `traffic` of compare.py, too.
 """
 import bisect
 import random
+import re
 import sys
 from collections import Counter
+from pathlib import Path
 
 sys.dont_write_bytecode = True
 import plain
@@ -17,8 +19,8 @@ import random_plans
 from tally import asked
 
 PICOSECONDS = {"ps": 1, "ns": 1_000, "us": 1_000_000}
-IDLE = ("idle", "suspended")
-OUTSIDE = ("integrating", "bus_off")
+EXAMPLE = Path(__file__).resolve().parent.parent / "examples/periodic_500k.toml"
+QUIET = ("idle", "suspended", "integrating", "bus_off")
 
 
 def spread(values):
@@ -31,28 +33,26 @@ def hundredths(number):
     return f"{number // 100}.{number // 10 % 10}{number % 10}"
 
 
-def spans(node, end):
-    """What a node does after each of its samples, and for how many ticks."""
-    ticks = [tick for tick, _ in node.states[1:]] + [end]
-    return [(words[3], after - tick) for (tick, words), after in zip(node.states[1:], ticks[1:])]
+def pauses(nodes, end):
+    """The times, from one tick to another, in which no node finds the bus busy."""
+    begins, stops = Counter(), Counter()
+    for node in nodes:
+        ticks = [tick for tick, _ in node.states[1:]] + [end]
+        for (tick, words), after in zip(node.states[1:], ticks[1:]):
+            if words[3] in QUIET or after <= tick: continue
+            begins[tick] += 1
+            stops[after] += 1
+    found, at, busy = [], 0, 0
+    for tick in sorted(begins | stops) + [end]:
+        if not busy and at < tick: found.append((at, tick))
+        at, busy = tick, busy + begins[tick] - stops[tick]
+    return found
 
 
-def longest_idle(of_node):
-    longest = run = 0
-    for state, ticks in of_node:
-        run = run + ticks if state in IDLE else 0
-        longest = max(longest, run)
-    return longest
-
-
-def bus_words(nodes, end, tick):
-    """Of the node to which the bus is idle longest, the last of equals."""
-    of_nodes = [spans(node, end) for node in nodes]
-    idle = [sum(ticks for state, ticks in of_node if state in IDLE) for of_node in of_nodes]
-    quiet = of_nodes[max(range(len(nodes)), key=lambda i: (idle[i], i))]
-    busy = sum(ticks for state, ticks in quiet if state not in IDLE + OUTSIDE)
-    load = 10_000 * busy // end if end else 0
-    return f"bus load {hundredths(load)} % gap {longest_idle(quiet) * tick // 1_000_000} us"
+def bus_words(free, end, tick):
+    lengths = [after - before for before, after in free]
+    load = 10_000 * (end - sum(lengths)) // end if end else 0
+    return f"bus load {hundredths(load)} % gap {max(lengths, default=0) * tick // 1_000_000} us"
 
 
 def key(frame):
@@ -67,9 +67,13 @@ def attempts(node, done):
         if words.startswith("error ") and words.split()[2] == "tx" and words.split()[4] != "delimiter": yield place, "broken"
 
 
+def last_quantum(setup, node):
+    return bisect.bisect_left(range(node.quanta), node.sampled[-1], key=setup.clock.at) if node.sampled else -1
+
+
 def messages(i, setup, node, tick):
     queue, done = setup.queue, [quantum for what, quantum, _ in node.frames if what == "sent"]
-    last = bisect.bisect_left(range(node.quanta), node.sampled[-1], key=setup.clock.at) if node.sampled else -1
+    last = last_quantum(setup, node)
     failed = Counter((key(queue[place].frame), how) for place, how in attempts(node, done))
     for message in dict.fromkeys(key(waiting.frame) for waiting in queue):
         mine = [(place, waiting.ready) for place, waiting in enumerate(queue) if key(waiting.frame) == message]
@@ -79,25 +83,79 @@ def messages(i, setup, node, tick):
         ticks = [setup.clock.at(end) - setup.clock.at(ready) for ready, end in sent]
         waits = sent + [(ready, float("inf")) for ready in left]
         waiting = [sum(start <= at < end for start, end in waits) for at, _ in waits if at <= last]
-        name = f"{message[1]:0{8 if message[0] else 3}x}"
-        yield (f"message {i} {setup.name} {name} sent {len(sent)} left {len(left)} waiting {max(waiting, default=0)} "
+        yield (f"message {i} {setup.name} {digits(message)} sent {len(sent)} left {len(left)} waiting {max(waiting, default=0)} "
                f"lost {failed[message, 'lost']} broken {failed[message, 'broken']} "
                f"quanta {spread(quanta)} us {spread([time * tick // 1_000_000 for time in ticks])}")
 
 
-def verdict(nodes):
-    if any(state[3] == "bus_off" for node in nodes for _, state in node.states): return "bus off"
-    if any(node.errors for node in nodes): return "errors"
-    if any(node.waiting for node in nodes): return "ends too early"
-    passed = [len(node.frames) for node in nodes if node.samples]
-    return "deaf" if passed and min(passed) < max(passed) else "works"
+def digits(message):
+    return f"{message[1]:0{8 if message[0] else 3}x}"
+
+
+class Message:
+    """The frames of a message that became ready in time: for how many ticks each waits, whether it was sent, and whether others were meanwhile."""
+
+    def __init__(self, setup, node, message):
+        done, last = [quantum for what, quantum, _ in node.frames if what == "sent"], last_quantum(setup, node)
+        places = [place for place, waiting in enumerate(setup.queue) if key(waiting.frame) == message and waiting.ready <= last]
+        ready = [setup.queue[place].ready for place in places]
+        ticks = [setup.clock.at(quantum) for quantum in ready]
+        until = [setup.clock.at(done[place] if place < len(done) else last) for place in places]
+        received = [quantum for what, quantum, _ in node.frames if what != "sent"]
+        self.name, self.message = setup.name, message
+        self.frames = []
+        for place, begin, before, after in zip(places, ready, ticks, until):
+            stop = done[place] if place < len(done) else last
+            self.frames.append((after - before, place < len(done), any(begin < quantum <= stop for quantum in received)))
+        apart = {after - before for before, after in zip(ready, ready[1:])}
+        self.period = ticks[1] - ticks[0] if len(ready) > 2 and len(apart) == 1 else 0
+
+    def judge(self, longest):
+        self.allowed = self.period or longest
+        late = [(waits, sent, passed) for waits, sent, passed in self.frames if waits > self.allowed > 0 and (self.period or not sent)]
+        self.waits = max((waits for waits, _, _ in late), default=None)
+        self.left = not all(sent for _, sent, _ in late)
+        self.starved = all(passed for _, _, passed in late)
+
+
+def late_messages(setups, nodes):
+    found = [Message(setup, node, message) for setup, node in zip(setups, nodes)
+             for message in dict.fromkeys(key(waiting.frame) for waiting in setup.queue)]
+    longest = max((message.period for message in found), default=0)
+    for message in found: message.judge(longest)
+    return [message for message in found if message.waits is not None]
+
+
+def late_words(message, tick):
+    word = "starved" if message.starved else "overloads"
+    waits, allowed = message.waits * tick // 1_000_000, message.allowed * tick // 1_000_000
+    return f"{word} {message.name} {digits(message.message)} waits {waits} us allowed {allowed} us"
+
+
+def verdict(setups, nodes, full, tick):
+    """The lines of the causes, and that of the reason."""
+    if any(state[3] == "bus_off" for node in nodes for _, state in node.states): return ["verdict bus off"]
+    if any(node.errors for node in nodes): return ["verdict errors"]
+    late = late_messages(setups, nodes)
+    lines = [late_words(message, tick) for message in late]
+    stuck = any(message.left and message.allowed < full for message in late)
+    if stuck: lines = [f"full for the last {full * tick // 1_000_000} us"] + lines
+    if stuck or not all(message.starved for message in late): return lines + ["verdict overloaded"]
+    if late: return lines + ["verdict starved"]
+    if any(node.waiting for node in nodes): return ["verdict ends too early"]
+    passed = [(setup.name, len(node.frames)) for setup, node in zip(setups, nodes) if node.samples]
+    most = max((count for _, count in passed), default=0)
+    deaf = [f"deaf {name} {count} of {most} frames" for name, count in passed if count < most]
+    return deaf + [f"verdict {'deaf' if deaf else 'works'}"]
 
 
 def traffic_text(plan, tick=1_000):
     nodes = plain.simulate(plan)
-    lines = [bus_words(nodes, plan.end, tick)]
+    free = pauses(nodes, plan.end)
+    full = plan.end - max((after for _, after in free), default=0)
+    lines = [bus_words(free, plan.end, tick)]
     for i, (setup, node) in enumerate(zip(plan.nodes, nodes)): lines += messages(i, setup, node, tick)
-    return lines + [f"verdict {verdict(nodes)}"]
+    return lines + verdict(plan.nodes, nodes, full, tick)
 
 
 def picoseconds(word):
@@ -107,9 +165,21 @@ def picoseconds(word):
 plain.COMMANDS["traffic"] = lambda text: traffic_text(plain.read_plan(text))
 
 
+def busy_input(rng):
+    """A plan of periodic messages, many of them more often than the bus can take; now and then a node comes late."""
+    text = EXAMPLE.read_text()
+    text = re.sub(r"every = [0-9_]+", lambda _: f"every = {rng.choice((1_600, 2_400, 3_200, 4_000, 6_000, 8_000, 12_000, 16_000, 24_000))}", text)
+    text = re.sub(r"ready = [0-9]+", lambda _: f"ready = {rng.randrange(300, 4_000)}", text)
+    text = re.sub(r", every = [0-9]+", lambda found: rng.choice((found[0],) * 3 + ("", f"{found[0]}, count = {rng.randrange(1, 4)}")), text)
+    text = re.sub(r", count = 3 \}", " }", text)
+    if rng.random() < 0.2: text = text.replace("offset = 900", f"offset = {rng.randrange(900, 900_000)}")
+    return re.sub(r"end = [0-9_]+", f"end = {rng.randrange(1_000, 5_000)}_000", text).encode()
+
+
 def traffic(tally, program, seed, numbers, options):
     for number in numbers:
-        text = random_plans.plan_input(random.Random(f"{seed} {number}"), random.Random(f"{seed} {number} sync"), "mixed")
+        rng = random.Random(f"{seed} {number}")
+        text = busy_input(rng) if number % 2 else random_plans.plan_input(rng, random.Random(f"{seed} {number} sync"), "mixed")
         wanted = plain.answer("traffic", text)
         tally.tried += 1
         tally.count("answers", (wanted[0].splitlines() or ["refused"])[-1])

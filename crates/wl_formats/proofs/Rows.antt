@@ -56,6 +56,11 @@ two_records : formatted Json subject.Traffic (codes "bus load 5.00 % gap 7 us\nv
     ≡ Some (codes "{\"command\":\"traffic\",\"records\":[\n{\"kind\":\"bus\",\"load_percent\":5.00,\"gap_us\":7},\n{\"kind\":\"verdict\",\"verdict\":\"ends too early\"}\n]}\n")
 two_records = refl
 
+-- why a run of `traffic` didn't work: a record of its own for each node or message
+causes : formatted Json subject.Traffic (codes "full for the last 9936 us\nstarved pump 1a0 waits 558 us allowed 50 us\ndeaf panel 3 of 12 frames\n")
+    ≡ Some (codes "{\"command\":\"traffic\",\"records\":[\n{\"kind\":\"full\",\"full_us\":9936},\n{\"kind\":\"starved\",\"name\":\"pump\",\"id\":\"0x1a0\",\"waits_us\":558,\"allowed_us\":50},\n{\"kind\":\"deaf\",\"name\":\"panel\",\"passed\":3,\"most_passed\":12}\n]}\n")
+causes = refl
+
 no_line : formatted Json subject.Trace [] ≡ Some (codes "{\"command\":\"trace\",\"records\":[\n]}\n")
 no_line = refl
 

@@ -1,7 +1,17 @@
 -- The lines of `traffic`, each kind with its fields (this project's profile).
-use Rattle.std.specs.Prelude.{[], ◌∷◌, codes}
+use Rattle.std.specs.Prelude.{[], ◌∷◌, ◌++◌, codes}
 use Rattle.wl_formats.specs.declared.shape.Class.TheVariants.{Hexadecimal, Measure, Number, Phrase, Word}
-use Rattle.wl_formats.specs.Shapes.{Layout, literal, field}
+use Rattle.wl_formats.specs.Shapes.{Form, Layout, Text, literal, field}
+
+-- a message that is late: for how long it waits, and for how long it may
+abbrev pub late_form : Text → Form
+late_form kind = record {
+  kind = kind;
+  parts =
+      literal (kind ++ codes " ") ∷ field (codes "name") Word ∷ literal (codes " ") ∷ field (codes "id") Hexadecimal ∷
+      literal (codes " waits ") ∷ field (codes "waits_us") Number ∷ literal (codes " us allowed ") ∷
+      field (codes "allowed_us") Number ∷ literal (codes " us") ∷ [];
+}
 
 abbrev pub traffic_layout : Layout
 traffic_layout = record {
@@ -9,7 +19,8 @@ traffic_layout = record {
   columns =
       codes "load_percent" ∷ codes "gap_us" ∷ codes "node" ∷ codes "name" ∷ codes "id" ∷ codes "sent" ∷ codes "left" ∷
       codes "waiting" ∷ codes "lost" ∷ codes "broken" ∷ codes "least_quanta" ∷ codes "mean_quanta" ∷
-      codes "greatest_quanta" ∷ codes "least_us" ∷ codes "mean_us" ∷ codes "greatest_us" ∷ codes "verdict" ∷ [];
+      codes "greatest_quanta" ∷ codes "least_us" ∷ codes "mean_us" ∷ codes "greatest_us" ∷ codes "verdict" ∷ codes "full_us" ∷
+      codes "waits_us" ∷ codes "allowed_us" ∷ codes "passed" ∷ codes "most_passed" ∷ [];
   forms =
       record {
         kind = codes "bus";
@@ -30,6 +41,18 @@ traffic_layout = record {
             field (codes "greatest_quanta") Measure ∷ literal (codes " us least ") ∷ field (codes "least_us") Measure ∷
             literal (codes " mean ") ∷ field (codes "mean_us") Measure ∷ literal (codes " greatest ") ∷
             field (codes "greatest_us") Measure ∷ [];
+      } ∷
+      record {
+        kind = codes "full";
+        parts = literal (codes "full for the last ") ∷ field (codes "full_us") Number ∷ literal (codes " us") ∷ [];
+      } ∷
+      late_form (codes "overloads") ∷
+      late_form (codes "starved") ∷
+      record {
+        kind = codes "deaf";
+        parts =
+            literal (codes "deaf ") ∷ field (codes "name") Word ∷ literal (codes " ") ∷ field (codes "passed") Number ∷
+            literal (codes " of ") ∷ field (codes "most_passed") Number ∷ literal (codes " frames") ∷ [];
       } ∷
       record {
         kind = codes "verdict";

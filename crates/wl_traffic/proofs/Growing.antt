@@ -1,20 +1,20 @@
 -- Lists and folds that grow by one.
-use Rattle.std.proofs.Common.{◌≡◌, ◌∙◌, sym, ap, arith, zero-add, ℕ, zero, suc, ◌+◌, ◌*◌, ◌/◌, ◌%◌, ◌^◌, ◌<◌, ◌≤◌, List, [], ◌∷◌, ◌++◌, length, map, fold, get_or, take, append-nil}
+use Rattle.std.proofs.Common.{◌≡◌, ◌∙◌, sym, ap, arith, refl, zero-add, add-one, ℕ, zero, suc, Bool, true, false, ◌&&◌, ◌||◌, ◌+◌, ◌*◌, ◌/◌, ◌%◌, ◌^◌, ◌<◌, ◌≤◌, List, [], ◌∷◌, ◌++◌, length, map, fold, Option, Some, get_or, take, append-nil}
 use Rattle.std.specs.Prelude.{slice_get}
-use Rattle.std.specs.List.{All, filter, flat_map, range_with_len}
+use Rattle.std.specs.List.{All, filter, flat_map, list_all, list_any, range_with_len}
 use Rattle.std.proofs.Math.Nat.{add-mul, mul_assoc, div-add-mod, mul-add-div}
 use Rattle.std.proofs.lemmas.List.{take_more}
 use Rattle.std.proofs.lemmas.List.Concat.{flat_map-append}
 use Rattle.std.proofs.lemmas.List.Elements.{All-filter, All-map}
-use Rattle.std.proofs.lemmas.List.FromFn.{map-range_with_len_more}
+use Rattle.std.proofs.lemmas.List.Folds.{list_all-append, list_any-append}
 use Rattle.std.proofs.lemmas.List.Sums.{fold-append}
+use Rattle.wl_level.proofs.Callers.{range_more}
+use Rattle.wl_level.specs.declared.Level.{Level}
 use Rattle.wl_node.specs.declared.setup.Passed.{Passed}
 use Rattle.wl_node.specs.declared.setup.Queued.{Queued}
 use Rattle.wl_node.specs.History.{is_sent}
-use Rattle.wl_plan.specs.declared.plan.Plan.{Plan}
 use Rattle.wl_traffic.specs.declared.attempts.Attempt.{Attempt}
 use Rattle.wl_traffic.specs.Attempts.{entries_by, entry_in, sent_quanta}
-use Rattle.wl_traffic.specs.Bus.{load_at, no_load, quieter}
 use Rattle.wl_traffic.specs.Known.{IsKnown, IsKnownQuantum}
 
 -- what one element more gives
@@ -24,19 +24,38 @@ flat_more f xs i d within =
     ap (flat_map f) (take_more xs i d within) ∙ flat_map-append f (take i xs) (get_or xs i d ∷ [])
     ∙ ap (λ ys. flat_map f (take i xs) ++ ys) (append-nil (f (get_or xs i d)))
 
--- the bus by one node more
-pub bus_more : (plan : Plan) (i : ℕ)
-    → fold quieter no_load (map (load_at plan) (range_with_len 0 (i + 1)))
-    ≡ quieter (fold quieter no_load (map (load_at plan) (range_with_len 0 i))) (load_at plan i)
-bus_more plan i =
-    ap (fold quieter no_load) (map-range_with_len_more (load_at plan) 0 i i (zero-add i))
-    ∙ fold-append quieter no_load (map (load_at plan) (range_with_len 0 i)) (load_at plan i ∷ [])
+-- what one number more gives
+below_more : {A : Type 0} (f : List ℕ → A) (n : ℕ) → f (range_with_len 0 (n + 1)) ≡ f (range_with_len 0 n ++ n ∷ [])
+below_more f n = ap f (ap (range_with_len 0) (add-one n) ∙ range_more 0 n ∙ ap (λ x. range_with_len 0 n ++ x ∷ []) (zero-add n))
+
+pub any_below_more : (p : ℕ → Bool) (n : ℕ) → list_any p (range_with_len 0 (n + 1)) ≡ (list_any p (range_with_len 0 n) || p n)
+any_below_more p n =
+    below_more (list_any p) n ∙ list_any-append p (range_with_len 0 n) (n ∷ [])
+    ∙ ap (λ b. list_any p (range_with_len 0 n) || b) (elim (p n) as (λ v. (v || false) ≡ v) [ true ↦ refl | false ↦ refl ])
+
+pub all_below_more : (p : ℕ → Bool) (n : ℕ) → list_all p (range_with_len 0 (n + 1)) ≡ (list_all p (range_with_len 0 n) && p n)
+all_below_more p n =
+    below_more (list_all p) n ∙ list_all-append p (range_with_len 0 n) (n ∷ [])
+    ∙ ap (λ b. list_all p (range_with_len 0 n) && b) (elim (p n) as (λ v. (v && true) ≡ v) [ true ↦ refl | false ↦ refl ])
+
+pub fold_below_more : {A : Type 0} (f : A → ℕ → A) (a : A) (n : ℕ) → fold f a (range_with_len 0 (n + 1)) ≡ f (fold f a (range_with_len 0 n)) n
+fold_below_more f a n = below_more (fold f a) n ∙ fold-append f a (range_with_len 0 n) (n ∷ [])
+
+pub flat_below_more : {A : Type 0} (f : ℕ → List A) (n : ℕ) → flat_map f (range_with_len 0 (n + 1)) ≡ flat_map f (range_with_len 0 n) ++ f n
+flat_below_more f n =
+    below_more (flat_map f) n ∙ flat_map-append f (range_with_len 0 n) (n ∷ []) ∙ ap (λ ys. flat_map f (range_with_len 0 n) ++ ys) (append-nil (f n))
 
 -- a quantum among known ones is known
 get_known : (xs : List ℕ) (k : ℕ) → All (λ q. q ≤ 2 ^ 21) xs → IsKnownQuantum (slice_get xs k)
 get_known [] k h = tt
 get_known (x ∷ xs) zero h = h 0 0 (omega arith)
 get_known (x ∷ xs) (suc k) h = get_known xs k (λ i d b. h (suc i) d (omega arith))
+
+-- and the last of known ones
+pub last_known : (samples : List (ℕ × Level)) (last : Option ℕ) → IsKnownQuantum last → All (λ s. s.0 ≤ 2 ^ 21) samples
+    → IsKnownQuantum (fold (λ (at : Option ℕ) (s : ℕ × Level). Some s.0) last samples)
+last_known [] last k h = k
+last_known (s ∷ samples) last k h = last_known samples (Some s.0) (h 0 s (omega arith)) (λ i d b. h (suc i) d (omega arith))
 
 pub entries_known : (queue : List Queued) (frames : List Passed) (attempts : List Attempt) → All (λ p. p.quantum ≤ 2 ^ 21) frames
     → All IsKnown (entries_by queue (sent_quanta frames) attempts)

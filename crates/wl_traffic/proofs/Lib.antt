@@ -1,4 +1,5 @@
 mod Growing
 mod Lines
+mod Loads
 mod Quanta
 mod Rows

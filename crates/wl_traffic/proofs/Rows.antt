@@ -1,32 +1,59 @@
 -- Worked rows of the traffic's definitions, by hand from docs/use/traffic.md.
-use Rattle.std.proofs.Common.{◌≡◌, List, ℕ, [], ◌∷◌, Some, None, true, false, codes, refl}
+use Rattle.std.proofs.Common.{◌≡◌, List, ℕ, [], ◌∷◌, ◌++◌, Some, None, Bool, true, false, ◌&&◌, ◌||◌, nat_le, nat_lt, codes, refl}
+use Rattle.std.specs.List.{list_any}
 use Rattle.std.specs.Fmt.{digits}
+use Rattle.wl_clock.specs.Timing.{tick_of}
 use Rattle.wl_confine.specs.declared.ErrorKind.TheVariants.{Bit}
 use Rattle.wl_machine.specs.declared.doing.Doing.{Doing}
-use Rattle.wl_machine.specs.declared.doing.Doing.TheVariants.{Integrating, Idle, Receiving, Intermission, Suspended, OffBus}
+use Rattle.wl_machine.specs.declared.doing.Doing.TheVariants.{Integrating, Idle, Receiving, Transmitting, Intermission, Suspended, OffBus}
 use Rattle.wl_trace.specs.declared.event.NodeEvent.{NodeEvent}
 use Rattle.wl_trace.specs.declared.event.NodeEvent.TheVariants as events
 use Rattle.wl_trace.specs.declared.event.FrameField.{FrameField}
 use Rattle.wl_trace.specs.declared.event.FrameField.TheVariants.{Identifier, AckSlot, FlagDelimiter}
 use Rattle.wl_trace.specs.declared.event.Noted.{Noted}
 use Rattle.wl_traffic.specs.declared.entries.Entry.{Entry}
-use Rattle.wl_traffic.specs.declared.reason.Reason.TheVariants.{Works, Errors, EndsTooEarly, BusOff, Deaf}
+use Rattle.wl_views.specs.declared.tick.Tick.{Tick}
+use Rattle.wl_views.specs.declared.tick.TimeUnit.TheVariants.{Nanosecond}
+use Rattle.wl_traffic.specs.declared.late.LateMessage.{LateMessage}
+use Rattle.wl_traffic.specs.declared.queues.NodeQueue.{NodeQueue}
+use Rattle.wl_traffic.specs.declared.reason.Reason.TheVariants.{Works, Errors, Overloaded, Starved, EndsTooEarly, BusOff, Deaf}
 use Rattle.wl_traffic.specs.declared.spans.Span.{Span}
 use Rattle.wl_traffic.specs.Attempts.{attempts_of, no_queued}
-use Rattle.wl_traffic.specs.Bus.{load_in, no_load, quieter, share_of}
+use Rattle.wl_traffic.specs.Bus.{is_busy_span, load_below, share_of}
+use Rattle.wl_traffic.specs.Causes.{full_line, line_of_late}
+use Rattle.wl_traffic.specs.Late.{in_time, is_beaten, is_late, late_messages, period_of, ticks_waited}
 use Rattle.wl_traffic.specs.Messages.{statistics_words}
-use Rattle.wl_traffic.specs.Reasons.{first_reason}
+use Rattle.wl_traffic.specs.Reasons.{first_reason, is_overload, is_stuck, waiting_reason}
 use Rattle.wl_traffic.specs.Waits.{most_waiting, quanta_waited}
 
-abbrev span : Doing → ℕ → Span
-span doing ticks = record { doing = doing; ticks = ticks }
+abbrev span : Doing → ℕ → ℕ → Span
+span doing from until = record { doing = doing; from = from; until = until }
 
--- 11 bits of 2,000 ticks integrating, 10 idle, a frame with its intermission, 4 idle and 6 suspended: two gaps of 20,000 ticks
-abbrev a_bus : List Span
-a_bus = span Integrating 22000 ∷ span Idle 20000 ∷ span Receiving 100000 ∷ span Intermission 6000 ∷ span Idle 8000 ∷ span Suspended 12000 ∷ []
+-- a node that integrates up to tick 10, sends from there on, and is idle again at 48; and one that receives the frame from 20 to 50
+abbrev sender : List Span
+sender = span Integrating 0 10 ∷ span Transmitting 10 44 ∷ span Intermission 44 48 ∷ span Idle 48 60 ∷ []
 
-found : load_in a_bus ≡ record { busy = 106000; idle = 40000; gap = 20000; off = false }
-found = refl
+abbrev receiver : List Span
+receiver = span Integrating 1 20 ∷ span Receiving 20 46 ∷ span Intermission 46 50 ∷ span Idle 50 60 ∷ []
+
+abbrev both : ℕ → Bool
+both t = list_any (is_busy_span t) sender || list_any (is_busy_span t) receiver
+
+-- together they find the bus busy from 10 to 50: 40 ticks of 60, with a pause of 10 before and one of 10 after
+together : load_below both 60 ≡ record { busy = 40; pause = 10; gap = 10; full = 0 }
+together = refl
+
+-- up to tick 30 it is full for the last 20
+until_thirty : load_below both 30 ≡ record { busy = 20; pause = 0; gap = 10; full = 20 }
+until_thirty = refl
+
+-- busy at the ticks 2 to 4 and 7 to 9, of ten: 6 ticks, two pauses of 2, and 3 at the end
+twice : load_below (λ t. (nat_le 2 t && nat_lt t 5) || nat_le 7 t) 10 ≡ record { busy = 6; pause = 0; gap = 2; full = 3 }
+twice = refl
+
+-- a node that is bus off, suspended or integrates finds nothing
+off_node : list_any (is_busy_span 5) (span OffBus 0 9 ∷ span Suspended 0 9 ∷ span Integrating 0 9 ∷ span Idle 0 9 ∷ []) ≡ false
+off_node = refl
 
 -- 106,000 of 168,000 ticks are 63.095 %
 load : share_of 106000 168000 ≡ 6309
@@ -34,19 +61,6 @@ load = refl
 
 load_of_nothing : share_of 0 0 ≡ 0
 load_of_nothing = refl
-
--- a node that is bus off doesn't find the bus idle, so the other one's finding is taken; that a node was off stays
-off_node : quieter (load_in a_bus) (load_in (span Idle 30000 ∷ span OffBus 138000 ∷ [])) ≡ record { busy = 106000; idle = 40000; gap = 20000; off = true }
-off_node = refl
-
--- of equals the second
-second_of_equals : quieter (record { busy = 5; idle = 7; gap = 3; off = false }) (record { busy = 6; idle = 7; gap = 4; off = false })
-    ≡ record { busy = 6; idle = 7; gap = 4; off = false }
-second_of_equals = refl
-
--- a node to which the bus is never idle is told of too
-never_idle : quieter no_load (load_in (span Receiving 100 ∷ [])) ≡ record { busy = 100; idle = 0; gap = 0; off = false }
-never_idle = refl
 
 abbrev noted : ℕ → NodeEvent → Noted
 noted quantum event = record { quantum = quantum; bit = 0; event = event }
@@ -92,8 +106,111 @@ spread = refl
 no_spread : statistics_words [] ≡ codes "least - mean - greatest -"
 no_spread = refl
 
--- bus off comes before errors, those before frames that are left, and those before missed frames
-reasons : first_reason true true true true ∷ first_reason false true true true ∷ first_reason false false true true ∷ first_reason false false false true
-    ∷ first_reason false false false false ∷ []
-    ≡ BusOff ∷ Errors ∷ EndsTooEarly ∷ Deaf ∷ Works ∷ []
+-- a clock of 125 ticks a quantum, a last sample at quantum 2000, and a frame of another node at quantum 600
+abbrev a_queue : NodeQueue
+a_queue = record {
+  node = 1;
+  clock = record { offset = 7; rates = record { from = 0; num = 125; den = 1 } ∷ [] };
+  last = Some 2000;
+  received = 600 ∷ [];
+  entries = entry 100 500 ∷ entry 500 800 ∷ left 900 ∷ [];
+}
+
+-- ready at 100, 500 and 900: 400 quanta are 50,000 ticks
+a_period : period_of a_queue (entry 100 500 ∷ entry 500 800 ∷ left 900 ∷ []) ≡ 50000
+unfolding tick_of
+a_period = refl
+
+-- two frames have none, nor have three at distances of 400 and 401, nor three at once
+no_period_of_two : period_of a_queue (entry 100 500 ∷ entry 500 800 ∷ []) ≡ 0
+no_period_of_two = refl
+
+no_period_out_of_step : period_of a_queue (entry 100 500 ∷ entry 500 800 ∷ left 901 ∷ []) ≡ 0
+no_period_out_of_step = refl
+
+no_period_at_once : period_of a_queue (entry 100 500 ∷ entry 100 800 ∷ left 100 ∷ []) ≡ 0
+unfolding tick_of
+no_period_at_once = refl
+
+-- what is ready after the last sample is no frame of the run
+timely : in_time (Some 900) (entry 100 500 ∷ left 900 ∷ left 901 ∷ []) ≡ entry 100 500 ∷ left 900 ∷ []
+timely = refl
+
+-- from 500 to 800, and from 900 to the last sample
+ticks : ticks_waited a_queue (entry 500 800) ∷ ticks_waited a_queue (left 900) ∷ [] ≡ 37500 ∷ 137500 ∷ []
+unfolding tick_of
+ticks = refl
+
+-- with a period of 50,000 ticks a frame may wait for 400 quanta, and not for 401; a frame that was never sent is late from then on, too
+late_by_one : is_late 0 a_queue 50000 (entry 100 500) ∷ is_late 0 a_queue 50000 (entry 100 501) ∷ is_late 0 a_queue 50000 (left 1600)
+    ∷ is_late 0 a_queue 50000 (left 1599) ∷ [] ≡ false ∷ true ∷ false ∷ true ∷ []
+unfolding tick_of
+late_by_one = refl
+
+-- without a period only a frame that was never sent is late, by the longest period of others; and none if there is no period at all
+late_by_others : is_late 50000 a_queue 0 (entry 100 501) ∷ is_late 50000 a_queue 0 (left 1599) ∷ is_late 50000 a_queue 0 (left 1600)
+    ∷ is_late 0 a_queue 0 (left 0) ∷ [] ≡ false ∷ true ∷ false ∷ false ∷ []
+unfolding tick_of
+late_by_others = refl
+
+-- a frame that came at quantum 600 came while another waited from 599 on, and up to 600, and not while one waited from 600 on or up to 599
+passed : is_beaten a_queue (entry 599 700) ∷ is_beaten a_queue (entry 500 600) ∷ is_beaten a_queue (entry 600 700) ∷ is_beaten a_queue (entry 500 599)
+    ∷ is_beaten a_queue (left 599) ∷ [] ≡ true ∷ true ∷ false ∷ false ∷ true ∷ []
+passed = refl
+
+-- of three frames at distances of 400 quanta the last is late, by 1,100 quanta in the place of 400; nobody sent meanwhile
+a_message : late_messages (a_queue ∷ [])
+    ≡ record { node = 1; frame = no_queued.frame; waited = 137500; allowed = 50000; beaten = false; left = true } ∷ []
+unfolding tick_of
+a_message = refl
+
+-- all wait for the longest period, 800 quanta of the second node; the first one's frame was never sent, and others were
+abbrev a_slow_queue : NodeQueue
+a_slow_queue = record a_queue { node = 0; received = 600 ∷ 1000 ∷ []; entries = left 900 ∷ [] }
+
+abbrev a_periodic_queue : NodeQueue
+a_periodic_queue = record a_queue { entries = entry 100 500 ∷ entry 900 1000 ∷ entry 1700 1900 ∷ [] }
+
+two_nodes : late_messages (a_slow_queue ∷ a_periodic_queue ∷ [])
+    ≡ record { node = 0; frame = no_queued.frame; waited = 137500; allowed = 100000; beaten = true; left = true } ∷ []
+unfolding tick_of
+two_nodes = refl
+
+abbrev message : (beaten left : Bool) → LateMessage
+message beaten left = record { node = 1; frame = no_queued.frame; waited = 137500; allowed = 50000; beaten = beaten; left = left }
+
+-- a frame that waits at the end of a bus that was full for longer than it may wait is stuck, and a sent one is not
+stuck : is_stuck 50001 (message true true) ∷ is_stuck 50000 (message true true) ∷ is_stuck 50001 (message true false) ∷ [] ≡ true ∷ false ∷ false ∷ []
+stuck = refl
+
+-- a message overloads the bus if nobody else sent, or if it is stuck
+overload : is_overload 0 (message false false) ∷ is_overload 0 (message true true) ∷ is_overload 50001 (message true true) ∷ [] ≡ true ∷ false ∷ true ∷ []
+overload = refl
+
+-- the first that applies, in this order
+reasons : first_reason true true Starved ∷ first_reason false true Starved ∷ first_reason false false Starved ∷ [] ≡ BusOff ∷ Errors ∷ Starved ∷ []
 reasons = refl
+
+waiting_reasons : waiting_reason true true true true ∷ waiting_reason false true true true ∷ waiting_reason false false true true
+    ∷ waiting_reason false false false true ∷ waiting_reason false false false false ∷ []
+    ≡ Overloaded ∷ Starved ∷ EndsTooEarly ∷ Deaf ∷ Works ∷ []
+waiting_reasons = refl
+
+abbrev nanosecond : Tick
+nanosecond = record { count = 1; unit = Nanosecond }
+
+abbrev two_names : List (List ℕ)
+two_names = codes "pump" ∷ codes "valve" ∷ []
+
+-- 137,500 ns are 137 us; an identifier has three digits
+starved_line : line_of_late nanosecond two_names (message true true) ≡ codes "starved valve 000 waits 137 us allowed 50 us\n"
+unfolding digits
+starved_line = refl
+
+overloads_line : line_of_late nanosecond two_names (message false true) ≡ codes "overloads valve 000 waits 137 us allowed 50 us\n"
+unfolding digits
+overloads_line = refl
+
+full_lines : full_line nanosecond 60999 (message true true ∷ []) ++ full_line nanosecond 50000 (message true true ∷ []) ≡ codes "full for the last 60 us\n"
+unfolding digits
+full_lines = refl

@@ -16,6 +16,8 @@ use Rattle.wl_trace.specs.declared.event.Noted.{Noted}
 use Rattle.wl_views.specs.TraceText.{events_at_end}
 use Rattle.wl_traffic.specs.declared.attempts.Attempt.{Attempt}
 use Rattle.wl_traffic.specs.declared.entries.Entry.{Entry}
+use Rattle.wl_traffic.specs.declared.queues.NodeQueue.{NodeQueue}
+use Rattle.wl_traffic.specs.Waits.{final_sample}
 
 -- the quanta at which a node completed what it sent
 abbrev pub sent_quanta : List Passed → List ℕ
@@ -24,6 +26,10 @@ sent_quanta frames = map (λ p. p.quantum) (filter is_sent frames)
 -- the place in the queue of the frame that is tried at a quantum: the number of those that were sent before it
 abbrev pub tried_at : List ℕ → ℕ → ℕ
 tried_at sent quantum = count_by (λ s. nat_lt s quantum) sent
+
+-- and what it received
+abbrev pub received_quanta : List Passed → List ℕ
+received_quanta frames = map (λ p. p.quantum) (filter (λ p. not (is_sent p)) frames)
 
 abbrev pub is_delimiter : FrameField → Bool
 is_delimiter FlagDelimiter = true
@@ -73,3 +79,16 @@ abbrev pub entries_of : Plan → ℕ → List Entry
 entries_of plan i =
     let sent : List ℕ = sent_quanta (node_outcome_of plan i).frames in
     entries_by (setup_at plan i).queue sent (attempts_of sent (events_at_end plan i))
+
+-- node i with its frames, the quantum of its last sample, and those at which it received a frame
+abbrev pub node_queue : Plan → ℕ → NodeQueue
+node_queue plan i = record {
+  node = i;
+  clock = (setup_at plan i).clock;
+  last = final_sample (node_outcome_of plan i).samples;
+  received = received_quanta (node_outcome_of plan i).frames;
+  entries = entries_of plan i;
+}
+
+abbrev pub node_queues : Plan → List NodeQueue
+node_queues plan = map (node_queue plan) (range_with_len 0 (length plan.nodes))

@@ -5,6 +5,8 @@ use Rattle.wl_plan.specs.declared.plan.Plan.{Plan}
 use Rattle.wl_serial.specs.declared.outcome.NodeOutcome.{NodeOutcome}
 use Rattle.wl_serial.specs.Outcome.{node_outcome_of}
 use Rattle.wl_traffic.specs.declared.entries.Entry.{Entry}
+use Rattle.wl_traffic.specs.declared.queues.NodeQueue.{NodeQueue}
+use Rattle.wl_traffic.specs.Attempts.{node_queue}
 
 -- a clock knows the quantum, if there is one
 abbrev pub IsKnownQuantum : Option ℕ → Type 0
@@ -23,3 +25,8 @@ pub record AreKnown (node : NodeOutcome) : Type 0 where
 -- of each node of a plan
 abbrev pub QuantaAreKnown : Plan → Type 0
 QuantaAreKnown plan = (i : ℕ) → i < length plan.nodes → AreKnown (node_outcome_of plan i)
+
+-- a clock knows the quanta of a node's frames that were sent, and of its last sample
+pub record IsKnownQueue (q : NodeQueue) : Type 0 where
+  pub last : IsKnownQuantum q.last
+  pub entries : All IsKnown q.entries

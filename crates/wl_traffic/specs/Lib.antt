@@ -1,8 +1,10 @@
 pub mod States
 pub mod Bus
-pub mod Attempts
 pub mod Waits
+pub mod Attempts
 pub mod Known
 pub mod Messages
+pub mod Late
 pub mod Reasons
+pub mod Causes
 pub mod Traffic

@@ -1,12 +1,15 @@
 -- Why a run didn't work (this project's profile).
-use Rattle.std.specs.Prelude.{ℕ, nat_lt, max, Bool, true, false, List, codes, length, fold, if◌then◌else◌}
+use Rattle.std.specs.Prelude.{ℕ, nat_lt, max, ◌&&◌, ◌||◌, Bool, true, false, not, List, codes, length, fold, if◌then◌else◌}
 use Rattle.std.specs.List.{list_any}
 use Rattle.wl_plan.specs.declared.plan.Plan.{Plan}
 use Rattle.wl_serial.specs.declared.outcome.NodeOutcome.{NodeOutcome}
 use Rattle.wl_serial.specs.Outcome.{outcome_of}
-use Rattle.wl_traffic.specs.Bus.{bus_load}
+use Rattle.wl_traffic.specs.Attempts.{node_queues}
+use Rattle.wl_traffic.specs.Bus.{any_off, bus_load}
+use Rattle.wl_traffic.specs.Late.{late_messages}
+use Rattle.wl_traffic.specs.declared.late.LateMessage.{LateMessage}
 use Rattle.wl_traffic.specs.declared.reason.Reason.{Reason}
-use Rattle.wl_traffic.specs.declared.reason.Reason.TheVariants.{Works, Errors, EndsTooEarly, BusOff, Deaf}
+use Rattle.wl_traffic.specs.declared.reason.Reason.TheVariants.{Works, Errors, Overloaded, Starved, EndsTooEarly, BusOff, Deaf}
 
 abbrev pub has_errors : NodeOutcome → Bool
 has_errors n = nat_lt 0 n.errors
@@ -26,24 +29,44 @@ most_passed nodes = fold (λ most n. max most (length n.frames)) 0 nodes
 abbrev pub misses_frames : ℕ → NodeOutcome → Bool
 misses_frames most n = if takes_part n then nat_lt (length n.frames) most else false
 
--- the first that applies: a node was bus off, there were errors, frames are left, a node missed frames
-abbrev pub first_reason : Bool → Bool → Bool → Bool → Reason
-first_reason true errors unsent deaf = BusOff
-first_reason false true unsent deaf = Errors
-first_reason false false true deaf = EndsTooEarly
-first_reason false false false true = Deaf
-first_reason false false false false = Works
+-- at the end a late frame waits, and the bus had no pause for longer than the frame may wait
+abbrev pub is_stuck : (full : ℕ) → LateMessage → Bool
+is_stuck full m = m.left && nat_lt m.allowed full
 
-abbrev pub reason_by : Bool → List NodeOutcome → Reason
-reason_by off nodes =
-    first_reason off (list_any has_errors nodes) (list_any has_unsent nodes) (list_any (misses_frames (most_passed nodes)) nodes)
+-- no other node sent while a frame of it waited, or the bus has no pause any more
+abbrev pub is_overload : (full : ℕ) → LateMessage → Bool
+is_overload full m = not m.beaten || is_stuck full m
+
+-- why frames came late or not at all, the first that applies
+abbrev pub waiting_reason : (overload late unsent deaf : Bool) → Reason
+waiting_reason true late unsent deaf = Overloaded
+waiting_reason false true unsent deaf = Starved
+waiting_reason false false true deaf = EndsTooEarly
+waiting_reason false false false true = Deaf
+waiting_reason false false false false = Works
+
+-- a node was bus off, there were errors, or that
+abbrev pub first_reason : (off errors : Bool) → Reason → Reason
+first_reason true errors waiting = BusOff
+first_reason false true waiting = Errors
+first_reason false false waiting = waiting
+
+abbrev pub waiting_by : (full : ℕ) → List LateMessage → List NodeOutcome → Reason
+waiting_by full late nodes =
+    waiting_reason (list_any (is_overload full) late) (nat_lt 0 (length late)) (list_any has_unsent nodes)
+    (list_any (misses_frames (most_passed nodes)) nodes)
+
+abbrev pub reason_by : (off : Bool) → (full : ℕ) → List LateMessage → List NodeOutcome → Reason
+reason_by off full late nodes = first_reason off (list_any has_errors nodes) (waiting_by full late nodes)
 
 abbrev pub reason_of : Plan → Reason
-reason_of plan = reason_by (bus_load plan).off (outcome_of plan).nodes
+reason_of plan = reason_by (any_off plan) (bus_load plan).full (late_messages (node_queues plan)) (outcome_of plan).nodes
 
 abbrev pub reason_word : Reason → List ℕ
 reason_word Works = codes "works"
 reason_word Errors = codes "errors"
+reason_word Overloaded = codes "overloaded"
+reason_word Starved = codes "starved"
 reason_word EndsTooEarly = codes "ends too early"
 reason_word BusOff = codes "bus off"
 reason_word Deaf = codes "deaf"

@@ -1,5 +1,5 @@
 -- What a node does after its samples, and for how long (Bosch CAN 2.0 part B, sections 3, 6 and 8; the words are those of a waveform).
-use Rattle.std.specs.Prelude.{ℕ, ◌+◌, ◌-◌, List, length, map, take, fold, slice_index_or, if◌then◌else◌, nat_lt}
+use Rattle.std.specs.Prelude.{ℕ, ◌+◌, max, List, length, map, take, fold, slice_index_or, if◌then◌else◌, nat_lt}
 use Rattle.std.specs.List.{range_with_len}
 use Rattle.wl_level.specs.declared.Level.{Level}
 use Rattle.wl_level.specs.declared.Level.TheVariants.{Recessive}
@@ -8,6 +8,9 @@ use Rattle.wl_machine.specs.declared.doing.Doing.{Doing}
 use Rattle.wl_machine.specs.Doing.{doing_of}
 use Rattle.wl_machine.specs.Judged.{stretch_of}
 use Rattle.wl_node.specs.declared.setup.NodeSetup.{NodeSetup}
+use Rattle.wl_plan.specs.declared.plan.Plan.{Plan}
+use Rattle.wl_plan.specs.PlanLine.{setup_at}
+use Rattle.wl_serial.specs.Outcome.{node_outcome_of}
 use Rattle.wl_trace.specs.Replay.{SampledPast, no_past, past_after}
 use Rattle.wl_traffic.specs.declared.spans.Span.{Span}
 
@@ -27,7 +30,12 @@ sample_tick setup end samples k =
 -- it does that up to its next sample, the last one up to the end
 abbrev pub span_at : NodeSetup → (end : ℕ) → List (ℕ × Level) → ℕ → Span
 span_at setup end samples k =
-    record { doing = doing_at setup samples k; ticks = sample_tick setup end samples (k + 1) - sample_tick setup end samples k }
+    let from : ℕ = sample_tick setup end samples k in
+    record { doing = doing_at setup samples k; from = from; until = max from (sample_tick setup end samples (k + 1)) }
 
 abbrev pub spans_of : NodeSetup → (end : ℕ) → List (ℕ × Level) → List Span
 spans_of setup end samples = map (span_at setup end samples) (range_with_len 0 (length samples))
+
+-- of node i
+abbrev pub node_spans : Plan → ℕ → List Span
+node_spans plan i = spans_of (setup_at plan i) plan.end (node_outcome_of plan i).samples

@@ -1,6 +1,6 @@
 //! The frames that a node sent, and its attempts that failed.
 ghost use Rattle.std.specs.Prelude.{◌≡◌, ◌++◌, OnOk, IfOk};
-ghost use Rattle.wl_traffic.specs.Attempts.{attempt_by, attempts_of, sent_quanta, tried_at};
+ghost use Rattle.wl_traffic.specs.Attempts.{attempt_by, attempts_of, received_quanta, sent_quanta, tried_at};
 
 use std::alloc::{AllocError, Global};
 use wl_node::Passed;
@@ -26,6 +26,19 @@ pub(crate) fn sent_quanta(alloc: Global, frames: &[Passed]) -> Result<Vec<u64>, 
         }
     }
     Ok(sent)
+}
+
+/// Returns the quanta at which a node completed what it received, in order.
+pub(crate) fn received_quanta(alloc: Global, frames: &[Passed]) -> Result<Vec<u64>, AllocError>
+    ensures { IfOk result (λ received. received.items ≡ received_quanta frames.now) }
+{
+    let mut received = Vec::new(alloc);
+    for passed in frames {
+        if !passed.sent {
+            received.push(passed.quantum)?;
+        }
+    }
+    Ok(received)
 }
 
 /// Returns the place in the queue of the frame that is tried at a quantum: how many were sent before it.

@@ -1,33 +1,27 @@
-//! How busy the bus was.
-ghost use Rattle.std.specs.Prelude.{◌≡◌, ◌<◌, ◌≤◌, length, IfOk};
+//! When the bus was busy.
+ghost use Rattle.std.specs.Prelude.{◌≡◌, ◌<◌, ◌≤◌, ◌||◌, ℕ, length, IfOk, OnOk};
+ghost use Rattle.std.specs.List.{All, list_any, range_with_len};
+ghost use Rattle.wl_intervals.specs.Pairs.{covers, has_tick};
 ghost use Rattle.wl_serial.specs.Outcome.{outcome_of};
-ghost use Rattle.wl_traffic.specs.Bus.{bus_load, is_busy_doing, is_idle_doing, is_off_doing, load_at, load_in, longest_gap, quieter, share_of, ticks_in, time_in};
+ghost use Rattle.wl_traffic.specs.Bus.{any_off, bus_load, finds_busy, is_busy_at, is_busy_doing, is_busy_span, is_off_doing, was_off};
+ghost use Rattle.wl_traffic.specs.States.{node_spans};
 
+use crate::load::{Load, load_below};
 use crate::nodes::{node_at, quanta_are_known};
 use crate::spans::{Span, spans};
 use std::alloc::{AllocError, Global};
+use wl_intervals::{Intervals, IntervalsFault};
 use wl_machine::Doing;
 use wl_plan::CheckedPlan;
 use wl_serial::Outcome;
 
-/// The load of the bus as a node finds it, in ticks.
+/// How busy the bus was, and whether some node was bus off at some time.
 #[derive(Clone, Copy, Debug)]
-pub struct BusLoad {
-    /// For how long it isn't idle.
-    pub(crate) busy: u128,
-    /// For how long it is idle.
-    pub(crate) idle: u128,
-    /// The longest time for which it is idle without a break.
-    pub(crate) gap: u128,
-    /// Whether the node was bus off at some time.
+pub struct Bus {
+    /// How busy it was.
+    pub(crate) load: Load,
+    /// Whether some node was bus off.
     pub(crate) off: bool,
-}
-
-/// True if the bus is idle to a node that does this.
-fn is_idle(doing: Doing) -> bool
-    ensures { result ≡ is_idle_doing doing }
-{
-    matches!(&doing, Doing::Idle | Doing::Suspended)
 }
 
 /// True if a node that does this finds the bus busy.
@@ -40,132 +34,115 @@ fn is_busy(doing: Doing) -> bool
     )
 }
 
-/// Returns for how many ticks of a span the bus is busy.
-fn busy_ticks(span: &Span) -> u64
-    ensures { result ≡ ticks_in is_busy_doing span.now }
+/// Returns the set of the ticks from `from` up to, and not with, `to`.
+fn only(alloc: Global, from: u64, to: u64) -> Result<Intervals, AllocError>
+    ensures { IfOk result (λ alone. (t : ℕ) → covers alone t ≡ has_tick (from, to) t) }
 {
-    if is_busy(span.doing) { span.ticks } else { 0 }
-}
-
-/// Returns for how many ticks of a span it is idle.
-fn idle_ticks(span: &Span) -> u64
-    ensures { result ≡ ticks_in is_idle_doing span.now }
-{
-    if is_idle(span.doing) { span.ticks } else { 0 }
-}
-
-/// Returns for how many ticks the bus is busy.
-fn busy_time(spans: &[Span]) -> u128
-    ensures { result ≡ time_in is_busy_doing spans.now }
-{
-    let mut time = 0u128;
-    for span in spans {
-        time += u128::from(busy_ticks(span));
+    let mut alone = Intervals::new(alloc);
+    match alone.push(from, to) {
+        Err(IntervalsFault::Memory) => Err(AllocError),
+        _ => Ok(alone),
     }
-    time
 }
 
-/// Returns for how many ticks it is idle.
-fn idle_time(spans: &[Span]) -> u128
-    ensures { result ≡ time_in is_idle_doing spans.now }
+/// Adds the ticks from `from` up to, and not with, `to` to a set, quickly if they come after all others.
+fn add(alloc: Global, busy: &mut Intervals, from: u64, to: u64) -> Result<(), AllocError>
+    ensures { OnOk result ((t : ℕ) → covers busy.new t ≡ (covers busy.old t || has_tick (from, to) t)) }
 {
-    let mut time = 0u128;
-    for span in spans {
-        time += u128::from(idle_ticks(span));
-    }
-    time
-}
-
-/// Returns the longest time for which it is idle, in ticks.
-fn longest_gap(spans: &[Span]) -> u128
-    ensures { result ≡ longest_gap spans.now }
-{
-    let mut run = 0u128;
-    let mut longest = 0u128;
-    for span in spans {
-        if is_idle(span.doing) {
-            run += u128::from(span.ticks);
-            longest = longest.max(run);
-        } else {
-            run = 0;
+    match busy.push(from, to) {
+        Ok(()) => Ok(()),
+        Err(IntervalsFault::Empty) => Ok(()),
+        Err(IntervalsFault::Memory) => Err(AllocError),
+        Err(IntervalsFault::NotAfterLast) => {
+            let alone = only(alloc, from, to)?;
+            busy.join(&alone)
         }
     }
-    longest
 }
 
-/// True if the node was bus off at some time.
-fn was_off(spans: &[Span]) -> bool
-    ensures { result ≡ (load_in spans.now).off }
-{
-    spans.iter().any(|span| span.doing == Doing::OffBus)
-}
-
-/// Returns the load of the bus as a node finds it.
-fn load_in(spans: &[Span]) -> BusLoad
-    ensures { result ≡ load_in spans.now }
-{
-    BusLoad {
-        busy: busy_time(spans),
-        idle: idle_time(spans),
-        gap: longest_gap(spans),
-        off: was_off(spans),
-    }
-}
-
-/// Returns the load of the bus as node `i` finds it.
-fn load_at(
+/// Returns the run of busy ticks up to the end of a span. If the span doesn't go on with the run that run is added, and a new one begins.
+fn run_after(
     alloc: Global,
+    busy: &mut Intervals,
+    run: (u64, u64),
+    span: &Span,
+) -> Result<(u64, u64), AllocError>
+    requires run { run.0 ≤ run.1 }
+    requires span { span.now.from ≤ span.now.until }
+    ensures order { IfOk result (λ after. after.0 ≤ after.1) }
+    ensures ticks { IfOk result (λ after. (t : ℕ)
+        → (covers busy.new t || has_tick after t)
+        ≡ ((covers busy.old t || has_tick run t) || is_busy_span t span.now)) }
+{
+    if !is_busy(span.doing) {
+        return Ok(run);
+    }
+    if run.1 == span.from {
+        return Ok((run.0, span.until));
+    }
+    add(alloc, busy, run.0, run.1)?;
+    Ok((span.from, span.until))
+}
+
+/// Returns the ticks of the spans in which the bus is busy.
+fn busy_ticks(alloc: Global, spans: &[Span]) -> Result<Intervals, AllocError>
+    requires { All (λ s. s.from ≤ s.until) spans.now }
+    ensures { IfOk result (λ busy. (t : ℕ) → covers busy t ≡ list_any (is_busy_span t) spans.now) }
+{
+    let mut busy = Intervals::new(alloc);
+    let mut run = (0, 0);
+    for span in spans {
+        run = run_after(alloc, &mut busy, run, span)?;
+    }
+    add(alloc, &mut busy, run.0, run.1)?;
+    Ok(busy)
+}
+
+/// Adds the ticks at which node `i` finds the bus busy, and returns whether it was bus off.
+fn add_node(
+    alloc: Global,
+    busy: &mut Intervals,
     plan: &CheckedPlan,
     outcome: &Outcome,
     i: usize,
-) -> Result<BusLoad, AllocError>
+) -> Result<bool, AllocError>
     requires outcome { outcome.now ≡ outcome_of plan.now }
     requires node { i < length plan.now.nodes }
-    ensures { IfOk result (λ load. load ≡ load_at plan.now i) }
+    ensures ticks { OnOk result ((t : ℕ) → covers busy.new t ≡ (covers busy.old t || finds_busy plan.now t i)) }
+    ensures off { IfOk result (λ off. off ≡ was_off plan.now i) }
 {
     quanta_are_known(plan);
     let (setup, node) = node_at(plan, outcome, i);
     let samples = node.samples.list(alloc)?;
     let spans = spans(alloc, setup, plan.end, samples.as_slice())?;
-    Ok(load_in(&spans))
+    let found = busy_ticks(alloc, &spans)?;
+    busy.join(&found)?;
+    Ok(was_off(&spans))
 }
 
-/// Returns of two loads that of the node to which the bus is idle longer, the second of equals.
-fn quieter(a: BusLoad, b: BusLoad) -> BusLoad
-    ensures { result ≡ quieter a b }
+/// True if a node was bus off at some time.
+fn was_off(spans: &[Span]) -> bool
+    ensures { result ≡ list_any (λ s. is_off_doing s.doing) spans.now }
 {
-    let off = a.off || b.off;
-    let longer = if a.idle <= b.idle { b } else { a };
-    BusLoad { off, ..longer }
+    spans.iter().any(|span| span.doing == Doing::OffBus)
 }
 
-/// Returns the load of the bus as the node finds it to which it is idle longest, the last of equals, and whether some node was bus off.
-pub(crate) fn bus(
+/// Returns how busy the bus was, as all nodes together find it, and whether some node was bus off.
+pub(crate) fn bus_of(
     alloc: Global,
     plan: &CheckedPlan,
     outcome: &Outcome,
-) -> Result<BusLoad, AllocError>
+) -> Result<Bus, AllocError>
     requires outcome { outcome.now ≡ outcome_of plan.now }
-    ensures { IfOk result (λ bus. bus ≡ bus_load plan.now) }
+    ensures load { IfOk result (λ bus. bus.load ≡ bus_load plan.now) }
+    ensures off { IfOk result (λ bus. bus.off ≡ any_off plan.now) }
 {
-    let mut bus = BusLoad {
-        busy: 0,
-        idle: 0,
-        gap: 0,
-        off: false,
-    };
+    let mut busy = Intervals::new(alloc);
+    let mut off = false;
     for i in 0..plan.nodes.len() {
-        bus = quieter(bus, load_at(alloc, plan, outcome, i)?);
+        let was_off = add_node(alloc, &mut busy, plan, outcome, i)?;
+        off = off || was_off;
     }
-    Ok(bus)
-}
-
-/// Returns the share of a time in the whole, in hundredths of a per cent, rounded down.
-pub(crate) fn share(time: u128, whole: u64) -> u128
-    ensures { result ≡ share_of time whole }
-{
-    if whole == 0 {
-        return 0;
-    }
-    10_000 * time.min(u128::from(whole)) / u128::from(whole)
+    let load = load_below(&busy, plan.end);
+    Ok(Bus { load, off })
 }

@@ -3,9 +3,14 @@
 
 mod attempts;
 mod bus;
+mod causes;
 mod entries;
+mod found;
+mod late;
+mod load;
 mod messages;
 mod nodes;
+mod queues;
 mod reason;
 mod spans;
 mod statistics;

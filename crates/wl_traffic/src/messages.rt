@@ -2,21 +2,22 @@
 ghost use Rattle.std.specs.Prelude.{◌≡◌, ◌<◌, length, count_by, slice_index_or, OnOk, IfOk};
 ghost use Rattle.std.specs.List.{All, list_any, sum_by};
 ghost use Rattle.wl_report.specs.Lines.{GrowsBy};
-ghost use Rattle.wl_serial.specs.Outcome.{node_outcome_of, outcome_of};
+ghost use Rattle.wl_serial.specs.Outcome.{node_outcome_of};
+ghost use Rattle.wl_traffic.specs.Attempts.{node_queue, node_queues};
 ghost use Rattle.wl_traffic.specs.Known.{IsKnown};
 ghost use Rattle.wl_traffic.specs.Messages.{all_messages, message_counts, has_id_of, is_left_entry, is_sent_entry, line_at, lines_of, message_line, message_words, node_lines, wait_words, with_id_of};
 ghost use Rattle.wl_traffic.specs.Waits.{final_sample};
 
-use crate::entries::{Entry, entries};
-use crate::nodes::{node_at, setup_of};
+use crate::entries::Entry;
+use crate::nodes::setup_of;
+use crate::queues::{NodeQueue, queues_are_known};
 use crate::statistics::push_statistics;
-use crate::waits::{final_sample, most_waiting, quanta_waited, time_waited};
+use crate::waits::{most_waiting, quanta_waited, time_waited};
 use std::alloc::{AllocError, Global};
 use wl_clock::Clock;
 use wl_frame::frame::Frame;
 use wl_plan::CheckedPlan;
 use wl_report::push_id;
-use wl_serial::Outcome;
 use wl_setup::Names;
 use wl_views::Tick;
 
@@ -28,7 +29,11 @@ fn has_id_of(frame: &Frame, entry: &Entry) -> bool
 }
 
 /// Returns the frames of a queue with the identifier of a frame.
-fn with_id_of(alloc: Global, frame: &Frame, entries: &[Entry]) -> Result<Vec<Entry>, AllocError>
+pub(crate) fn with_id_of(
+    alloc: Global,
+    frame: &Frame,
+    entries: &[Entry],
+) -> Result<Vec<Entry>, AllocError>
     ensures { IfOk result (λ mine. mine.items ≡ with_id_of frame.now entries.now) }
 {
     let mut mine = Vec::new(alloc);
@@ -41,7 +46,7 @@ fn with_id_of(alloc: Global, frame: &Frame, entries: &[Entry]) -> Result<Vec<Ent
 }
 
 /// True if one of these frames has the identifier of a frame.
-fn is_among(frame: &Frame, entries: &[Entry]) -> bool
+pub(crate) fn is_among(frame: &Frame, entries: &[Entry]) -> bool
     ensures { result ≡ list_any (has_id_of frame.now) entries.now }
 {
     entries.iter().any(|entry| has_id_of(frame, entry))
@@ -194,44 +199,42 @@ fn push_line_at(
     push_message(alloc, text, tick, plan, names, i, last, frame, &mine)
 }
 
-/// Adds the lines of node `i`.
+/// Adds the lines of node `i`, whose frames these are.
 fn push_node(
     alloc: Global,
     text: &mut String,
     tick: Tick,
     plan: &CheckedPlan,
     names: &Names,
-    outcome: &Outcome,
     i: usize,
+    queue: &NodeQueue,
 ) -> Result<(), AllocError>
-    requires outcome { outcome.now ≡ outcome_of plan.now }
     requires node { i < length plan.now.nodes }
+    requires queue { queue.now ≡ node_queue plan.now i }
     ensures { OnOk result (GrowsBy text.old text.new (node_lines tick plan.now names.now i)) }
 {
-    let entries = entries(alloc, plan, outcome, i)?;
-    let (_, node) = node_at(plan, outcome, i);
-    let samples = node.samples.list(alloc)?;
-    let last = final_sample(samples.as_slice());
+    queues_are_known(plan);
+    let entries = queue.entries.as_slice();
     for k in 0..entries.len() {
-        push_line_at(alloc, text, tick, plan, names, i, last, &entries, k)?;
+        push_line_at(alloc, text, tick, plan, names, i, queue.last, entries, k)?;
     }
     Ok(())
 }
 
-/// Adds the lines of all nodes.
+/// Adds the lines of all nodes, whose frames these are.
 pub(crate) fn push_messages(
     alloc: Global,
     text: &mut String,
     tick: Tick,
     plan: &CheckedPlan,
     names: &Names,
-    outcome: &Outcome,
+    queues: &[NodeQueue],
 ) -> Result<(), AllocError>
-    requires outcome { outcome.now ≡ outcome_of plan.now }
+    requires { queues.now ≡ node_queues plan.now }
     ensures { OnOk result (GrowsBy text.old text.new (all_messages tick plan.now names.now)) }
 {
-    for i in 0..plan.nodes.len() {
-        push_node(alloc, text, tick, plan, names, outcome, i)?;
+    for i in 0..queues.len() {
+        push_node(alloc, text, tick, plan, names, i, &queues[i])?;
     }
     Ok(())
 }

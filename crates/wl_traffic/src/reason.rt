@@ -1,33 +1,40 @@
 //! Why a run didn't work.
 ghost use Rattle.std.specs.Prelude.{◌≡◌};
 ghost use Rattle.std.specs.List.{list_any};
-ghost use Rattle.wl_traffic.specs.Reasons.{first_reason, has_errors, has_unsent, misses_frames, most_passed, reason_by, reason_word};
+ghost use Rattle.wl_traffic.specs.Reasons.{has_errors, has_unsent, is_overload, is_stuck, misses_frames, most_passed, reason_by, reason_word, waiting_by, waiting_reason};
 
+use crate::late::LateMessage;
 use wl_serial::NodeOutcome;
 
 /// Why a run didn't work, or that it did.
 #[derive(Clone, Copy, Debug, PartialEq, Eq)]
 pub enum Reason {
-    /// No node found an error, all frames were sent, and each node has seen all of them.
+    /// No node found an error, all frames were sent, none came late, and each node has seen all of them.
     Works,
     /// Some node found an error.
     Errors,
-    /// There was no error, but frames are left.
+    /// There was no error, but a message waits for longer than it may. The bus has no pause any more, or no other node sent meanwhile.
+    Overloaded,
+    /// There was no error, but messages wait for longer than they may while others are sent.
+    Starved,
+    /// There was no error, and no message waits for longer than it may, but frames are left.
     EndsTooEarly,
     /// Some node was bus off at some time (Bosch CAN 2.0 part B, section 8, rule 10).
     BusOff,
-    /// There was no error, and all frames were sent, but not all of them passed through each node.
+    /// There was no error, and all frames were sent in time, but not all of them passed through each node.
     Deaf,
 }
 
 impl Reason {
-    /// Returns the reason in words: `works`, `errors`, `ends too early`, `bus off` or `deaf`.
+    /// Returns the reason in words: `works`, `errors`, `overloaded`, `starved`, `ends too early`, `bus off` or `deaf`.
     pub fn word(self) -> &'static str
         ensures { result.now ≡ reason_word self }
     {
         match self {
             Reason::Works => "works",
             Reason::Errors => "errors",
+            Reason::Overloaded => "overloaded",
+            Reason::Starved => "starved",
             Reason::EndsTooEarly => "ends too early",
             Reason::BusOff => "bus off",
             Reason::Deaf => "deaf",
@@ -50,7 +57,7 @@ fn any_unsent(nodes: &[NodeOutcome]) -> bool
 }
 
 /// Returns the most frames that passed through a node.
-fn most_passed(nodes: &[NodeOutcome]) -> usize
+pub(crate) fn most_passed(nodes: &[NodeOutcome]) -> usize
     ensures { result ≡ most_passed nodes.now }
 {
     let mut most = 0;
@@ -61,7 +68,7 @@ fn most_passed(nodes: &[NodeOutcome]) -> usize
 }
 
 /// True if a node takes part and fewer frames than this many passed through it.
-fn misses_frames(most: usize, node: &NodeOutcome) -> bool
+pub(crate) fn misses_frames(most: usize, node: &NodeOutcome) -> bool
     ensures { result ≡ misses_frames most node.now }
 {
     0 < node.samples.len() && node.frames.len() < most
@@ -75,14 +82,35 @@ fn any_deaf(nodes: &[NodeOutcome]) -> bool
     nodes.iter().any(|node| misses_frames(most, node))
 }
 
-/// Returns the first reason that applies.
-fn first_reason(off: bool, errors: bool, unsent: bool, deaf: bool) -> Reason
-    ensures { result ≡ first_reason off errors unsent deaf }
+/// True if a late frame waits at the end, and the bus had no pause for longer than the frame may wait.
+pub(crate) fn is_stuck(full: u64, message: &LateMessage) -> bool
+    ensures { result ≡ is_stuck full message.now }
 {
-    if off {
-        Reason::BusOff
-    } else if errors {
-        Reason::Errors
+    message.left && message.allowed < full
+}
+
+/// True if a message is late although no other node sends, or the bus has no pause any more.
+fn is_overload(full: u64, message: &LateMessage) -> bool
+    ensures { result ≡ is_overload full message.now }
+{
+    !message.beaten || is_stuck(full, message)
+}
+
+/// True if there is more to send than the bus carries.
+fn any_overload(full: u64, late: &[LateMessage]) -> bool
+    ensures { result ≡ list_any (is_overload full) late.now }
+{
+    late.iter().any(|message| is_overload(full, message))
+}
+
+/// Returns why frames came late or not at all, the first reason that applies.
+fn waiting_reason(overload: bool, late: bool, unsent: bool, deaf: bool) -> Reason
+    ensures { result ≡ waiting_reason overload late unsent deaf }
+{
+    if overload {
+        Reason::Overloaded
+    } else if late {
+        Reason::Starved
     } else if unsent {
         Reason::EndsTooEarly
     } else if deaf {
@@ -92,12 +120,25 @@ fn first_reason(off: bool, errors: bool, unsent: bool, deaf: bool) -> Reason
     }
 }
 
-/// Returns why a run of these outcomes didn't work, in which some node was bus off or none.
-pub(crate) fn reason_by(off: bool, nodes: &[NodeOutcome]) -> Reason
-    ensures { result ≡ reason_by off nodes.now }
+/// Returns why frames of these nodes came late or not at all. The bus was full for this many ticks at the end.
+fn waiting_by(full: u64, late: &[LateMessage], nodes: &[NodeOutcome]) -> Reason
+    ensures { result ≡ waiting_by full late.now nodes.now }
 {
-    let errors = any_errors(nodes);
+    let overload = any_overload(full, late);
     let unsent = any_unsent(nodes);
     let deaf = any_deaf(nodes);
-    first_reason(off, errors, unsent, deaf)
+    waiting_reason(overload, !late.is_empty(), unsent, deaf)
+}
+
+/// Returns why a run of these outcomes didn't work, in which some node was bus off or none.
+pub(crate) fn reason_by(off: bool, full: u64, late: &[LateMessage], nodes: &[NodeOutcome]) -> Reason
+    ensures { result ≡ reason_by off full late.now nodes.now }
+{
+    if off {
+        return Reason::BusOff;
+    }
+    if any_errors(nodes) {
+        return Reason::Errors;
+    }
+    waiting_by(full, late, nodes)
 }

@@ -1,4 +1,4 @@
-//! What a node does from sample to sample, and for how long.
+//! What a node does from sample to sample, and from when to when.
 ghost use Rattle.std.specs.Prelude.{◌≡◌, ◌≤◌, ◌^◌, IfOk};
 ghost use Rattle.std.specs.List.{All};
 ghost use Rattle.wl_traffic.specs.States.{sample_tick, spans_of};
@@ -9,13 +9,15 @@ use wl_machine::Doing;
 use wl_node::NodeSetup;
 use wl_trace::SampledNode;
 
-/// What a node does after a sample, and for how many ticks: up to its next sample, or up to the end.
+/// What a node does after a sample, and when: up to its next sample, or up to the end.
 #[derive(Clone, Copy, Debug)]
 pub struct Span {
     /// What it does.
     pub(crate) doing: Doing,
-    /// For how many ticks.
-    pub(crate) ticks: u64,
+    /// The tick of the sample.
+    pub(crate) from: u64,
+    /// The tick of the next one, or the end.
+    pub(crate) until: u64,
 }
 
 /// Returns the tick of a sample, or the end if there is no such sample.
@@ -45,9 +47,10 @@ pub(crate) fn spans(
     for k in 0..samples.len() {
         let (quantum, level) = samples[k];
         let doing = kept.take(setup, quantum, level);
-        let until = sample_tick(setup, end, samples, k + 1);
-        let ticks = until.saturating_sub(sample_tick(setup, end, samples, k));
-        spans.push(Span { doing, ticks })?;
+        let from = sample_tick(setup, end, samples, k);
+        let next = sample_tick(setup, end, samples, k + 1);
+        let until = from.max(next);
+        spans.push(Span { doing, from, until })?;
     }
     Ok(spans)
 }

@@ -5,9 +5,12 @@ ghost use Rattle.wl_serial.specs.Outcome.{outcome_of};
 ghost use Rattle.wl_traffic.specs.Reasons.{reason_of};
 ghost use Rattle.wl_traffic.specs.Traffic.{bus_line, traffic_text, verdict_words};
 
-use crate::bus::{BusLoad, bus, share};
+use crate::causes::{microseconds_of, push_causes};
+use crate::found::found_of;
+use crate::load::{Load, share};
 use crate::messages::push_messages;
-use crate::reason::{Reason, reason_by};
+use crate::queues::{node_queues, queues_are_known};
+use crate::reason::Reason;
 use std::alloc::{AllocError, Global};
 use wl_margin::Hundredths;
 use wl_plan::CheckedPlan;
@@ -25,11 +28,11 @@ pub struct Traffic {
 }
 
 /// Adds the line of the bus.
-fn push_bus(text: &mut String, tick: Tick, end: u64, bus: BusLoad) -> Result<(), AllocError>
+fn push_bus(text: &mut String, tick: Tick, end: u64, bus: Load) -> Result<(), AllocError>
     ensures { OnOk result (GrowsBy text.old text.new (bus_line tick end bus)) }
 {
-    let load = Hundredths(share(bus.busy, end));
-    let gap = bus.gap.min(u128::from(end)) * u128::from(tick.picoseconds()) / 1_000_000;
+    let load = Hundredths(u128::from(share(bus.busy, end)));
+    let gap = microseconds_of(tick, bus.gap);
     writeln!(text, "bus load {load} % gap {gap} us")
 }
 
@@ -43,10 +46,11 @@ fn push_reason(text: &mut String, reason: Reason) -> Result<(), AllocError>
 
 /// Returns the traffic of a plan's simulation, which is `outcome`, under these names of its nodes. A tick takes as long as `tick` says.
 ///
-/// The first line says for which share of the time the bus was not idle, and for how long it was idle without a break at most. Then follows
-/// a line for each identifier of each node. It has how many frames were sent and are left, and how many waited at once at most. It has how
-/// many attempts lost the arbitration and broke off at an error, and how long the sent ones waited. The last line says why the run didn't
-/// work, or that it did. Refused out of memory alone.
+/// The first line says for which share of the time the bus was busy, and for how long it wasn't at most. Then follows a line for each
+/// identifier of each node. It has how many frames were sent and are left, and how many waited at once at most. It has how many attempts
+/// lost the arbitration and broke off at an error, and how long the sent ones waited. The last line says why the run didn't work, or that
+/// it did. Before it is a line for each message that is late, or for each node that is deaf, if the reason is that. Refused out of memory
+/// alone.
 pub fn traffic_of(
     alloc: Global,
     tick: Tick,
@@ -58,11 +62,14 @@ pub fn traffic_of(
     ensures text { IfOk result (λ t. string_bytes t.text ≡ traffic_text tick plan.now names.now) }
     ensures reason { IfOk result (λ t. t.reason ≡ reason_of plan.now) }
 {
-    let bus = bus(alloc, plan, outcome)?;
-    let reason = reason_by(bus.off, outcome.nodes.as_slice());
+    let queues = node_queues(alloc, plan, outcome)?;
+    queues_are_known(plan);
+    let found = found_of(alloc, plan, outcome, queues.as_slice())?;
     let mut text = String::new(alloc);
-    push_bus(&mut text, tick, plan.end, bus)?;
-    push_messages(alloc, &mut text, tick, plan, names, outcome)?;
-    push_reason(&mut text, reason)?;
+    push_bus(&mut text, tick, plan.end, found.load)?;
+    push_messages(alloc, &mut text, tick, plan, names, queues.as_slice())?;
+    push_causes(&mut text, tick, names, &found, outcome.nodes.as_slice())?;
+    push_reason(&mut text, found.reason)?;
+    let reason = found.reason;
     Ok(Traffic { text, reason })
 }

@@ -96,7 +96,7 @@ pub(crate) fn final_sample(samples: &[(u64, Level)]) -> Option<u64>
 }
 
 /// True if a frame became ready by the last sample.
-fn is_in_time(last: Option<u64>, ready: u64) -> bool
+pub(crate) fn is_in_time(last: Option<u64>, ready: u64) -> bool
     ensures { result ≡ is_in_time last ready }
 {
     match last {

@@ -12,7 +12,8 @@ static TRAFFIC: Table = Table {
     command: "traffic",
     columns: &[
         "load_percent", "gap_us", "node", "name", "id", "sent", "left", "waiting", "lost", "broken", "least_quanta",
-        "mean_quanta", "greatest_quanta", "least_us", "mean_us", "greatest_us", "verdict",
+        "mean_quanta", "greatest_quanta", "least_us", "mean_us", "greatest_us", "verdict", "full_us", "waits_us",
+        "allowed_us", "passed", "most_passed",
     ],
     shapes: &[
         Shape { kind: "bus", pieces: &[
@@ -25,6 +26,21 @@ static TRAFFIC: Table = Table {
             Fixed(" quanta least "), Field("least_quanta", Measure), Fixed(" mean "), Field("mean_quanta", Measure),
             Fixed(" greatest "), Field("greatest_quanta", Measure), Fixed(" us least "), Field("least_us", Measure),
             Fixed(" mean "), Field("mean_us", Measure), Fixed(" greatest "), Field("greatest_us", Measure),
+        ] },
+        Shape { kind: "full", pieces: &[
+            Fixed("full for the last "), Field("full_us", Number), Fixed(" us"),
+        ] },
+        Shape { kind: "overloads", pieces: &[
+            Fixed("overloads "), Field("name", Word), Fixed(" "), Field("id", Hexadecimal), Fixed(" waits "),
+            Field("waits_us", Number), Fixed(" us allowed "), Field("allowed_us", Number), Fixed(" us"),
+        ] },
+        Shape { kind: "starved", pieces: &[
+            Fixed("starved "), Field("name", Word), Fixed(" "), Field("id", Hexadecimal), Fixed(" waits "),
+            Field("waits_us", Number), Fixed(" us allowed "), Field("allowed_us", Number), Fixed(" us"),
+        ] },
+        Shape { kind: "deaf", pieces: &[
+            Fixed("deaf "), Field("name", Word), Fixed(" "), Field("passed", Number), Fixed(" of "), Field("most_passed", Number),
+            Fixed(" frames"),
         ] },
         Shape { kind: "verdict", pieces: &[
             Fixed("verdict "), Field("verdict", Phrase),

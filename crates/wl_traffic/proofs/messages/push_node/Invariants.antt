@@ -5,4 +5,4 @@ use Rattle.wl_traffic.proofs.messages.push_node.Given as goal
 
 -- the lines so far come after the text
 abbrev pub invariant-loop-k : goal.invariant-loop-k
-invariant-loop-k l = string_bytes l.text ≡ string_bytes l.initial.text ++ flat_map (line_at l.tick l.plan l.names l.i l.entries.items) (enumerate_from 0 (take l.k l.entries.items))
+invariant-loop-k l = string_bytes l.text ≡ string_bytes l.initial.text ++ flat_map (line_at l.tick l.plan l.names l.i l.entries) (enumerate_from 0 (take l.k l.entries))

@@ -1,4 +1,4 @@
-use Rattle.std.proofs.Common.{◌≡◌, ◌∙◌, ◌<◌, ◌≤◌, ◌^◌, ◌+◌, ◌-◌, ◌++◌, ◌∷◌, [], zero-add, sym, ap, ap₂, subst, arith, ℕ, List, get_or, take}
+use Rattle.std.proofs.Common.{◌≡◌, ◌∙◌, ◌<◌, ◌≤◌, ◌^◌, ◌+◌, ◌-◌, ◌++◌, max, ◌∷◌, [], zero-add, sym, ap, ap₂, subst, arith, ℕ, List, get_or, take}
 use Rattle.std.specs.Prelude.{count_by}
 use Rattle.std.proofs.lemmas.List.FromFn.{map-range_with_len_more}
 use Rattle.std.proofs.lemmas.List.Sums.{fold_more}
@@ -25,12 +25,13 @@ loop-k-preserved c =
     fold_more (past_after setup) no_past samples k (0, Dominant) c.loop-k-test.true in
     let doing : c.take-doing.result ≡ doing_at setup samples k =
     c.take-doing.ensures.doing front few c.loop-k.invariant.past ∙ ap (λ (p : SampledPast). doing_of (stretch_of p.inputs)) (sym more) in
-    let ticks : c.saturating_sub-ticks.result ≡ sample_tick setup end samples (k + 1) - sample_tick setup end samples k =
-    c.saturating_sub-ticks.ensures ∙ ap₂ (λ (a b : ℕ). a - b) c.sample_tick-until.ensures c.sample_tick.ensures in
+    let from : c.sample_tick-from.result ≡ sample_tick setup end samples k = c.sample_tick-from.ensures in
+    let until : c.max-until.result ≡ max (sample_tick setup end samples k) (sample_tick setup end samples (k + 1)) =
+    c.max-until.ensures ∙ ap₂ (λ (a b : ℕ). max a b) from c.sample_tick-next.ensures in
     record {
       spans =
           c.in_ok-push.ensures.items
-          ∙ ap₂ (λ (xs : List Span) (s : Span). xs ++ s ∷ []) c.loop-k.invariant.spans (λ i. record { doing = doing i; ticks = ticks i })
+          ∙ ap₂ (λ (xs : List Span) (s : Span). xs ++ s ∷ []) c.loop-k.invariant.spans (λ i. record { doing = doing i; from = from i; until = until i })
           ∙ sym (map-range_with_len_more (span_at setup end samples) 0 k k (zero-add k));
       past = subst (IsSampledNode c.take-doing.new.self) (sym more) (c.take-doing.ensures.past front few c.loop-k.invariant.past);
       sent = subst (λ (p : SampledPast). count_by is_sent p.frames ≤ k + 1) (sym more)

@@ -1,0 +1,7 @@
+use Rattle.std.proofs.Common.{◌≡◌, take}
+use Rattle.wl_traffic.specs.Attempts.{received_quanta}
+use Rattle.wl_traffic.proofs.attempts.received_quanta.Given as goal
+
+-- those of the frames so far
+abbrev pub invariant-loop-passed : goal.invariant-loop-passed
+invariant-loop-passed l = l.received.items ≡ received_quanta (take l.passed-index l.frames)

@@ -1,0 +1,19 @@
+use Rattle.std.proofs.Common.{◌∙◌, ◌++◌, ◌<◌, ◌≤◌, ap, arith, string_bytes, ℕ, List, length, get_or}
+use Rattle.std.specs.List.{enumerate_from, flat_map}
+use Rattle.std.proofs.lemmas.List.{take_all}
+use Rattle.wl_report.proofs.Callers.{piece_more}
+use Rattle.wl_serial.specs.declared.outcome.NodeOutcome.{NodeOutcome}
+use Rattle.wl_traffic.specs.Causes.{deaf_line, deaf_lines}
+use Rattle.wl_traffic.specs.Reasons.{most_passed}
+use Rattle.wl_traffic.proofs.causes.push_deaf_lines.Goals as goal
+
+pub loop-k-preserved : goal.loop-k-preserved
+loop-k-preserved c =
+    let nodes : List NodeOutcome = c.args.nodes.now in
+    let k : ℕ = c.loop-k.k in
+    let d : NodeOutcome = c.index-nodes-k.result in
+    let within : k < length nodes = omega (arith, c.loop-k-test.true) in
+    let line = deaf_line c.args.names.now c.most_passed-most.result in
+    c.in_ok-push_deaf_line.ensures
+    ∙ ap (λ (n : NodeOutcome). string_bytes c.loop-k.text ++ line (k, n)) c.index-nodes-k.is
+    ∙ piece_more line (string_bytes c.args.text.now) (string_bytes c.loop-k.text) nodes k d within c.loop-k.invariant
