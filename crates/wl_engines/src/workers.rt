@@ -12,7 +12,7 @@ use wl_device::{Sink, Source, write_all};
 use wl_plan::CheckedPlan;
 use wl_report::report;
 use wl_setup::read_checked;
-use wl_worker::{Gate, LinkKind, totals_by};
+use wl_worker::{Gate, LinkKind, simulate_by};
 
 /// A gate that lets each turn begin.
 #[derive(Drop)]
@@ -40,12 +40,13 @@ fn report_by<H: Threads + Wait + Sync>(
     ensures count { IfOk result (λ _. CanWork workers) }
     ensures fault { IfErr result (IsWorkFault workers) }
 {
-    let totals = totals_by(rt, alloc, &plan, workers, kind, &OpenGate)?;
+    let outcome = simulate_by(rt, alloc, plan.into_plan(), workers, kind, &OpenGate)?;
+    let totals = outcome.totals(alloc)?;
     Ok(report(alloc, &totals)?)
 }
 
 /// Reads a plan's text, simulates the plan by `workers` workers, and writes the report of the one-thread simulation (`plan_run`). There is
-/// a thread for each worker, the caller's among them, and the workers hand records over by this kind of link.
+/// a thread for each worker, and the workers hand records over by this kind of link.
 ///
 /// The whole output is made before the first write. If the input is refused, the workers have no outcome, or memory runs out, the writer
 /// isn't called; if the writer fails, a prefix of the output has been written. It refuses 0 workers and more than 8, once a plan was read.
