@@ -1,6 +1,6 @@
 -- How busy the bus was, as all nodes together find it: at a tick it is busy if some node finds it so. The load is the share of busy time: a frame
 -- counts with its intermission (Davis, Burns, Bril and Lukkien 2007, section 3). That the nodes' states tell is this project's profile.
-use Rattle.std.specs.Prelude.{ℕ, zero, suc, ◌+◌, ◌*◌, ◌/◌, ◌==◌, ◌&&◌, nat_le, nat_lt, min, max, Bool, true, false, List, length, if◌then◌else◌}
+use Rattle.std.specs.Prelude.{ℕ, zero, suc, ◌+◌, ◌*◌, ◌/◌, ◌==◌, ◌&&◌, nat_le, nat_lt, min, max, Bool, true, false, length, if◌then◌else◌}
 use Rattle.std.specs.List.{range_with_len, list_any}
 use Rattle.wl_machine.specs.declared.doing.Doing.{Doing}
 use Rattle.wl_machine.specs.declared.doing.Doing.TheVariants as doings

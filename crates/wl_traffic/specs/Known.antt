@@ -6,7 +6,6 @@ use Rattle.wl_serial.specs.declared.outcome.NodeOutcome.{NodeOutcome}
 use Rattle.wl_serial.specs.Outcome.{node_outcome_of}
 use Rattle.wl_traffic.specs.declared.entries.Entry.{Entry}
 use Rattle.wl_traffic.specs.declared.queues.NodeQueue.{NodeQueue}
-use Rattle.wl_traffic.specs.Attempts.{node_queue}
 
 -- a clock knows the quantum, if there is one
 abbrev pub IsKnownQuantum : Option ℕ → Type 0

@@ -1,6 +1,6 @@
 -- The messages that wait for longer than they may: a message has to be sent before it becomes ready again (Davis, Burns, Bril and Lukkien 2007: no
 -- deadline is longer than the period). What of its frames says so is this project's profile.
-use Rattle.std.specs.Prelude.{ℕ, ◌+◌, ◌-◌, ◌*◌, ◌==◌, ◌&&◌, ◌||◌, nat_le, nat_lt, min, max, Bool, true, false, not, List, [], ◌∷◌, length, take, fold, slice_index_or, Option, Some, None, if◌then◌else◌}
+use Rattle.std.specs.Prelude.{ℕ, ◌+◌, ◌-◌, ◌*◌, ◌==◌, ◌&&◌, ◌||◌, nat_le, nat_lt, min, max, Bool, not, List, [], ◌∷◌, length, take, fold, slice_index_or, Option, Some, None, if◌then◌else◌}
 use Rattle.std.specs.List.{filter, flat_map, list_all, list_any, range_with_len}
 use Rattle.wl_clock.specs.Timing.{tick_of}
 use Rattle.wl_traffic.specs.declared.entries.Entry.{Entry}

@@ -1,5 +1,4 @@
-use Rattle.std.proofs.Common.{◌≡◌, ◌∙◌, ◌||◌, ap, sym, ℕ, Bool}
-use Rattle.std.specs.List.{list_any, range_with_len}
+use Rattle.std.proofs.Common.{◌∙◌, ◌||◌, ap, sym, ℕ, Bool}
 use Rattle.wl_plan.specs.declared.plan.Plan.{Plan}
 use Rattle.wl_traffic.specs.Bus.{finds_busy, was_off}
 use Rattle.wl_traffic.proofs.Growing.{any_below_more}

@@ -1,10 +1,7 @@
-use Rattle.std.proofs.Common.{◌∙◌, ◌++◌, ◌<◌, ◌≤◌, ap, arith, string_bytes, ℕ, List, length, get_or}
-use Rattle.std.specs.List.{enumerate_from, flat_map}
-use Rattle.std.proofs.lemmas.List.{take_all}
+use Rattle.std.proofs.Common.{◌∙◌, ◌++◌, ◌<◌, ap, arith, string_bytes, ℕ, List, length}
 use Rattle.wl_report.proofs.Callers.{piece_more}
 use Rattle.wl_serial.specs.declared.outcome.NodeOutcome.{NodeOutcome}
-use Rattle.wl_traffic.specs.Causes.{deaf_line, deaf_lines}
-use Rattle.wl_traffic.specs.Reasons.{most_passed}
+use Rattle.wl_traffic.specs.Causes.{deaf_line}
 use Rattle.wl_traffic.proofs.causes.push_deaf_lines.Goals as goal
 
 pub loop-k-preserved : goal.loop-k-preserved

@@ -1,4 +1,4 @@
-use Rattle.std.proofs.Common.{◌≡◌, ◌∙◌, ◌&&◌, ap, sym, ℕ, Bool, List}
+use Rattle.std.proofs.Common.{◌∙◌, ◌&&◌, ap, sym, ℕ, Bool, List}
 use Rattle.wl_traffic.specs.declared.entries.Entry.{Entry}
 use Rattle.wl_traffic.specs.Late.{is_in_step}
 use Rattle.wl_traffic.proofs.Growing.{all_below_more}

@@ -1,4 +1,4 @@
-use Rattle.std.proofs.Common.{◌∙◌, ap, ap₂, sym, ℕ, max, List, take, fold}
+use Rattle.std.proofs.Common.{◌∙◌, ap, ap₂, sym, ℕ, max, List, take}
 use Rattle.std.proofs.lemmas.List.Sums.{fold_more}
 use Rattle.wl_traffic.specs.declared.queues.NodeQueue.{NodeQueue}
 use Rattle.wl_traffic.specs.Late.{longest_period_in, longest_period}

@@ -1,6 +1,5 @@
 use Rattle.std.proofs.Common.{◌≡◌, ◌∙◌, ◌+◌, ◌<◌, ap, sym, arith, ℕ, max}
 use Rattle.wl_traffic.specs.declared.load.Load.{Load}
-use Rattle.wl_traffic.specs.Bus.{load_below}
 use Rattle.wl_traffic.proofs.Loads.{busy_for, in_bounds, pause_for, with_busy, with_pause}
 use Rattle.wl_traffic.proofs.load.load_after.Goals as goal
 

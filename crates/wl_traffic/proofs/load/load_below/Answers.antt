@@ -1,4 +1,4 @@
-use Rattle.std.proofs.Common.{◌≡◌, ◌∙◌, ◌+◌, ◌-◌, ◌≤◌, ap, sym, arith, refl, ℕ, Bool, true, false, List}
+use Rattle.std.proofs.Common.{◌≡◌, ◌∙◌, ◌+◌, ◌-◌, ap, sym, arith, refl, ℕ, Bool, true, false, List}
 use Rattle.wl_level.specs.Levels.{is_dominant, level_of}
 use Rattle.wl_intervals.specs.Pairs.{covers}
 use Rattle.wl_traffic.specs.Bus.{load_below}
