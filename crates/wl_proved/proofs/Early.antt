@@ -1,0 +1,148 @@
+-- On a plan that ends late enough a lone sender has no frame left.
+use Rattle.std.proofs.Common.{◌≡◌, refl, sym, ap, subst, inl, inr, ℕ, zero, suc, ◌+◌, ◌*◌, ◌<◌, ◌≤◌, List, [], ◌∷◌, All, get_or, length, drop, cond, arith}
+use Rattle.std.specs.Prelude.{count_by}
+use Rattle.std.proofs.lemmas.Bool.{cases_eq, cases_lt, eq-eqb}
+use Rattle.std.proofs.lemmas.List.{length-drop, length-map}
+use Rattle.std.proofs.lemmas.List.FromFn.{get_or-map-range_with_len, length-map-range_with_len}
+use Rattle.std.proofs.Math.Nat.{mul-le-mul_right}
+use Rattle.wl_level.specs.declared.Level.{Level}
+use Rattle.wl_segments.specs.Lengths.{bit_quanta}
+use Rattle.wl_node.specs.declared.setup.Queued.{Queued}
+use Rattle.wl_node.specs.History.{history_of, is_sent}
+use Rattle.wl_plan.specs.declared.plan.Plan.{Plan}
+use Rattle.wl_plan.specs.PlanLine.{line_of, setup_at}
+use Rattle.wl_plan.specs.Simulation.{AreInside, ran, seen}
+use Rattle.wl_plan.specs.SimulationLaws.{SimulationLaws}
+use Rattle.wl_plan.specs.Sound.{IsCausal}
+use Rattle.wl_phase.specs.Clocks.{Steady}
+use Rattle.wl_serial.specs.Outcome.{history_at_end, node_outcome_of, outcome_of}
+use Rattle.wl_one_sender.specs.Clean.{HasOneSender, bus_with}
+use Rattle.wl_one_sender.specs.Through.{AreFrames, GetThrough, due_quantum, first_ready}
+use Rattle.wl_any_senders.specs.Plans.{IsPlanOf}
+use Rattle.wl_any_senders.specs.Stations.{Stations}
+use Rattle.wl_proved.specs.LateEnds.{EndsLate, frames_below}
+use Rattle.wl_proved.specs.PlansOfFamily.{SendsAlone}
+use Rattle.wl_proved.proofs.Lasting as lasting
+use Rattle.wl_proved.proofs.Queues.{no_frame}
+
+-- a queue goes on with this frame
+drop_here : (queue : List Queued) (n : ℕ) → n < length queue → (more : List Queued) × (drop n queue ≡ get_or queue n no_frame ∷ more)
+drop_here [] n h = absurd (omega arith)
+drop_here (q ∷ more) zero h = (more, refl)
+drop_here (q ∷ more) (suc n) h = drop_here more n (omega arith)
+
+-- the frames of one node are some of all
+one_of_all : (plan : Plan) (i m : ℕ) → i < m → length (setup_at plan i).queue ≤ frames_below plan m
+one_of_all plan i zero h = absurd (omega arith)
+one_of_all plan i (suc m) h = elim (cases_eq i m) [
+  | inl last ↦ (let e = ap (λ j. length (setup_at plan j).queue) last in omega arith)
+  | inr other ↦ (let before = one_of_all plan i m (omega (arith, other)) in omega arith)
+]
+
+module _ (laws : SimulationLaws) (plan : Plan) (s : Stations) (of : IsPlanOf plan s) (late : EndsLate plan) (causal : IsCausal (line_of plan)) (clocks : ℕ → Steady) (sender : ℕ)
+    (one : HasOneSender plan sender) (alone : SendsAlone plan sender) (stuffed : ℕ → List Level) (frames : AreFrames (bus_with plan clocks sender one stuffed) stuffed)
+    (through : GetThrough (bus_with plan clocks sender one stuffed) stuffed) where
+  abbrev T : ℕ → ℕ → ℕ
+  T i k = lasting.T plan s of late causal i k
+
+  abbrev u : ℕ
+  u = late.width * late.quantum
+
+  abbrev queue : List Queued
+  queue = (setup_at plan sender).queue
+
+  abbrev due : ℕ → ℕ
+  due n = due_quantum (bus_with plan clocks sender one stuffed) stuffed n
+
+  abbrev B : ℕ
+  B = bit_quanta (setup_at plan sender).segments
+
+  there : sender < s.count
+  there = let e = of.count in let inside = one.inside in omega arith
+
+  narrow : B ≤ late.width
+  narrow = let w = late.widths sender one.inside in omega arith
+
+  -- the first n frames are sent by then
+  due_by : (n : ℕ) → n ≤ length queue → T sender (due n) ≤ late.ready + 8 * u + n * ((late.bits + 15) * u)
+  due_by zero h =
+      let base = lasting.begun_by plan s of late causal sender there in
+      let w = narrow in
+      let later = lasting.bits_later plan s of late causal sender 0 (due 0) 8 late.ready there (omega arith) base in
+      omega arith
+  due_by (suc n) h =
+      let before = due_by n (omega arith) in
+      let ready = lasting.ready_by plan s of late causal sender n there (omega arith) in
+      let here = drop_here queue n (omega arith) in
+      let frame = frames n (get_or queue n no_frame) here.0 here.1 in
+      let long = late.frames sender (stuffed n) one.inside n no_frame (omega arith) frame.1 in
+      let all : (length (stuffed n) + 15) * B ≤ (late.bits + 15) * B = mul-le-mul_right B (let r : length (stuffed n) + 15 ≤ late.bits + 15 = omega arith in r) in
+      let wide : B * (late.bits + 15) ≤ late.width * (late.bits + 15) = mul-le-mul_right (late.bits + 15) narrow in
+      elim (cases_lt (due n) (first_ready (drop n queue))) [
+        | inl waits ↦
+            (let later = lasting.bits_later plan s of late causal sender (first_ready (drop n queue)) (due (suc n)) (late.bits + 15) (late.ready + 8 * u + n * ((late.bits + 15) * u)) there (omega arith) (omega arith) in
+            omega arith)
+        | inr goes ↦
+            (let later = lasting.bits_later plan s of late causal sender (due n) (due (suc n)) (late.bits + 15) (late.ready + 8 * u + n * ((late.bits + 15) * u)) there (omega arith) before in
+            omega arith)
+      ]
+
+  some_frame : 0 < length queue
+  some_frame = let e = ap length one.queue in omega arith
+
+  due_inside : T sender (due (length queue)) < plan.end
+  due_inside =
+      let by = due_by (length queue) (let r : length queue ≤ length queue = omega arith in r) in
+      let some = some_frame in
+      let all = one_of_all plan sender (length plan.nodes) one.inside in
+      let most : length queue * (late.way + (late.bits + 24) * u) ≤ frames_below plan (length plan.nodes) * (late.way + (late.bits + 24) * u) = mul-le-mul_right (late.way + (late.bits + 24) * u) all in
+      let few : 1 * (9 * u) ≤ length queue * (9 * u) = mul-le-mul_right (9 * u) (let r : 1 ≤ length queue = omega arith in r) in
+      let end = late.late in
+      omega arith
+
+  abbrev k : ℕ
+  k = ran (line_of plan) sender plan.end
+
+  run : AreInside (line_of plan) sender k
+  run = laws.ran_inside (line_of plan) sender plan.end causal one.inside
+
+  past_end : plan.end ≤ T sender k
+  past_end =
+      let tick = lasting.tick_is plan s of late causal sender k there in
+      elim (laws.ran_all (line_of plan) sender plan.end causal one.inside) [
+        | inl e ↦ omega arith
+        | inr e ↦ omega arith
+      ]
+
+  in_time : due (length queue) ≤ k
+  in_time = elim (cases_lt k (due (length queue))) [
+    | inl early ↦
+        (let up = lasting.up plan s of late causal sender k (due (length queue)) there (omega arith) in
+        let end = due_inside in
+        let past = past_end in
+        absurd (omega arith))
+    | inr late_enough ↦ late_enough
+  ]
+
+  -- what the sender has sent
+  own_left : (node_outcome_of plan sender).unsent ≡ 0
+  own_left =
+      let sent = through.sent (length queue) k (let r : length queue ≤ length queue = omega arith in r) run in_time in
+      let role = through.roles sender k one.inside run in
+      let own = ap (λ b. cond b (length (history_of (setup_at plan sender) (seen (line_of plan) sender k)).frames) 0) (eq-eqb sender sender refl) in
+      let long = length-map (history_of (setup_at plan sender) (seen (line_of plan) sender k)).frames (λ p. p.frame) in
+      let same = ap (λ levels. count_by is_sent (history_of (setup_at plan sender) levels).frames) (laws.history_seen (line_of plan) sender plan.end causal one.inside) in
+      let left = length-drop (count_by is_sent (history_at_end plan sender).frames) queue in
+      omega arith
+
+  none_left : (i : ℕ) → (node_outcome_of plan i).unsent ≡ 0
+  none_left i = elim (cases_eq i sender) [
+    | inl own ↦ subst (λ j. (node_outcome_of plan j).unsent ≡ 0) (sym own) own_left
+    | inr other ↦ (let empty = ap length (alone i other) in let left = length-drop (count_by is_sent (history_at_end plan i).frames) (setup_at plan i).queue in omega arith)
+  ]
+
+  pub all_empty : All (λ node. node.unsent ≡ 0) (outcome_of plan).nodes
+  all_empty i node less =
+      let long = length-map-range_with_len (node_outcome_of plan) 0 (length plan.nodes) in
+      let ni : i < length plan.nodes = omega arith in
+      subst (λ x. x.unsent ≡ 0) (sym (get_or-map-range_with_len (node_outcome_of plan) 0 (length plan.nodes) i i node ni (omega arith))) (none_left i)

@@ -1,0 +1,156 @@
+-- On a plan that ends late enough no frame is left.
+use Rattle.std.proofs.Common.{◌≡◌, ◌∙◌, refl, sym, ap, subst, inl, inr, ℕ, zero, suc, ◌+◌, ◌-◌, ◌*◌, ◌<◌, ◌≤◌, ◌==◌, List, All, get_or, map, length, Bool, true, false, Some, option_map, cond, arith}
+use Rattle.std.specs.Prelude.{count_by, slice_get}
+use Rattle.std.proofs.lemmas.Bool.{cases_lt}
+use Rattle.std.proofs.lemmas.List.{length-drop, length-map}
+use Rattle.std.proofs.lemmas.List.FromFn.{get_or-map-range_with_len, length-map-range_with_len}
+use Rattle.std.proofs.lemmas.Option.{slice_get-get_or, slice_get_within, get_or_from_slice_get}
+use Rattle.std.proofs.lemmas.Option.{slice_get-map}
+use Rattle.std.proofs.Math.Nat.{mul-le-mul_right}
+use Rattle.wl_level.proofs.Callers.{length_more}
+use Rattle.wl_frame.specs.Grammar.{Content, bits_of}
+use Rattle.wl_frame.specs.Stuffing.{Stuffs}
+use Rattle.wl_node.specs.declared.setup.Queued.{Queued}
+use Rattle.wl_node.specs.History.{history_of, is_sent}
+use Rattle.wl_plan.specs.declared.plan.Plan.{Plan}
+use Rattle.wl_plan.specs.PlanLine.{line_of, setup_at}
+use Rattle.wl_plan.specs.Simulation.{AreInside, ran}
+use Rattle.wl_plan.specs.SimulationLaws.{SimulationLaws}
+use Rattle.wl_plan.specs.Sound.{IsCausal}
+use Rattle.wl_phase.specs.Clocks.{steady_tick}
+use Rattle.wl_serial.specs.Outcome.{history_at_end, node_outcome_of, outcome_of}
+use Rattle.wl_any_senders.specs.Expected.{expected_bits, expected_sample}
+use Rattle.wl_any_senders.specs.Machines.{bus_levels}
+use Rattle.wl_any_senders.specs.Course.{bus_bit}
+use Rattle.wl_any_senders.specs.Plans.{IsPlanOf}
+use Rattle.wl_any_senders.specs.Starts.{Start}
+use Rattle.wl_any_senders.specs.Stations.{Stations}
+use Rattle.wl_first_frame.specs.FirstFrames.{HasFirstFrames, queues_of}
+use Rattle.wl_frame_end.specs.Rests.{passing_bit}
+use Rattle.wl_frames.specs.Frames.{third_sample}
+use Rattle.wl_sending.specs.Winners.{won_by}
+use Rattle.wl_clean.specs.Clean.{AllGetThrough, plan_history}
+use Rattle.wl_clean.specs.PlanFrames.{EmptyAllQueues}
+use Rattle.wl_level.specs.Levels.{level_of}
+use Rattle.wl_proved.specs.LateEnds.{EndsLate, frames_below}
+use Rattle.wl_proved.proofs.Counting.{few_frames, passed_long, sent_is_won}
+use Rattle.wl_proved.proofs.Lasting as lasting
+use Rattle.wl_proved.proofs.Queues.{no_frame}
+use Rattle.wl_proved.proofs.Starting.{place_low}
+
+long_levels : (s : Stations) (bits : ℕ → Start) (n : ℕ) → length (bus_levels s bits n) ≡ n
+long_levels s bits zero = refl
+long_levels s bits (suc n) = let before = long_levels s bits n in let one = length_more (bus_levels s bits n) (level_of (bus_bit s bits n)) in omega arith
+
+-- a frame of a queue, by its place
+queued_frame : (queue : List Queued) (n : ℕ) (c : Content) → slice_get (map (λ q. q.frame) queue) n ≡ Some c → (n < length queue) × ((get_or queue n no_frame).frame ≡ c)
+queued_frame queue n c is =
+    let within = slice_get_within (map (λ q. q.frame) queue) n c is in
+    let long = length-map queue (λ q. q.frame) in
+    let inside : n < length queue = omega arith in
+    (inside, get_frame (slice_get-get_or queue n no_frame inside))
+  where
+    get_frame : slice_get queue n ≡ Some (get_or queue n no_frame) → (get_or queue n no_frame).frame ≡ c
+    get_frame e =
+        let mapped : slice_get (map (λ q. q.frame) queue) n ≡ Some (get_or queue n no_frame).frame =
+        slice_get-map (λ q. q.frame) queue n ∙ ap (option_map (λ q. q.frame)) e in
+        sym (get_or_from_slice_get (map (λ q. q.frame) queue) n (get_or queue n no_frame).frame c mapped)
+        ∙ get_or_from_slice_get (map (λ q. q.frame) queue) n c c is
+
+module _ (laws : SimulationLaws) (plan : Plan) (s : Stations) (of : IsPlanOf plan s) (late : EndsLate plan) (causal : IsCausal (line_of plan)) (all : AllGetThrough plan s)
+    (has : HasFirstFrames plan (queues_of plan) s)
+    (grows : (n bit i : ℕ) → suc n < all.bus.count → i < s.count → third_sample s (all.bus.frames n) i < expected_sample s (all.bus.frames (suc n)).outset bit i) where
+  winner_is : (n : ℕ) → n < all.bus.count → all.bus.by.winner n < s.count
+  winner_is n less = subst (λ w. w < s.count) (all.bus.by.wins n less) (all.bus.are.each n less).won.inside
+
+  -- no frame has more bits
+  few_bits : (n : ℕ) → n < all.bus.count → (all.bus.frames n).bits ≤ late.bits
+  few_bits n less =
+      let won = (all.bus.are.each n less).won in
+      let w = all.bus.by.winner n in
+      let queued = queued_frame (setup_at plan (all.bus.by.winner n)).queue (won_by all.bus.by.winner (all.bus.by.winner n) n) (all.bus.by.content n) (all.order n less) in
+      let count = of.count in
+      let inside = winner_is n less in
+      let stuffs : Stuffs (bus_levels s (expected_bits s (all.bus.frames n).outset) (all.bus.frames n).bits) (bits_of (get_or (setup_at plan (all.bus.by.winner n)).queue (won_by all.bus.by.winner (all.bus.by.winner n) n) no_frame).frame) =
+      subst (λ c. Stuffs (bus_levels s (expected_bits s (all.bus.frames n).outset) (all.bus.frames n).bits) (bits_of c)) (all.bus.by.wins_with n less ∙ sym queued.1) won.stuffs in
+      let most = late.frames (all.bus.by.winner n) (bus_levels s (expected_bits s (all.bus.frames n).outset) (all.bus.frames n).bits) (omega arith) (won_by all.bus.by.winner (all.bus.by.winner n) n) no_frame queued.0 stuffs in
+      let long = long_levels s (expected_bits s (all.bus.frames n).outset) (all.bus.frames n).bits in
+      omega arith
+
+  gone : (n i : ℕ) → n < all.bus.count → i < s.count → steady_tick (s.clocks i) (suc (third_sample s (all.bus.frames n) i)) < plan.end
+  gone n i less ni =
+      let by = lasting.gone_by plan s of late causal all has grows few_bits n less i ni in
+      let count = of.count in
+      let total = few_frames all.bus.by.winner plan all.bus.by.content all.bus.count all.order (λ m h. (let inside = winner_is m h in omega arith)) in
+      let most : suc n * lasting.one_frame plan s of late causal ≤ frames_below plan (length plan.nodes) * lasting.one_frame plan s of late causal =
+      mul-le-mul_right (lasting.one_frame plan s of late causal) (let r : suc n ≤ frames_below plan (length plan.nodes) = omega arith in r) in
+      let end = late.late in
+      omega arith
+
+  some_node : 0 < s.count
+  some_node = let one = has.has.some in let inside = one.1 in omega arith
+
+  -- all queues are empty
+  emptied : EmptyAllQueues plan s all.bus
+  emptied = elim all.ends [
+    | inl before ↦
+        (let some = all.bus.some in
+        let last : suc (all.bus.count - 1) ≡ all.bus.count = omega arith in
+        let over = before.sampled 0 (all.bus.count - 1) some_node last in
+        let end = gone (all.bus.count - 1) 0 (omega arith) some_node in
+        absurd (omega arith))
+    | inr empty ↦ empty
+  ]
+
+  module _ (i : ℕ) (ni : i < length plan.nodes) where
+    inside : i < s.count
+    inside = let e = of.count in omega arith
+
+    abbrev k : ℕ
+    k = ran (line_of plan) i plan.end
+
+    run : AreInside (line_of plan) i k
+    run = laws.ran_inside (line_of plan) i plan.end causal ni
+
+    past_end : plan.end ≤ (line_of plan).instant i k
+    past_end = elim (laws.ran_all (line_of plan) i plan.end causal ni) [
+      | inl e ↦ e
+      | inr e ↦ e
+    ]
+
+    -- each frame has passed the node
+    passed_by : (n : ℕ) → n < all.bus.count → n < length (plan_history plan i k).frames
+    passed_by n less =
+        let end = gone n i less inside in
+        let tick = lasting.tick_is plan s of late causal i k inside in
+        let past = past_end in
+        let low = place_low s i (lasting.short plan s of late causal i inside) (all.bus.frames n).outset (passing_bit (all.bus.frames n).bits i (all.bus.by.winner n)) ((all.bus.frames n).bits + 12)
+        (by_role (i == all.bus.by.winner n)) in
+        all.in_time i k n inside run less (elim (cases_lt (third_sample s (all.bus.frames n) i) k) [
+          | inl before ↦ omega arith
+          | inr after ↦ (let early = lasting.up plan s of late causal i k (suc (third_sample s (all.bus.frames n) i)) inside (omega arith) in absurd (omega arith))
+        ])
+      where
+        by_role : (b : Bool) → (all.bus.frames n).bits + cond b 9 8 ≤ (all.bus.frames n).bits + 12
+        by_role true = omega arith
+        by_role false = omega arith
+
+    pub none_left : count_by is_sent (history_at_end plan i).frames ≡ length (setup_at plan i).queue
+    none_left =
+        let x = all.passed i k inside run in
+        let some = all.bus.some in
+        let last = passed_by (all.bus.count - 1) (omega arith) in
+        let long = ap length x.2 ∙ passed_long s all.bus.frames all.bus.by.winner all.bus.by.content i x.0 in
+        let few = x.1 in
+        let whole : x.0 ≡ all.bus.count = omega arith in
+        let same : (history_at_end plan i).frames ≡ (plan_history plan i k).frames = ap (λ levels. (history_of (setup_at plan i) levels).frames) (laws.history_seen (line_of plan) i plan.end causal ni) in
+        ap (count_by is_sent) (same ∙ x.2) ∙ sent_is_won s all.bus.frames all.bus.by.winner all.bus.by.content i x.0 ∙ ap (won_by all.bus.by.winner i) whole ∙ emptied i inside
+
+  pub all_empty : All (λ node. node.unsent ≡ 0) (outcome_of plan).nodes
+  all_empty i node less =
+      let long = length-map-range_with_len (node_outcome_of plan) 0 (length plan.nodes) in
+      let ni : i < length plan.nodes = omega arith in
+      let sent = none_left i ni in
+      let left = length-drop (count_by is_sent (history_at_end plan i).frames) (setup_at plan i).queue in
+      let own : (node_outcome_of plan i).unsent ≡ 0 = omega arith in
+      subst (λ x. x.unsent ≡ 0) (sym (get_or-map-range_with_len (node_outcome_of plan) 0 (length plan.nodes) i i node ni (omega arith))) own

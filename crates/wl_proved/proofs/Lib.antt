@@ -1,0 +1,17 @@
+mod Alone
+mod Any
+mod Counting
+mod Frames
+mod Lasting
+mod Longest
+mod Members
+mod Instance
+mod Early
+mod Emptied
+mod Ends
+mod Paced
+mod Queues
+mod Rows
+mod Starting
+mod Stuffings
+mod Texts

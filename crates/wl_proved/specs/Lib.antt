@@ -1,0 +1,4 @@
+pub mod CleanRuns
+pub mod LateEnds
+pub mod PlansOfFamily
+pub mod Words

@@ -1,0 +1,19 @@
+-- When the first line of a bus's margin says 'proved'. This project's.
+use Rattle.std.specs.Prelude.{◌≡◌, ◌⊎◌, ℕ, Bool, true, false, List, ◌++◌, Some}
+use Rattle.wl_setup.specs.declared.bus.Bus.{Bus}
+use Rattle.wl_bound.specs.Families.{Buses, family_of}
+use Rattle.wl_bound.specs.Oscillators.{Pace}
+use Rattle.wl_margin.specs.declared.reasons.Asked.{Asked}
+use Rattle.wl_margin.specs.Margins.{any_lead, family_asked, one_lead, paces_of, senders_words}
+
+-- the family that is judged: the nodes of a bus with the oscillators of its text
+abbrev pub IsFamilyOf : Asked → Bus → Buses → Type 0
+IsFamilyOf asked bus f = (paces : List Pace) × (paces_of bus.deviations ≡ Some paces) × (f ≡ family_asked asked (family_of bus.plan paces))
+
+-- The first line says 'proved' for any senders of the family; for one sender at a time.
+abbrev pub IsProvedForAny : Buses → List (List ℕ) → List ℕ → Type 0
+IsProvedForAny f names text = (one : Bool) × (rest : List ℕ) × (text ≡ any_lead (senders_words f names) (record { any = true; one = one }) ++ rest)
+
+abbrev pub IsProvedForOne : Buses → List (List ℕ) → List ℕ → Type 0
+IsProvedForOne f names text = (rest : List ℕ)
+    × ((text ≡ any_lead (senders_words f names) (record { any = false; one = true }) ++ rest) ⊎ (text ≡ one_lead (senders_words f names) true ++ rest))
