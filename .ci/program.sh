@@ -123,6 +123,18 @@ for plan in check/margins/*.toml; do
   is "it is beyond the condition: $plan" [ -z "$(grep '^holds for any' "$room/beyond")" ]
   is "it has errors: $plan" [ "$("$program" run < "$plan" | tail -n 1 | cut -d ' ' -f 1-2)" = "verdict faulty" ]
 done
+
+# What searches found and no law covers, and one sender of three: the nodes together don't hold.
+for plan in check/margins/searched/*.toml; do
+  for option in "" --all-send; do
+    python3 -B check/margin.py $option < "$plan" > "$room/beyond"
+    runs "margin $option of $plan" "$plan" 0 "$room/beyond" "$room/none" margin $option
+  done
+done
+is "joining nodes are not proved" [ -z "$(for plan in check/margins/searched/joins_*.toml; do "$program" margin "$plan" | head -n 1 | grep ', proved'; done)" ]
+is "one sender of three is proved" grep -q '^holds for any senders of n0, proved' <("$program" margin check/margins/searched/one_of_three_sends.toml)
+is "all three are not" grep -q '^holds for one sender at a time of n0 and n1 and n2,' <("$program" margin --all-send check/margins/searched/one_of_three_sends.toml)
+is "nor is a clock beyond its tolerance" grep -q '^does not hold: the clock of panel is outside of its tolerance' <("$program" margin check/margins/clock_beyond_tolerance.toml)
 fi
 
 if part cost; then

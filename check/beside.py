@@ -48,27 +48,28 @@ class Remembered:
     def __init__(self, search):
         self.search, self.last = search, {}
 
-    def __call__(self, family, one):
-        key = repr((family.plan, family.clocks, one))
+    def __call__(self, family, one, proved=False):
+        key = repr((family.plan, family.clocks, family.all_send, one, proved))
         if key not in self.last:
             if len(self.last) > 8: self.last.clear()
-            self.last[key] = self.search(family, one)
+            self.last[key] = self.search(family, one, proved)
         return self.last[key]
 
 
 def margin(tally, program, seed, numbers, options):
-    """Both commands of each family: `margin`, and `explain` of every other one."""
+    """Both commands of each family: `margin`, some of all nodes as senders, and `explain` of every other one."""
     of_margin.longer_cable, of_margin.wider_tolerance = Remembered(LONGER), Remembered(WIDER)
     for number in numbers:
         rng = random.Random(f"{seed} {number} margin")
         text, tick = families.text_of(rng), rng.choice(TICKS)
         name, picoseconds = f"family {number} of seed {seed}", int(tick[:-2]) * of_margin.UNITS[tick[-2:]]
-        wanted = told(of_margin.margin_text, text, picoseconds)
+        all_send = ["--all-send"] * (rng.random() < 0.2)
+        wanted = told(of_margin.margin_text, text, picoseconds, bool(all_send))
         tally.tried += 1
         tally.count("answers", first_words(*wanted[:2]))
-        got = asked(program, "margin", "--tick", tick, text=text)
-        tally.compare(name, "margin", text, got, wanted)
-        if number % 2: continue
+        got = asked(program, "margin", "--tick", tick, *all_send, text=text)
+        tally.compare(name, " ".join(["margin", *all_send]), text, got, wanted)
+        if number % 2 or all_send: continue
         doubted = plain.answer("explain", text)
         explained = asked(program, "explain", text=text)
         if doubted[2] == 1 and explained[2] == 1: doubted = explained[0], *doubted[1:]  # of a refused plan: `refusals`

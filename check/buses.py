@@ -95,17 +95,15 @@ def line_of(program, k, texts, runs):
 
 
 def answers():
-    """How many of the buses are sound for any senders, how many of these have room for acknowledgements, as wl_any_senders has it, and how many to rest, as wl_frame_end has it."""
-    sound, roomy, rests = 0, 0, 0
+    """How many of the buses are sound for any senders, and how many of these have room for acknowledgements and to rest, as wl_room has it."""
+    sound, roomy = 0, 0
     for row in ROWS:
         text = plan_text(nodes_of(row)).encode()
         family = margin.Family(plain.read_plan(text), margin.clocks_of(plain.read_toml(text)))
         if next(family.failures(False), None) is None:
             sound += 1
-            bus = family.buses(False)[0]
-            roomy += bus.has_room_to_answer()
-            rests += bus.has_room_to_answer() and bus.has_room_to_rest()
-    print(f"{len(ROWS)} buses, {sound} sound, {roomy} of these with room for acknowledgements, {rests} with room to rest")
+            roomy += family.buses(False)[0].leaves_room()
+    print(f"{len(ROWS)} buses, {sound} sound, {roomy} of these with room for acknowledgements and to rest")
 
 
 def main():

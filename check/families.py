@@ -45,9 +45,13 @@ def tolerances(rng, nodes):
     return [rng.choice([size, rng.randint(0, size)]) if rng.random() < 0.5 else size for _ in nodes]
 
 
-def rate(rng, quantum):
-    """The clock keys of a quantum of about so many ticks."""
-    if rng.random() < 0.7: return {"quantum": quantum, "ppm": rng.choice([0] * 6 + [50, -50, rng.randint(-9_000, 9_000)])}
+def rate(rng, quantum, tolerance):
+    """The clock keys of a quantum of about so many ticks: mostly within the tolerance, at times at its limits or just beyond."""
+    if rng.random() < 0.7:
+        ppm = rng.choice([0] * 6 + [50, -50, rng.randint(-9_000, 9_000)] + [tolerance, -tolerance] * 2)
+        if rng.random() < 0.9: ppm = max(-tolerance, min(tolerance, ppm))
+        elif rng.random() < 0.5: ppm += rng.choice([-1, 1])
+        return {"quantum": quantum, "ppm": max(-100_000, min(100_000, ppm))}
     den = rng.choice([1, 2, 3, 7, 1_000, 999_983, 1_000_000])
     return {"num": max(den, quantum * den + rng.choice([0, 0, 1, -1, rng.randint(0, den - 1)])), "den": den}
 
@@ -80,8 +84,8 @@ def family(rng):
         table = {"name": f"n{i}", "offset": rng.choice([0, rng.randrange(node.bit() + 1)]) % (2**20 + 1)}
         if rated:
             starts = sorted(rng.sample(range(1, 5_000), rng.choice([0, 1, 1, 2, 15])))
-            table["rates"] = [{"from": start} | rate(rng, node.quantum) for start in [0] + starts]
-        else: table |= rate(rng, node.quantum)
+            table["rates"] = [{"from": start} | rate(rng, node.quantum, deviates[i]) for start in [0] + starts]
+        else: table |= rate(rng, node.quantum, deviates[i])
         if rng.random() < 0.9: table["tolerance"] = deviates[i]
         table |= {"prop": node.prop, "ps1": node.ps1, "ps2": node.ps2, "sjw": node.sjw, "out": node.out, "in": node.into,
                   "x": 0 if i == 0 else length if i == 1 else rng.randint(0, length)}

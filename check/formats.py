@@ -24,7 +24,7 @@ COMMANDS = [
     ["sweep", "--runs", "2", "--vary", "sjw=1..2", "--vary", "ps2=2..3", "--vary", "end=50000..60000:10000"],
 ]
 # Fields whose value is no part of the line, and digits that are in every line of a kind.
-SAID_OF_LINE = {"doubt", "senders", "inequality", "note"}
+SAID_OF_LINE = {"doubt", "senders", "inequality", "note", "room", "proved_for"}
 FIXED = re.compile(r"doubt: 11 bits and|at 5 ns a metre$|PHASE_SEG2|no frame has edges ten|^each sender")
 # Refused plans: what is wrong has commas, quotes and backslashes.
 REFUSED = [

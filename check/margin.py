@@ -1,7 +1,7 @@
 #!/usr/bin/env python3
 """The margin of a bus, by an independent program: what `margin` has to write of a plan, from the three inequalities as docs/use/margins.md has them.
 
-usage: margin.py [--tick TIME] < PLAN
+usage: margin.py [--tick TIME] [--all-send] < PLAN
 
 It reads the plan by plain.py, and takes one sender at a time and any senders by trying all of them. plain.py takes the inequalities from here for
 `explain`.
@@ -128,38 +128,27 @@ class Bus:
         if not any(a in self.sends for a in self.others(i, k)): return 0
         return chase[k] * (10 * self.drift(i, k) + max(0, self.sjw[i] * self.high[i] - self.jump[k]))
 
-    def chases(self):
-        """In how many edges each node catches up with whoever wins; None if one may never."""
-        chases, d = [0] * self.n, self.delay
-        for k in range(self.n):
-            for w in self.others(k):
-                if w not in self.sends: continue
-                far = d(k, w) + d(w, k) + self.look[k] + max(0, self.high[w] - d(w, w)) - self.low[k]
-                step = self.jump[k] - 10 * self.drift(w, k)
-                if far > 0 and step <= 0: return None
-                if far > 0: chases[k] = max(chases[k], -(-far // step) - 1)
-        return chases
-
-    def has_room_to_answer(self):
-        """The inequalities of specs/Answers.antt of the crate wl_any_senders."""
-        chase, d = self.chases(), self.delay
-        if chase is None or any(d(i, i) > self.sample[i] * self.low[i] for i in range(self.n)): return False
-        for i in range(self.n):
+    def lacks(self):
+        """Yields what the bus lacks of the room of docs/use/margins.md (Room for any senders), node by node: kind, both nodes, what is taken, and the
+        time that there is. One pair's inequalities come in the order of the table."""
+        d, nodes = self.delay, range(self.n)
+        far = {(k, w): d(k, w) + d(w, k) + self.look[k] + max(0, self.high[w] - d(w, w)) - self.low[k] for k in nodes for w in self.others(k)}
+        step = {(k, w): max(0, self.jump[k] - 10 * self.drift(w, k)) for k, w in far}
+        chase = [max([0] + [-(-far[k, w] // step[k, w]) - 1 for w in self.others(k) if w in self.sends and step[k, w]]) for k in nodes]
+        for i in nodes:
+            sample, rest = self.sample[i] * self.low[i], self.ps2[i] * self.low[i]
+            if d(i, i) > sample: yield "loop", i, i, d(i, i), sample
+            for w in self.others(i):
+                if w in self.sends and far[i, w] > (chase[i] + 1) * step[i, w]: yield "chase", i, w, far[i, w], (chase[i] + 1) * step[i, w]
             for k in self.others(i):
-                early, late = self.look[k] + self.gathered(chase, i, k) + 10 * self.drift(i, k), self.look[i] + self.gathered(chase, k, i) + 10 * self.drift(k, i)
-                if early > self.jump[i] or 10 * self.drift(k, i) > self.jump[i] or early + self.tick > self.ps2[i] * self.low[i]: return False
-                if d(i, k) + d(k, i) + late > self.sample[i] * self.low[i]: return False
-        return True
-
-    def has_room_to_rest(self):
-        """The inequality LeavesRoomToRest of specs/Again.antt of the crate wl_frame_end, of a bus with room for acknowledgements."""
-        chase = self.chases()
-        return all(self.look[k] + self.gathered(chase, i, k) + 12 * self.drift(i, k) + self.tick <= self.ps2[i] * self.low[i]
-                   for i in range(self.n) for k in self.others(i))
+                early, late = self.look[k] + self.gathered(chase, i, k), self.look[i] + self.gathered(chase, k, i)
+                taken = {"look": 10 * self.drift(i, k) + early, "drift": 10 * self.drift(k, i),
+                         "late": d(i, k) + d(k, i) + late + 10 * self.drift(k, i), "rest": early + 12 * self.drift(i, k) + self.tick}
+                there = {"look": self.jump[i], "drift": self.jump[i], "late": sample, "rest": rest}
+                yield from ((kind, i, k, taken[kind], there[kind]) for kind in taken if taken[kind] > there[kind])
 
     def leaves_room(self):
-        """Whether the laws on any senders have all that they ask of the bus beside the three inequalities: specs/Rooms.antt of the crate wl_room."""
-        return self.has_room_to_answer() and self.has_room_to_rest()
+        return next(self.lacks(), None) is None
 
     def is_asked(self, kind, i, j):
         """Whether nodes i and j are asked: of one node only whether its own bit is back, of what a listener drives nothing, of two listeners nothing."""
@@ -179,9 +168,11 @@ class Silent(Bus):
 
 
 class Family:
-    def __init__(self, plan, clocks):
-        self.plan, self.clocks = plan, clocks
-        self.senders = [i for i, node in enumerate(plan.nodes) if node.queue]
+    """`all_send`: each node sends that doesn't only listen, whatever its frames."""
+
+    def __init__(self, plan, clocks, all_send=False):
+        self.plan, self.clocks, self.all_send = plan, clocks, all_send
+        self.senders = [i for i, node in enumerate(plan.nodes) if (not plan.places[i].listens if all_send else node.queue)]
 
     def buses(self, one, **changes):
         if one and not self.senders: return [Silent(self.plan, self.clocks, [], **changes)]
@@ -203,25 +194,69 @@ class Family:
         pairs = [pair for pair in product(KINDS, range(buses[0].n), range(buses[0].n)) if buses[0].is_asked(*pair)]
         return min(right - left for left, right in (self.sides(buses, *pair) for pair in pairs))
 
-    def holds(self, one, **changes):
-        return next(self.failures(one, **changes), None) is None
+    def holds(self, one, proved=False, **changes):
+        """Whether no inequality fails, and `proved`, whether the bus leaves room too."""
+        return next(self.failures(one, **changes), None) is None and not (proved and not self.buses(one, **changes)[0].leaves_room())
+
+
+def rates_of(node, by_ppm):
+    """Returns the rates of a node as (num, den), with `ppm` or without it."""
+    return [(rate["quantum"] * (T + by_ppm * rate.get("ppm", 0)), T) if "quantum" in rate else (rate["num"], rate["den"])
+            for rate in node.get("rates", [node])]
 
 
 def clocks_of(top):
-    """Returns of each node its rates, as (num, den), without `ppm` if it has a tolerance, and the tolerance."""
-    clocks = []
-    for node in top["node"]:
-        rates = []
-        for rate in node.get("rates", [node]):
-            ppm = 0 if "tolerance" in node else rate.get("ppm", 0)
-            rates.append((rate["quantum"] * (T + ppm), T) if "quantum" in rate else (rate["num"], rate["den"]))
-        clocks.append((rates, node.get("tolerance", 0)))
-    return clocks
+    """Returns of each node its rates, without `ppm` if it has a tolerance, and the tolerance."""
+    return [(rates_of(node, "tolerance" not in node), node.get("tolerance", 0)) for node in top["node"]]
+
+
+def stray(node, clock, low, high):
+    """Returns the first quanta that take too few ticks or too many, with these ticks, or None. A clock of one rate is judged by its rate, and each
+    rate of several by the ticks of its quanta: up to the next one, of the last one a million."""
+    starts = [rate.get("from", 0) for rate in node.get("rates", [node])] if "rates" in node else [0]
+    stretches = [(at, later - at) for at, later in zip(starts, starts[1:])] + [(starts[-1], T)]
+    for at, quanta in stretches:
+        ticks = clock.at(at + quanta) - clock.at(at)
+        if len(starts) == 1:
+            (num, den), = rates_of(node, True)
+            if low * den <= T * num <= high * den: return None
+        if len(starts) == 1 or ticks < low * quanta // T or ticks > high * quanta // T: return quanta, ticks
+    return None
+
+
+def stray_line(top, plan, family):
+    """Returns the line of the first clock beyond its tolerance, or None."""
+    bus = Bus(plan, family.clocks, family.senders)
+    for i, node in enumerate(top["node"]):
+        found = stray(node, plan.nodes[i].clock, bus.low[i], bus.high[i])
+        if found is None: continue
+        quanta, ticks = found
+        return (f"does not hold: the clock of {plan.nodes[i].name} is outside of its tolerance of {family.clocks[i][1]} ppm: {quanta} quanta take {ticks} "
+                f"ticks, and {bus.low[i] * quanta // T} to {bus.high[i] * quanta // T} are within it")
+    return None
 
 
 def are_clocks(clocks):
     """Whether all these rates are those of a clock."""
     return all(den <= num <= 2**20 * den for rates, _ in clocks for num, den in rates)
+
+
+def outside_for_all(plan):
+    """Returns the words of what lies outside of the inequalities if all nodes send that don't only listen, whatever their frames, or None."""
+    names = [node.name for node in plan.nodes]
+    speak = [name for name, place in zip(names, plan.places) if not place.listens]
+    if len(names) < 2: return "does not hold: there is one node, and nobody acknowledges its frames"
+    if not speak: return "no bound is known: no node has a frame to send"
+    if len(speak) == 1: return f"does not hold: all nodes but {speak[0]} only listen, and nobody acknowledges its frames"
+    return not_by_the_book(plan)
+
+
+def not_by_the_book(plan):
+    for node in plan.nodes:
+        if not node.segments.book:
+            return (f"no bound is known: {node.name} synchronises after an edge, so it can miss a start of frame or an edge at its sample; "
+                    'for sync = "book" one is known')
+    return None
 
 
 def outside(plan):
@@ -235,10 +270,7 @@ def outside(plan):
     for i, name in enumerate(names):
         if plan.nodes[i].queue and all(listens[j] for j in range(len(names)) if j != i):
             return f"does not hold: all nodes but {name} only listen, and nobody acknowledges its frames"
-    for node in plan.nodes:
-        if not node.segments.book:
-            return (f"no bound is known: {node.name} synchronises after an edge, so it can miss a start of frame or an edge at its sample; "
-                    'for sync = "book" one is known')
+    if not_by_the_book(plan): return not_by_the_book(plan)
     fields = [{(queued.frame.extended, queued.frame.id, queued.frame.remote) for queued in node.queue} for node in plan.nodes]
     for i, j in product(range(len(names)), repeat=2):
         if i != j and fields[i] & fields[j]:
@@ -250,12 +282,18 @@ def outside(plan):
     return None
 
 
-def is_covered(plan, clocks):
-    """Whether the law on one sender is about such a plan: each clock has one rate, none only listens, nothing disturbs, all others are idle by then."""
-    if plan.disturbances or any(place.listens for place in plan.places) or any(len(rates) != 1 for rates, _ in clocks): return False
-    idle = [node.clock.at(11 * node.segments.bit_quanta()) for node in plan.nodes]
-    first = [(i, node.clock.at(node.queue[0].ready)) for i, node in enumerate(plan.nodes) if node.queue]
-    return all(ready >= idle[j] for i, ready in first for j in range(len(plan.nodes)) if j != i)
+def idle_ticks(plan):
+    """Returns of each node the tick at which it has counted its first 11 bits."""
+    return [node.clock.at(11 * node.segments.bit_quanta()) for node in plan.nodes]
+
+
+def waits(plan):
+    """Yields each node whose first frame is ready before all others are idle, the first such other, and the first quantum at which all are idle."""
+    idle = idle_ticks(plan)
+    for i, node in enumerate(plan.nodes):
+        if not node.queue: continue
+        busy = [j for j in range(len(idle)) if j != i and node.clock.at(node.queue[0].ready) < idle[j]]
+        if busy: yield i, busy[0], node.clock.quanta_before(max(idle[j] for j in range(len(idle)) if j != i))
 
 
 def point(number, digits):
@@ -324,27 +362,52 @@ class Text:
             late, early, drift = (self.spare_of(buses, kind, i, j) for kind in (LATE, EARLY, DRIFT))
             yield f"pair {self.names[i]} {self.names[j]}: late {late}, early {early}, drift {drift}"
 
+    def lack(self, kind, i, k, left, right):
+        a, b, taken, there = self.names[i], self.names[k], self.amount(left, i, ceil), self.amount(right, i, floor)
+        if kind == "loop": return self.failure(LATE, i, i, left, right)
+        if kind == "late": return self.failure(LATE, i, k, left, right)
+        if kind == "drift": return f"in ten bits {b} falls behind {a} by up to {taken}, and an edge puts right {there}"
+        if kind == "chase": return f"{a} can be {taken} off the bits of {b}, and its edges put right {there}"
+        if kind == "look": return f"the look of {b}, ten bits of drift and what gathers take up to {taken} at {a}, and an edge puts right {there}"
+        return f"twelve bits after an edge a bit of {b} comes to {a} up to {taken} too early, and its PHASE_SEG2 has {there}"
+
+    def causes(self, room):
+        """Yields why no law covers the plan, each cause for itself: those of clocks and of the line, what the room lacks, and the times of first frames."""
+        plan = self.family.plan
+        yield from (f"the clock of {name} has several rates" for name, (rates, _) in zip(self.names, self.family.clocks) if len(rates) > 1)
+        if plan.disturbances and not self.family.all_send: yield "the plan has a disturbance"
+        yield from (f"{name} only listens" for name, place in zip(self.names, plan.places) if place.listens)
+        if room: yield from (self.lack(*lack) for lack in self.family.buses(False)[0].lacks())
+        found = [] if self.family.all_send else list(waits(plan))
+        for i, j, _ in found:
+            quanta = ", ".join(f"{self.names[k]} {quantum}" for k, _, quantum in found)
+            yield (f"{self.names[j]} isn't idle when the first frame of {self.names[i]} is ready; "
+                   f"proved if first frames are ready at these quanta or later: {quanta}")
+
     def lines(self):
         of_any, of_one = (next(self.family.failures(one), None) for one in (False, True))
-        covered = is_covered(self.family.plan, self.family.clocks)
-        proved = of_one is None and covered
-        if of_any is None and covered and self.family.buses(False)[0].leaves_room():
-            yield "holds for any senders, proved: any_senders_are_clean"
-        elif of_any is None:
-            yield "holds for any senders, as far as searched" + ("; for one sender at a time, proved: one_sender_is_clean" if proved else ", not proved")
+        why_any, why_one = (next(self.causes(room), None) for room in (True, False))
+        who = "of " + " and ".join(self.names[i] for i in self.family.senders)
+        searched = "as far as searched"
+        if of_any is None:
+            for_one = "; for one sender at a time, proved: one_sender_is_clean" if why_one is None else ", not proved"
+            yield f"holds for any senders {who}, " + (searched + for_one if why_any else "proved: any_senders_are_clean")
+            if why_any: yield f"not proved: {why_any}"
         elif of_one is None:
-            yield "holds for one sender at a time, " + ("proved: one_sender_is_clean" if proved else "as far as searched, not proved")
+            yield f"holds for one sender at a time {who}, " + (f"{searched}, not proved" if why_one else "proved: one_sender_is_clean")
+            if why_one: yield f"not proved: {why_one}"
             yield f"any senders: {self.failure(*of_any)}"
         else:
             yield f"does not hold: {self.failure(*of_one)}"
         yield from self.pairs(of_any is not None)
-        yield from self.searches()
+        yield from self.searches(proved=of_any is None and why_any is None)
 
-    def searches(self, asked=3):
+    def searches(self, asked=3, proved=False):
         searches = ("cable", " units longer", longer_cable), ("tolerance", " ppm wider", wider_tolerance), ("help", "", first_help)
         for name, unit, find in searches[:asked]:
             one, other = (find(self.family, one) for one in (True, False))
-            yield f"{name}: one sender at a time {figure(one, unit)}, any senders {figure(other, unit)}"
+            still = find(self.family, False, True) if proved and name != "help" else None
+            yield f"{name}: one sender at a time {figure(one, unit)}, any senders {figure(other, unit)}" + ("" if still is None else f", proved {still}")
 
 
 def figure(number, unit):
@@ -361,15 +424,15 @@ def greatest(holds, limit):
     return low
 
 
-def longer_cable(family, one):
+def longer_cable(family, one, proved=False):
     places = [place.x for place in family.plan.places]
     length = max(places) - min(places)
     if not length or not family.plan.per: return None
-    return greatest(lambda n: family.holds(one, stretch=Fraction(length + n, length)), (2**20 - length * family.plan.per) // family.plan.per)
+    return greatest(lambda n: family.holds(one, proved, stretch=Fraction(length + n, length)), (2**20 - length * family.plan.per) // family.plan.per)
 
 
-def wider_tolerance(family, one):
-    return greatest(lambda ppm: family.holds(one, wider=ppm), 100_000 - max(tolerance for _, tolerance in family.clocks))
+def wider_tolerance(family, one, proved=False):
+    return greatest(lambda ppm: family.holds(one, proved, wider=ppm), 100_000 - max(tolerance for _, tolerance in family.clocks))
 
 
 CHANGES = {
@@ -379,31 +442,34 @@ CHANGES = {
 
 
 def first_help(family, one):
-    """Returns the first change that raises the least margin most, of those that every node's segments allow; or None."""
+    """Returns the first change that raises the least margin most, of those that every node's segments allow; or None if the condition doesn't hold with it."""
     best = None, family.reserve(one)
     for words, (ps1, ps2, sjw) in CHANGES.items():
         own = [node.segments for node in family.plan.nodes]
         if any(s._replace(ps1=s.ps1 + ps1, ps2=s.ps2 + ps2, sjw=s.sjw + sjw).fault() for s in own): continue
         reserve = family.reserve(one, changes=(ps1, ps2, sjw))
         if reserve > best[1]: best = words, reserve
-    return best[0]
+    return best[0] if best[1] >= 0 else None
 
 
 NO_CLOCK = "no bound is known: without its ppm a quantum takes less than a tick or more than 1,048,576"
 
 
-def margin_text(text, tick):
-    plan, clocks = plain.read_plan(text), clocks_of(plain.read_toml(text))
-    said = outside(plan) if are_clocks(clocks) else NO_CLOCK
-    return said + "\n" if said else "".join(line + "\n" for line in Text(Family(plan, clocks), tick).lines())
+def margin_text(text, tick, all_send=False):
+    plan, top = plain.read_plan(text), plain.read_toml(text)
+    clocks = clocks_of(top)
+    if not are_clocks(clocks): return NO_CLOCK + "\n"
+    family = Family(plan, clocks, all_send)
+    said = stray_line(top, plan, family) or (outside_for_all if all_send else outside)(plan)
+    return said + "\n" if said else "".join(line + "\n" for line in Text(family, tick).lines())
 
 
 def main():
     words, tick = sys.argv[1:], 1_000
     if words[:1] == ["--tick"]:
-        tick = int(words[1][:-2]) * UNITS[words[1][-2:]]
+        tick, words = int(words[1][:-2]) * UNITS[words[1][-2:]], words[2:]
     try:
-        sys.stdout.write(margin_text(sys.stdin.buffer.read(), tick))
+        sys.stdout.write(margin_text(sys.stdin.buffer.read(), tick, words == ["--all-send"]))
     except plain.Fault as fault:
         sys.stderr.write(f"fault: {fault}\n")
         sys.exit(1)

@@ -1003,7 +1003,8 @@ def explain_text(plan, top):
     lines += [line for node in plan.nodes for line in node_doubts(plan, node, idle)]
     lines += [line for node in plan.nodes for line in room_doubts(plan, node)]
     if not book: return lines + [figures(plan, i, quanta) for i in nodes]
-    return lines + [timing(node, quantum) for node, quantum in zip(plan.nodes, quanta)] + list(text.searches(2) if text else [])
+    figured = text.searches(2) if text and len(nodes) > 1 else []
+    return lines + [timing(node, quantum) for node, quantum in zip(plan.nodes, quanta)] + list(figured)
 
 
 COMMANDS = {

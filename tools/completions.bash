@@ -12,7 +12,7 @@ _wireline() {
     check | explain | trace) options+=' --format' ;;
     candump) options+=' --tick --from' ;;
     vcd | page) options+=' --tick' ;;
-    margin) options+=' --tick --format' ;;
+    margin) options+=' --tick --all-send --format' ;;
     traffic) options+=' --tick --strict --format' ;;
     settings) options+=' --tick --best --plan' ;;
     sweep) options+=' --vary --step --runs --seed --keep-offsets --keep-ppm --worst --workers --print --page --format' ;;

@@ -21,3 +21,7 @@ abbrev pub is_covered : Plan → Bool
 is_covered plan =
     if nat_lt (length plan.nodes) 2 || nat_lt 0 (length plan.disturbances) then false
     else not (any_below (length plan.nodes) (is_uncovered plan))
+
+-- two nodes or more, none of which only listens: so the law covers plans of these nodes, whatever their frames
+abbrev pub all_speak : Plan → Bool
+all_speak plan = if nat_lt (length plan.nodes) 2 then false else not (any_below (length plan.nodes) (only_listens plan.topology))

@@ -1,5 +1,5 @@
 -- Families of buses: what of a plan the condition for a sound bus is about. This project's.
-use Rattle.std.specs.Prelude.{◌≡◌, ℕ, ◌+◌, ◌-◌, ◌*◌, ◌==◌, nat_lt, Bool, false, List, [], ◌∷◌, length, Option, Some, None, Result, Ok, Err, slice_index_or}
+use Rattle.std.specs.Prelude.{◌≡◌, ℕ, suc, ◌+◌, ◌-◌, ◌*◌, ◌==◌, nat_lt, not, Bool, false, List, [], ◌∷◌, length, Option, Some, None, Result, Ok, Err, slice_index_or}
 use Rattle.std.specs.Int.{abs_diff}
 use Rattle.wl_segments.specs.declared.SegmentsFault.{SegmentsFault}
 use Rattle.wl_segments.specs.Lengths.{Lengths, segments_of}
@@ -51,6 +51,11 @@ members_of (node ∷ nodes) (pace ∷ paces) = member_of node pace ∷ members_o
 abbrev pub family_of : Plan → List Pace → Buses
 family_of plan paces = record { members = members_of plan.nodes paces; cable = plan.topology }
 
+-- the same nodes, from node i on, each of which sends unless it only listens
+abbrev pub sending : (ℕ → Bool) → ℕ → List Member → List Member
+sending listens i [] = []
+sending listens i (member ∷ later) = record member { sends = not (listens i) } ∷ sending listens (suc i) later
+
 -- One of the buses that are asked about. Times are counted in units. A tick has enough of them that all are whole.
 pub record Bus : Type 0 where
   pub nodes : ℕ
@@ -67,6 +72,10 @@ pub record Bus : Type 0 where
 -- a node that only listens: what it drives reaches no other node (ISO 11898-1, bus monitoring)
 abbrev pub only_listens : Cable → ℕ → Bool
 only_listens cable i = (place_at cable i).listens
+
+-- the family in which each node sends that doesn't only listen
+abbrev pub all_sending : Buses → Buses
+all_sending f = record { members = sending (only_listens f.cable) 0 f.members; cable = f.cable }
 
 -- how many ticks a level takes along the cable between two nodes, without the nodes' own
 abbrev pub way_between : Cable → ℕ → ℕ → ℕ

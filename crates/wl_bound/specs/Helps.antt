@@ -1,5 +1,5 @@
 -- Which change by a quantum helps most. This project's.
-use Rattle.std.specs.Prelude.{ℕ, zero, suc, ◌-◌, ◌==◌, ◌&&◌, ◌||◌, nat_lt, not, min, max, Bool, length, Some, None, if◌then◌else◌}
+use Rattle.std.specs.Prelude.{ℕ, zero, suc, ◌-◌, ◌==◌, ◌&&◌, ◌||◌, nat_lt, not, min, max, Bool, length, Option, Some, None, if◌then◌else◌}
 use Rattle.std.specs.Result.{is_err}
 use Rattle.wl_topology.specs.Driven.{any_below}
 use Rattle.wl_bound.specs.declared.condition.Inequality.{Inequality}
@@ -78,3 +78,7 @@ abbrev pub best_change : Buses → Senders → Best
 best_change f senders =
     or_better f senders (or_better f senders (or_better f senders (or_better f senders
     (record { change = None; reserve = reserve_in f plain senders }) WiderJump) NarrowerJump) LaterSample) EarlierSample
+
+-- the best change, if the condition holds with it
+abbrev pub help_of : Buses → Senders → Option Change
+help_of f senders = if (best_change f senders).reserve.lack == 0 then (best_change f senders).change else None

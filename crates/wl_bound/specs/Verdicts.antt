@@ -132,3 +132,23 @@ unless_outside (Some cause) verdict = NoBound cause
 abbrev pub verdict_of : Plan → Buses → Verdict
 verdict_of plan f =
     unless_outside (outside_of plan) (for_any (first_failure_of f plain Any) (for_one (first_failure_of f plain One)))
+
+-- If all nodes send that don't only listen, whatever their frames: no node does so, and node i alone does so.
+abbrev pub speaks : Plan → ℕ → Bool
+speaks plan i = not (only_listens plan.topology i)
+
+abbrev pub speaks_alone : Plan → ℕ → Bool
+speaks_alone plan i = speaks plan i && not (any_below (length plan.nodes) (acknowledges plan i))
+
+-- the first cause that lies in the nodes and not in their frames
+abbrev pub outside_for_all : Plan → Option Outside
+outside_for_all plan =
+    if nat_lt (length plan.nodes) 2 then Some FewNodes
+    else if not (any_below (length plan.nodes) (speaks plan)) then Some NoFrames
+    else or_cause (at_node NobodyAcknowledges (first_place (speaks_alone plan) (length plan.nodes)))
+    (at_node NotByTheBook (first_place (without_book plan) (length plan.nodes)))
+
+-- what is said of its nodes, if all of them send that don't only listen
+abbrev pub verdict_for_all : Plan → Buses → Verdict
+verdict_for_all plan f =
+    unless_outside (outside_for_all plan) (for_any (first_failure_of f plain Any) (for_one (first_failure_of f plain One)))

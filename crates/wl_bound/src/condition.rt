@@ -64,6 +64,13 @@ pub(crate) const PLAIN: Setting = Setting {
     longer: 0,
 };
 
+/// Returns the setting of the plan's own cable and tolerances, in which any nodes with frames send.
+pub fn plain() -> Setting
+    ensures { result ≡ plain }
+{
+    PLAIN
+}
+
 /// Returns the bus of a setting with these terms of it.
 fn evaluated<'r>(setting: Setting, rows: &'r Rows) -> EvaluatedBus<'r>
     ensures setting { result.setting ≡ setting }

@@ -1,12 +1,12 @@
 //! Which plans the law on one sender covers.
 ghost use Rattle.std.specs.Prelude.{◌≡◌, ◌<◌, ◌≤◌, length};
-ghost use Rattle.wl_bound.specs.Covered.{finds_one_busy, is_covered, is_uncovered};
+ghost use Rattle.wl_bound.specs.Covered.{all_speak, finds_one_busy, is_covered, is_uncovered};
 
 use crate::verdict::{idle_at, is_ready_from, listens};
 use wl_plan::CheckedPlan;
 
 /// True if some other node isn't idle yet when the first frame of node `i` becomes ready.
-fn finds_one_busy(plan: &CheckedPlan, i: u8) -> bool
+pub fn finds_one_busy(plan: &CheckedPlan, i: u8) -> bool
     requires node { i < length plan.now.nodes }
     ensures { result ≡ finds_one_busy plan.now i }
 {
@@ -41,4 +41,19 @@ pub fn is_covered(plan: &CheckedPlan) -> bool
         uncovered = uncovered || is_uncovered(plan, i);
     }
     !uncovered
+}
+
+/// True if a plan has two nodes or more, and none only listens. The law on any senders covers plans of such nodes, whatever their frames, if
+/// their clocks have one rate each.
+pub fn all_speak(plan: &CheckedPlan) -> bool
+    ensures { result ≡ all_speak plan.now }
+{
+    if plan.nodes() < 2 {
+        return false;
+    }
+    let mut listen = false;
+    for i in 0..plan.nodes() {
+        listen = listen || listens(plan, i);
+    }
+    !listen
 }

@@ -1,8 +1,8 @@
 //! Families of buses: what of a plan the condition is about.
-ghost use Rattle.std.specs.Prelude.{◌≡◌, ◌≢◌, ◌-◌, ◌*◌, ◌^◌, ◌<◌, ◌≤◌, ◌++◌, length, IfOk, OnOk};
+ghost use Rattle.std.specs.Prelude.{◌≡◌, ◌≢◌, ◌+◌, ◌-◌, ◌*◌, ◌^◌, ◌<◌, ◌≤◌, ◌++◌, length, IfOk, OnOk};
 ghost use Rattle.wl_topology.specs.Limits.{most_places};
 ghost use Rattle.wl_bound.specs.Evaluated.{IsKeptFamily};
-ghost use Rattle.wl_bound.specs.Families.{Buses, added_in, bus_of, changed, delay_in, family_of, lengths_in, longest_in, member_at, member_of, members_of, only_listens, sends_in, shortest_in, turns_in, units, way_between};
+ghost use Rattle.wl_bound.specs.Families.{Buses, added_in, all_sending, bus_of, changed, delay_in, family_of, lengths_in, longest_in, member_at, member_of, members_of, only_listens, sending, sends_in, shortest_in, turns_in, units, way_between};
 
 use crate::condition::PLAIN;
 use crate::evaluated::Rows;
@@ -28,7 +28,7 @@ pub struct Member {
 
 /// Who sends.
 #[derive(Clone, Copy, Debug)]
-pub(crate) enum Source {
+pub enum Source {
     /// Each node with frames.
     Together,
     /// This node alone.
@@ -70,7 +70,7 @@ impl Change {
 
 /// Which bus of a family is asked about.
 #[derive(Clone, Copy, Debug)]
-pub(crate) struct Setting {
+pub struct Setting {
     /// Who sends.
     pub(crate) source: Source,
     /// What is changed at every node, unless the segments there refuse it.
@@ -122,6 +122,23 @@ impl Family {
         Ok(family)
     }
 
+    /// Returns the family of these nodes in which each one sends that doesn't only listen. Refused only when out of memory.
+    pub fn all_sending(&self, alloc: Global) -> Result<Family, AllocError>
+        requires two { 2 ≤ length self.now.members }
+        ensures { IfOk result (λ family. family ≡ all_sending self.now) }
+    {
+        let mut members = Listed::new(alloc);
+        push_sending(&mut members, self.members.as_slice(), &self.cable, 0)?;
+        let mut family = Family {
+            members,
+            cable: self.cable,
+            plain: None,
+        };
+        let rows = family.rows_if_several(PLAIN);
+        family.plain = rows;
+        Ok(family)
+    }
+
     /// Returns how many nodes there are: 1 to 16.
     pub fn nodes(&self) -> u8
         ensures value { result ≡ length self.now.members }
@@ -161,7 +178,7 @@ impl Family {
 
     /// True if node `i` sends.
     #[tactic(auto, unfolding(crate::specs::Families::sends_in))]
-    pub(crate) fn sends(&self, setting: Setting, i: u8) -> bool
+    pub fn sends(&self, setting: Setting, i: u8) -> bool
         requires { i < length self.now.members }
         ensures { result ≡ sends_in self.now setting i }
     {
@@ -173,7 +190,7 @@ impl Family {
 
     /// Returns the segments of node `i`.
     #[tactic(auto, unfolding(crate::specs::Families::lengths_in))]
-    pub(crate) fn segments(&self, setting: Setting, i: u8) -> Segments
+    pub fn segments(&self, setting: Setting, i: u8) -> Segments
         requires { i < length self.now.members }
         ensures { result ≡ lengths_in self.now setting i }
     {
@@ -188,7 +205,7 @@ impl Family {
     }
 
     /// Returns a tick, in units.
-    pub(crate) fn tick(&self, setting: Setting) -> u128
+    pub fn tick(&self, setting: Setting) -> u128
         ensures value { result ≡ units setting }
         ensures most { result < 2 ^ 52 }
     {
@@ -197,7 +214,7 @@ impl Family {
 
     /// Returns the shortest quantum of node `i`, in units.
     #[tactic(auto, unfolding(crate::specs::Families::shortest_in))]
-    pub(crate) fn shortest(&self, setting: Setting, i: u8) -> u128
+    pub fn shortest(&self, setting: Setting, i: u8) -> u128
         requires { i < length self.now.members }
         ensures value { result ≡ shortest_in self.now setting i }
         ensures most { result < 2 ^ 73 }
@@ -207,7 +224,7 @@ impl Family {
 
     /// Returns the longest quantum of node `i`, in units.
     #[tactic(auto, unfolding(crate::specs::Families::longest_in))]
-    pub(crate) fn longest(&self, setting: Setting, i: u8) -> u128
+    pub fn longest(&self, setting: Setting, i: u8) -> u128
         requires { i < length self.now.members }
         ensures value { result ≡ longest_in self.now setting i }
         ensures most { result < 2 ^ 86 }
@@ -239,7 +256,7 @@ impl Family {
 
     /// Returns how long a level takes from node `i` to node `j`, in units.
     #[tactic(auto, unfolding(crate::specs::Families::delay_in))]
-    pub(crate) fn delay(&self, setting: Setting, i: u8, j: u8) -> u128
+    pub fn delay(&self, setting: Setting, i: u8, j: u8) -> u128
         requires one { i < length self.now.members }
         requires other { j < length self.now.members }
         ensures value { result ≡ delay_in self.now setting i j }
@@ -312,5 +329,28 @@ fn push_members(
                 push_members(members, later, others)
             }
         },
+    }
+}
+
+/// Adds the nodes of a cable from node `i` on, each of which sends unless it only listens. Refused only when out of memory.
+fn push_sending(
+    members: &mut Listed<Member>,
+    from: &[Member],
+    cable: &Topology,
+    i: u8,
+) -> Result<(), AllocError>
+    requires two { 2 ≤ length cable.now.places }
+    requires places { i + length from.now ≡ length cable.now.places }
+    ensures { OnOk result (members.new ≡ members.old ++ sending (only_listens cable.now) i from.now) }
+{
+    let _nodes = cable.nodes();
+    match from {
+        [] => Ok(()),
+        [member, later @ ..] => {
+            let other = if i == 0 { 1 } else { 0 };
+            let sends = !only_listens(cable, i, other);
+            members.push(Member { sends, ..*member })?;
+            push_sending(members, later, cable, i + 1)
+        }
     }
 }

@@ -1,7 +1,7 @@
 //! Which change by a quantum helps most.
 ghost use Rattle.std.specs.Prelude.{◌≡◌, ◌^◌, ◌<◌, ◌≤◌, length};
 ghost use Rattle.wl_bound.specs.Evaluated.{IsEvaluatedFor};
-ghost use Rattle.wl_bound.specs.Helps.{best_change, is_greater, is_possible, lack_row, or_better, reserve_in, reserve_of, spare_row, worse_of};
+ghost use Rattle.wl_bound.specs.Helps.{best_change, help_of, is_greater, is_possible, lack_row, or_better, reserve_in, reserve_of, spare_row, worse_of};
 
 use crate::condition::{Inequality, PLAIN, Senders};
 use crate::evaluated::EvaluatedBus;
@@ -28,9 +28,9 @@ struct Best {
 
 impl Family {
     /// Returns the change that raises the least margin most, of those that the segments of every node allow: the first of `Change` if
-    /// several do. `None` if none raises it.
+    /// several do. `None` if none raises it, or if the condition doesn't hold with that one, so that it holds with none.
     pub fn first_help(&self, senders: Senders) -> Option<Change>
-        ensures { result ≡ (best_change self.now senders).change }
+        ensures { result ≡ help_of self.now senders }
     {
         let none = Best {
             change: None,
@@ -39,7 +39,12 @@ impl Family {
         let wider = self.or_better(senders, none, Change::WiderJump);
         let narrower = self.or_better(senders, wider, Change::NarrowerJump);
         let later = self.or_better(senders, narrower, Change::LaterSample);
-        self.or_better(senders, later, Change::EarlierSample).change
+        let best = self.or_better(senders, later, Change::EarlierSample);
+        if best.reserve.lack == 0 {
+            best.change
+        } else {
+            None
+        }
     }
 
     /// Returns the better one.

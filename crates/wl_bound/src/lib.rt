@@ -16,9 +16,13 @@ mod search;
 mod terms;
 mod verdict;
 
-pub use condition::{Failure, Inequality, Senders, Sides};
-pub use covered::is_covered;
-pub use family::{Change, Family, Member, only_listens};
+pub use condition::{Failure, Inequality, Senders, Sides, plain};
+pub use covered::{all_speak, finds_one_busy, is_covered};
+pub use family::{Change, Family, Member, Setting, Source, only_listens};
 pub use laws::{condition_laws, search_laws};
 pub use oscillator::Oscillator;
-pub use verdict::{Outside, Verdict, cause_outside, first_without_book, idle_at, judge};
+pub use search::{Growth, grown_by};
+pub use verdict::{
+    Outside, Verdict, cause_outside, first_without_book, idle_at, is_ready_from, judge, judge_all,
+    listens,
+};

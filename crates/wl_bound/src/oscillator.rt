@@ -83,14 +83,16 @@ impl Oscillator {
 
     /// Returns the shortest quantum, in millionths of a tick, rounded down.
     pub fn shortest(&self) -> u128
-        ensures { result ≡ shortest_of self.now 0 }
+        ensures value { result ≡ shortest_of self.now 0 }
+        ensures most { result < 2 ^ 41 }
     {
         self.shortest_by(0)
     }
 
     /// Returns the longest quantum, in millionths of a tick, rounded up.
     pub fn longest(&self) -> u128
-        ensures { result ≡ longest_of self.now 0 }
+        ensures value { result ≡ longest_of self.now 0 }
+        ensures most { result < 2 ^ 54 }
     {
         self.longest_by(0)
     }

@@ -1,9 +1,10 @@
 //! How much longer the cable may be, and how much wider the tolerances.
-ghost use Rattle.std.specs.Prelude.{◌≡◌, ◌*◌, ◌^◌, ◌<◌, ◌≤◌, length};
+ghost use Rattle.std.specs.Prelude.{◌≡◌, ℕ, ◌*◌, ◌^◌, ◌<◌, ◌≤◌, length};
 ghost use Rattle.wl_topology.specs.Limits.{longest_delay};
 ghost use Rattle.wl_bound.specs.Families.{way_between};
 ghost use Rattle.wl_bound.specs.Searches.{GrowsTo, IsBorderOf, IsGreatestOf, IsLongerCable, IsWiderTolerance, cable_ticks, each, grown_by, holds_grown, holds_in, longest_growth, widest_growth};
 ghost use Rattle.wl_bound.specs.Terms.{greatest};
+ghost use Rattle.wl_bound.specs.declared.search.Growth.TheVariants.{Longer};
 
 use crate::condition::Senders;
 use crate::family::{Family, Setting, Source};
@@ -12,7 +13,7 @@ use wl_topology::LONGEST_DELAY;
 
 /// What grows.
 #[derive(Clone, Copy, Debug)]
-enum Growth {
+pub enum Growth {
     /// A cable: its ticks from end to end, and the ticks of a unit of length.
     Longer(u32, u32),
     /// Every tolerance, in ppm.
@@ -42,6 +43,17 @@ impl Family {
         ensures { IsWiderTolerance self.now senders result }
     {
         self.greatest(senders, Growth::Wider, self.widest_growth())
+    }
+
+    /// Returns what grows with a longer cable: one of these ticks from end to end, of these ticks for a unit of length.
+    pub fn cable_growth(&self) -> Growth
+        requires { 0 < cable_ticks self.now }
+        ensures value { result ≡ Longer (cable_ticks self.now) self.now.cable.per }
+        ensures fits { (n : ℕ) → n ≤ longest_growth self.now → GrowsTo result n }
+    {
+        let length = self.cable_ticks();
+        let per = self.per() as u32;
+        Growth::Longer(length, per)
     }
 
     /// True if the condition holds.
@@ -121,8 +133,8 @@ impl Family {
     }
 }
 
-/// Returns the setting that grew by `n`.
-fn grown_by(growth: Growth, n: u32) -> Setting
+/// Returns the setting that grew by `n`: by units of length or by ppm, and any nodes with frames send.
+pub fn grown_by(growth: Growth, n: u32) -> Setting
     requires { GrowsTo growth n }
     ensures { result ≡ grown_by growth n }
 {

@@ -18,7 +18,7 @@ const MOST_EDGES: u128 = 74;
 impl Family {
     /// Returns by how much a bit of node `i` can last longer than one of node `j`.
     #[tactic(auto, unfolding(crate::specs::Terms::drift))]
-    pub(crate) fn drift(&self, setting: Setting, i: u8, j: u8) -> u128
+    pub fn drift(&self, setting: Setting, i: u8, j: u8) -> u128
         requires one { i < length self.now.members }
         requires other { j < length self.now.members }
         ensures value { result ≡ drift (bus_of self.now setting) i j }
@@ -31,7 +31,7 @@ impl Family {
 
     /// Returns what one edge puts right at node `i`.
     #[tactic(auto, unfolding(crate::specs::Terms::jump))]
-    pub(crate) fn jump(&self, setting: Setting, i: u8) -> u128
+    pub fn jump(&self, setting: Setting, i: u8) -> u128
         requires { i < length self.now.members }
         ensures value { result ≡ jump (bus_of self.now setting) i }
         ensures most { result < 2 ^ 75 }
@@ -41,7 +41,7 @@ impl Family {
 
     /// Returns by how much node `i` can begin a bit ahead of the edge that it follows.
     #[tactic(auto, unfolding(crate::specs::Terms::look))]
-    pub(crate) fn look(&self, setting: Setting, i: u8) -> u128
+    pub fn look(&self, setting: Setting, i: u8) -> u128
         requires { i < length self.now.members }
         ensures value { result ≡ look (bus_of self.now setting) i }
         ensures most { result < 2 ^ 87 }

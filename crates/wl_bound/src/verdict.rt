@@ -3,8 +3,10 @@ ghost use Rattle.std.specs.Prelude.{◌≡◌, ◌<◌, ◌≤◌, ◌^◌, IsTr
 ghost use Rattle.std.specs.List.{list_any};
 ghost use Rattle.wl_level.specs.Places.{first_place};
 ghost use Rattle.wl_topology.specs.Driven.{any_below};
+ghost use Rattle.wl_bound.specs.Conditions.{first_failure_of, plain};
 ghost use Rattle.wl_bound.specs.Families.{only_listens};
-ghost use Rattle.wl_bound.specs.Verdicts.{acknowledges, finds_nobody_idle, finds_one_idle, has_frames, has_same_field, idle_at, is_after, is_ready_from, is_unacknowledged, listener_sends, of_listeners, outside_of, pair_in, sends_something, share_field, shares, shares_with, verdict_of, without_book};
+ghost use Rattle.wl_bound.specs.Verdicts.{acknowledges, finds_nobody_idle, finds_one_idle, for_any, for_one, has_frames, has_same_field, idle_at, is_after, is_ready_from, is_unacknowledged, listener_sends, of_listeners, outside_for_all, outside_of, pair_in, sends_something, share_field, shares, shares_with, speaks, speaks_alone, verdict_for_all, verdict_of, without_book};
+ghost use Rattle.wl_bound.specs.declared.condition.Senders.TheVariants.{Any, One};
 
 use crate::condition::{Failure, Senders};
 use crate::family::{Family, only_listens};
@@ -51,9 +53,27 @@ pub enum Verdict {
 pub fn judge(plan: &CheckedPlan, family: &Family) -> Verdict
     ensures { result ≡ verdict_of plan.now family.now }
 {
-    if let Some(cause) = cause_outside(plan) {
-        return Verdict::NoBound(cause);
+    match cause_outside(plan) {
+        Some(cause) => Verdict::NoBound(cause),
+        None => judge_family(family),
     }
+}
+
+/// Returns what it says of a plan's nodes and their family, if all of them send that don't only listen (`Family::all_sending`). The plan's
+/// frames don't count.
+pub fn judge_all(plan: &CheckedPlan, family: &Family) -> Verdict
+    ensures { result ≡ verdict_for_all plan.now family.now }
+{
+    match cause_for_all(plan) {
+        Some(cause) => Verdict::NoBound(cause),
+        None => judge_family(family),
+    }
+}
+
+/// Returns what it says of a family.
+fn judge_family(family: &Family) -> Verdict
+    ensures { result ≡ for_any (first_failure_of family.now plain Any) (for_one (first_failure_of family.now plain One)) }
+{
     if family.first_failure(Senders::Any).is_none() {
         return Verdict::ForAny;
     }
@@ -61,6 +81,51 @@ pub fn judge(plan: &CheckedPlan, family: &Family) -> Verdict
         None => Verdict::ForOne,
         Some(failure) => Verdict::DoesNotHold(failure),
     }
+}
+
+/// Returns why the condition says nothing of a plan's nodes, whatever their frames, if all of them send that don't only listen.
+fn cause_for_all(plan: &CheckedPlan) -> Option<Outside>
+    ensures { result ≡ outside_for_all plan.now }
+{
+    if plan.nodes() < 2 {
+        return Some(Outside::FewNodes);
+    }
+    if !any_speaks(plan) {
+        return Some(Outside::NoFrames);
+    }
+    if let Some(i) = first_speaking_alone(plan) {
+        return Some(Outside::NobodyAcknowledges(i));
+    }
+    match first_without_book(plan) {
+        Some(i) => Some(Outside::NotByTheBook(i)),
+        None => None,
+    }
+}
+
+/// True if some node doesn't only listen.
+fn any_speaks(plan: &CheckedPlan) -> bool
+    requires two { 2 ≤ length plan.now.nodes }
+    ensures { result ≡ any_below (length plan.now.nodes) (speaks plan.now) }
+{
+    let mut any = false;
+    for i in 0..plan.nodes() {
+        any = any || !listens(plan, i);
+    }
+    any
+}
+
+/// Returns the first node that doesn't only listen, while all others do.
+fn first_speaking_alone(plan: &CheckedPlan) -> Option<u8>
+    requires two { 2 ≤ length plan.now.nodes }
+    ensures { result ≡ first_place (speaks_alone plan.now) (length plan.now.nodes) }
+{
+    let mut first = None;
+    for i in 0..plan.nodes() {
+        if first.is_none() && !listens(plan, i) && !is_acknowledged(plan, i) {
+            first = Some(i);
+        }
+    }
+    first
 }
 
 /// Returns why the condition says nothing of a plan, whatever its cable and its clocks; `None` if it does.
@@ -105,7 +170,7 @@ fn first_of_listeners(plan: &CheckedPlan) -> Option<Outside>
 }
 
 /// True if node `i` of a plan only listens.
-pub(crate) fn listens(plan: &CheckedPlan, i: u8) -> bool
+pub fn listens(plan: &CheckedPlan, i: u8) -> bool
     requires two { 2 ≤ length plan.now.nodes }
     requires node { i < length plan.now.nodes }
     ensures { result ≡ only_listens plan.now.topology i }
@@ -277,7 +342,7 @@ pub fn idle_at(node: &NodeSetup) -> u64
 }
 
 /// True if no frame of a node becomes ready before tick `t`.
-pub(crate) fn is_ready_from(node: &NodeSetup, t: u64) -> bool
+pub fn is_ready_from(node: &NodeSetup, t: u64) -> bool
     requires { t < 2 ^ 48 }
     ensures { result ≡ is_ready_from node.now node.now.queue t }
 {

@@ -1,5 +1,5 @@
 -- Runs over a plan's text that ask for its bus: the bus is read, and its margin goes out (this project's profile).
-use Rattle.std.specs.Prelude.{◌≢◌, ℕ, List, Result, Ok, Err}
+use Rattle.std.specs.Prelude.{◌≢◌, ℕ, Bool, true, false, List, Result, Ok, Err}
 use Rattle.wl_device.specs.Devices.{Answer, Writes}
 use Rattle.wl_device.specs.declared.device.WriteFault.{WriteFault}
 use Rattle.wl_views.specs.declared.tick.Tick.{Tick}
@@ -7,14 +7,15 @@ use Rattle.wl_views.specs.Ticks.{tick_picoseconds}
 use Rattle.wl_setup.specs.declared.bus.Bus.{Bus}
 use Rattle.wl_setup.specs.declared.fault.SetupFault.TheVariants as setup
 use Rattle.wl_setup.specs.Buses.{GivesBus}
-use Rattle.wl_margin.specs.Margins.{IsMarginText}
+use Rattle.wl_margin.specs.Margins.{IsAllSendText, IsMarginText}
 use Rattle.wl_engines.specs.declared.fault.RunFault.{RunFault}
 use Rattle.wl_engines.specs.declared.fault.RunFault.TheVariants.{Setup}
 use Rattle.wl_engines.specs.Ran.{Ran}
 
--- the margin of the bus, at ticks that last so long
-abbrev pub IsMarginOutput : Tick → Bus → List ℕ → Type 0
-IsMarginOutput tick bus text = IsMarginText (tick_picoseconds tick) bus text
+-- the margin of the bus, at ticks that last so long: of the plan's senders, or of all nodes that don't only listen
+abbrev pub IsMarginOutput : Tick → (all : Bool) → Bus → List ℕ → Type 0
+IsMarginOutput tick false bus text = IsMarginText (tick_picoseconds tick) bus text
+IsMarginOutput tick true bus text = IsAllSendText (tick_picoseconds tick) bus text
 
 module _ {S T : Type 0} (gives : S → Answer → S → Type 0) (takes : T → Answer → T → Type 0) (IsOutput : Bus → List ℕ → Type 0) (s s' : S) (t t' : T) where
   -- the output of the bus that was read went out, as far as it went

@@ -4,26 +4,31 @@ ghost use Rattle.wl_engines.specs.Margin.{IsMarginOutput, RunsBus};
 use crate::fault::RunFault;
 use std::alloc::Global;
 use wl_device::{Sink, Source, write_all};
-use wl_margin::margin_text;
+use wl_margin::{all_send_text, margin_text};
 use wl_setup::read_bus;
 use wl_views::Tick;
 
 /// Reads a plan's text, tests whether the plan can be run, and writes the margin of its bus, at all offsets and clocks within their
 /// tolerance. The margin is whether it works, with how much to spare, and how much longer its cable and wider its tolerances may be. A tick
-/// of the plan takes as long as `tick` says.
+/// of the plan takes as long as `tick` says. The senders are those of the plan, or, if `all_send`, all nodes that don't only listen.
 ///
 /// The whole output is made before the first write. If the input is refused, or memory runs out, the writer isn't called; if the writer
 /// fails, a prefix of the output has been written.
 pub fn margin_run<R: Source, W: Sink>(
     alloc: Global,
     tick: Tick,
+    all_send: bool,
     reader: &mut R,
     writer: &mut W,
 ) -> Result<(), RunFault>
-    ensures { RunsBus R.gives W.takes (IsMarginOutput tick) reader.old reader.new writer.old writer.new result }
+    ensures { RunsBus R.gives W.takes (IsMarginOutput tick all_send) reader.old reader.new writer.old writer.new result }
 {
     let bus = read_bus(alloc, reader)?;
-    let text = margin_text(alloc, tick.picoseconds(), &bus)?;
+    let text = if all_send {
+        all_send_text(alloc, tick.picoseconds(), &bus)?
+    } else {
+        margin_text(alloc, tick.picoseconds(), &bus)?
+    };
     write_all(text.as_bytes(), writer)?;
     Ok(())
 }

@@ -1,3 +1,5 @@
 pub mod Pieces
 pub mod Sentences
+pub mod Paces
+pub mod Reasons
 pub mod Margins

@@ -1,20 +1,23 @@
 -- The text of a bus's margin: whether it works, what is to spare, how much longer and wider it may be (this project's profile).
-use Rattle.std.specs.Prelude.{◌≡◌, ℕ, ◌==◌, ◌&&◌, not, Bool, true, false, List, [], ◌∷◌, ◌++◌, codes, length, if◌then◌else◌, Option, Some, None, option_map, option_and_then}
+use Rattle.std.specs.Prelude.{◌≡◌, ℕ, ◌==◌, ◌&&◌, nat_lt, not, Bool, true, false, List, [], ◌∷◌, ◌++◌, codes, length, if◌then◌else◌, Option, Some, None, option_map, option_and_then}
 use Rattle.std.specs.Fmt.{decimal}
 use Rattle.std.specs.Option.{is_some}
+use Rattle.wl_topology.specs.Driven.{any_below}
 use Rattle.wl_plan.specs.declared.plan.Plan.{Plan}
 use Rattle.wl_setup.specs.declared.bus.Bus.{Bus}
 use Rattle.wl_setup.specs.declared.bus.Deviation.{Deviation}
 use Rattle.wl_setup.specs.Names.{name_of}
-use Rattle.wl_bound.specs.Families.{Buses, family_of, only_listens}
+use Rattle.wl_bound.specs.Families.{Buses, all_sending, family_of, member_at, only_listens}
 use Rattle.wl_bound.specs.Oscillators.{Pace, oscillator_of}
 use Rattle.wl_bound.specs.Conditions.{first_failure_of, is_asked, plain, sides_in}
-use Rattle.wl_bound.specs.Covered.{is_covered}
-use Rattle.wl_bound.specs.Helps.{best_change}
+use Rattle.wl_bound.specs.Covered.{all_speak, is_covered}
+use Rattle.wl_bound.specs.Helps.{help_of}
 use Rattle.wl_bound.specs.declared.family.Change.{Change}
 use Rattle.wl_bound.specs.declared.family.Change.TheVariants.{WiderJump, NarrowerJump, LaterSample, EarlierSample}
-use Rattle.wl_bound.specs.Searches.{IsLongerCable, IsWiderTolerance}
-use Rattle.wl_bound.specs.Verdicts.{verdict_of}
+use Rattle.wl_bound.specs.declared.search.Growth.{Growth}
+use Rattle.wl_bound.specs.declared.search.Growth.TheVariants.{Longer, Wider}
+use Rattle.wl_bound.specs.Searches.{IsBorderOf, IsLongerCable, IsWiderTolerance, cable_ticks}
+use Rattle.wl_bound.specs.Verdicts.{verdict_for_all, verdict_of}
 use Rattle.wl_bound.specs.declared.condition.Inequality.{Inequality}
 use Rattle.wl_bound.specs.declared.condition.Inequality.TheVariants.{DriftFitsJump, BitIsThereAtSample, NoBitTooEarly}
 use Rattle.wl_bound.specs.declared.condition.Failure.{Failure}
@@ -24,8 +27,12 @@ use Rattle.wl_bound.specs.declared.verdict.Outside.{Outside}
 use Rattle.wl_bound.specs.declared.verdict.Outside.TheVariants.{FewNodes, NoFrames, ListenerSends, NobodyAcknowledges, NotByTheBook, SameIdentifier, NobodyIdle}
 use Rattle.wl_bound.specs.declared.verdict.Verdict.{Verdict}
 use Rattle.wl_bound.specs.declared.verdict.Verdict.TheVariants.{ForAny, ForOne, DoesNotHold, NoBound}
-use Rattle.wl_room.specs.Rooms.{leaves_room}
+use Rattle.wl_room.specs.Rooms.{is_roomy_grown, leaves_room}
+use Rattle.wl_margin.specs.Paces.{first_stray, is_turning, stray_at}
 use Rattle.wl_margin.specs.Pieces.{joined, each_below}
+use Rattle.wl_margin.specs.Reasons.{any_cause, cause_words, one_cause, astray_line}
+use Rattle.wl_margin.specs.declared.reasons.Asked.{Asked}
+use Rattle.wl_margin.specs.declared.reasons.Asked.TheVariants.{ThisPlan, AllNodes}
 use Rattle.wl_margin.specs.declared.searches.SearchResults.{SearchResults}
 use Rattle.wl_margin.specs.declared.searches.Headroom.{Headroom}
 use Rattle.wl_margin.specs.declared.margin.Proved.{Proved}
@@ -82,34 +89,62 @@ spare_of tick f senders inequality i j =
     if is_asked (only_listens f.cable) inequality i j then spare_words (measure_of tick f i) (sides_in f plain senders inequality i j)
     else codes "none"
 
--- What is said where the condition holds. That it suffices is proved for one sender at a time, on the plans that the law covers (`one_sender_is_clean` of
--- wl_one_sender). So it is for any senders, if the bus leaves room (`any_senders_are_clean` of wl_clean); else it rests on searches.
-abbrev pub any_lead : Proved → List ℕ
-any_lead proved =
-    if proved.any then codes "holds for any senders, proved: any_senders_are_clean\n"
-    else if proved.one then codes "holds for any senders, as far as searched; for one sender at a time, proved: one_sender_is_clean\n"
-    else codes "holds for any senders, as far as searched, not proved\n"
+-- the names of the nodes that send, in their order
+abbrev pub sends_at : Buses → ℕ → Bool
+sends_at f i = (member_at f i).sends
 
-abbrev pub one_lead : Bool → List ℕ
-one_lead true = codes "holds for one sender at a time, proved: one_sender_is_clean\n"
-one_lead false = codes "holds for one sender at a time, as far as searched, not proved\n"
+abbrev pub sender_words : Buses → List (List ℕ) → ℕ → List ℕ
+sender_words f names i = if sends_at f i then (if any_below i (sends_at f) then codes " and " else []) ++ name_of names i else []
 
--- each clock has one rate
-abbrev pub are_steady : List Deviation → Bool
-are_steady [] = true
-are_steady (d ∷ later) = length d.rates == 1 && are_steady later
+abbrev pub senders_words : Buses → List (List ℕ) → List ℕ
+senders_words f names = each_below (sender_words f names) (length f.members)
 
--- the laws cover the plan, and the condition holds for one sender at a time
-abbrev pub is_proved_for_one : Bool → Plan → Buses → Bool
-is_proved_for_one steady plan f = steady && (is_covered plan && not (is_some (first_failure_of f plain One)))
+-- What is said where the condition holds, after the names of those that send. That it suffices is proved for one sender at a time, on the plans that
+-- the law covers (`one_sender_is_clean` of wl_one_sender). So it is for any senders, if the bus leaves room (`any_senders_are_clean` of wl_clean).
+-- Else it rests on searches.
+abbrev pub any_word : Proved → List ℕ
+any_word proved =
+    if proved.any then codes ", proved: any_senders_are_clean\n"
+    else if proved.one then codes ", as far as searched; for one sender at a time, proved: one_sender_is_clean\n"
+    else codes ", as far as searched, not proved\n"
 
--- the laws cover the plan, and its bus has room for acknowledgements of any senders and to rest after each frame
-abbrev pub is_proved_for_any : Bool → Plan → Buses → Bool
-is_proved_for_any steady plan f = steady && (is_covered plan && leaves_room f)
+abbrev pub one_word : Bool → List ℕ
+one_word true = codes ", proved: one_sender_is_clean\n"
+one_word false = codes ", as far as searched, not proved\n"
+
+abbrev pub any_lead : List ℕ → Proved → List ℕ
+any_lead who proved = codes "holds for any senders of " ++ who ++ any_word proved
+
+abbrev pub one_lead : List ℕ → Bool → List ℕ
+one_lead who proved = codes "holds for one sender at a time of " ++ who ++ one_word proved
+
+-- Who is asked about: the nodes with frames, on this plan; or all that don't only listen, on any plan of these nodes. The laws cover it.
+abbrev pub is_asked_plan_covered : Asked → Plan → Bool
+is_asked_plan_covered ThisPlan plan = is_covered plan
+is_asked_plan_covered AllNodes plan = all_speak plan
+
+-- Each oscillator has one rate, and the laws cover it. So it is proved for one sender at a time if the condition holds for that, and for any senders if
+-- the bus has room for their acknowledgements and to rest after each frame.
+abbrev pub is_law_abiding : Asked → List Deviation → Plan → Bool
+is_law_abiding asked deviations plan = not (any_below (length plan.nodes) (is_turning deviations)) && is_asked_plan_covered asked plan
+
+abbrev pub is_proved_for_one : Asked → List Deviation → Plan → Buses → Bool
+is_proved_for_one asked deviations plan f = is_law_abiding asked deviations plan && not (is_some (first_failure_of f plain One))
+
+abbrev pub is_proved_for_any : Asked → List Deviation → Plan → Buses → Bool
+is_proved_for_any asked deviations plan f = is_law_abiding asked deviations plan && leaves_room f
 
 -- for whom it is proved, if the condition holds for them
-abbrev pub proved_of : Bool → Plan → Buses → Proved
-proved_of steady plan f = record { any = is_proved_for_any steady plan f; one = is_proved_for_one steady plan f }
+abbrev pub proved_of : Asked → List Deviation → Plan → Buses → Proved
+proved_of asked deviations plan f = record {
+  any = is_proved_for_any asked deviations plan f;
+  one = is_proved_for_one asked deviations plan f;
+}
+
+-- why it isn't proved, if it isn't
+abbrev pub unless_proved : Bool → List ℕ → List ℕ
+unless_proved true reason = []
+unless_proved false reason = joined (codes "not proved: " ∷ reason ∷ codes "\n" ∷ [])
 
 module _ (tick : ℕ) (f : Buses) (names : List (List ℕ)) where
   abbrev pub pair_line : Senders → ℕ → ℕ → List ℕ
@@ -136,22 +171,20 @@ module _ (tick : ℕ) (f : Buses) (names : List (List ℕ)) where
   any_failure None = []
   any_failure (Some failure) = failure_line (codes "any senders: ") failure
 
-  -- the first lines, and what is to spare
-  abbrev pub verdict_words : Proved → Verdict → List ℕ
-  verdict_words proved ForAny = any_lead proved ++ all_pairs Any
-  verdict_words proved ForOne = one_lead proved.one ++ any_failure (first_failure_of f plain Any) ++ all_pairs One
-  verdict_words proved (DoesNotHold failure) = failure_line (codes "does not hold: ") failure ++ all_pairs One
-  verdict_words proved (NoBound cause) = outside_words names cause
-
 -- how far something may grow, for one sender at a time and for any
 abbrev pub figure_words : List ℕ → Option ℕ → List ℕ
 figure_words unit None = codes "none"
 figure_words unit (Some n) = decimal n ++ unit
 
+-- and up to which growth it stays proved for any senders, if it is
+abbrev pub proved_words : Option ℕ → List ℕ
+proved_words None = []
+proved_words (Some n) = codes ", proved " ++ decimal n
+
 abbrev pub growth_words : List ℕ → List ℕ → Headroom → List ℕ
 growth_words what unit headroom =
     joined (what ∷ codes ": one sender at a time " ∷ figure_words unit headroom.one ∷ codes ", any senders " ∷ figure_words unit headroom.any
-    ∷ codes "\n" ∷ [])
+    ∷ proved_words headroom.proved ∷ codes "\n" ∷ [])
 
 -- what a change by a quantum is
 abbrev pub change_words : Option Change → List ℕ
@@ -172,42 +205,100 @@ abbrev pub headroom_words : Headroom → Headroom → List ℕ
 headroom_words longer wider =
     growth_words (codes "cable") (codes " units longer") longer ++ growth_words (codes "tolerance") (codes " ppm wider") wider
 
--- the searches found these
-pub record IsHeadroom (f : Buses) (longer wider : Headroom) : Type 0 where
+-- How far something may grow and have room: up to where the condition holds, and with one more it hasn't. If it isn't proved there is no such number.
+abbrev pub IsProvedGrowth : Bool → Buses → Growth → Option ℕ → Option ℕ → Type 0
+IsProvedGrowth true f growth (Some most) found = IsBorderOf (is_roomy_grown f growth) most found
+IsProvedGrowth proved f growth most found = found ≡ None
+
+-- the searches found these; for a family of which it is proved that it works for any senders also how far that is proved
+pub record IsHeadroom (proved : Bool) (f : Buses) (longer wider : Headroom) : Type 0 where
   pub longer_one : IsLongerCable f One longer.one
   pub longer_any : IsLongerCable f Any longer.any
+  pub longer_proved : IsProvedGrowth proved f (Longer (cable_ticks f) f.cable.per) longer.any longer.proved
   pub wider_one : IsWiderTolerance f One wider.one
   pub wider_any : IsWiderTolerance f Any wider.any
+  pub wider_proved : IsProvedGrowth proved f Wider wider.any wider.proved
 
--- a text with them after it
+-- a text with them after it, of a family of which nothing is asked to be proved
 abbrev pub TellsHeadroom : Buses → List ℕ → List ℕ → Type 0
-TellsHeadroom f old new = (longer : Headroom) × (wider : Headroom) × IsHeadroom f longer wider × (new ≡ old ++ headroom_words longer wider)
+TellsHeadroom f old new = (longer : Headroom) × (wider : Headroom) × IsHeadroom false f longer wider × (new ≡ old ++ headroom_words longer wider)
 
 -- these, and which change helps most
 abbrev pub results_words : SearchResults → List ℕ
 results_words found = headroom_words found.longer found.wider ++ help_words found.help_one found.help_any
 
-pub record AreSearchResults (f : Buses) (found : SearchResults) : Type 0 where
-  pub reached : IsHeadroom f found.longer found.wider
-  pub help_one : found.help_one ≡ (best_change f One).change
-  pub help_any : found.help_any ≡ (best_change f Any).change
+pub record AreSearchResults (proved : Bool) (f : Buses) (found : SearchResults) : Type 0 where
+  pub reached : IsHeadroom proved f found.longer found.wider
+  pub help_one : found.help_one ≡ help_of f One
+  pub help_any : found.help_any ≡ help_of f Any
 
 -- the text of a family: of a plan of which the condition says nothing there is nothing to search
-abbrev pub IsTextAfter : Verdict → List ℕ → Buses → List ℕ → Type 0
-IsTextAfter (NoBound cause) said f text = text ≡ said
-IsTextAfter verdict said f text = (found : SearchResults) × AreSearchResults f found × (text ≡ said ++ results_words found)
+abbrev pub IsTextAfter : Bool → Verdict → List ℕ → Buses → List ℕ → Type 0
+IsTextAfter proved (NoBound cause) said f text = text ≡ said
+IsTextAfter proved verdict said f text = (found : SearchResults) × AreSearchResults proved f found × (text ≡ said ++ results_words found)
 
-abbrev pub IsFamilyText : ℕ → Bool → Plan → List (List ℕ) → Buses → List ℕ → Type 0
-IsFamilyText tick steady plan names f text =
-    IsTextAfter (verdict_of plan f) (verdict_words tick f names (proved_of steady plan f) (verdict_of plan f)) f text
+-- the verdict on those who are asked about
+abbrev pub verdict_asked : Asked → Plan → Buses → Verdict
+verdict_asked ThisPlan plan f = verdict_of plan f
+verdict_asked AllNodes plan f = verdict_for_all plan f
+
+-- it is proved for any senders, and the condition holds for them
+abbrev pub is_proved : Proved → Verdict → Bool
+is_proved proved ForAny = proved.any
+is_proved proved verdict = false
+
+module _ (asked : Asked) (tick : ℕ) (deviations : List Deviation) (plan : Plan) (names : List (List ℕ)) (f : Buses) where
+  -- why it isn't proved for any senders, and for one at a time
+  abbrev pub any_reason : List ℕ
+  any_reason = unless_proved (proved_of asked deviations plan f).any (cause_words tick f plan names (any_cause asked deviations plan f))
+
+  abbrev pub one_reason : List ℕ
+  one_reason = unless_proved (proved_of asked deviations plan f).one (cause_words tick f plan names (one_cause asked deviations plan))
+
+  -- the first lines, and what is to spare
+  abbrev pub verdict_words : Verdict → List ℕ
+  verdict_words ForAny = any_lead (senders_words f names) (proved_of asked deviations plan f) ++ any_reason ++ all_pairs tick f names Any
+  verdict_words ForOne =
+      one_lead (senders_words f names) (proved_of asked deviations plan f).one ++ one_reason
+      ++ any_failure tick f names (first_failure_of f plain Any) ++ all_pairs tick f names One
+  verdict_words (DoesNotHold failure) = failure_line tick f names (codes "does not hold: ") failure ++ all_pairs tick f names One
+  verdict_words (NoBound cause) = outside_words names cause
+
+  abbrev pub family_words : List ℕ
+  family_words = verdict_words (verdict_asked asked plan f)
+
+  abbrev pub IsVerdictText : List ℕ → Type 0
+  IsVerdictText text =
+      IsTextAfter (is_proved (proved_of asked deviations plan f) (verdict_asked asked plan f)) (verdict_asked asked plan f) family_words f text
+
+  -- First the clocks: of a plan in which one leaves its tolerance nothing else is said.
+  abbrev pub IsTextUnless : Option ℕ → List ℕ → Type 0
+  IsTextUnless (Some i) text = text ≡ astray_line (name_of names i) (member_at f i).oscillator (stray_at deviations plan f i)
+  IsTextUnless None text = IsVerdictText text
+
+  abbrev pub IsFamilyText : List ℕ → Type 0
+  IsFamilyText text = IsTextUnless (first_stray deviations plan f) text
 
 abbrev pub no_clock_words : List ℕ
 no_clock_words = codes "no bound is known: without its ppm a quantum takes less than a tick or more than 1,048,576\n"
 
-abbrev pub IsTextOfPaces : ℕ → Bus → Option (List Pace) → List ℕ → Type 0
-IsTextOfPaces tick bus None text = text ≡ no_clock_words
-IsTextOfPaces tick bus (Some paces) text = IsFamilyText tick (are_steady bus.deviations) bus.plan bus.names (family_of bus.plan paces) text
+-- the family that is asked about
+abbrev pub family_asked : Asked → Buses → Buses
+family_asked ThisPlan f = f
+family_asked AllNodes f = if nat_lt (length f.members) 2 then f else all_sending f
+
+abbrev pub IsTextOfPaces : Asked → ℕ → Bus → Option (List Pace) → List ℕ → Type 0
+IsTextOfPaces asked tick bus None text = text ≡ no_clock_words
+IsTextOfPaces asked tick bus (Some paces) text =
+    IsFamilyText asked tick bus.deviations bus.plan bus.names (family_asked asked (family_of bus.plan paces)) text
 
 -- the whole text, for ticks of so many picoseconds
+abbrev pub IsTextFor : Asked → ℕ → Bus → List ℕ → Type 0
+IsTextFor asked tick bus text = IsTextOfPaces asked tick bus (paces_of bus.deviations) text
+
+-- of the senders of the plan, and of all nodes that don't only listen
 abbrev pub IsMarginText : ℕ → Bus → List ℕ → Type 0
-IsMarginText tick bus text = IsTextOfPaces tick bus (paces_of bus.deviations) text
+IsMarginText tick bus text = IsTextFor ThisPlan tick bus text
+
+abbrev pub IsAllSendText : ℕ → Bus → List ℕ → Type 0
+IsAllSendText tick bus text = IsTextFor AllNodes tick bus text

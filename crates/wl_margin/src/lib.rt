@@ -6,10 +6,14 @@
 
 mod margin;
 mod numbers;
+mod paces;
+mod reasons;
 mod searches;
 mod sentences;
 mod units;
 
-pub use margin::{margin_text, oscillators, push_failure_line, push_reason};
+pub use margin::{all_send_text, margin_text, oscillators, push_failure_line, push_reason};
 pub use numbers::{Hundredths, Thousandths};
+pub use paces::clocks_keep_pace;
+pub use reasons::Asked;
 pub use searches::{Headroom, push_headroom};

@@ -1,19 +1,26 @@
 //! The text of a bus's margin.
-ghost use Rattle.std.specs.Prelude.{◌≡◌, ◌++◌, ◌<◌, ◌^◌, string_bytes, length, IfOk, OnOk};
+ghost use Rattle.std.specs.Prelude.{◌≡◌, ◌++◌, ◌<◌, ◌^◌, false, string_bytes, length, IfOk, OnOk};
+ghost use Rattle.wl_topology.specs.Driven.{any_below};
+ghost use Rattle.wl_setup.specs.Names.{name_of};
 ghost use Rattle.wl_bound.specs.Conditions.{first_failure_of, plain};
 ghost use Rattle.wl_bound.specs.Families.{member_at};
-ghost use Rattle.wl_bound.specs.Oscillators.{shortest_of};
 ghost use Rattle.wl_bound.specs.declared.condition.Senders.TheVariants.{Any};
-ghost use Rattle.wl_margin.specs.Sentences.{failure_words, measure_of, rest_words};
+ghost use Rattle.wl_bound.specs.declared.verdict.Verdict.TheVariants.{ForAny, ForOne};
+ghost use Rattle.wl_margin.specs.Sentences.{failure_words, rest_words};
+ghost use Rattle.wl_margin.specs.Paces.{stray_at};
 ghost use Rattle.wl_margin.specs.Pieces.{each_below};
-ghost use Rattle.wl_margin.specs.Margins.{IsFamilyText, IsMarginText, all_pairs, any_failure, any_lead, are_steady, failure_line, is_proved_for_any, is_proved_for_one, lone_words, mute_words, one_lead, outside_lead, outside_reason, outside_words, paces_of, pair_line, pair_words, pairs_of, proved_of, shared_words, spare_of, unheard_words, verdict_words};
+ghost use Rattle.wl_margin.specs.Reasons.{cause_words, astray_line};
+ghost use Rattle.wl_margin.specs.Margins.{IsAllSendText, IsFamilyText, IsMarginText, IsTextFor, IsVerdictText, all_pairs, any_failure, any_lead, any_reason, any_word, failure_line, family_asked, family_words, is_law_abiding, is_proved, lone_words, mute_words, one_lead, one_reason, one_word, outside_lead, outside_reason, outside_words, paces_of, pair_line, pair_words, pairs_of, proved_of, sender_words, senders_words, sends_at, shared_words, spare_of, unheard_words, unless_proved, verdict_asked, verdict_words};
 
+use crate::paces::{any_turning, first_stray, stray_at};
+use crate::reasons::{Asked, Cause, any_cause, one_cause, push_astray, push_cause};
 use crate::searches::{push_results, search};
 use crate::sentences::{Rest, Spare, push_failure};
-use crate::units::Units;
+use crate::units::units_at;
 use std::alloc::{AllocError, Global};
 use wl_bound::{
-    Failure, Family, Inequality, Oscillator, Outside, Senders, Verdict, is_covered, judge,
+    Failure, Family, Inequality, Oscillator, Outside, Senders, Verdict, all_speak, is_covered,
+    judge, judge_all,
 };
 use wl_level::Listed;
 use wl_plan::CheckedPlan;
@@ -125,25 +132,6 @@ fn push_outside(text: &mut String, names: &Names, cause: Outside) -> Result<(), 
     push_reason(text, names, cause)
 }
 
-/// Returns the shortest quantum of node `i` in millionths of a tick; a tick for a node that isn't there.
-fn shortest(family: &Family, i: u8) -> u128
-    ensures { result ≡ shortest_of (member_at family.now i).oscillator 0 }
-{
-    if i < family.nodes() {
-        family.member(i).oscillator.shortest()
-    } else {
-        1_000_000
-    }
-}
-
-/// Returns the units in which times at node `i` are said.
-fn units(family: &Family, tick: u64, i: u8) -> Units
-    requires { tick < 2 ^ 36 }
-    ensures { result ≡ measure_of tick family.now i }
-{
-    Units::new(tick, shortest(family, i).max(1))
-}
-
 /// Returns what is to spare of an inequality for nodes `i` and `j`, if it is asked of them.
 fn spare(family: &Family, tick: u64, senders: Senders, inequality: Inequality, i: u8, j: u8) -> Rest
     requires tick { tick < 2 ^ 36 }
@@ -155,7 +143,7 @@ fn spare(family: &Family, tick: u64, senders: Senders, inequality: Inequality, i
         return Rest::NotAsked;
     }
     Rest::Asked(Spare::between(
-        units(family, tick, i),
+        units_at(family, tick, i),
         family.sides(senders, inequality, i, j),
     ))
 }
@@ -259,7 +247,7 @@ fn push_told(
     ensures { OnOk result (string_bytes text.new ≡ string_bytes text.old
         ++ failure_words tick family.now names.now failure) }
 {
-    push_failure(text, units(family, tick, failure.node), names, failure)
+    push_failure(text, units_at(family, tick, failure.node), names, failure)
 }
 
 /// Adds some words, after them what goes wrong in the units of a tick of `tick` picoseconds, and ends the line.
@@ -306,91 +294,238 @@ pub(crate) struct Proved {
     one: bool,
 }
 
-/// Returns what is said of a bus that holds for any senders.
-fn any_lead(proved: Proved) -> &'static str
-    ensures { result.now ≡ any_lead proved }
+/// Returns what is said of a bus that holds for any senders, after their names.
+fn any_word(proved: Proved) -> &'static str
+    ensures { result.now ≡ any_word proved }
 {
     if proved.any {
-        "holds for any senders, proved: any_senders_are_clean\n"
+        ", proved: any_senders_are_clean\n"
     } else if proved.one {
-        "holds for any senders, as far as searched; for one sender at a time, proved: one_sender_is_clean\n"
+        ", as far as searched; for one sender at a time, proved: one_sender_is_clean\n"
     } else {
-        "holds for any senders, as far as searched, not proved\n"
+        ", as far as searched, not proved\n"
     }
 }
 
-/// Returns what is said of a bus that holds for one sender at a time.
-fn one_lead(proved: bool) -> &'static str
-    ensures { result.now ≡ one_lead proved }
+/// Returns what is said of a bus that holds for one sender at a time, after their names.
+fn one_word(proved: bool) -> &'static str
+    ensures { result.now ≡ one_word proved }
 {
     if proved {
-        "holds for one sender at a time, proved: one_sender_is_clean\n"
+        ", proved: one_sender_is_clean\n"
     } else {
-        "holds for one sender at a time, as far as searched, not proved\n"
+        ", as far as searched, not proved\n"
     }
 }
 
-/// True if each clock has one rate.
-fn are_steady(deviations: &[Deviation]) -> bool
-    ensures { result ≡ are_steady deviations.now }
-{
-    match deviations {
-        [] => true,
-        [first, later @ ..] => first.rates.len() == 1 && are_steady(later),
-    }
-}
-
-/// True if the laws cover a plan of clocks of one rate each, and the condition holds for one sender at a time.
-fn is_proved_for_one(plan: &CheckedPlan, family: &Family, steady: bool) -> bool
-    ensures { result ≡ is_proved_for_one steady plan.now family.now }
-{
-    steady && is_covered(plan) && !family.first_failure(Senders::One).is_some()
-}
-
-/// True if the laws cover a plan of clocks of one rate each, and its bus has room for acknowledgements of any senders and to rest.
-fn is_proved_for_any(plan: &CheckedPlan, family: &Family, steady: bool) -> bool
-    requires cable { family.now.cable ≡ plan.now.topology }
-    requires members { length family.now.members ≡ length plan.now.nodes }
-    ensures { result ≡ is_proved_for_any steady plan.now family.now }
-{
-    steady && is_covered(plan) && leaves_room(family, &plan.topology)
-}
-
-/// Returns for whom it is proved that the condition suffices, if it holds for them.
-fn proved_of(plan: &CheckedPlan, family: &Family, steady: bool) -> Proved
-    requires cable { family.now.cable ≡ plan.now.topology }
-    requires members { length family.now.members ≡ length plan.now.nodes }
-    ensures { result ≡ proved_of steady plan.now family.now }
-{
-    Proved {
-        any: is_proved_for_any(plan, family, steady),
-        one: is_proved_for_one(plan, family, steady),
-    }
-}
-
-/// Adds what a verdict says, and what is to spare.
-fn push_verdict(
+/// Adds the name of a node that sends, after those of the senders before it.
+fn push_sender(
     text: &mut String,
     family: &Family,
     names: &Names,
-    tick: u64,
-    proved: Proved,
-    verdict: Verdict,
+    i: u8,
+    later: bool,
 ) -> Result<(), AllocError>
-    requires { tick < 2 ^ 36 }
-    ensures { OnOk result (string_bytes text.new ≡ string_bytes text.old
-        ++ verdict_words tick family.now names.now proved verdict) }
+    requires node { i < length family.now.members }
+    requires later { later ≡ any_below i (sends_at family.now) }
+    ensures { OnOk result (string_bytes text.new ≡ string_bytes text.old ++ sender_words family.now names.now i) }
 {
-    match verdict {
-        Verdict::ForAny => {
-            text.push_str(any_lead(proved))?;
-            push_pairs(text, family, names, tick, Senders::Any)
-        }
-        Verdict::ForOne => {
-            text.push_str(one_lead(proved.one))?;
-            push_any_failure(text, family, names, tick)?;
-            push_pairs(text, family, names, tick, Senders::One)
-        }
+    if !family.member(i).sends {
+        return Ok(());
+    }
+    text.push_str(if later { " and " } else { "" })?;
+    text.push_str(names.name_of(i as usize))
+}
+
+/// Adds the names of the nodes that send.
+fn push_senders(text: &mut String, family: &Family, names: &Names) -> Result<(), AllocError>
+    ensures { OnOk result (string_bytes text.new ≡ string_bytes text.old ++ senders_words family.now names.now) }
+{
+    let mut later = false;
+    for i in 0..family.nodes() {
+        push_sender(text, family, names, i, later)?;
+        later = later || family.member(i).sends;
+    }
+    Ok(())
+}
+
+/// Adds what is said of a bus that holds for any senders.
+fn push_any_lead(
+    text: &mut String,
+    family: &Family,
+    names: &Names,
+    proved: Proved,
+) -> Result<(), AllocError>
+    ensures { OnOk result (string_bytes text.new ≡ string_bytes text.old
+        ++ any_lead (senders_words family.now names.now) proved) }
+{
+    text.push_str("holds for any senders of ")?;
+    push_senders(text, family, names)?;
+    text.push_str(any_word(proved))
+}
+
+/// Adds what is said of a bus that holds for one sender at a time.
+fn push_one_lead(
+    text: &mut String,
+    family: &Family,
+    names: &Names,
+    proved: bool,
+) -> Result<(), AllocError>
+    ensures { OnOk result (string_bytes text.new ≡ string_bytes text.old
+        ++ one_lead (senders_words family.now names.now) proved) }
+{
+    text.push_str("holds for one sender at a time of ")?;
+    push_senders(text, family, names)?;
+    text.push_str(one_word(proved))
+}
+
+/// True if each oscillator has one rate and the laws cover the plan, or plans of its nodes.
+fn is_law_abiding(asked: Asked, bus: &Bus) -> bool
+    requires deviations { length bus.now.deviations ≡ length bus.now.plan.nodes }
+    ensures { result ≡ is_law_abiding asked bus.now.deviations bus.now.plan }
+{
+    let covered = match asked {
+        Asked::ThisPlan => is_covered(&bus.plan),
+        Asked::AllNodes => all_speak(&bus.plan),
+    };
+    !any_turning(bus.deviations.as_slice(), &bus.plan) && covered
+}
+
+/// Returns for whom it is proved that the condition suffices, if it holds for them.
+fn proved_of(asked: Asked, bus: &Bus, family: &Family) -> Proved
+    requires deviations { length bus.now.deviations ≡ length bus.now.plan.nodes }
+    ensures { result ≡ proved_of asked bus.now.deviations bus.now.plan family.now }
+{
+    let is_abiding = is_law_abiding(asked, bus);
+    Proved {
+        any: is_abiding && leaves_room(family),
+        one: is_abiding && !family.first_failure(Senders::One).is_some(),
+    }
+}
+
+/// Returns the verdict on those who are asked about.
+fn verdict_asked(asked: Asked, plan: &CheckedPlan, family: &Family) -> Verdict
+    ensures { result ≡ verdict_asked asked plan.now family.now }
+{
+    match asked {
+        Asked::ThisPlan => judge(plan, family),
+        Asked::AllNodes => judge_all(plan, family),
+    }
+}
+
+/// Adds why it isn't proved, a line, if it isn't.
+fn push_unproved(
+    text: &mut String,
+    bus: &Bus,
+    family: &Family,
+    tick: u64,
+    cause: Cause,
+) -> Result<(), AllocError>
+    requires tick { tick < 2 ^ 36 }
+    ensures { OnOk result (string_bytes text.new ≡ string_bytes text.old
+        ++ unless_proved false (cause_words tick family.now bus.now.plan bus.now.names cause)) }
+{
+    text.push_str("not proved: ")?;
+    push_cause(text, family, &bus.plan, &bus.names, tick, cause)?;
+    text.push_str("\n")
+}
+
+/// Adds why it isn't proved for any senders, if it isn't.
+fn push_any_reason(
+    text: &mut String,
+    asked: Asked,
+    bus: &Bus,
+    family: &Family,
+    tick: u64,
+) -> Result<(), AllocError>
+    requires tick { tick < 2 ^ 36 }
+    requires deviations { length bus.now.deviations ≡ length bus.now.plan.nodes }
+    ensures { OnOk result (string_bytes text.new ≡ string_bytes text.old
+        ++ any_reason asked tick bus.now.deviations bus.now.plan bus.now.names family.now) }
+{
+    if proved_of(asked, bus, family).any {
+        return Ok(());
+    }
+    let cause = any_cause(asked, bus.deviations.as_slice(), &bus.plan, family);
+    push_unproved(text, bus, family, tick, cause)
+}
+
+/// Adds why it isn't proved for one sender at a time, if it isn't.
+fn push_one_reason(
+    text: &mut String,
+    asked: Asked,
+    bus: &Bus,
+    family: &Family,
+    tick: u64,
+) -> Result<(), AllocError>
+    requires tick { tick < 2 ^ 36 }
+    requires deviations { length bus.now.deviations ≡ length bus.now.plan.nodes }
+    ensures { OnOk result (string_bytes text.new ≡ string_bytes text.old
+        ++ one_reason asked tick bus.now.deviations bus.now.plan bus.now.names family.now) }
+{
+    if proved_of(asked, bus, family).one {
+        return Ok(());
+    }
+    let cause = one_cause(asked, bus.deviations.as_slice(), &bus.plan);
+    push_unproved(text, bus, family, tick, cause)
+}
+
+/// Adds the first lines of a bus that holds for any senders, and what is to spare.
+fn push_for_any(
+    text: &mut String,
+    asked: Asked,
+    bus: &Bus,
+    family: &Family,
+    tick: u64,
+) -> Result<(), AllocError>
+    requires tick { tick < 2 ^ 36 }
+    requires deviations { length bus.now.deviations ≡ length bus.now.plan.nodes }
+    ensures { OnOk result (string_bytes text.new ≡ string_bytes text.old
+        ++ verdict_words asked tick bus.now.deviations bus.now.plan bus.now.names family.now ForAny) }
+{
+    let names = &bus.names;
+    push_any_lead(text, family, names, proved_of(asked, bus, family))?;
+    push_any_reason(text, asked, bus, family, tick)?;
+    push_pairs(text, family, names, tick, Senders::Any)
+}
+
+/// Adds those of a bus that holds for one sender at a time.
+fn push_for_one(
+    text: &mut String,
+    asked: Asked,
+    bus: &Bus,
+    family: &Family,
+    tick: u64,
+) -> Result<(), AllocError>
+    requires tick { tick < 2 ^ 36 }
+    requires deviations { length bus.now.deviations ≡ length bus.now.plan.nodes }
+    ensures { OnOk result (string_bytes text.new ≡ string_bytes text.old
+        ++ verdict_words asked tick bus.now.deviations bus.now.plan bus.now.names family.now ForOne) }
+{
+    let names = &bus.names;
+    push_one_lead(text, family, names, proved_of(asked, bus, family).one)?;
+    push_one_reason(text, asked, bus, family, tick)?;
+    push_any_failure(text, family, names, tick)?;
+    push_pairs(text, family, names, tick, Senders::One)
+}
+
+/// Adds what the verdict says, and what is to spare.
+fn push_verdict(
+    text: &mut String,
+    asked: Asked,
+    bus: &Bus,
+    family: &Family,
+    tick: u64,
+) -> Result<(), AllocError>
+    requires tick { tick < 2 ^ 36 }
+    requires deviations { length bus.now.deviations ≡ length bus.now.plan.nodes }
+    ensures { OnOk result (string_bytes text.new ≡ string_bytes text.old
+        ++ family_words asked tick bus.now.deviations bus.now.plan bus.now.names family.now) }
+{
+    let names = &bus.names;
+    match verdict_asked(asked, &bus.plan, family) {
+        Verdict::ForAny => push_for_any(text, asked, bus, family, tick),
+        Verdict::ForOne => push_for_one(text, asked, bus, family, tick),
         Verdict::DoesNotHold(failure) => {
             push_failure_line(text, family, names, tick, "does not hold: ", failure)?;
             push_pairs(text, family, names, tick, Senders::One)
@@ -399,52 +534,135 @@ fn push_verdict(
     }
 }
 
-/// Returns the text of a family.
-fn family_text(
+/// True if it is proved for any senders, and the condition holds for them.
+fn is_proved(proved: Proved, verdict: Verdict) -> bool
+    ensures { result ≡ is_proved proved verdict }
+{
+    match verdict {
+        Verdict::ForAny => proved.any,
+        Verdict::ForOne | Verdict::DoesNotHold(_) | Verdict::NoBound(_) => false,
+    }
+}
+
+/// Returns the text of a family whose clocks keep to their tolerances.
+fn verdict_text(
     alloc: Global,
+    asked: Asked,
+    bus: &Bus,
     family: &Family,
-    names: &Names,
     tick: u64,
-    steady: bool,
-    plan: &CheckedPlan,
 ) -> Result<String, AllocError>
     requires tick { tick < 2 ^ 36 }
-    requires cable { family.now.cable ≡ plan.now.topology }
-    requires members { length family.now.members ≡ length plan.now.nodes }
-    ensures { IfOk result (λ text. IsFamilyText tick steady plan.now names.now family.now (string_bytes text)) }
+    requires deviations { length bus.now.deviations ≡ length bus.now.plan.nodes }
+    ensures { IfOk result (λ text. IsVerdictText asked tick bus.now.deviations bus.now.plan bus.now.names family.now
+        (string_bytes text)) }
 {
     let mut text = String::new(alloc);
-    let verdict = judge(plan, family);
-    let proved = proved_of(plan, family, steady);
-    push_verdict(&mut text, family, names, tick, proved, verdict)?;
+    push_verdict(&mut text, asked, bus, family, tick)?;
+    let verdict = verdict_asked(asked, &bus.plan, family);
     if let Verdict::NoBound(_) = verdict {
         return Ok(text);
     }
-    push_results(&mut text, search(family))?;
+    let proved = is_proved(proved_of(asked, bus, family), verdict);
+    push_results(&mut text, search(family, proved))?;
     Ok(text)
 }
 
-/// Returns the margin of a bus as text, for ticks of `tick` picoseconds, below 2^36.
-///
-/// The first line says whether the condition for a sound bus holds: for any senders, for one sender at a time, or not. It says 'proved' where
-/// a law covers the plan: that on one sender (`one_sender_is_clean` of wl_one_sender), or, if the bus leaves room, that on any senders
-/// (`any_senders_are_clean` of wl_clean). If it fails the line says which inequality fails, for which nodes and by how much. It may also say
-/// that no condition is known for the plan. Then follows what is to spare for each node and each other. Last come how much longer the cable and wider the tolerances may be, and which change by a
-/// quantum helps most. Refused out of memory alone.
-pub fn margin_text(alloc: Global, tick: u64, bus: &Bus) -> Result<String, AllocError>
+/// Returns the text of a family if the clock of node `i` leaves its tolerance.
+fn stray_text(alloc: Global, bus: &Bus, family: &Family, i: u8) -> Result<String, AllocError>
+    requires deviations { length bus.now.deviations ≡ length bus.now.plan.nodes }
+    requires members { length family.now.members ≡ length bus.now.plan.nodes }
+    requires node { i < length bus.now.plan.nodes }
+    ensures { IfOk result (λ text. string_bytes text ≡ astray_line (name_of bus.now.names i) (member_at family.now i).oscillator
+        (stray_at bus.now.deviations bus.now.plan family.now i)) }
+{
+    let mut text = String::new(alloc);
+    let name = bus.names.name_of(i as usize);
+    let oscillator = family.member(i).oscillator;
+    let stray = stray_at(bus.deviations.as_slice(), &bus.plan, family, i);
+    push_astray(&mut text, name, &oscillator, stray)?;
+    Ok(text)
+}
+
+/// Returns the text of a family.
+fn family_text(
+    alloc: Global,
+    asked: Asked,
+    bus: &Bus,
+    family: &Family,
+    tick: u64,
+) -> Result<String, AllocError>
     requires tick { tick < 2 ^ 36 }
     requires deviations { length bus.now.deviations ≡ length bus.now.plan.nodes }
-    ensures { IfOk result (λ text. IsMarginText tick bus.now (string_bytes text)) }
+    requires members { length family.now.members ≡ length bus.now.plan.nodes }
+    ensures { IfOk result (λ text. IsFamilyText asked tick bus.now.deviations bus.now.plan bus.now.names family.now
+        (string_bytes text)) }
+{
+    match first_stray(bus.deviations.as_slice(), &bus.plan, family) {
+        Some(i) => stray_text(alloc, bus, family, i),
+        None => verdict_text(alloc, asked, bus, family, tick),
+    }
+}
+
+/// Returns the family that is asked about.
+fn family_asked(alloc: Global, asked: Asked, family: Family) -> Result<Family, AllocError>
+    ensures family { IfOk result (λ other. other ≡ family_asked asked family) }
+    ensures members { IfOk result (λ other. length other.members ≡ length family.members) }
+{
+    match asked {
+        Asked::ThisPlan => Ok(family),
+        Asked::AllNodes => {
+            if family.nodes() < 2 {
+                return Ok(family);
+            }
+            family.all_sending(alloc)
+        }
+    }
+}
+
+/// Returns the text on those who are asked about.
+fn text_for(alloc: Global, asked: Asked, tick: u64, bus: &Bus) -> Result<String, AllocError>
+    requires tick { tick < 2 ^ 36 }
+    requires deviations { length bus.now.deviations ≡ length bus.now.plan.nodes }
+    ensures { IfOk result (λ text. IsTextFor asked tick bus.now (string_bytes text)) }
 {
     match oscillators(alloc, bus.deviations.as_slice())? {
         Some(oscillators) => {
-            let family = Family::of_plan(alloc, &bus.plan, oscillators.as_slice())?;
-            let steady = are_steady(bus.deviations.as_slice());
-            family_text(alloc, &family, &bus.names, tick, steady, &bus.plan)
+            let own = Family::of_plan(alloc, &bus.plan, oscillators.as_slice())?;
+            let judged = family_asked(alloc, asked, own)?;
+            family_text(alloc, asked, bus, &judged, tick)
         }
         None => String::from_str(
             alloc,
             "no bound is known: without its ppm a quantum takes less than a tick or more than 1,048,576\n",
         ),
     }
+}
+
+/// Returns the margin of a bus as text, for ticks of `tick` picoseconds, below 2^36.
+///
+/// A plan with a clock outside of its tolerance gets one line, which names the node. Else the first line says whether the condition for a
+/// sound bus holds: for any senders of the nodes that have frames, which it names, for one of them at a time, or not. It says 'proved' if a
+/// law covers the plan: that on one sender (`one_sender_is_clean` of wl_one_sender), or, if the bus leaves room, that on any senders
+/// (`any_senders_are_clean` of wl_clean). If not the next line says why. If the condition fails the line says which inequality fails, for
+/// which nodes and by how much. It may also say that no condition is known for the plan.
+///
+/// Then follows what is to spare for each node and each other. Last come how much longer the cable and wider the tolerances may be, up to
+/// where that stays proved, and which change by a quantum helps most. Refused out of memory alone.
+pub fn margin_text(alloc: Global, tick: u64, bus: &Bus) -> Result<String, AllocError>
+    requires tick { tick < 2 ^ 36 }
+    requires deviations { length bus.now.deviations ≡ length bus.now.plan.nodes }
+    ensures { IfOk result (λ text. IsMarginText tick bus.now (string_bytes text)) }
+{
+    text_for(alloc, Asked::ThisPlan, tick, bus)
+}
+
+/// Returns the margin of a bus on which all nodes may send that don't only listen. The plan's frames and offsets don't count, nor its
+/// disturbances. Else as `margin_text`.
+pub fn all_send_text(alloc: Global, tick: u64, bus: &Bus) -> Result<String, AllocError>
+    requires tick { tick < 2 ^ 36 }
+    requires deviations { length bus.now.deviations ≡ length bus.now.plan.nodes }
+    ensures { IfOk result (λ text. IsAllSendText tick bus.now (string_bytes text)) }
+{
+    text_for(alloc, Asked::AllNodes, tick, bus)
 }

@@ -1,10 +1,14 @@
 //! What the searches over a family find, and its text.
 ghost use Rattle.std.specs.Prelude.{◌≡◌, ◌++◌, string_bytes, OnOk};
-ghost use Rattle.wl_margin.specs.Margins.{AreSearchResults, IsHeadroom, TellsHeadroom, change_words, figure_words, results_words, growth_words, help_line, help_words, headroom_words};
+ghost use Rattle.wl_bound.specs.Searches.{IsLongerCable, IsWiderTolerance, cable_ticks};
+ghost use Rattle.wl_bound.specs.declared.condition.Senders.TheVariants.{Any, One};
+ghost use Rattle.wl_bound.specs.declared.search.Growth.TheVariants.{Longer, Wider};
+ghost use Rattle.wl_margin.specs.Margins.{AreSearchResults, IsHeadroom, IsProvedGrowth, TellsHeadroom, change_words, figure_words, results_words, growth_words, help_line, help_words, headroom_words};
 
 use std::alloc::AllocError;
 use std::fmt;
-use wl_bound::{Change, Family, Senders};
+use wl_bound::{Change, Family, Growth, Senders};
+use wl_room::roomy_growth;
 
 /// The headroom of a cable's length or of a tolerance: how much it may grow; `None` if it may not.
 #[derive(Clone, Copy, Debug)]
@@ -13,6 +17,8 @@ pub struct Headroom {
     pub one: Option<u32>,
     /// For any senders.
     pub any: Option<u32>,
+    /// For any senders, and so that it stays proved; `None` too if it isn't asked.
+    pub proved: Option<u32>,
 }
 
 /// What the searches find.
@@ -28,26 +34,68 @@ pub(crate) struct SearchResults {
     help_any: Option<Change>,
 }
 
-/// Returns how much longer the cable may be, and how much wider every tolerance.
-fn headrooms(family: &Family) -> (Headroom, Headroom)
-    ensures { IsHeadroom family.now result.0 result.1 }
+/// Returns how much longer the cable may be and have room, up to the number with which the condition holds for any senders.
+fn proved_longer(family: &Family, proved: bool, most: Option<u32>) -> Option<u32>
+    requires { IsLongerCable family.now Any most }
+    ensures { IsProvedGrowth proved family.now (Longer (cable_ticks family.now) family.now.cable.per) most result }
 {
-    let longer = Headroom {
-        one: family.longer_cable(Senders::One),
-        any: family.longer_cable(Senders::Any),
-    };
-    let wider = Headroom {
-        one: family.wider_tolerance(Senders::One),
-        any: family.wider_tolerance(Senders::Any),
-    };
-    (longer, wider)
+    match most {
+        Some(most) if proved => roomy_growth(family, family.cable_growth(), most),
+        _ => None,
+    }
 }
 
-/// Returns what the searches over a family find.
-pub(crate) fn search(family: &Family) -> SearchResults
-    ensures { AreSearchResults family.now result }
+/// Returns how much wider every tolerance may be and have room, up to that number.
+fn proved_wider(family: &Family, proved: bool, most: Option<u32>) -> Option<u32>
+    ensures { IsProvedGrowth proved family.now Wider most result }
 {
-    let (longer, wider) = headrooms(family);
+    match most {
+        Some(most) if proved => roomy_growth(family, Growth::Wider, most),
+        _ => None,
+    }
+}
+
+/// Returns how much longer the cable may be.
+fn longer(family: &Family, proved: bool) -> Headroom
+    ensures one { IsLongerCable family.now One result.one }
+    ensures any { IsLongerCable family.now Any result.any }
+    ensures proved { IsProvedGrowth proved family.now (Longer (cable_ticks family.now) family.now.cable.per)
+        result.any result.proved }
+{
+    let any = family.longer_cable(Senders::Any);
+    Headroom {
+        one: family.longer_cable(Senders::One),
+        any,
+        proved: proved_longer(family, proved, any),
+    }
+}
+
+/// Returns how much wider every tolerance may be.
+fn wider(family: &Family, proved: bool) -> Headroom
+    ensures one { IsWiderTolerance family.now One result.one }
+    ensures any { IsWiderTolerance family.now Any result.any }
+    ensures proved { IsProvedGrowth proved family.now Wider result.any result.proved }
+{
+    let any = family.wider_tolerance(Senders::Any);
+    Headroom {
+        one: family.wider_tolerance(Senders::One),
+        any,
+        proved: proved_wider(family, proved, any),
+    }
+}
+
+/// Returns how much longer the cable may be, and how much wider every tolerance.
+fn headrooms(family: &Family, proved: bool) -> (Headroom, Headroom)
+    ensures { IsHeadroom proved family.now result.0 result.1 }
+{
+    (longer(family, proved), wider(family, proved))
+}
+
+/// Returns what the searches over a family find. `proved`: it is proved that it works for any senders.
+pub(crate) fn search(family: &Family, proved: bool) -> SearchResults
+    ensures { AreSearchResults proved family.now result }
+{
+    let (longer, wider) = headrooms(family, proved);
     SearchResults {
         longer,
         wider,
@@ -80,6 +128,24 @@ impl fmt::Display for Figure<'_> {
     }
 }
 
+/// A figure that stays proved, or no words.
+#[derive(Clone, Copy)]
+struct ProvedFigure(Option<u32>);
+
+impl fmt::Display for ProvedFigure {
+    ghost use Rattle.std.specs.Prelude.{Some};
+    ghost use Rattle.wl_margin.specs.Margins.{proved_words};
+
+    ghost output = { λ f. Some (proved_words f.0) };
+
+    fn fmt<W: fmt::Write>(&self, f: &mut fmt::Formatter<W>) -> fmt::Result {
+        match self.0 {
+            Some(number) => write!(f, ", proved {number}"),
+            None => Ok(()),
+        }
+    }
+}
+
 /// Adds the line of what may grow.
 fn push_growth(
     text: &mut String,
@@ -97,9 +163,10 @@ fn push_growth(
         number: headroom.any,
         unit,
     };
+    let proved = ProvedFigure(headroom.proved);
     writeln!(
         text,
-        "{what}: one sender at a time {one}, any senders {any}"
+        "{what}: one sender at a time {one}, any senders {any}{proved}"
     )
 }
 
@@ -154,6 +221,6 @@ pub(crate) fn push_results(text: &mut String, found: SearchResults) -> Result<()
 pub fn push_headroom(text: &mut String, family: &Family) -> Result<(), AllocError>
     ensures { OnOk result (TellsHeadroom family.now (string_bytes text.old) (string_bytes text.new)) }
 {
-    let (longer, wider) = headrooms(family);
+    let (longer, wider) = headrooms(family, false);
     push_headroom_lines(text, longer, wider)
 }

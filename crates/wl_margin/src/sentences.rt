@@ -32,7 +32,7 @@ impl fmt::Display for Amount {
 
 impl Amount {
     /// Returns a time that there is, rounded down. It is in millionths of a tick.
-    fn within(units: Units, time: u128) -> Amount
+    pub(crate) fn within(units: Units, time: u128) -> Amount
         ensures picoseconds { result.picoseconds ≡ picoseconds_within units time }
         ensures quanta { result.quanta ≡ quanta_within units time }
     {
@@ -43,7 +43,7 @@ impl Amount {
     }
 
     /// Returns a time that is taken, rounded up. It is in millionths of a tick.
-    fn around(units: Units, time: u128) -> Amount
+    pub(crate) fn around(units: Units, time: u128) -> Amount
         ensures picoseconds { result.picoseconds ≡ picoseconds_around units time }
         ensures quanta { result.quanta ≡ quanta_around units time }
     {
@@ -122,7 +122,7 @@ impl fmt::Display for Rest {
 }
 
 /// Adds the sentence of two nodes that drift apart by more than an edge puts right.
-fn push_drift(
+pub(crate) fn push_drift(
     text: &mut String,
     a: &str,
     b: &str,
@@ -139,7 +139,7 @@ fn push_drift(
 }
 
 /// Adds the sentence of a node that samples before another's bit has come.
-fn push_late(
+pub(crate) fn push_late(
     text: &mut String,
     a: &str,
     b: &str,
@@ -156,7 +156,12 @@ fn push_late(
 }
 
 /// Adds the sentence of a node that samples before its own bit is back.
-fn push_loop(text: &mut String, a: &str, taken: Amount, there: Amount) -> Result<(), AllocError>
+pub(crate) fn push_loop(
+    text: &mut String,
+    a: &str,
+    taken: Amount,
+    there: Amount,
+) -> Result<(), AllocError>
     ensures { OnOk result (string_bytes text.new ≡ string_bytes text.old ++ loop_words a.now
         (amount_words taken.picoseconds taken.quanta) (amount_words there.picoseconds there.quanta)) }
 {

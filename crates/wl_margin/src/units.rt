@@ -1,8 +1,11 @@
 //! The units in which times are said.
 ghost use Rattle.std.specs.Prelude.{◌≡◌, ◌<◌, ◌^◌};
-ghost use Rattle.wl_margin.specs.Sentences.{picoseconds_around, picoseconds_within, quanta_around, quanta_within};
+ghost use Rattle.wl_bound.specs.Families.{member_at};
+ghost use Rattle.wl_bound.specs.Oscillators.{shortest_of};
+ghost use Rattle.wl_margin.specs.Sentences.{measure_of, picoseconds_around, picoseconds_within, quanta_around, quanta_within};
 
 use std::marker::Model;
+use wl_bound::Family;
 
 const MILLION: u128 = 1_000_000;
 
@@ -85,4 +88,23 @@ impl Units {
     {
         (100 * time.min(LONGEST_TIME)).div_ceil(self.quantum())
     }
+}
+
+/// Returns the shortest quantum of node `i` in millionths of a tick; a tick for a node that isn't there.
+fn shortest(family: &Family, i: u8) -> u128
+    ensures { result ≡ shortest_of (member_at family.now i).oscillator 0 }
+{
+    if i < family.nodes() {
+        family.member(i).oscillator.shortest()
+    } else {
+        1_000_000
+    }
+}
+
+/// Returns the units in which times at node `i` are said.
+pub(crate) fn units_at(family: &Family, tick: u64, i: u8) -> Units
+    requires { tick < 2 ^ 36 }
+    ensures { result ≡ measure_of tick family.now i }
+{
+    Units::new(tick, shortest(family, i).max(1))
 }

@@ -1,2 +1,3 @@
 pub mod Rooms
 pub mod RoomLaws
+pub mod Lacks

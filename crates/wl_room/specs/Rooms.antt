@@ -1,11 +1,14 @@
 -- Whether a bus has room for acknowledgements of any senders and to rest after each frame: what the laws on them ask of it, beside the condition for
 -- margins (`HasRoomToAnswer` of wl_any_senders, `LeavesRoomToRest` of wl_frame_end). This project's.
-use Rattle.std.specs.Prelude.{ℕ, suc, ◌+◌, ◌-◌, ◌*◌, ◌<◌, ◌==◌, ◌&&◌, ◌||◌, nat_le, not, Bool, length, if◌then◌else◌}
+use Rattle.std.specs.Prelude.{ℕ, suc, ◌+◌, ◌-◌, ◌*◌, ◌<◌, ◌==◌, ◌&&◌, ◌||◌, nat_le, not, min, Bool, length, if◌then◌else◌}
 use Rattle.std.specs.Int.{div_ceil}
 use Rattle.wl_segments.specs.Lengths.{sample_at}
 use Rattle.wl_topology.specs.Driven.{any_below}
+use Rattle.wl_bound.specs.declared.family.Setting.{Setting}
+use Rattle.wl_bound.specs.declared.search.Growth.{Growth}
 use Rattle.wl_bound.specs.Conditions.{plain}
 use Rattle.wl_bound.specs.Families.{Bus, Buses, bus_of, longest_in, shortest_in}
+use Rattle.wl_bound.specs.Searches.{grown_by}
 use Rattle.wl_bound.specs.Terms.{drift, greatest, jump, look, sends_but, sends_third}
 
 -- the bus of a family with its own cable and tolerances, on which each node with frames may send
@@ -39,6 +42,13 @@ gathering b i k =
 -- how early a bit of node k can be at node i, without drift
 abbrev pub comes_early : Bus → (i k : ℕ) → ℕ
 comes_early b i k = look b k + gathering b i k
+
+-- So it is said: what gathers counts up to 2^100 units. No time that there is takes longer, so a test that it fails stays failed.
+abbrev pub longest_said : ℕ
+longest_said = 1267650600228229401496703205376
+
+abbrev pub said_early : Bus → (i k : ℕ) → ℕ
+said_early b i k = look b k + min (gathering b i k) longest_said
 
 -- Nodes i and k have room, as if both sent: ten bits' drift and what comes early fit a jump, a bit is there at the sample, and the next one isn't yet after twelve bits without an edge. So many
 -- are from the ACK slot to the next frame (Bosch CAN 2.0 part B, section 3.1: end of frame and intermission).
@@ -77,3 +87,10 @@ has_room b = not (any_below b.nodes (has_long_quantum b)) && not (any_below b.no
 
 abbrev pub leaves_room : Buses → Bool
 leaves_room f = has_room (plain_bus f)
+
+-- no node lacks room on the bus of a setting; and with a longer cable or wider tolerances
+abbrev pub is_roomy : Buses → Setting → Bool
+is_roomy f s = not (any_below (length f.members) (lacks_room (bus_of f s)))
+
+abbrev pub is_roomy_grown : Buses → Growth → ℕ → Bool
+is_roomy_grown f growth n = is_roomy f (grown_by growth n)

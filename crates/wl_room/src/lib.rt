@@ -4,9 +4,13 @@
 //! that it suffices are those of `wl_any_plans`.
 #![tactic(auto)]
 
+mod lack;
 mod laws;
 mod room;
+mod search;
 mod times;
 
+pub use lack::{Lack, Shortage, first_lack};
 pub use laws::room_law;
 pub use room::leaves_room;
+pub use search::roomy_growth;

@@ -55,7 +55,7 @@ word_enters Trace name h = ((refl, tt), refl, refl)
 word_enters (Candump tick from) name h = ((refl, h), refl, refl)
 word_enters (Vcd tick) name h = ((refl, h), refl, refl)
 word_enters (Page tick) name h = ((refl, h), refl, refl)
-word_enters (Margin tick) name h = ((refl, h), refl, refl)
+word_enters (Margin tick all) name h = ((refl, h), refl, refl)
 word_enters (Traffic tick strict) name h = ((refl, h), refl, refl)
 word_enters (Settings tick shown) name h = ((refl, h), refl, refl)
 word_enters (Sweep swept) name h = ((refl, h), refl, refl)
@@ -77,7 +77,7 @@ word_names_none Trace name = (refl, refl, refl)
 word_names_none (Candump tick from) name = (refl, refl, refl)
 word_names_none (Vcd tick) name = (refl, refl, refl)
 word_names_none (Page tick) name = (refl, refl, refl)
-word_names_none (Margin tick) name = (refl, refl, refl)
+word_names_none (Margin tick all) name = (refl, refl, refl)
 word_names_none (Traffic tick strict) name = (refl, refl, refl)
 word_names_none (Settings tick shown) name = (refl, refl, refl)
 word_names_none (Sweep swept) name = (refl, refl, refl)
@@ -95,7 +95,7 @@ word_format Trace name = refl
 word_format (Candump tick from) name = refl
 word_format (Vcd tick) name = refl
 word_format (Page tick) name = refl
-word_format (Margin tick) name = refl
+word_format (Margin tick all) name = refl
 word_format (Traffic tick strict) name = refl
 word_format (Settings tick shown) name = refl
 word_format (Sweep swept) name = refl
@@ -189,6 +189,9 @@ swept_in given = unwrap_or (option_and_then (λ v. v.swept) given) plainly_swept
 strict_in : Option Values → Bool
 strict_in given = unwrap_or (option_map (λ v. v.strict) given) false
 
+all_in : Option Values → Bool
+all_in given = unwrap_or (option_map (λ v. v.all_send) given) false
+
 from_in : Option Values → ℕ
 from_in given = unwrap_or (option_and_then (λ v. v.from) given) 0
 
@@ -199,7 +202,7 @@ task_by : Option Values → ℕ → Task
 task_by given n =
     if n == 412 then Merge else (if n == 437 then Horizon else (if n == 411 then Check else (if n == 417 then Records else
     (if n == 461 then Explain else (if n == 390 then Candump (tick_in given) (from_in given) else (if n == 415 then Vcd (tick_in given) else
-    (if n == 458 then Trace else (if n == 403 then Page (tick_in given) else (if n == 400 then Margin (tick_in given) else
+    (if n == 458 then Trace else (if n == 403 then Page (tick_in given) else (if n == 400 then Margin (tick_in given) (all_in given) else
     (if n == 472 then Sweep (swept_in given) else (if n == 418 then Settings (tick_in given) (shown_in given) else
     Run (workers_in given) (link_in given))))))))))))
 
@@ -209,7 +212,7 @@ task_at given (Some w) =
     if slice_index w 3 == 102 then Traffic (tick_in given) (strict_in given) else task_by given (slice_index w 0 + 3 * slice_index w 1)
 
 task_at_word : (given : Option Values) (t : Task) → HasValues given t → task_at given (Some (task_word t)) ≡ t
-unfolding task_at task_by tick_in from_in strict_in workers_in link_in swept_in shown_in
+unfolding task_at task_by tick_in from_in strict_in all_in workers_in link_in swept_in shown_in
 task_at_word given Merge h = refl
 task_at_word given Horizon h = refl
 task_at_word given Check h = refl
@@ -221,7 +224,8 @@ task_at_word given (Candump tick from) h =
     ap₂ (λ o p. Candump (unwrap_or o (record { count = 1; unit = Nanosecond })) (unwrap_or p 0)) h.0 h.1
 task_at_word given (Vcd tick) h = ap (λ o. Vcd (unwrap_or o (record { count = 1; unit = Nanosecond }))) h
 task_at_word given (Page tick) h = ap (λ o. Page (unwrap_or o (record { count = 1; unit = Nanosecond }))) h
-task_at_word given (Margin tick) h = ap (λ o. Margin (unwrap_or o (record { count = 1; unit = Nanosecond }))) h
+task_at_word given (Margin tick all) h =
+    ap₂ (λ o p. Margin (unwrap_or o (record { count = 1; unit = Nanosecond })) (unwrap_or p false)) h.0 h.1
 task_at_word given (Traffic tick strict) h =
     ap₂ (λ o p. Traffic (unwrap_or o (record { count = 1; unit = Nanosecond })) (unwrap_or p false)) h.0 h.1
 task_at_word given (Settings tick shown) h =
@@ -262,7 +266,7 @@ module _ {S T : Type 0} (gives : S → Answer → S → Type 0) (takes : T → A
   does_nothing s s' t t' (Candump tick from) h = (Err run.Memory, h, refl)
   does_nothing s s' t t' (Vcd tick) h = (Err run.Memory, h, refl)
   does_nothing s s' t t' (Page tick) h = (Err run.Memory, h, refl)
-  does_nothing s s' t t' (Margin tick) h = (Err run.Memory, h, refl)
+  does_nothing s s' t t' (Margin tick all) h = (Err run.Memory, h, refl)
   does_nothing s s' t t' (Traffic tick strict) h = (Err run.Memory, h, refl)
   does_nothing s s' t t' (Settings tick shown) h = (Err settings.Memory, inl (h, inl refl), refl)
   does_nothing s s' t t' (Sweep swept) h = sweeps_nothing s s' t t' swept swept.print swept.page h

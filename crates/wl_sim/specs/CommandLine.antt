@@ -39,7 +39,7 @@ task_word Trace = codes "trace"
 task_word (Candump tick from) = codes "candump"
 task_word (Vcd tick) = codes "vcd"
 task_word (Page tick) = codes "page"
-task_word (Margin tick) = codes "margin"
+task_word (Margin tick all) = codes "margin"
 task_word (Traffic tick strict) = codes "traffic"
 task_word (Settings tick shown) = codes "settings"
 task_word (Sweep swept) = codes "sweep"
@@ -88,7 +88,7 @@ candump_app app = with_rule (timed_app app) from_rule
 
 -- of `margin`
 abbrev pub margin_app : App → App
-margin_app app = formatted_app (timed_app app)
+margin_app app = formatted_app (with_rule (timed_app app) (flag_rule (codes "all-send")))
 
 -- of `traffic`
 abbrev pub traffic_app : App → App
@@ -314,6 +314,7 @@ values_among rows = record {
   swept = swept_among rows;
   shown = shown_among rows;
   strict = is_flagged (codes "strict") rows;
+  all_send = is_flagged (codes "all-send") rows;
   from = number_among 32 (codes "from") rows;
 }
 
@@ -322,7 +323,7 @@ abbrev pub HasValues : Option Values → Task → Type 0
 HasValues given (Candump tick from) = (option_and_then (λ v. v.tick) given ≡ Some tick) × (option_and_then (λ v. v.from) given ≡ Some from)
 HasValues given (Vcd tick) = option_and_then (λ v. v.tick) given ≡ Some tick
 HasValues given (Page tick) = option_and_then (λ v. v.tick) given ≡ Some tick
-HasValues given (Margin tick) = option_and_then (λ v. v.tick) given ≡ Some tick
+HasValues given (Margin tick all) = (option_and_then (λ v. v.tick) given ≡ Some tick) × (option_map (λ v. v.all_send) given ≡ Some all)
 HasValues given (Traffic tick strict) = (option_and_then (λ v. v.tick) given ≡ Some tick) × (option_map (λ v. v.strict) given ≡ Some strict)
 HasValues given (Settings tick shown) = (option_and_then (λ v. v.tick) given ≡ Some tick) × (option_map (λ v. v.shown) given ≡ Some shown)
 HasValues given (Run workers kind) = (option_and_then (λ v. v.workers) given ≡ Some workers) × (option_and_then (λ v. v.link) given ≡ Some kind)
@@ -364,6 +365,7 @@ plain_values = record {
   link = Some Hub;
   swept = Some plainly_swept;
   strict = false;
+  all_send = false;
   shown = Best None;
   from = Some 0;
 }

@@ -129,7 +129,7 @@ subject_of Trace = Some subject.Trace
 subject_of (Candump tick from) = None
 subject_of (Vcd tick) = None
 subject_of (Page tick) = None
-subject_of (Margin tick) = Some subject.Margin
+subject_of (Margin tick all) = Some subject.Margin
 subject_of (Traffic tick strict) = Some subject.Traffic
 subject_of (Settings tick shown) = None
 subject_of (Sweep swept) = if is_some swept.print || swept.page then None else Some subject.Sweep
@@ -167,7 +167,7 @@ module _ {S T : Type 0} (gives : S → Answer → S → Type 0) (takes : T → A
   Does (Candump tick from) ranges r = Plainly (RunsPlan gives takes (IsCandumpOutput tick from) s s' t t') r
   Does (Vcd tick) ranges r = Plainly (RunsPlan gives takes (IsVcdOutput tick) s s' t t') r
   Does (Page tick) ranges r = Plainly (Pages gives takes tick s s' t t') r
-  Does (Margin tick) ranges r = Plainly (RunsBus gives takes (IsMarginOutput tick) s s' t t') r
+  Does (Margin tick all) ranges r = Plainly (RunsBus gives takes (IsMarginOutput tick all) s s' t t') r
   Does (Traffic tick strict) ranges r = DoesTraffic tick strict r
   Does (Settings tick shown) ranges r =
       (answer : Result (Unit {0}) SettingsFault) × RunsSettings gives takes (tick_picoseconds tick) shown s s' t t' answer × (r ≡ of_settings answer)

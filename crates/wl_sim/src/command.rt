@@ -45,8 +45,9 @@ pub enum Task {
     Vcd(Tick),
     /// One page of HTML that shows a plan's simulation, at ticks that take so long.
     Page(Tick),
-    /// Whether a plan's bus works, and with how much to spare, at ticks that take so long.
-    Margin(Tick),
+    /// Whether a plan's bus works, and with how much to spare, at ticks that take so long; of the plan's senders, or, if that is asked for, of
+    /// all nodes that don't only listen.
+    Margin(Tick, bool),
     /// How busy a plan's bus was, how long its messages waited, and why the run didn't work, at ticks that take so long. If that is asked
     /// for, the status says whether it worked.
     Traffic(Tick, bool),
@@ -105,7 +106,10 @@ fn task_named(name: Option<&str>, values: Option<Values>) -> Option<Task>
         }
         "vcd" => Some(Task::Vcd(values?.tick?)),
         "page" => Some(Task::Page(values?.tick?)),
-        "margin" => Some(Task::Margin(values?.tick?)),
+        "margin" => {
+            let values = values?;
+            Some(Task::Margin(values.tick?, values.all_send))
+        }
         "traffic" => {
             let values = values?;
             Some(Task::Traffic(values.tick?, values.strict))

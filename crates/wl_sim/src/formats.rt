@@ -18,7 +18,7 @@ pub(crate) fn subject_of(task: Task) -> Option<Subject>
         Task::Run(_, _) => Some(Subject::Run),
         Task::Explain => Some(Subject::Explain),
         Task::Trace => Some(Subject::Trace),
-        Task::Margin(_) => Some(Subject::Margin),
+        Task::Margin(_, _) => Some(Subject::Margin),
         Task::Traffic(_, _) => Some(Subject::Traffic),
         Task::Sweep(swept) => {
             if swept.print.is_some() || swept.page {

@@ -364,7 +364,9 @@ fn run<H: Threads + Wait + Sync + Eprint + Clock, R: Source, W: Sink>(
         Task::Candump(tick, from) => plainly(candump_run(alloc, tick, from, reader, writer)),
         Task::Vcd(tick) => plainly(vcd_run(alloc, tick, reader, writer)),
         Task::Page(tick) => plainly(page_run(alloc, tick, reader, writer)),
-        Task::Margin(tick) => plainly(margin_run(alloc, tick, reader, writer)),
+        Task::Margin(tick, all_send) => {
+            plainly(margin_run(alloc, tick, all_send, reader, writer))
+        }
         Task::Traffic(tick, strict) => of_traffic(strict, traffic_run(alloc, tick, reader, writer)),
         Task::Settings(tick, shown) => {
             of_settings(settings_run(alloc, tick.picoseconds(), shown, reader, writer))

@@ -24,6 +24,9 @@ const PROGRESS: &str = "Says each second how long the run has taken, or of a swe
 /// What the help says of `--strict`.
 const STRICT: &str = "Ends with status 1 if the verdict is another than works";
 
+/// What the help says of `--all-send`.
+const ALL_SEND: &str = "Asks about all nodes that don't only listen, as if each had frames";
+
 /// What the help says of `--plan`.
 const PLAN: &str =
     "Writes the plan of the first controller's first setting: two nodes at the ends of the cable";
@@ -234,7 +237,8 @@ fn with_margin_options<'a>(alloc: Global, sub: Command<'a>) -> Result<Command<'a
     ensures local { IfOk result (λ all. (out-Command all).has_globals ≡ false) }
 {
     let timed = timed(alloc, sub)?;
-    formatted(alloc, timed)
+    let all_send = with(timed, flag_option(alloc, "all-send", ALL_SEND))?;
+    formatted(alloc, all_send)
 }
 
 /// Returns a subcommand with the options of `traffic`.

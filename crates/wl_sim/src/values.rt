@@ -30,6 +30,8 @@ pub(crate) struct Values {
     pub(crate) shown: Shown,
     /// Whether the status says if a run works.
     pub(crate) strict: bool,
+    /// Whether all nodes send that don't only listen.
+    pub(crate) all_send: bool,
     /// The second of tick 0.
     pub(crate) from: Option<u32>,
 }
@@ -244,6 +246,7 @@ fn values_in(matches: &ArgMatches) -> Values
         swept: swept_in(matches),
         shown: shown_in(matches),
         strict: flag_in(matches, "strict"),
+        all_send: flag_in(matches, "all-send"),
         from: small_number_in(matches, "from"),
     }
 }

@@ -1,0 +1,16 @@
+-- The text of a verdict with what the searches found.
+use Rattle.std.proofs.Common.{◌≡◌, ℕ, Bool, List, ◌++◌, refl}
+use Rattle.wl_bound.specs.declared.verdict.Outside.{Outside}
+use Rattle.wl_bound.specs.declared.verdict.Verdict.{Verdict}
+use Rattle.wl_bound.specs.declared.verdict.Verdict.TheVariants.{ForAny, ForOne, DoesNotHold, NoBound}
+use Rattle.wl_bound.specs.Families.{Buses}
+use Rattle.wl_margin.specs.declared.searches.SearchResults.{SearchResults}
+use Rattle.wl_margin.specs.Margins.{AreSearchResults, IsTextAfter, results_words}
+
+pub text_after : (proved : Bool) (v : Verdict) (said : List ℕ) (f : Buses) (text : List ℕ) (found : SearchResults)
+    → ((cause : Outside) → v ≡ NoBound cause → ⊥) → AreSearchResults proved f found → text ≡ said ++ results_words found
+    → IsTextAfter proved v said f text
+text_after proved ForAny said f text found none are e = (found, are, e)
+text_after proved ForOne said f text found none are e = (found, are, e)
+text_after proved (DoesNotHold failure) said f text found none are e = (found, are, e)
+text_after proved (NoBound cause) said f text found none are e = absurd (none cause refl)
