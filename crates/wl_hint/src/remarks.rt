@@ -119,30 +119,53 @@ fn unit_of(key: &str, path: TablePath) -> &'static str {
 
 /// Returns where a key belongs that is in another table.
 fn home_of(key: &str, path: TablePath) -> &'static str {
-    match (key, path) {
-        (_, TablePath::Top) => "",
-        ("version" | "end" | "per" | "sync", _) => " (it belongs above the first `[[node]]`)",
-        (
-            "every" | "count",
-            TablePath::Node(_) | TablePath::Rate(_, _) | TablePath::Disturbance(_),
-        ) => { " (it belongs into a frame)" }
-        (_, TablePath::Node(_) | TablePath::Disturbance(_)) => "",
-        (
-            "name"
-            | "offset"
-            | "prop"
-            | "ps1"
-            | "ps2"
-            | "sjw"
-            | "x"
-            | "out"
-            | "in"
-            | "tolerance"
-            | "listen",
-            _,
-        ) => { " (it belongs right under `[[node]]`, above the tables in it)" }
+    match key {
+        "version" | "end" | "per" | "sync" => {
+            if matches!(path, TablePath::Top) {
+                ""
+            } else {
+                " (it belongs above the first `[[node]]`)"
+            }
+        }
+        "every" | "count" => {
+            if is_beside_frames(path) {
+                " (it belongs into a frame)"
+            } else {
+                ""
+            }
+        }
+        "name"
+        | "offset"
+        | "prop"
+        | "ps1"
+        | "ps2"
+        | "sjw"
+        | "x"
+        | "out"
+        | "in"
+        | "tolerance"
+        | "listen" => {
+            if is_in_node(path) {
+                " (it belongs right under `[[node]]`, above the tables in it)"
+            } else {
+                ""
+            }
+        }
         _ => "",
     }
+}
+
+/// True of a table that is no frame and not the top one.
+fn is_beside_frames(path: TablePath) -> bool {
+    matches!(
+        path,
+        TablePath::Node(_) | TablePath::Rate(_, _) | TablePath::Disturbance(_)
+    )
+}
+
+/// True of a table in a node.
+fn is_in_node(path: TablePath) -> bool {
+    matches!(path, TablePath::Frame(_, _) | TablePath::Rate(_, _))
 }
 
 /// Returns what is remarked of a segment: registers hold one quantum less, and a bit of too many quanta wants longer ones.
