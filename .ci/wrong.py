@@ -1,7 +1,8 @@
 #!/usr/bin/env python3
 """Tries wrong bodies: the prover must refuse each, in the function that the edit changes.
 
-usage: wrong.py [--night] [CRATE..]   tries the edits of .ci/wrong-bodies, or with --night those of check/wrong-bodies; of every crate if none is named
+usage: wrong.py [--night] [--kept] [CRATE..]   tries the edits of .ci/wrong-bodies, or with --night those of check/wrong-bodies; of every crate if none
+                                              is named. With --kept what earlier checks of a crate kept in out/incremental isn't checked again
        wrong.py check                 tells whether each edit still fits its source, and whether the table of docs/change/wrong-bodies.md is that of the edits
        wrong.py page                  writes that table
 
@@ -12,8 +13,9 @@ Mistakes that no contract excludes are in .ci/wrong-bodies/by-rows.txt, with the
 
 The libraries below a crate are taken as `rt ci` has just left them; those that are older than their sources are built first. A copy of the crate gets as
 many of its edits as change different functions, and one check of these functions and of what they call. It has to end with status 1. Each edited function
-has to be refused, and each other function that is read has to be proved. So a wrong body costs no second proof of its crate. As many checks run side by
-side as RT_JOBS says; without that, as there are processors that have 3 GB of free memory each. Status 1 if a wrong body was not refused so.
+has to be refused, and each other function that is read has to be proved. If that isn't so, each edit has a check of its own. So a wrong body costs no
+second proof of its crate. As many checks run side by side as RT_JOBS says; without that, as there are processors that have 3 GB of free memory each.
+Status 1 if a wrong body was not refused so.
 """
 import glob
 import importlib.machinery
@@ -131,16 +133,20 @@ def words_of(rt, crate, functions):
     return [rt.rtlib.RATTLE, "check", *words, *(it for name in functions for it in ("--only", name))]
 
 
-def checked(rt, crate, run):
-    """Checks a copy of the crate with the run's edits, and returns the status, what was said, and the seconds by the clock."""
+def checked(rt, crate, run, is_kept):
+    """Checks a copy of the crate with the run's edits, over a copy of its kept work if that is asked for, and returns the status, what was said, and the seconds by the clock."""
     began = time.time()
     with tempfile.TemporaryDirectory(prefix="wrong-body-") as room:
         for part in rt.rtlib.PARTS:
             if os.path.isdir(f"{crate.folder}/{part}"): shutil.copytree(f"{crate.folder}/{part}", f"{room}/{part}")
         for path, text in run["texts"].items():
             with open(f"{room}/{path}", "w", encoding="utf-8") as it: it.write(text)
+        words, kept = run["words"], f"{crate.folder}/out/incremental"
+        if is_kept and os.path.isdir(kept):
+            shutil.copytree(kept, f"{room}/kept")
+            words = [*words, "--incremental", "kept"]
         how = {"cwd": room, "stdin": subprocess.DEVNULL, "stdout": subprocess.PIPE, "stderr": subprocess.STDOUT, "errors": "replace"}
-        ran = subprocess.run([*rt.rtlib.guarded(), *run["words"]], check=False, **how)
+        ran = subprocess.run([*rt.rtlib.guarded(), *words], check=False, **how)
     return ran.returncode, ran.stdout, time.time() - began
 
 
@@ -162,7 +168,8 @@ def judged(run, status, said):
     for edit in run["edits"]:
         own = [(verdict, rest) for name, verdict, rest in verdicts if is_of(name, edit)]
         refusal = next((it for it in own if it[0] in REFUSED), None)
-        if not well: yield edit, None, f"the check ended with status {status} before the prover had tried it: {first_error(said)}"
+        if status == 0: yield edit, None, "the prover proves all that it reads"
+        elif not well: yield edit, None, f"the check ended with status {status} before the prover had tried it: {first_error(said)}"
         elif others: yield edit, None, f"also not proved: {', '.join(others)}"
         elif not refusal: yield edit, None, f"the prover says of it: {own[0][0] if own else 'nothing'}"
         else: yield edit, (refusal[0] + refusal[1])[:150], None
@@ -173,7 +180,7 @@ def first_error(said):
     return next((it for it in lines if "error" in it), lines[-1])[:300]
 
 
-def tried(rt, crates, runs):
+def tried(rt, crates, runs, is_kept):
     """Tries the runs side by side, the longest first, and yields each with what the check said. What was killed is tried again at the end, alone."""
     jobs = os.environ.get("RT_JOBS", "")
     jobs = int(jobs) if jobs.isdigit() and int(jobs) else max(1, min(rt.processors(), rt.free() // 3_000_000_000))
@@ -184,26 +191,38 @@ def tried(rt, crates, runs):
     print(f"wrong bodies: {sum(len(it['edits']) for it in runs)} in {len(runs)} checks, {jobs} at once", flush=True)
     killed = []
     with ThreadPoolExecutor(jobs) as pool:
-        running = {pool.submit(checked, rt, crates[it["edits"][0].crate], it): it for it in runs}
+        running = {pool.submit(checked, rt, crates[it["edits"][0].crate], it, is_kept): it for it in runs}
         for future in as_completed(running):
             run, (status, said, seconds) = running[future], future.result()
             if status >= 0: yield run, status, said, seconds
             else: killed.append(run)
-    for run in killed: yield (run, *checked(rt, crates[run["edits"][0].crate], run))
+    for run in killed: yield (run, *checked(rt, crates[run["edits"][0].crate], run, is_kept))
 
 
-def attempt(folder, names):
+def attempt(folder, names, is_kept):
     edits = edits_of(folder, names)
     runs = runs_of(edits)
     rt, crates = kit()
     build(rt, crates, {it.crate for it in edits})
-    refused, failed = 0, []
-    for run, status, said, seconds in tried(rt, crates, runs):
-        for edit, how, why in judged(run, status, said):
+    refused, failed, again = 0, [], []
+
+    def told(run, status, said, seconds):
+        nonlocal refused
+        found = list(judged(run, status, said))
+        if len(found) > 1 and not all(how for _, how, _ in found):
+            again.extend(runs_of([edit])[0] for edit in run["edits"])
+            return
+        for edit, how, why in found:
             word = "refused" if how else "NOT REFUSED" if status >= 0 else "KILLED"
             print(f"{edit.name}: {word} in {edit.function}: {how or why}", flush=True)
-            refused, failed = refused + bool(how), failed + [edit.name] * (not how)
+            refused += bool(how)
+            failed.extend([edit.name] * (not how))
         print(f"  {run['edits'][0].crate}: {seconds:.0f} s by the clock", flush=True)
+
+    for it in tried(rt, crates, runs, is_kept): told(*it)
+    # Edits that stood in one another's way have a check each.
+    if again:
+        for it in tried(rt, crates, list(again), is_kept): told(*it)
     print(f"{refused} of {len(edits)} wrong bodies refused, {len(failed)} not{': ' if failed else ''}{' '.join(failed)}")
     return 1 if failed else 0
 
@@ -272,10 +291,9 @@ def main(words):
         _, new = paged()
         with open(PAGE, "w", encoding="utf-8") as it: it.write(new)
         return 0
-    folder = NIGHT if words[:1] == ["--night"] else GATE
-    names = words[folder == NIGHT :]
+    names = [it for it in words if it not in ("--night", "--kept")]
     if any(it.startswith("-") for it in names): sys.exit(__doc__)
-    return attempt(folder, names)
+    return attempt(NIGHT if "--night" in words else GATE, names, "--kept" in words)
 
 
 if __name__ == "__main__":
