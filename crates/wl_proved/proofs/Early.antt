@@ -3,7 +3,6 @@ use Rattle.std.proofs.Common.{◌≡◌, refl, sym, ap, subst, inl, inr, ℕ, ze
 use Rattle.std.specs.Prelude.{count_by}
 use Rattle.std.proofs.lemmas.Bool.{cases_eq, cases_lt, eq-eqb}
 use Rattle.std.proofs.lemmas.List.{length-drop, length-map}
-use Rattle.std.proofs.lemmas.List.FromFn.{get_or-map-range_with_len, length-map-range_with_len}
 use Rattle.std.proofs.Math.Nat.{mul-le-mul_right}
 use Rattle.wl_level.specs.declared.Level.{Level}
 use Rattle.wl_segments.specs.Lengths.{bit_quanta}
@@ -22,6 +21,7 @@ use Rattle.wl_any_senders.specs.Plans.{IsPlanOf}
 use Rattle.wl_any_senders.specs.Stations.{Stations}
 use Rattle.wl_proved.specs.LateEnds.{EndsLate, frames_below}
 use Rattle.wl_proved.specs.PlansOfFamily.{SendsAlone}
+use Rattle.wl_proved.proofs.Ends.{none_unsent}
 use Rattle.wl_proved.proofs.Lasting as lasting
 use Rattle.wl_proved.proofs.Queues.{no_frame}
 
@@ -142,7 +142,4 @@ module _ (laws : SimulationLaws) (plan : Plan) (s : Stations) (of : IsPlanOf pla
   ]
 
   pub all_empty : All (λ node. node.unsent ≡ 0) (outcome_of plan).nodes
-  all_empty i node less =
-      let long = length-map-range_with_len (node_outcome_of plan) 0 (length plan.nodes) in
-      let ni : i < length plan.nodes = omega arith in
-      subst (λ x. x.unsent ≡ 0) (sym (get_or-map-range_with_len (node_outcome_of plan) 0 (length plan.nodes) i i node ni (omega arith))) (none_left i)
+  all_empty = none_unsent plan (λ i inside. none_left i)

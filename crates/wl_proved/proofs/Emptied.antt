@@ -3,7 +3,6 @@ use Rattle.std.proofs.Common.{◌≡◌, ◌∙◌, refl, sym, ap, subst, inl, i
 use Rattle.std.specs.Prelude.{count_by, slice_get}
 use Rattle.std.proofs.lemmas.Bool.{cases_lt}
 use Rattle.std.proofs.lemmas.List.{length-drop, length-map}
-use Rattle.std.proofs.lemmas.List.FromFn.{get_or-map-range_with_len, length-map-range_with_len}
 use Rattle.std.proofs.lemmas.Option.{slice_get-get_or, slice_get_within, get_or_from_slice_get}
 use Rattle.std.proofs.lemmas.Option.{slice_get-map}
 use Rattle.std.proofs.Math.Nat.{mul-le-mul_right}
@@ -18,7 +17,7 @@ use Rattle.wl_plan.specs.Simulation.{AreInside, ran}
 use Rattle.wl_plan.specs.SimulationLaws.{SimulationLaws}
 use Rattle.wl_plan.specs.Sound.{IsCausal}
 use Rattle.wl_phase.specs.Clocks.{steady_tick}
-use Rattle.wl_serial.specs.Outcome.{history_at_end, node_outcome_of, outcome_of}
+use Rattle.wl_serial.specs.Outcome.{history_at_end, outcome_of}
 use Rattle.wl_any_senders.specs.Expected.{expected_bits, expected_sample}
 use Rattle.wl_any_senders.specs.Machines.{bus_levels}
 use Rattle.wl_any_senders.specs.Course.{bus_bit}
@@ -34,6 +33,7 @@ use Rattle.wl_clean.specs.PlanFrames.{EmptyAllQueues}
 use Rattle.wl_level.specs.Levels.{level_of}
 use Rattle.wl_proved.specs.LateEnds.{EndsLate, frames_below}
 use Rattle.wl_proved.proofs.Counting.{few_frames, passed_long, sent_is_won}
+use Rattle.wl_proved.proofs.Ends.{none_unsent}
 use Rattle.wl_proved.proofs.Lasting as lasting
 use Rattle.wl_proved.proofs.Queues.{no_frame}
 use Rattle.wl_proved.proofs.Starting.{place_low}
@@ -147,10 +147,6 @@ module _ (laws : SimulationLaws) (plan : Plan) (s : Stations) (of : IsPlanOf pla
         ap (count_by is_sent) (same ∙ x.2) ∙ sent_is_won s all.bus.frames all.bus.by.winner all.bus.by.content i x.0 ∙ ap (won_by all.bus.by.winner i) whole ∙ emptied i inside
 
   pub all_empty : All (λ node. node.unsent ≡ 0) (outcome_of plan).nodes
-  all_empty i node less =
-      let long = length-map-range_with_len (node_outcome_of plan) 0 (length plan.nodes) in
-      let ni : i < length plan.nodes = omega arith in
-      let sent = none_left i ni in
-      let left = length-drop (count_by is_sent (history_at_end plan i).frames) (setup_at plan i).queue in
-      let own : (node_outcome_of plan i).unsent ≡ 0 = omega arith in
-      subst (λ x. x.unsent ≡ 0) (sym (get_or-map-range_with_len (node_outcome_of plan) 0 (length plan.nodes) i i node ni (omega arith))) own
+  all_empty =
+      none_unsent plan
+      (λ i ni. (let sent = none_left i ni in let left = length-drop (count_by is_sent (history_at_end plan i).frames) (setup_at plan i).queue in omega arith))

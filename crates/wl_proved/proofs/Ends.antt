@@ -26,6 +26,13 @@ pub record IsCleanAt (plan : Plan) (bus : List (ℕ × Content)) (i : ℕ) (h : 
   pub passed : (later : List (Bool × Content)) × (map as_passing h.frames ++ later ≡ map (passing_of i) bus)
   pub few : count_by is_sent h.frames ≤ length (setup_at plan i).queue
 
+-- no node has a frame left
+pub none_unsent : (plan : Plan) → ((i : ℕ) → i < length plan.nodes → (node_outcome_of plan i).unsent ≡ 0) → All (λ node. node.unsent ≡ 0) (outcome_of plan).nodes
+none_unsent plan none i node less =
+    let long = length-map-range_with_len (node_outcome_of plan) 0 (length plan.nodes) in
+    let ni : i < length plan.nodes = omega arith in
+    subst (λ x. x.unsent ≡ 0) (sym (get_or-map-range_with_len (node_outcome_of plan) 0 (length plan.nodes) i i node ni (omega arith))) (none i ni)
+
 -- what a report asks of each node
 abbrev IsFaultless : NodeTotals → Type 0
 IsFaultless n = (n.errors ≡ 0) × (n.unsent ≡ 0)

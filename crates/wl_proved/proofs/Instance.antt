@@ -1,23 +1,19 @@
 -- A plan that meets all that is asked: the worked one.
-use Rattle.std.proofs.Common.{◌≡◌, ◌∙◌, refl, sym, ap, subst, ℕ, zero, suc, ◌+◌, ◌-◌, ◌*◌, ◌/◌, ◌<◌, ◌≤◌, List, [], ◌∷◌, All, get_or, length, true, None, arith}
+use Rattle.std.proofs.Common.{◌≡◌, ◌∙◌, refl, sym, ap, ℕ, zero, suc, ◌+◌, ◌-◌, ◌*◌, ◌/◌, ◌<◌, ◌≤◌, List, [], ◌∷◌, All, length, true, None, arith}
 use Rattle.wl_level.specs.declared.Level.{Level}
-use Rattle.wl_clock.specs.declared.Rate.{Rate}
 use Rattle.wl_clock.specs.Timing.{IsRate, IsTiming, tick_of}
 use Rattle.wl_segments.specs.Lengths.{AreLengths, bit_quanta}
 use Rattle.wl_topology.specs.Delays.{AcceptedWhereKept, delay_of}
 use Rattle.wl_frame.specs.Grammar.{Content, IsContent, bits_of}
 use Rattle.wl_frame.specs.Stuffing.{Stuffs}
-use Rattle.wl_node.specs.declared.setup.NodeSetup.{NodeSetup}
-use Rattle.wl_node.specs.declared.setup.Queued.{Queued}
-use Rattle.wl_plan.specs.declared.plan.Plan.{Plan}
 use Rattle.wl_plan.specs.Checked.{FaultlessIsChecked, fault_within}
 use Rattle.wl_plan.specs.Limits.{most_quanta, most_queued, most_short_quanta}
-use Rattle.wl_plan.specs.PlanLine.{no_setup, setup_at}
+use Rattle.wl_plan.specs.PlanLine.{setup_at}
 use Rattle.wl_bound.specs.Families.{member_at}
 use Rattle.wl_bound.specs.Verdicts.{has_frames}
 use Rattle.wl_proved.specs.LateEnds.{EndsLate, most_stuffed_bits}
 use Rattle.wl_proved.specs.PlansOfFamily.{IsPlanOfFamily, IsRunnable}
-use Rattle.wl_proved.proofs.Rows.{cyclic, family, frame, has_no_cause, in_pace, is_law_plan, lengths, node, rate}
+use Rattle.wl_proved.proofs.Rows.{cyclic, family, frame, has_no_cause, in_pace, is_law_plan, lengths, rate}
 
 -- of three, each
 three : {A : Type 0} (P : A → Type 0) (a b c : A) → P a → P b → P c → All P (a ∷ b ∷ c ∷ [])
