@@ -21,7 +21,8 @@ pub fn margin_run<R: Source, W: Sink>(
     reader: &mut R,
     writer: &mut W,
 ) -> Result<(), RunFault>
-    ensures { RunsBus R.gives W.takes (IsMarginOutput tick all_send) reader.old reader.new writer.old writer.new result }
+    ensures { RunsBus R.gives W.takes (IsMarginOutput tick all_send)
+        reader.old reader.new writer.old writer.new result }
 {
     let bus = read_bus(alloc, reader)?;
     let text = if all_send {

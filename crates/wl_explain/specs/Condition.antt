@@ -1,5 +1,5 @@
 -- What is doubtful of clocks, ways and cables together: the condition for a sound bus, for each pair of nodes (this project's profile).
-use Rattle.std.specs.Prelude.{◌≡◌, ℕ, ◌+◌, ◌-◌, ◌*◌, ◌/◌, ◌||◌, nat_lt, Bool, List, [], ◌∷◌, ◌++◌, codes, length, if◌then◌else◌, Option, Some, None, option_map}
+use Rattle.std.specs.Prelude.{◌≡◌, ℕ, ◌+◌, ◌-◌, ◌*◌, ◌/◌, ◌||◌, nat_lt, Bool, true, false, List, [], ◌∷◌, ◌++◌, codes, length, if◌then◌else◌, Option, Some, None, option_map}
 use Rattle.std.specs.Fmt.{decimal}
 use Rattle.wl_level.specs.Places.{first_place}
 use Rattle.wl_clock.specs.Timing.{Timing}
@@ -121,8 +121,13 @@ timing_line plan names i = timing_figures plan names i ++ codes "\n"
 abbrev pub timing_lines : Plan → List (List ℕ) → List ℕ
 timing_lines plan names = each_below (timing_line plan names) (length plan.nodes)
 
+-- A lone node is no bus: nothing is said of a longer cable and wider tolerances.
+abbrev pub TellsHeadroomOf : (lone : Bool) → Buses → List ℕ → List ℕ → Type 0
+TellsHeadroomOf true f old new = new ≡ old
+TellsHeadroomOf false f old new = TellsHeadroom f old new
+
 abbrev pub TellsFigures : Plan → List (List ℕ) → Option ℕ → Option Buses → List ℕ → List ℕ → Type 0
-TellsFigures plan names None (Some f) old new = TellsHeadroom f (old ++ timing_lines plan names) new
+TellsFigures plan names None (Some f) old new = TellsHeadroomOf (nat_lt (length plan.nodes) 2) f (old ++ timing_lines plan names) new
 TellsFigures plan names None None old new = new ≡ old ++ timing_lines plan names
 TellsFigures plan names (Some i) family old new = new ≡ old ++ each_below (figures_line plan names) (length plan.nodes)
 

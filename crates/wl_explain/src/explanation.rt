@@ -124,7 +124,12 @@ fn push_figures_of(
     }
     push_timing_lines(text, plan, names)?;
     match family {
-        Some(family) => push_headroom(text, family),
+        Some(family) => {
+            if plan.nodes() < 2 {
+                return Ok(());
+            }
+            push_headroom(text, family)
+        }
         None => Ok(()),
     }
 }
@@ -154,10 +159,11 @@ fn family_in(alloc: Global, bus: &Bus) -> Result<Option<Family>, AllocError>
 /// Then come, for each node: a jump width above PHASE_SEG2; its first frame that becomes ready at the end or later; its first that becomes
 /// ready before all nodes have counted 11 bits. Last comes, for each node, an end that leaves no room for its frames.
 ///
-/// The figures of a node are bit rate in kbit/s, sample point in per cent and quantum in nanoseconds. By the book two lines follow: how
-/// much longer the cable and how much wider every tolerance may be. Else each node has its tolerance in parts per million, and how much of
-/// it the other clocks leave to both nodes of a pair. It also has the longest cable, in nanoseconds along it and in metres at 5 ns each. A
-/// quantum is the mean of those that the node runs before the end. A tick is taken for a nanosecond. Refused out of memory alone.
+/// The figures of a node are bit rate in kbit/s, sample point in per cent and quantum in nanoseconds. By the book two lines follow, unless
+/// there is one node alone: how much longer the cable and how much wider every tolerance may be. Without the book each node has its
+/// tolerance in parts per million, and how much of it the other clocks leave to both nodes of a pair. It also has the longest cable, in
+/// nanoseconds along it and in metres at 5 ns each. A quantum is the mean of those that the node runs before the end. A tick is taken for a
+/// nanosecond. Refused out of memory alone.
 pub fn explain_plan(alloc: Global, bus: &Bus) -> Result<String, AllocError>
     requires deviations { length bus.now.deviations ≡ length bus.now.plan.nodes }
     ensures { IfOk result (λ text. IsExplanation bus.now (string_bytes text)) }
