@@ -1,12 +1,25 @@
 //! The margin of a bus.
+ghost use Rattle.std.specs.Prelude.{◌≡◌, IfOk, length, string_bytes};
 ghost use Rattle.wl_engines.specs.Margin.{IsMarginOutput, RunsBus};
 
 use crate::fault::RunFault;
-use std::alloc::Global;
+use std::alloc::{AllocError, Global};
 use wl_device::{Sink, Source, write_all};
 use wl_margin::{all_send_text, margin_text};
-use wl_setup::read_bus;
+use wl_setup::{Bus, read_bus};
 use wl_views::Tick;
+
+/// Returns the margin of a bus: of the plan's senders, or, if `all_send`, of all nodes that don't only listen.
+fn text_of_bus(alloc: Global, tick: Tick, all_send: bool, bus: &Bus) -> Result<String, AllocError>
+    requires { length bus.now.deviations ≡ length bus.now.plan.nodes }
+    ensures { IfOk result (λ text. IsMarginOutput tick all_send bus.now (string_bytes text)) }
+{
+    if all_send {
+        all_send_text(alloc, tick.picoseconds(), bus)
+    } else {
+        margin_text(alloc, tick.picoseconds(), bus)
+    }
+}
 
 /// Reads a plan's text, tests whether the plan can be run, and writes the margin of its bus, at all offsets and clocks within their
 /// tolerance. The margin is whether it works, with how much to spare, and how much longer its cable and wider its tolerances may be. A tick
@@ -25,11 +38,7 @@ pub fn margin_run<R: Source, W: Sink>(
         reader.old reader.new writer.old writer.new result }
 {
     let bus = read_bus(alloc, reader)?;
-    let text = if all_send {
-        all_send_text(alloc, tick.picoseconds(), &bus)?
-    } else {
-        margin_text(alloc, tick.picoseconds(), &bus)?
-    };
+    let text = text_of_bus(alloc, tick, all_send, &bus)?;
     write_all(text.as_bytes(), writer)?;
     Ok(())
 }
