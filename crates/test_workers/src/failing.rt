@@ -2,6 +2,7 @@
 ghost use Rattle.std.specs.Prelude.{◌≡◌};
 
 use crate::gates::ANY_TURN;
+use anyhow::{Result, bail};
 use std::alloc::{AllocError, Global};
 use std::sync::Wait;
 use std::sync::atomic::{AtomicU64, Ordering};
@@ -29,6 +30,19 @@ struct Failing<'s> {
 }
 
 impl<'s> Failing<'s> {
+    /// Returns the link of this worker, which fails so at its nth call.
+    fn new(worker: u8, nth: u64, fault: LinkFault, stopped: &'s AtomicU64) -> Failing<'s>
+        ensures { result.worker ≡ worker }
+    {
+        Failing {
+            worker,
+            nth,
+            fault,
+            calls: 0,
+            stopped,
+        }
+    }
+
     /// Counts a call, and fails if it is the one that fails.
     fn call(&mut self) -> Result<(), LinkFault>
         ensures worker { self.new.worker ≡ self.old.worker }
@@ -64,7 +78,7 @@ impl<'s> Link for Failing<'s> {
 
     fn rewind(&mut self) {}
 
-    fn wait(&mut self, _until: u64) -> Option<u8> {
+    fn wait(&mut self) -> Option<u8> {
         u8::try_from(self.stopped.load(Ordering::SeqCst)).ok()
     }
 
@@ -82,35 +96,39 @@ pub fn runs_gone<R: Threads + Wait + Sync>(
 ) -> Result<u64, AllocError> {
     let mut answered = 0u64;
     for before in 0..10u64 {
-        if run_gone(rt, alloc, plan, failing, before + 1)? {
+        let nth = |worker: u8| if worker == failing { before + 1 } else { 0 };
+        let gone = (LinkFault::Gone, LinkFault::Gone);
+        let ended = run_failing(rt, alloc, plan, (nth(0), nth(1)), gone)?;
+        if ended == Some(Fault::Worker(failing)) {
             answered = answered.saturating_add(1);
         }
     }
     Ok(answered)
 }
 
-/// Runs a plan by 2 workers; the link of worker `failing` is gone at its nth call. True if the run's fault names that worker.
-fn run_gone<R: Threads + Wait + Sync>(
-    rt: &R,
-    alloc: Global,
-    plan: &CheckedPlan,
-    failing: u8,
-    nth: u64,
-) -> Result<bool, AllocError> {
-    let nth = |worker: u8| if worker == failing { nth } else { 0 };
-    let faults = (LinkFault::Gone, LinkFault::Gone);
-    let ended = run_failing(rt, alloc, plan, (nth(0), nth(1)), faults)?;
-    Ok(ended == Some(Fault::Worker(failing)))
-}
-
-/// Returns what is answered to 2 workers whose links fail at their first calls by these faults.
+/// Says what is answered to 2 workers whose links fail at their first calls by faults of these numbers.
 pub fn fault_of_two<R: Threads + Wait + Sync>(
     rt: &R,
     alloc: Global,
     plan: &CheckedPlan,
-    faults: (LinkFault, LinkFault),
-) -> Result<Option<Fault>, AllocError> {
-    run_failing(rt, alloc, plan, (1, 1), faults)
+    numbers: (u64, u64),
+) -> Result<String> {
+    let (first, second) = (fault_of(numbers.0), fault_of(numbers.1));
+    match run_failing(rt, alloc, plan, (1, 1), (first, second))? {
+        Some(fault) => {
+            Ok(format!(in alloc; "links that fail by {first} and {second}: fault: {fault}")?)
+        }
+        None => bail!("workers that came to their ends"),
+    }
+}
+
+/// Returns the fault of this number, by their order.
+fn fault_of(number: u64) -> LinkFault {
+    match number {
+        0 => LinkFault::Foreign,
+        1 => LinkFault::Gone,
+        _ => LinkFault::Memory,
+    }
 }
 
 /// Returns the fault of 2 workers whose links fail at these calls by these faults; none if they came to their ends.
@@ -123,22 +141,8 @@ fn run_failing<R: Threads + Wait + Sync>(
 ) -> Result<Option<Fault>, AllocError> {
     let stopped = AtomicU64::new(NONE_STOPPED);
     let mut links = Vec::new(alloc);
-    links.push(Failing {
-        worker: 0,
-        nth: nth.0,
-        fault: faults.0,
-        calls: 0,
-        stopped: &stopped,
-    })?;
-    links.push(Failing {
-        worker: 1,
-        nth: nth.1,
-        fault: faults.1,
-        calls: 0,
-        stopped: &stopped,
-    })?;
-    match simulate_over(rt, alloc, plan.clone_in(alloc)?, links, &ANY_TURN) {
-        Ok(_) => Ok(None),
-        Err(fault) => Ok(Some(fault)),
-    }
+    links.push(Failing::new(0, nth.0, faults.0, &stopped))?;
+    links.push(Failing::new(1, nth.1, faults.1, &stopped))?;
+    let ran = simulate_over(rt, alloc, plan.clone_in(alloc)?, links, &ANY_TURN);
+    Ok(ran.err())
 }

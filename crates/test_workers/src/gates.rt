@@ -20,18 +20,20 @@ impl Gate for OneRefusal {
     }
 }
 
-/// A gate that refuses each worker this turn, and keeps the last turn that it was asked.
+/// A gate that refuses each worker this turn, and keeps the last turn that it was asked. Before two other turns it asks a restart.
 #[derive(Drop)]
 pub struct LastTurn {
     refused: u64,
+    restarted: (u64, u64),
     asked: AtomicU64,
 }
 
 impl LastTurn {
-    /// Returns a gate that was asked no turn.
-    pub fn new(refused: u64) -> LastTurn {
+    /// Returns a gate that was asked no turn; 0 as a turn to restart before is none.
+    pub fn new(refused: u64, restarted: (u64, u64)) -> LastTurn {
         LastTurn {
             refused,
+            restarted,
             asked: AtomicU64::new(0),
         }
     }
@@ -47,35 +49,55 @@ impl Gate for LastTurn {
         self.asked.store(turn, Ordering::SeqCst);
         turn != self.refused
     }
+
+    fn restart(&self, _worker: u8, turn: u64) -> bool {
+        turn > 0 && (turn == self.restarted.0 || turn == self.restarted.1)
+    }
 }
 
-/// A gate that counts turns, and holds one worker before one of its turns for this many polls, and then refuses it; the others sleep by
-/// then.
+/// A gate that holds one worker before one of its turns for this many polls, and then refuses it; the others sleep by then. It counts the
+/// turns of each worker.
 #[derive(Drop)]
 pub struct HeldTurn {
-    pub worker: u8,
-    pub turn: u64,
-    pub polls: u64,
-    pub turns: TurnCounts,
+    worker: u8,
+    turn: u64,
+    polls: u64,
+    turns: Vec<AtomicU64>,
 }
 
 impl HeldTurn {
     /// Returns such a gate, at which no worker had a turn: for this worker, turn and number of polls. Refused only when out of memory.
     pub fn new(alloc: Global, held: (u8, u64, u64)) -> Result<HeldTurn, AllocError> {
         let (worker, turn, polls) = held;
+        let mut turns = Vec::new(alloc);
+        for _ in 0..MOST_WORKERS {
+            turns.push(AtomicU64::new(0))?;
+        }
         Ok(HeldTurn {
             worker,
             turn,
             polls,
-            turns: TurnCounts::new(alloc)?,
+            turns,
         })
+    }
+
+    /// Returns the most turns that a worker had so far.
+    pub fn most(&self) -> u64 {
+        let mut most = 0u64;
+        for count in self.turns.as_slice() {
+            most = most.max(count.load(Ordering::SeqCst));
+        }
+        most
     }
 }
 
 impl Gate for HeldTurn {
     fn turn(&self, worker: u8, turn: u64) -> bool {
+        if let Some(count) = self.turns.get(usize::from(worker)) {
+            count.fetch_add(1, Ordering::SeqCst);
+        }
         if worker != self.worker || turn != self.turn {
-            return self.turns.turn(worker, turn);
+            return true;
         }
         for _ in 0..self.polls {
             thread::yield_now();
@@ -84,63 +106,31 @@ impl Gate for HeldTurn {
     }
 }
 
-/// A gate that counts the turns of each worker.
-#[derive(Drop)]
-pub struct TurnCounts {
-    turns: Vec<AtomicU64>,
-}
-
-impl TurnCounts {
-    /// Returns a gate at which no worker had a turn. Refused only when out of memory.
-    pub fn new(alloc: Global) -> Result<TurnCounts, AllocError> {
-        let mut turns = Vec::new(alloc);
-        for _ in 0..MOST_WORKERS {
-            turns.push(AtomicU64::new(0))?;
-        }
-        Ok(TurnCounts { turns })
-    }
-
-    /// Returns how many turns a worker had so far; 0 for a number above 7.
-    pub fn of(&self, worker: u8) -> u64 {
-        match self.turns.get(usize::from(worker)) {
-            Some(count) => count.load(Ordering::SeqCst),
-            None => 0,
-        }
-    }
-}
-
-impl Gate for TurnCounts {
-    fn turn(&self, worker: u8, _turn: u64) -> bool {
-        if let Some(count) = self.turns.get(usize::from(worker)) {
-            count.fetch_add(1, Ordering::SeqCst);
-        }
-        true
-    }
-}
-
-/// A gate that holds workers 0 and 1 in their first turns, each until the other one is in its first turn too. After this many polls it
+/// A gate that holds workers 0 and 1 in their turns of this number, each until the other one is in its own, too. After this many polls it
 /// refuses the turn.
 #[derive(Drop)]
 pub struct Overlap {
+    turn: u64,
+    polls: u64,
     zero: AtomicU64,
     one: AtomicU64,
-    polls: u64,
 }
 
 impl Overlap {
     /// Returns a gate at which no worker had a turn.
-    pub fn new(polls: u64) -> Overlap {
+    pub fn new(turn: u64, polls: u64) -> Overlap {
         Overlap {
+            turn,
+            polls,
             zero: AtomicU64::new(0),
             one: AtomicU64::new(0),
-            polls,
         }
     }
 }
 
 impl Gate for Overlap {
     fn turn(&self, worker: u8, turn: u64) -> bool {
-        if turn > 0 {
+        if turn != self.turn {
             return true;
         }
         let (own, other) = match worker {

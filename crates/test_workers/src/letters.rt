@@ -1,11 +1,11 @@
 //! What posts answer.
-ghost use Rattle.std.specs.Prelude.{◌≤◌, length};
+ghost use Rattle.std.specs.Prelude.{◌≡◌, ◌≤◌, length};
 
-use crate::handed::{post_emitted, run_on};
 use anyhow::{Result, bail};
-use std::alloc::Global;
+use std::alloc::{AllocError, Global};
+use std::fmt::Write;
 use std::sync::Wait;
-use wl_group::{Group, first_silence};
+use wl_group::{Group, first_silence, value_laws};
 use wl_mail::{Hold, MailFault, Post, posts};
 use wl_plan::CheckedPlan;
 
@@ -15,7 +15,6 @@ pub fn tell_posts<R: Wait>(rt: &R, alloc: Global, plan: &CheckedPlan) -> Result<
         bail!("one node alone");
     }
     let mut told = format!(in alloc; "letters:")?;
-    tell_letters(rt, alloc, plan, &mut told)?;
     tell_gone(rt, alloc, plan, &mut told)?;
     tell_many(rt, alloc, plan, &mut told)?;
     Ok(told)
@@ -33,23 +32,15 @@ struct Office {
 /// Returns the posts of three workers.
 fn open(alloc: Global) -> Result<Office> {
     let (mut all, hold) = posts(alloc, 3)?;
-    let third = last_of(&mut all)?;
-    let second = last_of(&mut all)?;
-    let first = last_of(&mut all)?;
+    let (Some(third), Some(second), Some(first)) = (all.pop(), all.pop(), all.pop()) else {
+        bail!("not three posts");
+    };
     Ok(Office {
         first,
         second,
         third,
         hold,
     })
-}
-
-/// Takes the last of some posts.
-fn last_of(all: &mut Vec<Post>) -> Result<Post> {
-    match all.pop() {
-        Some(post) => Ok(post),
-        None => bail!("no post"),
-    }
 }
 
 /// Sends a letter of node 0's first silence to all other workers.
@@ -62,46 +53,6 @@ fn send_first<R: Wait>(
     requires nodes { 2 ≤ length plan.now.nodes }
 {
     post.send(rt, alloc, plan, &[first_silence(plan, 0)])
-}
-
-/// Writes what one letter is to both other workers: it reaches them; the same once more says nothing new to them, and neither does a letter
-/// of no records.
-fn tell_letters<R: Wait>(rt: &R, alloc: Global, plan: &CheckedPlan, told: &mut String) -> Result<()>
-    requires nodes { 2 ≤ length plan.now.nodes }
-{
-    let mut office = open(alloc)?;
-    let mut group = Group::new(alloc, plan, &[1])?;
-    send_first(rt, alloc, plan, &mut office.first)?;
-    send_first(rt, alloc, plan, &mut office.first)?;
-    send_none(rt, alloc, plan, &mut office.first)?;
-    tell_three(rt, alloc, &mut office.second, &mut group, told)?;
-    tell_three(rt, alloc, &mut office.third, &mut group, told)
-}
-
-/// Sends a letter of no records to all other workers.
-fn send_none<R: Wait>(
-    rt: &R,
-    alloc: Global,
-    plan: &CheckedPlan,
-    post: &mut Post,
-) -> Result<(), MailFault> {
-    post.send(rt, alloc, plan, &[])
-}
-
-/// Restarts a group, and says what three letters of a post are to it.
-fn tell_three<R: Wait>(
-    rt: &R,
-    alloc: Global,
-    post: &mut Post,
-    group: &mut Group,
-    told: &mut String,
-) -> Result<()> {
-    group.restart()?;
-    let first = came(post.receive(rt, alloc, group));
-    let second = came(post.receive(rt, alloc, group));
-    let third = came(post.receive(rt, alloc, group));
-    write!(told, "\nthree letters: {first}, {second}, {third}")?;
-    Ok(())
 }
 
 /// Writes what comes if ends are given up: a hold keeps the receivers, and a letter that was sent still comes.
@@ -117,10 +68,16 @@ fn tell_gone<R: Wait>(rt: &R, alloc: Global, plan: &CheckedPlan, told: &mut Stri
     drop(second);
     let unsent = send_unheld(rt, alloc, plan, first, hold)?;
     write!(told, "\na reader given up: {unsent}")?;
-    tell_last(rt, alloc, plan, third, told)
+    let mut post = third;
+    let mut none = Group::new(alloc, plan, &[])?;
+    for _ in 0..3 {
+        let last = came(post.receive(rt, alloc, &mut none));
+        write!(told, "\nthe writers given up: {last}")?;
+    }
+    Ok(())
 }
 
-/// Sends one letter while its readers are held, and writes what comes of another one once they are not. Then the post is given up.
+/// Sends one letter while its readers are held, and returns what comes of another one once they are not. Then the post is given up.
 fn send_unheld<R: Wait>(
     rt: &R,
     alloc: Global,
@@ -133,24 +90,10 @@ fn send_unheld<R: Wait>(
     let mut post = post;
     send_first(rt, alloc, plan, &mut post)?;
     drop(hold);
-    Ok(sent(send_first(rt, alloc, plan, &mut post)))
-}
-
-/// Writes what a post receives, three times, whose writers were all given up.
-fn tell_last<R: Wait>(
-    rt: &R,
-    alloc: Global,
-    plan: &CheckedPlan,
-    post: Post,
-    told: &mut String,
-) -> Result<()> {
-    let mut post = post;
-    let mut none = Group::new(alloc, plan, &[])?;
-    for _ in 0..3 {
-        let last = came(post.receive(rt, alloc, &mut none));
-        write!(told, "\nthe writers given up: {last}")?;
-    }
-    Ok(())
+    Ok(match send_first(rt, alloc, plan, &mut post) {
+        Ok(()) => "sent",
+        Err(fault) => named(fault),
+    })
 }
 
 /// Writes what a letter of all that node 0 emits says to a group of node 1. If memory is refused meanwhile, the letter comes again.
@@ -160,9 +103,14 @@ fn tell_many<R: Wait>(rt: &R, alloc: Global, plan: &CheckedPlan, told: &mut Stri
     let mut office = open(alloc)?;
     send_all(rt, alloc, plan, &mut office.first)?;
     let mut group = Group::new(alloc, plan, &[1])?;
-    let post = &mut office.second;
-    if tell_coming(rt, alloc, post, &mut group, told)? {
-        tell_coming(rt, alloc, post, &mut group, told)?;
+    for _ in 0..2 {
+        let answer = office.second.receive(rt, alloc, &mut group);
+        let called = came(answer);
+        let known = group.replica().canonical(alloc)?.len();
+        write!(told, "\na letter of many records: {called}, {known} known")?;
+        if answer != Err(MailFault::Memory) {
+            return Ok(());
+        }
     }
     Ok(())
 }
@@ -181,27 +129,47 @@ fn send_all<R: Wait>(
     post_emitted(rt, alloc, &group, post)
 }
 
-/// Hands a group the next letter of a post, and writes what came and how many records the group knows then. True if memory was refused.
-fn tell_coming<R: Wait>(
-    rt: &R,
-    alloc: Global,
-    post: &mut Post,
-    group: &mut Group,
-    told: &mut String,
-) -> Result<bool> {
-    let answer = post.receive(rt, alloc, group);
-    let called = came(answer);
-    let known = group.replica().canonical(alloc)?.len();
-    write!(told, "\na letter of many records: {called}, {known} known")?;
-    Ok(answer == Err(MailFault::Memory))
+/// Advances a group as far as it can.
+fn run_on(alloc: Global, group: &mut Group) -> Result<(), AllocError>
+    ensures { group.new.plan ≡ group.old.plan }
+{
+    value_laws();
+    // (reading a part gives the proof what the type keeps)
+    let _ = group.plan();
+    group.advance_all(alloc)?;
+    Ok(())
 }
 
-/// Returns what it is called that a letter was sent, or was not.
-fn sent(answer: Result<(), MailFault>) -> &'static str {
-    match answer {
-        Ok(()) => "sent",
-        Err(fault) => named(fault),
+/// Sends by a post what a group emitted.
+#[tactic(auto, using(crate::proofs::Handing::emitted_true))]
+fn post_emitted<R: Wait>(
+    rt: &R,
+    alloc: Global,
+    group: &Group,
+    post: &mut Post,
+) -> Result<(), MailFault> {
+    post.send(rt, alloc, group.plan(), group.emitted())
+}
+
+/// Says what a letter of another plan is to a group: the same plan with its end one tick later.
+pub fn tell_foreign<R: Wait>(rt: &R, alloc: Global, plan: &CheckedPlan) -> Result<String> {
+    let mut later = plan.clone_in(alloc)?;
+    later.end = later.end.saturating_add(1);
+    let Ok(later) = CheckedPlan::new(later) else {
+        bail!("the latest end");
+    };
+    if later.nodes() < 2 || plan.nodes() < 2 {
+        bail!("one node alone");
     }
+    let mut office = open(alloc)?;
+    send_all(rt, alloc, &later, &mut office.first)?;
+    let mut group = Group::new(alloc, plan, &[1])?;
+    run_on(alloc, &mut group)?;
+    let known = group.replica().canonical(alloc)?;
+    let foreign = came(office.second.receive(rt, alloc, &mut group)) == named(MailFault::Foreign);
+    let then = group.replica().canonical(alloc)?;
+    let same = known.as_slice() == then.as_slice();
+    Ok(format!(in alloc; "a letter of another plan: foreign {foreign}, group unchanged {same}")?)
 }
 
 /// Returns what it is called that a letter was taken, or was not.

@@ -23,6 +23,21 @@ pub enum When {
     Random(u64),
 }
 
+impl When {
+    /// Returns the same with another seed, of a run of this number.
+    pub fn later(self, number: u64) -> When {
+        match self {
+            When::Random(seed) => When::Random(seed.wrapping_add(number)),
+            other => other,
+        }
+    }
+
+    /// True if no restart is asked.
+    pub fn is_never(self) -> bool {
+        matches!(self, When::Never)
+    }
+}
+
 /// A gate that lets every turn begin, and counts the restarts that it asked.
 #[derive(Drop)]
 pub struct Restarts {

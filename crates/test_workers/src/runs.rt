@@ -1,25 +1,24 @@
 //! Runs of a plan by workers, and what is answered to them.
 
-use crate::by_work::run_by_work;
 use crate::failing::{fault_of_two, runs_gone};
-use crate::gates::{ANY_TURN, HeldTurn, LastTurn, OneRefusal, Overlap, TurnCounts};
-use crate::handed::tell_foreign;
-use crate::letters::tell_posts;
-use crate::links::{run_over, tell_links, tell_silence};
+use crate::gates::{ANY_TURN, HeldTurn, LastTurn, OneRefusal, Overlap};
+use crate::letters::{tell_foreign, tell_posts};
+use crate::links::{Who, run_over, tell_links};
 use crate::restarts::{Restarts, When};
 use crate::silent::{Silent, silent_links};
-use crate::steps::{Kind, Runner, Step, by};
-use crate::watched::Counts;
+use crate::steps::Step;
 use anyhow::{Result, bail};
 use std::alloc::{AllocError, Global};
 use std::fmt;
 use std::fmt::{Display, Formatter, Write};
 use std::sync::Wait;
+use std::sync::atomic::{AtomicU64, Ordering};
 use std::thread::Threads;
 use wl_group::Group;
 use wl_plan::CheckedPlan;
+use wl_record_core::Record;
 use wl_report::report;
-use wl_serial::{Outcome, Totals};
+use wl_serial::Outcome;
 use wl_worker::{Fault, Gate, LinkKind, simulate, simulate_by, simulate_over, work};
 
 /// The most turns of a worker that waits for another one which had a few.
@@ -32,7 +31,7 @@ enum End {
     AsOneThread,
     /// Another outcome.
     Differs,
-    /// A worker had fewer turns, or restarts, than were wanted.
+    /// A worker had no such turns as those before which it was to restart.
     FewTurns,
     /// A worker that had nothing to do had more turns than it may.
     ManyTurns,
@@ -52,22 +51,19 @@ impl Display for End {
     }
 }
 
-/// Returns the end of a run by this outcome or fault; `alone` is the report of the one-thread simulation.
-fn end_of(alloc: Global, alone: &[u8], ran: Result<Outcome, Fault>) -> Result<End, AllocError> {
-    match ran {
-        Ok(outcome) => end_of_totals(alloc, alone, Ok(outcome.totals(alloc)?)),
-        Err(fault) => Ok(End::Fault(fault)),
-    }
+/// The plan of a block, and the report of its one-thread simulation.
+#[derive(Clone, Copy)]
+pub struct Bus<'b> {
+    pub plan: &'b CheckedPlan,
+    pub alone: &'b [u8],
 }
 
-/// Returns the end of a run by what a report says of it, or its fault.
-fn end_of_totals(
-    alloc: Global,
-    alone: &[u8],
-    ran: Result<Totals, Fault>,
-) -> Result<End, AllocError> {
+/// Returns the end of a run by its outcome or fault.
+fn end_of(alloc: Global, bus: Bus<'_>, ran: Result<Outcome, Fault>) -> Result<End, AllocError> {
     match ran {
-        Ok(totals) if report(alloc, &totals)?.as_slice() == alone => Ok(End::AsOneThread),
+        Ok(outcome) if report(alloc, &outcome.totals(alloc)?)?.as_slice() == bus.alone => {
+            Ok(End::AsOneThread)
+        }
         Ok(_) => Ok(End::Differs),
         Err(fault) => Ok(End::Fault(fault)),
     }
@@ -77,264 +73,224 @@ fn end_of_totals(
 fn run_by<R: Threads + Wait + Sync, G: Gate + Sync>(
     rt: &R,
     alloc: Global,
-    plan: &CheckedPlan,
-    alone: &[u8],
+    bus: Bus<'_>,
     workers: u8,
     link: LinkKind,
     gate: &G,
 ) -> Result<End, AllocError> {
+    let plan = bus.plan.clone_in(alloc)?;
     let ran = match link {
-        LinkKind::Hub => simulate(rt, alloc, plan.clone_in(alloc)?, workers, gate),
+        LinkKind::Hub => simulate(rt, alloc, plan, workers, gate),
         LinkKind::Mail => simulate_by(rt, alloc, plan, workers, link, gate),
     };
-    end_of(alloc, alone, ran)
+    end_of(alloc, bus, ran)
 }
 
 /// Does the same by threads of the library, or by those of this program.
 fn run_as<R: Threads + Wait + Sync, G: Gate + Sync>(
     rt: &R,
     alloc: Global,
-    plan: &CheckedPlan,
-    alone: &[u8],
+    bus: Bus<'_>,
     workers: u8,
     link: LinkKind,
     gate: &G,
-    who: Runner,
+    who: Who,
 ) -> Result<End, AllocError> {
     match who {
-        Runner::Library => run_by(rt, alloc, plan, alone, workers, link, gate),
-        Runner::Caller => {
-            let ran = run_by_work(rt, alloc, plan, workers, link, gate);
-            end_of_totals(alloc, alone, ran)
+        Who::Library => run_by(rt, alloc, bus, workers, link, gate),
+        Who::Caller => {
+            let ran = run_over(rt, alloc, bus.plan, workers, link, gate, who);
+            end_of(alloc, bus, ran)
         }
     }
 }
 
-/// Runs a plan by this many workers.
-fn run<R: Threads + Wait + Sync>(
-    rt: &R,
-    alloc: Global,
-    plan: &CheckedPlan,
-    alone: &[u8],
-    workers: u8,
-    link: LinkKind,
-    kind: Kind,
-) -> Result<End> {
-    Ok(match kind {
-        Kind::Free => run_by(rt, alloc, plan, alone, workers, link, &ANY_TURN)?,
-        Kind::Stop(worker, turn) => {
-            let gate = OneRefusal {
-                refused: Some((worker, turn)),
-            };
-            run_by(rt, alloc, plan, alone, workers, link, &gate)?
-        }
-        Kind::Restart(worker, first, second) => {
-            let turns = (worker, first, second);
-            run_restarted(rt, alloc, plan, alone, workers, link, turns)?
-        }
-        Kind::Held(worker, turn, polls) => {
-            let held = (worker, turn, polls);
-            run_held(rt, alloc, plan, alone, workers, link, held, Runner::Library)?
-        }
-        Kind::WorkHeld(worker, turn, polls) => {
-            let held = (worker, turn, polls);
-            run_held(rt, alloc, plan, alone, workers, link, held, Runner::Caller)?
-        }
-        Kind::Turns(least, most) => {
-            let gate = TurnCounts::new(alloc)?;
-            let end = run_by(rt, alloc, plan, alone, workers, link, &gate)?;
-            turned(&gate, workers, least, most, end)
-        }
-        Kind::Overlap(polls) => {
-            run_by(rt, alloc, plan, alone, workers, link, &Overlap::new(polls))?
-        }
-        Kind::Over => {
-            let gate = TurnCounts::new(alloc)?;
-            let ran = run_over(rt, alloc, plan, workers, link, &gate, &Counts::new());
-            end_of(alloc, alone, ran)?
-        }
-        Kind::Silent(turn) => {
-            let links = silent_links(alloc, workers)?;
-            let gate = LastTurn::new(turn);
-            let ran = simulate_over(rt, alloc, plan.clone_in(alloc)?, links, &gate);
-            end_of(alloc, alone, ran)?
-        }
-    })
+/// Returns a number of workers or nodes; 255 for more.
+fn small(number: u64) -> u8 {
+    u8::try_from(number).unwrap_or(u8::MAX)
 }
 
-/// Returns the end of a run if each worker had at least `least` turns, and at most `most`.
-fn turned(gate: &TurnCounts, workers: u8, least: u64, most: u64, end: End) -> End {
-    if (0..workers).any(|worker| gate.of(worker) < least) {
-        return End::FewTurns;
-    }
-    if (0..workers).any(|worker| gate.of(worker) > most) {
-        return End::ManyTurns;
-    }
-    end
-}
-
-/// Runs a plan by this many workers; one of them restarts before two turns.
-fn run_restarted<R: Threads + Wait + Sync>(
-    rt: &R,
-    alloc: Global,
-    plan: &CheckedPlan,
-    alone: &[u8],
-    workers: u8,
-    link: LinkKind,
-    turns: (u8, u64, u64),
-) -> Result<End, AllocError> {
-    let (worker, first, second) = turns;
-    let gate = Restarts::new(When::Twice(worker, first, second));
-    let counts = Counts::new();
-    let ran = run_over(rt, alloc, plan, workers, link, &gate, &counts);
-    let end = end_of(alloc, alone, ran)?;
-    if gate.asked() == 2 && counts.restarts() == 2 {
-        return Ok(end);
-    }
-    Ok(End::FewTurns)
-}
-
-/// Runs a plan by this many workers; one of them is held before one of its turns and then refused it. The others have few turns.
-fn run_held<R: Threads + Wait + Sync>(
-    rt: &R,
-    alloc: Global,
-    plan: &CheckedPlan,
-    alone: &[u8],
-    workers: u8,
-    link: LinkKind,
-    held: (u8, u64, u64),
-    who: Runner,
-) -> Result<End, AllocError> {
-    let gate = HeldTurn::new(alloc, held)?;
-    let end = run_as(rt, alloc, plan, alone, workers, link, &gate, who)?;
-    Ok(waited(&gate, workers, end))
-}
-
-/// Returns the end of a run if each worker that wasn't held had few turns.
-fn waited(gate: &HeldTurn, workers: u8, end: End) -> End {
-    if (0..workers).all(|one| gate.turns.of(one) <= MOST_WAITING) {
-        return end;
-    }
-    End::ManyTurns
-}
-
-/// Returns what is answered to a step; `alone` is the report of the one-thread simulation.
+/// Returns what is answered to a step.
 pub fn answer<R: Threads + Wait + Sync>(
     rt: &R,
     alloc: Global,
-    plan: &CheckedPlan,
-    alone: &[u8],
-    step: Step,
+    bus: Bus<'_>,
+    step: Step<'_>,
 ) -> Result<String> {
-    match step {
-        Step::Run(workers, link, kind) => {
-            let end = run(rt, alloc, plan, alone, workers, link, kind)?;
-            let named = by(link);
-            Ok(format!(in alloc; "{workers} workers{named}{kind}: {end}")?)
+    let [a, b, c, _] = step.numbers;
+    let (plan, by) = (bus.plan, step.by());
+    match step.word {
+        "again" => again(rt, alloc, bus, step, "", When::Never, Who::Library),
+        "random" => again(
+            rt,
+            alloc,
+            bus,
+            step,
+            " with restarts",
+            When::Random(c),
+            Who::Library,
+        ),
+        "work" if c == 0 => again(rt, alloc, bus, step, " by work", When::Never, Who::Caller),
+        "work" => {
+            let when = When::Random(c);
+            again(
+                rt,
+                alloc,
+                bus,
+                step,
+                " by work with restarts",
+                when,
+                Who::Caller,
+            )
         }
-        Step::Again(workers, link, runs, seed, who) => {
-            let same = runs_as_one(rt, alloc, plan, alone, workers, link, (runs, seed), who)?;
-            let (named, restarts) = (by(link), if seed.is_some() { " with restarts" } else { "" });
-            let by_work = if who == Runner::Caller {
-                " by work"
-            } else {
-                ""
+        "links" => {
+            let (node, count) = (small(a), u32::try_from(b).unwrap_or(u32::MAX));
+            let entry = Record::Silence {
+                node,
+                count,
+                until: c,
             };
-            Ok(format!(in alloc; "{same} of {runs} runs{by_work}{restarts}{named}: as one thread")?)
+            let said = tell_links(rt, alloc, plan, step.link, entry)?;
+            Ok(format!(in alloc; "links{by}: {said}")?)
         }
-        Step::Count(workers, link) => counts(rt, alloc, plan, alone, workers, link),
-        Step::Links(link, node, count, until) => {
-            let said = tell_silence(rt, alloc, plan, link, (node, count, until))?;
-            let named = by(link);
-            Ok(format!(in alloc; "links{named}: {said}")?)
+        "alone" => tell_alone(rt, alloc, plan, a),
+        "gone" => {
+            let stopped = runs_gone(rt, alloc, plan, small(a))?;
+            Ok(format!(in alloc; "{stopped} of 10 runs: fault: Worker({a})")?)
         }
-        Step::Handed(link) => {
-            let said = tell_links(rt, alloc, plan, link, None)?;
-            let named = by(link);
-            Ok(format!(in alloc; "handed{named}: {said}")?)
-        }
-        Step::Alone(turn) => {
-            let (fault, asked) = work_alone(rt, alloc, plan, turn)?;
-            Ok(format!(in alloc; "node 0 alone over a silent link: {fault} in turn {asked}")?)
-        }
-        Step::Gone(worker) => {
-            let stopped = runs_gone(rt, alloc, plan, worker)?;
-            Ok(format!(in alloc; "{stopped} of 10 runs: fault: Worker({worker})")?)
-        }
-        Step::Faults(first, second) => {
-            let fault = match fault_of_two(rt, alloc, plan, (first, second))? {
-                Some(fault) => End::Fault(fault),
-                None => End::AsOneThread,
-            };
-            Ok(format!(in alloc; "links that fail by {first} and {second}: {fault}")?)
-        }
-        Step::Letters => tell_posts(rt, alloc, plan),
-        Step::Foreign => tell_foreign(rt, alloc, plan),
+        "faults" => fault_of_two(rt, alloc, plan, (a, b)),
+        "letters" => tell_posts(rt, alloc, plan),
+        "foreign" => tell_foreign(rt, alloc, plan),
+        _ => one_run(rt, alloc, bus, step),
     }
 }
 
-/// Returns how many of this many runs, one after another, have the outcome of one thread. With a seed each has to have restarts too.
-fn runs_as_one<R: Threads + Wait + Sync>(
+/// Returns what is answered to a step that asks for one run.
+fn one_run<R: Threads + Wait + Sync>(
     rt: &R,
     alloc: Global,
-    plan: &CheckedPlan,
-    alone: &[u8],
-    workers: u8,
-    link: LinkKind,
-    asked: (u32, Option<u64>),
-    who: Runner,
-) -> Result<u32, AllocError> {
-    let (runs, seed) = asked;
-    let mut same = 0u32;
+    bus: Bus<'_>,
+    step: Step<'_>,
+) -> Result<String> {
+    let [a, b, c, d] = step.numbers;
+    let link = step.link;
+    let (workers, end) = match step.word {
+        "workers" => (a, run_by(rt, alloc, bus, small(a), link, &ANY_TURN)?),
+        "stop" => {
+            let gate = OneRefusal {
+                refused: Some((small(a), b)),
+            };
+            (c, run_by(rt, alloc, bus, small(c), link, &gate)?)
+        }
+        "hold" => (d, run_held(rt, alloc, bus, step, Who::Library)?),
+        "work-hold" => (d, run_held(rt, alloc, bus, step, Who::Caller)?),
+        "restart" => {
+            let gate = Restarts::new(When::Twice(small(a), b, c));
+            let end = run_by(rt, alloc, bus, small(d), link, &gate)?;
+            (
+                d,
+                if gate.asked() == 2 {
+                    end
+                } else {
+                    End::FewTurns
+                },
+            )
+        }
+        "overlap" => (
+            a,
+            run_by(rt, alloc, bus, small(a), link, &Overlap::new(c, b))?,
+        ),
+        "over" => {
+            let ran = run_over(rt, alloc, bus.plan, small(a), link, &ANY_TURN, Who::Library);
+            (a, end_of(alloc, bus, ran)?)
+        }
+        "silent" => {
+            let restarts = AtomicU64::new(0);
+            let links = silent_links(alloc, small(a), &restarts)?;
+            let plan = bus.plan.clone_in(alloc)?;
+            let ran = simulate_over(rt, alloc, plan, links, &LastTurn::new(b, (0, 0)));
+            (a, end_of(alloc, bus, ran)?)
+        }
+        _ => bail!("a line that is no step"),
+    };
+    let (by, what) = (step.by(), what_of(alloc, step)?);
+    Ok(format!(in alloc; "{workers} workers{by}{what}: {end}")?)
+}
+
+/// Returns what the answer to a step says of its run beside the number of workers and their links.
+fn what_of(alloc: Global, step: Step<'_>) -> Result<String> {
+    let [worker, _, turn, _] = step.numbers;
+    Ok(match step.word {
+        "stop" => format!(in alloc; ", a turn refused")?,
+        "hold" => format!(in alloc; ", worker {worker} held and refused")?,
+        "work-hold" => format!(in alloc; " by work, worker {worker} held and refused")?,
+        "restart" => format!(in alloc; ", worker {worker} restarted twice")?,
+        "overlap" if turn == 0 => format!(in alloc; ", first turns at once")?,
+        "overlap" => format!(in alloc; ", turns {turn} at once")?,
+        "over" => format!(in alloc; " over links made here")?,
+        "silent" => format!(in alloc; " over silent links")?,
+        _ => String::new(alloc),
+    })
+}
+
+/// Runs a plan by workers of whom one is held before one of its turns and then refused it. The others have few turns.
+fn run_held<R: Threads + Wait + Sync>(
+    rt: &R,
+    alloc: Global,
+    bus: Bus<'_>,
+    step: Step<'_>,
+    who: Who,
+) -> Result<End, AllocError> {
+    let [worker, turn, polls, workers] = step.numbers;
+    let gate = HeldTurn::new(alloc, (small(worker), turn, polls))?;
+    let end = run_as(rt, alloc, bus, small(workers), step.link, &gate, who)?;
+    Ok(if gate.most() > MOST_WAITING {
+        End::ManyTurns
+    } else {
+        end
+    })
+}
+
+/// Returns how many runs of a step, one after another, have the outcome of one thread. If workers are to restart, each run has to have
+/// restarts, too.
+fn again<R: Threads + Wait + Sync>(
+    rt: &R,
+    alloc: Global,
+    bus: Bus<'_>,
+    step: Step<'_>,
+    what: &str,
+    when: When,
+    who: Who,
+) -> Result<String> {
+    let [workers, runs, ..] = step.numbers;
+    let mut same = 0u64;
     for number in 0..runs {
-        let gate = Restarts::new(match seed {
-            Some(seed) => When::Random(seed.wrapping_add(u64::from(number))),
-            None => When::Never,
-        });
-        let end = run_as(rt, alloc, plan, alone, workers, link, &gate, who)?;
-        if end == End::AsOneThread && (seed.is_none() || gate.asked() > 0) {
+        let gate = Restarts::new(when.later(number));
+        let end = run_as(rt, alloc, bus, small(workers), step.link, &gate, who)?;
+        if end == End::AsOneThread && (when.is_never() || gate.asked() > 0) {
             same = same.saturating_add(1);
         }
     }
-    Ok(same)
-}
-
-/// Runs a plan over links that are watched, and returns the turns of each worker, and what all did together.
-fn counts<R: Threads + Wait + Sync>(
-    rt: &R,
-    alloc: Global,
-    plan: &CheckedPlan,
-    alone: &[u8],
-    workers: u8,
-    link: LinkKind,
-) -> Result<String> {
-    let gate = TurnCounts::new(alloc)?;
-    let counts = Counts::new();
-    let ran = run_over(rt, alloc, plan, workers, link, &gate, &counts);
-    let end = end_of(alloc, alone, ran)?;
-    let mut said = String::new(alloc);
-    let named = by(link);
-    write!(said, "{workers} workers{named}: turns")?;
-    for worker in 0..workers {
-        let turns = gate.of(worker);
-        write!(said, " {turns}")?;
-    }
-    write!(said, ", {counts}: {end}")?;
-    Ok(said)
+    let by = step.by();
+    Ok(format!(in alloc; "{same} of {runs} runs{what}{by}: as one thread")?)
 }
 
 /// Returns the fault of a worker of node 0 over a link that brings nothing, which is refused this turn, and the last turn that it asked
-/// for.
-fn work_alone<R: Wait>(
-    rt: &R,
-    alloc: Global,
-    plan: &CheckedPlan,
-    turn: u64,
-) -> Result<(Fault, u64)> {
+/// for. It restarts before its turns 1 and 5, and the answer has how often its link was rewound and something given next.
+fn tell_alone<R: Wait>(rt: &R, alloc: Global, plan: &CheckedPlan, turn: u64) -> Result<String> {
     let group = Group::new(alloc, plan, &[0])?;
-    let gate = LastTurn::new(turn);
-    match work(rt, alloc, group, Silent { worker: 0 }, &gate) {
-        Ok(_) => bail!("a worker that came to its end"),
-        Err(fault) => Ok((fault, gate.asked())),
-    }
+    let gate = LastTurn::new(turn, (1, 5));
+    let restarts = AtomicU64::new(0);
+    let link = Silent {
+        worker: 0,
+        restarts: &restarts,
+        is_rewound: false,
+    };
+    let Err(fault) = work(rt, alloc, group, link, &gate) else {
+        bail!("a worker that came to its end");
+    };
+    let (asked, restarts) = (gate.asked(), restarts.load(Ordering::SeqCst));
+    Ok(format!(in alloc;
+        "node 0 alone over a silent link: {fault} in turn {asked}, {restarts} restarts"
+    )?)
 }

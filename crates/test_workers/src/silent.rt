@@ -3,17 +3,22 @@ ghost use Rattle.std.specs.Prelude.{IfOk};
 ghost use Rattle.wl_worker.specs.PlanName.{AreNumbered};
 
 use std::alloc::{AllocError, Global};
+use std::sync::atomic::{AtomicU64, Ordering};
 use wl_group::Group;
 use wl_record_core::Record;
 use wl_worker::{Link, LinkFault, nothing_is_taken};
 
-/// A link that keeps what is given to itself, brings nothing and waits for nobody.
+/// A link that keeps what is given to itself, brings nothing and waits for nobody. It counts how often it is rewound and something given by
+/// it next.
 #[derive(Drop)]
-pub struct Silent {
+pub struct Silent<'c> {
     pub worker: u8,
+    pub restarts: &'c AtomicU64,
+    // Whether its last call was a rewind.
+    pub is_rewound: bool,
 }
 
-impl Link for Silent {
+impl<'c> Link for Silent<'c> {
     ghost use Rattle.std.specs.Prelude.{⊤};
 
     ghost is_of = { λ link plan. ⊤ };
@@ -25,17 +30,24 @@ impl Link for Silent {
     }
 
     fn give(&mut self, _alloc: Global, _records: &[Record]) -> Result<(), LinkFault> {
+        if self.is_rewound {
+            self.restarts.fetch_add(1, Ordering::SeqCst);
+        }
+        self.is_rewound = false;
         Ok(())
     }
 
     fn fetch(&mut self, _alloc: Global, _group: &mut Group) -> Result<bool, LinkFault> {
         nothing_is_taken();
+        self.is_rewound = false;
         Ok(false)
     }
 
-    fn rewind(&mut self) {}
+    fn rewind(&mut self) {
+        self.is_rewound = true;
+    }
 
-    fn wait(&mut self, _until: u64) -> Option<u8> {
+    fn wait(&mut self) -> Option<u8> {
         None
     }
 
@@ -43,12 +55,20 @@ impl Link for Silent {
 }
 
 /// Returns such a link for each of this many workers.
-pub fn silent_links(alloc: Global, workers: u8) -> Result<Vec<Silent>, AllocError>
+pub fn silent_links<'c>(
+    alloc: Global,
+    workers: u8,
+    restarts: &'c AtomicU64,
+) -> Result<Vec<Silent<'c>>, AllocError>
     ensures { IfOk result (λ links. AreNumbered (λ link. link.worker) links.items) }
 {
     let mut links = Vec::new(alloc);
     for worker in 0..workers {
-        links.push(Silent { worker })?;
+        links.push(Silent {
+            worker,
+            restarts,
+            is_rewound: false,
+        })?;
     }
     Ok(links)
 }
