@@ -8,9 +8,10 @@ usage: test.py PROGRAM
 - what README.md and pages of docs/ show below a command (.ci/shown.py)
 - random inputs beside the independent programs (check/compare.py)
 
-It takes at most five minutes on two processors with an optimised program. A build without proof takes some 600 times as long as the proved program, so it
-gets fewer inputs, and not the example whose explanation alone takes it a minute. There is a line for each part that has ended, with what differs, and a
-last line 'N passed, M failed'. The status is 1 if something failed. Python 3.11 or later.
+With an optimised program it takes some nine minutes of processor time, nearly all of it in the independent programs. A build without proof takes up to 600
+times as long as the proved program. So it gets fewer inputs, and neither the example with sixteen nodes nor the lists of settings, which take it minutes.
+There is a line for each part that has ended, with what differs, and a last line 'N passed, M failed'. The status is 1 if something failed. Python 3.11 or
+later.
 """
 import os
 import re
@@ -27,7 +28,7 @@ INPUTS = {
     "commands": (80, 10), "traffic": (200, 20), "margin": (200, 20), "candump": (200, 20), "refusals": (200, 40), "record-texts": (200, 40),
     "plan-texts": (200, 20), "version-3": (200, 20), "settings": (80, 8), "formats": (40, 5), "sweeps": (20, 4), "hints": (80, 10), "workers": (40, 0),
 }
-PARTS = ("examples", "refused", "settings", "formats", "words")
+PARTS = {"examples": True, "refused": True, "settings": False, "formats": True, "words": True}  # and whether a build without proof gets the part
 PAGES = {
     "README.md": True, "docs/use/first-hour.md": True, "docs/use/commands.md": False, "docs/use/explain.md": True, "docs/use/examples.md": False,
     "docs/use/formats.md": True, "docs/use/plan-text.md": True, "docs/use/reports.md": True, "docs/use/settings.md": True, "docs/use/traffic.md": False,
@@ -50,8 +51,7 @@ def parts_of(program, is_light):
     """Returns each part's name with its words, those that take longest first."""
     found = [(f"random inputs: {what}", ["check/compare.py", program, what, "--count", str(counts[is_light])])
              for what, counts in INPUTS.items() if counts[is_light]]
-    found[1:1] = [(part, [".ci/program.sh", program, part]) for part in PARTS]
-    if os.path.exists(f"{TOP}/check/rows.py"): found.append(("rows of tables", ["check/rows.py", program]))
+    found[1:1] = [(part, [".ci/program.sh", program, part]) for part, light in PARTS.items() if light or not is_light]
     return found + [(f"what {page} shows", [".ci/shown.py", page, program]) for page, light in PAGES.items() if light or not is_light]
 
 

@@ -64,6 +64,7 @@ for shell in bash zsh fish; do
   is "completions for $shell have each command" [ -z "$(sed -n 's/^  \([a-z]*\)  .*/\1/p' tools/help.txt | while read -r word; do grep -qw "$word" "$room/out" || echo "$word"; done)" ]
 done
 ends 2 completions && says "completions of no shell" "bash, zsh or fish"
+ends 2 test more && says "a test of more than the program" "usage: test.py PROGRAM"
 # What a command's help names is offered after that command: by bash as it completes, by the others anywhere
 sed -n 's/^  \([a-z]*\)  .*/\1/p' tools/help.txt | grep -vx help > "$room/commands"
 while read -r command; do
