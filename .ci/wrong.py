@@ -7,7 +7,7 @@ usage: wrong.py [--night] [--kept] [CRATE..]   tries the edits of .ci/wrong-bodi
        wrong.py page                  writes that table
 
 An edit is a file FOLDER/CRATE/NAME.edit, in the form of the toolchain's edits (`file: PATH`, `old: TEXT`, `new: TEXT`), with two lines more:
-  function: PATH     the function that it changes, as a check prints it without the crate's name
+  function: PATH     the function that it changes, as a check prints it without the crate's name; without this line it is that of the first old text
   mistake: WORDS     in .ci/wrong-bodies: the mistake that was named before the code was written, if the edit makes one of these
 Mistakes that no contract excludes are in .ci/wrong-bodies/by-rows.txt, with the rows or the signature that do.
 
@@ -52,7 +52,60 @@ def read(edit):
             elif word == "old": old = text
             elif word == "new": pairs.append((path, old, text))
     crate = os.path.basename(os.path.dirname(edit))
+    function = function or (function_of(f"{TOP}/crates/{crate}/src", *pairs[0][:2]) if pairs else "")
     return Edit(crate, f"{crate}/{os.path.basename(edit)[: -len('.edit')]}", edit, function, mistakes, pairs)
+
+
+# ---- The function of an edit that doesn't name it
+
+FUNCTION = re.compile(r"( *)(?:pub(?:\([^)]*\))? )?(?:const )?fn (\w+)")
+
+
+def function_of(source, path, old):
+    """Returns the function around a text, as a check prints it: module, type and name. A type's own methods are in the type's module."""
+    file = f"{os.path.dirname(source)}/{path}"
+    text = text_of(file) if os.path.isfile(file) else ""
+    if not old or old not in text: return ""
+    lines, line = text.split("\n"), text[: text.index(old) + len(old) - len(old.lstrip())].count("\n")
+    for at in range(line, -1, -1):
+        found = FUNCTION.match(lines[at])
+        if found and f"{found[1]}}}" not in lines[at + 1 : line]: break
+    else: return ""
+    heads = [it for it in lines[:at] if re.match(r"impl\b|(pub )?trait ", it)] if found[1] else []
+    module = "" if path in ("src/lib.rt", "src/main.rt") else path[4:-3].replace("/", "::")
+    if not heads: return "::".join(filter(None, (module, found[2])))
+    kind, is_own = kind_of(heads[-1])
+    return "::".join(filter(None, (module_of(source, kind, module) if is_own else module, kind, found[2])))
+
+
+def kind_of(head):
+    """Returns how a check names the type of an impl or a trait's head, and whether the methods are the type's own."""
+    if "trait " in head: return re.search(r"trait (\w+)", head)[1], False
+    head, left = re.sub(r"^impl\s*", "", head.split("{")[0]), []
+    if head.startswith("<"):
+        deep = [head[: at + 1].count("<") - head[: at + 1].replace("->", "").count(">") for at in range(len(head))]
+        left, head = [re.split("[: ]", it.strip().removeprefix("const "))[0] for it in head[1 : deep.index(0)].split(",")], head[deep.index(0) + 1 :]
+    trait, _, kind = head.strip().rpartition(" for ")
+    return named_type(kind, left) + (named_type(trait, left) if trait else ""), not trait
+
+
+def named_type(text, left):
+    """Returns the words of a type in one: `BTreeMap<(u8, u32), W>` is BTreeMapTuple2U8U32 where W is a parameter."""
+    text = re.sub(r"\(([^()]*)\)", lambda it: f"Tuple{it[1].count(',') + 1} {it[1]}", text.strip())
+    words = [it for it in re.findall(r"\w+", re.sub(r"\w+::|'\w+|\bmut\b", "", text)) if it not in left]
+    return "Array" * (text.startswith("[") and ";" in text) + "".join(it[0].upper() + it[1:] for it in words)
+
+
+def module_of(source, kind, otherwise):
+    for file in glob.glob(f"{source}/**/*.rt", recursive=True):
+        if re.search(rf"(?m)^(pub(\([^)]*\))? )?(struct|enum) {kind}\b", text_of(file)):
+            module = os.path.relpath(file, source)[:-3].replace("/", "::")
+            return "" if module in ("lib", "main") else module
+    return otherwise
+
+
+def text_of(file):
+    with open(file, encoding="utf-8") as it: return it.read()
 
 
 def edits_of(folder, crates):
@@ -248,10 +301,6 @@ def by_rows():
     with open(f"{GATE}/by-rows.txt", encoding="utf-8") as it: blocks = it.read().split("\n\n")
     for lines in ([line.partition(": ") for line in block.splitlines() if line and line[0] != "#"] for block in blocks):
         if lines: yield lines[0][2], [(kind, text) for kind, _, text in lines[1:]]
-
-
-def text_of(file):
-    with open(file, encoding="utf-8") as it: return it.read()
 
 
 def unfit():
