@@ -1,6 +1,6 @@
 #!/usr/bin/env bash
 # Runs a built program of Wireline as a user would, and compares status, standard output and the fault's line, byte for byte.
-# usage: program.sh PROGRAM [PART..]      every part if none is named: examples cost pages workers refused sweeps formats settings threads words rest
+# usage: program.sh PROGRAM [PART..]      every part if none is named: examples rows cost pages workers refused sweeps formats settings threads words rest
 # - each plan of examples/ with the report beside it, and each of those plans through candump, which must accept it; and by 2, 3 and 8 workers over
 #   either link; a bus with long delays by 2 and 3
 # - the check, the records, the explanation, the trace and the waveform of each of them as check/plain.py gives them, the traffic and the margin as
@@ -69,12 +69,6 @@ for report in examples/*.report; do
   runs "margin of $name" "examples/$name.toml" 0 "$room/beyond" "$room/none" margin
 done
 
-# Rows of check/rows, by the program as each compiler built it.
-for build in "$program" "$program.by-rattle"; do
-  [ "$build" = "$program" ] || [ -x "$build" -a ! "$build" -ot "$program" ] || continue
-  is "the rows of check/rows by $(basename "$build")" python3 -B check/rows.py "$build"
-done
-
 # Plans as no example is: outside of the condition for margins, a node that misses a frame, remote frames, codes above 8, a CRC error, long queues,
 # and the latest end: a view that went tick by tick would take years.
 while IFS='|' read -r name edit; do
@@ -135,6 +129,14 @@ is "joining nodes are not proved" [ -z "$(for plan in check/margins/searched/joi
 is "one sender of three is proved" grep -q '^holds for any senders of n0, proved' <("$program" margin check/margins/searched/one_of_three_sends.toml)
 is "all three are not" grep -q '^holds for one sender at a time of n0 and n1 and n2,' <("$program" margin --all-send check/margins/searched/one_of_three_sends.toml)
 is "nor is a clock beyond its tolerance" grep -q '^does not hold: the clock of panel is outside of its tolerance' <("$program" margin check/margins/clock_beyond_tolerance.toml)
+fi
+
+if part rows; then
+# Rows of check/rows, by the program as each compiler built it.
+for build in "$program" "$program.by-rattle"; do
+  [ "$build" = "$program" ] || [ -x "$build" -a ! "$build" -ot "$program" ] || continue
+  is "the rows of check/rows by $(basename "$build")" python3 -B check/rows.py "$build"
+done
 fi
 
 if part cost; then

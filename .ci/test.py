@@ -28,7 +28,7 @@ INPUTS = {
     "commands": (80, 10), "traffic": (200, 20), "margin": (200, 20), "candump": (200, 20), "refusals": (200, 40), "record-texts": (200, 40),
     "plan-texts": (200, 20), "version-3": (200, 20), "settings": (80, 8), "formats": (40, 5), "sweeps": (20, 4), "hints": (80, 10), "workers": (40, 0),
 }
-PARTS = {"examples": True, "refused": True, "settings": False, "formats": True, "words": True}  # and whether a build without proof gets the part
+PARTS = {"examples": True, "rows": False, "refused": True, "settings": False, "formats": True, "words": True}  # and whether a build without proof gets the part
 PAGES = {
     "README.md": True, "docs/use/first-hour.md": True, "docs/use/commands.md": False, "docs/use/explain.md": True, "docs/use/examples.md": False,
     "docs/use/formats.md": True, "docs/use/plan-text.md": True, "docs/use/reports.md": True, "docs/use/settings.md": True, "docs/use/traffic.md": False,
