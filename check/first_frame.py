@@ -1,5 +1,5 @@
 #!/usr/bin/env python3
-"""The first frame on a bus, beside the crate wl_first_frame: its definitions as a program of their own, and plans that check/plain.py plays.
+"""The first frame on a bus, beside wl_buses::first_frame: its definitions as a program of their own, and plans that check/plain.py plays.
 
 usage: first_frame.py RUNS SEED      plays 2 to 5 nodes by the book, with offsets, clocks, delays and queues at random, half of them with an edge
                                      close to a decision or to a start that is due. Says how many plans and nodes were compared, and how many

@@ -1,5 +1,5 @@
 #!/usr/bin/env python3
-"""Stations that send at once, beside the crate wl_any_senders: the definitions as a program of their own, and bit clocks that are played.
+"""Stations that send at once, beside wl_buses::one_frame: the definitions as a program of their own, and bit clocks that are played.
 
     senders.py search RUNS SEED [LEFT]    plays 2 to 5 stations on buses that keep the condition, half of them at its border; or, with LEFT
                                           (early_fits, late_fits, is_there, loops or not_early), on buses that break that inequality alone. Says how

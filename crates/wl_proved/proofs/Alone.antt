@@ -13,8 +13,9 @@ use Rattle.wl_plan.specs.declared.plan.Plan.{Plan}
 use Rattle.wl_plan.specs.PlanLine.{line_of, setup_at}
 use Rattle.wl_plan.specs.Simulation.{AreInside, seen}
 use Rattle.wl_phase.specs.Clocks.{Steady}
-use Rattle.wl_one_sender.specs.Clean.{HasOneSender, bus_with}
-use Rattle.wl_one_sender.specs.Through.{GetThrough, queued_contents}
+use Rattle.wl_buses.specs.OneSender.Clean.{HasOneSender, bus_with}
+use Rattle.wl_buses.specs.OneSender.Through.{GetThrough}
+use Rattle.wl_buses.specs.BothProofs.Queues.{queued_contents}
 use Rattle.wl_proved.specs.CleanRuns.{as_passing, frames_from, passing_of}
 use Rattle.wl_proved.specs.PlansOfFamily.{SendsAlone}
 use Rattle.wl_proved.proofs.Ends.{IsCleanAt}

@@ -9,11 +9,11 @@ use Rattle.wl_node.specs.History.{history_of, is_sent}
 use Rattle.wl_plan.specs.declared.plan.Plan.{Plan}
 use Rattle.wl_plan.specs.PlanLine.{line_of, setup_at}
 use Rattle.wl_plan.specs.Simulation.{AreInside, seen}
-use Rattle.wl_any_senders.specs.Stations.{Stations}
-use Rattle.wl_frames.specs.Frames.{Frame}
-use Rattle.wl_first_frame.specs.FirstFrames.{queues_of}
-use Rattle.wl_sending.specs.Winners.{passed_with, won_by}
-use Rattle.wl_clean.specs.Clean.{AllGetThrough, sent_contents}
+use Rattle.wl_buses.specs.OneFrame.Stations.{Stations}
+use Rattle.wl_buses.specs.NextFrames.Frames.{Frame}
+use Rattle.wl_buses.specs.FirstFrame.FirstFrames.{queues_of}
+use Rattle.wl_buses.specs.SentFrames.Winners.{passed_with, won_by}
+use Rattle.wl_buses.specs.CleanPlans.Clean.{AllGetThrough, sent_contents}
 use Rattle.wl_proved.specs.CleanRuns.{as_passing, frames_from, passing_of}
 use Rattle.wl_proved.proofs.Ends.{IsCleanAt}
 use Rattle.wl_proved.proofs.Frames.{first_frames, later_frames, left_in_queue}

@@ -10,11 +10,11 @@ use Rattle.wl_node.specs.declared.setup.Passed.{Passed}
 use Rattle.wl_node.specs.History.{is_sent}
 use Rattle.wl_plan.specs.declared.plan.Plan.{Plan}
 use Rattle.wl_plan.specs.PlanLine.{setup_at}
-use Rattle.wl_any_senders.specs.Stations.{Stations}
-use Rattle.wl_first_frame.specs.FirstFrames.{queues_of}
-use Rattle.wl_frame_end.specs.Rests.{passed_frame}
-use Rattle.wl_frames.specs.Frames.{Frame}
-use Rattle.wl_sending.specs.Winners.{passed_with, won_by}
+use Rattle.wl_buses.specs.OneFrame.Stations.{Stations}
+use Rattle.wl_buses.specs.FirstFrame.FirstFrames.{queues_of}
+use Rattle.wl_buses.specs.FrameEnd.Rests.{passed_frame}
+use Rattle.wl_buses.specs.NextFrames.Frames.{Frame}
+use Rattle.wl_buses.specs.SentFrames.Winners.{passed_with, won_by}
 use Rattle.wl_proved.specs.LateEnds.{frames_below}
 
 module _ (winner : ℕ → ℕ) where

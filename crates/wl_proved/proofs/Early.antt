@@ -15,10 +15,11 @@ use Rattle.wl_plan.specs.SimulationLaws.{SimulationLaws}
 use Rattle.wl_plan.specs.Sound.{IsCausal}
 use Rattle.wl_phase.specs.Clocks.{Steady}
 use Rattle.wl_serial.specs.Outcome.{history_at_end, node_outcome_of, outcome_of}
-use Rattle.wl_one_sender.specs.Clean.{HasOneSender, bus_with}
-use Rattle.wl_one_sender.specs.Through.{AreFrames, GetThrough, due_quantum, first_ready}
-use Rattle.wl_any_senders.specs.Plans.{IsPlanOf}
-use Rattle.wl_any_senders.specs.Stations.{Stations}
+use Rattle.wl_buses.specs.OneSender.Clean.{HasOneSender, bus_with}
+use Rattle.wl_buses.specs.OneSender.Through.{AreFrames, GetThrough, due_quantum}
+use Rattle.wl_buses.specs.BothProofs.Queues.{first_ready}
+use Rattle.wl_buses.specs.OneFrame.Plans.{IsPlanOf}
+use Rattle.wl_buses.specs.OneFrame.Stations.{Stations}
 use Rattle.wl_proved.specs.LateEnds.{EndsLate, frames_below}
 use Rattle.wl_proved.specs.PlansOfFamily.{SendsAlone}
 use Rattle.wl_proved.proofs.Ends.{none_unsent}

@@ -18,18 +18,18 @@ use Rattle.wl_plan.specs.SimulationLaws.{SimulationLaws}
 use Rattle.wl_plan.specs.Sound.{IsCausal}
 use Rattle.wl_phase.specs.Clocks.{steady_tick}
 use Rattle.wl_serial.specs.Outcome.{history_at_end, outcome_of}
-use Rattle.wl_any_senders.specs.Expected.{expected_bits, expected_sample}
-use Rattle.wl_any_senders.specs.Machines.{bus_levels}
-use Rattle.wl_any_senders.specs.Course.{bus_bit}
-use Rattle.wl_any_senders.specs.Plans.{IsPlanOf}
-use Rattle.wl_any_senders.specs.Starts.{Start}
-use Rattle.wl_any_senders.specs.Stations.{Stations}
-use Rattle.wl_first_frame.specs.FirstFrames.{HasFirstFrames, queues_of}
-use Rattle.wl_frame_end.specs.Rests.{passing_bit}
-use Rattle.wl_frames.specs.Frames.{third_sample}
-use Rattle.wl_sending.specs.Winners.{won_by}
-use Rattle.wl_clean.specs.Clean.{AllGetThrough, plan_history}
-use Rattle.wl_clean.specs.PlanFrames.{EmptyAllQueues}
+use Rattle.wl_buses.specs.OneFrame.Expected.{expected_bits, expected_sample}
+use Rattle.wl_buses.specs.OneFrame.Machines.{bus_levels}
+use Rattle.wl_buses.specs.OneFrame.Course.{bus_bit}
+use Rattle.wl_buses.specs.OneFrame.Plans.{IsPlanOf}
+use Rattle.wl_buses.specs.OneFrame.Starts.{Start}
+use Rattle.wl_buses.specs.OneFrame.Stations.{Stations}
+use Rattle.wl_buses.specs.FirstFrame.FirstFrames.{HasFirstFrames, queues_of}
+use Rattle.wl_buses.specs.FrameEnd.Rests.{passing_bit}
+use Rattle.wl_buses.specs.NextFrames.Frames.{third_sample}
+use Rattle.wl_buses.specs.SentFrames.Winners.{won_by}
+use Rattle.wl_buses.specs.CleanPlans.Clean.{AllGetThrough, plan_history}
+use Rattle.wl_buses.specs.CleanPlans.PlanFrames.{EmptyAllQueues}
 use Rattle.wl_level.specs.Levels.{level_of}
 use Rattle.wl_proved.specs.LateEnds.{EndsLate, frames_below}
 use Rattle.wl_proved.proofs.Counting.{few_frames, passed_long, sent_is_won}

@@ -7,7 +7,7 @@ use Rattle.std.proofs.lemmas.List.Elements.{filter-append}
 use Rattle.std.proofs.lemmas.Option.{get_or_from_slice_get, slice_get_within}
 use Rattle.std.proofs.Math.Seq.{take-suc}
 use Rattle.wl_frame.specs.Grammar.{Content}
-use Rattle.wl_sending.specs.Winners.{won_by}
+use Rattle.wl_buses.specs.SentFrames.Winners.{won_by}
 use Rattle.wl_proved.specs.CleanRuns.{frames_from}
 
 module _ (winner : ℕ → ℕ) (content : ℕ → Content) where

@@ -14,17 +14,17 @@ use Rattle.wl_plan.specs.PlanLine.{line_of, no_setup, setup_at}
 use Rattle.wl_plan.specs.Sound.{IsCausal}
 use Rattle.wl_phase.specs.Clocks.{steady_tick}
 use Rattle.wl_bound.specs.Verdicts.{has_frames}
-use Rattle.wl_one_sender.specs.Clean.{decides_at}
-use Rattle.wl_one_sender.specs.Through.{first_ready}
-use Rattle.wl_any_senders.specs.Expected.{Outset, expected_sample}
-use Rattle.wl_any_senders.specs.Plans.{IsPlanOf}
-use Rattle.wl_any_senders.specs.Stations.{Stations}
-use Rattle.wl_first_frame.specs.FirstFrames.{HasFirstFrames, queues_of, waiting_of}
-use Rattle.wl_first_frame.specs.FirstStarts.{Waiting, due_first, edge_first, eleventh, hard_place, has_first, looks_first}
-use Rattle.wl_frames.specs.Frames.{resting_of, third_sample}
-use Rattle.wl_frames.specs.NextStarts.{Resting, due_next, edge_next, has_next, looks_next}
-use Rattle.wl_frames.specs.Queues.{decides_after}
-use Rattle.wl_clean.specs.Clean.{AllGetThrough}
+use Rattle.wl_buses.specs.BothProofs.Queues.{decides_at}
+use Rattle.wl_buses.specs.BothProofs.Queues.{first_ready}
+use Rattle.wl_buses.specs.OneFrame.Expected.{Outset, expected_sample}
+use Rattle.wl_buses.specs.OneFrame.Plans.{IsPlanOf}
+use Rattle.wl_buses.specs.OneFrame.Stations.{Stations}
+use Rattle.wl_buses.specs.FirstFrame.FirstFrames.{HasFirstFrames, queues_of, waiting_of}
+use Rattle.wl_buses.specs.FirstFrame.FirstStarts.{Waiting, due_first, edge_first, eleventh, hard_place, has_first, looks_first}
+use Rattle.wl_buses.specs.NextFrames.Frames.{resting_of, third_sample}
+use Rattle.wl_buses.specs.NextFrames.NextStarts.{Resting, due_next, edge_next, has_next, looks_next}
+use Rattle.wl_buses.specs.NextFrames.Queues.{decides_after}
+use Rattle.wl_buses.specs.CleanPlans.Clean.{AllGetThrough}
 use Rattle.wl_proved.specs.LateEnds.{EndsLate}
 use Rattle.wl_proved.proofs.Queues.{no_frame}
 use Rattle.wl_proved.proofs.Starting.{begins_by, place_high}

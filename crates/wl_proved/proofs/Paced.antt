@@ -22,7 +22,7 @@ use Rattle.wl_bound.specs.declared.verdict.Outside.{Outside}
 use Rattle.wl_bound.specs.declared.verdict.Outside.TheVariants.{NotByTheBook}
 use Rattle.wl_bound.specs.declared.verdict.Verdict.TheVariants.{ForAny}
 use Rattle.wl_margin.specs.Paces.{breaks_pace, keeps_pace}
-use Rattle.wl_one_sender.specs.Clean.{IsOfFamily}
+use Rattle.wl_buses.specs.BothProofs.Plans.{IsOfFamily}
 use Rattle.wl_proved.specs.PlansOfFamily.{IsPlanOfFamily, SendsAlone}
 
 none_of : (n : ℕ) (p : ℕ → Bool) → any_below n p ≡ false → (i : ℕ) → i < n → p i ≡ false

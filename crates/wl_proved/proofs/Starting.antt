@@ -7,11 +7,11 @@ use Rattle.wl_segments.specs.Lengths.{bit_quanta}
 use Rattle.wl_topology.specs.Driven.{any_below}
 use Rattle.wl_topology.proofs.Callers.{any_from}
 use Rattle.wl_phase.specs.Clocks.{steady_tick}
-use Rattle.wl_any_senders.specs.Stations.{Stations}
-use Rattle.wl_any_senders.specs.Starts.{Start}
-use Rattle.wl_any_senders.specs.Expected.{Outset, expected_bits, found_before, is_reached, looks_up_to, most, next_start, place_found, settled, wants}
-use Rattle.wl_any_senders.proofs.Callers.{most_from}
-use Rattle.wl_first_frame.specs.FirstStarts.{hard_place}
+use Rattle.wl_buses.specs.OneFrame.Stations.{Stations}
+use Rattle.wl_buses.specs.OneFrame.Starts.{Start}
+use Rattle.wl_buses.specs.OneFrame.Expected.{Outset, expected_bits, found_before, is_reached, looks_up_to, most, next_start, place_found, settled, wants}
+use Rattle.wl_buses.proofs.Callers.{most_from}
+use Rattle.wl_buses.specs.FirstFrame.FirstStarts.{hard_place}
 
 -- no bit is earlier than the one before, and none later by more than its quanta and a jump
 module _ (s : Stations) (i : ℕ) (short : (s.lengths i).sjw ≤ bit_quanta (s.lengths i)) where

@@ -30,9 +30,9 @@ pub fn plans_of_a_family_run_clean()
     wl_plan::checked_is_sound();
     wl_plan::simulation_laws();
     wl_report::clean_is_clean();
-    wl_one_sender::laws::a_covered_plan_is_one_of_these();
-    wl_one_sender::laws::one_sender_is_clean();
-    wl_clean::laws::any_senders_are_clean();
+    wl_buses::one_sender::laws::a_covered_plan_is_one_of_these();
+    wl_buses::one_sender::laws::one_sender_is_clean();
+    wl_buses::clean_plans::laws::any_senders_are_clean();
 }
 
 /// Law: a plan of such a family that ends late enough leaves no frame unsent.
@@ -46,14 +46,14 @@ pub fn a_late_end_leaves_no_frame()
     wl_plan::checked_is_sound();
     wl_plan::simulation_laws();
     wl_bound::condition_laws();
-    wl_one_sender::laws::a_covered_plan_is_one_of_these();
-    wl_one_sender::laws::one_sender_is_clean();
-    wl_any_senders::laws::a_plan_is_on_a_line();
-    wl_any_senders::laws::a_sound_bus_has_room();
-    wl_any_plans::laws::a_plan_has_stations();
-    wl_any_plans::laws::a_covered_plan_has_first_frames();
-    wl_clean::laws::each_frame_ends_later();
-    wl_clean::laws::any_senders_are_clean();
+    wl_buses::one_sender::laws::a_covered_plan_is_one_of_these();
+    wl_buses::one_sender::laws::one_sender_is_clean();
+    wl_buses::one_frame::laws::a_plan_is_on_a_line();
+    wl_buses::one_frame::laws::a_sound_bus_has_room();
+    wl_buses::family_plans::laws::a_plan_has_stations();
+    wl_buses::family_plans::laws::a_covered_plan_has_first_frames();
+    wl_buses::clean_plans::laws::each_frame_ends_later();
+    wl_buses::clean_plans::laws::any_senders_are_clean();
 }
 
 /// Law: what is asked of a family and of its plan can be met, and a plan can end late enough: by the nodes of examples/cyclic_500k.toml with

@@ -1,4 +1,0 @@
-mod Least
-mod Roomy
-mod Standing
-mod Waiting

@@ -1,9 +1,0 @@
-use Rattle.wl_room.specs.Rooms.{plain_bus}
-use Rattle.wl_any_plans.proofs.Roomy.{answers, rests}
-use Rattle.wl_any_plans.proofs.laws.a_family_leaves_room.Goals as goal
-
-pub returns : goal.returns
-returns c = record {
-  answers = λ f leaves. answers (plain_bus f) (c.room_law.ensures f leaves);
-  rests = λ f leaves. rests (plain_bus f) (c.room_law.ensures f leaves);
-}

@@ -1,5 +1,0 @@
-use Rattle.wl_any_plans.proofs.Least.{passes}
-use Rattle.wl_any_plans.proofs.laws.no_more_room_is_asked.Goals as goal
-
-pub returns : goal.returns
-returns c = λ f chase short has rests. passes f chase short has rests

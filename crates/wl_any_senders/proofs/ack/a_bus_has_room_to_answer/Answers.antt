@@ -1,8 +1,0 @@
-use Rattle.wl_any_senders.proofs.AckBounds.{answers_room, catches_up}
-use Rattle.wl_any_senders.proofs.ack.a_bus_has_room_to_answer.Goals as goal
-
-pub returns-clause-room : goal.returns-clause-room
-returns-clause-room c = λ bus s chase line of has winner inside may. answers_room bus s line of winner inside may chase has
-
-pub returns-clause-catch : goal.returns-clause-catch
-returns-clause-catch c = λ bus s chase line of has winner inside may. catches_up bus s line of winner inside may chase has

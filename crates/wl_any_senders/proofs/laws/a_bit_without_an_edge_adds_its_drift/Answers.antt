@@ -1,5 +1,0 @@
-use Rattle.wl_any_senders.proofs.Measures.{drifted}
-use Rattle.wl_any_senders.proofs.laws.a_bit_without_an_edge_adds_its_drift.Goals as goal
-
-pub returns : goal.returns
-returns c = λ s sends since place close i k inside there other some. drifted s since i k (place i) (place k) (close i k inside there other some)

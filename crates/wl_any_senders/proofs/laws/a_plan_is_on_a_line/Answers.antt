@@ -1,5 +1,0 @@
-use Rattle.wl_any_senders.proofs.Planned.{on_a_line}
-use Rattle.wl_any_senders.proofs.laws.a_plan_is_on_a_line.Goals as goal
-
-pub returns : goal.returns
-returns c = λ plan s is. on_a_line plan s is

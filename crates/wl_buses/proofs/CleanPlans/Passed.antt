@@ -1,0 +1,79 @@
+-- What has passed a node, as a list: its first parts, and what of it the node has sent.
+use Rattle.std.proofs.Common.{◌≡◌, ◌∙◌, refl, sym, ap, subst, inl, inr, ℕ, zero, suc, ◌+◌, ◌<◌, ◌≤◌, ◌==◌, cond, Bool, true, false, List, [], ◌∷◌, ◌++◌, length, take, drop, Some, arith, append-nil}
+use Rattle.std.specs.Prelude.{count_by, filter, map, slice_get}
+use Rattle.std.proofs.lemmas.Bool.{cases_eq, eqb-true}
+use Rattle.std.proofs.lemmas.List.{length-append, map-append, take-append-drop, take-append-le}
+use Rattle.std.proofs.lemmas.List.Elements.{filter-append}
+use Rattle.std.proofs.lemmas.List.Sums.{sum_by-append}
+use Rattle.std.proofs.lemmas.Option.{get_or_from_slice_get, slice_get_within}
+use Rattle.std.proofs.Math.Seq.{take-append_seam, take-length, take-suc}
+use Rattle.wl_frame.specs.Grammar.{Content}
+use Rattle.wl_node.specs.declared.setup.Passed.{Passed}
+use Rattle.wl_node.specs.History.{is_sent}
+use Rattle.wl_buses.specs.OneFrame.Stations.{Stations}
+use Rattle.wl_buses.specs.FrameEnd.Rests.{passed_frame}
+use Rattle.wl_buses.specs.NextFrames.Frames.{Frame}
+use Rattle.wl_buses.specs.SentFrames.Winners.{passed_with, won_by}
+use Rattle.wl_buses.specs.CleanPlans.Clean.{sent_contents}
+
+module _ (s : Stations) (frames : ℕ → Frame) (winner : ℕ → ℕ) (content : ℕ → Content) (i : ℕ) where
+  abbrev P : ℕ → List Passed
+  P n = passed_with s frames winner content i n
+
+  -- the frame that passes it next
+  abbrev one : ℕ → Passed
+  one n = passed_frame s (frames n).outset (frames n).bits i (winner n) (content n)
+
+  pub many : (n : ℕ) → length (P n) ≡ n
+  many zero = refl
+  many (suc n) = (let before = many n in let both = length-append (P n) (one n ∷ []) in omega arith)
+
+  first_of : (m n : ℕ) → n ≤ m → take n (P m) ≡ P n
+  first_of zero zero few = refl
+  first_of zero (suc n) few = absurd (omega arith)
+  first_of (suc m) n few = elim (cases_eq n (suc m)) [
+    | inl all ↦ subst (λ k. take k (P (suc m)) ≡ P k) (many (suc m) ∙ sym all) (subst (λ k. take (length (P (suc m))) (P (suc m)) ≡ P k) (sym (many (suc m))) (take-length (P (suc m))))
+    | inr other ↦ (let n_low : n ≤ m = omega (arith, other, few) in let all = many m in take-append-le n (P m) (one m ∷ []) (omega arith) ∙ first_of m n n_low)
+  ]
+
+  -- a first part of what has passed
+  pub part : (m : ℕ) (xs more : List Passed) → P m ≡ xs ++ more → (n : ℕ) × (n ≤ m) × (xs ≡ P n)
+  part m xs more e =
+      let few : length xs ≤ m = (let all = many m in let both = ap length e in let sum = length-append xs more in omega arith) in
+      (length xs, few, sym (take-append_seam xs more) ∙ ap (take (length xs)) (sym e) ∙ first_of m (length xs) few)
+
+  counted : (xs ys : List Passed) → count_by is_sent (xs ++ ys) ≡ count_by is_sent xs + count_by is_sent ys
+  counted xs ys = sum_by-append (λ p. cond (is_sent p) 1 0) xs ys
+
+  pub count_sent : (n : ℕ) → count_by is_sent (P n) ≡ won_by winner i n
+  count_sent zero = refl
+  count_sent (suc n) =
+      counted (P n) (one n ∷ []) ∙ ap (λ k. k + count_by is_sent (one n ∷ [])) (count_sent n)
+      ∙ ap (λ k. won_by winner i n + k) (let e : 0 + cond (i == winner n) 1 0 ≡ cond (i == winner n) 1 0 = omega arith in e)
+
+  sent_both : (xs ys : List Passed) → sent_contents (xs ++ ys) ≡ sent_contents xs ++ sent_contents ys
+  sent_both xs ys = ap (map (λ p. p.frame)) (filter-append is_sent xs ys) ∙ map-append (λ p. p.frame) (filter is_sent xs) (filter is_sent ys)
+
+  sent_one : (b : Bool) (x : Passed) → map (λ p. p.frame) (cond b (x ∷ []) []) ≡ cond b (x.frame ∷ []) []
+  sent_one true x = refl
+  sent_one false x = refl
+
+  module _ (queue : List Content) (count : ℕ) (order : (n : ℕ) → n < count → i ≡ winner n → slice_get queue (won_by winner i n) ≡ Some (content n)) where
+    sent_next : (n : ℕ) → n < count → (b : Bool) → (i == winner n) ≡ b → take (won_by winner i n) queue ++ cond b (content n ∷ []) [] ≡ take (won_by winner i n + cond b 1 0) queue
+    sent_next n less true e =
+        (let there = order n less (eqb-true i (winner n) e) in
+        let inside = slice_get_within queue (won_by winner i n) (content n) there in
+        ap (λ x. take (won_by winner i n) queue ++ x ∷ []) (sym (get_or_from_slice_get queue (won_by winner i n) (content n) (content n) there))
+        ∙ sym (take-suc queue (won_by winner i n) (content n) inside) ∙ ap (λ k. take k queue) (let e : suc (won_by winner i n) ≡ won_by winner i n + 1 = omega arith in e))
+    sent_next n less false e = append-nil (take (won_by winner i n) queue) ∙ ap (λ k. take k queue) (let e : won_by winner i n ≡ won_by winner i n + 0 = omega arith in e)
+
+    pub sent_is : (n : ℕ) → n ≤ count → sent_contents (P n) ≡ take (won_by winner i n) queue
+    sent_is zero few = refl
+    sent_is (suc n) few =
+        sent_both (P n) (one n ∷ []) ∙ ap (λ l. l ++ sent_contents (one n ∷ [])) (sent_is n (omega arith))
+        ∙ ap (λ l. take (won_by winner i n) queue ++ l) (sent_one (i == winner n) (one n)) ∙ sent_next n few (i == winner n) refl
+
+    pub sent_part : (n : ℕ) (xs : List Passed) → n ≤ count → xs ≡ P n → (rest : List Content) × (sent_contents xs ++ rest ≡ queue)
+    sent_part n xs few e =
+        let left = drop (won_by winner i n) queue in
+        (drop (won_by winner i n) queue, ap (λ l. sent_contents l ++ left) e ∙ ap (λ l. l ++ left) (sent_is n few) ∙ take-append-drop (won_by winner i n) queue)

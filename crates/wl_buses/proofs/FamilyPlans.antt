@@ -1,0 +1,4 @@
+pub mod Least
+pub mod Roomy
+pub mod Standing
+pub mod Waiting

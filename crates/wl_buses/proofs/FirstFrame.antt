@@ -1,0 +1,9 @@
+pub mod Beginning
+pub mod Callers
+pub mod Going
+pub mod Plans
+pub mod Reaching
+pub mod Resting
+pub mod Rows
+pub mod Silent
+pub mod Waits

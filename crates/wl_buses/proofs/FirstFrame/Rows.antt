@@ -1,0 +1,123 @@
+-- Worked stations that begin a first frame, by computation.
+use Rattle.std.proofs.Common.{◌≡◌, ℕ, zero, suc, true, false, List, [], ◌∷◌, None, Some, refl}
+use Rattle.wl_segments.specs.declared.SyncRules.TheVariants.{Book}
+use Rattle.wl_segments.specs.Lengths.{Lengths}
+use Rattle.wl_clock.specs.Timing.{tick_of}
+use Rattle.wl_frame.specs.Grammar.{Content}
+use Rattle.wl_machine.specs.Stretch.Sort.{Framing}
+use Rattle.wl_machine.specs.Judged.{stretch_of}
+use Rattle.wl_machine.specs.States.{stretch_by}
+use Rattle.wl_phase.specs.Clocks.{Steady}
+use Rattle.wl_buses.specs.OneFrame.Stations.{Stations}
+use Rattle.wl_buses.specs.FirstFrame.FirstStarts.{Waiting, begins_first, decision_quantum, due_first, edge_first, eleventh, first_start, last_before, rest_first, silent_past}
+
+-- a bit of 1 + 3 + 3 + 3 quanta with its sample at place 7
+abbrev l : Lengths
+l = record { prop = 3; ps1 = 3; ps2 = 3; sjw = 2; sync = Book }
+
+-- station 0 has quanta of 10 ticks from tick 0 on, each other one of 10 1/2 ticks from tick 7 on
+abbrev clock_of : ℕ → Steady
+clock_of zero = record { offset = 0; num = 10; den = 1 }
+clock_of (suc i) = record { offset = 7; num = 21; den = 2 }
+
+-- 4 ticks to itself, 9 to another
+abbrev delay_of : ℕ → ℕ → ℕ
+delay_of zero zero = 4
+delay_of zero (suc k) = 9
+delay_of (suc i) zero = 9
+delay_of (suc i) (suc k) = 4
+
+abbrev s : Stations
+s = record { count = 2; clocks = clock_of; lengths = λ i. l; delay = delay_of; may_send = λ i. true; way = λ k i. 36 }
+
+abbrev c : Content
+c = record { extended = false; id = 1; remote = false; dlc = 0; bytes = [] }
+
+-- Station 1 decides with the sample of its bit 11. Its start of frame is due with its quantum 120, at tick 1267, and reaches station 0 at tick 1276.
+abbrev decide : ℕ → ℕ → ℕ
+decide n zero = n
+decide n (suc k) = 11
+
+abbrev both : ℕ → Waiting
+both n = record { stations = s; frames = λ k. c ∷ []; decides = decide n }
+
+due_there : due_first (both 12) 1 ≡ 120
+due_there = refl
+
+-- Station 0 decides with the sample of its bit 12, by its quantum 127 at tick 1270, and is due with its quantum 130. It finds the edge by its quantum 128 at tick 1280, and begins with it.
+decides_before : decision_quantum (both 12) 0 ≡ 127
+decides_before = refl
+
+finds_edge : edge_first (both 12) 0 ≡ Some 128
+unfolding tick_of
+finds_edge = refl
+
+begins_with_it : begins_first (both 12) 0 ≡ true
+unfolding tick_of
+begins_with_it = refl
+
+placed : (first_start (both 12)).place 0 ≡ 127
+unfolding tick_of
+placed = refl
+
+rests : rest_first (both 12) 0 ≡ 120
+unfolding tick_of
+rests = refl
+
+-- station 1 begins by itself: that of station 0 reaches it at tick 1309
+begins_alone : edge_first (both 12) 1 ≡ None
+unfolding tick_of
+begins_alone = refl
+
+sends_alone : (first_start (both 12)).from 1 ≡ 120
+unfolding tick_of
+sends_alone = refl
+
+-- A bit later station 0 would decide by its quantum 137, which is too late: it follows the edge, and drives nothing. Its last bit before is bit 12.
+follows : begins_first (both 13) 0 ≡ false
+unfolding tick_of
+follows = refl
+
+last_bit : last_before (both 13) 0 ≡ 12
+unfolding tick_of
+last_bit = refl
+
+-- so it is without a frame
+abbrev frames_of : ℕ → List Content
+frames_of zero = []
+frames_of (suc k) = c ∷ []
+
+abbrev one : Waiting
+one = record { stations = s; frames = frames_of; decides = decide 10 }
+
+listens : edge_first one 0 ≡ Some 128
+unfolding tick_of
+listens = refl
+
+alone : begins_first one 1 ≡ true
+unfolding tick_of
+alone = refl
+
+-- It may decide with its eleventh sample, and is then to begin its frame.
+tenth_bit : eleventh (both 10) 0 ≡ 107
+tenth_bit = refl
+
+to_begin : stretch_of (silent_past true (c ∷ []) 10) ≡ stretch_by (Framing (Some c)) []
+to_begin = refl
+
+-- An edge that comes just when a station would decide: station 1 has quanta of 10 ticks and begins at tick 1, and its start of frame reaches station 0 at tick 1210, the tick of the
+-- sample of bit 11 but for three quanta, at tick 1170. With a frame of that bit station 0 begins by itself at tick 1200; with one of the next bit it follows.
+abbrev near : ℕ → Waiting
+near n = record { stations = record s { clocks = λ k. record { offset = k; num = 10; den = 1 } }; frames = λ k. c ∷ []; decides = decide n }
+
+both_alone : edge_first (near 11) 0 ≡ None
+unfolding tick_of
+both_alone = refl
+
+other_alone : edge_first (near 11) 1 ≡ None
+unfolding tick_of
+other_alone = refl
+
+one_later : (first_start (near 12)).from 0 ≡ 121
+unfolding tick_of
+one_later = refl

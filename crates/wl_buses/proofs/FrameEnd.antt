@@ -1,0 +1,14 @@
+pub mod Again
+pub mod Asked
+pub mod Below
+pub mod Callers
+pub mod Ends
+pub mod Hearing
+pub mod LineEnds
+pub mod Next
+pub mod NodeEnds
+pub mod Rows
+pub mod Sampling
+pub mod Slot
+pub mod Ticking
+pub mod Twelve

@@ -1,0 +1,56 @@
+-- No next frame reaches a station before it rests, if there is room for twelve bits' drift.
+use Rattle.std.proofs.Common.{◌≡◌, ◌∙◌, inl, inr, refl, sym, ap, subst, ℕ, zero, suc, ◌+◌, ◌*◌, ◌<◌, ◌≤◌, Some, None, arith}
+use Rattle.std.proofs.lemmas.Bool.{cases_eq, ne_eqb}
+use Rattle.wl_segments.specs.Lengths.{bit_quanta, sample_at}
+use Rattle.wl_machine.specs.Frames.{stuffed_end}
+use Rattle.wl_phase.specs.Clocks.{steady_tick}
+use Rattle.wl_buses.specs.OneFrame.Stations.{AreStations, HaveRoom, Stations, shared_instant, shared_quantum}
+use Rattle.wl_buses.specs.OneFrame.Starts.{Start}
+use Rattle.wl_buses.specs.OneFrame.Machines.{HasWon, bus_levels}
+use Rattle.wl_buses.specs.OneFrame.Acknowledged.{CatchUp, answering, chased_way}
+use Rattle.wl_buses.specs.OneFrame.Expected.{IsOutset, Outset, expected_bits, expected_sample}
+use Rattle.wl_buses.proofs.OneFrame.Callers.{instant_more, tick_next, ticks_before}
+use Rattle.wl_buses.specs.FrameEnd.Again.{HasRoomToRest}
+use Rattle.wl_buses.proofs.FrameEnd.Below.{MachineLaws}
+use Rattle.wl_buses.proofs.FrameEnd.Hearing.{bus_at, plain_place}
+use Rattle.wl_buses.proofs.FrameEnd.Slot.{heard}
+
+module _ (m : MachineLaws) (s : Stations) (are : AreStations s) (room : HaveRoom s) (o : Outset) (is : IsOutset s o) (end : ℕ)
+    (valid : (n : ℕ) → n < end → stuffed_end (bus_levels s (expected_bits s o) n) ≡ None)
+    (over : stuffed_end (bus_levels s (expected_bits s o) end) ≡ Some end) (won : HasWon s (expected_bits s o) o.frames end)
+    (chase : ℕ → ℕ) (catch : CatchUp s won.station chase) (enough : HaveRoom (answering s (chased_way s won.station chase)))
+    (rest : HasRoomToRest s (chased_way s won.station chase)) where
+  abbrev bits : ℕ → Start
+  bits = expected_bits s o
+
+  -- each bit after the slot is a bit later
+  place_after : (n i : ℕ) → n ≤ 11 → (bits (suc end + n)).place i ≡ (bits (suc end)).place i + n * bit_quanta (s.lengths i)
+  place_after zero i small = (let e : suc end + 0 ≡ suc end = omega arith in ap (λ k. (bits k).place i) e ∙ (let f : (bits (suc end)).place i ≡ (bits (suc end)).place i + 0 * bit_quanta (s.lengths i) = omega arith in f))
+  place_after (suc n) i small =
+      (let e : suc end + suc n ≡ suc (suc end + n) = omega arith in
+      let none = bus_at m s are room o is end valid over won chase catch enough (2 + n) (suc (suc end + n)) (omega arith) (omega arith) ∙ ne_eqb (2 + n) 1 (λ f. omega (arith, f)) in
+      let before = place_after n i (omega arith) in
+      let next = plain_place m s are room o is end valid over won chase catch enough (suc end + n) i none in
+      ap (λ k. (bits k).place i) e ∙ omega arith)
+
+  last_place : (i : ℕ) → (bits (end + 12)).place i ≡ (bits (suc end)).place i + 11 * bit_quanta (s.lengths i)
+  last_place i = (let e : suc end + 11 ≡ end + 12 = omega arith in ap (λ k. (bits k).place i) (sym e) ∙ place_after 11 i (omega arith))
+
+  pub next_after : (i k : ℕ) → i < s.count → k < s.count
+      → steady_tick (s.clocks i) (expected_sample s o (end + 12) i) < steady_tick (s.clocks k) ((bits (end + 12)).place k + bit_quanta (s.lengths k)) + s.delay k i
+  next_after i k inside there = elim (cases_eq i k) [
+    | inl same ↦
+        (let low = (are.line.book i inside).lengths.ps2_low in
+        let loop = are.line.later i i inside inside in
+        let up = tick_next s are i inside ((bits (end + 12)).place i + sample_at (s.lengths i)) ((bits (end + 12)).place i + bit_quanta (s.lengths i)) (omega arith) in
+        subst (λ w. steady_tick (s.clocks i) (expected_sample s o (end + 12) i) < steady_tick (s.clocks w) ((bits (end + 12)).place w + bit_quanta (s.lengths w)) + s.delay w i) same (omega arith))
+    | inr other ↦
+        (let near = (heard m s are room o is end valid over won chase catch enough (λ w. 0)).close 11 i k inside there other (inl refl) in
+        let fits = rest i k inside there other in
+        let mine = instant_more s are i k inside there ((bits (end + 12)).place i) (sample_at (s.lengths i)) in
+        let theirs = instant_more s are k i there inside ((bits (end + 12)).place k) (bit_quanta (s.lengths k)) in
+        let bit : bit_quanta (s.lengths i) * shared_quantum s i k ≡ sample_at (s.lengths i) * shared_quantum s i k + (s.lengths i).ps2 * shared_quantum s i k = omega arith in
+        let first : shared_instant s i k ((bits (end + 12)).place i) ≡ shared_instant s i k ((bits (suc end)).place i + 11 * bit_quanta (s.lengths i)) = ap (shared_instant s i k) (last_place i) in
+        let second : shared_instant s k i ((bits (end + 12)).place k) ≡ shared_instant s k i ((bits (suc end)).place k + 11 * bit_quanta (s.lengths k)) = ap (shared_instant s k i) (last_place k) in
+        ticks_before s are i k inside there ((bits (end + 12)).place i + sample_at (s.lengths i)) ((bits (end + 12)).place k + bit_quanta (s.lengths k)) (s.delay k i) (omega arith))
+  ]

@@ -1,0 +1,11 @@
+mod BothProofs
+mod OneSender
+mod OneFrame
+mod FirstFrame
+mod FrameEnd
+mod NextFrames
+mod PassedFrames
+mod SentFrames
+mod FamilyPlans
+mod CleanPlans
+pub mod Callers

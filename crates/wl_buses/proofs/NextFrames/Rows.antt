@@ -1,0 +1,144 @@
+-- Worked stations that begin a frame after another one, by computation.
+use Rattle.std.proofs.Common.{◌≡◌, ℕ, zero, suc, true, false, [], ◌∷◌, None, Some, refl}
+use Rattle.wl_level.specs.declared.Level.TheVariants.{Recessive}
+use Rattle.wl_confine.specs.declared.Mode.TheVariants.{Active}
+use Rattle.wl_segments.specs.declared.SyncRules.TheVariants.{Book}
+use Rattle.wl_segments.specs.Lengths.{Lengths}
+use Rattle.wl_clock.specs.Timing.{tick_of}
+use Rattle.wl_frame.specs.Grammar.{Content}
+use Rattle.wl_machine.specs.Stretch.Input.{Sample}
+use Rattle.wl_machine.specs.States.{sample_of}
+use Rattle.wl_phase.specs.Clocks.{Steady}
+use Rattle.wl_buses.specs.OneFrame.Stations.{Stations}
+use Rattle.wl_buses.specs.OneFrame.Machines.{no_frame_sample}
+use Rattle.wl_buses.specs.NextFrames.NextStarts.{Resting, begins_next, decision_next, due_next, edge_next, has_next, last_next, rest_next, rested, start_next, waiting_past}
+use Rattle.wl_buses.specs.NextFrames.NextNodes.{head_after}
+use Rattle.wl_buses.specs.BothProofs.Queues.{queued_contents}
+use Rattle.wl_buses.specs.NextFrames.Queues.{decides_after}
+
+-- a bit of 1 + 3 + 3 + 3 quanta with its sample at place 7
+abbrev l : Lengths
+l = record { prop = 3; ps1 = 3; ps2 = 3; sjw = 2; sync = Book }
+
+-- station 0 has quanta of 10 ticks from tick 0 on, each other one of 10 1/2 ticks from tick 7 on
+abbrev clock_of : ℕ → Steady
+clock_of zero = record { offset = 0; num = 10; den = 1 }
+clock_of (suc i) = record { offset = 7; num = 21; den = 2 }
+
+-- 4 ticks to itself, 9 to another
+abbrev delay_of : ℕ → ℕ → ℕ
+delay_of zero zero = 4
+delay_of zero (suc k) = 9
+delay_of (suc i) zero = 9
+delay_of (suc i) (suc k) = 4
+
+abbrev s : Stations
+s = record { count = 2; clocks = clock_of; lengths = λ i. l; delay = delay_of; may_send = λ i. true; way = λ k i. 36 }
+
+abbrev c : Content
+c = record { extended = false; id = 1; remote = false; dlc = 0; bytes = [] }
+
+-- Place 0 of the third bit of the intermission is at quantum 100 of station 0 and at quantum 95 of station 1. Station 1 decides with the sample of the bit after it.
+abbrev place_of : ℕ → ℕ
+place_of zero = 100
+place_of (suc k) = 95
+
+abbrev decide : ℕ → ℕ → ℕ
+decide n zero = n
+decide n (suc k) = 1
+
+abbrev after : ℕ → Resting
+after n = record { stations = s; frames = λ k. c ∷ []; sent = λ k. 0; place = place_of; decides = decide n }
+
+-- it rests with that sample, and begins no earlier than a bit later
+rests_by : rested (after 0) 0 ≡ 107
+rests_by = refl
+
+decides_with_it : decision_next (after 0) 0 ≡ 107
+decides_with_it = refl
+
+due_next_bit : due_next (after 0) 0 ≡ 110
+due_next_bit = refl
+
+due_other : due_next (after 0) 1 ≡ 115
+due_other = refl
+
+-- With a frame that is ready by its third bit station 0 begins at tick 1100. That reaches station 1 at tick 1109, before it decides by its quantum 112, at tick 1183: its frame waits.
+alone : edge_next (after 0) 0 ≡ None
+unfolding tick_of
+alone = refl
+
+too_late : begins_next (after 0) 1 ≡ false
+unfolding tick_of
+too_late = refl
+
+follows : (start_next (after 0)).from 1 ≡ 105
+unfolding tick_of
+follows = refl
+
+last_third : last_next (after 0) 1 ≡ 0
+unfolding tick_of
+last_third = refl
+
+-- With one that is ready a bit later station 0 begins at tick 1200. That reaches station 1 at tick 1209, after it has decided: it begins with its quantum 115, which finds the edge.
+both : begins_next (after 1) 1 ≡ true
+unfolding tick_of
+both = refl
+
+with_it : (start_next (after 1)).place 1 ≡ 114
+unfolding tick_of
+with_it = refl
+
+last_one : rest_next (after 1) 1 ≡ 105
+unfolding tick_of
+last_one = refl
+
+-- With one that is ready two bits later station 0 decides by its quantum 127, too late: the start of frame of station 1 reaches it at tick 1223.
+loses : begins_next (after 2) 0 ≡ false
+unfolding tick_of
+loses = refl
+
+found : edge_next (after 2) 0 ≡ Some 123
+unfolding tick_of
+found = refl
+
+last_before : rest_next (after 2) 0 ≡ 110
+unfolding tick_of
+last_before = refl
+
+-- a station that has sent its frames has none left
+abbrev over : Resting
+over = record { stations = s; frames = λ k. c ∷ []; sent = λ k. 1; place = place_of; decides = decide 0 }
+
+done : has_next over 0 ≡ false
+done = refl
+
+-- what reaches a machine that is handed its frame with the second bit after the intermission
+waits : waiting_past true (c ∷ []) 0 1 ≡ no_frame_sample ∷ Sample (sample_of Recessive (Some c) Active) ∷ []
+waits = refl
+
+none_left : waiting_past false (c ∷ []) 1 1 ≡ no_frame_sample ∷ no_frame_sample ∷ []
+none_left = refl
+
+-- a frame that becomes ready at quantum 110, between the samples of the third bit and of the next
+ready_between : head_after (after 1) 0 None (record { frame = c; ready = 110 } ∷ []) 1 ≡ Some c
+ready_between = refl
+
+not_ready : head_after (after 1) 0 None (record { frame = c; ready = 118 } ∷ []) 1 ≡ None
+not_ready = refl
+
+-- With a frame that is ready by quantum 107 a node decides with its third bit of the intermission, with one of quantum 108 a bit later, and with one of quantum 118 two bits later.
+decides_third : decides_after l 100 107 ≡ 0
+decides_third = refl
+
+decides_later : decides_after l 100 108 ≡ 1
+decides_later = refl
+
+decides_last : decides_after l 100 118 ≡ 2
+decides_last = refl
+
+long_ago : decides_after l 100 3 ≡ 0
+long_ago = refl
+
+queued : queued_contents (record { frame = c; ready = 3 } ∷ record { frame = c; ready = 1 } ∷ []) ≡ c ∷ c ∷ []
+queued = refl

@@ -1,0 +1,62 @@
+-- A node that begins a frame as is expected goes through the whole of it, whatever it has done before.
+use Rattle.std.proofs.Common.{◌≡◌, ◌∙◌, inl, inr, ap, ℕ, zero, suc, ◌+◌, ◌-◌, ◌<◌, ◌≤◌, Some, None, arith}
+use Rattle.std.proofs.lemmas.Bool.{cases_lt}
+use Rattle.wl_level.specs.declared.Level.{Level}
+use Rattle.wl_level.specs.Levels.{level_of}
+use Rattle.wl_topology.specs.Driven.{driven}
+use Rattle.wl_machine.specs.Frames.{stuffed_end}
+use Rattle.wl_node.specs.declared.setup.NodeSetup.{NodeSetup}
+use Rattle.wl_node.specs.History.{History}
+use Rattle.wl_phase.specs.Clocks.{steady_tick}
+use Rattle.wl_buses.specs.OneFrame.Acknowledged.{CatchUp, answering, chased_way}
+use Rattle.wl_buses.specs.OneFrame.Expected.{IsOutset, Outset, expected_bits, expected_drove, expected_sample}
+use Rattle.wl_buses.specs.OneFrame.Machines.{HasWon, bus_levels}
+use Rattle.wl_buses.specs.OneFrame.Nodes.{GoesToNext, IsInBit, IsRun}
+use Rattle.wl_buses.specs.OneFrame.Stations.{AreStations, HaveRoom, Stations}
+use Rattle.wl_buses.specs.FrameEnd.Rests.{NodeEnds}
+use Rattle.wl_buses.proofs.FrameEnd.Callers.{GoesOn, MachineLaws, found_was, samples_up}
+use Rattle.wl_buses.specs.NextFrames.NextNodes.{BeginsSince, GoesThrough}
+
+module _ (m : MachineLaws) (goes_on : GoesOn) (s : Stations) (are : AreStations s) (room : HaveRoom s) (o : Outset) (is : IsOutset s o) (end : ℕ)
+    (valid : (n : ℕ) → n < end → stuffed_end (bus_levels s (expected_bits s o) n) ≡ None)
+    (over : stuffed_end (bus_levels s (expected_bits s o) end) ≡ Some end) (won : HasWon s (expected_bits s o) o.frames end)
+    (chase : ℕ → ℕ) (catch : CatchUp s won.station chase) (enough : HaveRoom (answering s (chased_way s won.station chase)))
+    (i : ℕ) (inside : i < s.count) (setup : NodeSetup) (segments : setup.segments ≡ s.lengths i) (levels : ℕ → Level) (node : ℕ → History) (run : IsRun setup levels node) (since low : ℕ)
+    (finds : (q : ℕ) → low < q → q ≤ expected_sample s o (end + 12) i → levels q ≡ level_of (driven s.count s.delay (expected_drove s o (end + 13)) i (steady_tick (s.clocks i) q))) where
+  abbrev S : ℕ → ℕ
+  S n = expected_sample s o n i
+
+  up : (a n : ℕ) → a ≤ n → S a ≤ S n
+  up a n less = samples_up m s are room o is end valid over won chase catch enough a n i inside less
+
+  -- up to the sample of the CRC delimiter it finds what the stuffed part drives
+  pub finds_early : (q : ℕ) → low < q → q ≤ S end → levels q ≡ level_of (driven s.count s.delay (expected_drove s o end) i (steady_tick (s.clocks i) q))
+  finds_early q more less =
+      (let e = up end (end + 12) (omega arith) in finds q more (omega arith)) ∙ ap level_of (found_was m s are room o is end valid over won chase catch enough i q inside less)
+
+  module _ (by_low : low ≤ S 0) (begins : BeginsSince s o i levels node since)
+      (ends_law : ((n q : ℕ) → suc n ≡ end → S n < q → q ≤ S (end + 12) → levels q ≡ level_of (driven s.count s.delay (expected_drove s o (end + 13)) i (steady_tick (s.clocks i) q)))
+      → ((n : ℕ) → suc n ≡ end → IsInBit s o i levels node n) → NodeEnds s o end won.station i won.frame setup levels node) where
+    abbrev Early : ℕ → Type 0
+    Early n = IsInBit s o i levels node n
+
+    early_next : (n : ℕ) → suc n < end → Early n → GoesToNext s o i levels node n
+    early_next n less at =
+        goes_on s o end i setup levels node are room is valid inside segments run n less
+        (λ q a b. (let first = up 0 n (omega arith) in let last = up (suc n) end (omega arith) in finds_early q (omega arith) (omega arith))) at
+
+    early_at : (n : ℕ) → n < end → Early n
+    early_at zero less = begins.bit
+    early_at (suc n) less = (early_next n less (early_at n (omega arith))).bit
+
+    ends : NodeEnds s o end won.station i won.frame setup levels node
+    ends = ends_law (λ n q e a b. (let first = up 0 n (omega arith) in finds q (omega arith) b)) (λ n e. early_at n (omega arith))
+
+    next_at : (n : ℕ) → suc n < end + 12 → GoesToNext s o i levels node n
+    next_at n less = elim (cases_lt (suc n) end) [
+      | inl early ↦ early_next n early (early_at n (omega arith))
+      | inr late ↦ ends.next (suc n - end) n (omega arith) (omega arith)
+    ]
+
+    pub goes_through : GoesThrough s o end won.station i won.frame setup levels node since
+    goes_through = record { begins = begins; next = next_at; ends = ends }

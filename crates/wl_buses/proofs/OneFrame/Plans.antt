@@ -1,0 +1,23 @@
+-- The line of a plan is that of its stations.
+use Rattle.std.proofs.Common.{◌≡◌, ap, refl, sym, ℕ, ◌<◌, [], arith}
+use Rattle.std.specs.List.{list_any}
+use Rattle.wl_clock.specs.Timing.{tick_of}
+use Rattle.wl_plan.specs.declared.plan.Plan.{Plan}
+use Rattle.wl_plan.specs.Checked.{CheckedIsSound}
+use Rattle.wl_plan.specs.PlanLine.{is_at, line_of, setup_at}
+use Rattle.wl_buses.specs.OneFrame.Lines.{IsLineOf}
+use Rattle.wl_buses.specs.OneFrame.Plans.{IsPlanOf}
+use Rattle.wl_buses.specs.OneFrame.Stations.{Stations}
+
+pub line_of_plan : CheckedIsSound → (plan : Plan) (s : Stations) → IsPlanOf plan s → plan.disturbances ≡ [] → IsLineOf (line_of plan) (setup_at plan) s
+line_of_plan sound plan s of calm =
+    let count = of.count in
+    record {
+      causal = (sound plan of.checked).causal;
+      nodes = count;
+      drives = λ i levels less. refl;
+      ticks = λ i k less. ap (λ t. tick_of t k) (of.rates i (omega arith));
+      segments = λ i less. sym (of.lengths i (omega arith));
+      delays = λ i k ni nk. of.delays i k (omega arith) (omega arith);
+      undisturbed = λ i t less. ap (list_any (is_at plan i t)) calm;
+    }

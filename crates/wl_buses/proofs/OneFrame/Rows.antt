@@ -1,0 +1,175 @@
+-- Worked stations, by computation.
+use Rattle.std.proofs.Common.{◌≡◌, ℕ, zero, suc, ◌+◌, Bool, true, false, [], ◌∷◌, Some, refl}
+use Rattle.wl_level.specs.declared.Level.TheVariants.{Dominant}
+use Rattle.wl_segments.specs.declared.SyncRules.TheVariants.{Book}
+use Rattle.wl_segments.specs.Lengths.{Lengths}
+use Rattle.wl_clock.specs.Timing.{tick_of}
+use Rattle.wl_phase.specs.Clocks.{Steady}
+use Rattle.wl_bound.specs.Families.{Bus}
+use Rattle.wl_bound.specs.Terms.{drift, jump}
+use Rattle.wl_buses.specs.OneFrame.Stations.{Stations, shared_tick, shared_quantum, shared_instant, bit_drift}
+use Rattle.wl_buses.specs.OneFrame.Acknowledged.{any_way, chased_way, jump_gap}
+use Rattle.wl_buses.specs.OneFrame.Answers.{gathered}
+use Rattle.wl_buses.specs.OneFrame.Bounds.{bus_way, following_way}
+use Rattle.wl_buses.specs.OneFrame.Starts.{Start, reaches_at}
+use Rattle.wl_buses.specs.OneFrame.Course.{since_edge, still_sends}
+use Rattle.wl_buses.specs.OneFrame.Machines.{bus_levels}
+use Rattle.wl_buses.specs.OneFrame.Expected.{from_after, from_found, place_found}
+
+-- a bit of 1 + 3 + 3 + 3 quanta with its sample at place 7
+abbrev l : Lengths
+l = record { prop = 3; ps1 = 3; ps2 = 3; sjw = 2; sync = Book }
+
+-- station 0 has quanta of 10 ticks from tick 0 on, each other one of 10 1/2 ticks from tick 7 on
+abbrev clock_of : ℕ → Steady
+clock_of zero = record { offset = 0; num = 10; den = 1 }
+clock_of (suc i) = record { offset = 7; num = 21; den = 2 }
+
+-- 4 ticks to itself, 9 to another
+abbrev delay_of : ℕ → ℕ → ℕ
+delay_of zero zero = 4
+delay_of zero (suc k) = 9
+delay_of (suc i) zero = 9
+delay_of (suc i) (suc k) = 4
+
+abbrev s : Stations
+s = record { count = 2; clocks = clock_of; lengths = λ i. l; delay = delay_of; may_send = λ i. true; way = λ k i. 36 }
+
+-- in half ticks
+tick : shared_tick s 0 1 ≡ 2
+tick = refl
+
+quantum : shared_quantum s 0 1 ≡ 20
+quantum = refl
+
+other_quantum : shared_quantum s 1 0 ≡ 21
+other_quantum = refl
+
+third : shared_instant s 1 0 3 ≡ 77
+third = refl
+
+-- ten quanta of 10 1/2 ticks take 5 ticks more than ten of 10
+slower : bit_drift s 1 0 ≡ 10
+slower = refl
+
+faster : bit_drift s 0 1 ≡ 0
+faster = refl
+
+-- there and back takes 18 ticks; over an edge of its own, a quantum and a tick
+back_and_forth : bus_way s 0 1 ≡ 36
+back_and_forth = refl
+
+straight : following_way s 0 1 1 ≡ 22
+straight = refl
+
+-- on a short line a quantum and a tick takes longer
+abbrev near : Stations
+near = record s { delay = λ i k. 2 }
+
+looks : bus_way near 0 1 ≡ 22
+looks = refl
+
+-- station 0 begins its bit with quantum 20, and station 1 follows that edge: at tick 209 it lies between its quanta 19 and 20
+abbrev places : ℕ → ℕ
+places zero = 20
+places (suc i) = 19
+
+abbrev b : Start
+b = record { drives = λ i. true; due = λ i. 20 + i; place = places; from = λ i. 20 }
+
+edge : reaches_at s b 0 1 ≡ 209
+unfolding tick_of
+edge = refl
+
+back : reaches_at s b 1 0 ≡ 226
+unfolding tick_of
+back = refl
+
+-- instants of both in half ticks: 0 begins less than a way before 1 is there, and 1 less than a way and its look before
+own : shared_instant s 0 1 20 ≡ 400
+own = refl
+
+their : shared_instant s 1 0 19 ≡ 413
+their = refl
+
+-- Between any two a look comes on top, of a quantum and a tick but for its own loop of 4 ticks. Two jumps of station 1 are a tick longer, and ten bits drift 50 ticks apart.
+any : any_way s 0 1 ≡ 50
+any = refl
+
+longer : jump_gap s 1 0 ≡ 2
+longer = refl
+
+in_two_edges : chased_way s 2 (λ k. 2) 0 1 ≡ 254
+in_two_edges = refl
+
+to_the_winner : chased_way s 1 (λ k. 2) 0 1 ≡ 50
+to_the_winner = refl
+
+-- on a bus of three senders ten bits drift 100 units apart, and a jump of 22 units is 2 longer than the shortest one
+abbrev bus : Bus
+bus = record {
+  nodes = 3;
+  tick = 1;
+  shortest = λ i. 10;
+  longest = λ i. 11;
+  turns = λ i. 0;
+  lengths = λ i. l;
+  sends = λ i. true;
+  delay = λ i k. 9;
+  added = λ i k. 0;
+  listens = λ i. false;
+}
+
+gathers_twice : gathered bus (λ k. 2) 0 1 ≡ 204
+unfolding drift jump
+gathers_twice = refl
+
+of_two_nodes : gathered (record bus { nodes = 2 }) (λ k. 2) 0 1 ≡ 0
+of_two_nodes = refl
+
+-- if the bit of 0 is due with its quantum 20, and that of 1 with its quantum 21 at tick 227, 1 follows so: its quantum 20 at tick 217 is the first that finds the edge
+abbrev both : ℕ → Bool
+both i = true
+
+abbrev dues : ℕ → ℕ
+dues i = 20 + i
+
+begins_alone : from_after s both dues 2 0 ≡ 20
+unfolding tick_of
+begins_alone = refl
+
+follows : from_after s both dues 2 1 ≡ 20
+unfolding tick_of
+follows = refl
+
+moved_place : place_found s dues 1 (Some 20) ≡ 19
+moved_place = refl
+
+moved_from : from_found s dues 1 (Some 20) ≡ 20
+moved_from = refl
+
+-- both begin a frame, then 0 sends dominant, recessive, dominant and 1 sends recessive: 1 has lost by bit 1, and the last edge is that of bit 3
+abbrev drives_in : ℕ → ℕ → Bool
+drives_in zero k = true
+drives_in (suc zero) zero = true
+drives_in (suc (suc zero)) zero = false
+drives_in (suc (suc (suc n))) zero = true
+drives_in (suc n) (suc k) = false
+
+abbrev frame : ℕ → Start
+frame n = record { drives = drives_in n; due = dues; place = places; from = dues }
+
+lost : still_sends s frame 2 1 ≡ false
+lost = refl
+
+left : still_sends s frame 4 0 ≡ true
+left = refl
+
+two_bits : bus_levels s frame 2 ≡ Dominant ∷ Dominant ∷ []
+two_bits = refl
+
+no_edge_since : since_edge s frame 2 ≡ 2
+no_edge_since = refl
+
+edge_there : since_edge s frame 3 ≡ 0
+edge_there = refl

@@ -1,0 +1,11 @@
+pub mod Between
+pub mod Distance
+pub mod Judging
+pub mod Passed
+pub mod Quanta
+pub mod Resting
+pub mod Rows
+pub mod Samples
+pub mod Started
+pub mod Steps
+pub mod Waiting

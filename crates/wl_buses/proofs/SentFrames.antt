@@ -1,0 +1,8 @@
+pub mod Callers
+pub mod Counting
+pub mod Fewer
+pub mod Handing
+pub mod Nexting
+pub mod Planned
+pub mod Rows
+pub mod Winning

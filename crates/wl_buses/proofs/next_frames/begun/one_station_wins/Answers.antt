@@ -1,0 +1,17 @@
+use Rattle.wl_buses.proofs.FrameEnd.Callers.{MachineLaws}
+use Rattle.wl_buses.proofs.NextFrames.Winning.{winner}
+use Rattle.wl_buses.proofs.next_frames.begun.one_station_wins.Goals as goal
+
+pub returns : goal.returns
+returns c = λ s o end are room is ends.
+    (let m : MachineLaws = record {
+      steps = c.machines_stay_in_step.ensures.step;
+      errors = c.machines_stay_in_step.ensures.errors;
+      winner = c.the_least_field_wins.ensures;
+      stuffed = c.a_transmitter_sends_its_head_stuffed.ensures.sent;
+      found = c.a_transmitter_sends_its_head_stuffed.ensures.found;
+      six = c.a_front_of_no_stuffing_ends_six_equal_bits.ensures;
+      ten = c.ten_bits_have_an_edge.ensures.ten;
+      driven = c.driven_laws.ensures;
+    } in
+    winner m c.one_frame_is_left.ensures c.what_is_expected_is_a_course.ensures c.all_sample_the_same_bits.ensures s o end are room is ends)

@@ -1,0 +1,9 @@
+use Rattle.wl_buses.proofs.OneFrame.Lasting.{part_ends}
+use Rattle.wl_buses.proofs.one_frame.ending.the_stuffed_part_ends.Goals as goal
+
+pub returns : goal.returns
+returns c = λ s o are room is.
+    (let e =
+    part_ends c.machines_stay_in_step.ensures.step c.machines_stay_in_step.ensures.errors c.the_least_field_wins.ensures c.a_transmitter_sends_its_head_stuffed.ensures.sent
+    c.a_front_of_no_stuffing_ends_six_equal_bits.ensures c.ten_bits_have_an_edge.ensures.ten s are room o is in
+    (e.bits, record { some = e.some; going = e.going; over = e.over }))

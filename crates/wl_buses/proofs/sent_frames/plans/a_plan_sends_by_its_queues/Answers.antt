@@ -1,0 +1,35 @@
+use Rattle.std.proofs.Common.{refl, suc, ◌+◌, arith}
+use Rattle.wl_segments.specs.Lengths.{sample_at}
+use Rattle.wl_plan.specs.PlanLine.{line_of, setup_at}
+use Rattle.wl_buses.specs.OneFrame.Stations.{AreStations}
+use Rattle.wl_buses.proofs.OneFrame.Callers.{line_of_plan}
+use Rattle.wl_buses.specs.FirstFrame.FirstFrames.{queues_of, waiting_of}
+use Rattle.wl_buses.specs.FirstFrame.FirstStarts.{rest_first}
+use Rattle.wl_buses.proofs.FrameEnd.Callers.{MachineLaws}
+use Rattle.wl_buses.proofs.SentFrames.Planned.{line_sends}
+use Rattle.wl_buses.proofs.sent_frames.plans.a_plan_sends_by_its_queues.Goals as goal
+
+pub returns : goal.returns
+returns c = λ plan s bus frames count of calm bus_of sound has all some first by.
+    (let m : MachineLaws = record {
+      steps = c.machines_stay_in_step.ensures.step;
+      errors = c.machines_stay_in_step.ensures.errors;
+      winner = c.the_least_field_wins.ensures;
+      stuffed = c.a_transmitter_sends_its_head_stuffed.ensures.sent;
+      found = c.a_transmitter_sends_its_head_stuffed.ensures.found;
+      six = c.a_front_of_no_stuffing_ends_six_equal_bits.ensures;
+      ten = c.ten_bits_have_an_edge.ensures.ten;
+      driven = c.driven_laws.ensures;
+    } in
+    let line = c.a_plan_is_on_a_line.ensures plan s of in
+    let are : AreStations s = record { line = line; ways = c.a_sound_bus_has_room.ensures.ways bus s line bus_of } in
+    let room = c.a_sound_bus_has_room.ensures.room bus s line bus_of sound in
+    let on = line_of_plan c.checked_is_sound.ensures plan s of calm in
+    line_sends m c.nothing_is_found_before_a_frame.ensures c.what_is_expected_is_answered.ensures.heard
+    (λ s a b are room f next. c.stations_rest_after_a_frame.ensures.rest s a.outset a.bits f.chase next.sent next.decides are room f.outset f.ends f.won f.answer f.room next.more)
+    c.idle_stations_begin_a_first_frame.ensures.after c.nodes_rest_before_a_first_frame.ensures c.a_queue_hands_all_its_frames.ensures c.the_winner_sends_its_next_frame.ensures.first
+    c.the_winner_sends_its_next_frame.ensures.queued (line_of plan) (setup_at plan) (waiting_of plan (queues_of plan) s) on are room
+    (c.a_plan_has_a_first_frame.ensures.idle plan (queues_of plan) s of has) (c.a_plan_has_a_first_frame.ensures.hands plan (queues_of plan) s of has.has.begin) (λ i. refl) frames count all some first by
+    (λ i inside. (let x = c.nothing_passes_before_the_frames.ensures plan (queues_of plan) s bus frames count i (suc (rest_first (waiting_of plan (queues_of plan) s) i + sample_at (s.lengths i)))
+    of calm bus_of sound has all some first inside (omega arith) in
+    (x.0, x.2))))

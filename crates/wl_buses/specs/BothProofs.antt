@@ -1,0 +1,4 @@
+pub mod Expected
+pub mod Levels
+pub mod Plans
+pub mod Queues

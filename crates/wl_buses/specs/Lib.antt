@@ -1,0 +1,10 @@
+pub mod BothProofs
+pub mod OneSender
+pub mod OneFrame
+pub mod FirstFrame
+pub mod FrameEnd
+pub mod NextFrames
+pub mod PassedFrames
+pub mod SentFrames
+pub mod FamilyPlans
+pub mod CleanPlans

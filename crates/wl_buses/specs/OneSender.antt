@@ -1,0 +1,6 @@
+pub mod OneSender
+pub mod Plans
+pub mod Through
+pub mod Tolerances
+pub mod Bounds
+pub mod Clean

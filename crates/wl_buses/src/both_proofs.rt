@@ -1,0 +1,3 @@
+//! What both proofs use: what is expected of the nodes of a line is what they do.
+
+pub mod laws;

@@ -1,8 +1,0 @@
-mod Extending
-mod Growing
-mod Nodes
-mod Passed
-mod Plans
-mod Rows
-mod Verdicts
-mod Whole

@@ -1,6 +1,0 @@
-//! A plan on which any nodes have frames: all get through, one after another, from the power-up of all nodes on.
-//!
-//! All is by the rules of the book, for clocks of one rate each (Bosch CAN 2.0 part B, sections 3.1, 3.2.5, 5 and 10).
-#![tactic(auto)]
-
-pub mod laws;

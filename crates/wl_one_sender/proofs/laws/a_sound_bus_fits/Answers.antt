@@ -1,5 +1,0 @@
-use Rattle.wl_one_sender.proofs.Bounded.{clocks_fit}
-use Rattle.wl_one_sender.proofs.laws.a_sound_bus_fits.Goals as goal
-
-pub returns : goal.returns
-returns c = λ bus t b is of sound. clocks_fit bus t b is of sound

@@ -1,5 +1,0 @@
-use Rattle.wl_one_sender.proofs.Alone.{found_by_one}
-use Rattle.wl_one_sender.proofs.laws.one_driver_is_found.Goals as goal
-
-pub returns : goal.returns
-returns c = found_by_one c.driven_laws.ensures

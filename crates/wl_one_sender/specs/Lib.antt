@@ -1,8 +1,0 @@
-pub mod Levels
-pub mod Expected
-pub mod OneSender
-pub mod Plans
-pub mod Through
-pub mod Tolerances
-pub mod Bounds
-pub mod Clean
