@@ -7,8 +7,6 @@
 mod folder;
 mod script;
 mod system;
-#[cfg(test)]
-mod tests;
 
 pub use folder::{BeginFault, Folder};
 pub use script::ScriptedFolder;

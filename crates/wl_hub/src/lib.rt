@@ -8,8 +8,6 @@ mod board;
 mod hub;
 mod laws;
 mod place;
-#[cfg(test)]
-mod tests;
 mod truth;
 mod view;
 

@@ -7,8 +7,6 @@ mod limits;
 mod parse;
 mod quick;
 mod read;
-#[cfg(test)]
-mod tests;
 mod write;
 
 pub use fault::TextFault;

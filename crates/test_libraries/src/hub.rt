@@ -4,9 +4,9 @@ ghost use Rattle.std.specs.Prelude.{◌≡◌, List};
 ghost use Rattle.wl_hub.specs.Passes.{IsPassOf, shape_of};
 ghost use Rattle.wl_hub.specs.Words.{IsInShape};
 
-use crate::{Hub, Pass, Truth};
 use std::test::Fail;
 use std::thread::{Threads, join};
+use wl_hub::{Hub, Pass, Truth};
 use wl_lattice::CLASH;
 use wl_record_core::{Record, Slot};
 

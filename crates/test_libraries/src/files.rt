@@ -1,7 +1,6 @@
 //! What no clause says. A folder does what it is asked if nothing fails. Of the system's files no clause knows anything: an old file stays
 //! if any call fails, and nothing else is left.
 
-use crate::{BeginFault, Folder, ScriptedFolder, SystemFolder};
 use std::alloc::{AllocError, Allocator, Global};
 use std::env::Env;
 use std::fs::{Metadata, OpenFile, OpenOptions, Permissions};
@@ -13,6 +12,7 @@ use std::sync::Arc;
 use std::sync::atomic::{AtomicU32, Ordering};
 use std::{fs, io};
 use wl_device::{Ended, read_up_to, write_all};
+use wl_files::{BeginFault, Folder, ScriptedFolder, SystemFolder};
 
 #[test]
 fn a_new_file_is_moved_to_its_name(rt: HostRuntime) {

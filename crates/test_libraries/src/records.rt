@@ -1,12 +1,12 @@
 //! Devices that fail, and a reader without an end. The rows of record texts, of small texts and of writers with little room are those of a
 //! program, which compares its output.
 
-use crate::{TextFault, read_records, write_records};
 use std::alloc::Global;
 use std::io;
 use std::io::{ErrorKind, Read, Write};
 use std::test::Fail;
 use wl_device::{Got, Host, ScriptedReader, Source, Then};
+use wl_record::{TextFault, read_records, write_records};
 
 /// Two records, and their text.
 const TEXT: &[u8] = b"C 0 0\nE 0 1 100\n";
