@@ -87,23 +87,27 @@ impl<'s> Link for Failing<'s> {
     }
 }
 
-/// Returns how many of ten runs by 2 workers name worker `failing`. In run n, from 1, its link is gone at its nth call.
+/// Says how many of ten runs by 2 workers name worker `failing`. In run n, from 1, its link is gone at its nth call.
 pub fn runs_gone<R: Threads + Wait + Sync>(
     rt: &R,
     alloc: Global,
     plan: &CheckedPlan,
     failing: u8,
-) -> Result<u64, AllocError> {
+) -> Result<String> {
+    let gone = (LinkFault::Gone, LinkFault::Gone);
     let mut answered = 0u64;
     for before in 0..10u64 {
-        let nth = |worker: u8| if worker == failing { before + 1 } else { 0 };
-        let gone = (LinkFault::Gone, LinkFault::Gone);
-        let ended = run_failing(rt, alloc, plan, (nth(0), nth(1)), gone)?;
+        let nth = if failing == 0 {
+            (before + 1, 0)
+        } else {
+            (0, before + 1)
+        };
+        let ended = run_failing(rt, alloc, plan, nth, gone)?;
         if ended == Some(Fault::Worker(failing)) {
             answered = answered.saturating_add(1);
         }
     }
-    Ok(answered)
+    Ok(format!(in alloc; "{answered} of 10 runs: fault: Worker({failing})")?)
 }
 
 /// Says what is answered to 2 workers whose links fail at their first calls by faults of these numbers.

@@ -117,50 +117,15 @@ pub fn answer<R: Threads + Wait + Sync>(
     bus: Bus<'_>,
     step: Step<'_>,
 ) -> Result<String> {
-    let [a, b, c, _] = step.numbers;
-    let (plan, by) = (bus.plan, step.by());
+    let [a, b, ..] = step.numbers;
     match step.word {
-        "again" => again(rt, alloc, bus, step, "", When::Never, Who::Library),
-        "random" => again(
-            rt,
-            alloc,
-            bus,
-            step,
-            " with restarts",
-            When::Random(c),
-            Who::Library,
-        ),
-        "work" if c == 0 => again(rt, alloc, bus, step, " by work", When::Never, Who::Caller),
-        "work" => {
-            let when = When::Random(c);
-            again(
-                rt,
-                alloc,
-                bus,
-                step,
-                " by work with restarts",
-                when,
-                Who::Caller,
-            )
-        }
-        "links" => {
-            let (node, count) = (small(a), u32::try_from(b).unwrap_or(u32::MAX));
-            let entry = Record::Silence {
-                node,
-                count,
-                until: c,
-            };
-            let said = tell_links(rt, alloc, plan, step.link, entry)?;
-            Ok(format!(in alloc; "links{by}: {said}")?)
-        }
-        "alone" => tell_alone(rt, alloc, plan, a),
-        "gone" => {
-            let stopped = runs_gone(rt, alloc, plan, small(a))?;
-            Ok(format!(in alloc; "{stopped} of 10 runs: fault: Worker({a})")?)
-        }
-        "faults" => fault_of_two(rt, alloc, plan, (a, b)),
-        "letters" => tell_posts(rt, alloc, plan),
-        "foreign" => tell_foreign(rt, alloc, plan),
+        "again" | "random" | "work" => again(rt, alloc, bus, step),
+        "links" => tell_silence(rt, alloc, bus, step),
+        "alone" => tell_alone(rt, alloc, bus.plan, a),
+        "gone" => runs_gone(rt, alloc, bus.plan, small(a)),
+        "faults" => fault_of_two(rt, alloc, bus.plan, (a, b)),
+        "letters" => tell_posts(rt, alloc, bus.plan),
+        "foreign" => tell_foreign(rt, alloc, bus.plan),
         _ => one_run(rt, alloc, bus, step),
     }
 }
@@ -172,49 +137,116 @@ fn one_run<R: Threads + Wait + Sync>(
     bus: Bus<'_>,
     step: Step<'_>,
 ) -> Result<String> {
-    let [a, b, c, d] = step.numbers;
-    let link = step.link;
-    let (workers, end) = match step.word {
-        "workers" => (a, run_by(rt, alloc, bus, small(a), link, &ANY_TURN)?),
+    let workers = workers_of(step);
+    let end = run(rt, alloc, bus, step, small(workers))?;
+    let what = what_of(alloc, step)?;
+    let by = step.by();
+    Ok(format!(in alloc; "{workers} workers{by}{what}: {end}")?)
+}
+
+/// Returns how many workers a step names.
+fn workers_of(step: Step<'_>) -> u64 {
+    let [first, _, third, fourth] = step.numbers;
+    match step.word {
+        "stop" => third,
+        "hold" | "work-hold" | "restart" => fourth,
+        _ => first,
+    }
+}
+
+/// Runs a plan by this many workers, as a step says.
+fn run<R: Threads + Wait + Sync>(
+    rt: &R,
+    alloc: Global,
+    bus: Bus<'_>,
+    step: Step<'_>,
+    workers: u8,
+) -> Result<End> {
+    let [first, second, third, _] = step.numbers;
+    match step.word {
+        "workers" => Ok(run_by(rt, alloc, bus, workers, step.link, &ANY_TURN)?),
         "stop" => {
             let gate = OneRefusal {
-                refused: Some((small(a), b)),
+                refused: Some((small(first), second)),
             };
-            (c, run_by(rt, alloc, bus, small(c), link, &gate)?)
+            Ok(run_by(rt, alloc, bus, workers, step.link, &gate)?)
         }
-        "hold" => (d, run_held(rt, alloc, bus, step, Who::Library)?),
-        "work-hold" => (d, run_held(rt, alloc, bus, step, Who::Caller)?),
-        "restart" => {
-            let gate = Restarts::new(When::Twice(small(a), b, c));
-            let end = run_by(rt, alloc, bus, small(d), link, &gate)?;
-            (
-                d,
-                if gate.asked() == 2 {
-                    end
-                } else {
-                    End::FewTurns
-                },
-            )
+        "overlap" => {
+            let gate = Overlap::new(third, second);
+            Ok(run_by(rt, alloc, bus, workers, step.link, &gate)?)
         }
-        "overlap" => (
-            a,
-            run_by(rt, alloc, bus, small(a), link, &Overlap::new(c, b))?,
-        ),
-        "over" => {
-            let ran = run_over(rt, alloc, bus.plan, small(a), link, &ANY_TURN, Who::Library);
-            (a, end_of(alloc, bus, ran)?)
-        }
-        "silent" => {
-            let restarts = AtomicU64::new(0);
-            let links = silent_links(alloc, small(a), &restarts)?;
-            let plan = bus.plan.clone_in(alloc)?;
-            let ran = simulate_over(rt, alloc, plan, links, &LastTurn::new(b, (0, 0)));
-            (a, end_of(alloc, bus, ran)?)
-        }
+        "hold" => Ok(run_held(rt, alloc, bus, step, Who::Library)?),
+        "work-hold" => Ok(run_held(rt, alloc, bus, step, Who::Caller)?),
+        "restart" => Ok(run_restarted(rt, alloc, bus, step)?),
+        "over" => Ok(run_made(rt, alloc, bus, step, workers)?),
+        "silent" => Ok(run_silent(rt, alloc, bus, workers, second)?),
         _ => bail!("a line that is no step"),
+    }
+}
+
+/// Runs a plan by workers of whom one restarts before two turns.
+fn run_restarted<R: Threads + Wait + Sync>(
+    rt: &R,
+    alloc: Global,
+    bus: Bus<'_>,
+    step: Step<'_>,
+) -> Result<End, AllocError> {
+    let [worker, first, second, workers] = step.numbers;
+    let gate = Restarts::new(When::Twice(small(worker), first, second));
+    let end = run_by(rt, alloc, bus, small(workers), step.link, &gate)?;
+    Ok(if gate.asked() == 2 {
+        end
+    } else {
+        End::FewTurns
+    })
+}
+
+/// Runs a plan over links that are made here.
+fn run_made<R: Threads + Wait + Sync>(
+    rt: &R,
+    alloc: Global,
+    bus: Bus<'_>,
+    step: Step<'_>,
+    workers: u8,
+) -> Result<End, AllocError> {
+    let ran = run_over(
+        rt,
+        alloc,
+        bus.plan,
+        workers,
+        step.link,
+        &ANY_TURN,
+        Who::Library,
+    );
+    end_of(alloc, bus, ran)
+}
+
+/// Runs a plan over links that bring nothing, whose workers are refused this turn.
+fn run_silent<R: Threads + Wait + Sync>(
+    rt: &R,
+    alloc: Global,
+    bus: Bus<'_>,
+    workers: u8,
+    turn: u64,
+) -> Result<End, AllocError> {
+    let restarts = AtomicU64::new(0);
+    let links = silent_links(alloc, workers, &restarts)?;
+    let plan = bus.plan.clone_in(alloc)?;
+    let ran = simulate_over(rt, alloc, plan, links, &LastTurn::new(turn, (0, 0)));
+    end_of(alloc, bus, ran)
+}
+
+/// Returns what comes of a silence by two links.
+fn tell_silence<R: Wait>(rt: &R, alloc: Global, bus: Bus<'_>, step: Step<'_>) -> Result<String> {
+    let [node, count, until, _] = step.numbers;
+    let entry = Record::Silence {
+        node: small(node),
+        count: u32::try_from(count).unwrap_or(u32::MAX),
+        until,
     };
-    let (by, what) = (step.by(), what_of(alloc, step)?);
-    Ok(format!(in alloc; "{workers} workers{by}{what}: {end}")?)
+    let said = tell_links(rt, alloc, bus.plan, step.link, entry)?;
+    let by = step.by();
+    Ok(format!(in alloc; "links{by}: {said}")?)
 }
 
 /// Returns what the answer to a step says of its run beside the number of workers and their links.
@@ -251,18 +283,28 @@ fn run_held<R: Threads + Wait + Sync>(
     })
 }
 
-/// Returns how many runs of a step, one after another, have the outcome of one thread. If workers are to restart, each run has to have
+/// Returns before which turns workers restart in the runs of a step.
+fn when_of(step: Step<'_>) -> When {
+    let [_, _, seed, _] = step.numbers;
+    if seed == 0 {
+        When::Never
+    } else {
+        When::Random(seed)
+    }
+}
+
+/// Says how many runs of a step, one after another, have the outcome of one thread. If workers are to restart, each run has to have
 /// restarts, too.
 fn again<R: Threads + Wait + Sync>(
     rt: &R,
     alloc: Global,
     bus: Bus<'_>,
     step: Step<'_>,
-    what: &str,
-    when: When,
-    who: Who,
 ) -> Result<String> {
     let [workers, runs, ..] = step.numbers;
+    let when = when_of(step);
+    let is_own = step.word == "work";
+    let who = if is_own { Who::Caller } else { Who::Library };
     let mut same = 0u64;
     for number in 0..runs {
         let gate = Restarts::new(when.later(number));
@@ -271,8 +313,14 @@ fn again<R: Threads + Wait + Sync>(
             same = same.saturating_add(1);
         }
     }
+    let own = if is_own { " by work" } else { "" };
+    let restarts = if when.is_never() {
+        ""
+    } else {
+        " with restarts"
+    };
     let by = step.by();
-    Ok(format!(in alloc; "{same} of {runs} runs{what}{by}: as one thread")?)
+    Ok(format!(in alloc; "{same} of {runs} runs{own}{restarts}{by}: as one thread")?)
 }
 
 /// Returns the fault of a worker of node 0 over a link that brings nothing, which is refused this turn, and the last turn that it asked
