@@ -2,7 +2,7 @@
 //!
 //! Under the condition every power-up of a plan is free of errors, with any offsets and any deviation of its clocks within their tolerance.
 //! It is three inequalities for each pair of nodes, in exact integers, which take drift and cable together. That they suffice is proved for one
-//! sender at a time (`wl_one_sender`), and for any senders with some room more (`wl_clean`); else it rests on searches.
+//! sender at a time (`wl_buses::one_sender`), and for any senders with some room more (`wl_buses::clean_plans`); else it rests on searches.
 #![tactic(auto)]
 
 mod condition;

@@ -100,7 +100,7 @@ abbrev pub senders_words : Buses → List (List ℕ) → List ℕ
 senders_words f names = each_below (sender_words f names) (length f.members)
 
 -- What is said where the condition holds, after the names of those that send. That it suffices is proved for one sender at a time, on the plans that
--- the law covers (`one_sender_is_clean` of wl_one_sender). So it is for any senders, if the bus leaves room (`any_senders_are_clean` of wl_clean).
+-- the law covers (`one_sender_is_clean` of wl_buses::one_sender). So it is for any senders, if the bus leaves room (`any_senders_are_clean` of wl_buses::clean_plans).
 -- Else it rests on searches.
 abbrev pub any_word : Proved → List ℕ
 any_word proved =

@@ -643,8 +643,8 @@ fn text_for(alloc: Global, asked: Asked, tick: u64, bus: &Bus) -> Result<String,
 ///
 /// A plan with a clock outside of its tolerance gets one line, which names the node. Else the first line says whether the condition for a
 /// sound bus holds: for any senders of the nodes that have frames, which it names, for one of them at a time, or not. It says 'proved' if a
-/// law covers the plan: that on one sender (`one_sender_is_clean` of wl_one_sender), or, if the bus leaves room, that on any senders
-/// (`any_senders_are_clean` of wl_clean). If not the next line says why. If the condition fails the line says which inequality fails, for
+/// law covers the plan: that on one sender (`one_sender_is_clean` of wl_buses::one_sender), or, if the bus leaves room, that on any senders
+/// (`any_senders_are_clean` of wl_buses::clean_plans). If not the next line says why. If the condition fails the line says which inequality fails, for
 /// which nodes and by how much. It may also say that no condition is known for the plan.
 ///
 /// Then follows what is to spare for each node and each other. Last come how much longer the cable and wider the tolerances may be, up to

@@ -1,5 +1,5 @@
 -- Whether a bus has room for acknowledgements of any senders and to rest after each frame: what the laws on them ask of it, beside the condition for
--- margins (`HasRoomToAnswer` of wl_any_senders, `LeavesRoomToRest` of wl_frame_end). This project's.
+-- margins (`HasRoomToAnswer` of wl_buses::one_frame, `LeavesRoomToRest` of wl_buses::frame_end). This project's.
 use Rattle.std.specs.Prelude.{ℕ, suc, ◌+◌, ◌-◌, ◌*◌, ◌<◌, ◌==◌, ◌&&◌, ◌||◌, nat_le, not, min, Bool, length, if◌then◌else◌}
 use Rattle.std.specs.Int.{div_ceil}
 use Rattle.wl_segments.specs.Lengths.{sample_at}

@@ -1,7 +1,7 @@
 //! Whether a bus has room for acknowledgements of any senders and to rest after each frame.
 //!
 //! That is what the laws on any senders ask of a bus, beside the condition for margins: any two nodes have room as if both sent. The laws
-//! that it suffices are those of `wl_any_plans`.
+//! that it suffices are those of `wl_buses::family_plans`.
 #![tactic(auto)]
 
 mod lack;

@@ -12,7 +12,9 @@ ghost use Rattle.wl_buses.specs.FrameEnd.Asked.{EndsBefore};
 ghost use Rattle.wl_buses.specs.NextFrames.Frames.{IsBegunAfter, Frame, HasRoomForAll, IsBegun};
 ghost use Rattle.wl_buses.specs.NextFrames.NextStarts.{HaveMore};
 
-use crate::next_frames::laws::{resting_stations_begin_the_next_frame, stations_rest_after_a_frame};
+use crate::next_frames::laws::{
+    resting_stations_begin_the_next_frame, stations_rest_after_a_frame,
+};
 
 /// Law: one station has won each frame that stations begin, whoever begins it, by the end of its CRC sequence.
 pub fn one_station_wins()

@@ -16,7 +16,9 @@ ghost use Rattle.wl_buses.specs.NextFrames.Frames.{FollowOneAnother, Frame, fram
 ghost use Rattle.wl_buses.specs.NextFrames.Runs.{GoesThroughOne, HandsBetween};
 
 use crate::next_frames::laws::stations_rest_after_a_frame;
-use crate::next_frames::nodes::{a_node_goes_through_the_next_frame, a_node_waits_for_the_next_frame};
+use crate::next_frames::nodes::{
+    a_node_goes_through_the_next_frame, a_node_waits_for_the_next_frame,
+};
 
 /// Law: of several frames that follow one another a station finds one at a time. That is from its third bit of the intermission of one up to
 /// that of the next. What reaches it then is what all drive in that frame alone.
