@@ -78,7 +78,7 @@ def tables(program):
         margin, check = said(program, "margin", row), said(program, "check", row)
         name, _, quantum, prop, ps1, _, _, out, into, cable, _ = row
         words = [f"`{name}`", 2 * (out + into + cable), (1 + prop + ps1) * quantum, found(check, r" ppm (\d+)"),
-                 margin.splitlines()[0].split(",")[0], found(margin, r"tolerance:.*?any senders (\d+) ppm"),
+                 margin.splitlines()[0].split(",")[0].split(" of ")[0], found(margin, r"tolerance:.*?any senders (\d+) ppm"),
                  found(margin, r"cable:.*?any senders (\d+) units")]
         print("| " + " | ".join(map(str, words)) + " |")
     print("\n| kbit/s | length, m | prop, ps1, ps2, sjw | quantum, ns | in and out, ns | `margin` | with 250 ns | with 420 ns |")

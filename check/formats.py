@@ -76,8 +76,9 @@ def line_differs(line, record):
         left += line[at:found] + " "
         at = found + len(text)
     left = FIXED.sub("", left + line[at:])
-    for name in ("name", "other_name"):  # a sentence may say a name twice
-        left = re.sub(rf"(?<![\w-]){re.escape(record.get(name) or ' ')}(?![\w-])", " ", left)
+    named = [record.get("name"), record.get("other_name"), *(record.get("senders") or "").split(" and ")]
+    for name in named:  # a sentence may say a name twice
+        left = re.sub(rf"(?<![\w-]){re.escape(name or ' ')}(?![\w-])", " ", left)
     return f"a number is in no field: {left}" if re.search(r"\d", left) else None
 
 
