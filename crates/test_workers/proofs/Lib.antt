@@ -1,3 +1,0 @@
-mod Handing
-mod Numbered
-mod Truth
