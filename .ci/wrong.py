@@ -35,6 +35,7 @@ TOP = os.path.dirname(os.path.dirname(os.path.realpath(__file__)))
 GATE, NIGHT = f"{TOP}/.ci/wrong-bodies", f"{TOP}/check/wrong-bodies"
 PAGE, BEGIN, END = f"{TOP}/docs/change/wrong-bodies.md", "<!-- .ci/wrong.py page begins -->\n", "<!-- .ci/wrong.py page ends -->\n"
 REFUSED = ("not proved", "no proof")
+ACCEPTED = "the prover proves all that it reads"
 
 Edit = namedtuple("Edit", "crate name file function mistakes pairs")
 
@@ -221,7 +222,7 @@ def judged(run, status, said):
     for edit in run["edits"]:
         own = [(verdict, rest) for name, verdict, rest in verdicts if is_of(name, edit)]
         refusal = next((it for it in own if it[0] in REFUSED), None)
-        if status == 0: yield edit, None, "the prover proves all that it reads"
+        if status == 0: yield edit, None, ACCEPTED
         elif not well: yield edit, None, f"the check ended with status {status} before the prover had tried it: {first_error(said)}"
         elif others: yield edit, None, f"also not proved: {', '.join(others)}"
         elif not refusal: yield edit, None, f"the prover says of it: {own[0][0] if own else 'nothing'}"
@@ -257,7 +258,7 @@ def attempt(folder, names, is_kept):
     runs = runs_of(edits)
     rt, crates = kit()
     build(rt, crates, {it.crate for it in edits})
-    refused, failed, again = 0, [], []
+    refused, failed, untried, again = 0, [], [], []
 
     def told(run, status, said, seconds):
         nonlocal refused
@@ -266,16 +267,19 @@ def attempt(folder, names, is_kept):
             again.extend(runs_of([edit])[0] for edit in run["edits"])
             return
         for edit, how, why in found:
-            word = "refused" if how else "NOT REFUSED" if status >= 0 else "KILLED"
+            is_accepted = not how and why in (ACCEPTED, "the prover says of it: proved")
+            word = "refused" if how else "NOT REFUSED" if is_accepted else "NOT TRIED"
             print(f"{edit.name}: {word} in {edit.function}: {how or why}", flush=True)
             refused += bool(how)
-            failed.extend([edit.name] * (not how))
+            failed.extend([edit.name] * is_accepted)
+            untried.extend([edit.name] * (not how and not is_accepted))
         print(f"  {run['edits'][0].crate}: {seconds:.0f} s by the clock", flush=True)
 
     for it in tried(rt, crates, runs, is_kept): told(*it)
     # Edits that stood in one another's way have a check each.
     if again:
         for it in tried(rt, crates, list(again), is_kept): told(*it)
+    if untried: print(f"{len(untried)} could not be tried: {' '.join(untried)}")
     print(f"{refused} of {len(edits)} wrong bodies refused, {len(failed)} not{': ' if failed else ''}{' '.join(failed)}")
     return 1 if failed else 0
 
