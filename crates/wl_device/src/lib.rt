@@ -7,8 +7,6 @@ mod host;
 mod laws;
 mod limits;
 mod script;
-#[cfg(test)]
-mod tests;
 
 pub use bounded::{Ended, read_up_to};
 pub use device::{Got, Put, Sink, Source, WriteFault, send, write_all};

@@ -60,17 +60,3 @@ impl Level {
         self.is_dominant() == other.is_dominant()
     }
 }
-
-#[cfg(test)]
-mod tests {
-    use super::*;
-
-    #[test]
-    fn two_levels(rt: HostRuntime) {
-        assert_eq!(rt; Level::default(), Level::Recessive);
-        assert_eq!(rt; Level::Recessive.opposite(), Level::Dominant);
-        assert!(rt; Level::Dominant.is(Level::Dominant));
-        assert!(rt; !Level::Recessive.is(Level::Dominant));
-        place_laws();
-    }
-}

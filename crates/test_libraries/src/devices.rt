@@ -2,9 +2,9 @@
 //! or none, which no clause can see.
 ghost use Rattle.std.specs.Prelude.{◌≤◌, IfOk};
 
-use crate::{Got, Host, Put, Sink, Source};
 use std::io;
 use std::io::{ErrorKind, Read, Write};
+use wl_device::{Got, Host, Put, Sink, Source};
 
 /// A reader and writer that counts its calls: the first is interrupted, the second fails, the third moves a byte, and the others none.
 #[derive(Drop)]
