@@ -12,20 +12,29 @@ A folder has the rows of one subject, in files NAME.rows, and the texts that the
 - `$ WORDS : CHANGES`: the text is changed first. ` ;; ` parts several changes: `OLD => LETTERS` puts LETTERS in the place of the first line
   OLD, `- OLD` takes that line away, `+ LETTERS` goes after the last line.
 - `$ WORDS < LETTERS`: the text is what LETTERS spell, in parts with ` ;; ` between them.
+- `$ WORDS :! CHANGES` and `$ WORDS <! LETTERS`: after the text the reader fails, in place of its end.
+- `$* WORDS ..`: the row is asked as often as it has bytes to write and once more, each time with room for a byte more. Without room for all it has to
+  write just as many as there is room for, and to end with `fault: Write`.
 LETTERS spell bytes: `\\n`, `\\r`, `\\t`, `\\\\` and `\\x41` are a newline, a carriage return, a tab, a backslash and the byte 0x41. `41 * LETTERS` are 41
 times these, in which `\\i` is the number of the time, from 0 on.
 
 What a row has to write is below it: standard output, then each line of standard error after `! `, then `= STATUS` unless it is 0.
 """
+import os
+import pty
 import re
+import resource
+import signal
 import subprocess
 import sys
+import tempfile
+import tty
 from pathlib import Path
 from typing import NamedTuple
 
 TOP = Path(__file__).resolve().parent.parent
 SECONDS = 300
-ROW = re.compile(r"\$ (.*?)(?: ([:<])(?: (.*))?)?", re.S)
+ROW = re.compile(r"\$(\*?) (.*?)(?: ([:<])(!?)(?: (.*))?)?", re.S)
 ESCAPE = re.compile(r"\\(n|r|t|\\|i|x[0-9A-Fa-f]{2})|\\")
 OWN = {"margin": "margin.py", "settings": "settings.py", "sweep": "sweeps.py"}  # commands that plain.py hasn't
 PLAIN = {"n": b"\n", "r": b"\r", "t": b"\t", "\\": b"\\"}
@@ -41,6 +50,8 @@ class Row(NamedTuple):
     place: str  # the file, and the row's line
     commands: list  # the words of each
     text: bytes
+    fails: bool  # whether the reader fails after the text
+    in_rooms: bool  # whether it is asked with room for 0 bytes, for 1, and so on
     wanted: Answer
 
 
@@ -85,7 +96,7 @@ def text_of(path, sign, letters):
     if sign == "<": return b"".join(spelled(part) for part in (letters or "").split(" ;; "))
     if path is None: raise Wrong("no text is named above it")
     text = (TOP / path).read_bytes()
-    for change in letters.split(" ;; ") if sign else []: text = changed(text, change)
+    for change in letters.split(" ;; ") if letters else []: text = changed(text, change)
     return text
 
 
@@ -106,13 +117,13 @@ def rows_of(file):
 
     def made():
         head, number, about, lines = row
-        words, sign, letters = ROW.fullmatch(head).groups()
-        place = f"{name}:{number}: {head}"
-        try: return Row(place, [command.split() for command in words.split(" | ")], text_of(about, sign, letters), wanted_of(lines))
+        star, words, sign, fails, letters = ROW.fullmatch(head).groups()
+        place, commands = f"{name}:{number}: {head}", [command.split() for command in words.split(" | ")]
+        try: return Row(place, commands, text_of(about, sign, letters), bool(fails), bool(star), wanted_of(lines))
         except (Wrong, OSError) as why: raise Wrong(f"{place}: {why}") from None
 
     for number, line in enumerate(file.read_text(encoding="utf-8").split("\n")[:-1], 1):
-        if line[:2] in ("% ", "@ ", "$ ") or line == "%":
+        if line[:2] in ("% ", "@ ", "$ ", "$*") or line == "%":
             if row: yield made()
             row = (line, number, path, []) if line[0] == "$" else None
             if line[0] == "@": path = line[2:]
@@ -135,6 +146,29 @@ def by_program(program, words, text):
     return Answer(done.stdout, done.stderr, done.returncode)
 
 
+def by_failing(program, words, text):
+    """Asks with a reader that fails after the text: one side of a terminal whose other side has written it and is closed."""
+    reader, writer = pty.openpty()
+    tty.setraw(writer)
+    if text: os.write(writer, text)
+    os.close(writer)
+    done = subprocess.run([program, *words], stdin=reader, capture_output=True, timeout=SECONDS, check=False)
+    os.close(reader)
+    return Answer(done.stdout, done.stderr, done.returncode)
+
+
+def in_room(program, words, text, room):
+    """Asks with room for so many bytes of standard output."""
+    def limit():
+        signal.signal(signal.SIGXFSZ, signal.SIG_IGN)
+        resource.setrlimit(resource.RLIMIT_FSIZE, (room, room))
+
+    with tempfile.TemporaryFile() as out:
+        done = subprocess.run([program, *words], input=text, stdout=out, stderr=subprocess.PIPE, preexec_fn=limit, timeout=SECONDS, check=False)
+        out.seek(0)
+        return Answer(out.read(), done.stderr, done.returncode)
+
+
 def by_another(words, text):
     """Returns what the independent programs answer, or None if they have no such command."""
     word, options = words[0], words[1:]
@@ -145,15 +179,25 @@ def by_another(words, text):
     return by_program(sys.executable, ["-B", TOP / "check" / script[0], *script[1:], *options], text)
 
 
-def asked(row, ask):
-    """Returns the answer of a row's last command. What clap answers to wrong words no independent program has."""
-    if ask is by_another and row.wanted.err.startswith(b"error: "): return None
+def asked(row, program):
+    """Returns the answer of a row's last command, or None. What clap answers to wrong words no independent program has, nor devices that fail."""
+    if program is None and (row.fails or row.wanted.err.startswith(b"error: ")): return None
     text, answer = row.text, None
     for words in row.commands:
-        answer = ask(words, text)
+        if program is None: answer = by_another(words, text)
+        elif row.fails and answer is None: answer = by_failing(program, words, text)
+        else: answer = by_program(program, words, text)
         if answer is None: return None
         text = answer.out
     return answer
+
+
+def first_misfit(row, program):
+    """Returns the first answer with little room that isn't a front of the output and its fault, and what it should be; or None."""
+    for room in range(len(row.wanted.out)):
+        answer, wanted = in_room(program, row.commands[0], row.text, room), Answer(row.wanted.out[:room], b"fault: Write\n", 3)
+        if answer != wanted: return answer, wanted
+    return None
 
 
 def shown(part):
@@ -161,19 +205,19 @@ def shown(part):
     return text if len(text) < 600 else text[:600] + "..\n"
 
 
-def compared(files, ask):
+def compared(files, program):
     """Asks all rows. Returns how many agreed, differed, and were not asked."""
     counts = [0, 0, 0]
     for file in files:
         for row in rows_of(file):
-            answer = asked(row, ask)
-            if answer is None: counts[2] += 1
-            elif answer == row.wanted: counts[0] += 1
-            else:
-                counts[1] += 1
-                print(f"differs: {row.place}")
-                for name, has, wants in zip(("standard output", "standard error", "status"), answer, row.wanted):
-                    if has != wants: print(f"  {name}:\n{shown(has)}  wanted:\n{shown(wants)}" if name != "status" else f"  status {has}, wanted {wants}")
+            answer, wanted = asked(row, program), row.wanted
+            if answer == wanted and row.in_rooms and program: answer, wanted = first_misfit(row, program) or (answer, wanted)
+            counts[2 if answer is None else 0 if answer == wanted else 1] += 1
+            if answer in (None, wanted): continue
+            print(f"differs: {row.place}")
+            for name, has, wants in zip(("standard output", "standard error"), answer, wanted):
+                if has != wants: print(f"  {name}:\n{shown(has)}  wanted:\n{shown(wants)}")
+            if answer.status != wanted.status: print(f"  status {answer.status}, wanted {wanted.status}")
     return counts
 
 
@@ -181,8 +225,7 @@ def main():
     if len(sys.argv) < 2: sys.exit(sys.stderr.write(__doc__) and 2)
     whom, files, failed = sys.argv[1], list(files_of(sys.argv[2:])), False
     for program in whom.split(","):
-        ask = by_another if program == "independent" else lambda words, text, path=str(Path(program).resolve()): by_program(path, words, text)
-        try: agreed, differ, left = compared(files, ask)
+        try: agreed, differ, left = compared(files, None if program == "independent" else str(Path(program).resolve()))
         except Wrong as why: sys.exit(f"{why}")
         print(f"{program}: {agreed} rows agree, {differ} differ" + (f", {left} are not asked" if left else ""))
         failed = failed or differ or not agreed
