@@ -529,15 +529,15 @@ for kind in '2 mail' '4 mail' '2 hub' '4 hub'; do
   is "workers that can't be made, $kind: $others" [ -z "$others" ]
 done
 
-world=crates/test_worlds/out/test_worlds
-if [ -x "$world" ]; then
+rows=crates/test_rows/out/test_rows
+if [ -x "$rows" ]; then
   for wanted in check/world/*.stdout; do
     [ -e "$wanted" ] || continue
     name=$(basename "$wanted" .stdout)
-    "$world" < "check/world/$name" > "$room/out" 2> "$room/err"
+    "$rows" < "check/world/$name" > "$room/out" 2> "$room/err"
     is "the world $name" cmp -s "$room/out" "$wanted"
   done
-  is "worlds that restart" python3 check/worlds.py "$world" restarts
+  is "worlds that restart" python3 check/worlds.py "$rows" restarts
 fi
 
 # Each allocation refused in turn, where there is a C compiler to make the library that does it.
@@ -563,7 +563,7 @@ if command -v gcc > /dev/null; then
   is "traffic --format json, each allocation refused" check/refuse.sh "$program" traffic examples/clean_500k.toml --format json
   is "settings, each allocation refused" check/refuse.sh "$program" settings examples/settings/narrow_1m.toml
   is "sweep, each allocation refused" check/refuse.sh "$program" sweep examples/clean_500k.toml --runs 3 --workers 2
-  [ ! -x "$world" ] || is "worlds, each allocation refused" python3 check/worlds.py "$world" refused
+  [ ! -x "$rows" ] || is "worlds, each allocation refused" python3 check/worlds.py "$rows" refused
 fi
 fi
 

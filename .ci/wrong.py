@@ -317,7 +317,7 @@ def unfit():
     rows = {line for file in glob.glob(f"{TOP}/crates/*/stdin") for line in text_of(file).splitlines()}
     for mistake, ways in by_rows():
         for kind, text in ways:
-            if kind == "row" and text not in rows: yield mistake, f"no program of rows has the line '{text}'"
+            if kind == "row" and text not in rows: yield mistake, f"no program has the row '{text}' on standard input"
             if kind == "test" and f"fn {text.split()[1]}(" not in text_of(f"{TOP}/{text.split()[0]}"): yield mistake, f"{text}: there is no such test"
             if kind == "lacks" and re.search(rf"\b{text.split()[1]}\b", text_of(f"{TOP}/{text.split()[0]}")): yield mistake, f"{text}: the word is there"
         if not ways: yield mistake, "nothing is named that refuses it"

@@ -1,6 +1,6 @@
 #!/usr/bin/env python3
-"""Settles worlds of groups by the built `test_worlds`, with twice as many quanta at each step, and prints a table: seconds of processor time
-(the least of RUNS, 3 by default) and peak memory; where COUNT is set, also the instructions (in millions, by valgrind's cachegrind), and how many
+"""Settles worlds of groups by the part `worlds` of the built `test_rows`, with twice as many quanta at each step, and prints a table: seconds of
+processor time (the least of RUNS, 3 by default) and peak memory; where COUNT is set, also the instructions (in millions, by valgrind's cachegrind), and how many
 times as many as in the row before, which a busy machine does not change. KEEP=1 keeps the row with the most quanta of each world in results.tsv.
 
 usage: groups.py [PROGRAM [MOST_OF_TWO [MOST_OF_SIXTEEN]]]      the most quanta a node, 64,000 and 16,000 by default: of the plan of two nodes with
@@ -18,7 +18,7 @@ sys.dont_write_bytecode = True
 import results
 
 HERE = Path(__file__).resolve().parent
-WORDS = sys.argv[1:] + [str(HERE / "../crates/test_worlds/out/test_worlds"), "64000", "16000"][len(sys.argv) - 1:]
+WORDS = sys.argv[1:] + [str(HERE / "../crates/test_rows/out/test_rows"), "64000", "16000"][len(sys.argv) - 1:]
 
 
 def of_two(quanta: int) -> str:
@@ -40,7 +40,7 @@ def measured(script: str, work: Path) -> tuple[float, float, list[str]]:
             subprocess.run(["/usr/bin/time", "-o", work / "time", "-f", "%U %S %M", WORDS[0]], stdin=source, stdout=sink, check=True)
         user, system, memory = (work / "time").read_text().split()
         least, peak = min(least, float(user) + float(system)), max(peak, int(memory))
-    return least, peak / 1024, (work / "out").read_text().split()
+    return least, peak / 1024, (work / "out").read_text().removeprefix("part worlds\n").split()
 
 
 def counted(work: Path) -> float:
@@ -63,7 +63,7 @@ def main() -> None:
         for name, groups, plan_of, most in worlds:
             quanta, before, steps_before = 1_000, 0.0, 0.0
             while quanta <= most:
-                script = f"groups {' '.join(map(str, groups))}\nsettle\nemitted\nplan\n{plan_of(quanta)}"
+                script = f"part worlds\ngroups {' '.join(map(str, groups))}\nsettle\nemitted\nplan\n{plan_of(quanta)}"
                 seconds, peak, told = measured(script, Path(folder))
                 steps = counted(Path(folder)) if os.environ.get("COUNT") else 0.0
                 row = [name, f"{quanta:,}", f"{int(told[0]):,}", f"{int(told[1]):,}", f"{seconds:.2f}", times(seconds, before), f"{peak:.1f} MiB"]

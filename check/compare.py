@@ -27,7 +27,7 @@ Seed 1 and one process by default. Input N of a seed is always the same, in howe
   workers       runs by 2 to 8 workers and either link beside one thread
   work          PROGRAM is test_workers: workers by threads of its own and either link beside one thread
   engines       run and records on plans of up to 16 nodes, far apart and with clocks far off, beside plain.py's engine, which goes quantum by quantum
-  replicas      PROGRAM is test_replica: lists of takes and joins
+  replicas      PROGRAM is test_rows: lists of takes and joins
   programs      another built program, --beside PROGRAM, on the same inputs
   rooms         PROGRAM is -: when plain.py's nodes have sent their frames beside the least quanta that explain counts for them
   groups        PROGRAM is -: groups under random schedules by plain.py's nodes, beside its one-thread simulation

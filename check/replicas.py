@@ -1,8 +1,8 @@
 #!/usr/bin/env python3
-"""Lists of takes and joins for `test_replica`, and what it has to write after them, by plain.py: the comparison `replicas`.
+"""Lists of takes and joins for the part `replica` of `test_rows`, and what it has to write after them, by plain.py: the comparison `replicas`.
 
 usage: replicas.py rows COUNT [SEED]     lists, one a line; the same numbers give the same lists
-       replicas.py answers < ROWS        the lines that `test_replica` has to write
+       replicas.py answers < ROWS        the lines that the part has to write, also of that block of crates/test_rows/stdin
 
 A list is of two holders: a record is taken, `join` joins in what the other holder knows, `tell` tells what is known; after `+` the second one does so.
 Ticks and numbers are small, so that records meet in their slots, clash, and lie in silences; now and then one is the greatest that there may be.
@@ -12,7 +12,7 @@ import sys
 
 sys.dont_write_bytecode = True
 import plain
-from tally import asked
+from tally import asked, rows_of_part
 
 GREATEST_SEQ, GREATEST_COUNT, GREATEST_TICK = 262_144, 262_145, 2 ** 48 - 1
 
@@ -71,7 +71,7 @@ def answer(row):
 
 def replicas(tally, program, seed, numbers, options):
     rows = [a_list(random.Random(f"{seed} {number}")) for number in numbers]
-    lines = asked(program, text="".join(row + "\n" for row in rows).encode())[0].splitlines()
+    lines = asked(program, text="".join(f"{row}\n" for row in ["part replica", *rows]).encode())[0].splitlines()[1:]
     for number, row, line in zip(numbers, rows, lines + [""] * (len(rows) - len(lines))):
         tally.tried += 1
         tally.compare(f"list {number} of seed {seed}", "lists", row.encode(), line, answer(row))
@@ -80,7 +80,7 @@ def replicas(tally, program, seed, numbers, options):
 def main():
     words = sys.argv[1:]
     if words == ["answers"]:
-        for line in sys.stdin: print(answer(line.rstrip("\n")))
+        for line in rows_of_part("replica"): print(answer(line))
     elif words[:1] == ["rows"] and len(words) in (2, 3): print("\n".join(lists(*map(int, [*words[1:], 1][:2]))))
     else: sys.exit(sys.stderr.write(__doc__) and 2)
 

@@ -30,6 +30,16 @@ def asked(program, *words, text=b"", limit=None):
     return done.stdout.decode("utf-8", "replace"), done.stderr.decode("utf-8", "replace"), done.returncode
 
 
+def rows_of_part(name):
+    """Returns the lines on standard input, or if it has a block `part NAME`, as crates/test_rows/stdin does, the lines of that block."""
+    lines, block = sys.stdin.read().splitlines(), []
+    if f"part {name}" not in lines: return lines
+    for line in lines[lines.index(f"part {name}") + 1:]:
+        if line.startswith("part "): break
+        block.append(line)
+    return block
+
+
 class Tally:
     def __init__(self):
         self.tried = self.differ = 0

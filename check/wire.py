@@ -5,7 +5,7 @@ usage: wire.py same [COUNT [SEED]]      compares the machine with that of plain.
        wire.py search [COUNT [SEED]]    plays random schedules of 2 to 6 machines, and counts those that refuse the claim
        wire.py wrong [COUNT [SEED]]     the same with each condition left out or changed: each has to be refused
        wire.py edges [COUNT [SEED]]     measures the longest way from one edge to the next, in random frames
-       wire.py rows < FILE              answers the rows of crates/test_wire/stdin, which say how they are written
+       wire.py rows < ROWS              answers rows of the part `wire`: those on standard input, or of crates/test_rows/stdin that block
 
 The wire. All machines are idle at first. At a bit of the bus each samples the same level: dominant where some machine drives dominant.
 A machine that is between frames (idle, suspended, or in intermission after two bits) and drives recessive may also sample a recessive bit by
@@ -23,6 +23,9 @@ import random
 import sys
 from functools import lru_cache
 from typing import NamedTuple
+
+sys.dont_write_bytecode = True
+from tally import rows_of_part
 
 
 class Content(NamedTuple):
@@ -534,7 +537,7 @@ def row(line):
 
 
 def rows():
-    for line in sys.stdin.read().splitlines():
+    for line in rows_of_part("wire"):
         if not line or line[0] == "#": print(line)
         else:
             try: print(f"{line} = {row(line)}")

@@ -1,8 +1,6 @@
 //! What groups of the nodes of one plan answer.
-ghost use Rattle.std.specs.Prelude.{◌≡◌, ◌↔◌, ◌<◌, All, IsTrue, IfOk, OnOk, length, true};
-ghost use Rattle.wl_group.specs.GroupValue.{belongs};
+ghost use Rattle.std.specs.Prelude.{◌≡◌, ◌<◌, IfOk, length};
 
-use anyhow::{Result, bail};
 use std::alloc::{AllocError, Global};
 use wl_group::{Advance, Group, first_silence};
 use wl_plan::CheckedPlan;
@@ -12,7 +10,7 @@ use wl_record_core::Record;
 type Told = Result<(), AllocError>;
 
 /// Runs groups of a plan's nodes, and writes what they answer.
-pub fn of_plan(alloc: Global, plan: &CheckedPlan) -> Result<String> {
+pub fn of_plan(alloc: Global, plan: &CheckedPlan) -> Result<String, AllocError> {
     let mut told = String::new(alloc);
     tell_each_alone(alloc, plan, &mut told)?;
     tell_groups(alloc, plan, &mut told)?;
@@ -27,12 +25,25 @@ fn tell_each_alone(alloc: Global, plan: &CheckedPlan, told: &mut String) -> Told
 }
 
 /// Runs two groups of all nodes, and begins with the first again.
-fn tell_groups(alloc: Global, plan: &CheckedPlan, told: &mut String) -> Result<()> {
+fn tell_groups(alloc: Global, plan: &CheckedPlan, told: &mut String) -> Told {
     let mut all = group_of_all(alloc, plan)?;
-    tell_run(alloc, plan, &mut all, told)?;
+    tell_course(alloc, plan, &mut all, told)
+}
+
+/// Runs a group of all nodes and another one, and begins with the first again.
+fn tell_course(alloc: Global, plan: &CheckedPlan, all: &mut Group, told: &mut String) -> Told
+    requires plan { all.old.plan ≡ plan.now }
+{
+    tell_run(alloc, plan, all, told)?;
+    tell_other(alloc, plan, told)?;
+    all.restart()?;
+    told.push_str("begun again: ")?;
+    tell_progress(all, "first", told)
+}
+
+fn tell_other(alloc: Global, plan: &CheckedPlan, told: &mut String) -> Told {
     let mut other = group_of_all(alloc, plan)?;
-    tell_rows(alloc, plan, &mut other, told)?;
-    Ok(tell_again(&mut all, told)?)
+    tell_rows(alloc, plan, &mut other, told)
 }
 
 /// Runs a group of all nodes to its end.
@@ -63,8 +74,8 @@ const MOST_ROWS: u32 = 10_000;
 /// emitted, and where each node is in the end.
 fn tell_rows(alloc: Global, plan: &CheckedPlan, all: &mut Group, told: &mut String) -> Told {
     let rows = run_rows(all)?;
-    let (emitted, ready) = (all.emitted().len(), all.ready());
-    writeln!(told, "in {rows} rows: {emitted} told, then {ready:?}")?;
+    write!(told, "in {rows} rows: ")?;
+    tell_progress(all, "then", told)?;
     for i in 0..plan.nodes() {
         tell_node(alloc, all, i, told)?;
     }
@@ -85,33 +96,21 @@ fn run_rows(all: &mut Group) -> Result<u32, AllocError> {
     Ok(rows)
 }
 
-/// Begins a group again, and writes what it has emitted and which member may run.
-fn tell_again(all: &mut Group, told: &mut String) -> Told {
-    all.restart()?;
-    let (emitted, ready) = (all.emitted().len(), all.ready());
-    writeln!(told, "begun again: {emitted} told, first {ready:?}")
-}
-
-/// True if each of the numbers is that of a node.
-fn each_is_a_node(plan: &CheckedPlan, members: &[u8]) -> bool
-    ensures { IsTrue result ↔ All (λ m. m < length plan.now.nodes) members.now }
-{
-    let nodes = plan.nodes();
-    members.iter().all(|m| *m < nodes)
+/// Writes how many records a group has emitted, and which member may run.
+fn tell_progress(group: &Group, next: &str, told: &mut String) -> Told {
+    let (emitted, ready) = (group.emitted().len(), group.ready());
+    writeln!(told, "{emitted} told, {next} {ready:?}")
 }
 
 /// Returns a group of all nodes.
-fn group_of_all(alloc: Global, plan: &CheckedPlan) -> Result<Group>
+fn group_of_all(alloc: Global, plan: &CheckedPlan) -> Result<Group, AllocError>
     ensures { IfOk result (λ group. group.plan ≡ plan.now) }
 {
     let mut members = Vec::new(alloc);
     for i in 0..plan.nodes() {
         members.push(i)?;
     }
-    if !each_is_a_node(plan, members.as_slice()) {
-        bail!("a number that is no node");
-    }
-    Ok(Group::new(alloc, plan, members.as_slice())?)
+    Group::new(alloc, plan, members.as_slice())
 }
 
 /// Returns what node `i` may do next in a group.
@@ -130,12 +129,27 @@ fn tell_alone(alloc: Global, plan: &CheckedPlan, i: u8, told: &mut String) -> To
     requires node { i < length plan.now.nodes }
 {
     let mut alone = Group::new(alloc, plan, &[i])?;
-    let before = state(&alone, i);
-    for j in 0..plan.nodes() {
-        alone.take(first_silence(plan, j))?;
-    }
-    let after = state(&alone, i);
+    tell_silences(plan, &mut alone, i, told)
+}
+
+/// Writes whether node `i` may run in a group, and whether it may once the group has taken all first silences.
+fn tell_silences(plan: &CheckedPlan, group: &mut Group, i: u8, told: &mut String) -> Told
+    requires plan { group.old.plan ≡ plan.now }
+{
+    let before = state(group, i);
+    take_silences(plan, group)?;
+    let after = state(group, i);
     writeln!(told, "alone {i} {before}, with the first silences {after}")
+}
+
+/// Takes the first silence of each node.
+fn take_silences(plan: &CheckedPlan, group: &mut Group) -> Told
+    requires plan { group.old.plan ≡ plan.now }
+{
+    for j in 0..plan.nodes() {
+        group.take(first_silence(plan, j))?;
+    }
+    Ok(())
 }
 
 /// Runs the least member that may run, and writes what it emitted.
@@ -165,8 +179,8 @@ fn tell_rest(alloc: Global, group: &mut Group, told: &mut String) -> Told
     ensures { group.new.plan ≡ group.old.plan }
 {
     let said = group.advance_all(alloc)?.len();
-    let (emitted, ready) = (group.emitted().len(), group.ready());
-    writeln!(told, "all: {said} more, {emitted} told, then {ready:?}")
+    write!(told, "all: {said} more, ")?;
+    tell_progress(group, "then", told)
 }
 
 /// Writes where node `i` is in a group, and at which ticks it changed.
@@ -192,9 +206,16 @@ fn tell_joined(alloc: Global, plan: &CheckedPlan, all: &Group, i: u8, told: &mut
     requires plan { all.now.plan ≡ plan.now }
 {
     let mut alone = Group::new(alloc, plan, &[i])?;
-    alone.join(all.replica())?;
-    let said = alone.advance_all(alloc)?.len();
-    let state = state(&alone, i);
+    follow(alloc, &mut alone, all, i, told)
+}
+
+/// Runs a group with what another one knows, and writes how many records that emitted, and what node `i` may do next.
+fn follow(alloc: Global, group: &mut Group, other: &Group, i: u8, told: &mut String) -> Told
+    requires plan { group.old.plan ≡ other.now.plan }
+{
+    group.join(other.replica())?;
+    let said = group.advance_all(alloc)?.len();
+    let state = state(group, i);
     writeln!(
         told,
         "alone {i} with all that is known: {said} told, {state}"

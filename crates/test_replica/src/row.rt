@@ -3,8 +3,8 @@ ghost use Rattle.std.specs.Prelude.{◌≡◌, ◌<◌, OnOk};
 ghost use Rattle.wl_replica.specs.State.{Fits};
 
 use crate::form::Form;
-use std::alloc::Global;
-use test_words::Stop;
+use std::alloc::{AllocError, Global};
+use test_words::{Stop, numbers, parts};
 use wl_record_core::{MOST_NODES, Record};
 
 /// What a holder does.
@@ -25,56 +25,62 @@ pub struct Step {
     what: What,
 }
 
-/// Returns the record that some words spell.
-fn record(words: &[&str]) -> Result<Record, Stop> {
-    match words {
-        ["E", node, seq, tick] => Ok(Record::Edge {
-            node: node.parse::<u8>()?,
-            seq: seq.parse::<u32>()?,
-            tick: tick.parse::<u64>()?,
+/// Returns the record of a kind and its numbers. A number past its limit stays past it, so that no holder takes the record.
+fn record_of(kind: &str, numbers: &[u64]) -> Option<Record> {
+    let (first, second) = match numbers {
+        [first, second] | [first, second, _] => (*first, *second),
+        _ => return None,
+    };
+    let (node, seq) = (first.min(255) as u8, second.min(u64::from(u32::MAX)) as u32);
+    match (kind, numbers) {
+        ("E", [_, _, tick]) => Some(Record::Edge {
+            node,
+            seq,
+            tick: *tick,
         }),
-        ["C", node, seq] => Ok(Record::Clash {
-            node: node.parse::<u8>()?,
-            seq: seq.parse::<u32>()?,
+        ("C", [_, _]) => Some(Record::Clash { node, seq }),
+        ("S", [_, _, until]) => Some(Record::Silence {
+            node,
+            count: seq,
+            until: *until,
         }),
-        ["S", node, count, until] => Ok(Record::Silence {
-            node: node.parse::<u8>()?,
-            count: count.parse::<u32>()?,
-            until: until.parse::<u64>()?,
-        }),
-        _ => Err(Stop::Unread),
+        _ => None,
     }
 }
 
-/// Returns what some words bid a holder do.
-fn bidden(words: &[&str]) -> Result<What, Stop> {
-    match words {
-        ["join"] => Ok(What::Join),
-        ["tell"] => Ok(What::Tell),
-        _ => Ok(What::Take(record(words)?)),
+/// Returns the record that a text spells.
+fn record(alloc: Global, text: &str) -> Result<Record, Stop> {
+    let (kind, rest) = parts(text, ' ');
+    match numbers::<u64>(alloc, rest)? {
+        Some(numbers) => record_of(kind, numbers.as_slice()).ok_or(Stop::Unread),
+        None => Err(Stop::Unread),
     }
 }
 
-/// Returns the step that some words spell.
-fn step_of(words: &[&str]) -> Result<Step, Stop> {
-    match words {
-        ["+", rest @ ..] => Ok(Step {
-            second: true,
-            what: bidden(rest)?,
-        }),
-        _ => Ok(Step {
-            second: false,
-            what: bidden(words)?,
-        }),
+/// Returns what a text bids a holder do.
+fn bidden(alloc: Global, text: &str) -> Result<What, Stop> {
+    match text {
+        "join" => Ok(What::Join),
+        "tell" => Ok(What::Tell),
+        _ => Ok(What::Take(record(alloc, text)?)),
     }
+}
+
+/// Returns the step that a text spells.
+fn step_of(alloc: Global, text: &str) -> Result<Step, Stop> {
+    let (second, text) = match text.strip_prefix("+ ") {
+        Some(rest) => (true, rest),
+        None => (false, text),
+    };
+    let what = bidden(alloc, text)?;
+    Ok(Step { second, what })
 }
 
 /// Returns the steps of a row.
 pub fn steps(alloc: Global, row: &str) -> Result<Vec<Step>, Stop> {
     let mut all = Vec::new(alloc);
     for part in row.split(";") {
-        let words: Vec<&str> = part.split_whitespace().collect(alloc)?;
-        all.push(step_of(words.as_slice())?)?;
+        all.push(step_of(alloc, part.trim())?)?;
     }
     Ok(all)
 }
@@ -86,7 +92,12 @@ fn tell_node<F: Form>(alloc: Global, form: &F, node: u8, said: &mut String) -> R
     let (run, horizon) = (form.run_of(node), form.horizon_of(node));
     write!(said, " H {node} {run} {horizon};")?;
     let wave = form.wave_of(alloc, node)?;
-    for (from, to) in wave.as_slice() {
+    Ok(tell_wave(node, wave.as_slice(), said)?)
+}
+
+/// Writes the intervals in which a node is dominant.
+fn tell_wave(node: u8, wave: &[(u64, u64)], said: &mut String) -> Result<(), AllocError> {
+    for (from, to) in wave {
         write!(said, " D {node} {from} {to};")?;
     }
     Ok(())
@@ -96,15 +107,21 @@ fn tell_node<F: Form>(alloc: Global, form: &F, node: u8, said: &mut String) -> R
 fn tell<F: Form>(alloc: Global, form: &F, said: &mut String) -> Result<(), Stop>
     requires { F.count form.now ≡ MOST_NODES }
 {
-    said.push_str(" =")?;
     let all = form.records(alloc)?;
-    for told in all.as_slice() {
-        write!(said, " {told};")?;
-    }
+    tell_records(all.as_slice(), said)?;
     for node in 0..MOST_NODES {
         if all.iter().any(|told| told.node() == node) {
             tell_node(alloc, form, node, said)?;
         }
+    }
+    Ok(())
+}
+
+/// Writes records.
+fn tell_records(all: &[Record], said: &mut String) -> Result<(), AllocError> {
+    said.push_str(" =")?;
+    for told in all {
+        write!(said, " {told};")?;
     }
     Ok(())
 }
@@ -138,14 +155,26 @@ fn act<F: Form>(
 pub fn answers<F: Form + Drop>(alloc: Global, steps: &[Step]) -> Result<String, Stop> {
     let mut first = F::empty(alloc, MOST_NODES)?;
     let mut second = F::empty(alloc, MOST_NODES)?;
+    answers_of(alloc, &mut first, &mut second, steps)
+}
+
+fn answers_of<F: Form>(
+    alloc: Global,
+    first: &mut F,
+    second: &mut F,
+    steps: &[Step],
+) -> Result<String, Stop>
+    requires first { F.count first.old ≡ MOST_NODES }
+    requires second { F.count second.old ≡ MOST_NODES }
+{
     let mut said = String::new(alloc);
     for step in steps {
         if step.second {
-            act(alloc, &mut second, &first, step.what, &mut said)?;
+            act(alloc, second, first, step.what, &mut said)?;
         } else {
-            act(alloc, &mut first, &second, step.what, &mut said)?;
+            act(alloc, first, second, step.what, &mut said)?;
         }
     }
-    tell(alloc, &first, &mut said)?;
+    tell(alloc, first, &mut said)?;
     Ok(said)
 }

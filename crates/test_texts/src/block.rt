@@ -1,24 +1,23 @@
 //! What the first line of a block says, and the text that the block gives.
 
-use crate::change::changed;
 use crate::spelling::spell_lines;
 use std::alloc::{AllocError, Global};
 use std::collections::BTreeMap;
 use test_words::parts;
 
 /// Where the text of a block comes from.
-#[derive(Clone, Copy, Debug)]
+#[derive(Clone, Copy)]
 pub enum Origin<'a> {
     /// Its lines as they are.
     Plain,
     /// What its lines spell.
     Raw,
-    /// The text of this name, changed by its lines.
+    /// The text of this name.
     Of(&'a str),
 }
 
 /// The first line of a block.
-#[derive(Clone, Copy, Debug)]
+#[derive(Clone, Copy)]
 pub struct Block<'a> {
     /// Whether every line is a row of its own.
     pub each: bool,
@@ -82,7 +81,7 @@ pub fn text_of(
         Origin::Plain => Ok(Text::Given(Vec::from_slice(alloc, body.as_bytes())?)),
         Origin::Raw => spell_lines(alloc, body),
         Origin::Of(name) => match kept.get(name) {
-            Some(text) => changed(alloc, text.as_str(), body),
+            Some(text) => Ok(Text::Given(Vec::from_slice(alloc, text.as_bytes())?)),
             None => Ok(Text::Wrong("no text of this name was kept")),
         },
     }

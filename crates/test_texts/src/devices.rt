@@ -6,7 +6,7 @@ use test_words::{numbers, parts};
 use wl_device::{
     MOST_CALLS, ScriptedReader, ScriptedWriter, Then, WriteFault, read_up_to, send, write_all,
 };
-use wl_record::{read_records, text_of, write_records};
+use wl_record::{text_of, write_records};
 use wl_record_core::Record;
 
 /// Returns the bytes that come of a text, and how its reading ended: `MOST STEP`; the reader gives `STEP` bytes a call.
@@ -71,14 +71,7 @@ fn writer(alloc: Global, room: usize, step: usize, then: Then) -> ScriptedWriter
 
 /// Returns what goes out of the text of some records to writers with little room: `THEN STEP ROOM..`, a line for each room. THEN says how a
 /// writer goes on without room.
-pub fn fronts(
-    alloc: Global,
-    reader: &mut ScriptedReader,
-    words: &str,
-) -> Result<String, AllocError> {
-    let Ok(records) = read_records(alloc, reader) else {
-        return String::from_str(alloc, "row: the records\n");
-    };
+pub fn fronts(alloc: Global, records: &[Record], words: &str) -> Result<String, AllocError> {
     let (word, rest) = parts(words, ' ');
     let then = match word {
         "End" => Then::End,
@@ -95,7 +88,7 @@ pub fn fronts(
     for room in rooms {
         let mut first = writer(alloc, *room as usize, *step as usize, then);
         let mut second = writer(alloc, *room as usize, *step as usize, then);
-        push_front(alloc, &mut shown, &records, &mut first, &mut second)?;
+        push_front(alloc, &mut shown, records, &mut first, &mut second)?;
     }
     Ok(shown)
 }

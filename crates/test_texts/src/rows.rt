@@ -1,99 +1,116 @@
-//! The blocks of the input, one after another.
+//! The blocks of a text, one after another.
 
 use crate::answer::answer;
 use crate::block::{Block, Text, text_of};
 use std::alloc::{AllocError, Global};
 use std::collections::BTreeMap;
-use std::sync::Wait;
-use std::thread::Threads;
 use test_words::is_row;
 
-/// What was read of the block that is open, and the texts that were kept.
+/// What was read of the block that is open, the texts that were kept, and what was answered.
 #[derive(Drop)]
 pub struct Rows {
     alloc: Global,
     head: Option<String>,
     body: String,
     kept: BTreeMap<String, String>,
+    pub said: String,
 }
 
 impl Rows {
-    /// Returns the state in which no block is open, and no text is kept.
+    /// Returns the state in which no block is open, no text is kept, and nothing is answered.
     pub fn new(alloc: Global) -> Rows {
         Rows {
             alloc,
             head: None,
             body: String::new(alloc),
             kept: BTreeMap::new(alloc),
+            said: String::new(alloc),
         }
     }
 
-    /// Takes the next line, and answers what is to be written.
-    pub fn take<H: Threads + Wait + Sync>(
-        &mut self,
-        rt: &H,
-        line: &str,
-    ) -> Result<String, AllocError> {
-        let alloc = self.alloc;
+    /// Takes the next line.
+    pub fn take(&mut self, line: &str) -> Result<(), AllocError> {
         if line == "---" {
-            let Some(head) = self.head.take() else {
-                return String::from_str(alloc, "row: no block is open\n");
-            };
-            let said = self.close(rt, head.as_str())?;
-            self.body.clear();
-            return Ok(said);
+            return self.end();
         }
         if self.head.is_some() {
-            self.body.push_str(line)?;
-            self.body.push_str("\n")?;
-            return Ok(String::new(alloc));
+            return push_line(&mut self.body, line);
         }
         if !is_row(line) {
-            return format!(in alloc; "{line}\n");
+            return push_line(&mut self.said, line);
         }
-        self.head = Some(String::from_str(alloc, line)?);
-        Ok(String::new(alloc))
+        self.head = Some(String::from_str(self.alloc, line)?);
+        Ok(())
     }
 
-    /// Returns what is answered to the block that ends here. One that keeps its text answers
-    /// nothing.
-    fn close<H: Threads + Wait + Sync>(
-        &mut self,
-        rt: &H,
-        head: &str,
-    ) -> Result<String, AllocError> {
-        let alloc = self.alloc;
-        if let Some(name) = head.strip_prefix("keep ") {
-            let name = String::from_str(alloc, name)?;
-            let text = self.body.clone()?;
-            self.kept.insert(name, text)?;
-            return Ok(String::new(alloc));
+    /// Takes the line after a block.
+    fn end(&mut self) -> Result<(), AllocError> {
+        match self.head.take() {
+            Some(head) => self.close(head.as_str())?,
+            None => self.said.push_str("row: no block is open\n")?,
         }
-        let block = Block::of(head);
-        let mut said = String::new(alloc);
-        if block.each {
-            for line in self.body.lines() {
-                let answered = answer_to(rt, alloc, &block, line, &self.kept)?;
-                write!(said, "> {line}\n{answered}")?;
-            }
-        } else {
-            said = answer_to(rt, alloc, &block, self.body.as_str(), &self.kept)?;
+        self.body.clear();
+        Ok(())
+    }
+
+    /// Answers the block that ends here. One that keeps its text answers nothing.
+    fn close(&mut self, head: &str) -> Result<(), AllocError> {
+        match head.strip_prefix("keep ") {
+            Some(name) => self.keep(name),
+            None => push_answers(
+                self.alloc,
+                &mut self.said,
+                &Block::of(head),
+                self.body.as_str(),
+                &self.kept,
+            ),
         }
-        said.push_str("---\n")?;
-        Ok(said)
+    }
+
+    /// Keeps the text of a block.
+    fn keep(&mut self, name: &str) -> Result<(), AllocError> {
+        let name = String::from_str(self.alloc, name)?;
+        let text = self.body.clone()?;
+        self.kept.insert(name, text)?;
+        Ok(())
     }
 }
 
-/// Returns what is answered to a block with these lines.
-fn answer_to<H: Threads + Wait + Sync>(
-    rt: &H,
+/// Adds a line.
+fn push_line(text: &mut String, line: &str) -> Result<(), AllocError> {
+    text.push_str(line)?;
+    text.push_str("\n")
+}
+
+/// Adds what is answered to a block with these lines, or to each of them.
+fn push_answers(
     alloc: Global,
+    said: &mut String,
+    block: &Block,
+    body: &str,
+    kept: &BTreeMap<String, String>,
+) -> Result<(), AllocError> {
+    if block.each {
+        for line in body.lines() {
+            write!(said, "> {line}\n")?;
+            push_answer(alloc, said, block, line, kept)?;
+        }
+    } else {
+        push_answer(alloc, said, block, body, kept)?;
+    }
+    said.push_str("---\n")
+}
+
+/// Adds what is answered to a block with these lines.
+fn push_answer(
+    alloc: Global,
+    said: &mut String,
     block: &Block,
     lines: &str,
     kept: &BTreeMap<String, String>,
-) -> Result<String, AllocError> {
+) -> Result<(), AllocError> {
     match text_of(alloc, block, lines, kept)? {
-        Text::Given(text) => answer(rt, alloc, block, text.as_slice()),
-        Text::Wrong(why) => format!(in alloc; "row: {why}\n"),
+        Text::Given(text) => said.push_str(answer(alloc, block, text.as_slice())?.as_str()),
+        Text::Wrong(why) => write!(said, "row: {why}\n"),
     }
 }

@@ -5,7 +5,7 @@ use crate::block::Text;
 use std::alloc::{AllocError, Global};
 
 /// What is before the next letter.
-#[derive(Clone, Copy, Debug)]
+#[derive(Clone, Copy)]
 enum Before {
     Nothing,
     Backslash,
@@ -87,7 +87,7 @@ fn times(line: &str) -> (u32, &str) {
 }
 
 /// Appends to the text what a line spells, and answers whether it spells something.
-pub fn spell_line(text: &mut Vec<u8>, line: &str) -> Result<bool, AllocError> {
+fn spell_line(text: &mut Vec<u8>, line: &str) -> Result<bool, AllocError> {
     let (count, letters) = times(line);
     for number in 0..count {
         if !spell(text, letters, number)? {

@@ -53,21 +53,22 @@ struct Wire {
 
 /// Writes what happens to the machines of a row, and at last whether one found an error.
 pub fn tell(alloc: Global, words: &[&str], out: &mut String) -> Told {
-    let mut stations = Vec::new(alloc);
     let colon = words.iter().position(|w| *w == ":").ok_or(Stop::Unread)?;
-    for word in words.iter().take(colon) {
-        stations.push(read_station(alloc, word)?)?;
-    }
     let mut wire = Wire {
-        stations,
+        stations: stations(alloc, words, colon)?,
         bits: 0,
         failed: false,
     };
-    for word in words.iter().skip(colon).skip(1) {
-        wire.obey(alloc, word, out)?;
+    wire.play(alloc, words, colon, out)
+}
+
+/// Returns a machine for each of the first words.
+fn stations(alloc: Global, words: &[&str], count: usize) -> Result<Vec<Station>, Stop> {
+    let mut stations = Vec::new(alloc);
+    for word in words.iter().take(count) {
+        stations.push(read_station(alloc, word)?)?;
     }
-    let verdict = if wire.failed { "error" } else { "no error" };
-    Ok(out.push_str(verdict)?)
+    Ok(stations)
 }
 
 fn read_station(alloc: Global, word: &str) -> Result<Station, Stop> {
@@ -91,6 +92,15 @@ fn write_turn(out: &mut String, number: usize, bits: u64, turn: &Turn) -> Told {
 }
 
 impl Wire {
+    /// Does what the words after a place say, and writes whether a machine found an error.
+    fn play(&mut self, alloc: Global, words: &[&str], place: usize, out: &mut String) -> Told {
+        for word in words.iter().skip(place).skip(1) {
+            self.obey(alloc, word, out)?;
+        }
+        let verdict = if self.failed { "error" } else { "no error" };
+        Ok(out.push_str(verdict)?)
+    }
+
     /// Does what a word says.
     fn obey(&mut self, alloc: Global, word: &str, out: &mut String) -> Told {
         if let Some((number, count)) = word.split_once('+') {

@@ -3,7 +3,6 @@ ghost use Rattle.std.specs.Prelude.{◌≡◌, ◌++◌, IfOk, string_bytes};
 ghost use Rattle.test_words.specs.Lines.{is_row, answer_of};
 
 use std::alloc::{AllocError, AllocFailed, Global};
-use std::io;
 use std::num::ParseIntError;
 
 /// Why a row has no answer.
@@ -71,25 +70,23 @@ pub fn answered(alloc: Global, row: &str, told: Result<String, Stop>) -> Result<
     Ok(out)
 }
 
-/// Writes back each line of standard input, and after a row what it is told.
-pub fn answer_lines<R: AllocGlobal + Input + Print, F: Fn(Global, &str) -> Result<String, Stop>>(
-    rt: &R,
+/// Returns each line of a text, and after a row what it is told. Refused only when out of memory.
+pub fn answer_lines<F: Fn(Global, &str) -> Result<String, Stop>>(
+    alloc: Global,
+    text: &str,
     tell: F,
-) -> io::Result<()>
+) -> Result<String, AllocError>
     requires { F.IsAlwaysCallable tell }
 {
-    let alloc = rt.alloc();
-    for line in rt.lines(alloc) {
-        let line = line?;
-        let line = line.as_str();
-        if !is_row(line) {
-            println!(rt; "{line}")?;
-            continue;
+    let mut out = String::new(alloc);
+    for line in text.lines() {
+        if is_row(line) {
+            let said = answered(alloc, line, tell(alloc, line))?;
+            out.push_str(said.as_str())?;
+        } else {
+            out.push_str(line)?;
         }
-        match answered(alloc, line, tell(alloc, line)) {
-            Ok(said) => println!(rt; "{said}")?,
-            Err(_) => println!(rt; "out of memory")?,
-        }
+        out.push_str("\n")?;
     }
-    Ok(())
+    Ok(out)
 }

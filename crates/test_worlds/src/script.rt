@@ -1,13 +1,12 @@
 //! Reading the lines before a plan.
 
-use crate::fault::Fault;
+use crate::stop::{Stop, fault, fault_of_line};
 use std::alloc::{AllocError, Global};
-use std::io::BufRead;
 use test_words::{numbers, parts};
 use wl_world::Event;
 
 /// One step of a script.
-#[derive(Clone, Copy, Debug, PartialEq, Eq)]
+#[derive(Clone, Copy)]
 pub enum Step {
     /// An event of the world.
     Event(Event),
@@ -32,28 +31,33 @@ pub struct Script {
     pub steps: Vec<Step>,
 }
 
-/// Reads the lines up to and including `plan`.
-pub fn read<B: BufRead>(alloc: Global, input: &mut B) -> Result<Script, Fault> {
-    let mut line = String::new(alloc);
-    input.read_line(&mut line)?;
-    let Some(groups) = groups_of(alloc, line.as_str())? else {
-        return Err(Fault::Groups);
+/// Returns the script of a text, and the plan's text after it.
+pub fn read(alloc: Global, text: &str) -> Result<(Script, &str), Stop> {
+    let (lines, plan) = match text.split_once("\nplan\n") {
+        Some((lines, plan)) => (lines, Some(plan)),
+        None => (text, None),
+    };
+    let script = script_of(alloc, lines)?;
+    match plan {
+        Some(plan) => Ok((script, plan)),
+        None => Err(fault(alloc, "NoPlan")),
+    }
+}
+
+/// Returns the script of its lines.
+fn script_of(alloc: Global, lines: &str) -> Result<Script, Stop> {
+    let (head, rest) = parts(lines, '\n');
+    let Some(groups) = groups_of(alloc, head)? else {
+        return Err(fault(alloc, "Groups"));
     };
     let mut steps = Vec::new(alloc);
-    for number in 2..u64::MAX {
-        line.clear();
-        if input.read_line(&mut line)? == 0 {
-            return Err(Fault::NoPlan);
-        }
-        if line.trim() == "plan" {
-            return Ok(Script { groups, steps });
-        }
-        match step_of(line.as_str()) {
+    for (i, line) in rest.lines().enumerate() {
+        match step_of(alloc, line)? {
             Some(step) => push(&mut steps, step)?,
-            None => return Err(Fault::Line(number)),
+            None => return Err(fault_of_line(alloc, (i as u64).saturating_add(2))),
         }
     }
-    Err(Fault::NoPlan)
+    Ok(Script { groups, steps })
 }
 
 /// Adds a step.
@@ -64,36 +68,56 @@ fn push(steps: &mut Vec<Step>, step: Step) -> Result<(), AllocError> {
 
 /// Returns the numbers of a line `groups`.
 fn groups_of(alloc: Global, line: &str) -> Result<Option<Vec<u8>>, AllocError> {
-    match parts(line.trim(), ' ') {
+    match parts(line, ' ') {
         ("groups", words) => numbers(alloc, words),
         _ => Ok(None),
     }
 }
 
 /// Returns the step of a line.
-fn step_of(line: &str) -> Option<Step> {
-    let mut words = line.split_whitespace();
-    let verb = words.next()?;
-    let first = words.next();
-    let second = words.next();
-    if words.next().is_some() {
-        return None;
+fn step_of(alloc: Global, line: &str) -> Result<Option<Step>, AllocError> {
+    let (verb, rest) = parts(line, ' ');
+    match numbers::<u64>(alloc, rest)? {
+        Some(numbers) => Ok(step_by(verb, numbers.as_slice())),
+        None => Ok(None),
     }
-    match (verb, first, second) {
-        ("A", Some(g), Some(i)) => Some(Step::Event(Event::Advance(number(g)?, number(i)?))),
-        ("D", Some(g), Some(k)) => Some(Step::Event(Event::Deliver(number(g)?, k.parse().ok()?))),
-        ("J", Some(g), Some(h)) => Some(Step::Event(Event::Join(number(g)?, number(h)?))),
-        ("R", Some(g), None) => Some(Step::Event(Event::Restart(number(g)?))),
-        ("text", Some(g), None) => Some(Step::Text(number(g)?)),
-        ("place", Some(g), Some(i)) => Some(Step::Place(number(g)?, number(i)?)),
-        ("emitted", None, None) => Some(Step::Emitted),
-        ("settle", None, None) => Some(Step::Settle),
-        ("report", None, None) => Some(Step::Report),
+}
+
+fn step_by(verb: &str, numbers: &[u64]) -> Option<Step> {
+    match numbers {
+        [] => step_alone(verb),
+        [group] => step_of_group(verb, u8::try_from(*group).ok()?),
+        [group, second] => step_of_two(verb, u8::try_from(*group).ok()?, *second),
         _ => None,
     }
 }
 
-/// Returns the number of a group or a node.
-fn number(word: &str) -> Option<u8> {
-    word.parse().ok()
+fn step_alone(verb: &str) -> Option<Step> {
+    match verb {
+        "emitted" => Some(Step::Emitted),
+        "settle" => Some(Step::Settle),
+        "report" => Some(Step::Report),
+        _ => None,
+    }
+}
+
+fn step_of_group(verb: &str, group: u8) -> Option<Step> {
+    match verb {
+        "R" => Some(Step::Event(Event::Restart(group))),
+        "text" => Some(Step::Text(group)),
+        _ => None,
+    }
+}
+
+fn step_of_two(verb: &str, group: u8, number: u64) -> Option<Step> {
+    if verb == "D" {
+        return Some(Step::Event(Event::Deliver(group, number)));
+    }
+    let second = u8::try_from(number).ok()?;
+    match verb {
+        "A" => Some(Step::Event(Event::Advance(group, second))),
+        "J" => Some(Step::Event(Event::Join(group, second))),
+        "place" => Some(Step::Place(group, second)),
+        _ => None,
+    }
 }

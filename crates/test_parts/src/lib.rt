@@ -1,4 +1,4 @@
-//! `test_parts`: answers rows about the parts of a bus and of a node, one row a line.
+//! Answers rows about the parts of a bus and of a node, one row a line.
 //!
 //! Blank lines and lines that begin with `#` are written back as they are. Of a row the whole line is written back, then ` = ` and
 //! the answer; a row that can't be read is answered `unread`.
@@ -17,8 +17,7 @@ mod syncs;
 mod topologies;
 
 use answer::Answer;
-use std::alloc::Global;
-use std::io;
+use std::alloc::{AllocError, Global};
 use test_words::{Stop, answer_lines};
 
 /// Writes the answer to a row.
@@ -65,6 +64,7 @@ fn answer_to(alloc: Global, row: &str) -> Result<String, Stop> {
     Ok(format!(in alloc; " = {told}")?)
 }
 
-fn main(rt: HostRuntime) -> io::Result<()> {
-    answer_lines(&rt, answer_to)
+/// Returns the rows of a text with their answers. Refused only when out of memory.
+pub fn answer_rows(alloc: Global, text: &str) -> Result<String, AllocError> {
+    answer_lines(alloc, text, answer_to)
 }

@@ -1,4 +1,4 @@
-//! `test_wire`: plays machines on one wire, one row a line.
+//! Plays machines on one wire, one row a line.
 //!
 //! Blank lines and lines that begin with `#` are written back as they are. Of a row the whole line is written back, then ` = ` and the
 //! answer; a row that can't be read is answered `unread`.
@@ -13,18 +13,18 @@
 
 mod wire;
 
-use std::alloc::Global;
-use std::io;
+use std::alloc::{AllocError, Global};
 use test_words::{Stop, answer_lines};
 
 /// Returns the answer to a row.
-fn answer(alloc: Global, row: &str) -> Result<String, Stop> {
+fn answer_to(alloc: Global, row: &str) -> Result<String, Stop> {
     let words: Vec<&str> = row.split_whitespace().collect(alloc)?;
     let mut said = String::from_str(alloc, " = ")?;
     wire::tell(alloc, words.as_slice(), &mut said)?;
     Ok(said)
 }
 
-fn main(rt: HostRuntime) -> io::Result<()> {
-    answer_lines(&rt, answer)
+/// Returns the rows of a text with their answers. Refused only when out of memory.
+pub fn answer_rows(alloc: Global, text: &str) -> Result<String, AllocError> {
+    answer_lines(alloc, text, answer_to)
 }

@@ -1,5 +1,5 @@
 use Rattle.std.proofs.Common.{◌≡◌}
-use Rattle.test_replica.proofs.row.answers.Given as goal
+use Rattle.test_replica.proofs.row.answers_of.Given as goal
 
 abbrev pub invariant-loop-step : goal.invariant-loop-step
 invariant-loop-step g l = (g.F.Form.count l.first ≡ 16) × (g.F.Form.count l.second ≡ 16)
