@@ -16,7 +16,7 @@ use Rattle.wl_phase.specs.InStep.{seen_before, sampled_by, samples_from}
 use Rattle.wl_phase.specs.Answer.{FindsDominant, FindsItsEnd, SamplesNext}
 use Rattle.wl_phase.proofs.Steps.{IsValid, Leaves, Passes, none_passes}
 use Rattle.wl_phase.proofs.Edges.{answer_soft, answer_none}
-use Rattle.wl_phase.proofs.Runs.{Goes, valid_after, leaves, sync_is}
+use Rattle.wl_phase.proofs.Runs.{Goes, valid_at, leaves, sync_is}
 use Rattle.wl_phase.proofs.Listening.{now_recessive, before_dominant, counts_then, soft_from, unsampled_by}
 
 -- right after such a sample a bit less a quantum is to come before the next one
@@ -37,8 +37,8 @@ module _ (goes : Goes) (ways : WayLaws) (l : Lengths) (h : ByTheBook l) (seen : 
   abbrev sample : ℕ
   sample = n + moved_to (sample_at l - 1) l.sjw (k + bit_quanta l - n)
 
-  valid : (i : ℕ) → IsValid (clock i)
-  valid i = valid_after goes l h (seen_before seen i)
+  abbrev valid : (i : ℕ) → IsValid (clock i)
+  valid = valid_at goes l h seen
 
   leaves_at : (i : ℕ) → Leaves (clock i) (seen i) (way_after l (way i) (sync_of l (seen_before seen i) (seen i))) (clock (suc i))
   leaves_at i = leaves goes l h (seen_before seen i) (seen i)

@@ -27,7 +27,7 @@ use Rattle.wl_phase.specs.Ways.{ByTheBook, WayLaws, sample_way, way_after, moved
 use Rattle.wl_phase.specs.InStep.{Sender, Listener, Listens, IsListening, ClocksAreNear, HaveEdges, SamplesBit, arrival, seen_before, sampled_by, samples_from, bit_parts, quantum_parts, tick_parts, bit_instant, quantum_instant}
 use Rattle.wl_phase.proofs.Steps.{IsValid, Leaves, Passes, none_passes, zero_is}
 use Rattle.wl_phase.proofs.Edges.{answer_soft, answer_none}
-use Rattle.wl_phase.proofs.Runs.{Goes, valid_after, leaves, sync_is}
+use Rattle.wl_phase.proofs.Runs.{Goes, valid_at, leaves, sync_is}
 use Rattle.wl_phase.proofs.Instants.{tick_later, bit_next, quantum_more, arrived_high, unarrived_low, arrived_from, unarrived_from}
 use Rattle.wl_phase.proofs.Drift.{AreLong, IsNear, begun_then, next_later, next_after, near_next, near_edge, near_late, near_early}
 
@@ -47,7 +47,7 @@ module _ (r : Running) (x : Seen) where
   sample_dominant e = (let g : ((is_dominant x.level && not (is_dominant r.level)) && not (is_dominant r.sample)) ≡ false = and_right _ _ (ap (λ v. not (is_dominant v)) e) in rw g refl)
 
 -- an edge that counts at a node that listens
-looks_from : (s : SyncRules) (place k : ℕ) → s ≡ Book → 0 < k → looks s place k ≡ true
+pub looks_from : (s : SyncRules) (place k : ℕ) → s ≡ Book → 0 < k → looks s place k ≡ true
 looks_from After place k e h = cc
 looks_from Book place k e h = lt-ltb 0 k h
 
@@ -132,8 +132,8 @@ module _ (s : Sender) (j : Listener) (seen : ℕ → Seen) (found : ℕ) (is : G
   abbrev NearAt : (m c sample : ℕ) → Type 0
   NearAt m c sample = IsNear A q T (bit_quanta l) (sample_at l) m (bit_instant s j c) (quantum_instant s j sample)
 
-  valid : (k : ℕ) → IsValid (clock k)
-  valid k = valid_after is.goes l is.book (seen_before seen k)
+  abbrev valid : (k : ℕ) → IsValid (clock k)
+  valid = valid_at is.goes l is.book seen
 
   leaves_at : (k : ℕ) → Leaves (clock k) (seen k) (way_after l (way k) (sync_of l (seen_before seen k) (seen k))) (clock (suc k))
   leaves_at k = leaves is.goes l is.book (seen_before seen k) (seen k)

@@ -13,6 +13,7 @@ use Rattle.wl_sync.specs.Bits.{Bit, unseen, seen_at_place, previous_level, sampl
 use Rattle.wl_sync.specs.Running.{Running, running, clock_after}
 use Rattle.wl_sync.specs.Steps.{running_after, running_answer, running_beat, running_edge}
 use Rattle.wl_phase.specs.Ways.{ByTheBook, sample_way, way_after, WayLaws}
+use Rattle.wl_phase.specs.InStep.{seen_before}
 use Rattle.wl_phase.proofs.Steps.{IsValid, Leaves, edge_is}
 use Rattle.wl_phase.proofs.Edges.{step_leaves, answer_error, answer_not, answer_none, driving_not, sample_is, only_is}
 
@@ -107,6 +108,9 @@ module _ (goes : Goes) (l : Lengths) (h : ByTheBook l) where
   valid_after =
       from_the_end (λ past. IsValid (clock_after l past)) (silent_valid l (clock_after l []) h (first_silent l h.book))
       (λ past x v. subst IsValid (sym (goes.clock l past x)) (step_leaves (clock_after l past) x v).valid)
+
+  pub valid_at : (seen : ℕ → Seen) (k : ℕ) → IsValid (clock_after l (seen_before seen k))
+  valid_at seen k = valid_after (seen_before seen k)
 
   -- what the clock is asked
   pub sync_is : (past : List Seen) (x : Seen) → sync_of l past x ≡ running_answer (clock_after l past) x

@@ -12,15 +12,16 @@ use Rattle.wl_phase.specs.Ways.{ByTheBook, sample_way}
 use Rattle.wl_phase.specs.InStep.{FindsTheFirst, SyncsHard, seen_before}
 use Rattle.wl_phase.proofs.Steps.{IsValid, Passes, none_passes}
 use Rattle.wl_phase.proofs.Edges.{answer_hard}
-use Rattle.wl_phase.proofs.Runs.{Goes, first_silent, valid_after, leaves, sync_is}
+use Rattle.wl_phase.proofs.Runs.{Goes, first_silent, valid_at, leaves, sync_is}
 use Rattle.wl_phase.proofs.Listening.{now_recessive, counts_then}
 
-record IsQuiet (r : Running) : Type 0 where
-  level : r.level ≡ Recessive
-  sample : r.sample ≡ Recessive
-  synced : r.synced ≡ false
+-- a clock that an edge would synchronise: nothing dominant was found or sampled, and no edge counts yet in the bit
+pub record IsQuiet (r : Running) : Type 0 where
+  pub level : r.level ≡ Recessive
+  pub sample : r.sample ≡ Recessive
+  pub synced : r.synced ≡ false
 
-hard_from : (s : SyncRules) (x : Seen) → s ≡ Book → x.awaits ≡ true → x.driving ≡ false → is_hard_edge s x ≡ true
+pub hard_from : (s : SyncRules) (x : Seen) → s ≡ Book → x.awaits ≡ true → x.driving ≡ false → is_hard_edge s x ≡ true
 hard_from After x e f g = cc
 hard_from Book x e f g = and_from x.awaits (not x.driving) f (ap not g)
 
@@ -28,8 +29,8 @@ module _ (goes : Goes) (l : Lengths) (h : ByTheBook l) (seen : ℕ → Seen) whe
   abbrev clock : ℕ → Running
   clock k = clock_after l (seen_before seen k)
 
-  valid : (k : ℕ) → IsValid (clock k)
-  valid k = valid_after goes l h (seen_before seen k)
+  abbrev valid : (k : ℕ) → IsValid (clock k)
+  valid = valid_at goes l h seen
 
   passes : (k : ℕ) → running_sync (clock k) (seen k) ≡ false → Passes (clock k) (seen k) (clock (suc k))
   passes k e = subst (Passes (clock k) (seen k)) (sym (goes.clock l (seen_before seen k) (seen k))) (none_passes (clock k) (seen k) (valid k) e)
