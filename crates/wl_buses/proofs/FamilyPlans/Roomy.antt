@@ -1,5 +1,5 @@
 -- What a bus with room has for acknowledgements, and to rest.
-use Rattle.std.proofs.Common.{◌≡◌, ◌≢◌, refl, ap, ℕ, true, suc, ◌+◌, ◌-◌, ◌*◌, ◌<◌, ◌≤◌, arith}
+use Rattle.std.proofs.Common.{◌≡◌, ◌≢◌, refl, ℕ, true, suc, ◌+◌, ◌-◌, ◌*◌, ◌<◌, ◌≤◌, arith}
 use Rattle.wl_bound.specs.Families.{Bus}
 use Rattle.wl_bound.specs.Terms.{drift, jump, look}
 use Rattle.wl_room.specs.Rooms.{distance, gain, gathering, least_chase}

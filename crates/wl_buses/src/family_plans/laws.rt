@@ -10,7 +10,7 @@ ghost use Rattle.wl_room.specs.Rooms.{IsShort, least_chase, leaves_room, plain_b
 ghost use Rattle.wl_buses.specs.BothProofs.Plans.{IsOfFamily};
 ghost use Rattle.wl_buses.specs.BothProofs.Plans.{IsSteadyPlan};
 ghost use Rattle.wl_buses.specs.OneFrame.Answers.{HasRoomToAnswer};
-ghost use Rattle.wl_buses.specs.OneFrame.Bounds.{IsBusOf};
+ghost use Rattle.wl_buses.specs.OneFrame.Bounds.{HasStations};
 ghost use Rattle.wl_buses.specs.OneFrame.Plans.{IsPlanOf};
 ghost use Rattle.wl_buses.specs.OneFrame.Stations.{Stations};
 ghost use Rattle.wl_buses.specs.FirstFrame.FirstFrames.{AreIdleWhenReady, HasFirstFrames, HasFrames, queues_of};
@@ -38,7 +38,7 @@ pub fn a_plan_has_stations()
     ensures plan { (f : Buses) (plan : Plan) (clocks : ℕ → Steady) → IsSteadyPlan plan clocks → IsOfFamily f plan clocks
         → NoneListens plan → IsPlanOf plan (stations_of f plan clocks) }
     ensures bus { (f : Buses) (plan : Plan) (clocks : ℕ → Steady) → IsOfFamily f plan clocks → NoneListens plan
-        → IsBusOf (plain_bus f) (stations_of f plan clocks) }
+        → HasStations (plain_bus f) (stations_of f plan clocks) }
 {}
 
 /// Law: a plan that is covered, and in which the condition has no cause to say nothing, has first frames that find all other nodes idle.
