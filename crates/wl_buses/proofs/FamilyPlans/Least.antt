@@ -10,7 +10,7 @@ use Rattle.wl_topology.specs.Driven.{any_below}
 use Rattle.wl_topology.proofs.Callers.{any_none}
 use Rattle.wl_bound.specs.Families.{Bus, Buses}
 use Rattle.wl_bound.specs.Terms.{drift, greatest, jump, sends_but, sends_third}
-use Rattle.wl_room.specs.Rooms.{IsShort, catches, comes_early, distance, edges_to, falls_behind, gain, gathering, has_long_quantum, have_room, is_crowded, lacks_room, least_chase, leaves_room, plain_bus}
+use Rattle.wl_bound.specs.Rooms.{IsShort, catches, comes_early, distance, edges_to, falls_behind, gain, gathering, has_long_quantum, have_room, is_crowded, lacks_room, least_chase, leaves_room, plain_bus}
 use Rattle.wl_buses.specs.OneFrame.Answers.{HasRoomToAnswer, gathered}
 use Rattle.wl_buses.specs.FrameEnd.Again.{LeavesRoomToRest}
 
