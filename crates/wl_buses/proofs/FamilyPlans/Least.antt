@@ -11,7 +11,7 @@ use Rattle.wl_topology.proofs.Callers.{any_none}
 use Rattle.wl_bound.specs.Families.{Bus, Buses}
 use Rattle.wl_bound.specs.Terms.{drift, jump, sends_but, sends_third}
 use Rattle.wl_bound.proofs.Greatest.{bounded}
-use Rattle.wl_room.specs.Rooms.{IsShort, catches, comes_early, distance, edges_to, falls_behind, gain, gathering, has_long_quantum, have_room, is_crowded, lacks_room, least_chase, leaves_room, plain_bus}
+use Rattle.wl_bound.specs.Rooms.{IsShort, catches, comes_early, distance, edges_to, falls_behind, gain, gathering, has_long_quantum, have_room, is_crowded, lacks_room, least_chase, leaves_room, plain_bus}
 use Rattle.wl_buses.specs.OneFrame.Answers.{HasRoomToAnswer, gathered}
 use Rattle.wl_buses.specs.FrameEnd.Again.{LeavesRoomToRest}
 use Rattle.wl_buses.proofs.BothProofs.Small.{greatest_each}

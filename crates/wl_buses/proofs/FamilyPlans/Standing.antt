@@ -9,7 +9,7 @@ use Rattle.wl_plan.specs.declared.plan.Plan.{Plan}
 use Rattle.wl_plan.specs.PlanLine.{setup_at}
 use Rattle.wl_bound.specs.Conditions.{plain}
 use Rattle.wl_bound.specs.Families.{Buses, delay_in, lengths_in, only_listens, units}
-use Rattle.wl_room.specs.Rooms.{plain_bus}
+use Rattle.wl_bound.specs.Rooms.{plain_bus}
 use Rattle.wl_buses.specs.BothProofs.Plans.{IsOfFamily, IsSteadyPlan}
 use Rattle.wl_buses.specs.OneFrame.Bounds.{HasStations}
 use Rattle.wl_buses.specs.OneFrame.Plans.{IsPlanOf}

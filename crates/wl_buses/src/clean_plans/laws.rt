@@ -8,7 +8,7 @@ ghost use Rattle.wl_bound.specs.Covered.{is_covered};
 ghost use Rattle.wl_bound.specs.Families.{Bus, Buses};
 ghost use Rattle.wl_bound.specs.Verdicts.{verdict_of};
 ghost use Rattle.wl_bound.specs.declared.verdict.Verdict.TheVariants.{ForAny};
-ghost use Rattle.wl_room.specs.Rooms.{leaves_room, plain_bus};
+ghost use Rattle.wl_bound.specs.Rooms.{leaves_room, plain_bus};
 ghost use Rattle.wl_buses.specs.BothProofs.Plans.{IsOfFamily};
 ghost use Rattle.wl_buses.specs.BothProofs.Plans.{IsSteadyPlan};
 ghost use Rattle.wl_buses.specs.OneFrame.Answers.{HasRoomToAnswer};

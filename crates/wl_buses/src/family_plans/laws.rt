@@ -6,7 +6,7 @@ ghost use Rattle.wl_bound.specs.Covered.{is_covered};
 ghost use Rattle.wl_bound.specs.Families.{Buses, family_of};
 ghost use Rattle.wl_bound.specs.Oscillators.{Pace};
 ghost use Rattle.wl_bound.specs.Verdicts.{outside_of};
-ghost use Rattle.wl_room.specs.Rooms.{IsShort, least_chase, leaves_room, plain_bus};
+ghost use Rattle.wl_bound.specs.Rooms.{IsShort, least_chase, leaves_room, plain_bus};
 ghost use Rattle.wl_buses.specs.BothProofs.Plans.{IsOfFamily};
 ghost use Rattle.wl_buses.specs.BothProofs.Plans.{IsSteadyPlan};
 ghost use Rattle.wl_buses.specs.OneFrame.Answers.{HasRoomToAnswer};
@@ -23,7 +23,7 @@ pub fn a_family_leaves_room()
     ensures answers { (f : Buses) → leaves_room f ≡ true → HasRoomToAnswer (plain_bus f) (least_chase (plain_bus f)) }
     ensures rests { (f : Buses) → leaves_room f ≡ true → LeavesRoomToRest (plain_bus f) (least_chase (plain_bus f)) }
 {
-    wl_room::room_law();
+    wl_bound::room_law();
 }
 
 /// Law: the test asks no more of a bus than that: if it has the room with any numbers of edges in which nodes catch up, it passes, since

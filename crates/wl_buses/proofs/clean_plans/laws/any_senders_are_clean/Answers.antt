@@ -3,7 +3,7 @@ use Rattle.wl_plan.specs.declared.plan.Plan.{Plan}
 use Rattle.wl_plan.specs.PlanLine.{line_of, setup_at}
 use Rattle.wl_bound.specs.Conditions.{IsSound, plain}
 use Rattle.wl_bound.specs.Families.{Bus}
-use Rattle.wl_room.specs.Rooms.{least_chase, plain_bus}
+use Rattle.wl_bound.specs.Rooms.{least_chase, plain_bus}
 use Rattle.wl_buses.specs.OneFrame.Answers.{HasRoomToAnswer}
 use Rattle.wl_buses.specs.OneFrame.Bounds.{HasStations}
 use Rattle.wl_buses.specs.OneFrame.Plans.{IsPlanOf}
