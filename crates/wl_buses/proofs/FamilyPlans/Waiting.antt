@@ -28,11 +28,11 @@ use Rattle.wl_buses.specs.FirstFrame.FirstFrames.{AreIdleWhenReady, HasFrames, q
 use Rattle.wl_buses.specs.FamilyPlans.FamilyStations.{AreContents, NoneListens, SendAsFamily, stations_of}
 use Rattle.wl_buses.proofs.BothProofs.Small.{none_below, covered_each}
 
-no_cause : (v : Bool) (cause : Outside) (o : Option Outside) → cond v (Some cause) o ≡ None → (v ≡ false) × (o ≡ None)
+pub no_cause : (v : Bool) (cause : Outside) (o : Option Outside) → cond v (Some cause) o ≡ None → (v ≡ false) × (o ≡ None)
 no_cause false cause o e = (refl, e)
 no_cause true cause o e = cc
 
-neither : (a b : Option Outside) → or_cause a b ≡ None → (a ≡ None) × (b ≡ None)
+pub neither : (a b : Option Outside) → or_cause a b ≡ None → (a ≡ None) × (b ≡ None)
 neither None b e = (refl, e)
 neither (Some x) b e = cc
 
