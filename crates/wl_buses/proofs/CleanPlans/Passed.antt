@@ -42,13 +42,10 @@ module _ (s : Stations) (frames : ℕ → Frame) (winner : ℕ → ℕ) (content
       let few : length xs ≤ m = (let all = many m in let both = ap length e in let sum = length-append xs more in omega arith) in
       (length xs, few, sym (take-append_seam xs more) ∙ ap (take (length xs)) (sym e) ∙ first_of m (length xs) few)
 
-  counted : (xs ys : List Passed) → count_by is_sent (xs ++ ys) ≡ count_by is_sent xs + count_by is_sent ys
-  counted xs ys = sum_by-append (λ p. cond (is_sent p) 1 0) xs ys
-
   pub count_sent : (n : ℕ) → count_by is_sent (P n) ≡ won_by winner i n
   count_sent zero = refl
   count_sent (suc n) =
-      counted (P n) (one n ∷ []) ∙ ap (λ k. k + count_by is_sent (one n ∷ [])) (count_sent n)
+      sum_by-append (λ p. cond (is_sent p) 1 0) (P n) (one n ∷ []) ∙ ap (λ k. k + count_by is_sent (one n ∷ [])) (count_sent n)
       ∙ ap (λ k. won_by winner i n + k) (let e : 0 + cond (i == winner n) 1 0 ≡ cond (i == winner n) 1 0 = omega arith in e)
 
   sent_both : (xs ys : List Passed) → sent_contents (xs ++ ys) ≡ sent_contents xs ++ sent_contents ys
