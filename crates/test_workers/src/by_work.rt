@@ -11,6 +11,14 @@ use wl_plan::CheckedPlan;
 use wl_serial::{NodeOutcome, Outcome, node_outcome};
 use wl_worker::{Fault, Link, share_of, work};
 
+/// What the workers of a run share.
+#[derive(Clone, Copy)]
+struct Run<'r> {
+    plan: &'r CheckedPlan,
+    workers: u8,
+    gate: &'r Watch,
+}
+
 /// Runs a worker for each of these links, and returns their outcome, or the first of their faults.
 pub fn run_by_work<R: Threads + Wait + Sync, L: Link + Send + Drop>(
     rt: &R,
@@ -21,34 +29,36 @@ pub fn run_by_work<R: Threads + Wait + Sync, L: Link + Send + Drop>(
 ) -> Result<Outcome, Fault>
     requires { All (λ link. L.is_of link plan.now) links.items }
 {
-    let workers = u8::try_from(links.len()).unwrap_or(u8::MAX);
+    let run = Run {
+        plan,
+        workers: u8::try_from(links.len()).unwrap_or(u8::MAX),
+        gate,
+    };
     let ends = map_vec(
         rt,
         links,
         &|link: L| -> Result<Group, Fault>
-            requires { L.is_of link plan.now }
-        { run_worker(rt, alloc, plan, workers, link, gate) },
+            requires { L.is_of link run.plan.now }
+        { run_worker(rt, alloc, run, link) },
     )?;
     outcome_of(alloc, plan, ends.as_slice())
 }
 
-/// Runs the worker of a link, which has the nodes `i` with `i` mod `workers` equal to its number.
+/// Runs the worker of a link, which has the nodes `i` with `i` modulo the number of workers equal to its own.
 fn run_worker<R: Wait, L: Link + Drop>(
     rt: &R,
     alloc: Global,
-    plan: &CheckedPlan,
-    workers: u8,
+    run: Run<'_>,
     link: L,
-    gate: &Watch,
 ) -> Result<Group, Fault>
-    requires { L.is_of link plan.now }
+    requires { L.is_of link run.plan.now }
 {
     let worker = link.worker();
-    if worker >= workers {
+    if worker >= run.workers {
         return Err(Fault::Workers);
     }
-    match share_of(alloc, plan, workers, worker) {
-        Ok(group) => work(rt, alloc, group, link, gate),
+    match share_of(alloc, run.plan, run.workers, worker) {
+        Ok(group) => work(rt, alloc, group, link, run.gate),
         Err(AllocError) => {
             let mut link = link;
             link.stop();
