@@ -1,5 +1,5 @@
 #!/usr/bin/env bash
-# Restarts random workers before random turns, and counts the runs that come to what one thread comes to: the plan of those
+# Restarts random workers before random turns, and counts the runs that come to what one thread comes to: the first plan with such
 # steps in crates/test_workers/stdin RUNS times over each kind of link, by 2 and by 3 workers.
 # usage: check/restarts.sh [PROGRAM]      PROGRAM is the built test_workers; RUNS is 200 by default; status 1 where a run differs
 set -euo pipefail
@@ -8,13 +8,13 @@ program=${1:-$here/../crates/test_workers/out/test_workers}
 runs=${RUNS:-200}
 [ -x "$program" ] || { echo "no program at $program: 'rt run' in crates/test_workers builds it"; exit 1; }
 differs=0
-plan=$(sed -n '/^random /,/^---$/p' "$here/../crates/test_workers/stdin" | sed -n '/^---$/d; /^plan$/,$p')
+plan=$(sed -n '/, random /,/^---$/p' "$here/../crates/test_workers/stdin" | sed -n '/^---$/q; /^plan$/,$p')
 for mail in '' 'mail '; do
   for workers in 2 3; do
     begun=$(date +%s%N)
-    said=$({ echo "${mail}random $workers $runs $((workers * 1000))"; echo "$plan"; } | "$program")
-    echo "$workers workers: $said, $((($(date +%s%N) - begun) / 1000000)) ms"
-    [[ $said = "$runs of $runs runs with restarts"*": as one thread" ]] || differs=1
+    said=$({ echo "${mail}simulate $workers $runs, random $((workers * 1000))"; echo "$plan"; } | "$program")
+    echo "$said, $((($(date +%s%N) - begun) / 1000000)) ms"
+    [[ $said = *": as one thread" ]] || differs=1
   done
 done
 sed -n 's/^model name.*: //p' /proc/cpuinfo | head -1
