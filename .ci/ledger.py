@@ -2,7 +2,7 @@
 """Runs the gate and writes down what each crate costs: processor seconds of its library, its tests and its wrong bodies, and the largest memory.
 
 usage: ledger.py FILE COMMAND..    runs COMMAND; its status is this program's
-       ledger.py --keep FILE       keeps a ledger as rows of bench/results.tsv
+       ledger.py --keep FILE..     keeps a ledger as rows of bench/results.tsv; of several files, as of a gate that was measured in parts, their sum
 
 The processes below COMMAND are looked at five times a second, so each loses up to a fifth of a second at its end; the last line of the ledger has what the
 system itself counted for all of them.
@@ -114,26 +114,42 @@ def measure(file, command):
     return status
 
 
-def kept(file):
-    """Keeps a ledger: each crate's row, and what all of it took."""
+def added(files):
+    """Returns the sum of ledgers: of each crate the seconds of each kind and the largest memory, and the minutes of processor time and by the clock."""
+    crates, minutes = {}, [0, 0]
+    for file in files:
+        lines = read(file).splitlines()
+        ends = re.match(r"# (\d+) processor minutes, (\d+) minutes by the clock, .*status (-?\d+)", lines[-1] if lines else "")
+        if not ends:
+            sys.exit(f"ledger.py: {file} is no ledger")
+        if ends[3] != "0":
+            print(f"{file}: its run failed, with status {ends[3]}; what it cost is counted all the same", file=sys.stderr)
+        minutes = [had + int(more) for had, more in zip(minutes, ends.groups())]
+        for crate, *numbers in (line.split("\t") for line in lines[1:-1]):
+            if crate != "all":
+                *had, largest = crates.get(crate, [0] * (len(KINDS) + 1))
+                crates[crate] = [*(one + float(more) for one, more in zip(had, numbers)), max(largest, int(numbers[-1]))]
+    return crates, minutes
+
+
+def kept(files):
+    """Keeps ledgers: each crate's row, and what all of it took."""
     sys.path.insert(0, os.path.join(os.path.dirname(os.path.realpath(__file__)), "..", "bench"))
     import results
-    lines = read(file).splitlines()
-    rows = [it.split("\t") for it in lines[1:] if not it.startswith("#")]
-    found = [(f"gate by crate / `{row[0]}` / {column}", row[at], unit) for row in rows if row[0] != "all"
-             for at, (column, unit) in enumerate([*((kind, "s") for kind in KINDS), ("largest", "MiB")], 1)]
-    sums = dict(zip(KINDS, next(row for row in rows if row[0] == "all")[1:]))
-    programs = sum(float(row[1]) for row in rows if re.match("test_|example_", row[0]))
-    parts = {"libraries and the program": float(sums["library"]) - programs, "programs of rows and the example": programs, "tests": sums["tests"],
-             "wrong bodies": sums["wrong bodies"]}
-    whole, clock = re.match(r"# (\d+) processor minutes, (\d+) minutes by the clock", lines[-1]).groups()
-    found += [(f"gate / {part} / processor", float(seconds) / 60, "minutes") for part, seconds in parts.items()]
-    results.keep([*found, ("gate / all / processor", whole, "minutes"), ("gate / all / clock", clock, "minutes")])
+    crates, (whole, clock) = added(files)
+    found = [(f"gate by crate / `{crate}` / {column}", f"{number:.0f}", unit) for crate, numbers in sorted(crates.items())
+             for number, (column, unit) in zip(numbers, [*((kind, "s") for kind in KINDS), ("largest", "MiB")])]
+    library, tests, wrong = (sum(it[at] for it in crates.values()) for at in range(len(KINDS)))
+    programs = sum(it[0] for crate, it in crates.items() if re.match("test_|example_", crate))
+    parts = {"libraries and the program": library - programs, "programs of rows and the example": programs, "tests": tests, "wrong bodies": wrong}
+    found += [(f"gate / {part} / processor", f"{seconds / 60:.0f}", "minutes") for part, seconds in parts.items()]
+    both = "all" if len(files) == 1 else f"all, as the sum of {len(files)} parts"
+    results.keep([*found, (f"gate / {both} / processor", f"{whole}", "minutes"), (f"gate / {both} / clock", f"{clock}", "minutes")])
 
 
 if __name__ == "__main__":
-    if len(sys.argv) == 3 and sys.argv[1] == "--keep":
-        kept(sys.argv[2])
+    if len(sys.argv) > 2 and sys.argv[1] == "--keep":
+        kept(sys.argv[2:])
     elif len(sys.argv) > 2:
         sys.exit(measure(sys.argv[1], sys.argv[2:]))
     else:

@@ -295,10 +295,8 @@ def named():
         rows = [text for kind, text in ways if kind == "row"]
         tests = [text.split()[1] for kind, text in ways if kind == "test"]
         lacks = [text.split() for kind, text in ways if kind == "lacks"]
-        awaits = [text for kind, text in ways if kind == "awaits"]
         said = [f"the rows {', '.join(f'`{it}`' for it in rows)}"] * bool(rows) + [f"the test `{it}`" for it in tests]
         said += [f"the signatures of `{file.removeprefix('crates/')}`: no `{word}`" for file, word in lacks]
-        said += [f"nothing in the gate yet: {text}" for text in awaits]
         yield f"| {mistake} | {'; '.join(said)} |"
 
 

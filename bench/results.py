@@ -6,10 +6,12 @@ usage: results.py keep WHAT NUMBER UNIT [WHAT NUMBER UNIT]..   keeps rows of thi
        results.py check                                        status 1 if a table isn't that of the rows
 
 A row has the date, the commit, the machine, what was measured, the number and the unit. WHAT is `TABLE / ROW / COLUMN`. A row takes the place of the
-one with the same machine, WHAT and unit. The scripts of bench/ keep their rows if KEEP is set, as in `KEEP=1 bench/run.sh`.
+one with the same machine, WHAT and unit; rows of a table of the gate take the place of all that the machine had in it. The scripts of bench/ keep their
+rows if KEEP is set, as in `KEEP=1 bench/run.sh`.
 
 In a page the lines between `<!-- results: TABLE -->` and `<!-- results end -->` are a table: of each row and column the newest number, whatever the
-machine. Words after the name, as `<!-- results: TABLE; most 12 by COLUMN -->`, keep the twelve rows with the greatest numbers in that column.
+machine. Words after the name, as `<!-- results: TABLE; most 12 by COLUMN -->`, keep the twelve rows with the greatest numbers in that column. The tables
+of the gate are of one run: of the newest commit and machine alone.
 """
 import os
 import re
@@ -20,6 +22,7 @@ from datetime import date
 sys.dont_write_bytecode = True
 TOP = os.path.dirname(os.path.dirname(os.path.realpath(__file__)))
 FILE, PAGES = f"{TOP}/bench/results.tsv", [f"{TOP}/docs/change/gate.md", f"{TOP}/docs/change/speed.md"]
+ONE_RUN = {"gate", "gate by crate"}  # tables that have rows of one run, the newest
 HEAD = "date\tcommit\tmachine\twhat\tnumber\tunit\n"
 BLOCK = re.compile(r"(<!-- results: ([^;>]*?)(?:; most (\d+) by ([^>]*?))? -->\n)(.*?)(<!-- results end -->\n)", re.S)
 
@@ -44,7 +47,8 @@ def keep(found):
     for row in new:
         if row[3].count(" / ") != 2: sys.exit(f"results.py: '{row[3]}' is no TABLE / ROW / COLUMN")
     keys = {(row[2], row[3], row[5]) for row in new}
-    write([row for row in rows() if (row[2], row[3], row[5]) not in keys] + new)
+    whole = {(row[2], row[3].split(" / ")[0]) for row in new} & {(machine(), it) for it in ONE_RUN}
+    write([row for row in rows() if (row[2], row[3], row[5]) not in keys and (row[2], row[3].split(" / ")[0]) not in whole] + new)
 
 
 def write(all_rows):
@@ -62,9 +66,11 @@ def shown(number):
 def table(name, most, by):
     """Returns a table's lines in Markdown: its rows and columns in the order in which they were first kept."""
     found, columns = {}, {}
-    for day, _, _, what, number, unit in rows():
-        head, row, column = what.split(" / ")
-        if head != name: continue
+    own = [it for it in rows() if it[3].startswith(f"{name} / ")]
+    newest = max(reversed(own), key=lambda it: it[0], default=[])[:3]
+    for day, commit, machine, what, number, unit in own:
+        _, row, column = what.split(" / ")
+        if name in ONE_RUN and [day, commit, machine] != newest: continue
         columns.setdefault(column, unit)
         cells = found.setdefault(row, {})
         if day >= cells.get(column, ("", ""))[0]: cells[column] = day, number

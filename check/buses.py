@@ -95,7 +95,7 @@ def line_of(program, k, texts, runs):
 
 
 def answers():
-    """How many of the buses are sound for any senders, and how many of these have room for acknowledgements and to rest, as wl_room has it."""
+    """How many of the buses are sound for any senders, and how many of these have room for acknowledgements and to rest, as wl_bound has it."""
     sound, roomy = 0, 0
     for row in ROWS:
         text = plan_text(nodes_of(row)).encode()

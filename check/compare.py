@@ -25,7 +25,7 @@ Seed 1 and one process by default. Input N of a seed is always the same, in howe
   version-3     plans of version 3 with what it has more; --bits N, --workers N
   cyclic        repeats, on the plans of plans/
   workers       runs by 2 to 8 workers and either link beside one thread
-  work          PROGRAM is test_workers: workers by threads of its own and either link beside one thread
+  work          PROGRAM is test_rows: the same in one process, and workers by threads of its own
   engines       run and records on plans of up to 16 nodes, far apart and with clocks far off, beside plain.py's engine, which goes quantum by quantum
   replicas      PROGRAM is test_rows: lists of takes and joins
   programs      another built program, --beside PROGRAM, on the same inputs

@@ -61,7 +61,7 @@ def is_citation(lines, at, indent, name):
     """Whether a signature's value is another name with arguments: a module's own name for a lemma of another one."""
     for line in lines[at + 1 :]:
         if line.strip() and len(line) - len(line.lstrip()) <= indent:
-            value = re.fullmatch(rf"{re.escape(name)} = [\w'-]+(\.[\w'-]+)+( .*)?|{re.escape(name)} = [\w'-]+", line.strip())
+            value = re.fullmatch(rf"{re.escape(name)} = [\w'-]+(\.[\w'-]+)+( .*)?|{re.escape(name)} = [\w'-]+( [\w'-]+)*", line.strip())
             return "abbrev" in lines[at].split(name)[0] and bool(value)
     return False
 

@@ -1,16 +1,16 @@
 #!/usr/bin/env bash
-# Refuses each allocation of the letters of test_workers in turn:
-#   check/mail.sh PROGRAM      the built test_workers
-# Every run must end with a fault and nothing on standard output, with the rows of crates/test_workers/stdout, or with rows of which one answer more is
-# Memory. Where memory was refused while a group took the letter of many records, that is a line of its own, which says how many records the group
-# kept; and the letter comes again.
+# Refuses each allocation of the letters of the part `workers` of test_rows in turn:
+#   check/mail.sh PROGRAM      the built test_rows
+# Every run must end with a fault and nothing on standard output, with the rows of crates/test_rows/stdout, or with rows of which one has one answer
+# Memory. If memory was refused while a group took the letter of many records, its row has that answer first, with how many records the group kept;
+# and the letter comes again.
 set -euo pipefail
 program=$1
-rows=$(dirname "$0")/../crates/test_workers
+rows=$(dirname "$0")/../crates/test_rows
 scratch=$(mktemp -d)
 trap 'rm -rf "$scratch"' EXIT
-sed -n '/^letters$/,/^---$/p' "$rows/stdin" | sed '/^---$/d' > "$scratch/stdin"
-sed -n '/^letters:$/,/^[0-9]* workers/p' "$rows/stdout" | sed '/^[0-9]* workers/d' > "$scratch/stdout"
+{ echo "part workers"; sed -n '/^letter$/,/^part /p' "$rows/stdin" | sed '/^part /d'; } > "$scratch/stdin"
+{ echo "part workers"; sed -n '/^letter:/,/^writer-gone:/p' "$rows/stdout"; } > "$scratch/stdout"
 gcc -O2 -shared -fPIC -o "$scratch/refuse.so" "$(dirname "$0")/refuse.c" -ldl
 
 attempt() { # N: runs with the Nth allocation refused
@@ -25,13 +25,13 @@ calls=$(sed -n 's/^calls //p' "$scratch/err")
 fault=0 right=0 told=0 kept='' wrong=0
 for n in $(seq 1 "$calls"); do
   attempt "$n"
-  known=$(sed -n 's/^a letter of many records: Memory, \([0-9]*\) known$/\1/p' "$scratch/out")
+  known=$(sed -n 's/^letter: Memory, \([0-9]*\) known: .*/\1/p' "$scratch/out")
   if [ "$status" != 0 ] && [ ! -s "$scratch/out" ]; then
     fault=$((fault + 1))
-  elif [ "$status" = 0 ] && grep -v '^a letter of many records: Memory, ' "$scratch/out" | cmp -s - "$scratch/stdout"; then
+  elif [ "$status" = 0 ] && sed 's/^letter: Memory, [0-9]* known: /letter: /' "$scratch/out" | cmp -s - "$scratch/stdout"; then
     right=$((right + 1))
     kept="$kept $known"
-  elif [ "$status" = 0 ] && [ "$(grep -o Memory "$scratch/out" | wc -l)" = 1 ] && tail -n 1 "$scratch/out" | cmp -s - <(tail -n 1 "$scratch/stdout"); then
+  elif [ "$status" = 0 ] && [ "$(grep -o Memory "$scratch/out" | wc -l)" = 1 ] && [ "$(diff "$scratch/out" "$scratch/stdout" | grep -c '^<')" = 1 ]; then
     told=$((told + 1))
   else
     wrong=$((wrong + 1))

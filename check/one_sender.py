@@ -208,12 +208,15 @@ def slot_bus(left):
 
 
 def run_through(left):
-    nodes, delays = slot_bus(left)
+    return goes_through(*slot_bus(left), (long_frame() for _ in range(random.choice([2, 3, 4]))))
+
+
+def goes_through(nodes, delays, frames):
+    """Whether each of these frames gets through, from a power-up at random offsets."""
     (sender, sender_rate), others = nodes[0], nodes[1:]
     bits = bit_of(sender)
     queue, due, ready = [], 8 * bits, 0
-    for _ in range(random.choice([2, 3, 4])):
-        frame = long_frame()
+    for frame in frames:
         ready = random.choice([ready, 0, due + random.randint(0, 12 * bits)])
         queue.append(plain.Queued(frame, ready))
         due = max(due, ready) + (len(plain.stuff(frame.bits())) + 15) * bits

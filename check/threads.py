@@ -1,7 +1,8 @@
 """Random plans by workers and either link beside one thread: the comparisons `workers` and `work`. A run has to end within 300 seconds.
 
-`workers` are the program's, 2 to 8 of them: bytes, fault and status have to be the same. In `work` PROGRAM is test_workers, which runs 2, 3 and 8
-workers by threads of its own. They sleep at the bell while they wait, as the program's don't. Half of those plans are wide ones, of engines.py.
+`workers` are the program's, 2 to 8 of them: bytes, fault and status have to be the same. In `work` PROGRAM is test_rows, whose part `workers` runs the same in one
+process, and by 3 workers in threads of its own. It is asked about many plans at once, so it tries many more of them. Half of its plans are wide
+ones, of engines.py.
 """
 import random
 import sys
@@ -12,7 +13,7 @@ from engines import wide_plan
 from tally import asked
 
 RUNS = [(str(workers), link) for workers in range(2, 9) for link in ("hub", "mail")]
-STEPS = {f"{mail}work {workers} 2": f"2 of 2 runs by work{by}: as one thread" for workers in (2, 3, 8) for mail, by in (("", ""), ("mail ", " by mail"))}
+STEPS = [f"{mail}{step} 1" for mail in ("", "mail ") for step in (*(f"simulate {workers}" for workers in range(2, 9)), "work 3")]
 LIMIT = 300
 
 
@@ -28,14 +29,23 @@ def workers(tally, program, seed, numbers, options):
             tally.compare(f"plan {number} of seed {seed} by {many} workers", f"run by {link}", text, got, wanted)
 
 
+def answers(program, plans):
+    """The lines that PROGRAM answers to STEPS of each plan; none of a plan that is refused."""
+    text = "".join("\n".join(["part workers", *STEPS, "plan", plan, ""]) for plan in plans).encode()
+    out, said, status = asked(program, text=text, limit=LIMIT)
+    blocks, size = [block.splitlines() for block in out.split("part workers\n")[1:]], len(STEPS)
+    if status == 0 and len(blocks) == len(plans): return [None if block[:1] and block[0].startswith("fault: ") else (block + [said] * size)[:size] for block in blocks]
+    if len(plans) == 1: return [[said] * size]
+    half = len(plans) // 2
+    return answers(program, plans[:half]) + answers(program, plans[half:])
+
+
 def work(tally, program, seed, numbers, options):
+    plans = []
     for number in numbers:
         rng = random.Random(f"{seed} {number} work")
-        plan = random_plans.toml_text(wide_plan(rng) if number % 2 else random_plans.random_plan(rng), False)
-        text = "\n".join([*STEPS, "plan", plan, ""]).encode()
-        out, said, status = asked(program, text=text, limit=LIMIT)
+        plans.append(random_plans.toml_text(wide_plan(rng) if number % 2 else random_plans.random_plan(rng), False))
+    for number, plan, lines in zip(numbers, plans, answers(program, plans)):
         tally.tried += 1
-        tally.count("plans", "refused" if status == 1 else "run")
-        if status == 1: continue
-        lines = out.splitlines() + [said] * len(STEPS)
-        for (step, wanted), line in zip(STEPS.items(), lines): tally.compare(f"plan {number} of seed {seed}", step, text, line, wanted)
+        tally.count("plans", "run" if lines else "refused")
+        for step, line in zip(STEPS, lines or []): tally.compare(f"plan {number} of seed {seed}", step, plan.encode(), line, f"{step}: as one thread")

@@ -5,8 +5,8 @@ use wl_level::Level;
 use wl_segments::Segments;
 use wl_sync::{BitClock, the_sample_comes_near};
 
-/// A bit of 1 + 3 + 3 + 3 quanta, on a line that goes dominant at quantum 5: the way to the sample. That moves the sample from place 7
-/// to 9 and the end to 12.
+/// Checks the way to the sample of a bit of 1 + 3 + 3 + 3 quanta, on a line that goes dominant at quantum 5. That moves the sample from
+/// place 7 to 9 and the end to 12.
 #[test]
 fn ways_to_the_sample(rt: HostRuntime) -> Result<(), Fail> {
     let mut clock = BitClock::new(Segments::new(3, 3, 3, 2)?);

@@ -7,3 +7,4 @@ pub mod Clocks
 pub mod Nodes
 pub mod Sound
 pub mod WayRows
+pub mod RoomsLemmas

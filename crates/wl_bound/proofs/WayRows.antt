@@ -2,16 +2,15 @@
 use Rattle.std.proofs.Common.{◌≡◌, ℕ, ◌+◌, ◌*◌, ◌<◌, ◌≤◌, inl, inr, List, length, slice_index_or, slice_set, sym, subst, arith}
 use Rattle.std.proofs.lemmas.Bool.{cases_lt}
 use Rattle.std.proofs.lemmas.List.{get_or-set_same, get_or-set_other}
-use Rattle.wl_bound.specs.declared.family.Setting.{Setting}
-use Rattle.wl_bound.specs.Families.{Buses}
-use Rattle.wl_bound.specs.Evaluated.{AreWaysOfBus, HasWaysOfNode}
+use Rattle.wl_bound.specs.Families.{Bus}
+use Rattle.wl_bound.specs.Evaluated.{AreWaysOfBus, HasWaysOfNode, most_pairs}
 
 -- one row
-pub row_of : (n i : ℕ) (f : Buses) (s : Setting) (ways : List ℕ) → AreWaysOfBus n f s ways → i < n → HasWaysOfNode i f s ways
-row_of n i f s ways rows below = record { nodes = rows.nodes; all = rows.all; row = λ j d. rows.each i j d below }
+pub row_of : (n i : ℕ) (b : Bus) (ways : List ℕ) → AreWaysOfBus n b ways → i < n → HasWaysOfNode i b ways
+row_of n i b ways rows below = record { nodes = rows.nodes; all = rows.all; row = λ j d. rows.each i j d below }
 
 -- one place more of row i
-pub put_next : (Q : ℕ → ℕ → Type 0) (xs : List ℕ) (i j p x : ℕ) → length xs ≡ 256 → i < 16 → j < 16 → p ≡ 16 * i + j → Q j x
+pub put_next : (Q : ℕ → ℕ → Type 0) (xs : List ℕ) (i j p x : ℕ) → length xs ≡ most_pairs → i < 16 → j < 16 → p ≡ 16 * i + j → Q j x
     → ((k d : ℕ) → k < j → Q k (slice_index_or xs (16 * i + k) d))
     → (k d : ℕ) → k < j + 1 → Q k (slice_index_or (slice_set xs p x) (16 * i + k) d)
 put_next Q xs i j p x all low short there here before k d below = elim (cases_lt k j) [

@@ -1,5 +1,7 @@
+pub mod Limits
 pub mod Oscillators
 pub mod Families
+pub mod OneBuses
 pub mod Terms
 pub mod Conditions
 pub mod ConditionLaws
@@ -10,3 +12,7 @@ pub mod Verdicts
 pub mod Senders
 pub mod Covered
 pub mod Evaluated
+pub mod Rooms
+pub mod SearchTests
+pub mod RoomLaws
+pub mod Lacks

@@ -1,9 +1,10 @@
 -- The shortest and the longest quantum of an oscillator within its tolerance.
-use Rattle.std.specs.Prelude.{◌≡◌, ℕ, ◌+◌, ◌-◌, ◌*◌, ◌/◌, ◌^◌, ◌<◌, ◌≤◌, ◌||◌, not, nat_lt, Bool, List, [], ◌∷◌, length, Option, Some, None, if◌then◌else◌}
+use Rattle.std.specs.Prelude.{◌≡◌, ℕ, ◌+◌, ◌-◌, ◌*◌, ◌/◌, ◌<◌, ◌≤◌, ◌||◌, not, nat_lt, Bool, List, [], ◌∷◌, length, Option, Some, None, if◌then◌else◌}
 use Rattle.std.specs.Int.{div_ceil}
 use Rattle.std.specs.Result.{is_ok}
 use Rattle.wl_clock.specs.declared.Rate.{Rate}
 use Rattle.wl_clock.specs.Timing.{IsRate, timing_of_rates}
+use Rattle.wl_bound.specs.Limits.{fast_limit, slow_limit}
 
 -- the greatest tolerance, in parts per million: a clock deviates by a tenth at most (this project's profile)
 abbrev pub greatest_tolerance : ℕ
@@ -59,5 +60,5 @@ pub record IsOscillator (least most : ℕ) (p : Pace) : Type 0 where
   pub pace : IsPace p
   pub shortest : least ≡ shortest_of p 0
   pub longest : most ≡ longest_of p 0
-  pub short : least < 2 ^ 41
-  pub long : most < 2 ^ 54
+  pub short : least < fast_limit
+  pub long : most < slow_limit

@@ -6,6 +6,7 @@ use Rattle.wl_level.specs.Places.{count_places}
 use Rattle.wl_topology.specs.Driven.{any_below}
 use Rattle.wl_segments.specs.Lengths.{bit_quanta}
 use Rattle.wl_bound.specs.Families.{Bus}
+use Rattle.wl_bound.specs.Limits.{frame_edges, sparse_edges}
 
 -- the greatest of the numbers below n that pass a test, by f; 0 if there is none
 abbrev pub greatest : ℕ → (ℕ → Bool) → (ℕ → ℕ) → ℕ
@@ -72,9 +73,9 @@ lost b i = 10 * greatest b.nodes (sends_but b i) (λ a. drift b a i)
 unfoldable pub edges : Bus → ℕ → ℕ
 edges b i =
     if nat_le (early b i) (b.shortest i) then 0
-    else if nat_le (early b i - b.shortest i) (14 * (jump b i - lost b i)) then div_ceil (early b i - b.shortest i) (jump b i - lost b i)
-    else if nat_le (jump b i) 0 then 74
-    else min 74 (div_ceil (early b i - b.shortest i + 14 * lost b i) (jump b i))
+    else if nat_le (early b i - b.shortest i) (sparse_edges * (jump b i - lost b i)) then div_ceil (early b i - b.shortest i) (jump b i - lost b i)
+    else if nat_le (jump b i) 0 then frame_edges
+    else min frame_edges (div_ceil (early b i - b.shortest i + sparse_edges * lost b i) (jump b i))
 
 -- there and back between two nodes, on the plan's own cable
 abbrev pub there_and_back : Bus → ℕ → ℕ → ℕ

@@ -1,13 +1,15 @@
 //! What each pair of nodes asks of one bus, worked out once: how late and how early bits can be, and in how many edges a node catches up.
-ghost use Rattle.std.specs.Prelude.{◌≡◌, ◌+◌, ◌*◌, ◌^◌, ◌<◌, ◌≤◌, true, length};
+ghost use Rattle.std.specs.Prelude.{◌≡◌, false, true, ◌+◌, ◌-◌, ◌*◌, ◌<◌, ◌≤◌};
+ghost use Rattle.std.specs.Option.{ForNone, ForSome};
 ghost use Rattle.wl_topology.specs.Limits.{most_places};
-ghost use Rattle.wl_bound.specs.Evaluated.{AreRowsIfSeveral, AreRowsOfBus, AreWaysOfBus, IsEvaluated, HasWaysOfNode};
-ghost use Rattle.wl_bound.specs.declared.condition.Senders.TheVariants.{Any};
-ghost use Rattle.wl_bound.specs.Families.{bus_of};
-ghost use Rattle.wl_bound.specs.Terms.{early, edges, several, way};
+ghost use Rattle.wl_bound.specs.Conditions.{left_of};
+ghost use Rattle.wl_bound.specs.Evaluated.{AreRowsIfSeveral, AreRowsOfBus, AreWaysOfBus, HasWaysOfNode};
+ghost use Rattle.wl_bound.specs.Limits.{early_limit, late_limit, frame_edges, side_limit, tour_limit, way_limit};
+ghost use Rattle.wl_bound.specs.OneBuses.{the_bus};
+ghost use Rattle.wl_bound.specs.Terms.{ahead, answered, apart, behind, chase, drift, early, edges, greatest, is_answering, late, several, tour, trip, way};
 
-use crate::condition::Senders;
-use crate::family::{Family, Setting};
+use crate::bus::OneBus;
+use crate::condition::Inequality;
 use wl_topology::MOST_NODES;
 
 /// For each two nodes a time, in units: the one of nodes `i` and `j` has place `16 i + j`.
@@ -22,11 +24,13 @@ pub(crate) struct Rows {
     pub(crate) edges: [u128; MOST_NODES],
 }
 
-/// The bus of a setting. If several nodes send, it has the terms that take the most steps, and for which each pair of nodes asks.
-#[derive(Clone, Copy, Debug)]
-pub(crate) struct EvaluatedBus<'r> {
-    pub(crate) setting: Setting,
-    pub(crate) rows: Option<&'r Rows>,
+/// A bus with the terms that take the most steps and for which each pair of nodes asks, exactly if several nodes send.
+#[derive(Clone, Copy)]
+pub(crate) struct EvaluatedBus<'f> {
+    pub(crate) bus: OneBus<'f>,
+    pub(crate) rows: Option<&'f Rows>,
+    pub(crate) ghost some: { ForSome rows (λ r. AreRowsOfBus (the_bus bus) r.now) },
+    pub(crate) ghost none: { ForNone rows (several (the_bus bus) ≡ false) },
 }
 
 /// Returns the place of nodes `i` and `j`.
@@ -38,23 +42,13 @@ fn place(i: u8, j: u8) -> usize
     i as usize * MOST_NODES + j as usize
 }
 
-impl Family {
-    /// Returns those terms of a setting's bus as these senders need them. One sender at a time needs none: each sender has a bus of its own.
-    pub(crate) fn rows_for(&self, setting: Setting, senders: Senders) -> Option<Rows>
-        ensures { senders ≡ Any → AreRowsIfSeveral self.now setting result }
+impl<'f> OneBus<'f> {
+    /// Returns those terms, if several nodes send.
+    pub(crate) fn rows_if_several(&self) -> Option<Rows>
+        ensures { AreRowsIfSeveral (the_bus self.now) result }
     {
-        match senders {
-            Senders::Any => self.rows_if_several(setting),
-            Senders::One => None,
-        }
-    }
-
-    /// Returns those terms of a setting's bus, if several nodes send.
-    pub(crate) fn rows_if_several(&self, setting: Setting) -> Option<Rows>
-        ensures { AreRowsIfSeveral self.now setting result }
-    {
-        if self.several(setting) {
-            Some(self.rows(setting))
+        if self.several() {
+            Some(self.rows())
         } else {
             None
         }
@@ -62,68 +56,68 @@ impl Family {
 
     /// Returns those terms of all nodes.
     #[tactic(auto, using(crate::proofs::WayRows::row_of))]
-    pub(crate) fn rows(&self, setting: Setting) -> Rows
-        requires { several (bus_of self.now setting) ≡ true }
-        ensures { AreRowsOfBus self.now setting result }
+    pub(crate) fn rows(&self) -> Rows
+        requires { several (the_bus self.now) ≡ true }
+        ensures { AreRowsOfBus (the_bus self.now) result }
     {
         let mut ways = [0; MOST_NODES * MOST_NODES];
         let mut early = [0; MOST_NODES];
         let mut edges = [0; MOST_NODES];
         for i in 0..self.nodes() {
-            self.put_ways(setting, i, &mut ways);
-            let most = self.early(setting, &ways, i);
+            self.put_ways(i, &mut ways);
+            let most = self.early(&ways, i);
             early[i as usize] = most;
-            edges[i as usize] = self.edges(setting, most, i);
+            edges[i as usize] = self.edges(most, i);
         }
         Rows { ways, early, edges }
     }
 
     /// Puts in how late the bits of all nodes can be at node `i`.
-    fn put_ways(&self, setting: Setting, i: u8, ways: &mut Ways)
-        requires node { i < length self.now.members }
-        requires before { AreWaysOfBus i self.now setting ways.old }
-        ensures { AreWaysOfBus (i + 1) self.now setting ways.new }
+    fn put_ways(&self, i: u8, ways: &mut Ways)
+        requires node { i < (the_bus self.now).nodes }
+        requires before { AreWaysOfBus i (the_bus self.now) ways.old }
+        ensures { AreWaysOfBus (i + 1) (the_bus self.now) ways.new }
     {
         for j in 0..self.nodes() {
-            ways[place(i, j)] = self.way(setting, i, j);
+            ways[place(i, j)] = self.way(i, j);
         }
     }
 
     /// Returns how late a bit of node `j` can be at node `i`.
-    pub(crate) fn way_in(&self, setting: Setting, ways: &Ways, i: u8, j: u8) -> u128
-        requires one { i < length self.now.members }
-        requires other { j < length self.now.members }
-        requires ways { HasWaysOfNode i self.now setting ways.now }
-        ensures value { result ≡ way (bus_of self.now setting) i j }
-        ensures most { result < 2 ^ 89 }
+    pub(crate) fn way_in(&self, ways: &Ways, i: u8, j: u8) -> u128
+        requires one { i < (the_bus self.now).nodes }
+        requires other { j < (the_bus self.now).nodes }
+        requires ways { HasWaysOfNode i (the_bus self.now) ways.now }
+        ensures value { result ≡ way (the_bus self.now) i j }
+        ensures most { result < way_limit }
     {
-        let _ = setting;
+        let _ = self;
         ways[place(i, j)]
     }
+}
 
+impl<'f> EvaluatedBus<'f> {
     /// Returns how late a bit of node `j` can be at node `i`.
-    pub(crate) fn way_of(&self, bus: &EvaluatedBus, i: u8, j: u8) -> u128
-        requires one { i < length self.now.members }
-        requires other { j < length self.now.members }
-        requires evaluated { IsEvaluated self.now bus.now }
-        ensures value { result ≡ way (bus_of self.now bus.now.setting) i j }
-        ensures most { result < 2 ^ 89 }
+    fn way(&self, i: u8, j: u8) -> u128
+        requires one { i < (the_bus self.now.bus).nodes }
+        requires other { j < (the_bus self.now.bus).nodes }
+        ensures value { result ≡ way (the_bus self.now.bus) i j }
+        ensures most { result < way_limit }
     {
-        match bus.rows {
-            Some(rows) => self.way_in(bus.setting, &rows.ways, i, j),
-            None => self.way(bus.setting, i, j),
+        match self.rows {
+            Some(rows) => self.bus.way_in(&rows.ways, i, j),
+            None => self.bus.way(i, j),
         }
     }
 
     /// Returns how early node `i` can be.
     #[tactic(auto, unfolding(crate::specs::Terms::early))]
-    pub(crate) fn early_of(&self, bus: &EvaluatedBus, i: u8) -> u128
-        requires node { i < length self.now.members }
-        requires evaluated { IsEvaluated self.now bus.now }
-        ensures value { result ≡ early (bus_of self.now bus.now.setting) i }
-        ensures most { result < 2 ^ 95 }
+    fn early(&self, i: u8) -> u128
+        requires node { i < (the_bus self.now.bus).nodes }
+        ensures value { result ≡ early (the_bus self.now.bus) i }
+        ensures most { result < early_limit }
     {
-        match bus.rows {
+        match self.rows {
             Some(rows) => rows.early[i as usize],
             None => 0,
         }
@@ -131,15 +125,147 @@ impl Family {
 
     /// Returns how many edges it takes to catch up.
     #[tactic(auto, unfolding(crate::specs::Terms::early, crate::specs::Terms::edges))]
-    pub(crate) fn edges_of(&self, bus: &EvaluatedBus, i: u8) -> u128
-        requires node { i < length self.now.members }
-        requires evaluated { IsEvaluated self.now bus.now }
-        ensures value { result ≡ edges (bus_of self.now bus.now.setting) i }
-        ensures most { result ≤ 74 }
+    fn edges(&self, i: u8) -> u128
+        requires node { i < (the_bus self.now.bus).nodes }
+        ensures value { result ≡ edges (the_bus self.now.bus) i }
+        ensures most { result ≤ frame_edges }
     {
-        match bus.rows {
+        match self.rows {
             Some(rows) => rows.edges[i as usize],
             None => 0,
+        }
+    }
+
+    /// Returns in how many edges nodes `i` and `j` both catch up with a third.
+    #[tactic(auto, unfolding(crate::specs::Terms::chase))]
+    fn chase(&self, i: u8, j: u8) -> u128
+        requires one { i < (the_bus self.now.bus).nodes }
+        requires other { j < (the_bus self.now.bus).nodes }
+        ensures value { result ≡ chase (the_bus self.now.bus) i j }
+        ensures most { result ≤ frame_edges }
+    {
+        if self.bus.third_sends(i, j) {
+            self.edges(i).min(self.edges(j))
+        } else {
+            0
+        }
+    }
+
+    /// Returns how much later node `j` can get for node `i` meanwhile.
+    #[tactic(auto, unfolding(crate::specs::Terms::apart))]
+    fn apart(&self, i: u8, j: u8) -> u128
+        requires one { i < (the_bus self.now.bus).nodes }
+        requires other { j < (the_bus self.now.bus).nodes }
+        ensures value { result ≡ apart (the_bus self.now.bus) i j }
+        ensures most { result < late_limit }
+    {
+        self.chase(i, j) * self.bus.spread(i, j)
+    }
+
+    /// Returns how late node `j` can be for node `i` by the edges of sender `a`.
+    fn tour_by(&self, i: u8, j: u8, a: u8) -> u128
+        requires one { i < (the_bus self.now.bus).nodes }
+        requires other { j < (the_bus self.now.bus).nodes }
+        requires sender { a < (the_bus self.now.bus).nodes }
+        ensures value { let b = the_bus self.now.bus in
+            result ≡ way b i a + 10 * drift b a i + ahead b a + b.delay a j + b.delay j i - b.delay a i }
+        ensures most { result < tour_limit }
+    {
+        let comes = self.way(i, a) + 10 * self.bus.drift(a, i) + self.bus.ahead(a);
+        let there = comes + self.bus.delay(a, j) + self.bus.delay(j, i);
+        there.saturating_sub(self.bus.delay(a, i))
+    }
+
+    /// Returns how late it can be at most, since the edges of a third sender reach it too.
+    #[tactic(auto, unfolding(crate::specs::Terms::tour))]
+    fn tour(&self, i: u8, j: u8) -> u128
+        requires one { i < (the_bus self.now.bus).nodes }
+        requires other { j < (the_bus self.now.bus).nodes }
+        ensures value { result ≡ tour (the_bus self.now.bus) i j }
+        ensures most { result < tour_limit }
+    {
+        let mut longest = 0;
+        for a in 0..self.bus.nodes() {
+            if self.bus.sends(a) && a != i && a != j {
+                longest = longest.max(self.tour_by(i, j, a));
+            }
+        }
+        longest
+    }
+
+    /// Returns how late the end of `j`'s acknowledgement can be at `i`, if both jump back by that of a third node.
+    #[tactic(auto, unfolding(crate::specs::Terms::answered))]
+    fn answered(&self, i: u8, j: u8) -> u128
+        requires one { i < (the_bus self.now.bus).nodes }
+        requires other { j < (the_bus self.now.bus).nodes }
+        ensures value { result ≡ answered (the_bus self.now.bus) i j }
+        ensures most { result < late_limit }
+    {
+        if self.bus.several() {
+            self.latest_answer(i, j)
+        } else {
+            0
+        }
+    }
+
+    /// Returns that over the nodes whose acknowledgement may come first.
+    fn latest_answer(&self, i: u8, j: u8) -> u128
+        requires one { i < (the_bus self.now.bus).nodes }
+        requires other { j < (the_bus self.now.bus).nodes }
+        ensures value { let b = the_bus self.now.bus in
+            result ≡ greatest b.nodes (is_answering b i j) (λ a. trip b i j a + behind b j a) }
+        ensures most { result < late_limit }
+    {
+        let chased = self.edges(j);
+        let mut latest = 0;
+        for a in 0..self.bus.nodes() {
+            if self.bus.is_answering(i, j, a) {
+                let behind = self.bus.behind(j, a, chased);
+                latest = latest.max(self.bus.trip(i, j, a) + behind);
+            }
+        }
+        latest
+    }
+
+    /// Returns how late a bit of node `j` can be at node `i`, catching up counted.
+    #[tactic(auto, unfolding(crate::specs::Terms::late))]
+    fn late(&self, i: u8, j: u8) -> u128
+        requires one { i < (the_bus self.now.bus).nodes }
+        requires other { j < (the_bus self.now.bus).nodes }
+        ensures value { result ≡ late (the_bus self.now.bus) i j }
+        ensures most { result < late_limit }
+    {
+        let way = self.way(i, j);
+        let tour = self.tour(i, j);
+        let chased = self.apart(i, j).min(tour.saturating_sub(way));
+        (way + chased).max(self.answered(i, j))
+    }
+
+    /// Returns what takes time by an inequality.
+    #[tactic(auto, unfolding(crate::specs::Conditions::left_of))]
+    pub(crate) fn left(&self, inequality: Inequality, i: u8, j: u8) -> u128
+        requires one { i < (the_bus self.now.bus).nodes }
+        requires other { j < (the_bus self.now.bus).nodes }
+        ensures value { result ≡ left_of (the_bus self.now.bus) inequality i j }
+        ensures most { result < side_limit }
+    {
+        match inequality {
+            Inequality::DriftFitsJump => { 10 * self.bus.drift(i, j) + self.bus.pulled(i, j) }
+            Inequality::BitIsThereAtSample => {
+                if i == j {
+                    return self.bus.delay(i, i) + self.bus.turns(i);
+                }
+                self.late(i, j) + 11 * self.bus.strays(j) + self.bus.ahead(j)
+            }
+            Inequality::NoBitTooEarly => {
+                let early = self.early(j).saturating_sub(self.bus.delay(j, j));
+                let gained = self.apart(j, i).min(early);
+                self.bus.look(j)
+                    + 10 * self.bus.drift(i, j)
+                    + gained
+                    + self.bus.tick()
+                    + self.bus.ahead(i)
+            }
         }
     }
 }

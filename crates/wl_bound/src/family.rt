@@ -1,9 +1,12 @@
 //! Families of buses: what of a plan the condition is about.
-ghost use Rattle.std.specs.Prelude.{◌≡◌, ◌≢◌, ◌+◌, ◌-◌, ◌*◌, ◌^◌, ◌<◌, ◌≤◌, ◌++◌, length, IfOk, OnOk};
-ghost use Rattle.wl_topology.specs.Limits.{most_places};
-ghost use Rattle.wl_bound.specs.Evaluated.{IsKeptFamily};
-ghost use Rattle.wl_bound.specs.Families.{Buses, added_in, all_sending, bus_of, changed, delay_in, family_of, lengths_in, longest_in, member_at, member_of, members_of, only_listens, sending, sends_in, shortest_in, turns_in, units, way_between};
+ghost use Rattle.std.specs.Prelude.{◌≡◌, ◌≢◌, ◌+◌, ◌<◌, ◌≤◌, ◌++◌, length, IfOk, OnOk};
+ghost use Rattle.wl_topology.specs.Delays.{propagation_of};
+ghost use Rattle.wl_topology.specs.Limits.{longest_delay, most_places};
+ghost use Rattle.wl_bound.specs.Conditions.{plain};
+ghost use Rattle.wl_bound.specs.Evaluated.{AreRowsIfSeveral, IsKeptFamily};
+ghost use Rattle.wl_bound.specs.Families.{Buses, all_sending, bus_of, changed, family_of, member_at, member_of, members_of, only_listens, sending, way_between};
 
+use crate::bus::OneBus;
 use crate::condition::PLAIN;
 use crate::evaluated::Rows;
 use crate::oscillator::Oscillator;
@@ -117,7 +120,7 @@ impl Family {
             cable: plan.topology,
             plain: None,
         };
-        let rows = family.rows_if_several(PLAIN);
+        let rows = family.plain_rows();
         family.plain = rows;
         Ok(family)
     }
@@ -134,9 +137,20 @@ impl Family {
             cable: self.cable,
             plain: None,
         };
-        let rows = family.rows_if_several(PLAIN);
+        let rows = family.plain_rows();
         family.plain = rows;
         Ok(family)
+    }
+
+    /// Returns the terms of the plan's own bus, if several nodes send.
+    fn plain_rows(&self) -> Option<Rows>
+        ensures { AreRowsIfSeveral (bus_of self.now plain) result }
+    {
+        let bus = OneBus {
+            family: self,
+            setting: PLAIN,
+        };
+        bus.rows_if_several()
     }
 
     /// Returns how many nodes there are: 1 to 16.
@@ -176,118 +190,26 @@ impl Family {
         from_end.abs_diff(self.cable.place_delay(1, 0))
     }
 
-    /// True if node `i` sends.
-    #[tactic(auto, unfolding(crate::specs::Families::sends_in))]
-    pub fn sends(&self, setting: Setting, i: u8) -> bool
-        requires { i < length self.now.members }
-        ensures { result ≡ sends_in self.now setting i }
-    {
-        match setting.source {
-            Source::Together => self.member(i).sends,
-            Source::Alone(k) => k == i,
-        }
-    }
-
-    /// Returns the segments of node `i`.
-    #[tactic(auto, unfolding(crate::specs::Families::lengths_in))]
-    pub fn segments(&self, setting: Setting, i: u8) -> Segments
-        requires { i < length self.now.members }
-        ensures { result ≡ lengths_in self.now setting i }
-    {
-        let segments = self.member(i).segments;
-        match setting.change {
-            None => segments,
-            Some(change) => match change.of(&segments) {
-                Ok(other) => other,
-                Err(_) => segments,
-            },
-        }
-    }
-
-    /// Returns a tick, in units.
-    pub fn tick(&self, setting: Setting) -> u128
-        ensures value { result ≡ units setting }
-        ensures most { result < 2 ^ 52 }
-    {
-        1_000_000 * setting.length as u128
-    }
-
-    /// Returns the shortest quantum of node `i`, in units.
-    #[tactic(auto, unfolding(crate::specs::Families::shortest_in))]
-    pub fn shortest(&self, setting: Setting, i: u8) -> u128
-        requires { i < length self.now.members }
-        ensures value { result ≡ shortest_in self.now setting i }
-        ensures most { result < 2 ^ 73 }
-    {
-        setting.length as u128 * self.member(i).oscillator.shortest_by(setting.wider)
-    }
-
-    /// Returns the longest quantum of node `i`, in units.
-    #[tactic(auto, unfolding(crate::specs::Families::longest_in))]
-    pub fn longest(&self, setting: Setting, i: u8) -> u128
-        requires { i < length self.now.members }
-        ensures value { result ≡ longest_in self.now setting i }
-        ensures most { result < 2 ^ 86 }
-    {
-        setting.length as u128 * self.member(i).oscillator.longest_by(setting.wider)
-    }
-
-    /// Returns what node `i` can lose at the changes of its rate, in units.
-    #[tactic(auto, unfolding(crate::specs::Families::turns_in))]
-    pub(crate) fn turns(&self, setting: Setting, i: u8) -> u128
-        requires { i < length self.now.members }
-        ensures value { result ≡ turns_in self.now setting i }
-        ensures most { result < 2 ^ 60 }
-    {
-        self.tick(setting) * self.member(i).oscillator.turns() as u128
-    }
-
     /// Returns how many ticks a level takes along the cable from node `i` to node `j`, without the nodes' own.
     pub(crate) fn way_between(&self, i: u8, j: u8) -> u64
         requires one { i < length self.now.members }
         requires other { j < length self.now.members }
         ensures value { result ≡ way_between self.now.cable i j }
-        ensures most { result ≤ 2 ^ 20 }
+        ensures most { result ≤ longest_delay }
     {
         let there_and_back = self.cable.propagation(i, j) + self.cable.propagation(j, i);
         let own = self.cable.propagation(i, i) + self.cable.propagation(j, j);
         (there_and_back - own) / 2
     }
 
-    /// Returns how long a level takes from node `i` to node `j`, in units.
-    #[tactic(auto, unfolding(crate::specs::Families::delay_in))]
-    pub fn delay(&self, setting: Setting, i: u8, j: u8) -> u128
+    /// Returns how many ticks a level takes from node `i` to node `j` on the plan's own cable.
+    pub(crate) fn propagation(&self, i: u8, j: u8) -> u64
         requires one { i < length self.now.members }
         requires other { j < length self.now.members }
-        ensures value { result ≡ delay_in self.now setting i j }
-        ensures most { result < 2 ^ 73 }
+        ensures value { result ≡ propagation_of self.now.cable i j }
+        ensures most { result ≤ longest_delay }
     {
-        let nominal = setting.length as u128 * self.cable.propagation(i, j) as u128;
-        1_000_000 * (nominal + self.longer_by(setting, i, j))
-    }
-
-    /// Returns how many times a tick longer it takes on the longer cable.
-    fn longer_by(&self, setting: Setting, i: u8, j: u8) -> u128
-        requires one { i < length self.now.members }
-        requires other { j < length self.now.members }
-        ensures value { result ≡ setting.longer * way_between self.now.cable i j }
-        ensures most { result < 2 ^ 52 }
-    {
-        if setting.longer == 0 {
-            return 0;
-        }
-        setting.longer as u128 * self.way_between(i, j) as u128
-    }
-
-    /// Returns how long it takes on the plan's own cable, in units.
-    #[tactic(auto, unfolding(crate::specs::Families::delay_in))]
-    pub(crate) fn plan_delay(&self, setting: Setting, i: u8, j: u8) -> u128
-        requires one { i < length self.now.members }
-        requires other { j < length self.now.members }
-        ensures value { result ≡ delay_in self.now setting i j - added_in self.now setting i j }
-        ensures most { result < 2 ^ 73 }
-    {
-        1_000_000 * (setting.length as u128 * self.cable.propagation(i, j) as u128)
+        self.cable.propagation(i, j)
     }
 }
 

@@ -1,10 +1,11 @@
 //! Which change by a quantum helps most.
-ghost use Rattle.std.specs.Prelude.{◌≡◌, ◌^◌, ◌<◌, ◌≤◌, length};
-ghost use Rattle.wl_bound.specs.Evaluated.{IsEvaluatedFor};
-ghost use Rattle.wl_bound.specs.Helps.{best_change, help_of, is_greater, is_possible, lack_row, or_better, reserve_in, reserve_of, spare_row, worse_of};
+ghost use Rattle.std.specs.Prelude.{◌≡◌, ◌<◌};
+ghost use Rattle.wl_bound.specs.Helps.{help_of, is_greater, is_possible, lack_row, or_better, reserve_in, reserve_of, spare_row, worse_of};
+ghost use Rattle.wl_bound.specs.OneBuses.{the_bus};
 
+use crate::asked::AskedBus;
+use crate::bus::OneBus;
 use crate::condition::{Inequality, PLAIN, Senders};
-use crate::evaluated::EvaluatedBus;
 use crate::family::{Change, Family, Setting};
 
 /// More than any margin.
@@ -32,9 +33,13 @@ impl Family {
     pub fn first_help(&self, senders: Senders) -> Option<Change>
         ensures { result ≡ help_of self.now senders }
     {
+        let bus = OneBus {
+            family: self,
+            setting: PLAIN,
+        };
         let none = Best {
             change: None,
-            reserve: self.reserve(PLAIN, senders),
+            reserve: bus.reserve(senders),
         };
         let wider = self.or_better(senders, none, Change::WiderJump);
         let narrower = self.or_better(senders, wider, Change::NarrowerJump);
@@ -58,7 +63,11 @@ impl Family {
             change: Some(change),
             ..PLAIN
         };
-        let reserve = self.reserve(setting, senders);
+        let bus = OneBus {
+            family: self,
+            setting,
+        };
+        let reserve = bus.reserve(senders);
         if is_greater(&reserve, &best.reserve) {
             return Best {
                 change: Some(change),
@@ -78,45 +87,50 @@ impl Family {
         }
         !refused
     }
+}
 
+impl<'f> OneBus<'f> {
     /// Returns the least margin.
     #[tactic(auto, unfolding(crate::specs::Helps::reserve_in))]
-    fn reserve(&self, setting: Setting, senders: Senders) -> Reserve
-        ensures { result ≡ reserve_in self.now setting senders }
+    fn reserve(&self, senders: Senders) -> Reserve
+        ensures { result ≡ reserve_in self.now.family.now self.now.setting senders }
     {
-        let rows = self.rows_for(setting, senders);
-        let rows = rows.as_ref();
-        let bus = EvaluatedBus { setting, rows };
-        let drift = self.reserve_of(&bus, senders, Inequality::DriftFitsJump);
-        let late = self.reserve_of(&bus, senders, Inequality::BitIsThereAtSample);
-        let early = self.reserve_of(&bus, senders, Inequality::NoBitTooEarly);
+        let rows = self.rows_for(senders);
+        let asked = AskedBus {
+            bus: *self,
+            senders,
+            rows: rows.as_ref(),
+        };
+        let drift = asked.reserve_of(Inequality::DriftFitsJump);
+        let late = asked.reserve_of(Inequality::BitIsThereAtSample);
+        let early = asked.reserve_of(Inequality::NoBitTooEarly);
         worse_of(&drift, &worse_of(&late, &early))
     }
+}
 
+impl<'f> AskedBus<'f> {
     /// Returns the least margin of an inequality.
-    fn reserve_of(&self, bus: &EvaluatedBus, senders: Senders, inequality: Inequality) -> Reserve
-        requires evaluated { IsEvaluatedFor self.now senders bus.now }
-        ensures { result ≡ reserve_of self.now bus.now.setting senders inequality }
+    fn reserve_of(&self, inequality: Inequality) -> Reserve
+        ensures { result ≡ reserve_of self.now.bus.family.now self.now.bus.setting self.now.senders inequality }
     {
         let mut lack = 0;
         let mut spare = NO_MARGIN;
-        for i in 0..self.nodes() {
-            lack = lack.max(self.lack_row(bus, senders, inequality, i));
-            spare = spare.min(self.spare_row(bus, senders, inequality, i));
+        for i in 0..self.bus.nodes() {
+            lack = lack.max(self.lack_row(inequality, i));
+            spare = spare.min(self.spare_row(inequality, i));
         }
         Reserve { lack, spare }
     }
 
     /// Returns what the worst pair with node `i` lacks.
-    fn lack_row(&self, bus: &EvaluatedBus, senders: Senders, inequality: Inequality, i: u8) -> u128
-        requires node { i < length self.now.members }
-        requires evaluated { IsEvaluatedFor self.now senders bus.now }
-        ensures { result ≡ lack_row self.now bus.now.setting senders inequality i }
+    fn lack_row(&self, inequality: Inequality, i: u8) -> u128
+        requires node { i < (the_bus self.now.bus).nodes }
+        ensures { result ≡ lack_row self.now.bus.family.now self.now.bus.setting self.now.senders inequality i }
     {
         let mut lack = 0;
-        for j in 0..self.nodes() {
-            if self.is_asked(inequality, i, j) {
-                let sides = self.sides_by(bus, senders, inequality, i, j);
+        for j in 0..self.bus.nodes() {
+            if self.bus.family.is_asked(inequality, i, j) {
+                let sides = self.sides(inequality, i, j);
                 lack = lack.max(sides.left.saturating_sub(sides.right));
             }
         }
@@ -124,15 +138,14 @@ impl Family {
     }
 
     /// Returns what it has to spare.
-    fn spare_row(&self, bus: &EvaluatedBus, senders: Senders, inequality: Inequality, i: u8) -> u128
-        requires node { i < length self.now.members }
-        requires evaluated { IsEvaluatedFor self.now senders bus.now }
-        ensures { result ≡ spare_row self.now bus.now.setting senders inequality i }
+    fn spare_row(&self, inequality: Inequality, i: u8) -> u128
+        requires node { i < (the_bus self.now.bus).nodes }
+        ensures { result ≡ spare_row self.now.bus.family.now self.now.bus.setting self.now.senders inequality i }
     {
         let mut spare = NO_MARGIN;
-        for j in 0..self.nodes() {
-            if self.is_asked(inequality, i, j) {
-                let sides = self.sides_by(bus, senders, inequality, i, j);
+        for j in 0..self.bus.nodes() {
+            if self.bus.family.is_asked(inequality, i, j) {
+                let sides = self.sides(inequality, i, j);
                 spare = spare.min(sides.right.saturating_sub(sides.left));
             }
         }

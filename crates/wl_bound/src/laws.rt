@@ -1,5 +1,6 @@
 //! Laws of the condition, as contracts of functions with an empty body.
 ghost use Rattle.wl_bound.specs.ConditionLaws.{ConditionLaws};
+ghost use Rattle.wl_bound.specs.RoomLaws.{RoomLaw};
 ghost use Rattle.wl_bound.specs.SearchLaws.{SearchLaws};
 
 /// Law: no inequality fails exactly if all three hold for each pair of nodes; for any senders, and for each sender alone.
@@ -10,4 +11,9 @@ pub fn condition_laws()
 /// Law: if the condition holds with some growth of the cable or of the tolerances, it holds with each lesser one.
 pub fn search_laws()
     ensures { SearchLaws }
+{}
+
+/// Law: a bus that passes the test has room. Each node catches up with any sender, and any two have room as if both sent.
+pub fn room_law()
+    ensures { RoomLaw }
 {}

@@ -5,23 +5,28 @@
 //! sender at a time (`wl_buses::one_sender`), and for any senders with some room more (`wl_buses::clean_plans`); else it rests on searches.
 #![tactic(auto)]
 
+mod asked;
+mod bus;
 mod condition;
 mod covered;
 mod evaluated;
 mod family;
 mod help;
+mod lack;
 mod laws;
 mod oscillator;
+mod room;
 mod search;
 mod terms;
 mod verdict;
 
-pub use condition::{Failure, Inequality, Senders, Sides, plain};
+pub use condition::{Failure, Inequality, Senders, Sides};
 pub use covered::{all_speak, finds_one_busy, is_covered};
 pub use family::{Change, Family, Member, Setting, Source, only_listens};
-pub use laws::{condition_laws, search_laws};
+pub use lack::{Lack, Shortage};
+pub use laws::{condition_laws, room_law, search_laws};
 pub use oscillator::Oscillator;
-pub use search::{Growth, grown_by};
+pub use search::Growth;
 pub use verdict::{
     Outside, Verdict, cause_outside, first_without_book, idle_at, is_ready_from, judge, judge_all,
     listens,

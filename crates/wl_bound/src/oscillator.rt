@@ -4,7 +4,8 @@ ghost use Rattle.std.specs.Int.{div_ceil};
 ghost use Rattle.std.specs.Bool.{OnTrue};
 ghost use Rattle.std.specs.Result.{is_ok};
 ghost use Rattle.wl_clock.specs.Timing.{IsRate, most_rates, timing_of_rates};
-ghost use Rattle.wl_bound.specs.Oscillators.{IsOscillator, Pace, fastest_of, is_faster, longest_of, oscillator_of, shortest_of, slowest_of};
+ghost use Rattle.wl_bound.specs.Limits.{fast_limit, slow_limit};
+ghost use Rattle.wl_bound.specs.Oscillators.{IsOscillator, Pace, fastest_of, greatest_tolerance, is_faster, longest_of, oscillator_of, shortest_of, slowest_of};
 
 use std::marker::Model;
 use wl_clock::{Clock, Rate};
@@ -84,7 +85,7 @@ impl Oscillator {
     /// Returns the shortest quantum, in millionths of a tick, rounded down.
     pub fn shortest(&self) -> u128
         ensures value { result ≡ shortest_of self.now 0 }
-        ensures most { result < 2 ^ 41 }
+        ensures most { result < fast_limit }
     {
         self.shortest_by(0)
     }
@@ -92,7 +93,7 @@ impl Oscillator {
     /// Returns the longest quantum, in millionths of a tick, rounded up.
     pub fn longest(&self) -> u128
         ensures value { result ≡ longest_of self.now 0 }
-        ensures most { result < 2 ^ 54 }
+        ensures most { result < slow_limit }
     {
         self.longest_by(0)
     }
@@ -100,7 +101,7 @@ impl Oscillator {
     /// Returns the tolerance, in parts per million: 0 to 100,000.
     pub fn tolerance(&self) -> u32
         ensures value { result ≡ self.now.tolerance }
-        ensures small { result ≤ 100000 }
+        ensures small { result ≤ greatest_tolerance }
     {
         self.tolerance
     }
@@ -115,7 +116,7 @@ impl Oscillator {
     /// Returns the shortest quantum with a tolerance wider by some ppm, in millionths of a tick, rounded down.
     pub(crate) fn shortest_by(&self, wider: u32) -> u128
         ensures value { result ≡ shortest_of self.now wider }
-        ensures most { result < 2 ^ 41 }
+        ensures most { result < fast_limit }
     {
         if wider == 0 {
             return self.shortest;
@@ -126,7 +127,7 @@ impl Oscillator {
     /// Returns the longest one, rounded up.
     pub(crate) fn longest_by(&self, wider: u32) -> u128
         ensures value { result ≡ longest_of self.now wider }
-        ensures most { result < 2 ^ 54 }
+        ensures most { result < slow_limit }
     {
         if wider == 0 {
             return self.longest;
@@ -139,7 +140,7 @@ impl Oscillator {
 fn shortest_at(fastest: &Rate, deviation: u128) -> u128
     requires rate { IsRate fastest.now }
     ensures value { result ≡ fastest.now.num * (1000000 - deviation) / fastest.now.den }
-    ensures most { result < 2 ^ 41 }
+    ensures most { result < fast_limit }
 {
     let parts = MILLION.saturating_sub(deviation);
     fastest.num * parts / fastest.den as u128
@@ -150,7 +151,7 @@ fn longest_at(slowest: &Rate, deviation: u128) -> u128
     requires rate { IsRate slowest.now }
     requires few { deviation < 2 ^ 33 }
     ensures value { result ≡ div_ceil (slowest.now.num * (1000000 + deviation)) slowest.now.den }
-    ensures most { result < 2 ^ 54 }
+    ensures most { result < slow_limit }
 {
     let parts = MILLION + deviation;
     (slowest.num * parts).div_ceil(slowest.den as u128)

@@ -1,11 +1,15 @@
 //! How much longer the cable may be, and how much wider the tolerances.
-ghost use Rattle.std.specs.Prelude.{◌≡◌, ℕ, ◌*◌, ◌^◌, ◌<◌, ◌≤◌, length};
+ghost use Rattle.std.specs.Prelude.{◌≡◌, ℕ, ◌<◌, ◌≤◌, length};
 ghost use Rattle.wl_topology.specs.Limits.{longest_delay};
 ghost use Rattle.wl_bound.specs.Families.{way_between};
-ghost use Rattle.wl_bound.specs.Searches.{GrowsTo, IsBorderOf, IsGreatestOf, IsLongerCable, IsWiderTolerance, cable_ticks, each, grown_by, holds_grown, holds_in, longest_growth, widest_growth};
+ghost use Rattle.wl_bound.specs.Oscillators.{greatest_tolerance};
+ghost use Rattle.wl_bound.specs.Rooms.{is_roomy_grown};
+ghost use Rattle.wl_bound.specs.SearchTests.{passes_grown};
+ghost use Rattle.wl_bound.specs.Searches.{GrowsTo, IsBorderOf, IsGreatestOf, IsLongerCable, IsWiderTolerance, cable_ticks, each, grown_by, holds_grown, longest_growth, widest_growth};
 ghost use Rattle.wl_bound.specs.Terms.{greatest};
 ghost use Rattle.wl_bound.specs.declared.search.Growth.TheVariants.{Longer};
 
+use crate::bus::OneBus;
 use crate::condition::Senders;
 use crate::family::{Family, Setting, Source};
 use crate::oscillator::GREATEST_TOLERANCE;
@@ -18,6 +22,15 @@ pub enum Growth {
     Longer(u32, u32),
     /// Every tolerance, in ppm.
     Wider,
+}
+
+/// What a search asks of a bus that grew.
+#[derive(Clone, Copy, Debug)]
+pub(crate) enum Test {
+    /// The condition holds for these senders.
+    Condition(Senders),
+    /// There is room for any senders.
+    Room,
 }
 
 impl Family {
@@ -56,37 +69,54 @@ impl Family {
         Growth::Longer(length, per)
     }
 
-    /// True if the condition holds.
-    fn holds(&self, setting: Setting, senders: Senders) -> bool
-        ensures { result ≡ holds_in self.now setting senders }
+    /// Returns by how much something may grow with room left, up to a limit, by halving: with that much there is room, and with one more there
+    /// is none, unless it is the limit. `None` if there is none as it is.
+    pub fn roomy_growth(&self, growth: Growth, limit: u32) -> Option<u32>
+        requires { GrowsTo growth limit }
+        ensures { IsBorderOf (is_roomy_grown self.now growth) limit result }
     {
-        self.first_failure_by(setting, senders).is_none()
+        self.border(Test::Room, growth, limit)
     }
 
-    /// Returns the most by which something may grow, up to a limit.
+    /// Returns the most by which something may grow while the condition holds, up to a limit.
     fn greatest(&self, senders: Senders, growth: Growth, limit: u32) -> Option<u32>
         requires { GrowsTo growth limit }
         ensures { IsGreatestOf (holds_grown self.now senders growth) limit result }
     {
-        self.border(senders, growth, limit)
+        self.border(Test::Condition(senders), growth, limit)
     }
 
-    /// Returns how far something may grow, by halving.
-    fn border(&self, senders: Senders, growth: Growth, limit: u32) -> Option<u32>
-        requires { GrowsTo growth limit }
-        ensures { IsBorderOf (holds_grown self.now senders growth) limit result }
+    /// True if the bus that grew by `n` passes a test.
+    fn passes(&self, test: Test, growth: Growth, n: u32) -> bool
+        requires { GrowsTo growth n }
+        ensures { result ≡ passes_grown self.now test growth n }
     {
-        if !self.holds(grown_by(growth, 0), senders) {
+        let bus = OneBus {
+            family: self,
+            setting: grown_by(growth, n),
+        };
+        match test {
+            Test::Condition(senders) => bus.first_failure(senders).is_none(),
+            Test::Room => bus.is_roomy(),
+        }
+    }
+
+    /// Returns how far something may grow and pass a test, by halving.
+    fn border(&self, test: Test, growth: Growth, limit: u32) -> Option<u32>
+        requires { GrowsTo growth limit }
+        ensures { IsBorderOf (passes_grown self.now test growth) limit result }
+    {
+        if !self.passes(test, growth, 0) {
             return None;
         }
-        if self.holds(grown_by(growth, limit), senders) {
+        if self.passes(test, growth, limit) {
             return Some(limit);
         }
         let mut low = 0;
         let mut high = limit;
         while high - low > 1 {
             let middle = low + (high - low) / 2;
-            if self.holds(grown_by(growth, middle), senders) {
+            if self.passes(test, growth, middle) {
                 low = middle;
             } else {
                 high = middle;
@@ -98,7 +128,7 @@ impl Family {
     /// Returns the ticks that a level takes along the cable between the two nodes that are furthest apart.
     fn cable_ticks(&self) -> u32
         ensures value { result ≡ cable_ticks self.now }
-        ensures most { result ≤ 2 ^ 20 }
+        ensures most { result ≤ longest_delay }
     {
         let mut longest = 0;
         for i in 0..self.nodes() {
@@ -111,7 +141,7 @@ impl Family {
     fn furthest_from(&self, i: u8) -> u32
         requires { i < length self.now.members }
         ensures value { result ≡ greatest (length self.now.members) each (way_between self.now.cable i) }
-        ensures most { result ≤ 2 ^ 20 }
+        ensures most { result ≤ longest_delay }
     {
         let mut furthest = 0;
         for j in 0..self.nodes() {
@@ -123,7 +153,7 @@ impl Family {
     /// Returns by how many ppm every tolerance can grow and stay one.
     fn widest_growth(&self) -> u32
         ensures value { result ≡ widest_growth self.now }
-        ensures most { result ≤ 100000 }
+        ensures most { result ≤ greatest_tolerance }
     {
         let mut greatest = 0;
         for i in 0..self.nodes() {
@@ -134,7 +164,7 @@ impl Family {
 }
 
 /// Returns the setting that grew by `n`: by units of length or by ppm, and any nodes with frames send.
-pub fn grown_by(growth: Growth, n: u32) -> Setting
+pub(crate) fn grown_by(growth: Growth, n: u32) -> Setting
     requires { GrowsTo growth n }
     ensures { result ≡ grown_by growth n }
 {

@@ -1,13 +1,13 @@
 //! The terms of the condition, in units of time.
-ghost use Rattle.std.specs.Prelude.{◌≡◌, true, ◌+◌, ◌-◌, ◌*◌, ◌^◌, ◌<◌, ◌≤◌, length};
+ghost use Rattle.std.specs.Prelude.{◌≡◌, true, ◌<◌, ◌≤◌};
 ghost use Rattle.wl_topology.specs.Driven.{any_below};
-ghost use Rattle.wl_level.specs.Places.{count_places};
-ghost use Rattle.wl_bound.specs.Evaluated.{HasWaysOfNode, IsEvaluated};
-ghost use Rattle.wl_bound.specs.Families.{bus_of};
-ghost use Rattle.wl_bound.specs.Terms.{ahead, answered, apart, behind, chase, drift, early, edges, greatest, is_answering, is_third, jump, late, look, lost, pull, pulled, sends_but, sends_third, several, spread, strays, sum_of, there_and_back, tour, trip, way};
+ghost use Rattle.wl_bound.specs.Evaluated.{HasWaysOfNode};
+ghost use Rattle.wl_bound.specs.Limits.{ahead_limit, behind_limit, drift_limit, early_limit, jump_limit, look_limit, frame_edges, spread_limit, trip_limit, way_limit};
+ghost use Rattle.wl_bound.specs.OneBuses.{the_bus};
+ghost use Rattle.wl_bound.specs.Terms.{ahead, behind, drift, early, edges, greatest, is_answering, is_third, jump, look, lost, pull, pulled, sends_but, sends_third, several, spread, strays, trip, way};
 
-use crate::evaluated::{EvaluatedBus, Ways};
-use crate::family::{Family, Setting};
+use crate::bus::OneBus;
+use crate::evaluated::Ways;
 
 /// The edges of a frame of 8 bytes that are ten bits apart.
 const SPARSE_EDGES: u128 = 14;
@@ -15,93 +15,86 @@ const SPARSE_EDGES: u128 = 14;
 /// The most edges of a frame up to the end of its CRC sequence, two bits apart.
 const MOST_EDGES: u128 = 74;
 
-impl Family {
+impl<'f> OneBus<'f> {
     /// Returns by how much a bit of node `i` can last longer than one of node `j`.
     #[tactic(auto, unfolding(crate::specs::Terms::drift))]
-    pub fn drift(&self, setting: Setting, i: u8, j: u8) -> u128
-        requires one { i < length self.now.members }
-        requires other { j < length self.now.members }
-        ensures value { result ≡ drift (bus_of self.now setting) i j }
-        ensures most { result < 2 ^ 91 }
+    pub(crate) fn drift(&self, i: u8, j: u8) -> u128
+        requires one { i < (the_bus self.now).nodes }
+        requires other { j < (the_bus self.now).nodes }
+        ensures value { result ≡ drift (the_bus self.now) i j }
+        ensures most { result < drift_limit }
     {
-        let longest = self.segments(setting, i).bit_quanta() as u128 * self.longest(setting, i);
-        let shortest = self.segments(setting, j).bit_quanta() as u128 * self.shortest(setting, j);
+        let longest = self.segments(i).bit_quanta() as u128 * self.longest(i);
+        let shortest = self.segments(j).bit_quanta() as u128 * self.shortest(j);
         longest.saturating_sub(shortest)
     }
 
     /// Returns what one edge puts right at node `i`.
     #[tactic(auto, unfolding(crate::specs::Terms::jump))]
-    pub fn jump(&self, setting: Setting, i: u8) -> u128
-        requires { i < length self.now.members }
-        ensures value { result ≡ jump (bus_of self.now setting) i }
-        ensures most { result < 2 ^ 75 }
+    pub(crate) fn jump(&self, i: u8) -> u128
+        requires { i < (the_bus self.now).nodes }
+        ensures value { result ≡ jump (the_bus self.now) i }
+        ensures most { result < jump_limit }
     {
-        self.segments(setting, i).sjw() as u128 * self.shortest(setting, i)
+        self.segments(i).sjw() as u128 * self.shortest(i)
     }
 
     /// Returns by how much node `i` can begin a bit ahead of the edge that it follows.
     #[tactic(auto, unfolding(crate::specs::Terms::look))]
-    pub fn look(&self, setting: Setting, i: u8) -> u128
-        requires { i < length self.now.members }
-        ensures value { result ≡ look (bus_of self.now setting) i }
-        ensures most { result < 2 ^ 87 }
+    pub(crate) fn look(&self, i: u8) -> u128
+        requires { i < (the_bus self.now).nodes }
+        ensures value { result ≡ look (the_bus self.now) i }
+        ensures most { result < look_limit }
     {
-        (self.longest(setting, i) + self.tick(setting)).saturating_sub(self.delay(setting, i, i))
+        (self.longest(i) + self.tick()).saturating_sub(self.delay(i, i))
     }
 
     /// Returns how late a bit of node `j` can be at node `i` after an edge of node `k`.
     #[tactic(auto, unfolding(crate::specs::Terms::trip))]
-    fn trip(&self, setting: Setting, i: u8, j: u8, k: u8) -> u128
-        requires one { i < length self.now.members }
-        requires other { j < length self.now.members }
-        requires first { k < length self.now.members }
-        ensures value { result ≡ trip (bus_of self.now setting) i j k }
-        ensures most { result < 2 ^ 88 }
+    pub(crate) fn trip(&self, i: u8, j: u8, k: u8) -> u128
+        requires one { i < (the_bus self.now).nodes }
+        requires other { j < (the_bus self.now).nodes }
+        requires first { k < (the_bus self.now).nodes }
+        ensures value { result ≡ trip (the_bus self.now) i j k }
+        ensures most { result < trip_limit }
     {
-        let back = self.delay(setting, j, i);
+        let back = self.delay(j, i);
         if k == i {
-            let look = if self.nodes() > 2 {
-                self.look(setting, i)
-            } else {
-                0
-            };
-            return self.delay(setting, i, j) + back + look;
+            let look = if self.nodes() > 2 { self.look(i) } else { 0 };
+            return self.delay(i, j) + back + look;
         }
-        let comes = self.delay(setting, k, j)
-            + back
-            + self.longest(setting, i)
-            + self.tick(setting);
-        comes.saturating_sub(self.delay(setting, k, i))
+        let comes = self.delay(k, j) + back + self.longest(i) + self.tick();
+        comes.saturating_sub(self.delay(k, i))
     }
 
     /// Returns the greatest of these over the senders.
-    fn longest_trip(&self, setting: Setting, i: u8, j: u8) -> u128
-        requires one { i < length self.now.members }
-        requires other { j < length self.now.members }
-        ensures value { result ≡ greatest (length self.now.members) (sends_but (bus_of self.now setting) j)
-            (trip (bus_of self.now setting) i j) }
-        ensures most { result < 2 ^ 88 }
+    fn longest_trip(&self, i: u8, j: u8) -> u128
+        requires one { i < (the_bus self.now).nodes }
+        requires other { j < (the_bus self.now).nodes }
+        ensures value { result ≡ greatest (the_bus self.now).nodes (sends_but (the_bus self.now) j)
+            (trip (the_bus self.now) i j) }
+        ensures most { result < trip_limit }
     {
         let mut longest = 0;
         for k in 0..self.nodes() {
-            if self.sends(setting, k) && k != j {
-                longest = longest.max(self.trip(setting, i, j, k));
+            if self.sends(k) && k != j {
+                longest = longest.max(self.trip(i, j, k));
             }
         }
         longest
     }
 
     /// Returns the greatest look of a node that is neither `i` nor `j`.
-    fn look_of_third(&self, setting: Setting, i: u8, j: u8) -> u128
-        requires one { i < length self.now.members }
-        requires other { j < length self.now.members }
-        ensures value { result ≡ greatest (length self.now.members) (is_third i j) (look (bus_of self.now setting)) }
-        ensures most { result < 2 ^ 87 }
+    fn look_of_third(&self, i: u8, j: u8) -> u128
+        requires one { i < (the_bus self.now).nodes }
+        requires other { j < (the_bus self.now).nodes }
+        ensures value { result ≡ greatest (the_bus self.now).nodes (is_third i j) (look (the_bus self.now)) }
+        ensures most { result < look_limit }
     {
         let mut greatest = 0;
         for w in 0..self.nodes() {
             if w != i && w != j {
-                greatest = greatest.max(self.look(setting, w));
+                greatest = greatest.max(self.look(w));
             }
         }
         greatest
@@ -109,26 +102,26 @@ impl Family {
 
     /// Returns how late a bit of node `j` can be at node `i`.
     #[tactic(auto, unfolding(crate::specs::Terms::way))]
-    pub(crate) fn way(&self, setting: Setting, i: u8, j: u8) -> u128
-        requires one { i < length self.now.members }
-        requires other { j < length self.now.members }
-        ensures value { result ≡ way (bus_of self.now setting) i j }
-        ensures most { result < 2 ^ 89 }
+    pub(crate) fn way(&self, i: u8, j: u8) -> u128
+        requires one { i < (the_bus self.now).nodes }
+        requires other { j < (the_bus self.now).nodes }
+        ensures value { result ≡ way (the_bus self.now) i j }
+        ensures most { result < way_limit }
     {
-        self.longest_trip(setting, i, j) + self.look_of_third(setting, i, j)
+        self.longest_trip(i, j) + self.look_of_third(i, j)
     }
 
     /// Returns by how much the other nodes can get ahead of node `j` at the changes of their rates.
     #[tactic(auto, unfolding(crate::specs::Terms::ahead))]
-    pub(crate) fn ahead(&self, setting: Setting, j: u8) -> u128
-        requires { j < length self.now.members }
-        ensures value { result ≡ ahead (bus_of self.now setting) j }
-        ensures most { result < 2 ^ 68 }
+    pub(crate) fn ahead(&self, j: u8) -> u128
+        requires { j < (the_bus self.now).nodes }
+        ensures value { result ≡ ahead (the_bus self.now) j }
+        ensures most { result < ahead_limit }
     {
         let mut sum = 0;
         for w in 0..self.nodes() {
             if w != j {
-                sum += self.turns(setting, w);
+                sum += self.turns(w);
             }
         }
         sum
@@ -136,12 +129,12 @@ impl Family {
 
     /// True if two nodes at least send.
     #[tactic(auto, unfolding(crate::specs::Terms::several))]
-    pub(crate) fn several(&self, setting: Setting) -> bool
-        ensures { result ≡ several (bus_of self.now setting) }
+    pub(crate) fn several(&self) -> bool
+        ensures { result ≡ several (the_bus self.now) }
     {
         let mut senders: u8 = 0;
         for i in 0..self.nodes() {
-            if self.sends(setting, i) {
+            if self.sends(i) {
                 senders += 1;
             }
         }
@@ -151,18 +144,18 @@ impl Family {
     /// Returns how early node `i` can be for the bits of the sender that wins the arbitration, if several nodes send: how late the bits of a
     /// sender but `i` can be there, with ten bits of drift.
     #[tactic(auto, unfolding(crate::specs::Terms::early))]
-    pub(crate) fn early(&self, setting: Setting, ways: &Ways, i: u8) -> u128
-        requires node { i < length self.now.members }
-        requires several { several (bus_of self.now setting) ≡ true }
-        requires ways { HasWaysOfNode i self.now setting ways.now }
-        ensures value { result ≡ early (bus_of self.now setting) i }
-        ensures most { result < 2 ^ 95 }
+    pub(crate) fn early(&self, ways: &Ways, i: u8) -> u128
+        requires node { i < (the_bus self.now).nodes }
+        requires several { several (the_bus self.now) ≡ true }
+        requires ways { HasWaysOfNode i (the_bus self.now) ways.now }
+        ensures value { result ≡ early (the_bus self.now) i }
+        ensures most { result < early_limit }
     {
         let mut latest = 0;
         for a in 0..self.nodes() {
-            if self.sends(setting, a) && a != i {
-                let comes = self.way_in(setting, ways, i, a) + 10 * self.drift(setting, a, i);
-                latest = latest.max(comes + self.ahead(setting, a));
+            if self.sends(a) && a != i {
+                let comes = self.way_in(ways, i, a) + 10 * self.drift(a, i);
+                latest = latest.max(comes + self.ahead(a));
             }
         }
         latest
@@ -170,15 +163,15 @@ impl Family {
 
     /// Returns what ten bits of drift from a sender take from a jump of node `i`.
     #[tactic(auto, unfolding(crate::specs::Terms::lost))]
-    fn lost(&self, setting: Setting, i: u8) -> u128
-        requires { i < length self.now.members }
-        ensures value { result ≡ lost (bus_of self.now setting) i }
-        ensures most { result < 2 ^ 95 }
+    fn lost(&self, i: u8) -> u128
+        requires { i < (the_bus self.now).nodes }
+        ensures value { result ≡ lost (the_bus self.now) i }
+        ensures most { result < spread_limit }
     {
         let mut greatest = 0;
         for a in 0..self.nodes() {
-            if self.sends(setting, a) && a != i {
-                greatest = greatest.max(self.drift(setting, a, i));
+            if self.sends(a) && a != i {
+                greatest = greatest.max(self.drift(a, i));
             }
         }
         10 * greatest
@@ -186,20 +179,20 @@ impl Family {
 
     /// Returns how many edges node `i` takes to catch up with that sender, for which it can be so early.
     #[tactic(auto, unfolding(crate::specs::Terms::edges), using(crate::proofs::Harder::ceil_within))]
-    pub(crate) fn edges(&self, setting: Setting, earliest: u128, i: u8) -> u128
-        requires node { i < length self.now.members }
-        requires early { earliest ≡ early (bus_of self.now setting) i }
-        requires small { earliest < 2 ^ 95 }
-        ensures value { result ≡ edges (bus_of self.now setting) i }
-        ensures most { result ≤ 74 }
+    pub(crate) fn edges(&self, earliest: u128, i: u8) -> u128
+        requires node { i < (the_bus self.now).nodes }
+        requires early { earliest ≡ early (the_bus self.now) i }
+        requires small { earliest < early_limit }
+        ensures value { result ≡ edges (the_bus self.now) i }
+        ensures most { result ≤ frame_edges }
     {
-        let quantum = self.shortest(setting, i);
+        let quantum = self.shortest(i);
         if earliest <= quantum {
             return 0;
         }
         let far = earliest - quantum;
-        let jump = self.jump(setting, i);
-        let lost = self.lost(setting, i);
+        let jump = self.jump(i);
+        let lost = self.lost(i);
         let gained = jump.saturating_sub(lost);
         if far <= SPARSE_EDGES * gained {
             return far.div_ceil(gained);
@@ -211,217 +204,101 @@ impl Family {
     }
 
     /// True if some third node sends.
-    fn third_sends(&self, setting: Setting, i: u8, j: u8) -> bool
-        requires one { i < length self.now.members }
-        requires other { j < length self.now.members }
-        ensures { result ≡ any_below (length self.now.members) (sends_third (bus_of self.now setting) i j) }
+    pub(crate) fn third_sends(&self, i: u8, j: u8) -> bool
+        requires one { i < (the_bus self.now).nodes }
+        requires other { j < (the_bus self.now).nodes }
+        ensures { result ≡ any_below (the_bus self.now).nodes (sends_third (the_bus self.now) i j) }
     {
         let mut sends = false;
         for a in 0..self.nodes() {
-            sends = sends || self.sends(setting, a) && a != i && a != j;
+            sends = sends || self.sends(a) && a != i && a != j;
         }
         sends
     }
 
     /// Returns by how much the edges of node `j` can come ahead of those that it follows while node `i` follows them.
     #[tactic(auto, unfolding(crate::specs::Terms::pull))]
-    fn pull(&self, setting: Setting, i: u8, j: u8) -> u128
-        requires one { i < length self.now.members }
-        requires other { j < length self.now.members }
-        ensures value { result ≡ pull (bus_of self.now setting) i j }
-        ensures most { result < 2 ^ 87 }
+    fn pull(&self, i: u8, j: u8) -> u128
+        requires one { i < (the_bus self.now).nodes }
+        requires other { j < (the_bus self.now).nodes }
+        ensures value { result ≡ pull (the_bus self.now) i j }
+        ensures most { result < look_limit }
     {
-        if !self.sends(setting, j) {
+        if !self.sends(j) {
             return 0;
         }
-        if self.third_sends(setting, i, j) {
-            return self.look(setting, j);
+        if self.third_sends(i, j) {
+            return self.look(j);
         }
-        if !self.sends(setting, i) {
+        if !self.sends(i) {
             return 0;
         }
-        let back = self.plan_delay(setting, j, i) + self.plan_delay(setting, i, j);
-        (self.longest(setting, j) + self.tick(setting)).saturating_sub(back)
+        let back = self.plan_delay(j, i) + self.plan_delay(i, j);
+        (self.longest(j) + self.tick()).saturating_sub(back)
     }
 
-    /// Returns what of it the jump of node `i` doesn't put right beyond that of node `j`.
+    /// Returns `pull(i, j) - (jump(i) - jump(j))`, at least 0: what a longer jump of node `i` leaves of the pull.
     #[tactic(auto, unfolding(crate::specs::Terms::pulled))]
-    pub(crate) fn pulled(&self, setting: Setting, i: u8, j: u8) -> u128
-        requires one { i < length self.now.members }
-        requires other { j < length self.now.members }
-        ensures value { result ≡ pulled (bus_of self.now setting) i j }
-        ensures most { result < 2 ^ 87 }
+    pub(crate) fn pulled(&self, i: u8, j: u8) -> u128
+        requires one { i < (the_bus self.now).nodes }
+        requires other { j < (the_bus self.now).nodes }
+        ensures value { result ≡ pulled (the_bus self.now) i j }
+        ensures most { result < look_limit }
     {
-        let more = self.jump(setting, i).saturating_sub(self.jump(setting, j));
-        self.pull(setting, i, j).saturating_sub(more)
-    }
-
-    /// Returns in how many edges nodes `i` and `j` both catch up with a third.
-    #[tactic(auto, unfolding(crate::specs::Terms::chase))]
-    fn chase(&self, bus: &EvaluatedBus, i: u8, j: u8) -> u128
-        requires one { i < length self.now.members }
-        requires other { j < length self.now.members }
-        requires evaluated { IsEvaluated self.now bus.now }
-        ensures value { result ≡ chase (bus_of self.now bus.now.setting) i j }
-        ensures most { result ≤ 74 }
-    {
-        if self.third_sends(bus.setting, i, j) {
-            self.edges_of(bus, i).min(self.edges_of(bus, j))
-        } else {
-            0
-        }
+        let more = self.jump(i).saturating_sub(self.jump(j));
+        self.pull(i, j).saturating_sub(more)
     }
 
     /// Returns how much later node `j` can get for node `i` with each edge that both follow.
     #[tactic(auto, unfolding(crate::specs::Terms::spread))]
-    fn spread(&self, setting: Setting, i: u8, j: u8) -> u128
-        requires one { i < length self.now.members }
-        requires other { j < length self.now.members }
-        ensures value { result ≡ spread (bus_of self.now setting) i j }
-        ensures most { result < 2 ^ 95 }
+    pub(crate) fn spread(&self, i: u8, j: u8) -> u128
+        requires one { i < (the_bus self.now).nodes }
+        requires other { j < (the_bus self.now).nodes }
+        ensures value { result ≡ spread (the_bus self.now) i j }
+        ensures most { result < spread_limit }
     {
-        let jumps = self.segments(setting, j).sjw() as u128 * self.longest(setting, j);
-        let unlike = jumps.saturating_sub(self.jump(setting, i));
-        10 * self.drift(setting, j, i) + unlike
-    }
-
-    /// Returns how much later node `j` can get for node `i` meanwhile.
-    #[tactic(auto, unfolding(crate::specs::Terms::apart))]
-    pub(crate) fn apart(&self, bus: &EvaluatedBus, i: u8, j: u8) -> u128
-        requires one { i < length self.now.members }
-        requires other { j < length self.now.members }
-        requires evaluated { IsEvaluated self.now bus.now }
-        ensures value { result ≡ apart (bus_of self.now bus.now.setting) i j }
-        ensures most { result < 2 ^ 102 }
-    {
-        self.chase(bus, i, j) * self.spread(bus.setting, i, j)
-    }
-
-    /// Returns how late node `j` can be for node `i` by the edges of sender `a`.
-    fn tour_by(&self, bus: &EvaluatedBus, i: u8, j: u8, a: u8) -> u128
-        requires one { i < length self.now.members }
-        requires other { j < length self.now.members }
-        requires sender { a < length self.now.members }
-        requires evaluated { IsEvaluated self.now bus.now }
-        ensures value { let b = bus_of self.now bus.now.setting in
-            result ≡ way b i a + 10 * drift b a i + ahead b a + b.delay a j + b.delay j i - b.delay a i }
-        ensures most { result < 2 ^ 96 }
-    {
-        let setting = bus.setting;
-        let comes = self.way_of(bus, i, a)
-            + 10 * self.drift(setting, a, i)
-            + self.ahead(setting, a);
-        let there = comes + self.delay(setting, a, j) + self.delay(setting, j, i);
-        there.saturating_sub(self.delay(setting, a, i))
-    }
-
-    /// Returns how late it can be at most, since the edges of a third sender reach it too.
-    #[tactic(auto, unfolding(crate::specs::Terms::tour))]
-    fn tour(&self, bus: &EvaluatedBus, i: u8, j: u8) -> u128
-        requires one { i < length self.now.members }
-        requires other { j < length self.now.members }
-        requires evaluated { IsEvaluated self.now bus.now }
-        ensures value { result ≡ tour (bus_of self.now bus.now.setting) i j }
-        ensures most { result < 2 ^ 96 }
-    {
-        let mut longest = 0;
-        for a in 0..self.nodes() {
-            if self.sends(bus.setting, a) && a != i && a != j {
-                longest = longest.max(self.tour_by(bus, i, j, a));
-            }
-        }
-        longest
+        let jumps = self.segments(j).sjw() as u128 * self.longest(j);
+        let unlike = jumps.saturating_sub(self.jump(i));
+        10 * self.drift(j, i) + unlike
     }
 
     /// True if node `a` is a third one that acknowledges what some other than it and `j` sends.
-    fn is_answering(&self, setting: Setting, i: u8, j: u8, a: u8) -> bool
-        requires one { i < length self.now.members }
-        requires other { j < length self.now.members }
-        requires third { a < length self.now.members }
-        ensures { result ≡ is_answering (bus_of self.now setting) i j a }
+    pub(crate) fn is_answering(&self, i: u8, j: u8, a: u8) -> bool
+        requires one { i < (the_bus self.now).nodes }
+        requires other { j < (the_bus self.now).nodes }
+        requires third { a < (the_bus self.now).nodes }
+        ensures { result ≡ is_answering (the_bus self.now) i j a }
     {
-        a != i && a != j && !self.listens(a, j) && self.third_sends(setting, a, j)
+        a != i && a != j && !self.listens(a, j) && self.third_sends(a, j)
     }
 
     /// Returns how late node `j` can still be for the acknowledgement of node `a` once it has jumped back. It catches up in
     /// `chased` edges.
     #[tactic(auto, unfolding(crate::specs::Terms::behind))]
-    fn behind(&self, setting: Setting, j: u8, a: u8, chased: u128) -> u128
-        requires late { j < length self.now.members }
-        requires first { a < length self.now.members }
-        requires chased { chased ≡ edges (bus_of self.now setting) j }
-        requires few { chased ≤ 74 }
-        ensures value { result ≡ behind (bus_of self.now setting) j a }
-        ensures most { result < 2 ^ 102 - 2 ^ 90 }
+    pub(crate) fn behind(&self, j: u8, a: u8, chased: u128) -> u128
+        requires late { j < (the_bus self.now).nodes }
+        requires first { a < (the_bus self.now).nodes }
+        requires chased { chased ≡ edges (the_bus self.now) j }
+        requires few { chased ≤ frame_edges }
+        ensures value { result ≡ behind (the_bus self.now) j a }
+        ensures most { result < behind_limit }
     {
-        let gathers = chased * self.spread(setting, a, j);
-        let late = self.look(setting, a) + 10 * self.drift(setting, j, a) + gathers;
-        late.saturating_sub(self.jump(setting, j))
-    }
-
-    /// Returns how late the end of `j`'s acknowledgement can be at `i`, if both jump back by that of a third node.
-    #[tactic(auto, unfolding(crate::specs::Terms::answered))]
-    pub(crate) fn answered(&self, bus: &EvaluatedBus, i: u8, j: u8) -> u128
-        requires one { i < length self.now.members }
-        requires other { j < length self.now.members }
-        requires evaluated { IsEvaluated self.now bus.now }
-        ensures value { result ≡ answered (bus_of self.now bus.now.setting) i j }
-        ensures most { result < 2 ^ 102 }
-    {
-        if self.several(bus.setting) {
-            self.latest_answer(bus, i, j)
-        } else {
-            0
-        }
-    }
-
-    /// Returns that over the nodes whose acknowledgement may come first.
-    fn latest_answer(&self, bus: &EvaluatedBus, i: u8, j: u8) -> u128
-        requires one { i < length self.now.members }
-        requires other { j < length self.now.members }
-        requires evaluated { IsEvaluated self.now bus.now }
-        ensures value { let b = bus_of self.now bus.now.setting in
-            result ≡ greatest (length self.now.members) (is_answering b i j) (λ a. trip b i j a + behind b j a) }
-        ensures most { result < 2 ^ 102 }
-    {
-        let setting = bus.setting;
-        let chased = self.edges_of(bus, j);
-        let mut latest = 0;
-        for a in 0..self.nodes() {
-            if self.is_answering(setting, i, j, a) {
-                let behind = self.behind(setting, j, a, chased);
-                latest = latest.max(self.trip(setting, i, j, a) + behind);
-            }
-        }
-        latest
-    }
-
-    /// Returns how late a bit of node `j` can be at node `i`, catching up counted.
-    #[tactic(auto, unfolding(crate::specs::Terms::late))]
-    pub(crate) fn late(&self, bus: &EvaluatedBus, i: u8, j: u8) -> u128
-        requires one { i < length self.now.members }
-        requires other { j < length self.now.members }
-        requires evaluated { IsEvaluated self.now bus.now }
-        ensures value { result ≡ late (bus_of self.now bus.now.setting) i j }
-        ensures most { result < 2 ^ 102 }
-    {
-        let way = self.way_of(bus, i, j);
-        let tour = self.tour(bus, i, j);
-        let chased = self.apart(bus, i, j).min(tour.saturating_sub(way));
-        (way + chased).max(self.answered(bus, i, j))
+        let gathers = chased * self.spread(a, j);
+        let late = self.look(a) + 10 * self.drift(j, a) + gathers;
+        late.saturating_sub(self.jump(j))
     }
 
     /// Returns the most by which a bit of node `j` can last longer than one of another node.
     #[tactic(auto, unfolding(crate::specs::Terms::strays))]
-    pub(crate) fn strays(&self, setting: Setting, j: u8) -> u128
-        requires { j < length self.now.members }
-        ensures value { result ≡ strays (bus_of self.now setting) j }
-        ensures most { result < 2 ^ 91 }
+    pub(crate) fn strays(&self, j: u8) -> u128
+        requires { j < (the_bus self.now).nodes }
+        ensures value { result ≡ strays (the_bus self.now) j }
+        ensures most { result < drift_limit }
     {
         let mut greatest = 0;
         for w in 0..self.nodes() {
             if w != j {
-                greatest = greatest.max(self.drift(setting, j, w));
+                greatest = greatest.max(self.drift(j, w));
             }
         }
         greatest

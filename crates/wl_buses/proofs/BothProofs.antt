@@ -1,1 +1,3 @@
 pub mod Expecting
+pub mod Rows
+pub mod Small

@@ -1,6 +1,6 @@
 pub mod Beginning
-pub mod Callers
 pub mod Going
+pub mod Lasts
 pub mod Plans
 pub mod Reaching
 pub mod Resting

@@ -1,7 +1,6 @@
 pub mod Again
 pub mod Asked
 pub mod Below
-pub mod Callers
 pub mod Ends
 pub mod Hearing
 pub mod LineEnds

@@ -1,5 +1,4 @@
 pub mod Beginning
-pub mod Callers
 pub mod Chaining
 pub mod Driving
 pub mod Falling

@@ -1,9 +1,8 @@
-pub mod Beginning
 pub mod AckBounds
 pub mod AckWays
 pub mod Acks
+pub mod Beginning
 pub mod Bounded
-pub mod Callers
 pub mod Calm
 pub mod Clocked
 pub mod Counting
@@ -26,5 +25,6 @@ pub mod Sampled
 pub mod Seeing
 pub mod Settling
 pub mod Starting
+pub mod TakenOn
 pub mod Unreached
 pub mod Waited

@@ -8,11 +8,13 @@ pub mod Calm
 pub mod Choosing
 pub mod Cleaning
 pub mod Covering
+pub mod Drove
 pub mod Fitting
 pub mod Following
 pub mod Frames
 pub mod Gliding
 pub mod Leasts
+pub mod Listeners
 pub mod Moving
 pub mod Nodes
 pub mod Passing

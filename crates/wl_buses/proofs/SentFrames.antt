@@ -1,4 +1,3 @@
-pub mod Callers
 pub mod Counting
 pub mod Fewer
 pub mod Handing

@@ -27,7 +27,7 @@ use Rattle.wl_bound.specs.declared.verdict.Outside.{Outside}
 use Rattle.wl_bound.specs.declared.verdict.Outside.TheVariants.{FewNodes, NoFrames, ListenerSends, NobodyAcknowledges, NotByTheBook, SameIdentifier, NobodyIdle}
 use Rattle.wl_bound.specs.declared.verdict.Verdict.{Verdict}
 use Rattle.wl_bound.specs.declared.verdict.Verdict.TheVariants.{ForAny, ForOne, DoesNotHold, NoBound}
-use Rattle.wl_room.specs.Rooms.{is_roomy_grown, leaves_room}
+use Rattle.wl_bound.specs.Rooms.{is_roomy_grown, leaves_room}
 use Rattle.wl_margin.specs.Paces.{first_stray, is_turning, stray_at}
 use Rattle.wl_margin.specs.Pieces.{joined, each_below}
 use Rattle.wl_margin.specs.Reasons.{any_cause, cause_words, one_cause, astray_line}

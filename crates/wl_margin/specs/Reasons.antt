@@ -13,10 +13,10 @@ use Rattle.wl_bound.specs.Families.{Buses, only_listens}
 use Rattle.wl_bound.specs.Oscillators.{Pace}
 use Rattle.wl_bound.specs.Terms.{greatest}
 use Rattle.wl_bound.specs.Verdicts.{idle_at, is_ready_from}
-use Rattle.wl_room.specs.Lacks.{first_lack}
-use Rattle.wl_room.specs.declared.lack.Lack.{Lack}
-use Rattle.wl_room.specs.declared.lack.Shortage.{Shortage}
-use Rattle.wl_room.specs.declared.lack.Shortage.TheVariants.{OwnBit, CatchingUp, LookInJump, DriftInJump, WayToSample, Rest}
+use Rattle.wl_bound.specs.Lacks.{first_lack}
+use Rattle.wl_bound.specs.declared.lack.Lack.{Lack}
+use Rattle.wl_bound.specs.declared.lack.Shortage.{Shortage}
+use Rattle.wl_bound.specs.declared.lack.Shortage.TheVariants.{OwnBit, CatchingUp, LookInJump, DriftInJump, WayToSample, Rest}
 use Rattle.wl_margin.specs.Paces.{is_turning, least_ticks, most_ticks}
 use Rattle.wl_margin.specs.Pieces.{joined, each_below}
 use Rattle.wl_margin.specs.Sentences.{Measure, around_words, drift_words, late_words, loop_words, measure_of, within_words}

@@ -24,7 +24,6 @@ use wl_bound::{
 };
 use wl_level::Listed;
 use wl_plan::CheckedPlan;
-use wl_room::leaves_room;
 use wl_setup::{Bus, Deviation, Names};
 
 /// Returns the oscillators of the nodes, if each has rates that make a clock.
@@ -398,7 +397,7 @@ fn proved_of(asked: Asked, bus: &Bus, family: &Family) -> Proved
 {
     let is_abiding = is_law_abiding(asked, bus);
     Proved {
-        any: is_abiding && leaves_room(family),
+        any: is_abiding && family.leaves_room(),
         one: is_abiding && !family.first_failure(Senders::One).is_some(),
     }
 }

@@ -11,9 +11,10 @@ use crate::paces::{Stray, first_turning, least_ticks, most_ticks};
 use crate::sentences::{Amount, push_drift, push_late, push_loop};
 use crate::units::{Units, units_at};
 use std::alloc::AllocError;
-use wl_bound::{Family, Oscillator, finds_one_busy, idle_at, is_ready_from, listens};
+use wl_bound::{
+    Family, Lack, Oscillator, Shortage, finds_one_busy, idle_at, is_ready_from, listens,
+};
 use wl_plan::CheckedPlan;
-use wl_room::{Lack, Shortage, first_lack};
 use wl_setup::{Deviation, Names};
 
 /// Who is asked about.
@@ -83,7 +84,7 @@ pub(crate) fn any_cause(
     requires deviations { length deviations.now ≡ length plan.now.nodes }
     ensures { result ≡ any_cause asked deviations.now plan.now family.now }
 {
-    let room = match first_lack(family) {
+    let room = match family.first_lack() {
         Some(lack) => Cause::Lacking(lack),
         None => Cause::Waiting,
     };

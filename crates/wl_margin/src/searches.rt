@@ -8,7 +8,6 @@ ghost use Rattle.wl_margin.specs.Margins.{AreSearchResults, IsHeadroom, IsProved
 use std::alloc::AllocError;
 use std::fmt;
 use wl_bound::{Change, Family, Growth, Senders};
-use wl_room::roomy_growth;
 
 /// The headroom of a cable's length or of a tolerance: how much it may grow; `None` if it may not.
 #[derive(Clone, Copy, Debug)]
@@ -40,7 +39,7 @@ fn proved_longer(family: &Family, proved: bool, most: Option<u32>) -> Option<u32
     ensures { IsProvedGrowth proved family.now (Longer (cable_ticks family.now) family.now.cable.per) most result }
 {
     match most {
-        Some(most) if proved => roomy_growth(family, family.cable_growth(), most),
+        Some(most) if proved => family.roomy_growth(family.cable_growth(), most),
         _ => None,
     }
 }
@@ -50,7 +49,7 @@ fn proved_wider(family: &Family, proved: bool, most: Option<u32>) -> Option<u32>
     ensures { IsProvedGrowth proved family.now Wider most result }
 {
     match most {
-        Some(most) if proved => roomy_growth(family, Growth::Wider, most),
+        Some(most) if proved => family.roomy_growth(Growth::Wider, most),
         _ => None,
     }
 }

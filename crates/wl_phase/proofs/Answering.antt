@@ -91,7 +91,7 @@ module _ (s : Sender) (j : Listener) (ds : 0 < s.clock.den) (dj : 0 < j.clock.de
   next_bit b = omega arith
 
 -- a difference of naturals and its multiples, ten at most
-few_of : (m d : ℕ) → m ≤ 10 → m * d ≤ 10 * d
+pub few_of : (m d : ℕ) → m ≤ 10 → m * d ≤ 10 * d
 few_of m d h = mul-le-mul_right d h
 
 module _ (s : Sender) (own : Lengths) (j : Listener) (seen : ℕ → Seen) (found back d k : ℕ) (ds : 0 < s.clock.den) (dj : 0 < j.clock.den)

@@ -32,7 +32,7 @@ module _ (s : Sender) (i j : Listener) (c : Steady) (l : Lengths) (seen other_se
   abbrev N : ℕ
   N = sample_at l - 1 + bit_quanta l
 
-  since : second.since ≡ first.since
+  abbrev since : second.since ≡ first.since
   since = same_since s i j seen other_seen found other_found d k n first second
 
   -- where the first one begins, and the other ends

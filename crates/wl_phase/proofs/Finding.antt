@@ -1,6 +1,6 @@
 -- A node that has sampled a recessive bit which nothing moved, and finds a dominant level up to its next sample.
-use Rattle.std.proofs.Common.{◌≡◌, ◌∙◌, inl, inr, refl, sym, ap, subst, ℕ, zero, suc, ◌+◌, ◌-◌, ◌<◌, ◌≤◌, [], ◌++◌, true, false, cond, Some, None, arith, append-nil}
-use Rattle.std.proofs.lemmas.Bool.{cases_eq, cases_lt, eq-eqb, ne_eqb, lt-leb, false_from_ne_true}
+use Rattle.std.proofs.Common.{◌≡◌, ◌∙◌, inl, inr, refl, ap, subst, ℕ, zero, suc, ◌+◌, ◌-◌, ◌<◌, ◌≤◌, [], ◌++◌, true, false, cond, Some, None, arith, append-nil}
+use Rattle.std.proofs.lemmas.Bool.{cases_eq, cases_lt, eq-eqb, lt-leb, false_from_ne_true}
 use Rattle.wl_level.specs.declared.Level.{Level}
 use Rattle.wl_level.specs.declared.Level.TheVariants.{Dominant, Recessive}
 use Rattle.wl_segments.specs.Lengths.{Lengths, sample_at, bit_quanta}
@@ -14,9 +14,10 @@ use Rattle.wl_sync.specs.Skips.{quanta_before_sample, steady_clock}
 use Rattle.wl_phase.specs.Ways.{ByTheBook, WayLaws, sample_way, way_after, moved_to}
 use Rattle.wl_phase.specs.InStep.{seen_before, sampled_by, samples_from}
 use Rattle.wl_phase.specs.Answer.{FindsDominant, FindsItsEnd, SamplesNext}
-use Rattle.wl_phase.proofs.Steps.{IsValid, Leaves, Passes, none_passes}
-use Rattle.wl_phase.proofs.Edges.{answer_soft, answer_none}
-use Rattle.wl_phase.proofs.Runs.{Goes, valid_after, leaves, sync_is}
+use Rattle.wl_phase.proofs.Steps.{IsValid, Leaves, Passes}
+use Rattle.wl_phase.proofs.Edges.{answer_soft}
+use Rattle.wl_phase.proofs.Runs as runs
+use Rattle.wl_phase.proofs.Runs.{Goes, valid_at, sync_is}
 use Rattle.wl_phase.proofs.Listening.{now_recessive, before_dominant, counts_then, soft_from, unsampled_by}
 
 -- right after such a sample a bit less a quantum is to come before the next one
@@ -37,22 +38,20 @@ module _ (goes : Goes) (ways : WayLaws) (l : Lengths) (h : ByTheBook l) (seen : 
   abbrev sample : ℕ
   sample = n + moved_to (sample_at l - 1) l.sjw (k + bit_quanta l - n)
 
-  valid : (i : ℕ) → IsValid (clock i)
-  valid i = valid_after goes l h (seen_before seen i)
+  abbrev valid : (i : ℕ) → IsValid (clock i)
+  valid = valid_at goes l h seen
 
-  leaves_at : (i : ℕ) → Leaves (clock i) (seen i) (way_after l (way i) (sync_of l (seen_before seen i) (seen i))) (clock (suc i))
-  leaves_at i = leaves goes l h (seen_before seen i) (seen i)
+  abbrev leaves_at : (i : ℕ) → Leaves (clock i) (seen i) (way_after l (way i) (sync_of l (seen_before seen i) (seen i))) (clock (suc i))
+  leaves_at = runs.leaves_at goes l h seen
 
-  passes_at : (i : ℕ) → running_sync (clock i) (seen i) ≡ false → Passes (clock i) (seen i) (clock (suc i))
-  passes_at i e = subst (Passes (clock i) (seen i)) (sym (goes.clock l (seen_before seen i) (seen i))) (none_passes (clock i) (seen i) (valid i) e)
+  abbrev passes_at : (i : ℕ) → running_sync (clock i) (seen i) ≡ false → Passes (clock i) (seen i) (clock (suc i))
+  passes_at = runs.passes_at goes l h seen
 
-  none_at : (i : ℕ) → running_sync (clock i) (seen i) ≡ false → sync_of l (seen_before seen i) (seen i) ≡ None
-  none_at i e = sync_is goes l h (seen_before seen i) (seen i) ∙ answer_none (clock i) (seen i) (valid i) e
+  abbrev none_at : (i : ℕ) → running_sync (clock i) (seen i) ≡ false → sync_of l (seen_before seen i) (seen i) ≡ None
+  none_at = runs.none_at goes l h seen
 
-  way_down : (i : ℕ) → running_sync (clock i) (seen i) ≡ false → 0 < way i → way (suc i) ≡ way i - 1
-  way_down i e some =
-      (leaves_at i).way ∙ ap (way_after l (way i)) (none_at i e)
-      ∙ ap (λ b. cond b (bit_quanta l - 1) (way i - 1)) (ne_eqb (way i) 0 (λ z. omega arith))
+  abbrev way_down : (i : ℕ) → running_sync (clock i) (seen i) ≡ false → 0 < way i → way (suc i) ≡ way i - 1
+  way_down = runs.way_down goes l h seen
 
   -- no sample since that of quantum k
   record Unsampled (i : ℕ) : Type 0 where

@@ -1,7 +1,7 @@
 -- A listener in step with a free-running sender, quantum by quantum.
 use Rattle.std.proofs.Common.{◌≡◌, ◌∙◌, ◌⊎◌, inl, inr, refl, sym, ap, subst, ℕ, zero, suc, ◌+◌, ◌-◌, ◌*◌, ◌<◌, ◌≤◌, [], ◌∷◌, ◌++◌, length, take, Bool, true, false, cond, not, ◌&&◌, Some, None, arith, append-nil, add-one}
 use Rattle.std.specs.Prelude.{nat_lt, nat_le}
-use Rattle.std.proofs.lemmas.Bool.{cases_lt, cases_eq, lt-ltb, eq-eqb, ne_eqb, and_left, and_right, and_parts, false_from_ne_true, true_from_ne_false}
+use Rattle.std.proofs.lemmas.Bool.{cases_lt, cases_eq, lt-ltb, eq-eqb, and_left, and_right, and_parts, false_from_ne_true, true_from_ne_false}
 use Rattle.std.proofs.Math.Nat.{mul-le-mul_right}
 use Rattle.std.proofs.lemmas.List.{take_more}
 use Rattle.wl_level.specs.declared.Level.{Level}
@@ -25,9 +25,10 @@ use Rattle.wl_frame.specs.Laws.{IsEdge}
 use Rattle.wl_phase.specs.Clocks.{IsSteady, steady_tick}
 use Rattle.wl_phase.specs.Ways.{ByTheBook, WayLaws, sample_way, way_after, moved_to}
 use Rattle.wl_phase.specs.InStep.{Sender, Listener, Listens, IsListening, ClocksAreNear, HaveEdges, SamplesBit, arrival, seen_before, sampled_by, samples_from, bit_parts, quantum_parts, tick_parts, bit_instant, quantum_instant}
-use Rattle.wl_phase.proofs.Steps.{IsValid, Leaves, Passes, none_passes, zero_is}
-use Rattle.wl_phase.proofs.Edges.{answer_soft, answer_none}
-use Rattle.wl_phase.proofs.Runs.{Goes, valid_after, leaves, sync_is}
+use Rattle.wl_phase.proofs.Steps.{IsValid, Leaves, Passes, zero_is}
+use Rattle.wl_phase.proofs.Edges.{answer_soft}
+use Rattle.wl_phase.proofs.Runs as runs
+use Rattle.wl_phase.proofs.Runs.{Goes, valid_at, sync_is}
 use Rattle.wl_phase.proofs.Instants.{tick_later, bit_next, quantum_more, arrived_high, unarrived_low, arrived_from, unarrived_from}
 use Rattle.wl_phase.proofs.Drift.{AreLong, IsNear, begun_then, next_later, next_after, near_next, near_edge, near_late, near_early}
 
@@ -47,7 +48,7 @@ module _ (r : Running) (x : Seen) where
   sample_dominant e = (let g : ((is_dominant x.level && not (is_dominant r.level)) && not (is_dominant r.sample)) ≡ false = and_right _ _ (ap (λ v. not (is_dominant v)) e) in rw g refl)
 
 -- an edge that counts at a node that listens
-looks_from : (s : SyncRules) (place k : ℕ) → s ≡ Book → 0 < k → looks s place k ≡ true
+pub looks_from : (s : SyncRules) (place k : ℕ) → s ≡ Book → 0 < k → looks s place k ≡ true
 looks_from After place k e h = cc
 looks_from Book place k e h = lt-ltb 0 k h
 
@@ -132,23 +133,20 @@ module _ (s : Sender) (j : Listener) (seen : ℕ → Seen) (found : ℕ) (is : G
   abbrev NearAt : (m c sample : ℕ) → Type 0
   NearAt m c sample = IsNear A q T (bit_quanta l) (sample_at l) m (bit_instant s j c) (quantum_instant s j sample)
 
-  valid : (k : ℕ) → IsValid (clock k)
-  valid k = valid_after is.goes l is.book (seen_before seen k)
+  abbrev valid : (k : ℕ) → IsValid (clock k)
+  valid = runs.valid_at is.goes l is.book seen
 
-  leaves_at : (k : ℕ) → Leaves (clock k) (seen k) (way_after l (way k) (sync_of l (seen_before seen k) (seen k))) (clock (suc k))
-  leaves_at k = leaves is.goes l is.book (seen_before seen k) (seen k)
+  abbrev leaves_at : (k : ℕ) → Leaves (clock k) (seen k) (way_after l (way k) (sync_of l (seen_before seen k) (seen k))) (clock (suc k))
+  leaves_at = runs.leaves_at is.goes l is.book seen
 
-  passes_at : (k : ℕ) → running_sync (clock k) (seen k) ≡ false → Passes (clock k) (seen k) (clock (suc k))
-  passes_at k e = subst (Passes (clock k) (seen k)) (sym (is.goes.clock l (seen_before seen k) (seen k))) (none_passes (clock k) (seen k) (valid k) e)
+  abbrev passes_at : (k : ℕ) → running_sync (clock k) (seen k) ≡ false → Passes (clock k) (seen k) (clock (suc k))
+  passes_at = runs.passes_at is.goes l is.book seen
 
-  none_at : (k : ℕ) → running_sync (clock k) (seen k) ≡ false → sync_of l (seen_before seen k) (seen k) ≡ None
-  none_at k e = sync_is is.goes l is.book (seen_before seen k) (seen k) ∙ answer_none (clock k) (seen k) (valid k) e
+  abbrev none_at : (k : ℕ) → running_sync (clock k) (seen k) ≡ false → sync_of l (seen_before seen k) (seen k) ≡ None
+  none_at = runs.none_at is.goes l is.book seen
 
-  -- the way after a quantum that finds no edge which counts
-  way_down : (k : ℕ) → running_sync (clock k) (seen k) ≡ false → 0 < way k → way (suc k) ≡ way k - 1
-  way_down k e h =
-      (leaves_at k).way ∙ ap (way_after l (way k)) (none_at k e)
-      ∙ ap (λ b. cond b (bit_quanta l - 1) (way k - 1)) (ne_eqb (way k) 0 (λ z. omega arith))
+  abbrev way_down : (k : ℕ) → running_sync (clock k) (seen k) ≡ false → 0 < way k → way (suc k) ≡ way k - 1
+  way_down = runs.way_down is.goes l is.book seen
 
   way_new : (k : ℕ) → running_sync (clock k) (seen k) ≡ false → way k ≡ 0 → way (suc k) ≡ bit_quanta l - 1
   way_new k e z =

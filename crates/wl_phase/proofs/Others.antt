@@ -29,7 +29,7 @@ module _ (s : Sender) (i j : Listener) (seen other_seen : ℕ → Seen) (found o
   abbrev X : ℕ
   X = i.clock.den * (j.clock.den * instant s.clock (s.from + d * s.bit_quanta))
 
-  since : second.since ≡ first.since
+  abbrev since : second.since ≡ first.since
   since = same_since s i j seen other_seen found other_found d k n first second
 
   first_bit : j.clock.den * bit_instant s i d ≡ X + M * i.delay

@@ -1,8 +1,8 @@
 -- The bit clock after any list, and the way to its next sample.
-use Rattle.std.proofs.Common.{◌≡◌, ℕ, ◌-◌, ◌<◌, ◌∙◌, List, [], ◌∷◌, ◌++◌, length, false, None, is_some, refl, sym, ap, subst, arith, append_assoc, append-nil}
+use Rattle.std.proofs.Common.{◌≡◌, ℕ, suc, ◌-◌, ◌<◌, ◌∙◌, cond, List, [], ◌∷◌, ◌++◌, length, false, None, is_some, refl, sym, ap, subst, arith, append_assoc, append-nil}
 use Rattle.std.specs.Prelude.{◌==◌, nat_lt}
 use Rattle.std.proofs.lemmas.List.{length-replicate, get_or-replicate}
-use Rattle.std.proofs.lemmas.Bool.{ltb-true, cond_both}
+use Rattle.std.proofs.lemmas.Bool.{ltb-true, cond_both, ne_eqb}
 use Rattle.wl_level.specs.declared.Level.TheVariants.{Recessive}
 use Rattle.wl_level.proofs.Callers.{none_first}
 use Rattle.wl_segments.specs.declared.SyncRules.{SyncRules}
@@ -11,9 +11,10 @@ use Rattle.wl_segments.specs.Lengths.{Lengths, bit_quanta}
 use Rattle.wl_sync.specs.Edges.{Seen, edge_counts, longer_by, shorter_by}
 use Rattle.wl_sync.specs.Bits.{Bit, unseen, seen_at_place, previous_level, sample_before, is_edge, sync_place, sample_place, last_level, last_sample, first_quanta, beat_of, sync_of}
 use Rattle.wl_sync.specs.Running.{Running, running, clock_after}
-use Rattle.wl_sync.specs.Steps.{running_after, running_answer, running_beat, running_edge}
+use Rattle.wl_sync.specs.Steps.{running_after, running_answer, running_beat, running_edge, running_sync}
 use Rattle.wl_phase.specs.Ways.{ByTheBook, sample_way, way_after, WayLaws}
-use Rattle.wl_phase.proofs.Steps.{IsValid, Leaves, edge_is}
+use Rattle.wl_phase.specs.InStep.{seen_before}
+use Rattle.wl_phase.proofs.Steps.{IsValid, Leaves, Passes, edge_is, none_passes}
 use Rattle.wl_phase.proofs.Edges.{step_leaves, answer_error, answer_not, answer_none, driving_not, sample_is, only_is}
 
 pub from_the_end : {A : Type 0} (P : List A → Type 0) → P [] → ((xs : List A) (x : A) → P xs → P (xs ++ x ∷ [])) → (xs : List A) → P xs
@@ -118,6 +119,32 @@ module _ (goes : Goes) (l : Lengths) (h : ByTheBook l) where
       subst (Leaves (clock_after l past) x (way_after l (sample_way l past) (sync_of l past x))) (sym (goes.clock l past x))
       (subst (λ o. Leaves (clock_after l past) x (way_after l (sample_way l past) o) (running_after (clock_after l past) x)) (sym (sync_is past x))
       (step_leaves (clock_after l past) x (valid_after past)))
+
+-- the clock at each quantum of what a node sees
+module _ (goes : Goes) (l : Lengths) (h : ByTheBook l) (seen : ℕ → Seen) where
+  abbrev clock : ℕ → Running
+  clock k = clock_after l (seen_before seen k)
+
+  abbrev way : ℕ → ℕ
+  way k = sample_way l (seen_before seen k)
+
+  pub valid_at : (k : ℕ) → IsValid (clock k)
+  valid_at k = valid_after goes l h (seen_before seen k)
+
+  pub leaves_at : (k : ℕ) → Leaves (clock k) (seen k) (way_after l (way k) (sync_of l (seen_before seen k) (seen k))) (clock (suc k))
+  leaves_at k = leaves goes l h (seen_before seen k) (seen k)
+
+  pub passes_at : (k : ℕ) → running_sync (clock k) (seen k) ≡ false → Passes (clock k) (seen k) (clock (suc k))
+  passes_at k e = subst (Passes (clock k) (seen k)) (sym (goes.clock l (seen_before seen k) (seen k))) (none_passes (clock k) (seen k) (valid_at k) e)
+
+  pub none_at : (k : ℕ) → running_sync (clock k) (seen k) ≡ false → sync_of l (seen_before seen k) (seen k) ≡ None
+  none_at k e = sync_is goes l h (seen_before seen k) (seen k) ∙ answer_none (clock k) (seen k) (valid_at k) e
+
+  -- the way after a quantum that finds no edge which counts
+  pub way_down : (k : ℕ) → running_sync (clock k) (seen k) ≡ false → 0 < way k → way (suc k) ≡ way k - 1
+  way_down k e some =
+      (leaves_at k).way ∙ ap (way_after l (way k)) (none_at k e)
+      ∙ ap (λ b. cond b (bit_quanta l - 1) (way k - 1)) (ne_eqb (way k) 0 (λ z. omega arith))
 
 pub way_laws : Goes → WayLaws
 way_laws goes = record {

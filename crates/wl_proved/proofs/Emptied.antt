@@ -1,12 +1,11 @@
 -- On a plan that ends late enough no frame is left.
-use Rattle.std.proofs.Common.{◌≡◌, ◌∙◌, refl, sym, ap, subst, inl, inr, ℕ, zero, suc, ◌+◌, ◌-◌, ◌*◌, ◌<◌, ◌≤◌, ◌==◌, List, All, get_or, map, length, Bool, true, false, Some, option_map, cond, arith}
+use Rattle.std.proofs.Common.{◌≡◌, ◌∙◌, sym, ap, subst, inl, inr, ℕ, suc, ◌+◌, ◌-◌, ◌*◌, ◌<◌, ◌≤◌, ◌==◌, List, All, get_or, map, length, Bool, true, false, Some, option_map, cond, arith}
 use Rattle.std.specs.Prelude.{count_by, slice_get}
 use Rattle.std.proofs.lemmas.Bool.{cases_lt}
 use Rattle.std.proofs.lemmas.List.{length-drop, length-map}
 use Rattle.std.proofs.lemmas.Option.{slice_get-get_or, slice_get_within, get_or_from_slice_get}
 use Rattle.std.proofs.lemmas.Option.{slice_get-map}
 use Rattle.std.proofs.Math.Nat.{mul-le-mul_right}
-use Rattle.wl_level.proofs.Callers.{length_more}
 use Rattle.wl_frame.specs.Grammar.{Content, bits_of}
 use Rattle.wl_frame.specs.Stuffing.{Stuffs}
 use Rattle.wl_node.specs.declared.setup.Queued.{Queued}
@@ -20,9 +19,7 @@ use Rattle.wl_phase.specs.Clocks.{steady_tick}
 use Rattle.wl_serial.specs.Outcome.{history_at_end, outcome_of}
 use Rattle.wl_buses.specs.OneFrame.Expected.{expected_bits, expected_sample}
 use Rattle.wl_buses.specs.OneFrame.Machines.{bus_levels}
-use Rattle.wl_buses.specs.OneFrame.Course.{bus_bit}
 use Rattle.wl_buses.specs.OneFrame.Plans.{IsPlanOf}
-use Rattle.wl_buses.specs.OneFrame.Starts.{Start}
 use Rattle.wl_buses.specs.OneFrame.Stations.{Stations}
 use Rattle.wl_buses.specs.FirstFrame.FirstFrames.{HasFirstFrames, queues_of}
 use Rattle.wl_buses.specs.FrameEnd.Rests.{passing_bit}
@@ -30,17 +27,13 @@ use Rattle.wl_buses.specs.NextFrames.Frames.{third_sample}
 use Rattle.wl_buses.specs.SentFrames.Winners.{won_by}
 use Rattle.wl_buses.specs.CleanPlans.Clean.{AllGetThrough, plan_history}
 use Rattle.wl_buses.specs.CleanPlans.PlanFrames.{EmptyAllQueues}
-use Rattle.wl_level.specs.Levels.{level_of}
+use Rattle.wl_buses.proofs.Callers.{levels_length}
 use Rattle.wl_proved.specs.LateEnds.{EndsLate, frames_below}
 use Rattle.wl_proved.proofs.Counting.{few_frames, passed_long, sent_is_won}
 use Rattle.wl_proved.proofs.Ends.{none_unsent}
 use Rattle.wl_proved.proofs.Lasting as lasting
 use Rattle.wl_proved.proofs.Queues.{no_frame}
 use Rattle.wl_proved.proofs.Starting.{place_low}
-
-long_levels : (s : Stations) (bits : ℕ → Start) (n : ℕ) → length (bus_levels s bits n) ≡ n
-long_levels s bits zero = refl
-long_levels s bits (suc n) = let before = long_levels s bits n in let one = length_more (bus_levels s bits n) (level_of (bus_bit s bits n)) in omega arith
 
 -- a frame of a queue, by its place
 queued_frame : (queue : List Queued) (n : ℕ) (c : Content) → slice_get (map (λ q. q.frame) queue) n ≡ Some c → (n < length queue) × ((get_or queue n no_frame).frame ≡ c)
@@ -74,7 +67,7 @@ module _ (laws : SimulationLaws) (plan : Plan) (s : Stations) (of : IsPlanOf pla
       let stuffs : Stuffs (bus_levels s (expected_bits s (all.bus.frames n).outset) (all.bus.frames n).bits) (bits_of (get_or (setup_at plan (all.bus.by.winner n)).queue (won_by all.bus.by.winner (all.bus.by.winner n) n) no_frame).frame) =
       subst (λ c. Stuffs (bus_levels s (expected_bits s (all.bus.frames n).outset) (all.bus.frames n).bits) (bits_of c)) (all.bus.by.wins_with n less ∙ sym queued.1) won.stuffs in
       let most = late.frames (all.bus.by.winner n) (bus_levels s (expected_bits s (all.bus.frames n).outset) (all.bus.frames n).bits) (omega arith) (won_by all.bus.by.winner (all.bus.by.winner n) n) no_frame queued.0 stuffs in
-      let long = long_levels s (expected_bits s (all.bus.frames n).outset) (all.bus.frames n).bits in
+      let long = levels_length s (expected_bits s (all.bus.frames n).outset) (all.bus.frames n).bits in
       omega arith
 
   gone : (n i : ℕ) → n < all.bus.count → i < s.count → steady_tick (s.clocks i) (suc (third_sample s (all.bus.frames n) i)) < plan.end

@@ -1,13 +1,12 @@
 -- The frames on a bus as one list: its first parts, and of these what passes a node and what comes from a queue.
 use Rattle.std.proofs.Common.{◌≡◌, ◌∙◌, refl, sym, ap, inl, inr, ℕ, zero, suc, ◌+◌, ◌<◌, ◌≤◌, ◌==◌, cond, Bool, true, false, List, [], ◌∷◌, ◌++◌, take, drop, map, Some, arith, append-nil, append_assoc}
 use Rattle.std.specs.Prelude.{filter, slice_get}
-use Rattle.std.proofs.lemmas.Bool.{cases_eq, eqb-true}
+use Rattle.std.proofs.lemmas.Bool.{cases_eq}
 use Rattle.std.proofs.lemmas.List.{map-append, take-append-drop}
 use Rattle.std.proofs.lemmas.List.Elements.{filter-append}
-use Rattle.std.proofs.lemmas.Option.{get_or_from_slice_get, slice_get_within}
-use Rattle.std.proofs.Math.Seq.{take-suc}
 use Rattle.wl_frame.specs.Grammar.{Content}
 use Rattle.wl_buses.specs.SentFrames.Winners.{won_by}
+use Rattle.wl_buses.proofs.Callers.{won_next}
 use Rattle.wl_proved.specs.CleanRuns.{frames_from}
 
 module _ (winner : ℕ → ℕ) (content : ℕ → Content) where
@@ -35,19 +34,11 @@ module _ (winner : ℕ → ℕ) (content : ℕ → Content) where
     from_one false x = refl
 
     module _ (queue : List Content) (count : ℕ) (order : (n : ℕ) → n < count → i ≡ winner n → slice_get queue (won_by winner i n) ≡ Some (content n)) where
-      next_one : (n : ℕ) → n < count → (b : Bool) → (i == winner n) ≡ b → take (won_by winner i n) queue ++ cond b (content n ∷ []) [] ≡ take (won_by winner i n + cond b 1 0) queue
-      next_one n less true e =
-          (let there = order n less (eqb-true i (winner n) e) in
-          let inside = slice_get_within queue (won_by winner i n) (content n) there in
-          ap (λ x. take (won_by winner i n) queue ++ x ∷ []) (sym (get_or_from_slice_get queue (won_by winner i n) (content n) (content n) there))
-          ∙ sym (take-suc queue (won_by winner i n) (content n) inside) ∙ ap (λ k. take k queue) (let e : suc (won_by winner i n) ≡ won_by winner i n + 1 = omega arith in e))
-      next_one n less false e = append-nil (take (won_by winner i n) queue) ∙ ap (λ k. take k queue) (let e : won_by winner i n ≡ won_by winner i n + 0 = omega arith in e)
-
       pub from_queue : (n : ℕ) → n ≤ count → frames_from i (first_frames n) ≡ take (won_by winner i n) queue
       from_queue zero few = refl
       from_queue (suc n) few =
           from_both (first_frames n) ((winner n, content n) ∷ []) ∙ ap (λ l. l ++ frames_from i ((winner n, content n) ∷ [])) (from_queue n (omega arith))
-          ∙ ap (λ l. take (won_by winner i n) queue ++ l) (from_one (i == winner n) (winner n, content n)) ∙ next_one n few (i == winner n) refl
+          ∙ ap (λ l. take (won_by winner i n) queue ++ l) (from_one (i == winner n) (winner n, content n)) ∙ won_next winner content i queue n (order n few) (i == winner n) refl
 
       pub left_in_queue : (later : List Content) × (frames_from i (first_frames count) ++ later ≡ queue)
       left_in_queue = (

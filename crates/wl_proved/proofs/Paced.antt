@@ -1,7 +1,7 @@
 -- A plan of a family as the laws below have it: clocks of one rate, by the book, with frames.
-use Rattle.std.proofs.Common.{◌≡◌, ◌∙◌, refl, sym, ap, subst, inl, inr, ℕ, ◌*◌, ◌<◌, ◌≤◌, List, [], ◌∷◌, length, Bool, true, false, cond, not, Option, Some, None, arith}
+use Rattle.std.proofs.Common.{◌≡◌, ◌∙◌, refl, sym, ap, subst, inl, inr, ℕ, ◌*◌, ◌<◌, ◌≤◌, List, [], ◌∷◌, length, true, false, not, Option, Some, None, arith}
 use Rattle.std.specs.Prelude.{◌==◌, nat_lt}
-use Rattle.std.proofs.lemmas.Bool.{and_parts, cases_eq, eqb-true, false_from_ne_true, leb-true, ltb-true, not-false, not-true}
+use Rattle.std.proofs.lemmas.Bool.{and_parts, cases_eq, eqb-true, leb-true, ltb-true, not-false, not-true}
 use Rattle.std.proofs.lemmas.List.Elements.{All-get_or}
 use Rattle.wl_level.proofs.Callers.{first_none}
 use Rattle.wl_clock.specs.declared.Rate.{Rate}
@@ -9,24 +9,22 @@ use Rattle.wl_clock.specs.Timing.{IsTiming, Timing, in_order}
 use Rattle.wl_segments.specs.declared.SyncRules.{SyncRules}
 use Rattle.wl_segments.specs.declared.SyncRules.TheVariants.{After, Book}
 use Rattle.wl_topology.specs.Driven.{any_below}
-use Rattle.wl_topology.proofs.Callers.{any_from, any_one}
+use Rattle.wl_topology.proofs.Callers.{any_one}
 use Rattle.wl_node.specs.declared.setup.Queued.{Queued}
 use Rattle.wl_plan.specs.declared.plan.Plan.{Plan}
 use Rattle.wl_plan.specs.PlanLine.{no_setup, setup_at}
 use Rattle.wl_phase.specs.Clocks.{Steady, steady_timing}
 use Rattle.wl_bound.specs.Conditions.{first_failure_of, plain}
 use Rattle.wl_bound.specs.Families.{Buses, longest_in, shortest_in, units}
-use Rattle.wl_bound.specs.Verdicts.{at_node, for_any, for_one, has_frames, is_after, or_cause, sends_something, unless_outside, verdict_of, without_book}
+use Rattle.wl_bound.specs.Verdicts.{at_node, for_any, for_one, has_frames, is_after, sends_something, unless_outside, verdict_of, without_book}
 use Rattle.wl_bound.specs.declared.condition.Senders.TheVariants.{Any, One}
 use Rattle.wl_bound.specs.declared.verdict.Outside.{Outside}
 use Rattle.wl_bound.specs.declared.verdict.Outside.TheVariants.{NotByTheBook}
 use Rattle.wl_bound.specs.declared.verdict.Verdict.TheVariants.{ForAny}
 use Rattle.wl_margin.specs.Paces.{breaks_pace, keeps_pace}
 use Rattle.wl_buses.specs.BothProofs.Plans.{IsOfFamily}
+use Rattle.wl_buses.proofs.Callers.{none_below, no_cause, neither}
 use Rattle.wl_proved.specs.PlansOfFamily.{IsPlanOfFamily, SendsAlone}
-
-none_of : (n : ℕ) (p : ℕ → Bool) → any_below n p ≡ false → (i : ℕ) → i < n → p i ≡ false
-none_of n p none i less = false_from_ne_true (p i) (λ e. (let both : true ≡ false = sym (any_from n i p less e) ∙ none in cc))
 
 -- the first rate of some
 abbrev pub num_of : List Rate → ℕ
@@ -68,14 +66,6 @@ one_rate t r one order =
     let rate : r ∷ [] ≡ record { from = 0; num = num_of t.rates; den = den_of t.rates } ∷ [] = λ k. record { from = from k; num = num k; den = den k } ∷ [] in
     λ k. record { offset = t.offset; rates = (one ∙ rate) k }
 
-unless : (v : Bool) (cause : Outside) (o : Option Outside) → cond v (Some cause) o ≡ None → (v ≡ false) × (o ≡ None)
-unless false cause o e = (refl, e)
-unless true cause o e = cc
-
-both_none : (a b : Option Outside) → or_cause a b ≡ None → (a ≡ None) × (b ≡ None)
-both_none None b e = (refl, e)
-both_none (Some x) b e = cc
-
 by_book : (rules : SyncRules) → is_after rules ≡ false → rules ≡ Book
 by_book After e = cc
 by_book Book e = refl
@@ -97,7 +87,7 @@ module _ (f : Buses) (plan : Plan) (of : IsPlanOfFamily f plan) where
   }
 
   pace_at : (i : ℕ) → i < length plan.nodes → HasPace f i (setup_at plan i).clock.rates
-  pace_at i inside = has_pace f i (setup_at plan i).clock.rates (not-false _ (none_of (length plan.nodes) (breaks_pace plan f) (not-true _ of.pace) i inside))
+  pace_at i inside = has_pace f i (setup_at plan i).clock.rates (not-false _ (none_below (length plan.nodes) (breaks_pace plan f) (not-true _ of.pace) i inside))
 
   pub rates : (i : ℕ) → i < length plan.nodes → (setup_at plan i).clock ≡ steady_timing (clocks i)
   rates i inside =
@@ -115,18 +105,18 @@ module _ (f : Buses) (plan : Plan) (of : IsPlanOfFamily f plan) where
 
   pub book : (i : ℕ) → i < length plan.nodes → (setup_at plan i).segments.sync ≡ Book
   book i inside =
-      let few = unless (nat_lt (length plan.nodes) 2) _ _ of.inside in
-      let empty = unless (not (any_below (length plan.nodes) (sends_something plan))) _ _ few.1 in
-      let listeners = both_none _ _ empty.1 in
-      let not_book = both_none _ _ listeners.1 in
+      let few = no_cause (nat_lt (length plan.nodes) 2) _ _ of.inside in
+      let empty = no_cause (not (any_below (length plan.nodes) (sends_something plan))) _ _ few.1 in
+      let listeners = neither _ _ empty.1 in
+      let not_book = neither _ _ listeners.1 in
       by_book (setup_at plan i).segments.sync
       (first_none (without_book plan) (length plan.nodes) (nothing_at NotByTheBook _ not_book.0) i inside)
 
   -- some node has frames
   some_sender : (i : ℕ) × (i < length plan.nodes) × (has_frames (setup_at plan i) ≡ true)
   some_sender =
-      let few = unless (nat_lt (length plan.nodes) 2) _ _ of.inside in
-      let empty = unless (not (any_below (length plan.nodes) (sends_something plan))) _ _ few.1 in
+      let few = no_cause (nat_lt (length plan.nodes) 2) _ _ of.inside in
+      let empty = no_cause (not (any_below (length plan.nodes) (sends_something plan))) _ _ few.1 in
       any_one (length plan.nodes) (sends_something plan) (not-false _ empty.0)
 
   pub for_any_senders : first_failure_of f plain Any ≡ None → verdict_of plan f ≡ ForAny

@@ -17,7 +17,7 @@ use Rattle.wl_bound.specs.Oscillators.{Pace}
 use Rattle.wl_bound.specs.Terms.{ahead, answered, apart, behind, chase, drift, early, edges, jump, late, look, lost, pull, pulled, several, spread, strays, tour, trip, way}
 use Rattle.wl_bound.specs.Verdicts.{outside_of}
 use Rattle.wl_bound.specs.declared.condition.Senders.TheVariants.{Any, One}
-use Rattle.wl_room.specs.Rooms.{distance, edges_to, gain, gathering, leaves_room, least_chase}
+use Rattle.wl_bound.specs.Rooms.{distance, edges_to, gain, gathering, leaves_room, least_chase}
 use Rattle.wl_margin.specs.Paces.{keep_pace}
 use Rattle.wl_proved.specs.CleanRuns.{as_passing, frames_from, passing_of}
 

@@ -9,7 +9,7 @@ ghost use Rattle.wl_setup.specs.declared.bus.Bus.{Bus};
 ghost use Rattle.wl_bound.specs.Conditions.{first_failure_of, plain};
 ghost use Rattle.wl_bound.specs.Families.{Buses};
 ghost use Rattle.wl_bound.specs.declared.condition.Senders.TheVariants.{Any, One};
-ghost use Rattle.wl_room.specs.Rooms.{leaves_room};
+ghost use Rattle.wl_bound.specs.Rooms.{leaves_room};
 ghost use Rattle.wl_margin.specs.declared.reasons.Asked.{Asked};
 ghost use Rattle.wl_margin.specs.declared.reasons.Asked.TheVariants.{ThisPlan};
 ghost use Rattle.wl_margin.specs.Margins.{IsMarginText, IsTextFor};

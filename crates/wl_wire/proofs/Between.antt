@@ -1,7 +1,7 @@
 -- All machines between frames or in an intermission, one event later.
-use Rattle.std.proofs.Common.{◌≡◌, ℕ, zero, suc, ◌+◌, ◌<◌, ◌∙◌, List, [], ◌∷◌, ◌++◌, length, Bool, true, false, not, ◌&&◌, Some, None, refl, sym, ap, subst, arith, inl, inr, length-append}
+use Rattle.std.proofs.Common.{◌≡◌, ℕ, zero, suc, ◌+◌, ◌<◌, ◌∙◌, List, [], ◌∷◌, ◌++◌, length, true, false, not, ◌&&◌, Some, None, refl, sym, ap, subst, arith, inl, inr, length-append}
 use Rattle.std.specs.Prelude.{◌==◌, slice_get}
-use Rattle.std.proofs.lemmas.Bool.{and_parts, cases_eq, eq-eqb, ne_eqb}
+use Rattle.std.proofs.lemmas.Bool.{and_parts, cases_eq, eq-eqb, ne_eqb, both_ways}
 use Rattle.wl_level.specs.declared.Level.{Level}
 use Rattle.wl_level.specs.declared.Level.TheVariants.{Dominant, Recessive}
 use Rattle.wl_level.specs.Levels.{is_dominant}
@@ -143,11 +143,7 @@ module _ (w : Wire) (own : List Level) (f : AreInIntermission w own) where
   intermission_fine handed k lt = ap (λ s. is_fine (judged s (sample_at w handed k)).happened) (f.each k lt).1 ∙ (on handed k lt).fine
 
   pub none_alone_in_it : (k : ℕ) → k < w.count → may_be_alone (stretch_at w k) ≡ true → ⊥
-  none_alone_in_it k lt may = not_so (may_be_alone (stretch_at w k)) may (not_alone k lt)
-    where
-      not_so : (b : Bool) → b ≡ true → b ≡ false → ⊥
-      not_so true t f = cc
-      not_so false t f = cc
+  none_alone_in_it k lt may = both_ways (may_be_alone (stretch_at w k)) (not_alone k lt) may
 
   pub intermission_alone : (machine : ℕ) (handed : Handed) → AreInIntermission (next_wire w (Own machine handed)) own
   intermission_alone machine handed = record {

@@ -61,7 +61,7 @@ counts_more past x =
     ∙ fold-append counts_after no_counts (map (λ j. j.happened) (judgements_of past)) ((judged (stretch_of past) x).happened ∷ [])
 
 -- what is fine leaves counters at 0
-fine_counts : (h : Happened) → is_fine h ≡ true → counts_after no_counts h ≡ no_counts
+pub fine_counts : (h : Happened) → is_fine h ≡ true → counts_after no_counts h ≡ no_counts
 fine_counts happens_there.Nothing f = refl
 fine_counts happens_there.Sent f = refl
 fine_counts happens_there.Acked f = refl

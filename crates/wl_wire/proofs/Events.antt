@@ -1,7 +1,8 @@
 -- One machine of a wire, one event later.
 use Rattle.std.proofs.Common.{◌≡◌, ℕ, ◌<◌, ◌∙◌, List, [], ◌∷◌, ◌++◌, Bool, true, false, cond, ◌&&◌, Option, Some, None, refl, sym, ap, subst, append-nil, inl, inr, ◌⊎◌}
 use Rattle.std.specs.Prelude.{◌==◌, slice_get}
-use Rattle.std.proofs.lemmas.Bool.{and_parts}
+use Rattle.std.proofs.lemmas.Bool.{and_parts, both_ways}
+use Rattle.std.proofs.lemmas.Option.{none-some}
 use Rattle.wl_level.specs.declared.Level.TheVariants.{Recessive}
 use Rattle.wl_frame.specs.Grammar.{Content}
 use Rattle.wl_machine.specs.Stretch.{Stretch, Sampled}
@@ -48,17 +49,10 @@ alone w machine handed k = alone_by w machine handed k ((k == machine) && may_be
 pub none_alone : (w : Wire) (machine : ℕ) (handed : Handed) (k : ℕ) → may_be_alone (stretch_at w k) ≡ false → stretch_at (next_wire w (Own machine handed)) k ≡ stretch_at w k
 none_alone w machine handed k h = elim (alone w machine handed k) [
   | inl e ↦ e
-  | inr a ↦ absurd (not_so (may_be_alone (stretch_at w k)) a.may h)
+  | inr a ↦ absurd (both_ways (may_be_alone (stretch_at w k)) h a.may)
 ]
-  where
-    not_so : (b : Bool) → b ≡ true → b ≡ false → ⊥
-    not_so true t f = cc
-    not_so false t f = cc
 
 -- frames that are sent stay the machine's own
-none_some : (c : Content) → None ≡ Some c → ⊥
-none_some c e = cc
-
 sent_by : (frames : List Content) (laws : HeadLaws) (s : Stretch) (c : Content) (x : Sampled) (which : ℕ) → x.head ≡ slice_get frames which
     → ((d : Content) → head_of s.sort ≡ Some d → (n : ℕ) × (slice_get frames n ≡ Some d))
     → (o : Option Stretch) → (judged s x).next ≡ o → head_of (stretch_after s (Sample x)).sort ≡ Some c → (n : ℕ) × (slice_get frames n ≡ Some c)
@@ -67,7 +61,7 @@ sent_by frames laws s c x which given old (Some next) e h =
     let here : head_of next.sort ≡ Some c = ap (λ o. head_of (or_next o (stretch_by s.sort (s.own ++ x.level ∷ []))).sort) (sym e) ∙ h in
     elim (laws.head s next x e) [
       | inl g ↦ (which, sym given ∙ sym g ∙ here)
-      | inr n ↦ absurd (none_some c (sym n ∙ here))
+      | inr n ↦ absurd (none-some c (sym n ∙ here))
     ]
 
 own_sent : (w : Wire) (laws : HeadLaws) (k : ℕ) (x : Sampled) (which : ℕ) → x.head ≡ slice_get (w.frames k) which → OwnHeads w

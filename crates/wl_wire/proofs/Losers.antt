@@ -1,6 +1,7 @@
 -- Who lost the arbitration of the running frame, and to whom.
-use Rattle.std.proofs.Common.{◌≡◌, ℕ, suc, ◌+◌, ◌<◌, ◌≤◌, ◌∙◌, List, [], ◌∷◌, ◌++◌, length, Bool, true, false, cond, not, ◌&&◌, Some, sym, ap, arith, append-nil, length-append}
+use Rattle.std.proofs.Common.{◌≡◌, ℕ, suc, ◌+◌, ◌<◌, ◌≤◌, ◌∙◌, List, [], ◌∷◌, ◌++◌, length, true, false, cond, not, ◌&&◌, Some, sym, ap, arith, append-nil, length-append}
 use Rattle.std.proofs.Math.Seq.{get_or-append_seam}
+use Rattle.std.proofs.lemmas.Bool.{both_ways}
 use Rattle.wl_level.specs.declared.Level.{Level}
 use Rattle.wl_level.specs.declared.Level.TheVariants.{Dominant, Recessive}
 use Rattle.wl_level.specs.Levels.{opposite}
@@ -55,11 +56,7 @@ module _ (head : Content) (own : List Level) (n : ℕ) (is : IsContent head) (fr
   goes_on_with : (rest : List Level) → bits_of head ≡ destuffed_bits own n ++ rest → (more : List Level) × (bits_of head ≡ destuffed_bits own n ++ sent_at head own n ∷ more)
   goes_on_with [] e =
       let whole : is_whole (destuffed_bits own n) ≡ true = ap is_whole (sym (e ∙ append-nil (destuffed_bits own n))) ∙ sent_whole head is in
-      absurd (not_so (ends_at own n) (ap (λ b. b && not (is_stuff own n)) whole ∙ ap not free) no_end)
-    where
-      not_so : (b : Bool) → b ≡ true → b ≡ false → ⊥
-      not_so true t f = cc
-      not_so false t f = cc
+      absurd (both_ways (ends_at own n) no_end (ap (λ b. b && not (is_stuff own n)) whole ∙ ap not free))
   goes_on_with (l ∷ rest) e =
       let here : sent_at head own n ≡ l =
       ap (λ b. cond b (opposite (before own n)) (at (bits_of head) (length (destuffed_bits own n)))) free

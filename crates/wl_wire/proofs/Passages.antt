@@ -1,7 +1,8 @@
 -- The frames that were begun on a wire, each sent by one machine and received by all others, one event later.
-use Rattle.std.proofs.Common.{◌≡◌, ℕ, suc, ◌+◌, ◌<◌, ◌∙◌, List, [], ◌∷◌, ◌++◌, length, map, Bool, true, false, cond, Option, Some, None, refl, sym, ap, arith, append-nil, inl, inr}
+use Rattle.std.proofs.Common.{◌≡◌, ℕ, suc, ◌+◌, ◌<◌, ◌∙◌, List, [], ◌∷◌, ◌++◌, length, map, true, false, cond, Option, Some, None, refl, sym, ap, arith, append-nil, inl, inr}
 use Rattle.std.specs.Prelude.{nat_le, count_by}
 use Rattle.std.specs.List.{All}
+use Rattle.std.proofs.lemmas.Bool.{both_ways}
 use Rattle.wl_level.specs.declared.Level.{Level}
 use Rattle.wl_level.specs.declared.Level.TheVariants.{Dominant, Recessive}
 use Rattle.wl_frame.specs.Stuffing.{destuffed_bits}
@@ -167,7 +168,7 @@ pub got_in_alone : (w : Wire) (own : List Level) (passages : List Passage) (mach
     → HaveGotIn w own passages → HaveGotIn (next_wire w (Own machine handed)) own passages
 got_in_alone w own passages machine handed not_alone got =
     let nothing : (k : ℕ) → k < w.count → DidNothing w (next_wire w (Own machine handed)) k =
-    own_did_nothing w machine handed (λ k lt may. absurd (not_so (may_be_alone (stretch_at w k)) may (not_alone k lt))) in
+    own_did_nothing w machine handed (λ k lt may. absurd (both_ways (may_be_alone (stretch_at w k)) (not_alone k lt) may)) in
     record {
       senders = got.senders;
       begun = λ k lt. (nothing k lt).begun ∙ got.begun k lt;
@@ -178,7 +179,3 @@ got_in_alone w own passages machine handed not_alone got =
           (nothing k lt).acknowledged ∙ got.acknowledged k lt
           ∙ ap (λ s. count_by (is_received_by k) passages + extra_acks (stuffed_end own) (role_of s) (length own)) (sym (none_alone w machine handed k (not_alone k lt)));
     }
-  where
-    not_so : (b : Bool) → b ≡ true → b ≡ false → ⊥
-    not_so true t f = cc
-    not_so false t f = cc

@@ -1,6 +1,8 @@
 -- All machines of a wire, over any list of events.
-use Rattle.std.proofs.Common.{◌≡◌, ℕ, ◌<◌, ◌∙◌, List, [], ◌∷◌, ◌++◌, length, Bool, true, false, Option, Some, None, refl, sym, ap, arith, inl, inr}
+use Rattle.std.proofs.Common.{◌≡◌, ℕ, ◌<◌, ◌∙◌, List, [], ◌∷◌, ◌++◌, length, true, false, Option, Some, None, refl, sym, ap, arith, inl, inr}
 use Rattle.std.proofs.lemmas.List.Elements.{All-nil}
+use Rattle.std.proofs.lemmas.Bool.{both_ways}
+use Rattle.std.proofs.lemmas.Option.{none-some}
 use Rattle.wl_level.specs.declared.Level.{Level}
 use Rattle.wl_level.specs.declared.Level.TheVariants.{Recessive}
 use Rattle.wl_frame.specs.Grammar.{Content}
@@ -30,10 +32,6 @@ in_frame : (own : List Level) (head : Option Content) → 0 < length own → may
 in_frame [] head h = absurd (omega (arith, h))
 in_frame (l ∷ own) None h = refl
 in_frame (l ∷ own) (Some head) h = refl
-
-not_so : (b : Bool) → b ≡ true → b ≡ false → ⊥
-not_so true t f = cc
-not_so false t f = cc
 
 module _ (decides : ArbitrationDecides) (laws : HeadLaws) where
   -- in a frame
@@ -125,7 +123,7 @@ module _ (decides : ArbitrationDecides) (laws : HeadLaws) where
 
   at_first : (count : ℕ) (frames : ℕ → List Content) → IsKept (idle_wire count frames)
   at_first count frames = record {
-    heads = λ k c e. absurd (none_some c e);
+    heads = λ k c e. absurd (none-some c e);
     step = inl (λ k lt. refl);
     lost = lost_between (idle_wire count frames) (λ k lt. refl);
     progress = free [] (inl (λ k lt. refl)) (record {
@@ -135,9 +133,6 @@ module _ (decides : ArbitrationDecides) (laws : HeadLaws) where
       acknowledged = λ k lt. refl;
     });
   }
-    where
-      none_some : (c : Content) → None ≡ Some c → ⊥
-      none_some c e = cc
 
   kept : (count : ℕ) (frames : ℕ → List Content) (events : List Event) → AreSoundFrames count frames → IsKept (wire_after (idle_wire count frames) events)
   kept count frames events sound = kept_after (idle_wire count frames) events sound (at_first count frames)
@@ -153,7 +148,7 @@ module _ (decides : ArbitrationDecides) (laws : HeadLaws) where
       → is_fine (judged (stretch_at w k) (sampled Recessive (w.frames k) handed)).happened ≡ true
   fine_alone w sound heads (inl b) handed k lt may = alone_between_fine w sound heads b handed k lt may
   fine_alone w sound heads (inr (inl i)) handed k lt may = absurd (none_alone_in_it w i.0 i.1 k lt may)
-  fine_alone w sound heads (inr (inr f)) handed k lt may = absurd (not_so (may_be_alone (stretch_at w k)) may (frame_not_alone w f.0 sound heads f.1 k lt))
+  fine_alone w sound heads (inr (inr f)) handed k lt may = absurd (both_ways (may_be_alone (stretch_at w k)) (frame_not_alone w f.0 sound heads f.1 k lt) may)
 
   no_error : (w : Wire) → AreSoundFrames w.count w.frames → IsKept w → FindsNoError w
   no_error w sound kept = finds_none w (fine_at_bit w sound kept.heads kept.step) (fine_alone w sound kept.heads kept.step)

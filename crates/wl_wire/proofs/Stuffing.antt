@@ -107,7 +107,7 @@ lost_here head own b =
     ∙ ap (λ l. not (is_stuff own (length own)) && is_arbitration (bits_of head) (length (destuffed_bits own (length own))) && not (is_dominant (sent_at head own (length own))) && is_dominant l)
     (at_new own b)
 
-no_loss : (s a : Bool) (b : Level) → (not s && a && not (is_dominant b) && is_dominant b) ≡ false
+pub no_loss : (s a : Bool) (b : Level) → (not s && a && not (is_dominant b) && is_dominant b) ≡ false
 no_loss true a b = refl
 no_loss false true Dominant = refl
 no_loss false true Recessive = refl

@@ -1,6 +1,7 @@
 -- Who still sends beats who has lost, and one sends alone after the stuffed part.
-use Rattle.std.proofs.Common.{◌≡◌, ℕ, suc, ◌<◌, ◌≤◌, ◌∙◌, List, [], ◌∷◌, length, Bool, true, false, Option, Some, None, refl, sym, ap, subst, arith, inl, inr}
-use Rattle.std.proofs.lemmas.Bool.{cases_lt}
+use Rattle.std.proofs.Common.{◌≡◌, ℕ, suc, ◌<◌, ◌≤◌, ◌∙◌, List, [], ◌∷◌, length, true, Option, Some, None, refl, sym, ap, subst, arith, inl, inr}
+use Rattle.std.proofs.lemmas.Bool.{cases_lt, both_ways}
+use Rattle.std.proofs.lemmas.Option.{none-some}
 use Rattle.wl_level.specs.declared.Level.{Level}
 use Rattle.wl_level.specs.Places.{IsFirstPlace}
 use Rattle.wl_level.proofs.Callers.{first_is}
@@ -31,12 +32,8 @@ loss_inside head own l (Some end) e = elim (cases_lt l.place end) [
   | inl below ↦ omega arith
   | inr above ↦
       (let first : IsFirstPlace (ends_at own) (suc (length own)) end = first_is (ends_at own) (suc (length own)) end e in
-      absurd (not_so (ends_at own end) first.passes (l.going_on end above)))
+      absurd (both_ways (ends_at own end) (l.going_on end above) first.passes))
 ]
-  where
-    not_so : (b : Bool) → b ≡ true → b ≡ false → ⊥
-    not_so true t f = cc
-    not_so false t f = cc
 
 -- the samples of the frame are those of each sender
 same_own : (w : Wire) (own got : List Level) (k : ℕ) (head : Content) (f : AreInFrame w got) → k < w.count → stretch_at w k ≡ stretch_by (Framing (Some head)) own → got ≡ own
@@ -59,13 +56,10 @@ module _ (w : Wire) (sound : AreSoundFrames w.count w.frames) (heads : OwnHeads 
       (λ n below. f.found j a lj s n (omega arith))
 
   no_end_of_nothing : (end : ℕ) → stuffed_end [] ≡ Some end → ⊥
-  no_end_of_nothing end e = absurd (none_some (sym none_yet ∙ e))
+  no_end_of_nothing end e = absurd (none-some end (sym none_yet ∙ e))
     where
       none_yet : stuffed_end [] ≡ None
       none_yet = refl
-
-      none_some : None ≡ Some end → ⊥
-      none_some p = cc
 
   has_samples : (own : List Level) (end : ℕ) → stuffed_end own ≡ Some end → 0 < length own
   has_samples [] end e = absurd (no_end_of_nothing end e)

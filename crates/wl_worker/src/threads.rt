@@ -79,7 +79,7 @@ pub(crate) fn simulate_links<R: Threads + Wait + Sync, L: Link + Send + Drop, G:
         return Err(Fault::Workers);
     }
     let workers = links.len() as u8;
-    let ends = run_all(rt, alloc, plan, workers, links, gate)?;
+    let ends = run_all(rt, alloc, plan, links, gate)?;
     outcome_of_ends(alloc, plan, workers, ends.as_slice())
 }
 
@@ -105,59 +105,72 @@ fn outcome_of_ends(
     }
 }
 
+/// What the threads of all workers have in common.
+#[derive(Drop)]
+struct Shared<'s, R, G> {
+    rt: &'s R,
+    alloc: Global,
+    plan: &'s CheckedPlan,
+    workers: u8,
+    gate: &'s G,
+    /// The worker for which no thread could be made.
+    refusal: &'s AtomicU64,
+}
+
 /// Runs all workers, each in a thread of its own, and returns their ends, in order: of all of them, or of those up to one for which no
 /// thread could be made. Refused only when out of memory, before any began.
-fn run_all<R: Threads + Wait + Sync, L: Link + Send + Drop, G: Gate + Sync>(
-    rt: &R,
+fn run_all<'x, R: Threads + Wait + Sync, L: Link + Send + Drop, G: Gate + Sync>(
+    rt: &'x R,
     alloc: Global,
-    plan: &CheckedPlan,
-    workers: u8,
+    plan: &'x CheckedPlan,
     links: Vec<L>,
-    gate: &G,
+    gate: &'x G,
 ) -> Result<Vec<Result<Group, Fault>>, Fault>
     requires links { All (λ l. L.is_of l plan.now) links.items }
     requires numbered { AreNumbered L.number links.items }
-    requires count { vec_len links ≡ workers }
-    ensures ends { IfOk result (λ ends. HaveEnded plan.now workers ends.items) }
+    requires count { vec_len links ≤ 8 }
+    ensures ends { IfOk result (λ ends. HaveEnded plan.now (vec_len links) ends.items) }
     ensures fault { IfErr result (λ fault. fault ≡ Fault.Memory) }
 {
     let refused = AtomicU64::new(u64::MAX);
-    let refusal = &refused;
+    let shared = Shared {
+        rt,
+        alloc,
+        plan,
+        workers: links.len() as u8,
+        gate,
+        refusal: &refused,
+    };
+    let all = &shared;
     thread::scope(
         thread::scope_env(),
         rt,
         |scope| -> Result<Vec<Result<Group, Fault>>, Fault>
-            requires { All (λ l. L.is_of l plan.now) links.items
-                × AreNumbered L.number links.items × (vec_len links ≡ workers) }
-            ensures ends { IfOk result (λ ends. HaveEnded plan.entry.now workers ends.items) }
+            requires { All (λ l. L.is_of l all.now.plan.now) links.items
+                × AreNumbered L.number links.items × (vec_len links ≡ all.now.workers) }
+            ensures ends { IfOk result (λ ends. HaveEnded all.entry.now.plan.now all.entry.now.workers ends.items) }
             ensures fault { IfErr result (λ fault. fault ≡ Fault.Memory) }
-        { run_in(scope, rt, alloc, plan, workers, links, gate, refusal) },
+        { run_in(scope, all, links) },
     )
 }
 
 /// Starts a thread of this scope for each link, and joins them. Room for their ends is made before the first begins.
 fn run_in<'s, E, R: Threads + Wait + Sync, L: Link + Send + Drop + 's, G: Gate + Sync>(
     scope: &Scope<'s, E>,
-    rt: &'s R,
-    alloc: Global,
-    plan: &'s CheckedPlan,
-    workers: u8,
+    shared: &'s Shared<'s, R, G>,
     links: Vec<L>,
-    gate: &'s G,
-    refusal: &'s AtomicU64,
 ) -> Result<Vec<Result<Group, Fault>>, Fault>
-    requires links { All (λ l. L.is_of l plan.now) links.items }
+    requires links { All (λ l. L.is_of l shared.now.plan.now) links.items }
     requires numbered { AreNumbered L.number links.items }
-    requires count { vec_len links ≡ workers }
-    ensures ends { IfOk result (λ ends. HaveEnded plan.now workers ends.items) }
+    requires count { vec_len links ≡ shared.now.workers }
+    ensures ends { IfOk result (λ ends. HaveEnded shared.now.plan.now shared.now.workers ends.items) }
     ensures fault { IfErr result (λ fault. fault ≡ Fault.Memory) }
 {
-    let children = Vec::with_capacity(alloc, usize::from(workers))?;
-    let ends = Vec::with_capacity(alloc, usize::from(workers) + 1)?;
-    let (children, unstarted) = start_all(
-        scope, rt, alloc, plan, workers, links, gate, refusal, children,
-    );
-    let mut ends = join_all(rt, plan, workers, children, ends);
+    let workers = usize::from(shared.workers);
+    let children = Vec::with_capacity(shared.alloc, workers)?;
+    let ends = Vec::with_capacity(shared.alloc, workers + 1)?;
+    let (children, unstarted) = start_all(scope, shared, links, children);
+    let mut ends = join_all(shared, children, ends);
     if let Some(fault) = unstarted {
         ends.push_reserved(Err(fault));
     }
@@ -168,30 +181,25 @@ fn run_in<'s, E, R: Threads + Wait + Sync, L: Link + Send + Drop + 's, G: Gate +
 /// there is one.
 fn start_all<'s, E, R: Threads + Wait + Sync, L: Link + Send + Drop + 's, G: Gate + Sync>(
     scope: &Scope<'s, E>,
-    rt: &'s R,
-    alloc: Global,
-    plan: &'s CheckedPlan,
-    workers: u8,
+    shared: &'s Shared<'s, R, G>,
     links: Vec<L>,
-    gate: &'s G,
-    refusal: &'s AtomicU64,
     children: Vec<Child>,
 ) -> (Vec<Child>, Option<Fault>)
-    requires links { All (λ l. L.is_of l plan.now) links.items }
+    requires links { All (λ l. L.is_of l shared.now.plan.now) links.items }
     requires numbered { AreNumbered L.number links.items }
-    requires count { vec_len links ≡ workers }
-    requires room { (vec_len children ≡ 0) × (workers ≤ vec_capacity children) }
-    ensures count { vec_len result.0 ≤ workers }
+    requires count { vec_len links ≡ shared.now.workers }
+    requires room { (vec_len children ≡ 0) × (shared.now.workers ≤ vec_capacity children) }
+    ensures count { vec_len result.0 ≤ shared.now.workers }
     ensures promises { (w : ℕ) (d : _) → w < vec_len result.0
-        → IsPromise plan.now workers w (get_or result.0.items w d).promise }
-    ensures all { IfNone result.1 (vec_len result.0 ≡ workers) }
-    ensures fault { IfSome result.1 (λ fault. (fault ≢ Fault.Workers) × (vec_len result.0 < workers)) }
+        → IsPromise shared.now.plan.now shared.now.workers w (get_or result.0.items w d).promise }
+    ensures all { IfNone result.1 (vec_len result.0 ≡ shared.now.workers) }
+    ensures fault { IfSome result.1 (λ fault. (fault ≢ Fault.Workers) × (vec_len result.0 < shared.now.workers)) }
     ensures worker { IfSome result.1 (λ fault. fault ≡ Fault.Worker (vec_len result.0)) }
 {
     let mut children = children;
     let mut worker = 0;
     for link in links {
-        match start(scope, rt, alloc, plan, workers, worker, link, gate, refusal) {
+        match start(scope, shared, worker, link) {
             Ok(child) => children.push_reserved(child),
             Err(fault) => return (children, Some(fault)),
         }
@@ -201,25 +209,21 @@ fn start_all<'s, E, R: Threads + Wait + Sync, L: Link + Send + Drop + 's, G: Gat
 }
 
 /// Joins the threads of workers 0, 1 and so on, and puts their ends into a list with room.
-fn join_all<R: Threads>(
-    rt: &R,
-    plan: &CheckedPlan,
-    workers: u8,
+fn join_all<R: Threads, G>(
+    shared: &Shared<'_, R, G>,
     children: Vec<Child>,
     ends: Vec<Result<Group, Fault>>,
 ) -> Vec<Result<Group, Fault>>
     requires promises { (w : ℕ) (d : _) → w < vec_len children
-        → IsPromise plan.now workers w (get_or children.items w d).promise }
+        → IsPromise shared.now.plan.now shared.now.workers w (get_or children.items w d).promise }
     requires room { (vec_len ends ≡ 0) × (vec_len children < vec_capacity ends) }
     ensures count { vec_len result ≡ vec_len children }
     ensures room { vec_capacity result ≡ vec_capacity ends }
-    ensures kept { EndsKept plan.now workers result.items }
+    ensures kept { EndsKept shared.now.plan.now shared.now.workers result.items }
 {
-    let _ = plan;
-    let _ = workers;
     let mut ends = ends;
     for child in children {
-        ends.push_reserved(child.join(rt));
+        ends.push_reserved(child.join(shared.rt));
     }
     ends
 }
@@ -227,33 +231,27 @@ fn join_all<R: Threads>(
 /// Starts the thread of a worker. If none can be made, the worker stops, and so do all that wait.
 fn start<'s, E, R: Wait + Sync, L: Link + Send + Drop + 's, G: Gate + Sync>(
     scope: &Scope<'s, E>,
-    rt: &'s R,
-    alloc: Global,
-    plan: &'s CheckedPlan,
-    workers: u8,
+    shared: &'s Shared<'s, R, G>,
     worker: u8,
     link: L,
-    gate: &'s G,
-    refusal: &'s AtomicU64,
 ) -> Result<Child, Fault>
-    requires worker { worker < workers }
-    requires link { L.is_of link plan.now }
+    requires worker { worker < shared.now.workers }
+    requires link { L.is_of link shared.now.plan.now }
     requires number { L.number link ≡ worker }
-    ensures promise { IfOk result (λ child. IsPromise plan.now workers worker child.promise) }
+    ensures promise { IfOk result (λ child. IsPromise shared.now.plan.now shared.now.workers worker child.promise) }
     ensures fault { IfErr result (λ fault. fault ≢ Fault.Workers) }
     ensures worker { IfErr result (λ fault. fault ≡ Fault.Worker worker) }
 {
     let promise = OfShare {
-        plan: Snapshot::of(plan),
-        workers,
+        plan: Snapshot::of(shared.plan),
+        workers: shared.workers,
         worker,
     };
-    let run = move || run_one(rt, alloc, plan, workers, worker, link, gate, refusal);
-    match scope.spawn_with(promise, run) {
+    match scope.spawn_with(promise, move || run_one(shared, worker, link)) {
         Ok(child) => Ok(child),
         Err(no_thread) => {
             // Its part is run here: it stops at once, and with it all workers that wait.
-            refusal.store(u64::from(worker), Ordering::SeqCst);
+            shared.refusal.store(u64::from(worker), Ordering::SeqCst);
             let ended = (no_thread.value)();
             drop(ended);
             Err(Fault::Worker(worker))
@@ -263,27 +261,22 @@ fn start<'s, E, R: Wait + Sync, L: Link + Send + Drop + 's, G: Gate + Sync>(
 
 /// Runs one worker, from its group before the first quanta to its end. The worker for which no thread could be made stops.
 fn run_one<R: Wait, L: Link + Drop, G: Gate>(
-    rt: &R,
-    alloc: Global,
-    plan: &CheckedPlan,
-    workers: u8,
+    shared: &Shared<'_, R, G>,
     worker: u8,
     link: L,
-    gate: &G,
-    refusal: &AtomicU64,
 ) -> Result<Group, Fault>
-    requires worker { worker < workers }
-    requires link { L.is_of link plan.now }
+    requires worker { worker < shared.now.workers }
+    requires link { L.is_of link shared.now.plan.now }
     requires number { L.number link ≡ worker }
-    ensures { IsEnd plan.now workers worker result }
+    ensures { IsEnd shared.now.plan.now shared.now.workers worker result }
 {
     let mut link = link;
-    if refusal.load(Ordering::SeqCst) == u64::from(worker) {
+    if shared.refusal.load(Ordering::SeqCst) == u64::from(worker) {
         link.stop();
         return Err(Fault::Worker(worker));
     }
-    match share_of(alloc, plan, workers, worker) {
-        Ok(group) => work(rt, alloc, group, link, gate),
+    match share_of(shared.alloc, shared.plan, shared.workers, worker) {
+        Ok(group) => work(shared.rt, shared.alloc, group, link, shared.gate),
         Err(AllocError) => {
             link.stop();
             Err(Fault::Memory)

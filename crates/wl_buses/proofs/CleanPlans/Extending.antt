@@ -16,7 +16,7 @@ use Rattle.wl_buses.specs.FrameEnd.Again.{HasRoomToRest}
 use Rattle.wl_buses.specs.FrameEnd.Asked.{CanBeAnswered, EndsBefore}
 use Rattle.wl_buses.specs.NextFrames.Frames.{FollowOneAnother, Frame, HasRoomForAll, IsBegun, IsBegunAfter, resting_of}
 use Rattle.wl_buses.specs.NextFrames.NextStarts.{AreFreeNext, AreResting, HaveMore, Resting, has_next, is_reached_next, decision_next, outset_next, resting_after}
-use Rattle.wl_buses.proofs.NextFrames.Callers.{has_begun}
+use Rattle.wl_buses.proofs.NextFrames.Winning.{has_begun}
 use Rattle.wl_buses.specs.NextFrames.Queues.{DecidesByQueue, decides_after}
 use Rattle.wl_buses.specs.SentFrames.Sending.{ByQueues}
 use Rattle.wl_buses.specs.SentFrames.Winners.{won_by}

@@ -9,7 +9,8 @@ use Rattle.wl_buses.specs.OneFrame.Expected.{Outset, expected_sample, past_at}
 use Rattle.wl_buses.specs.OneFrame.Lines.{BeginsAfter}
 use Rattle.wl_buses.specs.OneFrame.Starts.{BeginsAlone, FollowsHard}
 use Rattle.wl_buses.specs.OneFrame.Stations.{AreOnALine, AreStations, HaveRoom, Stations}
-use Rattle.wl_buses.proofs.FrameEnd.Callers.{MachineLaws, samples_up}
+use Rattle.wl_buses.proofs.FrameEnd.Below.{MachineLaws}
+use Rattle.wl_buses.proofs.FrameEnd.Hearing.{samples_up}
 use Rattle.wl_buses.specs.NextFrames.Frames.{FollowOneAnother, Frame, resting_of, third_sample}
 use Rattle.wl_buses.specs.NextFrames.NextStarts.{AreResting, Resting, outset_next, rest_next}
 use Rattle.wl_buses.proofs.CleanPlans.Extending.{RestNext}

@@ -16,6 +16,16 @@ use Rattle.wl_buses.specs.NextFrames.Frames.{Frame}
 use Rattle.wl_buses.specs.SentFrames.Winners.{passed_with, won_by}
 use Rattle.wl_buses.specs.CleanPlans.Clean.{sent_contents}
 
+-- the next frame of a queue, if the node has won with those before it
+pub won_next : (winner : ℕ → ℕ) (content : ℕ → Content) (i : ℕ) (queue : List Content) (n : ℕ) → (i ≡ winner n → slice_get queue (won_by winner i n) ≡ Some (content n))
+    → (b : Bool) → (i == winner n) ≡ b → take (won_by winner i n) queue ++ cond b (content n ∷ []) [] ≡ take (won_by winner i n + cond b 1 0) queue
+won_next winner content i queue n order true e =
+    let there = order (eqb-true i (winner n) e) in
+    let inside = slice_get_within queue (won_by winner i n) (content n) there in
+    ap (λ x. take (won_by winner i n) queue ++ x ∷ []) (sym (get_or_from_slice_get queue (won_by winner i n) (content n) (content n) there))
+    ∙ sym (take-suc queue (won_by winner i n) (content n) inside) ∙ ap (λ k. take k queue) (let e : suc (won_by winner i n) ≡ won_by winner i n + 1 = omega arith in e)
+won_next winner content i queue n order false e = append-nil (take (won_by winner i n) queue) ∙ ap (λ k. take k queue) (let e : won_by winner i n ≡ won_by winner i n + 0 = omega arith in e)
+
 module _ (s : Stations) (frames : ℕ → Frame) (winner : ℕ → ℕ) (content : ℕ → Content) (i : ℕ) where
   abbrev P : ℕ → List Passed
   P n = passed_with s frames winner content i n
@@ -42,13 +52,10 @@ module _ (s : Stations) (frames : ℕ → Frame) (winner : ℕ → ℕ) (content
       let few : length xs ≤ m = (let all = many m in let both = ap length e in let sum = length-append xs more in omega arith) in
       (length xs, few, sym (take-append_seam xs more) ∙ ap (take (length xs)) (sym e) ∙ first_of m (length xs) few)
 
-  counted : (xs ys : List Passed) → count_by is_sent (xs ++ ys) ≡ count_by is_sent xs + count_by is_sent ys
-  counted xs ys = sum_by-append (λ p. cond (is_sent p) 1 0) xs ys
-
   pub count_sent : (n : ℕ) → count_by is_sent (P n) ≡ won_by winner i n
   count_sent zero = refl
   count_sent (suc n) =
-      counted (P n) (one n ∷ []) ∙ ap (λ k. k + count_by is_sent (one n ∷ [])) (count_sent n)
+      sum_by-append (λ p. cond (is_sent p) 1 0) (P n) (one n ∷ []) ∙ ap (λ k. k + count_by is_sent (one n ∷ [])) (count_sent n)
       ∙ ap (λ k. won_by winner i n + k) (let e : 0 + cond (i == winner n) 1 0 ≡ cond (i == winner n) 1 0 = omega arith in e)
 
   sent_both : (xs ys : List Passed) → sent_contents (xs ++ ys) ≡ sent_contents xs ++ sent_contents ys
@@ -59,19 +66,11 @@ module _ (s : Stations) (frames : ℕ → Frame) (winner : ℕ → ℕ) (content
   sent_one false x = refl
 
   module _ (queue : List Content) (count : ℕ) (order : (n : ℕ) → n < count → i ≡ winner n → slice_get queue (won_by winner i n) ≡ Some (content n)) where
-    sent_next : (n : ℕ) → n < count → (b : Bool) → (i == winner n) ≡ b → take (won_by winner i n) queue ++ cond b (content n ∷ []) [] ≡ take (won_by winner i n + cond b 1 0) queue
-    sent_next n less true e =
-        (let there = order n less (eqb-true i (winner n) e) in
-        let inside = slice_get_within queue (won_by winner i n) (content n) there in
-        ap (λ x. take (won_by winner i n) queue ++ x ∷ []) (sym (get_or_from_slice_get queue (won_by winner i n) (content n) (content n) there))
-        ∙ sym (take-suc queue (won_by winner i n) (content n) inside) ∙ ap (λ k. take k queue) (let e : suc (won_by winner i n) ≡ won_by winner i n + 1 = omega arith in e))
-    sent_next n less false e = append-nil (take (won_by winner i n) queue) ∙ ap (λ k. take k queue) (let e : won_by winner i n ≡ won_by winner i n + 0 = omega arith in e)
-
     pub sent_is : (n : ℕ) → n ≤ count → sent_contents (P n) ≡ take (won_by winner i n) queue
     sent_is zero few = refl
     sent_is (suc n) few =
         sent_both (P n) (one n ∷ []) ∙ ap (λ l. l ++ sent_contents (one n ∷ [])) (sent_is n (omega arith))
-        ∙ ap (λ l. take (won_by winner i n) queue ++ l) (sent_one (i == winner n) (one n)) ∙ sent_next n few (i == winner n) refl
+        ∙ ap (λ l. take (won_by winner i n) queue ++ l) (sent_one (i == winner n) (one n)) ∙ won_next winner content i queue n (order n few) (i == winner n) refl
 
     pub sent_part : (n : ℕ) (xs : List Passed) → n ≤ count → xs ≡ P n → (rest : List Content) × (sent_contents xs ++ rest ≡ queue)
     sent_part n xs few e =

@@ -16,7 +16,7 @@ use Rattle.wl_buses.specs.OneFrame.Expected.{expected_sample}
 use Rattle.wl_buses.specs.OneFrame.Lines.{node_after}
 use Rattle.wl_buses.specs.OneFrame.Plans.{IsPlanOf}
 use Rattle.wl_buses.specs.OneFrame.Stations.{AreStations, HaveRoom, Stations}
-use Rattle.wl_buses.proofs.OneFrame.Callers.{run_of}
+use Rattle.wl_buses.proofs.OneFrame.Lines.{run_of}
 use Rattle.wl_buses.specs.FrameEnd.Rests.{passing_bit}
 use Rattle.wl_buses.specs.NextFrames.Frames.{FollowOneAnother, Frame, third_sample}
 use Rattle.wl_buses.specs.NextFrames.Lines.{IsBeforeLast, LineGoes, finds_frames}

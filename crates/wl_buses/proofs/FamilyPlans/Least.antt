@@ -1,5 +1,5 @@
 -- The least number of edges in which a node catches up is enough: a bus that has room with any such numbers passes the test.
-use Rattle.std.proofs.Common.{◌≡◌, ◌≢◌, ◌∙◌, sym, ap, inl, inr, ℕ, zero, suc, ◌+◌, ◌-◌, ◌*◌, ◌<◌, ◌≤◌, ◌⊎◌, ◌&&◌, not, Bool, true, false, cond, length, refl, arith}
+use Rattle.std.proofs.Common.{◌≡◌, ◌≢◌, sym, inl, inr, ℕ, zero, suc, ◌+◌, ◌-◌, ◌*◌, ◌<◌, ◌≤◌, ◌⊎◌, ◌&&◌, not, Bool, true, false, cond, length, refl, arith}
 use Rattle.std.specs.Prelude.{◌==◌}
 use Rattle.std.specs.Int.{div_ceil}
 use Rattle.std.proofs.lemmas.Bool.{and_from, and_parts, cases_lt, eqb-false, le-leb, lt-leb, ne_eqb, not-true, not_from_false, not_from_true, or_from}
@@ -9,33 +9,12 @@ use Rattle.wl_segments.specs.Lengths.{sample_at}
 use Rattle.wl_topology.specs.Driven.{any_below}
 use Rattle.wl_topology.proofs.Callers.{any_none}
 use Rattle.wl_bound.specs.Families.{Bus, Buses}
-use Rattle.wl_bound.specs.Terms.{drift, greatest, jump, sends_but, sends_third}
-use Rattle.wl_room.specs.Rooms.{IsShort, catches, comes_early, distance, edges_to, falls_behind, gain, gathering, has_long_quantum, have_room, is_crowded, lacks_room, least_chase, leaves_room, plain_bus}
+use Rattle.wl_bound.specs.Terms.{drift, jump, sends_but, sends_third}
+use Rattle.wl_bound.proofs.Greatest.{bounded}
+use Rattle.wl_bound.specs.Rooms.{IsShort, catches, comes_early, distance, edges_to, falls_behind, gain, gathering, has_long_quantum, have_room, is_crowded, lacks_room, least_chase, leaves_room, plain_bus}
 use Rattle.wl_buses.specs.OneFrame.Answers.{HasRoomToAnswer, gathered}
 use Rattle.wl_buses.specs.FrameEnd.Again.{LeavesRoomToRest}
-
-at_most : (n : ℕ) (t : ℕ → Bool) (f : ℕ → ℕ) (m : ℕ) → ((i : ℕ) → i < n → t i ≡ true → f i ≤ m) → greatest n t f ≤ m
-at_most zero t f m h = omega arith
-at_most (suc n) t f m h =
-    let before = at_most n t f m (λ i less is. h i (omega arith) is) in
-    let here : cond (t n) (f n) 0 ≤ m = by_test (t n) (h n (omega arith)) in
-    omega arith
-  where
-    by_test : {x m : ℕ} (v : Bool) → (v ≡ true → x ≤ m) → cond v x 0 ≤ m
-    by_test true h = h refl
-    by_test false h = omega arith
-
-at_least : (n : ℕ) (t : ℕ → Bool) (f : ℕ → ℕ) (i : ℕ) → i < n → t i ≡ true → f i ≤ greatest n t f
-at_least zero t f i less is = absurd (omega arith)
-at_least (suc n) t f i less is =
-    elim (cases_lt i n) [
-      | inl below ↦ (let before = at_least n t f i below is in omega arith)
-      | inr last ↦
-          (let same : i ≡ n = omega arith in
-          let here : cond (t n) (f n) 0 ≡ f n = ap (λ v. cond v (f n) 0) (ap t (sym same) ∙ is) in
-          let value : f i ≡ f n = ap f same in
-          omega arith)
-    ]
+use Rattle.wl_buses.proofs.BothProofs.Small.{greatest_each}
 
 -- by the distance and what each edge gains: no more edges than any number that does, and enough of them
 fit : (far step c : ℕ) → far ≤ suc c * step → cond (step == 0) 0 (div_ceil far step - 1) ≤ c
@@ -72,14 +51,14 @@ module _ (b : Bus) (chase : ℕ → ℕ) (has : HasRoomToAnswer b chase) (rests 
   least : (k : ℕ) → k < b.nodes → least_chase b k ≤ chase k
   unfolding least_chase edges_to
   least k nk =
-      at_most b.nodes (sends_but b k) (edges_to b k) (chase k)
+      bounded b.nodes (sends_but b k) (edges_to b k) (chase k)
       (λ w nw sends. fit (distance b k w) (gain b k w) (chase k) (near k w nk nw sends))
 
   catches_up : (k w : ℕ) → k < b.nodes → w < b.nodes → sends_but b k w ≡ true → catches b k w ≡ true
   unfolding least_chase edges_to
   catches_up k w nk nw sends =
       le-leb _ _ (enough (distance b k w) (gain b k w) (chase k) (least_chase b k) (near k w nk nw sends)
-      (at_least b.nodes (sends_but b k) (edges_to b k) w nw sends))
+      (greatest_each b.nodes (sends_but b k) (edges_to b k) w nw sends))
 
   gathers_less : (i k : ℕ) → k < b.nodes → gathering b i k ≤ gathered b chase i k
   unfolding gathering

@@ -1,9 +1,9 @@
 -- What a bus with room has for acknowledgements, and to rest.
-use Rattle.std.proofs.Common.{◌≡◌, ◌≢◌, refl, ap, ℕ, true, suc, ◌+◌, ◌-◌, ◌*◌, ◌<◌, ◌≤◌, arith}
+use Rattle.std.proofs.Common.{◌≡◌, ◌≢◌, refl, ℕ, true, suc, ◌+◌, ◌-◌, ◌*◌, ◌<◌, ◌≤◌, arith}
 use Rattle.wl_bound.specs.Families.{Bus}
 use Rattle.wl_bound.specs.Terms.{drift, jump, look}
-use Rattle.wl_room.specs.Rooms.{distance, gain, gathering, least_chase}
-use Rattle.wl_room.specs.RoomLaws.{HasAllRoom}
+use Rattle.wl_bound.specs.Rooms.{distance, gain, gathering, least_chase}
+use Rattle.wl_bound.specs.RoomLaws.{HasAllRoom}
 use Rattle.wl_buses.specs.OneFrame.Answers.{HasRoomToAnswer, gathered}
 use Rattle.wl_buses.specs.FrameEnd.Again.{LeavesRoomToRest}
 

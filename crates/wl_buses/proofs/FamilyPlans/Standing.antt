@@ -9,10 +9,9 @@ use Rattle.wl_plan.specs.declared.plan.Plan.{Plan}
 use Rattle.wl_plan.specs.PlanLine.{setup_at}
 use Rattle.wl_bound.specs.Conditions.{plain}
 use Rattle.wl_bound.specs.Families.{Buses, delay_in, lengths_in, only_listens, units}
-use Rattle.wl_room.specs.Rooms.{plain_bus}
-use Rattle.wl_buses.specs.BothProofs.Plans.{IsOfFamily}
-use Rattle.wl_buses.specs.BothProofs.Plans.{IsSteadyPlan}
-use Rattle.wl_buses.specs.OneFrame.Bounds.{IsBusOf}
+use Rattle.wl_bound.specs.Rooms.{plain_bus}
+use Rattle.wl_buses.specs.BothProofs.Plans.{IsOfFamily, IsSteadyPlan}
+use Rattle.wl_buses.specs.OneFrame.Bounds.{HasStations}
 use Rattle.wl_buses.specs.OneFrame.Plans.{IsPlanOf}
 use Rattle.wl_buses.specs.FamilyPlans.FamilyStations.{NoneListens, stations_of}
 
@@ -42,7 +41,7 @@ module _ (f : Buses) (plan : Plan) (clocks : ℕ → Steady) (of : IsOfFamily f 
   unfolding delay_in
   delays_are i k ni = let e = heard i k ni in omega arith
 
-  pub is_bus : IsBusOf (plain_bus f) (stations_of f plan clocks)
+  pub is_bus : HasStations (plain_bus f) (stations_of f plan clocks)
   is_bus = record {
     nodes = of.members;
     some = omega arith;

@@ -4,11 +4,11 @@ use Rattle.std.specs.Prelude.{◌==◌, slice_get}
 use Rattle.std.specs.Bool.{beq}
 use Rattle.std.specs.List.{list_any}
 use Rattle.std.specs.Option.{is_some}
-use Rattle.std.proofs.lemmas.Bool.{and_from, or_parts, or_right, false_from_ne_true, ltb-false, not-false, not-true, ne_eqb, eq-eqb}
+use Rattle.std.proofs.lemmas.Bool.{and_from, or_right, ltb-false, not-false, ne_eqb, eq-eqb}
 use Rattle.wl_level.specs.Places.{first_place}
 use Rattle.wl_level.proofs.Callers.{first_is, first_none}
 use Rattle.wl_topology.specs.Driven.{any_below}
-use Rattle.wl_topology.proofs.Callers.{any_from, any_one}
+use Rattle.wl_topology.proofs.Callers.{any_one}
 use Rattle.wl_frame.specs.Grammar.{Content, IsContent}
 use Rattle.wl_frame.specs.Laws.{HaveSameField}
 use Rattle.wl_node.specs.declared.setup.NodeSetup.{NodeSetup}
@@ -18,46 +18,32 @@ use Rattle.wl_plan.specs.PlanLine.{no_setup, setup_at}
 use Rattle.wl_phase.specs.Clocks.{Steady}
 use Rattle.wl_wire.specs.InStep.{AreSoundFrames, Has}
 use Rattle.wl_bound.specs.declared.verdict.Outside.{Outside}
-use Rattle.wl_bound.specs.Covered.{finds_one_busy, is_covered, is_uncovered}
-use Rattle.wl_bound.specs.Families.{Buses, family_of, member_at, members_of, no_member, only_listens, sends_in}
+use Rattle.wl_bound.specs.Covered.{is_covered}
+use Rattle.wl_bound.specs.Families.{Buses, family_of, member_at, members_of, no_member, sends_in}
 use Rattle.wl_bound.specs.Oscillators.{Pace}
 use Rattle.wl_bound.specs.Conditions.{plain}
 use Rattle.wl_bound.specs.Verdicts.{has_frames, has_same_field, idle_at, is_ready_from, or_cause, outside_of, pair_at, pair_in, sends_something, share_field, shares, shares_with}
 use Rattle.wl_buses.specs.OneFrame.Stations.{Stations}
 use Rattle.wl_buses.specs.FirstFrame.FirstFrames.{AreIdleWhenReady, HasFrames, queues_of}
 use Rattle.wl_buses.specs.FamilyPlans.FamilyStations.{AreContents, NoneListens, SendAsFamily, stations_of}
+use Rattle.wl_buses.proofs.BothProofs.Small.{none_below, covered_each}
 
-none_below : (n : ℕ) (p : ℕ → Bool) → any_below n p ≡ false → (i : ℕ) → i < n → p i ≡ false
-none_below n p none i less =
-    false_from_ne_true (p i) (λ e. (let some = any_from n i p less e in let both : true ≡ false = sym some ∙ none in cc))
-
--- a test that is passed by going past its refusal
-passed : (v w : Bool) → cond v false (not w) ≡ true → w ≡ false
-passed false w e = not-true w e
-passed true w e = cc
-
-no_cause : (v : Bool) (cause : Outside) (o : Option Outside) → cond v (Some cause) o ≡ None → (v ≡ false) × (o ≡ None)
+pub no_cause : (v : Bool) (cause : Outside) (o : Option Outside) → cond v (Some cause) o ≡ None → (v ≡ false) × (o ≡ None)
 no_cause false cause o e = (refl, e)
 no_cause true cause o e = cc
 
-neither : (a b : Option Outside) → or_cause a b ≡ None → (a ≡ None) × (b ≡ None)
+pub neither : (a b : Option Outside) → or_cause a b ≡ None → (a ≡ None) × (b ≡ None)
 neither None b e = (refl, e)
 neither (Some x) b e = cc
 
 module _ (plan : Plan) (covered : is_covered plan ≡ true) where
-  none_uncovered : any_below (length plan.nodes) (is_uncovered plan) ≡ false
-  none_uncovered = passed (nat_lt (length plan.nodes) 2 || nat_lt 0 (length plan.disturbances)) (any_below (length plan.nodes) (is_uncovered plan)) covered
-
-  each : (i : ℕ) → i < length plan.nodes → (only_listens plan.topology i ≡ false) × (finds_one_busy plan i ≡ false)
-  each i less = or_parts (only_listens plan.topology i) (finds_one_busy plan i) (none_below (length plan.nodes) (is_uncovered plan) none_uncovered i less)
-
   pub speaks : NoneListens plan
-  speaks i ni = (each i ni).0
+  speaks i ni = (covered_each plan covered i ni).0
 
   pub idle : (s : Stations) → s.count ≡ length plan.nodes → AreIdleWhenReady plan s
   idle s count i k ni nk apart =
       let busy = none_below (length plan.nodes) (λ j. not (j == k) && not (is_ready_from (setup_at plan k) (setup_at plan k).queue (idle_at (setup_at plan j))))
-      (each k (omega arith)).1 i (omega arith) in
+      (covered_each plan covered k (omega arith)).1 i (omega arith) in
       let other : not (i == k) ≡ true = ap not (ne_eqb i k apart) in
       not-false (is_ready_from (setup_at plan k) (setup_at plan k).queue (idle_at (setup_at plan i)))
       (ap (λ v. v && not (is_ready_from (setup_at plan k) (setup_at plan k).queue (idle_at (setup_at plan i)))) (sym other) ∙ busy)

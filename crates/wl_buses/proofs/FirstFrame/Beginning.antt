@@ -1,40 +1,35 @@
 -- The first frame as one of machines that begin it together, and after which bit each begins it.
-use Rattle.std.proofs.Common.{◌≡◌, ◌∙◌, inl, inr, refl, sym, ap, ℕ, suc, ◌+◌, ◌-◌, ◌*◌, ◌/◌, ◌<◌, ◌≤◌, cond, true, false, List, [], ◌∷◌, ◌++◌, length, replicate, Option, Some, None, arith, max, subst}
+use Rattle.std.proofs.Common.{◌≡◌, ◌∙◌, inl, inr, refl, sym, ap, ℕ, suc, ◌+◌, ◌-◌, ◌*◌, ◌/◌, ◌<◌, ◌≤◌, cond, true, false, List, [], ◌∷◌, ◌++◌, length, replicate, Some, None, arith, max, subst}
 use Rattle.std.specs.Prelude.{nat_lt, slice_get}
 use Rattle.std.proofs.lemmas.Bool.{cases_Bool, cases_lt}
-use Rattle.std.proofs.Math.Nat.{div-mul-le_self, lt-div-mul-add, lt_of_mul-lt-mul_right}
+use Rattle.std.proofs.Math.Nat.{lt_of_mul-lt-mul_right}
 use Rattle.wl_level.specs.declared.Level.TheVariants.{Dominant, Recessive}
 use Rattle.wl_level.specs.Levels.{is_dominant}
 use Rattle.wl_confine.specs.declared.Mode.TheVariants.{Active}
 use Rattle.wl_segments.specs.Lengths.{bit_quanta, sample_at}
-use Rattle.wl_frame.specs.Grammar.{Content, IsContent, bits_of}
-use Rattle.wl_frame.specs.Header.{sent_free}
-use Rattle.wl_frame.proofs.Callers.{frame_is_read}
+use Rattle.wl_frame.specs.Grammar.{Content}
 use Rattle.wl_machine.specs.Stretch.{Input, Stretch}
 use Rattle.wl_machine.specs.Stretch.Sort.{Framing, Idle}
 use Rattle.wl_machine.specs.Stretch.Input.{Sample}
-use Rattle.wl_machine.specs.Judged.{drive_by, drive_of, head_of, stretch_after, stretch_of}
+use Rattle.wl_machine.specs.Judged.{drive_of, head_of, stretch_after, stretch_of}
 use Rattle.wl_machine.specs.States.{sample_of, stretch_by}
 use Rattle.wl_machine.proofs.Callers.{stretch_next}
 use Rattle.wl_wire.specs.Wire.{sampled}
+use Rattle.wl_wire.proofs.Callers.{first_drive}
 use Rattle.wl_buses.specs.OneFrame.Stations.{AreOnALine, Stations}
 use Rattle.wl_buses.specs.OneFrame.Starts.{Start}
 use Rattle.wl_buses.specs.OneFrame.Expected.{IsOutset, Outset}
 use Rattle.wl_buses.specs.OneFrame.Lines.{BeginsAfter}
 use Rattle.wl_buses.specs.OneFrame.Machines.{HasIdled, MayBegin, MayBeginTogether, no_frame_sample}
-use Rattle.wl_buses.proofs.OneFrame.Callers.{takes_head}
-use Rattle.wl_buses.specs.FirstFrame.FirstStarts.{AreIdle, Waiting, begins_first, decision_quantum, due_first, edge_first, eleventh, first_outset, first_start, hard_from, handed_first, has_first, last_before, rest_first, silent_past}
+use Rattle.wl_buses.proofs.OneFrame.Waited.{takes_head}
+use Rattle.wl_buses.specs.FirstFrame.FirstStarts.{AreIdle, Waiting, begins_first, decision_quantum, due_first, eleventh, first_outset, first_start, handed_first, has_first, last_before, rest_first, silent_past}
+use Rattle.wl_buses.proofs.FirstFrame.Lasts as lasts
 use Rattle.wl_buses.proofs.FirstFrame.Reaching as reaching
 use Rattle.wl_buses.proofs.FirstFrame.Reaching.{IsSilence, Silence}
 use Rattle.wl_buses.proofs.FirstFrame.Silent.{IsQuiet, none_driven_after, quiet_after}
 
 abbrev pub MayTogether : Type 0
 MayTogether = (count : ℕ) (frames : ℕ → List Content) (past : ℕ → List Input) → ((k : ℕ) → k < count → HasIdled frames k (past k)) → MayBeginTogether count frames past
-
--- a frame that is to begin drives its start of frame
-pub drives_first : (c : Content) → IsContent c → drive_by (Framing (Some c)) [] ≡ Dominant
-unfolding bits_of
-drives_first c is = ((frame_is_read (bits_of c) c).0 (is, sent_free, refl)).begins
 
 -- the bus is idle to a machine that may begin a frame and wants none
 idle_if : (frames : ℕ → List Content) (s : Stretch) → IsQuiet s → MayBegin frames 0 s → s.sort ≡ Idle
@@ -97,62 +92,39 @@ module _ (w : Waiting) (line : AreOnALine w.stations) (are : AreIdle w) where
   B i = bit_quanta (s.lengths i)
 
   -- its last bit before
-  last_follows : (i : ℕ) → begins_first w i ≡ false → last_before w i ≡ (b.from i - suc (S i)) / B i
+  pub last_follows : (i : ℕ) → begins_first w i ≡ false → last_before w i ≡ (b.from i - suc (S i)) / B i
   last_follows i e = ap (λ c. cond c (w.decides i) ((b.from i - suc (S i)) / B i)) e
 
-  pub record IsLast (i : ℕ) : Type 0 where
-    pub many : 10 ≤ last_before w i
-    pub before : rest_first w i + S i < b.from i
-    pub next : b.from i ≤ rest_first w i + S i + B i
-    pub own : begins_first w i ≡ true → b.from i ≤ rest_first w i + B i
+  abbrev bits : lasts.Bits (silence_of w) line (silent_of w line are)
+  bits = record {
+    place = λ i. 0;
+    decides = w.decides;
+    last = last_before w;
+    rest = rest_first w;
+    due = λ i. omega arith;
+    decision = λ i. omega arith;
+    rested = λ i. omega arith;
+    last_own = last_is w;
+    last_other = λ i e. (let none : S i ≡ 0 + S i = omega arith in last_follows i e ∙ ap (λ n. (b.from i - suc n) / B i) none);
+    rest_is = λ i. omega arith;
+  }
 
-  rest_begins : (i : ℕ) → begins_first w i ≡ true → (rest_first w i + S i ≡ decision_quantum w i) × (rest_first w i + B i ≡ due_first w i)
-  rest_begins i e =
-      let f : rest_first w i ≡ w.decides i * B i = ap (λ n. n * B i) (last_is w i e) in
-      let more : suc (w.decides i) * B i ≡ w.decides i * B i + B i = omega arith in
-      (omega arith, omega arith)
+  abbrev pub IsLast : ℕ → Type 0
+  IsLast = lasts.IsLast (silence_of w) line (silent_of w line are) bits
 
-  last_own : (i : ℕ) → i < s.count → begins_first w i ≡ true → (op : Option ℕ) → edge_first w i ≡ op → IsLast i
-  last_own i inside e None none =
-      (let many = are.later i in
-      let last = last_is w i e in
-      let rest = rest_begins i e in
-      let x = rest.0 in
-      let y = rest.1 in
-      let low = (line.book i inside).lengths.ps2_low in
-      let from : b.from i ≡ due_first w i = ap (hard_from (due_first w i)) none in
-      record { many = omega arith; before = omega arith; next = omega arith; own = λ h. omega arith })
-  last_own i inside e (Some q) found =
-      (let has = reaching.begins_has (silence_of w) line (silent_of w line are) i e in
-      let many = are.later i in
-      let last = last_is w i e in
-      let rest = rest_begins i e in
-      let x = rest.0 in
-      let y = rest.1 in
-      let f = reaching.found_is (silence_of w) line (silent_of w line are) i q found in
-      let after = reaching.after_decision (silence_of w) line (silent_of w line are) i q inside e f in
-      let by = reaching.by_due (silence_of w) line (silent_of w line are) i q has f in
-      let from : b.from i ≡ q = ap (hard_from (due_first w i)) found in
-      record { many = omega arith; before = omega arith; next = omega arith; own = λ h. omega arith })
+  abbrev pub last_at : (i : ℕ) → i < s.count → IsLast i
+  last_at = lasts.last_at (silence_of w) line (silent_of w line are) bits
 
-  last_other : (i : ℕ) → i < s.count → begins_first w i ≡ false → (op : Option ℕ) → edge_first w i ≡ op → IsLast i
-  last_other i inside e None none = (let yes = reaching.alone_begins (silence_of w) line (silent_of w line are) i inside none in cc)
-  last_other i inside e (Some q) found =
-      (let f = reaching.found_is (silence_of w) line (silent_of w line are) i q found in
-      let from : b.from i ≡ q = ap (hard_from (due_first w i)) found in
-      let after : 10 * B i + S i < q = reaching.after_rested (silence_of w) line (silent_of w line are) i q inside f in
-      let long : 0 < B i = (let l = (line.book i inside).lengths.low in omega arith) in
-      let rest : rest_first w i ≡ (q - suc (S i)) / B i * B i = ap (λ n. n * B i) (last_follows i e ∙ ap (λ n. (n - suc (S i)) / B i) from) in
-      let low = div-mul-le_self (q - suc (S i)) (B i) in
-      let high = lt-div-mul-add {a = q - suc (S i)} {b = B i} long in
-      let more : suc (last_before w i) * B i ≡ rest_first w i + B i = omega arith in
-      let ten = lt_of_mul-lt-mul_right (B i) (let h : 10 * B i < suc (last_before w i) * B i = omega arith in h) in
-      record { many = omega arith; before = omega arith; next = omega arith; own = λ h. cc })
-
-  pub last_at : (i : ℕ) → i < s.count → IsLast i
-  last_at i inside = elim (cases_Bool (begins_first w i)) [
-    | inl own ↦ last_own i inside own (edge_first w i) refl
-    | inr other ↦ last_other i inside other (edge_first w i) refl
+  -- it has ten bits before
+  pub many : (i : ℕ) → i < s.count → 10 ≤ last_before w i
+  many i inside = elim (cases_Bool (begins_first w i)) [
+    | inl own ↦ (let later = are.later i in let last = last_is w i own in omega arith)
+    | inr other ↦
+        (let rested = lasts.rested_before (silence_of w) line (silent_of w line are) bits i inside other in
+        let next = (last_at i inside).next in
+        let more : suc (last_before w i) * B i ≡ rest_first w i + B i = omega arith in
+        let ten = lt_of_mul-lt-mul_right (B i) (let h : 10 * B i < suc (last_before w i) * B i = omega arith in h) in
+        omega arith)
   ]
 
   pub after_first : (i : ℕ) → i < s.count → BeginsAfter s o i (rest_first w i)
@@ -161,7 +133,7 @@ module _ (w : Waiting) (line : AreOnALine w.stations) (are : AreIdle w) where
       let before = l.before in
       let next = l.next in
       record {
-        alone = λ a. sym (rest_begins i a.dominant).1;
+        alone = λ a. sym (lasts.rest_begins (silence_of w) line (silent_of w line are) bits i a.dominant).1;
         later = λ f. (let from = f.from in omega arith);
         inside = λ f. (let from = f.from in omega arith);
         in_time = λ f e. (let from = f.from in let own = l.own e in omega arith);
@@ -182,7 +154,7 @@ module _ (w : Waiting) (line : AreOnALine w.stations) (are : AreIdle w) where
           inr (handed_first, past_begins k own ∙ ap (λ m. replicate m no_frame_sample ++ Sample (sampled Recessive (w.frames k) handed_first) ∷ []) n),
         ))
     | inr other ↦
-        (let many = (last_at k inside).many in
+        (let ten = many k inside in
         let n : suc (last_before w k) ≡ 11 + (last_before w k - 10) = omega arith in (
           last_before w k - 10,
           inl (past_follows k other ∙ ap (λ m. replicate m no_frame_sample) n),
@@ -202,7 +174,7 @@ module _ (together : MayTogether) (w : Waiting) (line : AreOnALine w.stations) (
       ∙ ap (λ h. drive_of (stretch_of (replicate (max 11 (w.decides k)) no_frame_sample ++ Sample (sample_of Recessive h Active) ∷ []))) c.1
       ∙ ap drive_of (stretch_next (replicate (max 11 (w.decides k)) no_frame_sample) (Sample (sample_of Recessive (Some c.0) Active)))
       ∙ ap drive_of (decided together (max 11 (w.decides k)) c.0 (omega arith))
-      ∙ drives_first c.0 (are.frames.content k c.0 (are.inside k has) (0, c.1))
+      ∙ first_drive c.0 (are.frames.content k c.0 (are.inside k has) (0, c.1))
 
   drives_as : (k : ℕ) → begins_first w k ≡ is_dominant (drive_of (stretch_of ((first_outset w).past k)))
   drives_as k = elim (cases_Bool (begins_first w k)) [

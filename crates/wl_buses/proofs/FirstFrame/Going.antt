@@ -13,7 +13,7 @@ use Rattle.wl_buses.specs.OneFrame.Expected.{IsOutset, Outset, expected_bits}
 use Rattle.wl_buses.specs.OneFrame.Lines.{BeginsAfter, DoesAsExpected, IsBeforeEnd, IsLineOf, RestsBefore, finds_expected, node_after}
 use Rattle.wl_buses.specs.OneFrame.Machines.{bus_levels}
 use Rattle.wl_buses.specs.OneFrame.Plans.{IsPlanOf}
-use Rattle.wl_buses.proofs.OneFrame.Callers.{line_of_plan}
+use Rattle.wl_buses.proofs.OneFrame.Plans.{line_of_plan}
 use Rattle.wl_buses.specs.FirstFrame.FirstFrames.{GoesToItsCrc, outset_of, waiting_of}
 use Rattle.wl_buses.specs.FirstFrame.FirstStarts.{AreIdle, HandTheFirst, Waiting, first_outset, rest_first}
 

@@ -18,8 +18,7 @@ use Rattle.wl_plan.specs.declared.plan.Plan.{Plan}
 use Rattle.wl_plan.specs.PlanLine.{line_of, no_setup, setup_at}
 use Rattle.wl_plan.specs.Sound.{IsCausal}
 use Rattle.wl_bound.specs.Verdicts.{idle_at, is_ready_from}
-use Rattle.wl_buses.specs.BothProofs.Queues.{decides_at}
-use Rattle.wl_buses.specs.BothProofs.Queues.{first_ready, queued_contents}
+use Rattle.wl_buses.specs.BothProofs.Queues.{decides_at, first_ready, queued_contents}
 use Rattle.wl_wire.specs.InStep.{Has}
 use Rattle.wl_buses.specs.OneFrame.Plans.{IsPlanOf}
 use Rattle.wl_buses.specs.OneFrame.Stations.{AreOnALine, Stations}

@@ -1,17 +1,17 @@
 -- Which stations on a silent line begin a frame by themselves, and which follow the first edge that reaches them.
-use Rattle.std.proofs.Common.{◌≡◌, ◌≢◌, ◌∙◌, ◌⊎◌, inl, inr, refl, sym, ap, ℕ, zero, suc, ◌+◌, ◌-◌, ◌*◌, ◌<◌, ◌≤◌, ◌&&◌, not, cond, Bool, true, false, Option, Some, None, arith}
+use Rattle.std.proofs.Common.{◌≡◌, ◌≢◌, ◌∙◌, ◌⊎◌, inl, inr, refl, sym, ap, ℕ, zero, suc, ◌+◌, ◌-◌, ◌<◌, ◌≤◌, ◌&&◌, not, cond, Bool, true, false, Option, Some, None, arith}
 use Rattle.std.specs.Prelude.{◌==◌, nat_le}
-use Rattle.std.proofs.lemmas.Bool.{and_from, and_parts, cases_Bool, cases_eq, cases_lt, eq-eqb, false_from_ne_true, le-leb, leb-true, ne_eqb}
-use Rattle.std.proofs.Math.Nat.{lt_of_mul-lt-mul_left, mul-le-mul_left}
+use Rattle.std.proofs.lemmas.Bool.{and_from, and_parts, cases_Bool, cases_eq, cases_lt, false_from_ne_true, le-leb, leb-true, ne_eqb}
 use Rattle.wl_level.proofs.Callers.{first_is, first_none}
 use Rattle.wl_topology.proofs.Callers.{any_from, any_one}
 use Rattle.wl_phase.specs.Clocks.{steady_tick}
-use Rattle.wl_phase.proofs.Callers.{floor_high, tick_up}
+use Rattle.wl_phase.proofs.Callers.{tick_up}
 use Rattle.wl_buses.specs.OneFrame.Stations.{AreOnALine, Stations}
 use Rattle.wl_buses.specs.OneFrame.Starts.{BeginFrame, BeginsAlone, Drives, FollowsHard, Start, reaches_at}
 use Rattle.wl_buses.specs.OneFrame.Expected.{found_before, is_reached, most}
-use Rattle.wl_buses.proofs.OneFrame.Callers.{most_from, nearest}
+use Rattle.wl_buses.proofs.OneFrame.Settling.{most_from, nearest}
 use Rattle.wl_buses.specs.FirstFrame.FirstStarts.{hard_from, hard_place}
+use Rattle.wl_buses.proofs.BothProofs.Small.{distinct, ticks_up}
 
 -- Stations on a silent line: which of them have a frame, when the start of frame of each is due, by which quantum it has decided to send, and by which it is idle.
 pub record Silence : Type 0 where
@@ -69,17 +69,6 @@ module _ (w : Silence) (line : AreOnALine w.stations) (are : IsSilence w) where
   pub up : (i q r : ℕ) → i < s.count → q ≤ r → tick i q ≤ tick i r
   up i q r inside h = tick_up (s.clocks i) (line.steady i inside).divides q r h
 
-  -- a quantum takes a tick or more
-  many_ticks : (i q : ℕ) → i < s.count → q ≤ tick i q
-  many_ticks i q inside =
-      let steady = line.steady i inside in
-      let fast = steady.not_fast in
-      let high = floor_high (s.clocks i) q steady.divides in
-      let m : q * (s.clocks i).den ≤ q * (s.clocks i).num = mul-le-mul_left q fast in
-      let less : (s.clocks i).den * q < (s.clocks i).den * suc (tick i q) = omega arith in
-      let h = lt_of_mul-lt-mul_left (s.clocks i).den less in
-      omega arith
-
   -- a start of frame that has reached a station, if each begins when it is due
   record Reaches (i q : ℕ) : Type 0 where
     by : ℕ
@@ -87,15 +76,12 @@ module _ (w : Silence) (line : AreOnALine w.stations) (are : IsSilence w) where
     other : by ≢ i
     reach : T by + s.delay by i ≤ tick i q
 
-  apart : (k i : ℕ) → not (k == i) ≡ true → k ≢ i
-  apart k i e same = (let f = eq-eqb k i same in let g : not (k == i) ≡ false = ap not f in cc)
-
   reached_by : (i q : ℕ) → reached i q ≡ true → Reaches i q
   reached_by i q e =
       let x = any_one s.count (λ k. has k && (not (k == i) && nat_le (T k + s.delay k i) (tick i q))) e in
       let p = and_parts (has x.0) (not (x.0 == i) && nat_le (T x.0 + s.delay x.0 i) (tick i q)) x.2 in
       let r = and_parts (not (x.0 == i)) (nat_le (T x.0 + s.delay x.0 i) (tick i q)) p.1 in
-      record { by = x.0; has_one = p.0; other = apart x.0 i r.0; reach = leb-true (T x.0 + s.delay x.0 i) (tick i q) r.1 }
+      record { by = x.0; has_one = p.0; other = distinct x.0 i r.0; reach = leb-true (T x.0 + s.delay x.0 i) (tick i q) r.1 }
 
   reached_from : (i q k : ℕ) → has k ≡ true → k ≢ i → T k + s.delay k i ≤ tick i q → reached i q ≡ true
   reached_from i q k has_one other h =
@@ -168,7 +154,7 @@ module _ (w : Silence) (line : AreOnALine w.stations) (are : IsSilence w) where
         let other : k ≢ i = λ f. (let g : has k ≡ has i = ap has f in let h = are.some.1 in cc) in
         let bound = most_from s.count (λ j. T j + s.delay j i) k (are.inside k are.some.1) in
         let look = look_other i none in
-        let ticks = many_ticks i (looks i) inside in
+        let ticks = ticks_up (s.clocks i) (line.steady i inside) (looks i) in
         let yes = reached_from i (looks i) k are.some.1 other (omega arith) in
         let no = unfound i e in
         cc)
@@ -255,7 +241,7 @@ module _ (w : Silence) (line : AreOnALine w.stations) (are : IsSilence w) where
       λ v has_v other. x.least v (are.inside v has_v) (and_from (has v) (not (v == i)) has_v (ap not (ne_eqb v i other))) in
       let near = least some.by some.has_one some.other in
       let reach = some.reach in
-      record { by = x.at; has_one = p.0; other = apart x.at i p.1; least = least; reach = omega arith }
+      record { by = x.at; has_one = p.0; other = distinct x.at i p.1; least = least; reach = omega arith }
 
   -- is that of one that begins by itself
   first_leads : (i q : ℕ) → i < s.count → IsFound i q → (x : First i q) → reached x.by (due x.by) ≡ false

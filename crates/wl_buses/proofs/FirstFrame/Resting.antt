@@ -24,9 +24,9 @@ use Rattle.wl_buses.specs.OneFrame.Expected.{IsOutset, Outset, expected_bits, ex
 use Rattle.wl_buses.specs.OneFrame.Lines.{IsLineOf, RestsBefore, finds_expected, node_after}
 use Rattle.wl_buses.specs.OneFrame.Machines.{bus_levels, no_frame_sample}
 use Rattle.wl_buses.specs.OneFrame.Nodes.{IsRun}
-use Rattle.wl_buses.proofs.OneFrame.Callers.{finds_what_comes, run_of}
+use Rattle.wl_buses.proofs.OneFrame.Lines.{finds_what_comes, run_of}
 use Rattle.wl_buses.specs.FirstFrame.FirstStarts.{AreIdle, HandTheFirst, Waiting, begins_first, due_first, edge_first, first_outset, hard_from, has_first, is_reached_first, last_before, rest_first, silent_past}
-use Rattle.wl_buses.proofs.FirstFrame.Beginning.{IsLast, MayTogether, decided, first_some, last_at, silence_of, silent_of}
+use Rattle.wl_buses.proofs.FirstFrame.Beginning.{IsLast, MayTogether, decided, first_some, last_at, many, silence_of, silent_of}
 use Rattle.wl_buses.proofs.FirstFrame.Reaching as reaching
 use Rattle.wl_buses.proofs.FirstFrame.Silent as silence
 use Rattle.wl_buses.proofs.FirstFrame.Waits.{head_by, next_after, rests_then}
@@ -93,7 +93,7 @@ module _ (together : MayTogether) (nothing : NothingFound) (ways : WayLaws) (cal
   past_is : (c : Bool) → begins_first w i ≡ c → next_after m (head_by (w.frames i) c) ≡ stretch_of (o.past i)
   past_is true e =
       let c = first_some (w.frames i) (reaching.begins_has (silence_of w) on.line (silent_of w on.line are) i e) in
-      ap (next_after m) c.1 ∙ decided together m c.0 last.many
+      ap (next_after m) c.1 ∙ decided together m c.0 (many w on.line are i inside)
       ∙ sym (ap (λ b. stretch_of (silent_past b (w.frames i) m)) e
       ∙ ap (λ h. stretch_of (replicate (max 11 m) no_frame_sample ++ Sample (sample_of Recessive h Active) ∷ [])) c.1
       ∙ stretch_next (replicate (max 11 m) no_frame_sample) (Sample (sample_of Recessive (Some c.0) Active))

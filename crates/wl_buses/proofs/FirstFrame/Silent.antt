@@ -1,8 +1,7 @@
 -- A node on a silent line, from its power-up on: what it has sampled, and that nothing counts.
-use Rattle.std.proofs.Common.{◌≡◌, ◌≢◌, ◌∙◌, ◌⊎◌, inl, inr, refl, sym, ap, subst, ℕ, zero, suc, ◌+◌, ◌-◌, ◌*◌, ◌<◌, ◌≤◌, cond, Bool, true, false, List, [], ◌∷◌, ◌++◌, length, replicate, Option, Some, None, arith, add-one, append-nil}
+use Rattle.std.proofs.Common.{◌≡◌, ◌≢◌, ◌∙◌, ◌⊎◌, inl, inr, refl, sym, ap, subst, ℕ, zero, suc, ◌+◌, ◌-◌, ◌*◌, ◌<◌, ◌≤◌, cond, Bool, true, false, List, [], ◌∷◌, ◌++◌, length, replicate, Option, None, arith, add-one}
 use Rattle.std.specs.Prelude.{◌==◌, count_by, drop}
 use Rattle.std.proofs.lemmas.Bool.{cases_eq, cases_lt, lt-leb, ne_eqb}
-use Rattle.std.proofs.lemmas.List.Sums.{fold-append, sum_by-append}
 use Rattle.std.proofs.Math.Nat.{lt_of_mul-lt-mul_right}
 use Rattle.wl_level.specs.declared.Level.{Level}
 use Rattle.wl_level.specs.declared.Level.TheVariants.{Recessive}
@@ -11,7 +10,7 @@ use Rattle.wl_level.proofs.Callers.{length_more}
 use Rattle.wl_confine.specs.declared.Happened.{Happened}
 use Rattle.wl_confine.specs.declared.Happened.TheVariants.{Nothing}
 use Rattle.wl_confine.specs.declared.Mode.TheVariants.{Active}
-use Rattle.wl_confine.specs.Counts.{counts_after, counts_of, is_error, mode_of, no_counts}
+use Rattle.wl_confine.specs.Counts.{counts_of, is_error, no_counts}
 use Rattle.wl_segments.specs.Lengths.{Lengths, bit_quanta, sample_at}
 use Rattle.wl_sync.specs.declared.Beat.{Beat}
 use Rattle.wl_sync.specs.declared.Beat.TheVariants as beats
@@ -21,16 +20,14 @@ use Rattle.wl_sync.specs.Running.{Running, clock_after}
 use Rattle.wl_sync.specs.Skips.{moved_place, quanta_before_sample, steady_clock}
 use Rattle.wl_sync.specs.Steps.{end_of}
 use Rattle.wl_frame.specs.Grammar.{Content}
-use Rattle.wl_machine.specs.Stretch.{Judgement, Sampled, Stretch, begins, continues, free}
+use Rattle.wl_machine.specs.Stretch.{Stretch, begins, continues, free}
 use Rattle.wl_machine.specs.Stretch.Sort.{Idle, Integration}
-use Rattle.wl_machine.specs.Stretch.Ended.{NoFrame}
 use Rattle.wl_machine.specs.Stretch.Input.{Sample}
-use Rattle.wl_machine.specs.BetweenFrames.{idle_on}
 use Rattle.wl_machine.specs.Judged.{drive_by, drive_of, judged, judged_by, or_next, stretch_after, stretch_of}
 use Rattle.wl_machine.specs.States.{sample_of, stretch_by}
 use Rattle.wl_machine.proofs.Callers.{stretch_next}
 use Rattle.wl_node.specs.declared.setup.NodeSetup.{NodeSetup}
-use Rattle.wl_node.specs.History.{History, by_beat, error_count, handed, is_sent, passed_frames, ready_head, sampled_next, switched_off, unsent_of}
+use Rattle.wl_node.specs.History.{History, error_count, handed, is_sent, ready_head, sampled_next, unsent_of}
 use Rattle.wl_phase.specs.InStep.{seen_before}
 use Rattle.wl_phase.specs.Ways.{ByTheBook, WayLaws, sample_way, way_after}
 use Rattle.wl_phase.proofs.Callers.{IsSilent, first_silent}
@@ -38,25 +35,20 @@ use Rattle.wl_buses.specs.OneFrame.Clocked.{EdgeLaws, NoEdgeLaws, SamplesBy}
 use Rattle.wl_buses.specs.OneFrame.Machines.{no_frame_sample}
 use Rattle.wl_buses.specs.OneFrame.Nodes.{IsRun, clock_sees}
 use Rattle.wl_buses.specs.FirstFrame.Faults.{fault_count, is_fault}
-use Rattle.wl_buses.proofs.OneFrame.Callers.{drive_by as driven_by, happened_by, inputs_by, one_more, seen_are}
+use Rattle.wl_buses.proofs.OneFrame.TakenOn as taken
+use Rattle.wl_buses.proofs.OneFrame.Nodes.{drive_by as driven_by, happened_by, inputs_by, seen_are, frames_by}
+use Rattle.wl_buses.proofs.OneFrame.Waited.{one_more}
+use Rattle.wl_buses.proofs.OneFrame.TakenOn.{TakesOn, goes_idle}
 
--- a machine between frames, and what a recessive sample makes of it
+-- a machine between frames
 pub record IsQuiet (s : Stretch) : Type 0 where
   pub sort : (s.sort ≡ Integration) ⊎ (s.sort ≡ Idle)
-
-pub record TakesOn (j : Judgement) : Type 0 where
-  pub happened : j.happened ≡ Nothing
-  pub ended : j.ended ≡ NoFrame
 
 ends_integration : (b : Bool) (head : Option Content) → TakesOn (cond b (begins Nothing (free head) []) (continues Nothing))
 ends_integration true head = record { happened = refl; ended = refl }
 ends_integration false head = record { happened = refl; ended = refl }
 
-pub goes_idle : (head : Option Content) → TakesOn (idle_on head)
-goes_idle None = record { happened = refl; ended = refl }
-goes_idle (Some c) = record { happened = refl; ended = refl }
-
-takes_on : (s : Stretch) (head : Option Content) → IsQuiet s → TakesOn (judged s (sample_of Recessive head Active))
+pub takes_on : (s : Stretch) (head : Option Content) → IsQuiet s → TakesOn (judged s (sample_of Recessive head Active))
 takes_on s head q = elim q.sort [
   | inl integrates ↦ subst (λ k. TakesOn (judged_by k s.own (sample_of Recessive head Active))) (sym integrates) (ends_integration (run_at_end Recessive (s.own ++ Recessive ∷ []) == 11) head)
   | inr idles ↦ subst (λ k. TakesOn (judged_by k s.own (sample_of Recessive head Active))) (sym idles) (goes_idle head)
@@ -151,12 +143,6 @@ module _ (ways : WayLaws) (calm : NoEdgeLaws) (edges : EdgeLaws) (setup : NodeSe
           ap (λ c. cond c (moved_place r - r.quanta) (end_of r - r.quanta + sample_at r.lengths)) (lt-leb r.quanta (moved_place r) (omega arith)) in
           omega arith
 
-  -- what a quantum leaves
-  frames_by : (q : ℕ) (b : Beat) → beat_of l (seen_before sees q) (sees q) ≡ b → (node (suc q)).frames ≡ (by_beat setup (node q) (levels q) b).frames
-  frames_by q b e =
-      ap (λ h. h.frames) (run.next q)
-      ∙ ap (λ x. (by_beat setup (node q) (levels q) x).frames) (ap (λ v. beat_of l v (sees q)) (seen_are setup levels node run q) ∙ e)
-
   -- it has sampled so many bits before a quantum, none of them with a frame
   pub record IsStill (q c : ℕ) : Type 0 where
     pub way : way q + q ≡ c * B + S
@@ -207,7 +193,7 @@ module _ (ways : WayLaws) (calm : NoEdgeLaws) (edges : EdgeLaws) (setup : NodeSe
           near = omega arith;
           stretch = ap stretch_of (inputs_by setup levels node run q beats.Plain e) ∙ a.stretch;
           counts = ap counts_of (happened_by setup levels node run q beats.Plain e) ∙ a.counts;
-          frames = frames_by q beats.Plain e ∙ a.frames;
+          frames = frames_by setup levels node run q beats.Plain e ∙ a.frames;
           found = λ test fine. ap (count_by test) (happened_by setup levels node run q beats.Plain e) ∙ a.found test fine;
           drive = driven_by setup levels node run q beats.Plain e ∙ a.drive;
         })
@@ -220,7 +206,7 @@ module _ (ways : WayLaws) (calm : NoEdgeLaws) (edges : EdgeLaws) (setup : NodeSe
           near = omega arith;
           stretch = ap stretch_of (inputs_by setup levels node run q beats.Start e) ∙ a.stretch;
           counts = ap counts_of (happened_by setup levels node run q beats.Start e) ∙ a.counts;
-          frames = frames_by q beats.Start e ∙ a.frames;
+          frames = frames_by setup levels node run q beats.Start e ∙ a.frames;
           found = λ test fine. ap (count_by test) (happened_by setup levels node run q beats.Start e) ∙ a.found test fine;
           drive = driven_by setup levels node run q beats.Start e ∙ ap drive_of a.stretch ∙ none_driven_after c;
         })
@@ -231,66 +217,35 @@ module _ (ways : WayLaws) (calm : NoEdgeLaws) (edges : EdgeLaws) (setup : NodeSe
       pub beat : beat_of l (seen_before sees q) (sees q) ≡ beats.Sample (levels q)
       beat = ways.sample l (seen_before sees q) (sees q) book none now
 
-      abbrev given : Sampled
-      given = sampled_next setup (node q) (levels q)
-
-      head_is : given.head ≡ head
+      pub head_is : (sampled_next setup (node q) (levels q)).head ≡ head
       head_is =
           ap (λ v. handed v setup.segments.sync (ready_head (unsent_of setup (node q)) (length (node q).seen))) silent
           ∙ ap (λ fs. ready_head (drop (count_by is_sent fs) setup.queue) (length (node q).seen)) a.frames
           ∙ ap (ready_head setup.queue) (ap length (seen_are setup levels node run q) ∙ seen_length sees q) ∙ ready
 
-      mode_is : given.mode ≡ Active
-      mode_is = ap mode_of a.counts
+      abbrev before : Stretch
+      before = stretch_of (replicate c no_frame_sample)
 
-      given_is : given ≡ sample_of Recessive head Active
-      given_is = λ j. record { level = silent j; head = head_is j; mode = mode_is j }
+      abbrev takes : TakesOn (judged before (sample_of Recessive head Active))
+      takes = takes_on before head (quiet_after c)
 
-      abbrev judgement : Judgement
-      judgement = judged (stretch_of (node q).inputs) given
+      pub beat_recessive : beat_of l (seen_before sees q) (sees q) ≡ beats.Sample Recessive
+      beat_recessive = beat ∙ ap beats.Sample silent
 
-      judged_is : judgement ≡ judged (stretch_of (replicate c no_frame_sample)) (sample_of Recessive head Active)
-      judged_is = ap (λ v. judged v given) a.stretch ∙ ap (judged (stretch_of (replicate c no_frame_sample))) given_is
+      abbrev pub stretch_then : stretch_of (node (suc q)).inputs ≡ stretch_after before (Sample (sample_of Recessive head Active))
+      stretch_then = taken.stretch_there setup levels node run q beat_recessive silent before a.stretch a.counts head head_is takes
 
-      on : TakesOn judgement
-      on = subst TakesOn (sym judged_is) (takes_on (stretch_of (replicate c no_frame_sample)) head (quiet_after c))
+      abbrev pub counts_then : counts_of (node (suc q)).happened ≡ no_counts
+      counts_then = taken.counts_there setup levels node run q beat_recessive silent before a.stretch a.counts head head_is takes
 
-      counts_then : counts_of ((node q).happened ++ judgement.happened ∷ []) ≡ no_counts
-      counts_then =
-          fold-append counts_after no_counts (node q).happened (judgement.happened ∷ [])
-          ∙ ap (λ n. counts_after n judgement.happened) a.counts ∙ ap (counts_after no_counts) on.happened
+      frames_then : (node (suc q)).frames ≡ []
+      frames_then = taken.frames_there setup levels node run q beat_recessive silent before a.stretch a.counts head head_is takes ∙ a.frames
 
-      none_off : switched_off given.mode (mode_of (counts_of ((node q).happened ++ judgement.happened ∷ []))) ≡ []
-      none_off =
-          ap (λ m. switched_off m (mode_of (counts_of ((node q).happened ++ judgement.happened ∷ [])))) mode_is ∙ ap (λ n. switched_off Active (mode_of n)) counts_then
+      found_then : (test : Happened → Bool) → test Nothing ≡ false → count_by test (node (suc q)).happened ≡ 0
+      found_then test fine = taken.found_there setup levels node run q beat_recessive silent before a.stretch a.counts head head_is takes test fine ∙ a.found test fine
 
-      abbrev next : Stretch
-      next = stretch_after (stretch_of (replicate c no_frame_sample)) (Sample (sample_of Recessive head Active))
-
-      pub stretch_then : stretch_of (node (suc q)).inputs ≡ next
-      stretch_then =
-          ap stretch_of
-          (inputs_by setup levels node run q (beats.Sample (levels q)) beat
-          ∙ ap (λ v. ((node q).inputs ++ Sample given ∷ []) ++ v) none_off ∙ append-nil ((node q).inputs ++ Sample given ∷ []))
-          ∙ stretch_next (node q).inputs (Sample given) ∙ ap (λ v. stretch_after v (Sample given)) a.stretch
-          ∙ ap (λ x. stretch_after (stretch_of (replicate c no_frame_sample)) (Sample x)) given_is
-
-      pub counts_there : counts_of (node (suc q)).happened ≡ no_counts
-      counts_there = ap counts_of (happened_by setup levels node run q (beats.Sample (levels q)) beat) ∙ counts_then
-
-      frames_there : (node (suc q)).frames ≡ []
-      frames_there =
-          frames_by q (beats.Sample (levels q)) beat
-          ∙ ap (λ x. (node q).frames ++ passed_frames (length (node q).seen) x) on.ended ∙ append-nil (node q).frames ∙ a.frames
-
-      found_there : (test : Happened → Bool) → test Nothing ≡ false → count_by test (node (suc q)).happened ≡ 0
-      found_there test fine =
-          ap (count_by test) (happened_by setup levels node run q (beats.Sample (levels q)) beat)
-          ∙ sum_by-append (λ h. cond (test h) 1 0) (node q).happened (judgement.happened ∷ [])
-          ∙ ap (λ k. k + (0 + cond (test judgement.happened) 1 0)) (a.found test fine) ∙ ap (λ h. 0 + (0 + cond (test h) 1 0)) on.happened ∙ ap (λ b. 0 + (0 + cond b 1 0)) fine
-
-      pub drive_there : (node (suc q)).drive ≡ Recessive
-      drive_there = driven_by setup levels node run q (beats.Sample (levels q)) beat ∙ a.drive
+      pub drive_then : (node (suc q)).drive ≡ Recessive
+      drive_then = taken.drive_there setup levels node run q beat_recessive silent before a.stretch a.counts head head_is takes ∙ a.drive
 
     samples : way q ≡ 0 → (c < 10) ⊎ (ready_head setup.queue q ≡ None) → IsStill (suc q) (suc c)
     samples now unready =
@@ -303,10 +258,10 @@ module _ (ways : WayLaws) (calm : NoEdgeLaws) (edges : EdgeLaws) (setup : NodeSe
           way = omega arith;
           near = omega arith;
           stretch = stretch_then now (ready_head setup.queue q) refl ∙ any_head c (ready_head setup.queue q) unready;
-          counts = counts_there now (ready_head setup.queue q) refl;
-          frames = frames_there now (ready_head setup.queue q) refl;
-          found = found_there now (ready_head setup.queue q) refl;
-          drive = drive_there now (ready_head setup.queue q) refl;
+          counts = counts_then now (ready_head setup.queue q) refl;
+          frames = frames_then now (ready_head setup.queue q) refl;
+          found = found_then now (ready_head setup.queue q) refl;
+          drive = drive_then now (ready_head setup.queue q) refl;
         }
 
   -- all its quanta
@@ -357,17 +312,17 @@ module _ (ways : WayLaws) (calm : NoEdgeLaws) (edges : EdgeLaws) (setup : NodeSe
     silent_last = silent (m * B + S) (omega arith)
 
     pub sampled_last : (head : Option Content) → ready_head setup.queue (m * B + S) ≡ head → SamplesBy l sees (m * B + S) Recessive
-    sampled_last head ready = beat (m * B + S) m silent_last still_last way_last head ready ∙ ap beats.Sample silent_last
+    sampled_last head ready = beat_recessive (m * B + S) m silent_last still_last way_last head ready
 
     pub stretch_last : (head : Option Content) → ready_head setup.queue (m * B + S) ≡ head
         → stretch_of (node (suc (m * B + S))).inputs ≡ stretch_after (stretch_of (replicate m no_frame_sample)) (Sample (sample_of Recessive head Active))
     stretch_last head ready = stretch_then (m * B + S) m silent_last still_last way_last head ready
 
     pub counts_last : (head : Option Content) → ready_head setup.queue (m * B + S) ≡ head → counts_of (node (suc (m * B + S))).happened ≡ no_counts
-    counts_last head ready = counts_there (m * B + S) m silent_last still_last way_last head ready
+    counts_last head ready = counts_then (m * B + S) m silent_last still_last way_last head ready
 
     pub drive_last : (head : Option Content) → ready_head setup.queue (m * B + S) ≡ head → (node (suc (m * B + S))).drive ≡ Recessive
-    drive_last head ready = drive_there (m * B + S) m silent_last still_last way_last head ready
+    drive_last head ready = drive_then (m * B + S) m silent_last still_last way_last head ready
 
     pub drive_up_to : (head : Option Content) → ready_head setup.queue (m * B + S) ≡ head → (q : ℕ) → q ≤ suc (m * B + S) → (node q).drive ≡ Recessive
     drive_up_to head ready q less = elim (cases_lt (m * B + S) q) [
@@ -381,9 +336,9 @@ module _ (ways : WayLaws) (calm : NoEdgeLaws) (edges : EdgeLaws) (setup : NodeSe
       | inl last ↦
           (let e : suc (m * B + S) ≡ q = omega arith in
           subst (λ k. IsUntouched (node k)) e (
-            frames_there (m * B + S) m silent_last still_last way_last head ready,
-            found_there (m * B + S) m silent_last still_last way_last head ready is_error refl,
-            found_there (m * B + S) m silent_last still_last way_last head ready is_fault refl,
+            frames_then (m * B + S) m silent_last still_last way_last head ready,
+            found_then (m * B + S) m silent_last still_last way_last head ready is_error refl,
+            found_then (m * B + S) m silent_last still_last way_last head ready is_fault refl,
           ))
       | inr before ↦ (let x = still_at q before in (x.is.frames, x.is.found is_error refl, x.is.found is_fault refl))
     ]

@@ -23,7 +23,7 @@ use Rattle.wl_buses.specs.OneFrame.Clocked.{EdgeLaws, NoEdgeLaws, SamplesBy}
 use Rattle.wl_buses.specs.OneFrame.Machines.{no_frame_sample}
 use Rattle.wl_buses.specs.OneFrame.Nodes.{IsRun, clock_sees}
 use Rattle.wl_buses.specs.FirstFrame.FirstStarts.{AreIdle, HandTheFirst, Waiting, begins_first, due_first, edge_first, first_start, hard_from, has_first, last_before}
-use Rattle.wl_buses.proofs.FirstFrame.Beginning.{IsLast, last_at, last_is, silence_of, silent_of}
+use Rattle.wl_buses.proofs.FirstFrame.Beginning.{IsLast, last_at, last_is, many, silence_of, silent_of}
 use Rattle.wl_buses.proofs.FirstFrame.Reaching as reaching
 use Rattle.wl_buses.proofs.FirstFrame.Silent as silence
 
@@ -85,7 +85,7 @@ module _ (ways : WayLaws) (calm : NoEdgeLaws) (edges : EdgeLaws) (setups : ℕ �
   handed_last : (c : Bool) → begins_first w i ≡ c → ready_head (setups i).queue (m * B + S) ≡ head_by (w.frames i) c
   handed_last true e =
       ap (λ n. ready_head (setups i).queue (n * B + S)) (own_bits e) ∙ hand.ready i inside (reaching.begins_has (silence_of w) line (silent_of w line are) i e)
-  handed_last false e = none_up_to e m last.many (omega arith)
+  handed_last false e = none_up_to e m (many w line are i inside) (omega arith)
 
   -- by its segments
   abbrev Unready : Lengths → Type 0
@@ -109,7 +109,7 @@ module _ (ways : WayLaws) (calm : NoEdgeLaws) (edges : EdgeLaws) (setups : ℕ �
   rests : Silent (setups i).segments → Unready (setups i).segments → Handed (setups i).segments → Rests (setups i).segments
   rests quiet none head = record {
     sampled = silence.sampled_last ways calm edges (setups i) book levels node run m quiet none (head_by (w.frames i) (begins_first w i)) head;
-    clock = steady (m - 1) (let many = last.many in omega arith);
+    clock = steady (m - 1) (let ten = many w line are i inside in omega arith);
     stretch = silence.stretch_last ways calm edges (setups i) book levels node run m quiet none (head_by (w.frames i) (begins_first w i)) head;
     counts = silence.counts_last ways calm edges (setups i) book levels node run m quiet none (head_by (w.frames i) (begins_first w i)) head;
     drive = silence.drive_up_to ways calm edges (setups i) book levels node run m quiet none (head_by (w.frames i) (begins_first w i)) head;

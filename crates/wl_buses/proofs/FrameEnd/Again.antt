@@ -25,7 +25,7 @@ use Rattle.wl_buses.specs.OneFrame.Machines.{HasWon, MayBegin, MayBeginTogether,
 use Rattle.wl_buses.specs.OneFrame.Expected.{IsOutset, Outset, expected_bits, expected_sample, past_at, wants}
 use Rattle.wl_buses.specs.OneFrame.Nodes.{clock_sees}
 use Rattle.wl_buses.specs.OneFrame.Clocked.{SamplesBy}
-use Rattle.wl_buses.proofs.OneFrame.Callers.{first_any}
+use Rattle.wl_buses.proofs.OneFrame.Machines.{first_any}
 use Rattle.wl_buses.specs.FrameEnd.Again.{RestsAgain, past_end}
 use Rattle.wl_buses.specs.FrameEnd.Asked.{EndAsAsked, begun_frame}
 use Rattle.wl_buses.specs.FrameEnd.Rests.{NodeEnds, waiting_frame}

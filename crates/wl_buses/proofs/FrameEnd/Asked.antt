@@ -11,7 +11,7 @@ use Rattle.wl_topology.proofs.Callers.{any_from, any_none, any_same}
 use Rattle.wl_frame.specs.Grammar.{Content, IsContent, bits_of, content_of, is_crc_right}
 use Rattle.wl_frame.specs.Header.{sent_free}
 use Rattle.wl_frame.specs.Stuffing.{destuffed_bits}
-use Rattle.wl_frame.proofs.Callers.{frame_is_read, length_more}
+use Rattle.wl_frame.proofs.Callers.{frame_is_read}
 use Rattle.wl_machine.specs.declared.state.Role.TheVariants.{Rx, Tx}
 use Rattle.wl_machine.specs.Stretch.{Sampled}
 use Rattle.wl_machine.specs.Stretch.Sort.{Framing}
@@ -32,7 +32,10 @@ use Rattle.wl_buses.specs.OneFrame.OneBit.{IsRight}
 use Rattle.wl_buses.specs.OneFrame.Course.{bus_bit, still_sends}
 use Rattle.wl_buses.specs.OneFrame.Machines.{AreMachines, GoesByMachines, HasWon, bus_levels}
 use Rattle.wl_buses.specs.OneFrame.Expected.{IsOutset, Outset, expected_bits, expected_drove, past_at, wants}
-use Rattle.wl_buses.proofs.OneFrame.Callers.{another, drives_are, first_any, frames_after, goes, no_intermission, not_between, right_at}
+use Rattle.wl_buses.proofs.OneFrame.Acks.{another}
+use Rattle.wl_buses.proofs.OneFrame.Expecting.{drives_are}
+use Rattle.wl_buses.proofs.OneFrame.Machines.{first_any, frames_after, goes, no_intermission, not_between, levels_length}
+use Rattle.wl_buses.proofs.OneFrame.Seeing.{right_at}
 use Rattle.wl_buses.specs.FrameEnd.Ends.{end_bit, end_drive, end_stretch}
 use Rattle.wl_buses.specs.FrameEnd.Asked.{EndAsAsked, begun_frame}
 use Rattle.wl_buses.proofs.FrameEnd.Below.{MachineLaws}
@@ -49,10 +52,6 @@ and_yes false = refl
 
 no_tx : frame_role None [] ≡ Tx → ⊥
 no_tx e = cc
-
-pub levels_length : (s : Stations) (bits : ℕ → Start) (n : ℕ) → length (bus_levels s bits n) ≡ n
-levels_length s bits zero = refl
-levels_length s bits (suc n) = length_more (bus_levels s bits n) (level_of (bus_bit s bits n)) ∙ ap suc (levels_length s bits n)
 
 pub not_first : (s : Stations) (o : Outset) (end : ℕ) → stuffed_end (bus_levels s (expected_bits s o) end) ≡ Some end → (n : ℕ) × (suc n ≡ end)
 not_first s o zero over = (let none : false ≡ true = ap is_some over in cc)

@@ -6,7 +6,7 @@ use Rattle.wl_frame.specs.Stuffing.{Stuffs}
 use Rattle.wl_frame.specs.Grammar.{Content, IsContent, bits_of}
 use Rattle.wl_machine.specs.Laws.{FoundSent}
 use Rattle.wl_buses.specs.OneFrame.Clocked.{EdgeLaws, NoEdgeLaws}
-use Rattle.wl_buses.proofs.OneFrame.Callers.{FindNoErrors, LeastWins, SendStuffed, SixOrFront, StayInStep, TenHaveEdge}
+use Rattle.wl_buses.proofs.OneFrame.Machines.{FindNoErrors, LeastWins, SendStuffed, SixOrFront, StayInStep, TenHaveEdge}
 
 abbrev pub FindStuffed : Type 0
 FindStuffed = (head : Content) (own : List Level) → IsContent head → Stuffs own (bits_of head) → FoundSent head own (length own)

@@ -1,10 +1,8 @@
 -- What each station finds at the end of a frame, between its samples.
-use Rattle.std.proofs.Common.{◌≡◌, ◌∙◌, inl, inr, refl, sym, ap, subst, ℕ, zero, suc, ◌+◌, ◌-◌, ◌*◌, ◌<◌, ◌≤◌, ◌&&◌, Bool, true, false, Some, None, arith}
-use Rattle.std.specs.Prelude.{nat_le, nat_lt}
-use Rattle.std.proofs.lemmas.Bool.{and_parts, both_ways, cases_eq, cases_lt, false_from_ne_true, leb-true, ltb-true, ne_eqb}
+use Rattle.std.proofs.Common.{◌≡◌, ◌∙◌, inl, inr, refl, sym, ap, subst, ℕ, zero, suc, ◌+◌, ◌-◌, ◌*◌, ◌<◌, ◌≤◌, Bool, true, false, Some, None, arith}
+use Rattle.std.proofs.lemmas.Bool.{both_ways, cases_eq, cases_lt, false_from_ne_true, ne_eqb}
 use Rattle.wl_segments.specs.Lengths.{bit_quanta, sample_at}
 use Rattle.wl_topology.specs.Driven.{driven}
-use Rattle.wl_topology.proofs.Callers.{any_one}
 use Rattle.wl_machine.specs.Frames.{stuffed_end}
 use Rattle.wl_phase.specs.Clocks.{steady_tick}
 use Rattle.wl_buses.specs.OneFrame.Stations.{AreStations, HaveRoom, Stations, shared_instant, shared_quantum}
@@ -13,7 +11,11 @@ use Rattle.wl_buses.specs.OneFrame.Course.{bus_bit, since_edge}
 use Rattle.wl_buses.specs.OneFrame.Machines.{HasWon, bus_levels}
 use Rattle.wl_buses.specs.OneFrame.Acknowledged.{AreAllClose, CatchUp, answering, chased_way}
 use Rattle.wl_buses.specs.OneFrame.Expected.{IsOutset, Outset, edge_start, expected_bits, expected_drove, expected_end, expected_sample, wants}
-use Rattle.wl_buses.proofs.OneFrame.Callers.{any_close, chased_stations, course, drifted, due_sample, from_low, instant_more, is_there, on_bus, place_up, plain_is, plain_when, tick_next, ticks_before}
+use Rattle.wl_buses.proofs.OneFrame.AckWays.{any_close, chased_stations}
+use Rattle.wl_buses.proofs.OneFrame.Expecting.{course, plain_is}
+use Rattle.wl_buses.proofs.OneFrame.Measures.{drifted, instant_more, tick_next, ticks_before}
+use Rattle.wl_buses.proofs.OneFrame.Seeing.{driving_at, due_sample, from_low, on_bus, place_up, plain_when}
+use Rattle.wl_buses.proofs.OneFrame.Sampled.{is_there}
 use Rattle.wl_buses.specs.FrameEnd.Ends.{end_bit}
 use Rattle.wl_buses.specs.FrameEnd.Asked.{EndAsAsked}
 use Rattle.wl_buses.proofs.FrameEnd.Below.{MachineLaws}
@@ -120,38 +122,10 @@ module _ (m : MachineLaws) (s : Stations) (are : AreStations s) (room : HaveRoom
       drove_before m s are room o is end valid over won chase catch enough k (tick i q - s.delay k i) there (omega arith)))
 
   -- after a recessive last bit nothing comes up to that sample
-  record Driver (i q : ℕ) : Type 0 where
-    by : ℕ
-    bit : ℕ
-    there : by < s.count
-    inside_bits : bit < end
-    dominant : wants s o bit by ≡ true
-    come : s.delay by i ≤ tick i q
-    low_bit : tick by ((bits bit).from by) ≤ tick i q - s.delay by i
-    high_bit : tick i q - s.delay by i < tick by ((bits (suc bit)).from by)
-
-  was_driver : (i q : ℕ) → driven s.count s.delay was i (tick i q) ≡ true → Driver i q
-  was_driver i q e =
-      let w = m.driven.dominant_by s.count s.delay was i (tick i q) e in
-      let u = tick i q - s.delay w.0 i in
-      let x = any_one end (λ n. wants s o n w.0 && (nat_le (tick w.0 ((bits n).from w.0)) u && nat_lt u (tick w.0 ((bits (suc n)).from w.0)))) w.3 in
-      let p = and_parts (wants s o x.0 w.0) (nat_le (tick w.0 ((bits x.0).from w.0)) u && nat_lt u (tick w.0 ((bits (suc x.0)).from w.0))) x.2 in
-      let r = and_parts (nat_le (tick w.0 ((bits x.0).from w.0)) u) (nat_lt u (tick w.0 ((bits (suc x.0)).from w.0))) p.1 in
-      record {
-        by = w.0;
-        bit = x.0;
-        there = w.1;
-        inside_bits = x.1;
-        dominant = p.0;
-        come = w.2;
-        low_bit = leb-true (tick w.0 ((bits x.0).from w.0)) u r.0;
-        high_bit = ltb-true u (tick w.0 ((bits (suc x.0)).from w.0)) r.1;
-      }
-
   pub silent_delimiter : (i q : ℕ) → i < s.count → bus z ≡ false → S z i < q → q ≤ S end i → found i q ≡ false
   silent_delimiter i q inside quiet after by_end =
       found_was i q inside by_end
-      ∙ false_from_ne_true (driven s.count s.delay was i (tick i q)) (λ e. (let x = was_driver i q e in
+      ∙ false_from_ne_true (driven s.count s.delay was i (tick i q)) (λ e. (let x = driving_at m.steps m.errors m.winner m.stuffed m.six m.ten m.driven s are room o is end valid i (tick i q) e in
       let e_z = z_is in
       let high = x.high_bit in
       let less = x.inside_bits in

@@ -32,7 +32,11 @@ use Rattle.wl_buses.specs.OneFrame.Acknowledged.{CatchUp, answering, chased_way}
 use Rattle.wl_buses.specs.OneFrame.Expected.{IsOutset, Outset, expected_bits, expected_drove, expected_sample, wants}
 use Rattle.wl_buses.specs.OneFrame.Nodes.{GoesToNext, IsInBit, IsRun, clock_sees}
 use Rattle.wl_buses.specs.OneFrame.Lines.{BeginsAsExpected, IsBeforeEnd, IsLineOf, finds_expected, node_after}
-use Rattle.wl_buses.proofs.OneFrame.Callers.{after_there, drive_by, driven_at, finds_what_comes, from_all, from_sample, level_back, none_driven, run_of, seen_before_same, tick_next}
+use Rattle.wl_buses.proofs.OneFrame.Expecting.{after_there, driven_at, from_all, from_sample, none_driven}
+use Rattle.wl_buses.proofs.OneFrame.Nodes.{drive_by, seen_before_same}
+use Rattle.wl_buses.proofs.OneFrame.Lines.{finds_what_comes, run_of}
+use Rattle.wl_buses.proofs.OneFrame.Machines.{level_back}
+use Rattle.wl_buses.proofs.OneFrame.Measures.{tick_next}
 use Rattle.wl_buses.specs.FrameEnd.Asked.{EndAsAsked}
 use Rattle.wl_buses.specs.FrameEnd.Rests.{NodeEnds}
 use Rattle.wl_buses.specs.FrameEnd.Lines.{LineEnds, LineRests, finds_end, earliest_of, next_due, rests_until}

@@ -9,7 +9,7 @@ use Rattle.wl_buses.specs.OneFrame.Starts.{Start}
 use Rattle.wl_buses.specs.OneFrame.Machines.{HasWon, bus_levels}
 use Rattle.wl_buses.specs.OneFrame.Acknowledged.{CatchUp, answering, chased_way}
 use Rattle.wl_buses.specs.OneFrame.Expected.{IsOutset, Outset, expected_bits, expected_sample}
-use Rattle.wl_buses.proofs.OneFrame.Callers.{instant_more, tick_next, ticks_before}
+use Rattle.wl_buses.proofs.OneFrame.Measures.{instant_more, tick_next, ticks_before}
 use Rattle.wl_buses.specs.FrameEnd.Again.{HasRoomToRest}
 use Rattle.wl_buses.proofs.FrameEnd.Below.{MachineLaws}
 use Rattle.wl_buses.proofs.FrameEnd.Hearing.{bus_at, plain_place}

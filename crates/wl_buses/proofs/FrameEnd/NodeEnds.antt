@@ -30,12 +30,13 @@ use Rattle.wl_buses.specs.OneFrame.Machines.{HasWon, bus_levels}
 use Rattle.wl_buses.specs.OneFrame.Acknowledged.{CatchUp, answering, chased_way}
 use Rattle.wl_buses.specs.OneFrame.Expected.{HasSampled, IsOutset, Outset, expected_bits, expected_drove, expected_sample, past_at, wants}
 use Rattle.wl_buses.specs.OneFrame.Nodes.{GoesToNext, IsInBit, IsRun, clock_sees}
-use Rattle.wl_buses.proofs.OneFrame.Callers.{has_expected, sees_in}
+use Rattle.wl_buses.proofs.OneFrame.Nodes.{has_expected, sees_in}
+use Rattle.wl_buses.proofs.OneFrame.Machines.{levels_length}
 use Rattle.wl_buses.specs.FrameEnd.Ends.{GoesToEnd, end_bit, end_frame, end_levels, end_stretch}
 use Rattle.wl_buses.specs.FrameEnd.Asked.{EndAsAsked, begun_frame}
 use Rattle.wl_buses.specs.FrameEnd.Clocks.{SeesEnd}
 use Rattle.wl_buses.specs.FrameEnd.Rests.{NodeEnds, RestsAfter, waiting_frame}
-use Rattle.wl_buses.proofs.FrameEnd.Asked.{as_asked, crc_all, length_is, levels_length}
+use Rattle.wl_buses.proofs.FrameEnd.Asked.{as_asked, crc_all, length_is}
 use Rattle.wl_buses.proofs.FrameEnd.Below.{ClockLaws, MachineLaws}
 use Rattle.wl_buses.proofs.FrameEnd.Ends as machine
 use Rattle.wl_buses.proofs.FrameEnd.Hearing as hearing

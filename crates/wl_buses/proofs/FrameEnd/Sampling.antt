@@ -1,7 +1,6 @@
 -- A node at one of its samples, if what it sees before makes its bit clock go so.
-use Rattle.std.proofs.Common.{◌≡◌, ◌∙◌, inl, inr, refl, sym, ap, subst, ℕ, zero, suc, ◌+◌, ◌<◌, ◌≤◌, cond, Bool, true, List, [], ◌∷◌, ◌++◌, length, arith, append-nil}
+use Rattle.std.proofs.Common.{◌≡◌, ◌∙◌, inl, inr, sym, ap, subst, ℕ, suc, ◌<◌, ◌≤◌, cond, Bool, true, List, [], ◌∷◌, ◌++◌, length, arith, append-nil}
 use Rattle.std.proofs.lemmas.Bool.{cases_eq, cases_lt, le-leb, lt-leb}
-use Rattle.std.proofs.lemmas.List.{length-append}
 use Rattle.std.proofs.lemmas.List.Sums.{fold-append}
 use Rattle.wl_level.specs.declared.Level.{Level}
 use Rattle.wl_level.specs.Levels.{is_dominant, level_of}
@@ -20,12 +19,15 @@ use Rattle.wl_node.specs.declared.setup.NodeSetup.{NodeSetup}
 use Rattle.wl_node.specs.History.{History, by_beat, passed_frames, sampled_next, switched_off}
 use Rattle.wl_phase.specs.InStep.{seen_before}
 use Rattle.wl_wire.specs.InStep.{is_fine}
+use Rattle.wl_wire.proofs.Callers.{fine_counts}
 use Rattle.wl_buses.specs.OneFrame.Stations.{Stations}
 use Rattle.wl_buses.specs.OneFrame.Course.{bus_bit}
 use Rattle.wl_buses.specs.OneFrame.Clocked.{BitIs}
 use Rattle.wl_buses.specs.OneFrame.Expected.{HasSampled, Outset, expected_bits, expected_sample, past_at, wants}
 use Rattle.wl_buses.specs.OneFrame.Nodes.{IsInBit, IsRun, clock_sees}
-use Rattle.wl_buses.proofs.OneFrame.Callers.{Passes, Same, fine_counts, level_back, drive_by, drive_first, drives, expected_new, happened_by, inputs_by, same_at, seen_are, seen_before_same, sees_in}
+use Rattle.wl_buses.proofs.OneFrame.Nodes.{Passes, Same, drive_by, drive_first, drives, expected_new, happened_by, inputs_by, same_at, seen_are, seen_before_same, sees_in}
+use Rattle.wl_buses.proofs.OneFrame.Machines.{level_back}
+use Rattle.wl_buses.proofs.FirstFrame.Silent.{seen_length}
 
 -- what is fine counts nothing, and leaves the bus to nobody
 counts_stay : (happened : List Happened) (h : Happened) → counts_of happened ≡ no_counts → is_fine h ≡ true
@@ -36,34 +38,27 @@ counts_stay happened h before fine =
       ap (λ c. switched_off (mode_of c) (mode_of (counts_of (happened ++ h ∷ [])))) before ∙ ap (λ c. switched_off Active (mode_of c)) after,
     ))
 
-before_length : (seen : ℕ → Seen) (q : ℕ) → length (seen_before seen q) ≡ q
-before_length seen zero = refl
-before_length seen (suc q) = (let e = before_length seen q in let f = length_append (seen_before seen q) (seen q) in omega arith)
-  where
-    length_append : (v : List Seen) (x : Seen) → length (v ++ x ∷ []) ≡ suc (length v)
-    length_append v x = length-append v (x ∷ []) ∙ (let e : length v + 1 ≡ suc (length v) = omega arith in e)
-
 module _ (setup : NodeSetup) (levels : ℕ → Level) (node : ℕ → History) (run : IsRun setup levels node) (s : Stations) (o : Outset) (i n : ℕ) (segments : setup.segments ≡ s.lengths i)
     (at : IsInBit s o i levels node n) (begins_after : expected_sample s o n i < (expected_bits s o (suc n)).from i) where
-  abbrev S : ℕ
+  abbrev pub S : ℕ
   S = expected_sample s o n i
 
-  abbrev S' : ℕ
+  abbrev pub S' : ℕ
   S' = expected_sample s o (suc n) i
 
-  abbrev F : ℕ
+  abbrev pub F : ℕ
   F = (expected_bits s o (suc n)).from i
 
-  abbrev X : Stretch
+  abbrev pub X : Stretch
   X = stretch_of (past_at s o (suc n) i)
 
-  abbrev v : ℕ → Bool
+  abbrev pub v : ℕ → Bool
   v = drives setup levels node run s o i n segments at begins_after
 
-  abbrev first : (node (suc S)).drive ≡ level_of (v (suc S))
+  abbrev pub first : (node (suc S)).drive ≡ level_of (v (suc S))
   first = drive_first setup levels node run s o i n segments at begins_after
 
-  abbrev sees : ℕ → Seen
+  abbrev pub sees : ℕ → Seen
   sees = sees_in setup levels node run s o i n segments at begins_after
 
   pub before_start : (q : ℕ) → q ≤ F → v q ≡ wants s o n i
@@ -75,6 +70,20 @@ module _ (setup : NodeSetup) (levels : ℕ → Level) (node : ℕ → History) (
   pub new_there : (q : ℕ) → S < q → sees q ≡ record { level = levels q; idle = is_idle_sort X.sort; awaits = awaits_start X; driving = v q }
   new_there = expected_new setup levels node run (s.lengths i) segments S S' X v at.stretch first
 
+  -- between its samples of a bit and of the next one nothing is sampled
+  pub passes : (level : Level) → BitIs (s.lengths i) sees S ((expected_bits s o (suc n)).place i) F level → (q : ℕ) → S < q → q < S'
+      → Passes setup levels node run (s.lengths i) segments S S' X v at.stretch first q
+  passes level bit q more less = elim (cases_eq q F) [
+    | inl here ↦ inr (ap (λ k. beat_of (s.lengths i) (seen_before sees k) (sees k)) here ∙ bit.starts.starts, after_start (suc q) (omega (arith, here)))
+    | inr apart ↦ inl (
+      bit.starts.others q more less apart,
+      elim (cases_lt q F) [
+        | inl before ↦ before_start (suc q) before ∙ sym (before_start q (omega arith))
+        | inr from ↦ after_start (suc q) (omega (arith, apart)) ∙ sym (after_start q (omega (arith, apart)))
+      ],
+    )
+  ]
+
   -- the sample of the next bit
   module _ (bit : BitIs (s.lengths i) sees S ((expected_bits s o (suc n)).place i) F (level_of (bus_bit s (expected_bits s o) (suc n))))
       (longer : S < S') (found : levels S' ≡ level_of (bus_bit s (expected_bits s o) (suc n)))
@@ -82,22 +91,10 @@ module _ (setup : NodeSetup) (levels : ℕ → Level) (node : ℕ → History) (
     abbrev lv : Level
     lv = level_of (bus_bit s (expected_bits s o) (suc n))
 
-    passes : (q : ℕ) → S < q → q < S' → Passes setup levels node run (s.lengths i) segments S S' X v at.stretch first q
-    passes q more less = elim (cases_eq q F) [
-      | inl here ↦ inr (ap (λ k. beat_of (s.lengths i) (seen_before sees k) (sees k)) here ∙ bit.starts.starts, after_start (suc q) (omega (arith, here)))
-      | inr apart ↦ inl (
-        bit.starts.others q more less apart,
-        elim (cases_lt q F) [
-          | inl before ↦ before_start (suc q) before ∙ sym (before_start q (omega arith))
-          | inr from ↦ after_start (suc q) (omega (arith, apart)) ∙ sym (after_start q (omega (arith, apart)))
-        ],
-      )
-    ]
+    same : (q : ℕ) → S < q → q ≤ S' → Same setup levels node run (s.lengths i) segments S S' X v at.stretch first (passes lv bit) longer q
+    same = same_at setup levels node run (s.lengths i) segments S S' X v at.stretch first (passes lv bit) longer
 
-    same : (q : ℕ) → S < q → q ≤ S' → Same setup levels node run (s.lengths i) segments S S' X v at.stretch first passes longer q
-    same = same_at setup levels node run (s.lengths i) segments S S' X v at.stretch first passes longer
-
-    last : Same setup levels node run (s.lengths i) segments S S' X v at.stretch first passes longer S'
+    last : Same setup levels node run (s.lengths i) segments S S' X v at.stretch first (passes lv bit) longer S'
     last = same S' longer (omega arith)
 
     abbrev given : Sampled
@@ -157,7 +154,7 @@ module _ (setup : NodeSetup) (levels : ℕ → Level) (node : ℕ → History) (
     frames_there =
         ap (λ h. h.frames) (run.next S')
         ∙ ap (λ x. (by_beat setup (node S') (levels S') x).frames) (ap (λ w. beat_of setup.segments w (clock_sees levels node S')) (seen_are setup levels node run S') ∙ beat)
-        ∙ ap (λ q. (node S').frames ++ passed_frames q judgement.ended) (ap length (seen_are setup levels node run S') ∙ before_length (clock_sees levels node) S')
+        ∙ ap (λ q. (node S').frames ++ passed_frames q judgement.ended) (ap length (seen_are setup levels node run S') ∙ seen_length (clock_sees levels node) S')
         ∙ ap (λ t. (node S').frames ++ passed_frames S' (judged t given).ended) (sym stretch_at)
 
     pub clock_there : HasSampled s o i sees (suc n) → HasSampled s o i (clock_sees levels node) (suc n)

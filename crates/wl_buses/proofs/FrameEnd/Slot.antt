@@ -24,11 +24,18 @@ use Rattle.wl_buses.specs.OneFrame.Course.{begins_with_edge, bus_bit, since_edge
 use Rattle.wl_buses.specs.OneFrame.Machines.{HasWon, bus_levels}
 use Rattle.wl_buses.specs.OneFrame.Acknowledged.{AreAllClose, CatchUp, IsAcknowledgedByAll, IsAnsweredByAll, answering, chased_way}
 use Rattle.wl_buses.specs.OneFrame.Expected.{IsOutset, Outset, edge_start, expected_bits, expected_drove, expected_end, plain_start, settled, wants}
-use Rattle.wl_buses.proofs.OneFrame.Callers.{acknowledged, any_close, begin_bit, begins_by, caught, chased_stations, course, drifted, drives_are, edge_is, from_all, instant_more, level_back, from_sample, no_or, none_driven, plain_is, same_places, tick_next, ticks_before}
+use Rattle.wl_buses.proofs.OneFrame.Acks.{acknowledged}
+use Rattle.wl_buses.proofs.OneFrame.AckWays.{any_close, chased_stations}
+use Rattle.wl_buses.proofs.OneFrame.Settling.{begin_bit, begins_by, caught}
+use Rattle.wl_buses.proofs.OneFrame.Expecting.{course, drives_are, edge_is, from_all, from_sample, none_driven, plain_is}
+use Rattle.wl_buses.proofs.OneFrame.Measures.{drifted, instant_more, tick_next, ticks_before}
+use Rattle.wl_buses.proofs.OneFrame.Machines.{level_back, levels_length}
+use Rattle.wl_buses.proofs.OneFrame.Lines.{no_or}
+use Rattle.wl_buses.proofs.OneFrame.Passing.{same_places}
 use Rattle.wl_buses.specs.FrameEnd.Ends.{end_bit}
 use Rattle.wl_buses.specs.FrameEnd.Asked.{EndAsAsked}
 use Rattle.wl_buses.proofs.FrameEnd.Below.{MachineLaws}
-use Rattle.wl_buses.proofs.FrameEnd.Asked.{and_yes, as_asked, levels_length, not_first}
+use Rattle.wl_buses.proofs.FrameEnd.Asked.{and_yes, as_asked, not_first}
 
 -- more numbers below which none passes
 any_more : (n p : ℕ) (f : ℕ → Bool) → ((j : ℕ) → j < p → f (n + j) ≡ false) → any_below (n + p) f ≡ any_below n f

@@ -21,7 +21,9 @@ use Rattle.wl_buses.specs.OneFrame.Machines.{HasWon, bus_levels}
 use Rattle.wl_buses.specs.OneFrame.Clocked.{BitIs, FindsEdge, NoneSyncs, SamplesBy}
 use Rattle.wl_buses.specs.OneFrame.Acknowledged.{CatchUp, answering, chased_way}
 use Rattle.wl_buses.specs.OneFrame.Expected.{HasSampled, IsOutset, Outset, edge_start, expected_bits, expected_drove, expected_sample, most, wants}
-use Rattle.wl_buses.proofs.OneFrame.Callers.{from_early, from_late, low, place_up, tick_next}
+use Rattle.wl_buses.proofs.OneFrame.Settling.{from_early, from_late, low}
+use Rattle.wl_buses.proofs.OneFrame.Seeing.{place_up}
+use Rattle.wl_buses.proofs.OneFrame.Measures.{tick_next}
 use Rattle.wl_buses.specs.FrameEnd.Ends.{end_bit}
 use Rattle.wl_buses.specs.FrameEnd.Clocks.{SeesEnd}
 use Rattle.wl_buses.proofs.FrameEnd.Below.{ClockLaws, MachineLaws}

@@ -5,9 +5,10 @@ use Rattle.wl_bound.specs.Families.{Bus}
 use Rattle.wl_bound.specs.Terms.{drift, look}
 use Rattle.wl_buses.specs.OneFrame.Acknowledged.{chased_way}
 use Rattle.wl_buses.specs.OneFrame.Answers.{HasRoomToAnswer, gathered}
-use Rattle.wl_buses.specs.OneFrame.Bounds.{IsBusOf}
+use Rattle.wl_buses.specs.OneFrame.Bounds.{HasStations}
 use Rattle.wl_buses.specs.OneFrame.Stations.{AreOnALine, Stations, bit_drift, shared_quantum, shared_tick}
-use Rattle.wl_buses.proofs.OneFrame.Callers.{drift_high, extra, extra_high, inside_bus, late_is, quanta_low}
+use Rattle.wl_buses.proofs.OneFrame.AckBounds.{drift_high, extra, extra_high, late_is}
+use Rattle.wl_buses.proofs.OneFrame.Bounded.{inside as inside_bus, quanta_low}
 use Rattle.wl_buses.specs.FrameEnd.Again.{HasRoomToRest, LeavesRoomToRest}
 
 -- u units and m parts are as long
@@ -19,7 +20,7 @@ fits_twelve u m late drifts back more units drifts_units room room_units some wa
     let sum : u * (late + 12 * drifts + m) ≤ u * (back + room) = omega arith in
     le_of_mul-le-mul_left sum some
 
-pub room_to_rest : (bus : Bus) (s : Stations) → AreOnALine s → IsBusOf bus s → (winner : ℕ) → winner < s.count → s.may_send winner ≡ true → (chase : ℕ → ℕ) → HasRoomToAnswer bus chase
+pub room_to_rest : (bus : Bus) (s : Stations) → AreOnALine s → HasStations bus s → (winner : ℕ) → winner < s.count → s.may_send winner ≡ true → (chase : ℕ → ℕ) → HasRoomToAnswer bus chase
     → LeavesRoomToRest bus chase → HasRoomToRest s (chased_way s winner chase)
 room_to_rest bus s line of winner wins may chase has leaves i k ni nk apart =
     let h = leaves i k (inside_bus bus s line of i ni) (inside_bus bus s line of k nk) apart in

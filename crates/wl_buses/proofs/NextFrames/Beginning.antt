@@ -18,9 +18,12 @@ use Rattle.wl_buses.specs.OneFrame.Lines.{BeginsAfter}
 use Rattle.wl_buses.specs.OneFrame.Machines.{bus_levels}
 use Rattle.wl_buses.specs.OneFrame.Nodes.{IsRun}
 use Rattle.wl_buses.specs.OneFrame.Stations.{AreStations, HaveRoom, Stations}
-use Rattle.wl_buses.proofs.OneFrame.Callers.{LevelGoes, SampleGoes, bit_place_laws, bit_start_laws, has_begun}
+use Rattle.wl_buses.proofs.OneFrame.Calm.{LevelGoes, SampleGoes}
+use Rattle.wl_buses.proofs.OneFrame.Clocked.{bit_place_laws}
+use Rattle.wl_buses.proofs.OneFrame.Beginning.{bit_start_laws}
+use Rattle.wl_buses.proofs.OneFrame.Outsets.{has_begun}
 use Rattle.wl_buses.specs.FrameEnd.Again.{RestsAgain}
-use Rattle.wl_buses.proofs.FrameEnd.Callers.{MachineLaws}
+use Rattle.wl_buses.proofs.FrameEnd.Below.{MachineLaws}
 use Rattle.wl_buses.specs.NextFrames.NextNodes.{BeginsSince}
 
 -- its start of frame begins after that

@@ -25,7 +25,7 @@ use Rattle.wl_buses.specs.OneFrame.Stations.{AreOnALine, AreStations, HaveRoom, 
 use Rattle.wl_buses.specs.FrameEnd.Again.{RestsAgain, past_end}
 use Rattle.wl_buses.specs.FrameEnd.Asked.{CanBeAnswered, EndsBefore}
 use Rattle.wl_buses.specs.FrameEnd.Rests.{NodeEnds, waiting_frame}
-use Rattle.wl_buses.proofs.FrameEnd.Callers.{MachineLaws}
+use Rattle.wl_buses.proofs.FrameEnd.Below.{MachineLaws}
 use Rattle.wl_buses.specs.NextFrames.Frames.{FollowOneAnother, IsBegunAfter, Frame, IsBegun, frame_drove, frames_drove, resting_of, third_sample}
 use Rattle.wl_buses.specs.NextFrames.NextNodes.{GoesThrough, HandsNext, head_after}
 use Rattle.wl_buses.specs.NextFrames.NextStarts.{AreFreeNext, AreResting, Resting, has_next, outset_next, rest_next, rested, start_next}

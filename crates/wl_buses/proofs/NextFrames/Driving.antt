@@ -15,9 +15,12 @@ use Rattle.wl_buses.specs.OneFrame.Acknowledged.{CatchUp, answering, chased_way}
 use Rattle.wl_buses.specs.OneFrame.Expected.{IsOutset, Outset, expected_bits, expected_drove, expected_sample, wants}
 use Rattle.wl_buses.specs.OneFrame.Machines.{HasWon, bus_levels}
 use Rattle.wl_buses.specs.OneFrame.Stations.{AreStations, HaveRoom, Stations}
-use Rattle.wl_buses.proofs.OneFrame.Callers.{after_there, from_sample, level_back, tick_next}
+use Rattle.wl_buses.proofs.OneFrame.Expecting.{after_there, from_sample}
+use Rattle.wl_buses.proofs.OneFrame.Machines.{level_back}
+use Rattle.wl_buses.proofs.OneFrame.Measures.{tick_next}
 use Rattle.wl_buses.specs.FrameEnd.Asked.{EndAsAsked}
-use Rattle.wl_buses.proofs.FrameEnd.Callers.{MachineLaws, begins_after, samples_up}
+use Rattle.wl_buses.proofs.FrameEnd.Below.{MachineLaws}
+use Rattle.wl_buses.proofs.FrameEnd.Hearing.{begins_after, samples_up}
 use Rattle.wl_buses.specs.NextFrames.NextNodes.{GoesThrough}
 use Rattle.wl_buses.proofs.NextFrames.Windows.{any_alone}
 

@@ -23,10 +23,12 @@ use Rattle.wl_buses.specs.OneFrame.Expected.{expected_bits}
 use Rattle.wl_buses.specs.OneFrame.Lines.{IsLineOf, node_after}
 use Rattle.wl_buses.specs.OneFrame.Nodes.{IsRun}
 use Rattle.wl_buses.specs.OneFrame.Stations.{AreOnALine, AreStations, HaveRoom, Stations}
-use Rattle.wl_buses.proofs.OneFrame.Callers.{finds_driven, run_of, tick_next}
+use Rattle.wl_buses.proofs.OneFrame.Lines.{finds_driven, run_of}
+use Rattle.wl_buses.proofs.OneFrame.Measures.{tick_next}
 use Rattle.wl_buses.specs.FrameEnd.Again.{RestsAgain, past_end}
 use Rattle.wl_buses.specs.FrameEnd.Rests.{waiting_frame}
-use Rattle.wl_buses.proofs.FrameEnd.Callers.{DriveExpected, FindLevels, MachineLaws}
+use Rattle.wl_buses.proofs.FrameEnd.LineEnds.{DriveExpected, FindLevels}
+use Rattle.wl_buses.proofs.FrameEnd.Below.{MachineLaws}
 use Rattle.wl_buses.specs.NextFrames.Frames.{FollowOneAnother, Frame, IsBegun, frame_drove, frames_drove, third_sample}
 use Rattle.wl_buses.specs.NextFrames.Lines.{BeginFrames, finds_frames}
 use Rattle.wl_buses.specs.NextFrames.Silence.{AllAreSent, LineFallsSilent, StillRests}

@@ -18,7 +18,7 @@ use Rattle.wl_phase.specs.Clocks.{steady_tick}
 use Rattle.wl_wire.specs.Wire.{Handed, sampled}
 use Rattle.wl_buses.specs.OneFrame.Stations.{AreStations, Stations}
 use Rattle.wl_buses.specs.OneFrame.Expected.{IsOutset, Outset, expected_bits, expected_sample, past_at}
-use Rattle.wl_buses.proofs.OneFrame.Callers.{tick_next}
+use Rattle.wl_buses.proofs.OneFrame.Measures.{tick_next}
 use Rattle.wl_buses.specs.FrameEnd.Asked.{EndAsAsked, begun_frame, stuffed_levels}
 use Rattle.wl_buses.specs.NextFrames.NextStarts.{AreResting, HaveMore, due_next, resting_after}
 

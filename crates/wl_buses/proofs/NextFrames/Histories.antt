@@ -13,8 +13,8 @@ use Rattle.wl_buses.specs.OneFrame.Stations.{Stations}
 use Rattle.wl_buses.specs.OneFrame.Expected.{Outset}
 use Rattle.wl_buses.specs.OneFrame.Lines.{RestsBefore, node_after}
 use Rattle.wl_buses.specs.OneFrame.Nodes.{clock_sees}
-use Rattle.wl_buses.proofs.OneFrame.Callers.{seen_before_same}
-use Rattle.wl_buses.proofs.FrameEnd.Callers.{levels_agree}
+use Rattle.wl_buses.proofs.OneFrame.Nodes.{seen_before_same}
+use Rattle.wl_buses.proofs.FrameEnd.LineEnds.{levels_agree}
 
 module _ (s : Stations) (o : Outset) (i : ℕ) (setup : NodeSetup) (new old : ℕ → Level) (rest : ℕ) (same : (q : ℕ) → q ≤ rest + sample_at (s.lengths i) → new q ≡ old q)
     (r : RestsBefore s o i old (node_after setup old) rest) where

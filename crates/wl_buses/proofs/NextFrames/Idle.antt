@@ -1,14 +1,13 @@
 -- A node that rests on a silent line, bit by bit: what it has sampled, and that nothing counts.
-use Rattle.std.proofs.Common.{◌≡◌, ◌∙◌, inl, inr, refl, sym, ap, subst, ℕ, zero, suc, ◌+◌, ◌<◌, ◌≤◌, cond, Bool, false, List, [], ◌∷◌, ◌++◌, length, Option, arith, append-nil, ◌-◌}
+use Rattle.std.proofs.Common.{◌≡◌, ◌∙◌, inl, inr, refl, sym, ap, subst, ℕ, zero, suc, ◌+◌, ◌<◌, ◌≤◌, Bool, false, List, length, Option, arith, ◌-◌}
 use Rattle.std.specs.Prelude.{count_by, drop}
 use Rattle.std.proofs.lemmas.Bool.{cases_eq, cases_lt}
-use Rattle.std.proofs.lemmas.List.Sums.{fold-append, sum_by-append}
 use Rattle.wl_level.specs.declared.Level.{Level}
 use Rattle.wl_level.specs.declared.Level.TheVariants.{Recessive}
 use Rattle.wl_confine.specs.declared.Happened.{Happened}
 use Rattle.wl_confine.specs.declared.Happened.TheVariants.{Nothing}
 use Rattle.wl_confine.specs.declared.Mode.TheVariants.{Active}
-use Rattle.wl_confine.specs.Counts.{counts_after, counts_of, mode_of, no_counts}
+use Rattle.wl_confine.specs.Counts.{counts_of, no_counts}
 use Rattle.wl_segments.specs.Lengths.{Lengths, bit_quanta, sample_at}
 use Rattle.wl_sync.specs.declared.Beat.{Beat}
 use Rattle.wl_sync.specs.declared.Beat.TheVariants as beats
@@ -17,21 +16,22 @@ use Rattle.wl_sync.specs.Bits.{beat_of}
 use Rattle.wl_sync.specs.Running.{clock_after}
 use Rattle.wl_sync.specs.Skips.{steady_clock}
 use Rattle.wl_frame.specs.Grammar.{Content}
-use Rattle.wl_machine.specs.Stretch.{Judgement, Sampled, Stretch}
+use Rattle.wl_machine.specs.Stretch.{Stretch}
 use Rattle.wl_machine.specs.Stretch.Sort.{Idle}
 use Rattle.wl_machine.specs.Stretch.Input.{Sample}
 use Rattle.wl_machine.specs.Judged.{drive_by, drive_of, judged, judged_by, stretch_after, stretch_of}
 use Rattle.wl_machine.specs.States.{sample_of}
-use Rattle.wl_machine.proofs.Callers.{stretch_next}
 use Rattle.wl_node.specs.declared.setup.NodeSetup.{NodeSetup}
 use Rattle.wl_node.specs.declared.setup.Passed.{Passed}
-use Rattle.wl_node.specs.History.{History, by_beat, is_sent, passed_frames, ready_head, sampled_next, switched_off, unsent_of}
+use Rattle.wl_node.specs.History.{History, is_sent, ready_head, sampled_next, unsent_of}
 use Rattle.wl_phase.specs.InStep.{seen_before}
 use Rattle.wl_phase.specs.Ways.{ByTheBook}
 use Rattle.wl_buses.specs.OneFrame.Clocked.{BitIs, EdgeLaws, NoEdgeLaws, SamplesBy}
 use Rattle.wl_buses.specs.OneFrame.Nodes.{IsRun, clock_sees}
-use Rattle.wl_buses.proofs.FirstFrame.Callers.{TakesOn, goes_idle, seen_length}
-use Rattle.wl_buses.proofs.OneFrame.Callers.{drive_by as driven_by, happened_by, inputs_by, seen_are}
+use Rattle.wl_buses.proofs.OneFrame.TakenOn as taken
+use Rattle.wl_buses.proofs.FirstFrame.Silent.{seen_length}
+use Rattle.wl_buses.proofs.OneFrame.Nodes.{drive_by as driven_by, happened_by, inputs_by, seen_are, frames_by}
+use Rattle.wl_buses.proofs.OneFrame.TakenOn.{TakesOn, goes_idle}
 
 takes_on : (s : Stretch) (head : Option Content) → s.sort ≡ Idle → TakesOn (judged s (sample_of Recessive head Active))
 takes_on s head idle = subst (λ k. TakesOn (judged_by k s.own (sample_of Recessive head Active))) (sym idle) (goes_idle head)
@@ -59,12 +59,6 @@ module _ (edges : EdgeLaws) (calm : NoEdgeLaws) (setup : NodeSetup) (l : Lengths
   whole : (q : ℕ) (b : Beat) → beat_of l (seen_before sees q) (sees q) ≡ b → beat_of setup.segments (seen_before sees q) (sees q) ≡ b
   whole q b e = ap (λ m. beat_of m (seen_before sees q) (sees q)) segments ∙ e
 
-  -- what a quantum leaves
-  frames_by : (q : ℕ) (b : Beat) → beat_of l (seen_before sees q) (sees q) ≡ b → (node (suc q)).frames ≡ (by_beat setup (node q) (levels q) b).frames
-  frames_by q b e =
-      ap (λ h. h.frames) (run.next q)
-      ∙ ap (λ x. (by_beat setup (node q) (levels q) x).frames) (ap (λ v. beat_of setup.segments v (sees q)) (seen_are setup levels node run q) ∙ whole q b e)
-
   -- a silent bit
   module _ (p : ℕ) (x : Stretch) (idle : x.sort ≡ Idle) (passed : List Passed) (wrong : (Happened → Bool) → ℕ) (r : Rests p x passed wrong) (silent : (q : ℕ) → p + S < q → q ≤ p + B + S → levels q ≡ Recessive) where
     bit : BitIs l sees (p + S) (p + B) (p + B) Recessive
@@ -89,7 +83,7 @@ module _ (edges : EdgeLaws) (calm : NoEdgeLaws) (setup : NodeSetup) (l : Lengths
           record {
             inputs = inputs_by setup levels node run q beats.Start (whole q beats.Start b) ∙ a.inputs;
             happened = happened_by setup levels node run q beats.Start (whole q beats.Start b) ∙ a.happened;
-            frames = frames_by q beats.Start b ∙ a.frames;
+            frames = frames_by setup levels node run q beats.Start (whole q beats.Start b) ∙ a.frames;
             drive = driven_by setup levels node run q beats.Start (whole q beats.Start b) ∙ ap (λ v. drive_of (stretch_of v)) a.inputs ∙ wants_none refl;
           })
       | inr apart ↦
@@ -97,7 +91,7 @@ module _ (edges : EdgeLaws) (calm : NoEdgeLaws) (setup : NodeSetup) (l : Lengths
           record {
             inputs = inputs_by setup levels node run q beats.Plain (whole q beats.Plain b) ∙ a.inputs;
             happened = happened_by setup levels node run q beats.Plain (whole q beats.Plain b) ∙ a.happened;
-            frames = frames_by q beats.Plain b ∙ a.frames;
+            frames = frames_by setup levels node run q beats.Plain (whole q beats.Plain b) ∙ a.frames;
             drive = driven_by setup levels node run q beats.Plain (whole q beats.Plain b) ∙ a.drive;
           })
     ]
@@ -127,73 +121,36 @@ module _ (edges : EdgeLaws) (calm : NoEdgeLaws) (setup : NodeSetup) (l : Lengths
     abbrev head : Option Content
     head = ready_head (drop (count_by is_sent passed) setup.queue) next
 
-    abbrev given : Sampled
-    given = sampled_next setup (node next) (levels next)
-
-    mode_is : given.mode ≡ Active
-    mode_is = ap (λ h. mode_of (counts_of h)) last.happened ∙ ap mode_of r.counts
-
     pub waiting_is : ready_head (unsent_of setup (node next)) (length (node next).seen) ≡ head
     waiting_is =
         ap (λ fs. ready_head (drop (count_by is_sent fs) setup.queue) (length (node next).seen)) last.frames
         ∙ ap (ready_head (drop (count_by is_sent passed) setup.queue)) (ap length (seen_are setup levels node run next) ∙ seen_length sees next)
 
-    head_is : given.head ≡ head
+    head_is : (sampled_next setup (node next) (levels next)).head ≡ head
     head_is = ap (λ v. (sampled_next setup (node next) v).head) silent_next ∙ waiting_is
 
-    given_is : given ≡ sample_of Recessive head Active
-    given_is = λ j. record { level = silent_next j; head = head_is j; mode = mode_is j }
+    beat_next : beat_of setup.segments (seen_before sees next) (sees next) ≡ beats.Sample Recessive
+    beat_next = whole next (beats.Sample Recessive) beat
 
     stretch_at : stretch_of (node next).inputs ≡ x
     stretch_at = ap stretch_of last.inputs ∙ r.stretch
 
-    abbrev judgement : Judgement
-    judgement = judged (stretch_of (node next).inputs) given
+    counts_at : counts_of (node next).happened ≡ no_counts
+    counts_at = ap counts_of last.happened ∙ r.counts
 
-    on : TakesOn judgement
-    on = subst TakesOn (sym (ap (λ v. judged v given) stretch_at ∙ ap (judged x) given_is)) (takes_on x head idle)
-
-    counts_before : counts_of (node next).happened ≡ no_counts
-    counts_before = ap counts_of last.happened ∙ r.counts
-
-    counts_then : counts_of ((node next).happened ++ judgement.happened ∷ []) ≡ no_counts
-    counts_then =
-        fold-append counts_after no_counts (node next).happened (judgement.happened ∷ [])
-        ∙ ap (λ n. counts_after n judgement.happened) counts_before ∙ ap (counts_after no_counts) on.happened
-
-    none_off : switched_off given.mode (mode_of (counts_of ((node next).happened ++ judgement.happened ∷ []))) ≡ []
-    none_off =
-        ap (λ m. switched_off m (mode_of (counts_of ((node next).happened ++ judgement.happened ∷ [])))) mode_is ∙ ap (λ n. switched_off Active (mode_of n)) counts_then
-
-    stretch_then : stretch_of (node (suc next)).inputs ≡ stretch_after x (Sample (sample_of Recessive head Active))
-    stretch_then =
-        ap stretch_of
-        (inputs_by setup levels node run next (beats.Sample Recessive) (whole next (beats.Sample Recessive) beat)
-        ∙ ap (λ v. ((node next).inputs ++ Sample given ∷ []) ++ v) none_off ∙ append-nil ((node next).inputs ++ Sample given ∷ []))
-        ∙ stretch_next (node next).inputs (Sample given) ∙ ap (λ v. stretch_after v (Sample given)) stretch_at
-        ∙ ap (λ y. stretch_after x (Sample y)) given_is
-
-    frames_then : (node (suc next)).frames ≡ passed
-    frames_then =
-        frames_by next (beats.Sample Recessive) beat
-        ∙ ap (λ e. (node next).frames ++ passed_frames (length (node next).seen) e) on.ended ∙ append-nil (node next).frames ∙ last.frames
-
-    found_then : (test : Happened → Bool) → test Nothing ≡ false → count_by test (node (suc next)).happened ≡ wrong test
-    found_then test fine =
-        ap (count_by test) (happened_by setup levels node run next (beats.Sample Recessive) (whole next (beats.Sample Recessive) beat))
-        ∙ sum_by-append (λ h. cond (test h) 1 0) (node next).happened (judgement.happened ∷ [])
-        ∙ ap (λ k. k + (0 + cond (test judgement.happened) 1 0)) (ap (count_by test) last.happened ∙ r.found test fine)
-        ∙ ap (λ h. wrong test + (0 + cond (test h) 1 0)) on.happened ∙ ap (λ b. wrong test + (0 + cond b 1 0)) fine ∙ omega arith
+    abbrev takes : TakesOn (judged x (sample_of Recessive head Active))
+    takes = takes_on x head idle
 
     pub rests_next : Rests (p + B) (stretch_after x (Sample (sample_of Recessive head Active))) passed wrong
     rests_next = record {
       sampled = beat;
       clock = edges.steady l sees p Recessive book r.sampled (λ q more less. calm.recessive l (seen_before sees q) (sees q) book (silent q more less)) silent_next;
-      stretch = stretch_then;
-      counts = ap counts_of (happened_by setup levels node run next (beats.Sample Recessive) (whole next (beats.Sample Recessive) beat)) ∙ counts_then;
-      frames = frames_then;
-      found = found_then;
-      drive = driven_by setup levels node run next (beats.Sample Recessive) (whole next (beats.Sample Recessive) beat) ∙ last.drive;
+      stretch = taken.stretch_there setup levels node run next beat_next silent_next x stretch_at counts_at head head_is takes;
+      counts = taken.counts_there setup levels node run next beat_next silent_next x stretch_at counts_at head head_is takes;
+      frames = taken.frames_there setup levels node run next beat_next silent_next x stretch_at counts_at head head_is takes ∙ last.frames;
+      found = λ test fine. taken.found_there setup levels node run next beat_next silent_next x stretch_at counts_at head head_is takes test fine
+          ∙ ap (count_by test) last.happened ∙ r.found test fine;
+      drive = taken.drive_there setup levels node run next beat_next silent_next x stretch_at counts_at head head_is takes ∙ last.drive;
     }
 
     pub drive_next : (q : ℕ) → p + S < q → q ≤ suc next → (node q).drive ≡ Recessive

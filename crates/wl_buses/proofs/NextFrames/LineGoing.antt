@@ -17,10 +17,12 @@ use Rattle.wl_buses.specs.OneFrame.Lines.{BeginsAfter, IsLineOf, node_after}
 use Rattle.wl_buses.specs.OneFrame.Machines.{HasWon}
 use Rattle.wl_buses.specs.OneFrame.Nodes.{IsRun}
 use Rattle.wl_buses.specs.OneFrame.Stations.{AreStations, HaveRoom, Stations}
-use Rattle.wl_buses.proofs.OneFrame.Callers.{finds_driven, run_of, tick_next}
+use Rattle.wl_buses.proofs.OneFrame.Lines.{finds_driven, run_of}
+use Rattle.wl_buses.proofs.OneFrame.Measures.{tick_next}
 use Rattle.wl_buses.specs.FrameEnd.Again.{RestsAgain}
 use Rattle.wl_buses.specs.FrameEnd.Asked.{EndAsAsked, EndsBefore}
-use Rattle.wl_buses.proofs.FrameEnd.Callers.{DriveExpected, FindLevels, MachineLaws}
+use Rattle.wl_buses.proofs.FrameEnd.LineEnds.{DriveExpected, FindLevels}
+use Rattle.wl_buses.proofs.FrameEnd.Below.{MachineLaws}
 use Rattle.wl_buses.specs.NextFrames.Frames.{FollowOneAnother, Frame, frame_drove, frames_drove, third_sample}
 use Rattle.wl_buses.specs.NextFrames.Lines.{BeginFrames, IsBeforeLast, LineGoes, finds_frames}
 use Rattle.wl_buses.specs.NextFrames.Runs.{GoesThroughOne, HandsBetween, quiet_by}

@@ -8,9 +8,9 @@ use Rattle.wl_node.specs.History.{History}
 use Rattle.wl_plan.specs.Line.{Line}
 use Rattle.wl_buses.specs.OneFrame.Lines.{BeginsAfter, IsLineOf, RestsBefore, finds_expected, node_after}
 use Rattle.wl_buses.specs.OneFrame.Stations.{AreStations, HaveRoom, Stations}
-use Rattle.wl_buses.proofs.OneFrame.Callers.{finds_driven, finds_what_comes}
+use Rattle.wl_buses.proofs.OneFrame.Lines.{finds_driven, finds_what_comes}
 use Rattle.wl_buses.specs.FrameEnd.Again.{RestsAgain}
-use Rattle.wl_buses.proofs.FrameEnd.Callers.{MachineLaws}
+use Rattle.wl_buses.proofs.FrameEnd.Below.{MachineLaws}
 use Rattle.wl_buses.specs.NextFrames.Frames.{FollowOneAnother, Frame, frames_drove}
 use Rattle.wl_buses.specs.NextFrames.Lines.{finds_frames}
 use Rattle.wl_buses.proofs.NextFrames.Histories.{rests_as}

@@ -15,14 +15,14 @@ use Rattle.wl_machine.specs.Judged.{drive_by, drive_of, stretch_after, stretch_o
 use Rattle.wl_machine.specs.States.{sample_of, stretch_by}
 use Rattle.wl_machine.proofs.Callers.{stretch_next}
 use Rattle.wl_wire.specs.Wire.{Handed, sampled}
+use Rattle.wl_wire.proofs.Callers.{first_drive}
 use Rattle.wl_buses.specs.OneFrame.Stations.{AreOnALine, Stations}
 use Rattle.wl_buses.specs.OneFrame.Expected.{IsOutset, Outset}
 use Rattle.wl_buses.specs.OneFrame.Machines.{MayBegin, MayBeginTogether, no_frame_sample}
 use Rattle.wl_buses.specs.OneFrame.Waits.{HasWaited}
-use Rattle.wl_buses.proofs.OneFrame.Callers.{idle_after, none_is, none_of, one_more, takes_head}
+use Rattle.wl_buses.proofs.OneFrame.Waited.{idle_after, none_is, none_of, one_more, takes_head}
 use Rattle.wl_buses.specs.NextFrames.NextStarts.{AreFreeNext, AreResting, Resting, begins_next, handed_next, last_next, outset_next, past_next, waiting_past}
-use Rattle.wl_buses.proofs.FirstFrame.Callers as reaching
-use Rattle.wl_buses.proofs.FirstFrame.Callers.{drives_first}
+use Rattle.wl_buses.proofs.FirstFrame.Reaching as reaching
 use Rattle.wl_buses.proofs.NextFrames.Lasting.{silence_of, silent_of}
 
 -- an element of a list
@@ -156,7 +156,7 @@ module _ (wait : MayWait) (w : Resting) (before : ℕ → List Input) (line : Ar
   drives_begun k e =
       let lt = are.inside k (reaching.begins_has (silence_of w) line (silent_of w line are) k e) in
       let c = begun k e in
-      ap drive_of c.2 ∙ drives_first c.0 (are.frames.content k c.0 lt (w.sent k, c.1))
+      ap drive_of c.2 ∙ first_drive c.0 (are.frames.content k c.0 lt (w.sent k, c.1))
 
   drives_none : (k : ℕ) → begins_next w k ≡ false → drive_of (stretch_of (o.past k)) ≡ Recessive
   drives_none k e = elim (cases_lt k s.count) [

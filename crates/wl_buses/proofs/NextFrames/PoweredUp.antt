@@ -10,8 +10,9 @@ use Rattle.wl_buses.specs.OneFrame.Lines.{BeginsAfter, IsLineOf, RestsBefore, fi
 use Rattle.wl_buses.specs.OneFrame.Machines.{bus_levels}
 use Rattle.wl_buses.specs.OneFrame.Stations.{AreOnALine, AreStations, HaveRoom, Stations}
 use Rattle.wl_buses.specs.FirstFrame.FirstStarts.{AreIdle, HandTheFirst, Waiting, first_outset, rest_first}
-use Rattle.wl_buses.proofs.FirstFrame.Callers.{IsUntouched}
-use Rattle.wl_buses.proofs.FrameEnd.Callers.{MachineLaws, levels_agree}
+use Rattle.wl_buses.proofs.FirstFrame.Silent.{IsUntouched}
+use Rattle.wl_buses.proofs.FrameEnd.Below.{MachineLaws}
+use Rattle.wl_buses.proofs.FrameEnd.LineEnds.{levels_agree}
 use Rattle.wl_buses.specs.NextFrames.Frames.{FollowOneAnother, Frame}
 use Rattle.wl_buses.specs.NextFrames.Lines.{BeginFrames, finds_frames}
 use Rattle.wl_buses.specs.NextFrames.Runs.{HandsBetween}

@@ -13,8 +13,9 @@ use Rattle.wl_level.specs.declared.Level.{Level}
 use Rattle.wl_node.specs.declared.setup.NodeSetup.{NodeSetup}
 use Rattle.wl_buses.specs.OneFrame.Stations.{Stations}
 use Rattle.wl_buses.specs.OneFrame.Nodes.{IsRun, clock_sees}
-use Rattle.wl_buses.proofs.OneFrame.Callers.{seen_are}
-use Rattle.wl_buses.proofs.FirstFrame.Callers.{seen_length, unready_then}
+use Rattle.wl_buses.proofs.OneFrame.Nodes.{seen_are}
+use Rattle.wl_buses.proofs.FirstFrame.Silent.{seen_length}
+use Rattle.wl_buses.proofs.FirstFrame.Plans.{unready_then}
 use Rattle.wl_buses.specs.FrameEnd.Rests.{waiting_frame}
 use Rattle.wl_buses.specs.NextFrames.Frames.{FollowOneAnother, Frame, resting_of, third_sample}
 use Rattle.wl_buses.specs.NextFrames.Runs.{HandsBetween}

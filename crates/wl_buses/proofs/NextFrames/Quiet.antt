@@ -24,7 +24,8 @@ use Rattle.wl_buses.specs.OneFrame.Clocked.{EdgeLaws, NoEdgeLaws}
 use Rattle.wl_buses.specs.OneFrame.Lines.{node_after}
 use Rattle.wl_buses.specs.OneFrame.Machines.{no_frame_sample}
 use Rattle.wl_buses.specs.OneFrame.Nodes.{IsRun, clock_sees}
-use Rattle.wl_buses.proofs.OneFrame.Callers.{run_of, seen_before_same}
+use Rattle.wl_buses.proofs.OneFrame.Lines.{run_of}
+use Rattle.wl_buses.proofs.OneFrame.Nodes.{seen_before_same}
 use Rattle.wl_buses.specs.FirstFrame.Faults.{fault_count, is_fault}
 use Rattle.wl_buses.specs.FrameEnd.Again.{RestsAgain}
 use Rattle.wl_buses.specs.NextFrames.Silence.{StillRests}

@@ -26,9 +26,9 @@ use Rattle.wl_buses.specs.OneFrame.Clocked.{EdgeLaws, NoEdgeLaws}
 use Rattle.wl_buses.specs.OneFrame.Expected.{Outset}
 use Rattle.wl_buses.specs.OneFrame.Machines.{no_frame_sample}
 use Rattle.wl_buses.specs.OneFrame.Nodes.{IsRun}
-use Rattle.wl_buses.proofs.OneFrame.Callers.{idle_after, none_is, none_of, one_more, takes_head}
+use Rattle.wl_buses.proofs.OneFrame.Waited.{idle_after, none_is, none_of, one_more, takes_head}
 use Rattle.wl_buses.specs.FirstFrame.FirstStarts.{hard_from}
-use Rattle.wl_buses.proofs.FirstFrame.Callers as reaching
+use Rattle.wl_buses.proofs.FirstFrame.Reaching as reaching
 use Rattle.wl_buses.specs.FrameEnd.Again.{RestsAgain}
 use Rattle.wl_buses.specs.NextFrames.NextStarts.{AreFreeNext, AreResting, Resting, begins_next, due_next, edge_next, has_next, last_next, outset_next, rest_next, rested, start_next, waiting_past}
 use Rattle.wl_buses.specs.NextFrames.NextNodes.{HandsNext, head_after}

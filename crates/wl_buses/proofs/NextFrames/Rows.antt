@@ -2,41 +2,15 @@
 use Rattle.std.proofs.Common.{◌≡◌, ℕ, zero, suc, true, false, [], ◌∷◌, None, Some, refl}
 use Rattle.wl_level.specs.declared.Level.TheVariants.{Recessive}
 use Rattle.wl_confine.specs.declared.Mode.TheVariants.{Active}
-use Rattle.wl_segments.specs.declared.SyncRules.TheVariants.{Book}
-use Rattle.wl_segments.specs.Lengths.{Lengths}
 use Rattle.wl_clock.specs.Timing.{tick_of}
-use Rattle.wl_frame.specs.Grammar.{Content}
 use Rattle.wl_machine.specs.Stretch.Input.{Sample}
 use Rattle.wl_machine.specs.States.{sample_of}
-use Rattle.wl_phase.specs.Clocks.{Steady}
-use Rattle.wl_buses.specs.OneFrame.Stations.{Stations}
 use Rattle.wl_buses.specs.OneFrame.Machines.{no_frame_sample}
 use Rattle.wl_buses.specs.NextFrames.NextStarts.{Resting, begins_next, decision_next, due_next, edge_next, has_next, last_next, rest_next, rested, start_next, waiting_past}
 use Rattle.wl_buses.specs.NextFrames.NextNodes.{head_after}
 use Rattle.wl_buses.specs.BothProofs.Queues.{queued_contents}
 use Rattle.wl_buses.specs.NextFrames.Queues.{decides_after}
-
--- a bit of 1 + 3 + 3 + 3 quanta with its sample at place 7
-abbrev l : Lengths
-l = record { prop = 3; ps1 = 3; ps2 = 3; sjw = 2; sync = Book }
-
--- station 0 has quanta of 10 ticks from tick 0 on, each other one of 10 1/2 ticks from tick 7 on
-abbrev clock_of : ℕ → Steady
-clock_of zero = record { offset = 0; num = 10; den = 1 }
-clock_of (suc i) = record { offset = 7; num = 21; den = 2 }
-
--- 4 ticks to itself, 9 to another
-abbrev delay_of : ℕ → ℕ → ℕ
-delay_of zero zero = 4
-delay_of zero (suc k) = 9
-delay_of (suc i) zero = 9
-delay_of (suc i) (suc k) = 4
-
-abbrev s : Stations
-s = record { count = 2; clocks = clock_of; lengths = λ i. l; delay = delay_of; may_send = λ i. true; way = λ k i. 36 }
-
-abbrev c : Content
-c = record { extended = false; id = 1; remote = false; dlc = 0; bytes = [] }
+use Rattle.wl_buses.proofs.BothProofs.Rows.{c, l, s}
 
 -- Place 0 of the third bit of the intermission is at quantum 100 of station 0 and at quantum 95 of station 1. Station 1 decides with the sample of the bit after it.
 abbrev place_of : ℕ → ℕ

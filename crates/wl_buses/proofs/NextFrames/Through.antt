@@ -14,7 +14,9 @@ use Rattle.wl_buses.specs.OneFrame.Machines.{HasWon, bus_levels}
 use Rattle.wl_buses.specs.OneFrame.Nodes.{GoesToNext, IsInBit, IsRun}
 use Rattle.wl_buses.specs.OneFrame.Stations.{AreStations, HaveRoom, Stations}
 use Rattle.wl_buses.specs.FrameEnd.Rests.{NodeEnds}
-use Rattle.wl_buses.proofs.FrameEnd.Callers.{GoesOn, MachineLaws, found_was, samples_up}
+use Rattle.wl_buses.proofs.FrameEnd.LineEnds.{GoesOn}
+use Rattle.wl_buses.proofs.FrameEnd.Below.{MachineLaws}
+use Rattle.wl_buses.proofs.FrameEnd.Hearing.{found_was, samples_up}
 use Rattle.wl_buses.specs.NextFrames.NextNodes.{BeginsSince, GoesThrough}
 
 module _ (m : MachineLaws) (goes_on : GoesOn) (s : Stations) (are : AreStations s) (room : HaveRoom s) (o : Outset) (is : IsOutset s o) (end : ℕ)

@@ -13,11 +13,14 @@ use Rattle.wl_buses.specs.OneFrame.Lines.{BeginsAfter}
 use Rattle.wl_buses.specs.OneFrame.Machines.{HasWon, bus_levels}
 use Rattle.wl_buses.specs.OneFrame.Starts.{Drives, reaches_at}
 use Rattle.wl_buses.specs.OneFrame.Stations.{AreStations, HaveRoom, Stations}
-use Rattle.wl_buses.proofs.OneFrame.Callers.{from_sample, tick_next}
+use Rattle.wl_buses.proofs.OneFrame.Expecting.{from_sample}
+use Rattle.wl_buses.proofs.OneFrame.Measures.{tick_next}
 use Rattle.wl_buses.specs.FirstFrame.FirstStarts.{hard_from}
-use Rattle.wl_buses.proofs.FirstFrame.Callers as reaching
+use Rattle.wl_buses.proofs.FirstFrame.Reaching as reaching
 use Rattle.wl_buses.specs.FrameEnd.Asked.{CanBeAnswered, EndsBefore}
-use Rattle.wl_buses.proofs.FrameEnd.Callers.{MachineLaws, found_was, over_is, samples_up}
+use Rattle.wl_buses.proofs.FrameEnd.Below.{MachineLaws}
+use Rattle.wl_buses.proofs.FrameEnd.Hearing.{found_was, samples_up}
+use Rattle.wl_buses.proofs.FrameEnd.Slot.{over_is}
 use Rattle.wl_buses.specs.NextFrames.Frames.{FollowOneAnother, IsBegunAfter, Frame, IsBegun, frame_drove, frames_drove, resting_of, third_sample}
 use Rattle.wl_buses.specs.NextFrames.NextStarts.{AreResting, Resting, due_next, edge_next, has_next, is_reached_next, outset_next, rest_next, start_next}
 use Rattle.wl_buses.proofs.NextFrames.Beginning.{rest_early}

@@ -16,9 +16,9 @@ use Rattle.wl_buses.specs.OneFrame.Machines.{AllRight, AreMachines, HasWon, Some
 use Rattle.wl_buses.specs.OneFrame.OneBit.{IsRight}
 use Rattle.wl_buses.specs.OneFrame.Starts.{Start}
 use Rattle.wl_buses.specs.OneFrame.Stations.{AreOnALine, AreStations, HaveRoom, Stations}
-use Rattle.wl_buses.proofs.OneFrame.Callers.{drives_are}
+use Rattle.wl_buses.proofs.OneFrame.Expecting.{drives_are}
 use Rattle.wl_buses.specs.FrameEnd.Asked.{EndsBefore}
-use Rattle.wl_buses.proofs.FrameEnd.Callers.{MachineLaws}
+use Rattle.wl_buses.proofs.FrameEnd.Below.{MachineLaws}
 use Rattle.wl_buses.specs.NextFrames.Frames.{IsBegunAfter, Frame, HasRoomForAll, IsBegun}
 use Rattle.wl_buses.specs.NextFrames.NextStarts.{AreFreeNext, AreResting, HaveMore, Resting, outset_next, resting_after}
 

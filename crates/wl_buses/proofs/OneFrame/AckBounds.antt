@@ -11,7 +11,7 @@ use Rattle.wl_bound.specs.Terms.{drift, jump, look, sends_third}
 use Rattle.wl_buses.specs.OneFrame.Acknowledged.{CatchUp, answering, any_way, chased_way, gathers, jump_gap}
 use Rattle.wl_buses.proofs.OneFrame.AckWays.{gathers_is}
 use Rattle.wl_buses.specs.OneFrame.Answers.{HasRoomToAnswer, gathered}
-use Rattle.wl_buses.specs.OneFrame.Bounds.{IsBusOf}
+use Rattle.wl_buses.specs.OneFrame.Bounds.{HasStations}
 use Rattle.wl_buses.specs.OneFrame.Stations.{Stations, AreOnALine, HaveRoom, shared_tick, shared_quantum, bit_drift}
 use Rattle.wl_buses.proofs.OneFrame.Bounded.{drift_is, fits, follows_by, inside, jump_is, look_high, loop_by, over_by, own_is, own_none, quanta_back, quanta_high, quanta_low, quanta_there, way_is}
 
@@ -28,7 +28,7 @@ less u m X Y XX YY h = elim (cases_lt Y X) [
   | inr none ↦ (let e : X - Y ≡ 0 = omega arith in let f : u * (X - Y) ≡ u * 0 = ap (λ n. u * n) e in omega arith)
 ]
 
-module _ (bus : Bus) (s : Stations) (line : AreOnALine s) (of : IsBusOf bus s) (winner : ℕ) (wins : winner < s.count) (may_win : s.may_send winner ≡ true)
+module _ (bus : Bus) (s : Stations) (line : AreOnALine s) (of : HasStations bus s) (winner : ℕ) (wins : winner < s.count) (may_win : s.may_send winner ≡ true)
     (chase : ℕ → ℕ) (has : HasRoomToAnswer bus chase) where
   abbrev late : ℕ → ℕ → ℕ
   late = chased_way s winner chase

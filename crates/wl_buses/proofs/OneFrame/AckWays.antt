@@ -12,10 +12,10 @@ use Rattle.wl_buses.specs.OneFrame.Starts.{Start, Drives, AreAllowed, AreSenders
 use Rattle.wl_buses.specs.OneFrame.Course.{IsCourse, begins_with_edge, bus_bit, since_edge, still_sends}
 use Rattle.wl_buses.specs.OneFrame.Acknowledged.{AreAllClose, CatchUp, answering, any_way, chased_way, gathers, jump_gap}
 use Rattle.wl_buses.proofs.OneFrame.Measures.{exact_before, instant_high, instant_low, instant_more, same_tick, tick_next}
-use Rattle.wl_buses.proofs.OneFrame.Nearing.{ahead_by, due_by, few_of, from_by, stays_below}
+use Rattle.wl_buses.proofs.OneFrame.Nearing.{ahead_by, due_by, from_by, stays_below}
 use Rattle.wl_buses.proofs.OneFrame.Passing as passing
-use Rattle.wl_buses.proofs.OneFrame.Passing.{same_places}
 use Rattle.wl_buses.proofs.OneFrame.Starting.{alone, followed, frame_close}
+use Rattle.wl_phase.proofs.Callers.{few_of}
 
 -- such ways are as long as an edge takes
 module _ (s : Stations) (line : AreOnALine s) (late : ℕ → ℕ → ℕ) (long : (k i : ℕ) → any_way s k i ≤ late k i) where

@@ -1,11 +1,11 @@
 -- Where a bit clock begins the bit that it samples next.
-use Rattle.std.proofs.Common.{◌≡◌, ◌≢◌, ◌∙◌, ◌⊎◌, ap, sym, subst, inl, inr, refl, ℕ, zero, suc, ◌+◌, ◌-◌, ◌<◌, ◌≤◌, ◌&&◌, ◌||◌, not, max, min, Bool, true, false, cond, [], ◌∷◌, ◌++◌, Some, None, Option, arith}
-use Rattle.std.specs.Prelude.{ℤ, ◌==◌, nat_le, nat_lt}
-use Rattle.std.proofs.lemmas.Bool.{and_parts, and_right, cases_Bool, cases_eq, cases_lt, eq-eqb, le-leb, le-ltb, lt-leb, lt-ltb, ne_eqb, not-true}
+use Rattle.std.proofs.Common.{◌≡◌, ◌∙◌, ◌⊎◌, ap, sym, subst, inl, inr, refl, ℕ, zero, suc, ◌+◌, ◌-◌, ◌<◌, ◌≤◌, ◌&&◌, ◌||◌, max, Bool, true, false, cond, Some, None, Option, arith}
+use Rattle.std.specs.Prelude.{ℤ, ◌==◌}
+use Rattle.std.proofs.lemmas.Bool.{and_parts, and_right, cases_Bool, cases_eq, cases_lt, eq-eqb, le-ltb, lt-leb, lt-ltb, ne_eqb, not-true}
 use Rattle.wl_level.specs.declared.Level.{Level}
 use Rattle.wl_segments.specs.declared.SyncRules.{SyncRules}
 use Rattle.wl_segments.specs.declared.SyncRules.TheVariants.{After, Book}
-use Rattle.wl_segments.specs.Lengths.{Lengths, bit_quanta, found_at, found_by, sample_at}
+use Rattle.wl_segments.specs.Lengths.{Lengths, bit_quanta, found_at, sample_at}
 use Rattle.wl_sync.specs.declared.Sync.{Sync}
 use Rattle.wl_sync.specs.declared.Sync.TheVariants.{Error, Hard}
 use Rattle.wl_sync.specs.declared.Beat.{Beat}
@@ -14,23 +14,17 @@ use Rattle.wl_sync.specs.Edges.{Seen, edge_restarts, is_hard_edge, phase_error}
 use Rattle.wl_sync.specs.Bits.{beat_of, sync_of}
 use Rattle.wl_sync.specs.Running.{Running, clock_after}
 use Rattle.wl_sync.specs.Skips.{moved_place, quanta_before_sample}
-use Rattle.wl_sync.specs.Steps.{beat_between, end_of, running_after, running_answer, running_edge, running_first, running_moved, running_on, running_over, running_passed, running_placed, running_restart, running_sync, samples}
+use Rattle.wl_sync.specs.Steps.{beat_between, end_of, running_after, running_answer, running_first, running_moved, running_on, running_over, running_passed, running_placed, running_restart, running_sync, samples}
 use Rattle.wl_phase.specs.Ways.{ByTheBook, WayLaws, moved_to}
 use Rattle.wl_phase.specs.InStep.{SyncsHard, seen_before}
-use Rattle.wl_phase.proofs.Callers.{Goes, IsValid, answer_not, beat_is, edge_is, late, late_is, late_over, moved_is, none_is, sync_is, valid_after, zero_is}
+use Rattle.wl_phase.proofs.Callers.{Goes, IsValid, answer_not, beat_is, edge_is, late, late_is, late_over, moved_is, none_is, sync_is, zero_is, found_one, way_before, way_past, valid_at}
 use Rattle.wl_buses.specs.OneFrame.Clocked.{BitStartLaws, NoneSyncs, SamplesBy, StartsOnce}
-use Rattle.wl_buses.proofs.OneFrame.Clocked.{after_sample, hard_way, later, none_before, none_of, sample_there, unsampled_at, way, way_is}
+use Rattle.wl_buses.proofs.OneFrame.Clocked.{after_sample, hard_way, later, none_before, none_of, sample_there, unsampled_at, way, way_is, way_alone}
 
 -- One quantum of a bit clock. After its sample a bit goes on, or the next one begins; before it none does but by an edge that restarts it.
 over_true : (s : SyncRules) (r moved : Running) (level : Level) → running_over s r moved true level ≡ moved
 over_true After r moved level = refl
 over_true Book r moved level = refl
-
-found_one : (l : Lengths) → ByTheBook l → found_at l ≡ 1
-found_one l h =
-    let g = h.lengths.prop_low in
-    let e : min 1 (l.prop + l.ps1) ≡ 1 = omega arith in
-    ap (λ s. min (found_by s) (l.prop + l.ps1)) h.book ∙ e
 
 module _ (r : Running) (x : Seen) (h : IsValid r) where
   abbrev pub new : Running
@@ -41,12 +35,6 @@ module _ (r : Running) (x : Seen) (h : IsValid r) where
 
   abbrev pub IsPast : Running → Type 0
   IsPast q = moved_place q < q.quanta
-
-  way_early : (q : Running) → q.quanta ≤ moved_place q → quanta_before_sample q ≡ moved_place q - q.quanta
-  way_early q b = rw (le-leb q.quanta (moved_place q) b) refl
-
-  way_over : (q : Running) → moved_place q < q.quanta → quanta_before_sample q ≡ end_of q - q.quanta + sample_at q.lengths
-  way_over q b = rw (lt-leb q.quanta (moved_place q) b) refl
 
   -- what one quantum leaves, after the sample
   pub record Goes' (q : Running) (b : Beat) : Type 0 where
@@ -62,7 +50,7 @@ module _ (r : Running) (x : Seen) (h : IsValid r) where
   Either q b = Goes' q b ⊎ Starts q b
 
   first_starts : Starts (running_first r x.level) (beat_between false r (running_first r x.level) x.level)
-  first_starts = record { start = refl; short = (let e = way_early (running_first r x.level) (omega arith) in omega arith) }
+  first_starts = record { start = refl; short = (let e = way_before (running_first r x.level) (omega arith) in omega arith) }
 
   on_goes : IsPast r → Goes' (running_on r x.level) (beat_between false r (running_on r x.level) x.level)
   on_goes past =
@@ -70,7 +58,7 @@ module _ (r : Running) (x : Seen) (h : IsValid r) where
       record {
         past = omega arith;
         plain = rw (ne_eqb (r.quanta + 1) 1 (λ f. omega arith), ne_eqb r.quanta (moved_place r) (λ f. omega arith)) refl;
-        long = (let e = way_over (running_on r x.level) (omega arith) in omega arith);
+        long = (let e = way_past (running_on r x.level) (omega arith) in omega arith);
       }
 
   unsynced_by : IsPast r → Either (cond (r.quanta == end_of r) (running_first r x.level) (running_on r x.level))
@@ -95,7 +83,7 @@ module _ (r : Running) (x : Seen) (h : IsValid r) where
       let a = h.lengths.lengths.prop_low in
       let b = h.lengths.lengths.ps1_low in
       subst (λ q. Starts q (beat_between (running_restart r x) r q x.level)) (sym (restart_after e))
-      (subst (λ b. Starts restarted (beat_between b r restarted x.level)) (sym e) (record { start = refl; short = (let w = way_early restarted (omega arith) in omega arith) }))
+      (subst (λ b. Starts restarted (beat_between b r restarted x.level)) (sym e) (record { start = refl; short = (let w = way_before restarted (omega arith) in omega arith) }))
 
   -- an edge comes early, and doesn't
   abbrev early : Running
@@ -111,7 +99,7 @@ module _ (r : Running) (x : Seen) (h : IsValid r) where
       record {
         past = omega arith;
         plain = rw (ne_eqb (r.quanta + 1) 1 (λ f. omega arith), ne_eqb r.quanta (sample_at r.lengths + 0) (λ f. omega arith)) refl;
-        long = (let e = way_over early (omega arith) in omega arith);
+        long = (let e = way_past early (omega arith) in omega arith);
       }
 
   early_by : sample_at r.lengths < r.quanta → Either (running_over Book r early false x.level) (beat_between false r (running_over Book r early false x.level) x.level)
@@ -146,7 +134,7 @@ module _ (r : Running) (x : Seen) (h : IsValid r) where
   -- before the sample
   pub not_past : quanta_before_sample r < sample_at r.lengths → r.quanta ≤ moved_place r
   not_past short = elim (cases_lt (moved_place r) r.quanta) [
-    | inl past ↦ (let e = way_over r past in absurd (omega arith))
+    | inl past ↦ (let e = way_past r past in absurd (omega arith))
     | inr before ↦ before
   ]
 
@@ -218,8 +206,8 @@ module _ (goes : Goes) (ways : WayLaws) (l : Lengths) (book : ByTheBook l) (seen
   abbrev way_at : ℕ → ℕ
   way_at i = way ways l book seen i
 
-  valid : (i : ℕ) → IsValid (clock i)
-  valid i = valid_after goes l book (seen_before seen i)
+  abbrev valid : (i : ℕ) → IsValid (clock i)
+  valid = valid_at goes l book seen
 
   next : (i : ℕ) → clock (suc i) ≡ running_after (clock i) (seen i)
   next i = goes.clock l (seen_before seen i) (seen i)
@@ -340,20 +328,13 @@ module _ (goes : Goes) (ways : WayLaws) (l : Lengths) (book : ByTheBook l) (seen
   alone : (place : ℕ) (level : Level) → SamplesBy l seen (place + sample_at l) level → NoneSyncs l seen (place + sample_at l) (place + bit_quanta l + sample_at l)
       → StartsOnce l seen (place + sample_at l) (place + bit_quanta l + sample_at l) (place + bit_quanta l)
   alone place level sampled none =
+      let way_then = λ (i : ℕ) (a : place + sample_at l < i) (b : i ≤ place + bit_quanta l + sample_at l).
+      way_alone ways l book seen place level sampled i a b (λ j c d. none j c (omega arith)) in
       once (place + sample_at l) (place + bit_quanta l + sample_at l) (place + bit_quanta l) level sampled (let low = book.lengths.ps2_low in omega arith) (omega arith)
       (λ i a b. (let w = way_then i a (omega arith) in omega arith))
       (λ i a b. (let w = way_then i (omega arith) b in omega arith))
       (λ i a b. inl (none i (omega arith) (omega arith)))
       (λ i a b. unsampled_at ways l book seen i (let w = way_then i a (omega arith) in omega arith))
-    where
-      way_then : (i : ℕ) → place + sample_at l < i → i ≤ place + bit_quanta l + sample_at l → way_at i + i ≡ place + bit_quanta l + sample_at l
-      way_then i a b =
-          (let begin = after_sample ways l book seen (place + sample_at l) level sampled in
-          let long = book.lengths.low in
-          let e : suc (place + sample_at l) + (i - suc (place + sample_at l)) ≡ i = omega arith in
-          let there = later ways l book seen (suc (place + sample_at l)) (i - suc (place + sample_at l)) (λ j c d. none j (omega arith) (omega arith)) (omega arith) in
-          let same : way_at i ≡ way_at (suc (place + sample_at l) + (i - suc (place + sample_at l))) = ap way_at (sym e) in
-          omega arith)
 
   -- the edge of a hard synchronisation
   hard : (place : ℕ) → SyncsHard l seen (suc place) → NoneSyncs l seen (suc place) (place + sample_at l) → StartsOnce l seen place (place + sample_at l) (suc place)

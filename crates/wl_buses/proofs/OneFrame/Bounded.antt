@@ -1,5 +1,5 @@
 -- From the condition for margins, in units, to the inequalities of stations, in the parts of a tick that two clocks share.
-use Rattle.std.proofs.Common.{◌≡◌, ◌≢◌, ◌∙◌, ◌⊎◌, inl, inr, refl, sym, ap, ℕ, ◌+◌, ◌-◌, ◌*◌, ◌<◌, ◌≤◌, max, min, Bool, true, false, cond, not, ◌&&◌, ◌||◌, arith}
+use Rattle.std.proofs.Common.{◌≡◌, ◌≢◌, ◌∙◌, ◌⊎◌, inl, inr, refl, sym, ap, ℕ, ◌+◌, ◌-◌, ◌*◌, ◌<◌, ◌≤◌, max, min, Bool, true, false, cond, not, ◌&&◌, arith}
 use Rattle.std.specs.Prelude.{◌==◌, nat_lt}
 use Rattle.std.proofs.lemmas.Bool.{cases_eq, cases_lt, cases_Bool, and_from, and_left, and_parts, and_right, eq-eqb, ne_eqb}
 use Rattle.std.proofs.Math.Nat.{mul-le-mul_left, mul-le-mul_right, le_of_mul-le-mul_left}
@@ -10,9 +10,9 @@ use Rattle.wl_bound.specs.Conditions.{IsSound, left_of, right_of}
 use Rattle.wl_bound.proofs.Greatest.{bounded, bounds_each}
 use Rattle.wl_topology.specs.Driven.{any_below}
 use Rattle.wl_buses.specs.OneFrame.Acknowledged.{any_way}
-use Rattle.wl_buses.specs.OneFrame.Bounds.{IsBusOf, following_way, other_sends}
+use Rattle.wl_buses.specs.OneFrame.Bounds.{HasStations, following_way, other_sends}
 use Rattle.wl_buses.specs.OneFrame.Stations.{Stations, AreOnALine, HaveRoom, HaveWays, IsPair, shared_tick, shared_quantum, bit_drift}
-use Rattle.wl_buses.proofs.OneFrame.Sampled.{none_below}
+use Rattle.wl_buses.proofs.BothProofs.Small.{none_below, or_not}
 
 -- So many ticks, a time and ten times a difference fit, in other parts: a tick has u units, or m parts.
 pub fits : (u m w x y X Y c C g G : ℕ) → 0 < u → u * x ≤ m * X → m * Y ≤ u * y → m * c ≤ u * C → u * g ≤ m * G → w * u + G + 10 * (X - Y) ≤ c → w * m + g + 10 * (x - y) ≤ C
@@ -27,11 +27,7 @@ fits u m w x y X Y c C g G some high low room time h =
     let two = le_of_mul-le-mul_left all some in
     omega arith
 
-or_not : (x y : Bool) → y ≡ false → (x || not y) ≡ true
-or_not true y e = refl
-or_not false y e = ap not e
-
-module _ (bus : Bus) (s : Stations) (line : AreOnALine s) (of : IsBusOf bus s) where
+module _ (bus : Bus) (s : Stations) (line : AreOnALine s) (of : HasStations bus s) where
   pub inside : (i : ℕ) → i < s.count → i < bus.nodes
   inside i h = let e = of.nodes in omega arith
 
@@ -192,7 +188,7 @@ module _ (bus : Bus) (s : Stations) (line : AreOnALine s) (of : IsBusOf bus s) w
     straight = straight;
   }
 
-module _ (bus : Bus) (s : Stations) (line : AreOnALine s) (of : IsBusOf bus s) (sound : IsSound bus) where
+module _ (bus : Bus) (s : Stations) (line : AreOnALine s) (of : HasStations bus s) (sound : IsSound bus) where
   drifts : (i k : ℕ) → i < s.count → k < s.count → i ≢ k → (bus.listens i && bus.listens k) ≡ false → 10 * drift bus i k ≤ min (jump bus i) (jump bus k)
   unfolding left_of right_of
   drifts i k ni nk apart some =
@@ -248,7 +244,7 @@ module _ (bus : Bus) (s : Stations) (line : AreOnALine s) (of : IsBusOf bus s) (
       → 10 * drift bus i k + (bus.longest k + bus.tick - (bus.delay k i + bus.delay i k)) ≤ jump bus i
   left_for_two i k ni nk apart own may two = (let h = jumped i k ni nk apart may in let p = pull_most i k ni nk own may in omega arith)
 
-module _ (bus : Bus) (s : Stations) (line : AreOnALine s) (of : IsBusOf bus s) (sound : IsSound bus) where
+module _ (bus : Bus) (s : Stations) (line : AreOnALine s) (of : HasStations bus s) (sound : IsSound bus) where
   -- where a quantum and a tick counts beyond some ticks
   early_look : (i k w W : ℕ) → i < s.count → k < s.count → W ≡ w * bus.tick
       → s.way k i ≤ (s.delay k i + s.delay i k) * shared_tick s i k + (shared_quantum s k i + shared_tick s i k - w * shared_tick s i k)

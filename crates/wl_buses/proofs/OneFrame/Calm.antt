@@ -1,9 +1,7 @@
 -- When no edge synchronises a bit clock.
-use Rattle.std.proofs.Common.{◌≡◌, ◌∙◌, ap, subst, refl, ℕ, zero, suc, ◌+◌, ◌-◌, ◌<◌, [], ◌∷◌, ◌++◌, List, false, not, ◌&&◌, None, arith}
-use Rattle.std.proofs.lemmas.Bool.{and_right}
+use Rattle.std.proofs.Common.{◌≡◌, ◌∙◌, ap, subst, refl, ℕ, zero, suc, ◌+◌, ◌-◌, ◌<◌, [], ◌∷◌, ◌++◌, List, false, None, arith}
 use Rattle.wl_level.specs.declared.Level.{Level}
 use Rattle.wl_level.specs.declared.Level.TheVariants.{Dominant, Recessive}
-use Rattle.wl_level.specs.Levels.{is_dominant}
 use Rattle.wl_segments.specs.Lengths.{Lengths, bit_quanta}
 use Rattle.wl_sync.specs.declared.Beat.{Beat}
 use Rattle.wl_sync.specs.declared.Beat.TheVariants.{Plain, Sample, Start}
@@ -16,14 +14,10 @@ use Rattle.wl_phase.specs.InStep.{seen_before}
 use Rattle.wl_phase.proofs.Callers.{Goes, before_dominant, now_recessive, sync_is}
 use Rattle.wl_buses.specs.OneFrame.Clocked.{NoEdgeLaws, NoneSyncs, SamplesBy}
 use Rattle.wl_buses.proofs.OneFrame.Clocked.{after_sample, down, unsampled_at, way}
+use Rattle.wl_buses.proofs.BothProofs.Small.{sampled_dominant}
 
 no_answer : (r : Running) (x : Seen) → running_sync r x ≡ false → running_answer r x ≡ None
 no_answer r x e = rw e refl
-
-sampled_dominant : (r : Running) (x : Seen) → r.sample ≡ Dominant → running_sync r x ≡ false
-sampled_dominant r x e =
-    let g : ((is_dominant x.level && not (is_dominant r.level)) && not (is_dominant r.sample)) ≡ false = and_right _ _ (ap (λ v. not (is_dominant v)) e) in
-    rw g refl
 
 pub keeps : (b : Beat) (last : Level) → ((level : Level) → b ≡ Sample level → ⊥) → sample_after b last ≡ last
 keeps (Sample level) last h = absurd (h level refl)

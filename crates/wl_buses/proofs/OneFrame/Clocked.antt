@@ -5,8 +5,6 @@ use Rattle.std.proofs.lemmas.Bool.{cases_lt, eq-eqb, ne_eqb}
 use Rattle.wl_level.specs.declared.Level.{Level}
 use Rattle.wl_segments.specs.Lengths.{Lengths, sample_at, bit_quanta}
 use Rattle.wl_sync.specs.declared.Sync.TheVariants.{Error}
-use Rattle.wl_sync.specs.declared.Beat.{Beat}
-use Rattle.wl_sync.specs.declared.Beat.TheVariants.{Plain, Sample, Start}
 use Rattle.wl_sync.specs.Edges.{Seen}
 use Rattle.wl_sync.specs.Bits.{beat_of, sync_of}
 use Rattle.wl_sync.specs.Running.{clock_after}
@@ -15,15 +13,11 @@ use Rattle.wl_phase.specs.Ways.{ByTheBook, WayLaws, moved_to, sample_way, way_af
 use Rattle.wl_phase.specs.Answer.{SamplesNext}
 use Rattle.wl_phase.specs.InStep.{SyncsHard, sampled_by, samples_from, seen_before}
 use Rattle.wl_buses.specs.OneFrame.Clocked.{NoneSyncs, BitPlaceLaws, SamplesBy}
+use Rattle.wl_phase.proofs.Callers.{unsampled_by}
 
 -- the place 0 that an edge moves, as the sample that it moves
 pub shifted : (due f at jump : ℕ) → jump ≤ due → 1 ≤ at → 1 ≤ f → f ≤ due + at → f + moved_to (at - 1) jump (due + at - f) ≡ moved_to (f - 1) jump due + at
 shifted due f at jump h one some inside = omega arith
-
-unsampled : (b : Beat) → ((level : Level) → b ≡ Sample level → ⊥) → sampled_by b ≡ []
-unsampled (Sample level) h = absurd (h level refl)
-unsampled Start h = refl
-unsampled Plain h = refl
 
 module _ (ways : WayLaws) (l : Lengths) (book : ByTheBook l) (seen : ℕ → Seen) where
   -- the quanta before the next sample, at quantum k
@@ -39,7 +33,7 @@ module _ (ways : WayLaws) (l : Lengths) (book : ByTheBook l) (seen : ℕ → See
   no_samples from zero h = refl
   no_samples from (suc n) h =
       ap (λ v. v ++ sampled_by (beat_of l (seen_before seen (from + n)) (seen (from + n)))) (no_samples from n (λ i low high. h i low (omega arith)))
-      ∙ unsampled (beat_of l (seen_before seen (from + n)) (seen (from + n))) (h (from + n) (omega arith) (omega arith))
+      ∙ unsampled_by (beat_of l (seen_before seen (from + n)) (seen (from + n))) (h (from + n) (omega arith) (omega arith))
 
   -- a quantum that nothing synchronises
   pub down : (k : ℕ) → sync_of l (seen_before seen k) (seen k) ≡ None → 0 < way k → way (suc k) ≡ way k - 1
@@ -68,6 +62,17 @@ module _ (ways : WayLaws) (l : Lengths) (book : ByTheBook l) (seen : ℕ → See
       let one = down (k + n) (none (k + n) (omega arith) (omega arith)) (omega arith) in
       let e : k + suc n ≡ suc (k + n) = omega arith in
       ap way e ∙ one ∙ omega arith
+
+  -- after a sample of a bit with this place, while nothing synchronises
+  pub way_alone : (place : ℕ) (level : Level) → SamplesBy l seen (place + sample_at l) level → (i : ℕ) → place + sample_at l < i → i ≤ place + bit_quanta l + sample_at l
+      → ((j : ℕ) → place + sample_at l < j → j < i → sync_of l (seen_before seen j) (seen j) ≡ None) → way i + i ≡ place + bit_quanta l + sample_at l
+  way_alone place level sampled i a b none =
+      let begin = after_sample (place + sample_at l) level sampled in
+      let long = book.lengths.low in
+      let e : suc (place + sample_at l) + (i - suc (place + sample_at l)) ≡ i = omega arith in
+      let there = later (suc (place + sample_at l)) (i - suc (place + sample_at l)) (λ j c d. none j (omega arith) (omega arith)) (omega arith) in
+      let same : way i ≡ way (suc (place + sample_at l) + (i - suc (place + sample_at l))) = ap way (sym e) in
+      omega arith
 
   -- none of those before the way's end is a sample, and that one is
   pub none_before : (k m : ℕ) → k + way k ≡ m → ((i : ℕ) → k ≤ i → i ≤ m → sync_of l (seen_before seen i) (seen i) ≡ None)

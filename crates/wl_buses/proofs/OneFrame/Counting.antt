@@ -1,60 +1,29 @@
 -- When an edge counts at a station, and what bit it makes.
-use Rattle.std.proofs.Common.{◌≡◌, ◌≢◌, ◌∙◌, ◌⊎◌, ap, sym, subst, inl, inr, refl, ℕ, zero, suc, ◌+◌, ◌-◌, ◌<◌, ◌≤◌, ◌&&◌, not, max, Bool, true, false, cond, [], ◌∷◌, ◌++◌, Some, None, Option, arith}
-use Rattle.std.specs.Prelude.{ℤ, ◌==◌, nat_le, nat_lt}
-use Rattle.std.proofs.lemmas.Bool.{and_left, cases_Bool, cases_eq, cases_lt, eq-eqb, lt-leb, lt-ltb, ne_eqb}
+use Rattle.std.proofs.Common.{◌≡◌, ◌∙◌, ap, sym, subst, inl, inr, refl, ℕ, zero, suc, ◌+◌, ◌-◌, ◌<◌, ◌≤◌, max, Bool, true, false, cond, Some, None, Option, arith}
+use Rattle.std.specs.Prelude.{ℤ, ◌==◌}
+use Rattle.std.proofs.lemmas.Bool.{cases_eq, cases_lt, eq-eqb, ne_eqb}
 use Rattle.wl_level.specs.declared.Level.{Level}
 use Rattle.wl_level.specs.declared.Level.TheVariants.{Dominant, Recessive}
-use Rattle.wl_level.specs.Levels.{is_dominant}
-use Rattle.wl_segments.specs.declared.SyncRules.{SyncRules}
-use Rattle.wl_segments.specs.declared.SyncRules.TheVariants.{After, Book}
-use Rattle.wl_segments.specs.Lengths.{Lengths, bit_quanta, found_at, sample_at}
+use Rattle.wl_segments.specs.Lengths.{Lengths, bit_quanta, sample_at}
 use Rattle.wl_sync.specs.declared.Sync.{Sync}
 use Rattle.wl_sync.specs.declared.Sync.TheVariants.{Error, Hard}
-use Rattle.wl_sync.specs.declared.Beat.{Beat}
-use Rattle.wl_sync.specs.declared.Beat.TheVariants.{Plain, Sample, Start}
-use Rattle.wl_sync.specs.Edges.{Seen, counts_at, is_hard_edge, looks, phase_error}
+use Rattle.wl_sync.specs.declared.Beat.TheVariants.{Plain}
+use Rattle.wl_sync.specs.Edges.{Seen, is_hard_edge, phase_error}
 use Rattle.wl_sync.specs.Bits.{beat_of, sync_of}
-use Rattle.wl_sync.specs.Running.{Running, clock_after, sample_after}
+use Rattle.wl_sync.specs.Running.{Running, clock_after}
 use Rattle.wl_sync.specs.Skips.{moved_place, quanta_before_sample, steady_clock}
-use Rattle.wl_sync.specs.Steps.{end_of, is_sampled, running_after, running_answer, running_first, running_on, running_sync}
+use Rattle.wl_sync.specs.Steps.{end_of, is_sampled, running_answer, running_first, running_on, running_sync}
 use Rattle.wl_phase.specs.Ways.{ByTheBook, WayLaws, moved_to}
 use Rattle.wl_phase.specs.Answer.{SamplesNext}
 use Rattle.wl_phase.specs.InStep.{SyncsHard, seen_before}
-use Rattle.wl_phase.proofs.Callers.{Goes, IsValid, answer_not, none_is, soft_driving, sync_is, valid_after, zero_is}
+use Rattle.wl_phase.proofs.Callers.{Goes, answer_not, none_is, soft_driving, sync_is, valid_after, counts_then, soft_from, way_past, hard_from, IsQuiet}
 use Rattle.wl_buses.specs.OneFrame.Clocked.{BitIs, BitPlaceLaws, BitStartLaws, EdgeLaws, FindsEdge, NoEdgeLaws, NoneSyncs, SamplesBy, StartsOnce}
 use Rattle.wl_buses.proofs.OneFrame.Beginning.{on_or_start, past_on, sampled_past}
 use Rattle.wl_buses.proofs.OneFrame.Calm.{LevelGoes, SampleGoes, keeps}
-use Rattle.wl_buses.proofs.OneFrame.Clocked.{after_sample, down, later, unsampled_at, error_way, way, way_is}
+use Rattle.wl_buses.proofs.OneFrame.Clocked as clocked
+use Rattle.wl_buses.proofs.OneFrame.Clocked.{down, unsampled_at, error_way, way, way_is}
 
--- an edge counts if the last sample and the level before were recessive, the bit hasn't synchronised yet, and the node drives recessive
-soft_awaits : (s : SyncRules) (x : Seen) → s ≡ Book → x.awaits ≡ false → is_hard_edge s x ≡ false
-soft_awaits After x e f = cc
-soft_awaits Book x e f = and_left _ _ f
-
-looks_there : (s : SyncRules) (place k : ℕ) → s ≡ Book → 0 < k → looks s place k ≡ true
-looks_there After place k e h = cc
-looks_there Book place k e h = lt-ltb 0 k h
-
-all_true : (a b c d e : Bool) → a ≡ true → b ≡ true → c ≡ true → d ≡ true → e ≡ false → ((((a && b) && c) && d) && not e) ≡ true
-all_true a b c d e p q r s t = rw (p, q, r, s, t) refl
-
-not_late : (a b driving hard : Bool) → driving ≡ false → (((a && b) && driving) && not hard) ≡ false
-not_late a b driving hard e = and_left _ _ (and_right' (a && b) driving e)
-  where
-    and_right' : (a b : Bool) → b ≡ false → (a && b) ≡ false
-    and_right' true b e = e
-    and_right' false b e = refl
-
-counts : (r : Running) (x : Seen) → r.lengths.sync ≡ Book → 0 < r.quanta → x.level ≡ Dominant → x.driving ≡ false → r.level ≡ Recessive → r.sample ≡ Recessive → r.synced ≡ false
-    → running_sync r x ≡ true
-counts r x book begun now driving was sampled fresh =
-    let e : counts_at r.lengths x.level (is_hard_edge r.lengths.sync x) x.driving r.level r.sample r.quanta ≡ true =
-    all_true (is_dominant x.level) (not (is_dominant r.level)) (not (is_dominant r.sample)) (looks r.lengths.sync (sample_at r.lengths) r.quanta)
-    (((nat_lt (found_at r.lengths) r.quanta && nat_le r.quanta (sample_at r.lengths)) && x.driving) && not (is_hard_edge r.lengths.sync x))
-    (ap is_dominant now) (ap (λ v. not (is_dominant v)) was) (ap (λ v. not (is_dominant v)) sampled) (looks_there r.lengths.sync (sample_at r.lengths) r.quanta book begun)
-    (not_late (nat_lt (found_at r.lengths) r.quanta) (nat_le r.quanta (sample_at r.lengths)) x.driving (is_hard_edge r.lengths.sync x) driving) in
-    rw (e, fresh) refl
-
+-- An edge counts if the last sample and the level before were recessive, the bit hasn't synchronised yet, and the node drives recessive.
 answer_soft : (r : Running) (x : Seen) → running_sync r x ≡ true → is_hard_edge r.lengths.sync x ≡ false → running_answer r x ≡ Some (Error (phase_error r.lengths r.quanta))
 answer_soft r x e g = rw (e, g) refl
 
@@ -69,9 +38,6 @@ hard_not r x g e = by (running_sync r x) (is_hard_edge r.lengths.sync x) (phase_
 unsynced_on : (r : Running) (level : Level) (b : Bool) → r.synced ≡ false → (cond b (running_first r level) (running_on r level)).synced ≡ false
 unsynced_on r level true e = refl
 unsynced_on r level false e = e
-
-way_past : (q : Running) → moved_place q < q.quanta → quanta_before_sample q ≡ end_of q - q.quanta + sample_at q.lengths
-way_past q b = rw (lt-leb q.quanta (moved_place q) b) refl
 
 -- a clock in a bit that nothing has moved, after so many quanta of it
 record InBit (r : Running) (n : ℕ) : Type 0 where
@@ -101,15 +67,9 @@ module _ (goes : Goes) (level_goes : LevelGoes) (sample_goes : SampleGoes) (ways
   abbrev way_at : ℕ → ℕ
   way_at i = way ways l book seen i
 
-  valid : (i : ℕ) → IsValid (clock i)
-  valid i = valid_after goes l book (seen_before seen i)
-
-  answer_there : (i : ℕ) → sync_at i ≡ running_answer (clock i) (seen i)
-  answer_there i = sync_is goes l book (seen_before seen i) (seen i)
-
   next_none : (i : ℕ) → sync_at i ≡ None → clock (suc i) ≡ cond ((clock i).quanta == end_of (clock i)) (running_first (clock i) (seen i).level) (running_on (clock i) (seen i).level)
   next_none i none =
-      goes.clock l (seen_before seen i) (seen i) ∙ none_is (clock i) (seen i) book.book (answer_not (clock i) (seen i) (valid i) (sym (answer_there i) ∙ none))
+      goes.clock l (seen_before seen i) (seen i) ∙ none_is (clock i) (seen i) book.book (answer_not (clock i) (seen i) (valid_after goes l book (seen_before seen i)) (sym (sync_is goes l book (seen_before seen i) (seen i)) ∙ none))
 
   on_there : (i n : ℕ) → n < sample_at l → InBit (clock i) n → sync_at i ≡ None → clock (suc i) ≡ running_on (clock i) (seen i).level
   on_there i n few b none =
@@ -141,47 +101,36 @@ module _ (goes : Goes) (level_goes : LevelGoes) (sample_goes : SampleGoes) (ways
     silent_bit silent =
         subst (BitIs l seen S due due) (silent (due + sample_at l) (let low = book.lengths.low in omega arith) (omega arith)) (alone (λ i a b. recessive_none i (silent i a b)))
 
-    way_then : (i : ℕ) → S < i → i ≤ due + sample_at l → ((j : ℕ) → S < j → j < i → sync_at j ≡ None) → way_at i + i ≡ due + sample_at l
-    way_then i a b none =
-        let begin = after_sample ways l book seen S level sampled in
-        let long = book.lengths.low in
-        let e : suc S + (i - suc S) ≡ i = omega arith in
-        let there = later ways l book seen (suc S) (i - suc S) (λ j c d. none j (omega arith) (omega arith)) (omega arith) in
-        let same : way_at i ≡ way_at (suc S + (i - suc S)) = ap way_at (sym e) in
-        omega arith
+    abbrev way_then : (i : ℕ) → S < i → i ≤ due + sample_at l → ((j : ℕ) → S < j → j < i → sync_at j ≡ None) → way_at i + i ≡ due + sample_at l
+    way_then = clocked.way_alone ways l book seen place level sampled
 
     -- the edge counts
-    pub record Fresh (i : ℕ) : Type 0 where
-      pub line : (clock i).level ≡ Recessive
-      pub sample : (clock i).sample ≡ Recessive
-      pub synced : (clock i).synced ≡ false
-
-    fresh_on : (i : ℕ) → sync_at i ≡ None → (seen i).level ≡ Recessive → 0 < way_at i → Fresh i → Fresh (suc i)
+    fresh_on : (i : ℕ) → sync_at i ≡ None → (seen i).level ≡ Recessive → 0 < way_at i → IsQuiet (clock i) → IsQuiet (clock (suc i))
     fresh_on i none quiet some f = record {
-      line = level_goes l (seen_before seen i) (seen i) ∙ quiet;
+      level = level_goes l (seen_before seen i) (seen i) ∙ quiet;
       sample = sample_goes l (seen_before seen i) (seen i) ∙ keeps (beat_of l (seen_before seen i) (seen i)) (clock i).sample (unsampled_at ways l book seen i some) ∙ f.sample;
       synced = ap (λ r. r.synced) (next_none i none) ∙ unsynced_on (clock i) (seen i).level ((clock i).quanta == end_of (clock i)) f.synced;
     }
 
-    fresh_then : clock (suc S) ≡ steady_clock l → (n : ℕ) → suc S + n ≤ due + sample_at l → ((i : ℕ) → S < i → i < suc S + n → (seen i).level ≡ Recessive) → Fresh (suc S + n)
+    fresh_then : clock (suc S) ≡ steady_clock l → (n : ℕ) → suc S + n ≤ due + sample_at l → ((i : ℕ) → S < i → i < suc S + n → (seen i).level ≡ Recessive) → IsQuiet (clock (suc S + n))
     fresh_then steady zero few silent =
-        subst Fresh (let e : suc S ≡ suc S + 0 = omega arith in e) (record { line = ap (λ r. r.level) steady; sample = ap (λ r. r.sample) steady; synced = ap (λ r. r.synced) steady })
+        subst (λ i. IsQuiet (clock i)) (let e : suc S ≡ suc S + 0 = omega arith in e) (record { level = ap (λ r. r.level) steady; sample = ap (λ r. r.sample) steady; synced = ap (λ r. r.synced) steady })
     fresh_then steady (suc n) few silent =
         (let before = fresh_then steady n (omega arith) (λ i a b. silent i a (omega arith)) in
         let quiet = silent (suc S + n) (omega arith) (omega arith) in
         let w = way_then (suc S + n) (omega arith) (omega arith) (λ j a b. recessive_none j (silent j a (omega arith))) in
         let e : suc (suc S + n) ≡ suc S + suc n = omega arith in
-        subst Fresh e (fresh_on (suc S + n) (recessive_none (suc S + n) quiet) quiet (omega arith) before))
+        subst (λ i. IsQuiet (clock i)) e (fresh_on (suc S + n) (recessive_none (suc S + n) quiet) quiet (omega arith) before))
 
   module _ (place found new : ℕ) (moved : new ≡ moved_to (found - 1) l.sjw (place + bit_quanta l)) (f : FindsEdge l seen place found (new + sample_at l)) (inside : found ≤ place + bit_quanta l + sample_at l) where
     error_there : (error : ℤ) × (sync_at found ≡ Some (Error error))
     error_there =
         let after = f.after in
         let e : suc (place + sample_at l) + (found - suc (place + sample_at l)) ≡ found = omega arith in
-        let fresh = subst (Fresh place Recessive f.sampled) e
+        let fresh = subst (λ i. IsQuiet (clock i)) e
         (fresh_then place Recessive f.sampled f.clock (found - suc (place + sample_at l)) (omega arith) (λ i a b. f.silent i a (omega arith))) in
-        let sync = counts (clock found) (seen found) book.book (valid found).begun (f.there found (omega arith) in_time) f.driving fresh.line fresh.sample fresh.synced in
-        (phase_error l (clock found).quanta, answer_there found ∙ answer_soft (clock found) (seen found) sync (soft_awaits l.sync (seen found) book.book f.awaits))
+        let sync = counts_then (clock found) (seen found) book.book (valid_after goes l book (seen_before seen found)).begun (f.there found (omega arith) in_time) f.driving fresh.level fresh.sample fresh.synced in
+        (phase_error l (clock found).quanta, sync_is goes l book (seen_before seen found) (seen found) ∙ answer_soft (clock found) (seen found) sync (soft_from l.sync (seen found) book.book f.awaits))
       where
         in_time : found ≤ new + sample_at l
         in_time = let a = book.lengths.prop_low in let b = book.lengths.ps1_low in let c = book.lengths.sjw_low in let d = moved in let g = f.after in omega arith
@@ -299,7 +248,7 @@ module _ (goes : Goes) (level_goes : LevelGoes) (sample_goes : SampleGoes) (ways
         by : (o : Option Sync) → sync_at first ≡ o → BitIs l seen (place + sample_at l) (place + bit_quanta l) (place + bit_quanta l) (seen last).level
         by None e = none_case e
         by (Some (Error error)) e = error_case error e
-        by (Some Hard) e = absurd (hard_not (clock first) (seen first) (soft_there first (omega arith) (let a = book.lengths.prop_low in omega arith)) (sym (answer_there first) ∙ e))
+        by (Some Hard) e = absurd (hard_not (clock first) (seen first) (soft_there first (omega arith) (let a = book.lengths.prop_low in omega arith)) (sym (sync_is goes l book (seen_before seen first) (seen first)) ∙ e))
 
   -- a recessive bit that no edge moves
   module _ (place : ℕ) (level : Level) (sampled : SamplesBy l seen (place + sample_at l) level) (none : NoneSyncs l seen (place + sample_at l) (place + bit_quanta l + sample_at l)) where
@@ -354,11 +303,6 @@ module _ (goes : Goes) (level_goes : LevelGoes) (sample_goes : SampleGoes) (ways
         on_there (place + bit_quanta l + sample_at l) (sample_at l - 1) (omega arith) b (none_to (place + bit_quanta l + sample_at l) (omega arith) (omega arith))
         ∙ on_steady (clock (place + bit_quanta l + sample_at l)) (seen (place + bit_quanta l + sample_at l)).level (omega (arith, b.quanta)) b.longer b.shorter b.synced quiet
 
--- an edge that is found while a start of frame is awaited synchronises hard
-hard_awaits : (s : SyncRules) (x : Seen) → s ≡ Book → x.awaits ≡ true → x.driving ≡ false → is_hard_edge s x ≡ true
-hard_awaits After x e f g = cc
-hard_awaits Book x e f g = rw (f, g) refl
-
 answer_hard : (r : Running) (x : Seen) → running_sync r x ≡ true → is_hard_edge r.lengths.sync x ≡ true → running_answer r x ≡ Some Hard
 answer_hard r x e g = rw (e, g) refl
 
@@ -371,18 +315,16 @@ module _ (goes : Goes) (level_goes : LevelGoes) (sample_goes : SampleGoes) (ways
   found_is : suc (found - 1) ≡ found
   found_is = omega arith
 
-  first_dominant : (seen found).level ≡ Dominant
-  first_dominant = there found (omega arith) (let a = book.lengths.prop_low in omega arith)
-
   hard_there : SyncsHard l seen (suc (found - 1))
   hard_there =
       let e : suc (rest + sample_at l) + (found - suc (rest + sample_at l)) ≡ found = omega arith in
       let order : rest + sample_at l + bit_quanta l ≡ rest + bit_quanta l + sample_at l = omega arith in
-      let fresh = subst (Fresh goes level_goes sample_goes ways places starts calm l book seen rest Recessive sampled) e
+      let fresh = subst (λ i. IsQuiet (clock_after l (seen_before seen i))) e
       (fresh_then goes level_goes sample_goes ways places starts calm l book seen rest Recessive sampled steady (found - suc (rest + sample_at l)) (omega arith) (λ i a b. silent i a (omega arith))) in
-      let sync = counts (clock_after l (seen_before seen found)) (seen found) book.book (valid_after goes l book (seen_before seen found)).begun first_dominant driving fresh.line fresh.sample fresh.synced in
+      let dominant = there found (omega arith) (let a = book.lengths.prop_low in omega arith) in
+      let sync = counts_then (clock_after l (seen_before seen found)) (seen found) book.book (valid_after goes l book (seen_before seen found)).begun dominant driving fresh.level fresh.sample fresh.synced in
       subst (SyncsHard l seen) (sym found_is)
-      (sync_is goes l book (seen_before seen found) (seen found) ∙ answer_hard (clock_after l (seen_before seen found)) (seen found) sync (hard_awaits l.sync (seen found) book.book awaits driving))
+      (sync_is goes l book (seen_before seen found) (seen found) ∙ answer_hard (clock_after l (seen_before seen found)) (seen found) sync (hard_from l.sync (seen found) book.book awaits driving))
 
   none_held : NoneSyncs l seen (suc (found - 1)) (found - 1 + sample_at l)
   none_held zero a b = absurd (omega arith)

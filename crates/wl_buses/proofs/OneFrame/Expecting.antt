@@ -1,14 +1,13 @@
 -- What is expected of stations is a course of bits.
-use Rattle.std.proofs.Common.{◌≡◌, ◌≢◌, ◌∙◌, ◌⊎◌, inl, inr, refl, sym, ap, subst, ℕ, zero, suc, ◌+◌, ◌-◌, ◌*◌, ◌<◌, ◌≤◌, ◌&&◌, ◌||◌, not, max, cond, Bool, true, false, Some, None, Option, arith}
+use Rattle.std.proofs.Common.{◌≡◌, ◌≢◌, ◌∙◌, ◌⊎◌, inl, inr, refl, sym, ap, subst, ℕ, zero, suc, ◌+◌, ◌-◌, ◌*◌, ◌<◌, ◌≤◌, ◌&&◌, ◌||◌, not, cond, Bool, true, false, Some, None, Option, arith}
 use Rattle.std.specs.Prelude.{nat_le, nat_lt}
-use Rattle.std.proofs.lemmas.Bool.{and_from, and_parts, cases_Bool, cases_eq, cases_lt, false_from_ne_true, le-leb, leb-true, lt-ltb, ltb-true, not-true, or_cases, or_left}
+use Rattle.std.proofs.lemmas.Bool.{and_from, and_parts, cases_Bool, cases_eq, cases_lt, false_from_ne_true, le-leb, leb-true, lt-ltb, ltb-true, or_cases}
 use Rattle.std.proofs.Math.Nat.{mul-le-mul_right}
 use Rattle.wl_segments.specs.Lengths.{bit_quanta, sample_at}
 use Rattle.wl_level.specs.Levels.{level_of}
 use Rattle.wl_topology.specs.Driven.{any_below}
 use Rattle.wl_topology.proofs.Callers.{any_from, any_one, any_same}
 use Rattle.wl_machine.specs.Frames.{stuffed_end}
-use Rattle.wl_machine.proofs.Callers.{end_more}
 use Rattle.wl_phase.specs.Clocks.{steady_tick}
 use Rattle.wl_buses.specs.OneFrame.Stations.{AreClose, AreStations, HaveRoom, Stations, bit_drift, shared_instant, shared_quantum}
 use Rattle.wl_buses.specs.OneFrame.Starts.{BeginBit, BeginsAlone, Drives, FollowsHard, Start, reaches_at}
@@ -20,7 +19,8 @@ use Rattle.wl_buses.proofs.OneFrame.Ideal.{few, senders}
 use Rattle.wl_buses.proofs.OneFrame.Machines.{FindNoErrors, LeastWins, SendStuffed, SixOrFront, StayInStep, TenHaveEdge, none_before}
 use Rattle.wl_buses.proofs.OneFrame.Measures.{drifted, instant_more, tick_next, ticks_before}
 use Rattle.wl_buses.proofs.OneFrame.Nearing.{bit_close}
-use Rattle.wl_buses.proofs.OneFrame.Passing.{fewer, same_places}
+use Rattle.wl_buses.proofs.OneFrame.Passing as passing
+use Rattle.wl_buses.proofs.OneFrame.Passing.{fewer}
 use Rattle.wl_buses.proofs.OneFrame.Settling.{begin_bit, begins_by, caught, low, most_from}
 use Rattle.wl_buses.proofs.OneFrame.Starting.{frame_close}
 
@@ -78,8 +78,8 @@ module _ (steps : StayInStep) (errors : FindNoErrors) (winner : LeastWins) (stuf
   senders_at : (n k : ℕ) → GoesOn n → k < s.count → (bits (suc n)).drives k ≡ true → sends (suc n) k ≡ true
   senders_at n k on lt e = senders steps errors winner stuffed six ten s o is bits drives_are n k on lt e
 
-  pub sent_before : (n k : ℕ) → sends (suc n) k ≡ true → sends n k ≡ true
-  sent_before n k e = (and_parts (sends n k) ((bits n).drives k || not (bus_bit s bits n)) e).0
+  abbrev pub sent_before : (n k : ℕ) → sends (suc n) k ≡ true → sends n k ≡ true
+  sent_before = passing.still_before s bits
 
   pub sent_at : (m n k : ℕ) → m ≤ n → sends n k ≡ true → sends m k ≡ true
   sent_at m zero k less e = (let same : zero ≡ m = omega arith in subst (λ i. sends i k ≡ true) same e)
@@ -88,8 +88,8 @@ module _ (steps : StayInStep) (errors : FindNoErrors) (winner : LeastWins) (stuf
     | inr below ↦ sent_at m n k below (sent_before n k e)
   ]
 
-  pub may : (n k : ℕ) → k < s.count → sends n k ≡ true → s.may_send k ≡ true
-  may n k lt e = is.allowed k lt (sent_at 0 n k (omega arith) e)
+  abbrev pub may : (n k : ℕ) → k < s.count → sends n k ≡ true → s.may_send k ≡ true
+  may = passing.still_allowed s bits is.allowed
 
   -- from one bit to the next
   module _ (n : ℕ) (on : GoesOn n) (close : AreClose s (sends (suc n)) (since n) (bits n).place) where
@@ -174,14 +174,11 @@ module _ (steps : StayInStep) (errors : FindNoErrors) (winner : LeastWins) (stuf
       | inr recessive ↦ (let f : not (bus_bit s bits (suc n)) ≡ false = ap not bus in cc)
     ]
 
-    close_edge : begins_with_edge s bits (suc n) ≡ true → AreClose s (sends (suc (suc n))) (since (suc n)) (bits (suc n)).place
-    close_edge edge =
+    close_after : begins_with_edge s bits (suc n) ≡ true → AreClose s (sends (suc (suc n))) 0 e.place
+    close_after edge =
         let near = bit_close s are room (sends (suc n)) (suc (since n)) (let f = few_at n on in omega arith) e close_due (λ k lt x. sender k lt x) (λ k lt x. may (suc n) k lt (sender k lt x)) (begin edge) in
         let bus = (and_parts (not (bus_bit s bits n)) (bus_bit s bits (suc n)) edge).1 in
-        let zero_since : since (suc n) ≡ 0 = ap (λ b. cond b 0 (suc (since n))) edge in
-        subst (λ b. AreClose s (sends (suc (suc n))) (since (suc n)) b.place) (sym (edge_is n edge))
-        (subst (λ m. AreClose s (sends (suc (suc n))) m e.place) (sym zero_since)
-        (fewer s d (sends (suc (suc n))) 0 e.place (λ k lt x. sym (drives_are (suc n) k) ∙ sent_as k bus x) near))
+        fewer s d (sends (suc (suc n))) 0 e.place (λ k lt x. sym (drives_are (suc n) k) ∙ sent_as k bus x) near
 
     close_plain : begins_with_edge s bits (suc n) ≡ false → AreClose s (sends (suc (suc n))) (since (suc n)) (bits (suc n)).place
     close_plain plain =
@@ -192,7 +189,10 @@ module _ (steps : StayInStep) (errors : FindNoErrors) (winner : LeastWins) (stuf
 
     close_next : AreClose s (sends (suc (suc n))) (since (suc n)) (bits (suc n)).place
     close_next = elim (cases_Bool (begins_with_edge s bits (suc n))) [
-      | inl edge ↦ close_edge edge
+      | inl edge ↦
+          (let zero_since : since (suc n) ≡ 0 = ap (λ b. cond b 0 (suc (since n))) edge in
+          subst (λ b. AreClose s (sends (suc (suc n))) (since (suc n)) b.place) (sym (edge_is n edge))
+          (subst (λ m. AreClose s (sends (suc (suc n))) m e.place) (sym zero_since) (close_after edge)))
       | inr plain ↦ close_plain plain
     ]
 

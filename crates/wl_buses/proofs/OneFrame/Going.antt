@@ -1,8 +1,8 @@
 -- A node that finds what is expected of stations does what is expected of it.
-use Rattle.std.proofs.Common.{◌≡◌, ◌∙◌, refl, sym, ap, ℕ, suc, ◌+◌, ◌<◌, ◌≤◌, Bool, true, false, [], ◌∷◌, ◌++◌, length, Option, Some, None, arith}
+use Rattle.std.proofs.Common.{◌≡◌, ◌∙◌, refl, sym, ap, ℕ, suc, ◌<◌, ◌≤◌, true, false, length, Option, None, arith}
 use Rattle.std.proofs.lemmas.Bool.{ne_eqb}
 use Rattle.wl_level.specs.declared.Level.{Level}
-use Rattle.wl_level.specs.Levels.{is_dominant, level_of}
+use Rattle.wl_level.specs.Levels.{level_of}
 use Rattle.wl_sync.specs.Edges.{Seen}
 use Rattle.wl_topology.specs.Driven.{DrivenLaws, any_below, driven}
 use Rattle.wl_topology.proofs.Callers.{any_same}

@@ -1,21 +1,18 @@
 -- The machines of an opening: what follows from them for each bit, whenever it begins.
-use Rattle.std.proofs.Common.{◌≡◌, ◌∙◌, ◌⊎◌, inl, inr, refl, sym, ap, subst, ℕ, zero, suc, ◌+◌, ◌-◌, ◌*◌, ◌<◌, ◌≤◌, ◌&&◌, ◌||◌, not, cond, Bool, true, false, List, [], ◌∷◌, ◌++◌, Option, Some, None, arith}
+use Rattle.std.proofs.Common.{◌≡◌, ◌∙◌, refl, sym, ap, ℕ, zero, suc, ◌+◌, ◌-◌, ◌<◌, ◌≤◌, ◌&&◌, ◌||◌, not, cond, Bool, true, [], ◌∷◌, ◌++◌, Option, None, arith}
 use Rattle.std.specs.Prelude.{nat_le}
 use Rattle.std.proofs.lemmas.Bool.{le-leb}
-use Rattle.wl_level.specs.declared.Level.{Level}
-use Rattle.wl_level.specs.Levels.{is_dominant, level_of}
+use Rattle.wl_level.specs.Levels.{level_of}
 use Rattle.wl_topology.specs.Driven.{any_below, driven}
 use Rattle.wl_topology.proofs.Callers.{any_same}
 use Rattle.wl_segments.specs.declared.SyncRules.TheVariants.{Book}
-use Rattle.wl_segments.specs.Lengths.{Lengths}
 use Rattle.wl_frame.specs.Grammar.{Content}
-use Rattle.wl_machine.specs.Stretch.{Input}
 use Rattle.wl_machine.specs.Stretch.Input.{Sample}
 use Rattle.wl_machine.specs.Frames.{stuffed_end}
-use Rattle.wl_machine.specs.Judged.{drive_of, judged, stretch_of}
+use Rattle.wl_machine.specs.Judged.{judged, stretch_of}
 use Rattle.wl_machine.specs.States.{stretch_by}
 use Rattle.wl_machine.specs.Stretch.Sort.{Framing}
-use Rattle.wl_phase.specs.Clocks.{Steady, instant, steady_tick}
+use Rattle.wl_phase.specs.Clocks.{Steady, steady_tick}
 use Rattle.wl_phase.proofs.Callers.{floor_high, floor_low}
 use Rattle.wl_wire.specs.InStep.{is_fine}
 use Rattle.wl_wire.specs.Wire.{Handed, sampled}

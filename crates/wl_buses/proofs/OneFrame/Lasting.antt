@@ -32,7 +32,7 @@ use Rattle.wl_buses.specs.OneFrame.Machines.{bus_levels}
 use Rattle.wl_buses.specs.OneFrame.Expected.{IsOutset, Outset, expected_bits, past_at, wants}
 use Rattle.wl_buses.proofs.OneFrame.Expecting.{drives_are}
 use Rattle.wl_buses.proofs.OneFrame.Ideal.{fine, framing}
-use Rattle.wl_buses.proofs.OneFrame.Machines.{FindNoErrors, LeastWins, SendStuffed, SixOrFront, StayInStep, TenHaveEdge, none_before}
+use Rattle.wl_buses.proofs.OneFrame.Machines.{FindNoErrors, LeastWins, SendStuffed, SixOrFront, StayInStep, TenHaveEdge, none_before, levels_length}
 
 not_turned : (was x : Level) → same (opposite was) x ≡ true → same x was ≡ false
 not_turned Dominant Dominant e = cc
@@ -179,10 +179,6 @@ module _ (steps : StayInStep) (errors : FindNoErrors) (winner : LeastWins) (stuf
     pub going : (m : ℕ) → m < bits → Goes m
     pub over : stuffed_end (own bits) ≡ Some bits
 
-  length_is : (n : ℕ) → length (own n) ≡ n
-  length_is zero = refl
-  length_is (suc n) = length_more (own n) (bit n) ∙ ap suc (length_is n)
-
   one_more : (n : ℕ) → ((m : ℕ) → m ≤ n → Goes m) → (c : Option ℕ) → stuffed_end (own (suc n)) ≡ c → ((m : ℕ) → m ≤ suc n → Goes m) ⊎ Ends
   one_more n h None e =
       inl (λ m less. elim (cases_lt m (suc n)) [
@@ -192,7 +188,7 @@ module _ (steps : StayInStep) (errors : FindNoErrors) (winner : LeastWins) (stuf
   one_more n h (Some place) e =
       (let at_end : or_at None (ends_at (own (suc n)) (length (own (suc n)))) (length (own (suc n))) ≡ Some place =
       sym (end_more (own n) (bit n) ∙ ap (λ x. or_at x (ends_at (own (suc n)) (length (own (suc n)))) (length (own (suc n)))) (h n (omega arith))) ∙ e in
-      let same : place ≡ suc n = sym (end_is (ends_at (own (suc n)) (length (own (suc n)))) (length (own (suc n))) place at_end) ∙ length_is (suc n) in
+      let same : place ≡ suc n = sym (end_is (ends_at (own (suc n)) (length (own (suc n)))) (length (own (suc n))) place at_end) ∙ levels_length s (expected_bits s o) (suc n) in
       inr (record { bits = suc n; some = omega arith; going = λ m less. h m (omega arith); over = e ∙ ap Some same }))
 
   ends_or_goes : (n : ℕ) → ((m : ℕ) → m ≤ n → Goes m) ⊎ Ends

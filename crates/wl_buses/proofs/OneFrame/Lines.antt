@@ -1,19 +1,18 @@
 -- The nodes of a line do what is expected of them, if all begin the frame so.
-use Rattle.std.proofs.Common.{◌≡◌, ◌∙◌, inl, inr, refl, sym, ap, subst, ℕ, zero, suc, ◌+◌, ◌-◌, ◌<◌, ◌≤◌, ◌||◌, ◌&&◌, Bool, true, false, List, [], ◌∷◌, ◌++◌, Option, Some, None, arith}
+use Rattle.std.proofs.Common.{◌≡◌, ◌∙◌, inl, inr, refl, sym, ap, ℕ, zero, suc, ◌-◌, ◌<◌, ◌≤◌, ◌||◌, ◌&&◌, Bool, true, false, [], ◌∷◌, ◌++◌, Some, None, arith}
 use Rattle.std.specs.Prelude.{nat_le}
 use Rattle.std.proofs.lemmas.Bool.{cases_lt}
 use Rattle.std.proofs.lemmas.List.Sums.{fold-append}
 use Rattle.wl_level.specs.declared.Level.{Level}
-use Rattle.wl_level.specs.declared.Level.TheVariants.{Recessive}
 use Rattle.wl_level.specs.Levels.{is_dominant, level_of}
-use Rattle.wl_topology.specs.Driven.{DrivenLaws, any_below, driven}
+use Rattle.wl_topology.specs.Driven.{DrivenLaws, driven}
 use Rattle.wl_topology.proofs.Callers.{any_same}
 use Rattle.wl_machine.specs.Stretch.Input.{Sample}
 use Rattle.wl_machine.specs.Frames.{stuffed_end}
 use Rattle.wl_node.specs.declared.setup.NodeSetup.{NodeSetup}
 use Rattle.wl_node.specs.History.{History, history_after, history_of, no_history}
 use Rattle.wl_phase.specs.Clocks.{steady_tick}
-use Rattle.wl_plan.specs.Line.{Line, found}
+use Rattle.wl_plan.specs.Line.{Line}
 use Rattle.wl_plan.specs.Simulation.{level, seen}
 use Rattle.wl_plan.specs.Sound.{IsCausal}
 use Rattle.wl_buses.specs.BothProofs.Expected.{IsExpected, levels_found}

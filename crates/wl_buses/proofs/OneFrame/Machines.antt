@@ -1,15 +1,16 @@
 -- What machines drive in a frame, by what they have sampled: they are those of a wire as long as all sample what is on the bus.
-use Rattle.std.proofs.Common.{◌≡◌, ◌≢◌, ◌∙◌, ◌⊎◌, inl, inr, refl, sym, ap, subst, ℕ, zero, suc, ◌+◌, ◌-◌, ◌<◌, ◌≤◌, ◌&&◌, ◌||◌, not, cond, Bool, true, false, List, [], ◌∷◌, ◌++◌, length, take, Option, Some, None, is_some, arith}
-use Rattle.std.specs.Prelude.{nat_le, slice_get, MatchOption}
+use Rattle.std.proofs.Common.{◌≡◌, ◌∙◌, ◌⊎◌, inl, inr, refl, sym, ap, subst, ℕ, zero, suc, ◌+◌, ◌-◌, ◌<◌, ◌≤◌, ◌&&◌, ◌||◌, not, cond, Bool, true, false, List, [], ◌∷◌, ◌++◌, length, take, Option, Some, None, is_some, arith}
+use Rattle.std.specs.Prelude.{nat_le, MatchOption}
 use Rattle.std.proofs.lemmas.Bool.{cases_Bool, cases_lt, and_parts, and_right, false_from_ne_true, not-true, or_cases}
 use Rattle.std.proofs.lemmas.List.Sums.{fold-append}
 use Rattle.std.proofs.lemmas.List.{length-append}
 use Rattle.std.proofs.Math.Seq.{take-length}
+use Rattle.std.proofs.lemmas.Option.{none-some}
 use Rattle.wl_level.specs.declared.Level.{Level}
 use Rattle.wl_level.specs.declared.Level.TheVariants.{Dominant, Recessive}
 use Rattle.wl_level.specs.Levels.{is_dominant, level_of, opposite, same}
 use Rattle.wl_level.specs.Places.{at, before, first_place, or_at}
-use Rattle.wl_level.proofs.Callers.{at_front, at_new, before_front, before_old, dominant_from, first_is, none_first}
+use Rattle.wl_level.proofs.Callers.{at_front, at_new, first_is, none_first}
 use Rattle.wl_confine.specs.declared.ErrorKind.TheVariants.{Bit, Stuff}
 use Rattle.wl_confine.specs.declared.Happened.TheVariants as happens
 use Rattle.wl_topology.specs.Driven.{any_below, driven}
@@ -17,24 +18,24 @@ use Rattle.wl_topology.proofs.Callers.{any_from, any_same}
 use Rattle.wl_frame.specs.Stuffing.{IsStuffedFront, Stuffs, destuffed_bits, ends_six, first_six, is_stuff}
 use Rattle.wl_frame.specs.Grammar.{Content, IsContent, bits_of, is_arbitration, layout_of}
 use Rattle.wl_frame.specs.Laws.{IsEdge, up_to_ack}
-use Rattle.wl_frame.proofs.Callers.{kept_old, length_more, same_back, stuff_old}
+use Rattle.wl_frame.proofs.Callers.{length_more, same_back}
 use Rattle.wl_machine.specs.declared.state.Role.{Role}
 use Rattle.wl_machine.specs.declared.state.Role.TheVariants.{Tx, Rx}
-use Rattle.wl_machine.specs.Stretch.{Input, Judgement, Sampled, Sort, Stretch, begins, continues}
+use Rattle.wl_machine.specs.Stretch.{Input, Judgement, Sampled, Stretch, begins, continues}
 use Rattle.wl_machine.specs.Stretch.Sort.{Idle, Framing, Flagging, Intermission}
 use Rattle.wl_machine.specs.Stretch.Input.{Sample}
 use Rattle.wl_machine.specs.Flags.{error_flag, fails}
-use Rattle.wl_machine.specs.Frames.{differing, drive_up_to, frame_role, framing, framing_by, framing_received, framing_sent, is_lost, sent_at, stuffed_drive, stuffed_end, tail_drive}
+use Rattle.wl_machine.specs.Frames.{differing, drive_up_to, frame_role, framing_by, framing_received, framing_sent, is_lost, sent_at, stuffed_drive, stuffed_end, tail_drive}
 use Rattle.wl_machine.specs.BetweenFrames.{idle_on}
-use Rattle.wl_machine.specs.Judged.{drive_of, head_of, judged, judged_by, or_next, stretch_after, stretch_of}
+use Rattle.wl_machine.specs.Judged.{drive_of, judged, judged_by, or_next, stretch_after, stretch_of}
 use Rattle.wl_machine.specs.Laws.{FoundSent}
 use Rattle.wl_machine.specs.States.{stretch_by}
 use Rattle.wl_machine.proofs.Callers.{ends_at, end_more, end_stays, role_first, role_next, role_receives, stretch_next}
 use Rattle.wl_wire.specs.Wire.{Event, Handed, Wire, bus, drives_dominant, idle_wire, is_between, next_wire, sampled, stretch_at, wire_after}
 use Rattle.wl_wire.specs.Wire.Event.{Bit as BusBit}
-use Rattle.wl_wire.specs.InStep.{AreInFrame, AreInStep, AreSoundFrames, FindsNoError, Has, IsSender, is_fine, or_all, stuffed_length}
+use Rattle.wl_wire.specs.InStep.{AreInFrame, AreInStep, AreSoundFrames, FindsNoError, Has, IsSender, is_fine, or_all}
 use Rattle.wl_wire.proofs.Callers.{count_after, end_is, end_there, not_both_roles, role_cases, sent_old, some_same}
-use Rattle.wl_wire.specs.Winner.{Beats, HasOneWinner, Lost}
+use Rattle.wl_wire.specs.Winner.{HasOneWinner}
 use Rattle.wl_buses.specs.OneFrame.Stations.{Stations}
 use Rattle.wl_buses.specs.OneFrame.Starts.{Start}
 use Rattle.wl_buses.specs.OneFrame.OneBit.{IsRight, sampled_at}
@@ -121,9 +122,6 @@ no_intermission head role e = cc
 same_head : (a b : Option Content) → Framing a ≡ Framing b → a ≡ b
 same_head a b e = cc
 
-no_head : (a : Content) → None ≡ Some a → ⊥
-no_head a e = cc
-
 not_idle : (head : Option Content) → Idle ≡ Framing head → ⊥
 not_idle head e = cc
 
@@ -182,6 +180,10 @@ level_back false = refl
 or_not_self : (b : Bool) → (b || not b) ≡ true
 or_not_self true = refl
 or_not_self false = refl
+
+pub levels_length : (s : Stations) (bits : ℕ → Start) (n : ℕ) → length (bus_levels s bits n) ≡ n
+levels_length s bits zero = refl
+levels_length s bits (suc n) = length_more (bus_levels s bits n) (level_of (bus_bit s bits n)) ∙ ap suc (levels_length s bits n)
 
 module _ (steps : StayInStep) (errors : FindNoErrors) (winner : LeastWins) (stuffed : SendStuffed) (six : SixOrFront) (ten : TenHaveEdge)
     (s : Stations) (bits : ℕ → Start) (drove : ℕ → ℕ → Bool) (frames : ℕ → List Content) (past : ℕ → ℕ → List Input) (total : ℕ)
@@ -249,15 +251,11 @@ module _ (steps : StayInStep) (errors : FindNoErrors) (winner : LeastWins) (stuf
   agree zero less right k lt = sym (m.reached k lt)
   agree (suc n) less right k lt = agree_next n k (omega arith) lt (agree n (omega arith) (all_before n right)) (right k lt n (omega arith))
 
-  own_length : (n : ℕ) → length (own n) ≡ n
-  own_length zero = refl
-  own_length (suc n) = length_more (own n) (bit n) ∙ ap suc (own_length n)
-
   at_bus : (n j : ℕ) → j < n → at (own n) j ≡ bit j
   at_bus zero j less = absurd (omega arith)
   at_bus (suc n) j less = elim (cases_lt j n) [
-    | inl below ↦ (let e = own_length n in at_front (own n) (bit n ∷ []) j (omega arith) ∙ at_bus n j below)
-    | inr last ↦ (let e : n ≡ j = omega arith in subst (λ i. at (own (suc n)) i ≡ bit i) e (ap (at (own (suc n))) (sym (own_length n)) ∙ at_new (own n) (bit n)))
+    | inl below ↦ (let e = levels_length s bits n in at_front (own n) (bit n ∷ []) j (omega arith) ∙ at_bus n j below)
+    | inr last ↦ (let e : n ≡ j = omega arith in subst (λ i. at (own (suc n)) i ≡ bit i) e (ap (at (own (suc n))) (sym (levels_length s bits n)) ∙ at_new (own n) (bit n)))
   ]
 
   -- one bit later, in the stuffed part
@@ -320,7 +318,7 @@ module _ (steps : StayInStep) (errors : FindNoErrors) (winner : LeastWins) (stuf
       let lt : k < s.count = (let c = count_is (suc n) in let h = f.sender.1 in omega arith) in
       let e = next_stretch (suc n) k (Some f.sender.2) (own (suc n)) lt f.sender.3.framing none
       ∙ ap (λ l. stretch_by (Framing (Some f.sender.2)) (own (suc n) ++ l ∷ [])) (bus_is (suc n) (omega arith) (agree (suc n) (omega arith) right)) in
-      framed_from (suc (suc n)) k (Some f.sender.2) (own (suc (suc n))) lt (let l = own_length (suc (suc n)) in omega arith) e (in_step (suc (suc n))))
+      framed_from (suc (suc n)) k (Some f.sender.2) (own (suc (suc n))) lt (let l = levels_length s bits (suc (suc n)) in omega arith) e (in_step (suc (suc n))))
 
   -- a station sends its frame, and hasn't lost
   abbrev Sends : ℕ → ℕ → Content → Type 0
@@ -331,14 +329,14 @@ module _ (steps : StayInStep) (errors : FindNoErrors) (winner : LeastWins) (stuf
 
   drive_there : (n k : ℕ) (h : Content) → Sends n k h → stuffed_end (own n) ≡ None → drive_of (at_wire n k) ≡ sent_at h (own n) n
   drive_there n k h x none =
-      ap drive_of x.0 ∙ ap (λ e. drive_up_to e (Some h) (own n)) none ∙ ap (λ r. stuffed_drive r (Some h) (own n)) x.1 ∙ ap (sent_at h (own n)) (own_length n)
+      ap drive_of x.0 ∙ ap (λ e. drive_up_to e (Some h) (own n)) none ∙ ap (λ r. stuffed_drive r (Some h) (own n)) x.1 ∙ ap (sent_at h (own n)) (levels_length s bits n)
 
   -- at the bit before
   back_first : (k : ℕ) (h : Content) → k < s.count → Sends 1 k h → MayBegin frames k (stretch_of (past 0 k)) → Sends 0 k h
   back_first k h lt x (inl idle) =
       (let d : bus (wire 0) ≡ Dominant = bus_is 0 (omega arith) agree_first ∙ ap level_of first_dominant in
       let e = idle_after (at_wire 0 k) (sample 0 k) (ap (λ p. (stretch_of p).sort) (agree_first k lt) ∙ idle) d in
-      absurd (no_head h (same_head None (Some h) (sym e ∙ ap (λ y. y.sort) (sym (stretch_there 0 k) ∙ x.0)))))
+      absurd (none-some h (same_head None (Some h) (sym e ∙ ap (λ y. y.sort) (sym (stretch_there 0 k) ∙ x.0)))))
   back_first k h lt x (inr due) =
       (let e = ap stretch_of (agree_first k lt) ∙ due.2 in
       let n = next_stretch 0 k (Some due.0) [] lt e none_first_end in
@@ -369,7 +367,7 @@ module _ (steps : StayInStep) (errors : FindNoErrors) (winner : LeastWins) (stuf
   carries : (n k : ℕ) (h : Content) → n < total → AllRight s bits drove n → stuffed_end (own n) ≡ None → k < s.count → Sends n k h → FoundSent h (own (suc n)) (suc n)
       → (bits n).drives k ≡ bus_bit s bits n
   carries n k h less right none lt x found =
-      sym (drives_there n k (omega arith) lt (agree n (omega arith) right k lt)) ∙ ap is_dominant (drive_there n k h x none ∙ sym (sent_old h (own n) (bit n) n (let e = own_length n in omega arith))
+      sym (drives_there n k (omega arith) lt (agree n (omega arith) right k lt)) ∙ ap is_dominant (drive_there n k h x none ∙ sym (sent_old h (own n) (bit n) n (let e = levels_length s bits n in omega arith))
       ∙ sym (found n (omega arith)) ∙ at_bus (suc n) n (omega arith)) ∙ level_back (bus_bit s bits n)
 
   -- one bit, after which the stuffed part may end
@@ -384,13 +382,13 @@ module _ (steps : StayInStep) (errors : FindNoErrors) (winner : LeastWins) (stuf
     end_next = (
       _,
       end_more (own n) (bit n) ∙ ap (λ o. or_at o (ends_at (own (suc n)) (length (own (suc n)))) (length (own (suc n)))) none
-          ∙ ap (or_at None (ends_at (own (suc n)) (length (own (suc n))))) (own_length (suc n)),
+          ∙ ap (or_at None (ends_at (own (suc n)) (length (own (suc n))))) (levels_length s bits (suc n)),
     )
 
     found : (k : ℕ) (h : Content) → k < s.count → Sends (suc n) k h → FoundSent h (own (suc n)) (suc n)
     found k h lt x =
         subst (FoundSent h (own (suc n)))
-        (ap (λ e. or_all e (length (own (suc n)))) end_next.1 ∙ ap (or_all (or_at None end_next.0 (suc n))) (own_length (suc n)) ∙ end_there end_next.0 (suc n))
+        (ap (λ e. or_all e (length (own (suc n)))) end_next.1 ∙ ap (or_all (or_at None end_next.0 (suc n))) (levels_length s bits (suc n)) ∙ end_there end_next.0 (suc n))
         (frame.found k h (there k lt) (is_sender (suc n) k h x))
 
   still : (n k : ℕ) (h : Content) → n < total → AllRight s bits drove n → stuffed_end (own n) ≡ None → k < s.count → Sends (suc n) k h → still_sends s bits (suc n) k ≡ true
@@ -419,7 +417,7 @@ module _ (steps : StayInStep) (errors : FindNoErrors) (winner : LeastWins) (stuf
       role_next h (own (suc n)) (bit (suc n)) ∙ ap (λ b. cond b Rx (frame_role (Some h) (own (suc n)))) not_lost ∙ sends.1
     where
       place : length (own (suc n)) ≡ suc n
-      place = own_length (suc n)
+      place = levels_length s bits (suc n)
 
       sent : sent_at h (own (suc (suc n))) (length (own (suc n))) ≡ drive_of (at_wire (suc n) k)
       sent =
@@ -484,13 +482,13 @@ module _ (steps : StayInStep) (errors : FindNoErrors) (winner : LeastWins) (stuf
         let lt : f.sender.0 < s.count = (let c = count_is (suc n) in let h = f.sender.1 in omega arith) in
         let x : Sends (suc n) f.sender.0 f.sender.2 = (f.sender.3.framing, f.sender.3.role) in
         let sent = found n less right none f.sender.0 f.sender.2 lt x in
-        let l = own_length (suc n) in
+        let l = levels_length s bits (suc n) in
         subst (λ o. MatchOption o (IsStuffedFront (own (suc n))) (λ k. ¬ IsStuffedFront (own (suc n))))
         (none_first (ends_six (own (suc n))) (length (own (suc n))) (λ k below. no_six f.sender.2 (own (suc n)) (suc n) sent k (omega arith))) (six (own (suc n))))
 
     at_ack : (more : List Level) (j : ℕ) → j < suc n → at (up_to_ack (own (suc n) ++ more)) j ≡ bit j
     at_ack more j below =
-        (let l = own_length (suc n) in
+        (let l = levels_length s bits (suc n) in
         let a = length-append (own (suc n)) more in
         let b = length-append (own (suc n) ++ more) (Recessive ∷ []) in
         at_front ((own (suc n) ++ more) ++ Recessive ∷ []) (Dominant ∷ []) j (omega arith) ∙ at_front (own (suc n) ++ more) (Recessive ∷ []) j (omega arith)
@@ -508,7 +506,7 @@ module _ (steps : StayInStep) (errors : FindNoErrors) (winner : LeastWins) (stuf
       | inl small ↦ (let e = since_most n in omega arith)
       | inr large ↦
           (let f = front in
-          let l = own_length (suc n) in
+          let l = levels_length s bits (suc n) in
           let a = length-append (own (suc n)) f.0 in
           let b = length-append (own (suc n) ++ f.0) (Recessive ∷ []) in
           let c = length-append ((own (suc n) ++ f.0) ++ Recessive ∷ []) (Dominant ∷ []) in
@@ -525,7 +523,7 @@ module _ (steps : StayInStep) (errors : FindNoErrors) (winner : LeastWins) (stuf
     drive_cases head (Some end) e d =
         (let next = end_next n less right none in
         let same : suc n ≡ end = end_is next.0 (suc n) end (sym next.1 ∙ e) in
-        let l = own_length (suc n) in
+        let l = levels_length s bits (suc n) in
         let silent = tail_silent (frame_role head (own (suc n))) (destuffed_bits (own (suc n)) end) (length (own (suc n)) - end) (omega arith) in
         absurd (not_dominant (sym (ap is_dominant silent) ∙ d)))
       where
@@ -570,7 +568,7 @@ module _ (steps : StayInStep) (errors : FindNoErrors) (winner : LeastWins) (stuf
       (let stays = end_stays (own n) (bit n) place e in
       let same : place ≡ suc n = (let both : Some place ≡ Some (suc n) = sym stays ∙ end in cc) in
       let first = first_is (ends_at (own n)) (suc (length (own n))) place e in
-      let l = own_length n in
+      let l = levels_length s bits n in
       let h = first.inside in
       absurd (omega arith))
 
@@ -617,4 +615,4 @@ module _ (steps : StayInStep) (errors : FindNoErrors) (winner : LeastWins) (stuf
       })
     where
       take_own : (n : ℕ) → take n (own n) ≡ own n
-      take_own n = ap (λ i. take i (own n)) (sym (own_length n)) ∙ take-length (own n)
+      take_own n = ap (λ i. take i (own n)) (sym (levels_length s bits n)) ∙ take-length (own n)

@@ -1,13 +1,13 @@
 -- An edge, at stations that are close: each begins the bit by itself, or by the edge, as far as its jump width goes.
-use Rattle.std.proofs.Common.{◌≡◌, ◌≢◌, ◌∙◌, ◌⊎◌, inl, inr, sym, ap, subst, ℕ, zero, suc, ◌+◌, ◌-◌, ◌*◌, ◌<◌, ◌≤◌, Bool, true, arith}
+use Rattle.std.proofs.Common.{◌≡◌, ◌≢◌, ◌∙◌, ◌⊎◌, inl, inr, sym, ap, subst, ℕ, zero, suc, ◌+◌, ◌-◌, ◌<◌, ◌≤◌, Bool, true, arith}
 use Rattle.std.proofs.lemmas.Bool.{cases_lt, cases_eq}
-use Rattle.std.proofs.Math.Nat.{mul-le-mul_right}
 use Rattle.wl_phase.specs.Clocks.{steady_tick}
 use Rattle.wl_phase.specs.Ways.{moved_to}
 use Rattle.wl_buses.specs.OneFrame.Stations.{Stations, AreStations, AreClose, HaveRoom, ReachesBy, shared_instant, bit_drift}
 use Rattle.wl_buses.specs.OneFrame.Starts.{Start, Drives, BeginsAlone, FollowsSoft, BeginBit, AreAllowed, AreSenders, reaches_at}
 use Rattle.wl_buses.proofs.OneFrame.Measures.{instant_more, ticks_by, exact_before, tick_next}
 use Rattle.wl_buses.proofs.OneFrame.Starting.{IsAhead, followed, alone}
+use Rattle.wl_phase.proofs.Callers.{few_of}
 
 -- what moves to an aim by the jump at most, and doesn't get there
 stays_above : (aim jump n : ℕ) → aim < moved_to aim jump n → n ≡ moved_to aim jump n + jump
@@ -18,9 +18,6 @@ stays_below aim jump n h = omega arith
 
 moves_down : (aim jump n : ℕ) → aim ≤ n → moved_to aim jump n ≤ n
 moves_down aim jump n h = omega arith
-
-pub few_of : (m d : ℕ) → m ≤ 10 → m * d ≤ 10 * d
-few_of m d h = mul-le-mul_right d h
 
 module _ (s : Stations) (are : AreStations s) (room : HaveRoom s) (sends : ℕ → Bool) (since : ℕ) (few : since ≤ 10) (b : Start)
     (close : AreClose s sends since b.due) (senders : AreSenders s sends b) (allowed : AreAllowed s b.drives) (begin : BeginBit s b) where

@@ -1,16 +1,13 @@
 -- A node in a frame, from one sample to the next.
-use Rattle.std.proofs.Common.{◌≡◌, ◌≢◌, ◌∙◌, ◌⊎◌, inl, inr, refl, sym, ap, subst, ℕ, zero, suc, ◌+◌, ◌-◌, ◌<◌, ◌≤◌, ◌&&◌, not, cond, Bool, true, false, List, [], ◌∷◌, ◌++◌, length, Option, Some, None, arith, append-nil}
+use Rattle.std.proofs.Common.{◌≡◌, ◌∙◌, ◌⊎◌, inl, inr, refl, sym, ap, subst, ℕ, zero, suc, ◌+◌, ◌-◌, ◌<◌, ◌≤◌, ◌&&◌, cond, Bool, true, false, List, [], ◌∷◌, ◌++◌, length, Option, Some, None, arith, append-nil}
 use Rattle.std.specs.Prelude.{nat_le}
-use Rattle.std.proofs.lemmas.Bool.{cases_Bool, cases_eq, cases_lt, le-leb, lt-leb}
+use Rattle.std.proofs.lemmas.Bool.{cases_eq, cases_lt, le-leb, lt-leb}
 use Rattle.std.proofs.lemmas.List.Sums.{fold-append}
 use Rattle.wl_level.specs.declared.Level.{Level}
-use Rattle.wl_level.specs.declared.Level.TheVariants.{Dominant, Recessive}
 use Rattle.wl_level.specs.Levels.{is_dominant, level_of, same}
 use Rattle.wl_level.specs.Places.{before}
 use Rattle.wl_confine.specs.declared.ErrorKind.TheVariants.{Bit, Stuff}
-use Rattle.wl_confine.specs.declared.Happened.{Happened}
 use Rattle.wl_confine.specs.declared.Happened.TheVariants as happens
-use Rattle.wl_confine.specs.declared.Mode.{Mode}
 use Rattle.wl_confine.specs.declared.Mode.TheVariants.{Active}
 use Rattle.wl_confine.specs.Counts.{counts_after, counts_of, mode_of, no_counts}
 use Rattle.wl_segments.specs.Lengths.{Lengths}
@@ -19,7 +16,6 @@ use Rattle.wl_sync.specs.declared.Beat.TheVariants.{Plain, Sample, Start}
 use Rattle.wl_sync.specs.Edges.{Seen}
 use Rattle.wl_sync.specs.Bits.{beat_of}
 use Rattle.wl_sync.specs.Running.{clock_after}
-use Rattle.wl_sync.specs.Skips.{steady_clock}
 use Rattle.wl_topology.specs.Driven.{driven}
 use Rattle.wl_frame.specs.Stuffing.{destuffed_bits, is_stuff}
 use Rattle.wl_frame.specs.Grammar.{Content, bits_of, is_arbitration, layout_of}
@@ -34,11 +30,11 @@ use Rattle.wl_machine.specs.Judged.{awaits_start, drive_of, is_idle_sort, judged
 use Rattle.wl_machine.specs.States.{stretch_by}
 use Rattle.wl_machine.proofs.Callers.{stretch_next}
 use Rattle.wl_node.specs.declared.setup.NodeSetup.{NodeSetup}
-use Rattle.wl_node.specs.History.{History, by_beat, history_after, no_history, sampled_next, seen_next, switched_off}
+use Rattle.wl_node.specs.History.{History, by_beat, sampled_next, switched_off}
 use Rattle.wl_phase.specs.Clocks.{steady_tick}
 use Rattle.wl_phase.specs.InStep.{seen_before}
 use Rattle.wl_wire.specs.InStep.{is_fine}
-use Rattle.wl_wire.specs.Wire.{sampled}
+use Rattle.wl_wire.proofs.Callers.{fine_counts}
 use Rattle.wl_buses.specs.OneFrame.Stations.{Stations}
 use Rattle.wl_buses.specs.OneFrame.Course.{bus_bit}
 use Rattle.wl_buses.specs.OneFrame.Clocked.{BitIs}
@@ -46,6 +42,7 @@ use Rattle.wl_buses.specs.OneFrame.Expected.{HasSampled, Outset, SeesExpected, e
 use Rattle.wl_buses.specs.OneFrame.Machines.{bus_levels}
 use Rattle.wl_buses.specs.OneFrame.Nodes.{GoesToNext, IsInBit, IsRun, clock_sees}
 use Rattle.wl_buses.proofs.OneFrame.Machines.{level_back, on_after}
+use Rattle.wl_buses.proofs.BothProofs.Small.{level_same}
 
 -- whether a sample in the stuffed part is fine is a matter of its level alone
 fine_differing : (sm a b c d : Bool) (e f g h : Judgement) → is_fine e.happened ≡ false → is_fine f.happened ≡ false → is_fine g.happened ≡ false → is_fine h.happened ≡ false
@@ -93,26 +90,6 @@ pub fine_same : (s : Stretch) (head : Option Content) (own : List Level) (x y : 
 fine_same s head own x y e none l fine =
     ap (λ t. is_fine (judged t y).happened) e ∙ sym (fine_by (frame_role head own) head own x y none l) ∙ ap (λ t. is_fine (judged t x).happened) (sym e) ∙ fine
 
--- what is fine counts nothing
-pub fine_counts : (h : Happened) → is_fine h ≡ true → counts_after no_counts h ≡ no_counts
-fine_counts happens.Nothing e = refl
-fine_counts happens.Sent e = refl
-fine_counts happens.Acked e = refl
-fine_counts (happens.RxError k) e = cc
-fine_counts happens.RxAfterFlag e = cc
-fine_counts happens.RxFlagBit e = cc
-fine_counts happens.RxLong e = cc
-fine_counts (happens.TxError k) e = cc
-fine_counts happens.TxFree e = cc
-fine_counts happens.PassiveAck e = cc
-fine_counts happens.TxFlagBit e = cc
-fine_counts happens.TxLong e = cc
-fine_counts happens.Recovered e = cc
-
-level_is : (l : Level) → level_of (is_dominant l) ≡ l
-level_is Dominant = refl
-level_is Recessive = refl
-
 pub seen_before_same : (a b : ℕ → Seen) (k : ℕ) → ((j : ℕ) → j < k → a j ≡ b j) → seen_before a k ≡ seen_before b k
 seen_before_same a b zero h = refl
 seen_before_same a b (suc k) h = ap (λ v. v ++ a k ∷ []) (seen_before_same a b k (λ j less. h j (omega arith))) ∙ ap (λ x. seen_before b k ++ x ∷ []) (h k (omega arith))
@@ -138,6 +115,9 @@ module _ (setup : NodeSetup) (levels : ℕ → Level) (node : ℕ → History) (
 
     pub happened_by : (node (suc q)).happened ≡ (by_beat setup (node q) (levels q) b).happened
     happened_by = ap (λ h. h.happened) (run.next q) ∙ ap (λ x. (by_beat setup (node q) (levels q) x).happened) beat_is
+
+    pub frames_by : (node (suc q)).frames ≡ (by_beat setup (node q) (levels q) b).frames
+    frames_by = ap (λ h. h.frames) (run.next q) ∙ ap (λ x. (by_beat setup (node q) (levels q) x).frames) beat_is
 
   -- from one sample on to the next one, if what the node sees in between makes its bit clock go so
   module _ (l : Lengths) (segments : setup.segments ≡ l) (R S' : ℕ) (X : Stretch) (drives : ℕ → Bool)
@@ -209,7 +189,7 @@ module _ (setup : NodeSetup) (levels : ℕ → Level) (node : ℕ → History) (
             inputs = inputs_by q Start b ∙ x.inputs;
             happened = happened_by q Start b ∙ x.happened;
             drive =
-                drive_by q Start b ∙ ap (λ v. drive_of (stretch_of v)) x.inputs ∙ ap drive_of stretch_first ∙ sym (level_is (drive_of X)) ∙ ap level_of (sym start.1);
+                drive_by q Start b ∙ ap (λ v. drive_of (stretch_of v)) x.inputs ∙ ap drive_of stretch_first ∙ sym (level_same (drive_of X)) ∙ ap level_of (sym start.1);
             seen = seen_more q more x;
           })
 

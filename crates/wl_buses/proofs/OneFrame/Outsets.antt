@@ -1,7 +1,7 @@
 -- A node that rests begins a frame as is expected of it.
-use Rattle.std.proofs.Common.{◌≡◌, ◌≢◌, ◌∙◌, ◌⊎◌, inl, inr, refl, sym, ap, subst, ℕ, zero, suc, ◌+◌, ◌-◌, ◌<◌, ◌≤◌, ◌&&◌, cond, Bool, true, false, List, [], ◌∷◌, ◌++◌, Option, Some, None, arith}
+use Rattle.std.proofs.Common.{◌≡◌, ◌≢◌, ◌∙◌, inl, inr, refl, sym, ap, subst, ℕ, zero, suc, ◌+◌, ◌-◌, ◌<◌, ◌≤◌, ◌&&◌, cond, Bool, true, false, List, [], ◌∷◌, ◌++◌, Some, None, arith}
 use Rattle.std.specs.Prelude.{nat_le, nat_lt}
-use Rattle.std.proofs.lemmas.Bool.{and_parts, both_ways, cases_Bool, cases_eq, cases_lt, false_from_ne_true, le-leb, leb-true, lt-leb, ltb-true}
+use Rattle.std.proofs.lemmas.Bool.{and_parts, both_ways, cases_Bool, cases_eq, cases_lt, false_from_ne_true, le-leb, leb-true, lt-leb}
 use Rattle.wl_level.specs.declared.Level.{Level}
 use Rattle.wl_level.specs.declared.Level.TheVariants.{Dominant, Recessive}
 use Rattle.wl_level.specs.Levels.{is_dominant, level_of}
@@ -22,7 +22,7 @@ use Rattle.wl_machine.specs.Stretch.Sort.{Framing, Idle}
 use Rattle.wl_machine.specs.Stretch.Input.{Sample as Given}
 use Rattle.wl_machine.specs.Frames.{stuffed_end}
 use Rattle.wl_machine.specs.BetweenFrames.{idle_on}
-use Rattle.wl_machine.specs.Judged.{awaits_by, awaits_start, drive_of, is_idle_sort, judged, judged_by, or_next, stretch_after, stretch_of}
+use Rattle.wl_machine.specs.Judged.{awaits_by, awaits_start, is_idle_sort, judged, judged_by, or_next, stretch_after, stretch_of}
 use Rattle.wl_machine.specs.States.{stretch_by}
 use Rattle.wl_machine.proofs.Callers.{stretch_next}
 use Rattle.wl_node.specs.declared.setup.NodeSetup.{NodeSetup}
@@ -31,19 +31,19 @@ use Rattle.wl_phase.specs.Clocks.{steady_tick}
 use Rattle.wl_phase.specs.Ways.{ByTheBook, WayLaws}
 use Rattle.wl_phase.specs.InStep.{seen_before}
 use Rattle.wl_phase.proofs.Callers.{Goes}
-use Rattle.wl_wire.specs.InStep.{Has, is_fine}
+use Rattle.wl_wire.specs.InStep.{is_fine}
 use Rattle.wl_wire.specs.Wire.{sampled}
 use Rattle.wl_buses.specs.OneFrame.Stations.{AreStations, HaveRoom, Stations}
 use Rattle.wl_buses.specs.OneFrame.Starts.{BeginsAlone, Drives, FollowsHard, reaches_at}
 use Rattle.wl_buses.specs.OneFrame.Course.{bus_bit}
 use Rattle.wl_buses.specs.OneFrame.Machines.{MayBegin, bus_levels}
 use Rattle.wl_buses.specs.OneFrame.Clocked.{BitIs, BitPlaceLaws, BitStartLaws, EdgeLaws, NoEdgeLaws, SamplesBy, StartsOnce}
-use Rattle.wl_buses.specs.OneFrame.Expected.{HasSampled, IsOutset, Outset, expected_bits, expected_drove, expected_sample, past_at, wants}
+use Rattle.wl_buses.specs.OneFrame.Expected.{IsOutset, Outset, expected_bits, expected_drove, expected_sample, past_at, wants}
 use Rattle.wl_buses.specs.OneFrame.Nodes.{IsInBit, IsRun, clock_sees}
 use Rattle.wl_buses.specs.OneFrame.Lines.{BeginsAfter}
 use Rattle.wl_buses.proofs.OneFrame.Calm.{LevelGoes, SampleGoes}
 use Rattle.wl_buses.proofs.OneFrame.Counting.{plain_before, samples_start, starts_there, unsampled_before}
-use Rattle.wl_buses.proofs.OneFrame.Expecting.{driven_at, drives_are, from_all, from_sample, sent_at, wants_sends}
+use Rattle.wl_buses.proofs.OneFrame.Expecting.{driven_at, drives_are, from_all, sent_at, wants_sends}
 use Rattle.wl_buses.proofs.OneFrame.Ideal.{fine}
 use Rattle.wl_buses.proofs.OneFrame.Machines.{FindNoErrors, LeastWins, SendStuffed, SixOrFront, StayInStep, TenHaveEdge, on_after}
 use Rattle.wl_buses.proofs.OneFrame.Measures.{tick_next}

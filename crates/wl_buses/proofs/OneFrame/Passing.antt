@@ -1,6 +1,6 @@
 -- The bits of a frame, one after another: all sample each as it is on the bus, and who still sends is close to all.
-use Rattle.std.proofs.Common.{◌≡◌, ◌∙◌, ◌⊎◌, inl, inr, refl, sym, ap, subst, ℕ, zero, suc, ◌+◌, ◌-◌, ◌<◌, ◌≤◌, ◌||◌, not, cond, Bool, true, false, arith}
-use Rattle.std.proofs.lemmas.Bool.{cases_lt, cases_Bool, and_parts, and_from, or_cases, or_left}
+use Rattle.std.proofs.Common.{◌≡◌, ◌∙◌, ◌⊎◌, inl, inr, sym, ap, subst, ℕ, zero, suc, ◌+◌, ◌-◌, ◌<◌, ◌≤◌, ◌||◌, not, cond, Bool, true, false, arith}
+use Rattle.std.proofs.lemmas.Bool.{cases_lt, cases_Bool, and_parts, and_from, or_cases, or_left, not-true}
 use Rattle.wl_segments.specs.Lengths.{bit_quanta, sample_at}
 use Rattle.wl_topology.specs.Driven.{DrivenLaws}
 use Rattle.wl_topology.proofs.Callers.{any_from}
@@ -40,6 +40,15 @@ begun_by s are b k there (inl itself) = inl itself.from
 begun_by s are b k there (inr soft) =
     inr (soft.by, soft.finds.by, (λ e. (let seen = soft.finds.finds.seen in let up = tick_next s are k there soft.found (b.from k) (soft.not_before e) in omega arith)))
 
+-- who sends still has sent before, and may send
+pub still_before : (s : Stations) (bits : ℕ → Start) (n k : ℕ) → still_sends s bits (suc n) k ≡ true → still_sends s bits n k ≡ true
+still_before s bits n k e = (and_parts (still_sends s bits n k) ((bits n).drives k || not (bus_bit s bits n)) e).0
+
+pub still_allowed : (s : Stations) (bits : ℕ → Start) → ((k : ℕ) → k < s.count → still_sends s bits 0 k ≡ true → s.may_send k ≡ true) → (n k : ℕ) → k < s.count
+    → still_sends s bits n k ≡ true → s.may_send k ≡ true
+still_allowed s bits allowed zero k there e = allowed k there e
+still_allowed s bits allowed (suc n) k there e = still_allowed s bits allowed n k there (still_before s bits n k e)
+
 module _ (s : Stations) (are : AreStations s) (room : HaveRoom s) (bits : ℕ → Start) (drove : ℕ → ℕ → Bool) (length : ℕ) (until : ℕ → ℕ)
     (is : IsCourse s bits drove length until) (laws : DrivenLaws) where
   abbrev sends : ℕ → ℕ → Bool
@@ -65,8 +74,8 @@ module _ (s : Stations) (are : AreStations s) (room : HaveRoom s) (bits : ℕ �
     pub lost : (i k : ℕ) → i < s.count → k < s.count → (bits 0).drives k ≡ true → sends n k ≡ false → IsHeld n i k (until k)
 
   -- who sends still
-  pub sent_before : (n k : ℕ) → sends (suc n) k ≡ true → sends n k ≡ true
-  sent_before n k e = (and_parts (sends n k) ((bits n).drives k || not (bus_bit s bits n)) e).0
+  abbrev pub sent_before : (n k : ℕ) → sends (suc n) k ≡ true → sends n k ≡ true
+  sent_before = still_before s bits
 
   pub sent_as : (n k : ℕ) → bus_bit s bits n ≡ true → sends (suc n) k ≡ true → (bits n).drives k ≡ true
   sent_as n k bus e = elim (or_cases ((bits n).drives k) (not (bus_bit s bits n)) (and_parts (sends n k) ((bits n).drives k || not (bus_bit s bits n)) e).1) [
@@ -83,9 +92,8 @@ module _ (s : Stations) (are : AreStations s) (room : HaveRoom s) (bits : ℕ �
     | inr recessive ↦ recessive
   ]
 
-  pub allowed_at : (n k : ℕ) → k < s.count → sends n k ≡ true → s.may_send k ≡ true
-  allowed_at zero k there e = is.allowed k there e
-  allowed_at (suc n) k there e = allowed_at n k there (sent_before n k e)
+  abbrev pub allowed_at : (n k : ℕ) → k < s.count → sends n k ≡ true → s.may_send k ≡ true
+  allowed_at = still_allowed s bits is.allowed
 
   -- a station that is on the bus
   on_bus : (n k : ℕ) → k < s.count → (bits n).drives k ≡ true → bus_bit s bits n ≡ true
@@ -155,13 +163,13 @@ module _ (s : Stations) (are : AreStations s) (room : HaveRoom s) (bits : ℕ �
   one n less r = record {
     close = r.close;
     few = is.few n less;
-    allowed = λ k there e. allowed_at (suc n) k there e;
+    allowed = λ k there e. still_allowed s bits is.allowed (suc n) k there e;
     senders = λ k there e. sends_on n k (is.senders n k (omega arith) there (r.right k there) e) e;
     begun = λ k there e. begun_at n k less there r.right;
     after = λ k there. is.after n k less there;
     still = λ k there right e. is.senders (suc n) k (omega arith) there (up_to n r k there right) e;
-    next = λ k there e right. is.next n k less there (sent_before n k e) (up_to n r k there right);
-    drives = λ k t there e from before. is.drives n k t less there (r.right k there) (sent_before n k e) from before;
+    next = λ k there e right. is.next n k less there (still_before s bits n k e) (up_to n r k there right);
+    drives = λ k t there e from before. is.drives n k t less there (r.right k there) (still_before s bits n k e) from before;
     quiet = λ i k inside there gone right later. quiet_at n i k less inside there r gone right later;
   }
 
@@ -216,12 +224,12 @@ module _ (s : Stations) (are : AreStations s) (room : HaveRoom s) (bits : ℕ �
     close_edge e =
         subst (λ m. AreClose s (sends (suc (suc n))) m (bits (suc n)).place) (sym (since_next e))
         (fewer s (bits (suc n)).drives (sends (suc (suc n))) 0 (bits (suc n)).place (λ k there f. sent_as (suc n) k (and_parts (not (bus_bit s bits n)) (bus_bit s bits (suc n)) e).1 f)
-        (bit_close s are room (sends (suc n)) (suc (since n)) few_due (bits (suc n)) close_due senders_next (λ k there f. allowed_at (suc n) k there (sent_next k there f)) (is.edge n less right e)))
+        (bit_close s are room (sends (suc n)) (suc (since n)) few_due (bits (suc n)) close_due senders_next (λ k there f. still_allowed s bits is.allowed (suc n) k there (sent_next k there f)) (is.edge n less right e)))
 
     close_next : AreClose s (sends (suc (suc n))) (since (suc n)) (bits (suc n)).place
     close_next = elim (cases_Bool (begins_with_edge s bits (suc n))) [
       | inl edge ↦ close_edge edge
-      | inr plain ↦ fewer s (sends (suc n)) (sends (suc (suc n))) (since (suc n)) (bits (suc n)).place (λ k there f. sent_before (suc n) k f) (close_plain plain)
+      | inr plain ↦ fewer s (sends (suc n)) (sends (suc (suc n))) (since (suc n)) (bits (suc n)).place (λ k there f. still_before s bits (suc n) k f) (close_plain plain)
     ]
 
     -- a bit later
@@ -253,8 +261,8 @@ module _ (s : Stations) (are : AreStations s) (room : HaveRoom s) (bits : ℕ �
         → IsHeld (suc n) i k (steady_tick (s.clocks k) ((bits (suc (suc n))).from k))
     held_edge i k inside there sender recessive edge =
         let bus : not (bus_bit s bits n) ≡ true = (and_parts (not (bus_bit s bits n)) (bus_bit s bits (suc n)) edge).0 in
-        let old : (bits n).drives k ≡ false = off_bus n k there (not_true (bus_bit s bits n) bus) in
-        let h = held_later i k (steady_tick (s.clocks k) ((bits (suc n)).from k)) inside (r.held i k inside there (sent_before n k sender) old) in
+        let old : (bits n).drives k ≡ false = off_bus n k there (not-true (bus_bit s bits n) bus) in
+        let h = held_later i k (steady_tick (s.clocks k) ((bits (suc n)).from k)) inside (r.held i k inside there (still_before s bits n k sender) old) in
         record {
           begin = h.begin;
           before = h.before;
@@ -263,16 +271,12 @@ module _ (s : Stations) (are : AreStations s) (room : HaveRoom s) (bits : ℕ �
             | inr next ↦ is.drives (suc n) k t less there (right k there) sender next before ∙ recessive
           ];
         }
-      where
-        not_true : (b : Bool) → not b ≡ true → b ≡ false
-        not_true true e = cc
-        not_true false e = refl
 
     held_plain : (i k : ℕ) → i < s.count → k < s.count → sends (suc n) k ≡ true → (bits (suc n)).drives k ≡ false → begins_with_edge s bits (suc n) ≡ false
         → IsHeld (suc n) i k (steady_tick (s.clocks k) ((bits (suc (suc n))).from k))
     held_plain i k inside there sender recessive plain = record {
       begin = steady_tick (s.clocks k) ((bits (suc n)).from k);
-      before = is_there s are room (sends (suc n)) (since (suc n)) (let f = is.few (suc n) less in omega arith) (bits (suc n)) (λ k there e. allowed_at (suc n) k there e) (close_plain plain) i k inside there sender (is.plain n k less there right plain).1;
+      before = is_there s are room (sends (suc n)) (since (suc n)) (let f = is.few (suc n) less in omega arith) (bits (suc n)) (λ k there e. still_allowed s bits is.allowed (suc n) k there e) (close_plain plain) i k inside there sender (is.plain n k less there right plain).1;
       recessive = λ t from before. is.drives (suc n) k t less there (right k there) sender from before ∙ recessive;
     }
 

@@ -1,10 +1,7 @@
 -- Worked stations, by computation.
 use Rattle.std.proofs.Common.{◌≡◌, ℕ, zero, suc, ◌+◌, Bool, true, false, [], ◌∷◌, Some, refl}
 use Rattle.wl_level.specs.declared.Level.TheVariants.{Dominant}
-use Rattle.wl_segments.specs.declared.SyncRules.TheVariants.{Book}
-use Rattle.wl_segments.specs.Lengths.{Lengths}
 use Rattle.wl_clock.specs.Timing.{tick_of}
-use Rattle.wl_phase.specs.Clocks.{Steady}
 use Rattle.wl_bound.specs.Families.{Bus}
 use Rattle.wl_bound.specs.Terms.{drift, jump}
 use Rattle.wl_buses.specs.OneFrame.Stations.{Stations, shared_tick, shared_quantum, shared_instant, bit_drift}
@@ -15,25 +12,7 @@ use Rattle.wl_buses.specs.OneFrame.Starts.{Start, reaches_at}
 use Rattle.wl_buses.specs.OneFrame.Course.{since_edge, still_sends}
 use Rattle.wl_buses.specs.OneFrame.Machines.{bus_levels}
 use Rattle.wl_buses.specs.OneFrame.Expected.{from_after, from_found, place_found}
-
--- a bit of 1 + 3 + 3 + 3 quanta with its sample at place 7
-abbrev l : Lengths
-l = record { prop = 3; ps1 = 3; ps2 = 3; sjw = 2; sync = Book }
-
--- station 0 has quanta of 10 ticks from tick 0 on, each other one of 10 1/2 ticks from tick 7 on
-abbrev clock_of : ℕ → Steady
-clock_of zero = record { offset = 0; num = 10; den = 1 }
-clock_of (suc i) = record { offset = 7; num = 21; den = 2 }
-
--- 4 ticks to itself, 9 to another
-abbrev delay_of : ℕ → ℕ → ℕ
-delay_of zero zero = 4
-delay_of zero (suc k) = 9
-delay_of (suc i) zero = 9
-delay_of (suc i) (suc k) = 4
-
-abbrev s : Stations
-s = record { count = 2; clocks = clock_of; lengths = λ i. l; delay = delay_of; may_send = λ i. true; way = λ k i. 36 }
+use Rattle.wl_buses.proofs.BothProofs.Rows.{l, s}
 
 -- in half ticks
 tick : shared_tick s 0 1 ≡ 2

@@ -4,17 +4,14 @@ use Rattle.std.proofs.lemmas.Bool.{cases_lt, cases_eq, cases_Bool, false_from_ne
 use Rattle.std.proofs.Math.Nat.{mul-le-mul_right, lt_of_mul-lt-mul_left}
 use Rattle.wl_segments.specs.Lengths.{bit_quanta, sample_at}
 use Rattle.wl_topology.specs.Driven.{DrivenLaws, driven, any_below}
-use Rattle.wl_topology.proofs.Callers.{any_from, any_one}
+use Rattle.wl_topology.proofs.Callers.{any_one}
 use Rattle.wl_phase.specs.Clocks.{steady_tick, instant}
 use Rattle.wl_phase.proofs.Callers.{floor_low, floor_high}
 use Rattle.wl_buses.specs.OneFrame.Stations.{Stations, AreStations, AreClose, HaveRoom, shared_quantum, shared_instant, bit_drift}
 use Rattle.wl_buses.specs.OneFrame.Starts.{Start, AreAllowed, reaches_at}
 use Rattle.wl_buses.specs.OneFrame.OneBit.{OneBit, AreRight, IsRight, sampled_at}
 use Rattle.wl_buses.proofs.OneFrame.Measures.{same_tick, instant_more, reaches_by, ticks_before, tick_next}
-
--- none passes where no number below n does
-pub none_below : (n : ℕ) (test : ℕ → Bool) → any_below n test ≡ false → (k : ℕ) → k < n → test k ≡ false
-none_below n test e k less = false_from_ne_true (test k) (λ passes. (let some = any_from n k test less passes in cc))
+use Rattle.wl_buses.proofs.BothProofs.Small.{none_below}
 
 module _ (s : Stations) (are : AreStations s) (room : HaveRoom s) (sends : ℕ → Bool) (since : ℕ) (few : since ≤ 10) (b : Start) (allowed : AreAllowed s sends) (close : AreClose s sends since b.place) where
   -- a bit that a sender begins with its place 0 is there at the sample of each other station, and at its own

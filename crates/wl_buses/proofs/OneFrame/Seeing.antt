@@ -1,7 +1,7 @@
 -- A bit clock that sees what is expected goes as is expected.
-use Rattle.std.proofs.Common.{◌≡◌, ◌≢◌, ◌∙◌, ◌⊎◌, inl, inr, refl, sym, ap, subst, ℕ, zero, suc, ◌+◌, ◌-◌, ◌*◌, ◌<◌, ◌≤◌, ◌&&◌, ◌||◌, not, max, cond, Bool, true, false, Some, None, Option, arith}
+use Rattle.std.proofs.Common.{◌≡◌, ◌∙◌, ◌⊎◌, inl, inr, refl, sym, ap, subst, ℕ, zero, suc, ◌+◌, ◌-◌, ◌<◌, ◌≤◌, ◌&&◌, ◌||◌, not, max, Bool, true, false, None, arith}
 use Rattle.std.specs.Prelude.{nat_le, nat_lt}
-use Rattle.std.proofs.lemmas.Bool.{and_from, and_parts, cases_Bool, cases_eq, cases_lt, false_from_ne_true, leb-true, ltb-true, not-true, or_left}
+use Rattle.std.proofs.lemmas.Bool.{and_from, and_parts, cases_Bool, cases_eq, cases_lt, false_from_ne_true, leb-true, ltb-true, or_left}
 use Rattle.wl_level.specs.declared.Level.{Level}
 use Rattle.wl_level.specs.declared.Level.TheVariants.{Dominant, Recessive}
 use Rattle.wl_level.specs.Levels.{level_of}
@@ -10,19 +10,20 @@ use Rattle.wl_sync.specs.declared.Beat.TheVariants.{Sample}
 use Rattle.wl_sync.specs.Edges.{Seen}
 use Rattle.wl_sync.specs.Running.{clock_after}
 use Rattle.wl_sync.specs.Skips.{steady_clock}
-use Rattle.wl_topology.specs.Driven.{DrivenLaws, any_below, driven}
+use Rattle.wl_topology.specs.Driven.{DrivenLaws, driven}
 use Rattle.wl_topology.proofs.Callers.{any_from, any_one}
 use Rattle.wl_machine.specs.Frames.{stuffed_end}
 use Rattle.wl_phase.specs.Clocks.{steady_tick}
-use Rattle.wl_phase.specs.Ways.{ByTheBook, moved_to}
+use Rattle.wl_phase.specs.Ways.{ByTheBook}
 use Rattle.wl_phase.specs.InStep.{seen_before}
 use Rattle.wl_buses.specs.OneFrame.Stations.{AreClose, AreStations, HaveRoom, Stations}
 use Rattle.wl_buses.specs.OneFrame.Starts.{BeginBit, BeginsAlone, Drives, FollowsSoft, Start, reaches_at}
-use Rattle.wl_buses.specs.OneFrame.OneBit.{IsRight, OneBit, sampled_at}
+use Rattle.wl_buses.specs.OneFrame.OneBit.{IsRight, sampled_at}
 use Rattle.wl_buses.specs.OneFrame.Course.{IsCourse, begins_with_edge, bus_bit, since_edge, still_sends}
 use Rattle.wl_buses.specs.OneFrame.Machines.{bus_levels}
 use Rattle.wl_buses.specs.OneFrame.Clocked.{BitIs, EdgeLaws, FindsEdge, NoEdgeLaws, NoneSyncs, SamplesBy}
 use Rattle.wl_buses.specs.OneFrame.Expected.{HasSampled, IsOutset, Outset, SeesExpected, edge_start, expected_bits, expected_drove, expected_end, expected_sample, found_before, looks_up_to, most, settled, wants}
+use Rattle.wl_buses.proofs.OneFrame.Expecting as expecting
 use Rattle.wl_buses.proofs.OneFrame.Expecting.{course, driven_at, drives_are, edge_is, few_at, from_all, may, place_low, plain_is, sent_at, wants_sends}
 use Rattle.wl_buses.proofs.OneFrame.Machines.{FindNoErrors, LeastWins, SendStuffed, SixOrFront, StayInStep, TenHaveEdge}
 use Rattle.wl_buses.proofs.OneFrame.Measures.{drifted, tick_next}
@@ -63,8 +64,8 @@ module _ (steps : StayInStep) (errors : FindNoErrors) (winner : LeastWins) (stuf
   close_at : (n : ℕ) → n < length → AreClose s (sends (suc n)) (since_edge s bits n) (bits n).place
   close_at n less = (sampled_bit s are room bits drove length (λ k. expected_end s o length) the_course laws n less).close
 
-  wants_are : (n k : ℕ) → (bits n).drives k ≡ wants s o n k
-  wants_are n k = drives_are steps errors winner stuffed six ten s are room o is n k
+  abbrev wants_are : (n k : ℕ) → (bits n).drives k ≡ wants s o n k
+  wants_are = expecting.drives_are steps errors winner stuffed six ten s are room o is
 
   -- who drives a bit dominant sends on after it
   pub sends_on : (n k : ℕ) → n < length → k < s.count → wants s o n k ≡ true → sends (suc n) k ≡ true
@@ -144,6 +145,35 @@ module _ (steps : StayInStep) (errors : FindNoErrors) (winner : LeastWins) (stuf
       let sample = tick_next s are i inside (dues m i + sample_at (s.lengths i)) (S n i) (due_sample m n i inside less e) in
       omega arith
 
+  -- what is found dominant is a bit that a station drives so
+  pub record Driving (i u : ℕ) : Type 0 where
+    pub by : ℕ
+    pub bit : ℕ
+    pub there : by < s.count
+    pub inside_bits : bit < length
+    pub dominant : wants s o bit by ≡ true
+    pub come : s.delay by i ≤ u
+    pub low_bit : tick by ((bits bit).from by) ≤ u - s.delay by i
+    pub high_bit : u - s.delay by i < tick by ((bits (suc bit)).from by)
+
+  pub driving_at : (i u : ℕ) → driven s.count s.delay drove i u ≡ true → Driving i u
+  driving_at i u e =
+      let w = laws.dominant_by s.count s.delay drove i u e in
+      let v = u - s.delay w.0 i in
+      let x = any_one length (λ n. wants s o n w.0 && (nat_le (tick w.0 ((bits n).from w.0)) v && nat_lt v (tick w.0 ((bits (suc n)).from w.0)))) w.3 in
+      let p = and_parts (wants s o x.0 w.0) (nat_le (tick w.0 ((bits x.0).from w.0)) v && nat_lt v (tick w.0 ((bits (suc x.0)).from w.0))) x.2 in
+      let r = and_parts (nat_le (tick w.0 ((bits x.0).from w.0)) v) (nat_lt v (tick w.0 ((bits (suc x.0)).from w.0))) p.1 in
+      record {
+        by = w.0;
+        bit = x.0;
+        there = w.1;
+        inside_bits = x.1;
+        dominant = p.0;
+        come = w.2;
+        low_bit = leb-true (tick w.0 ((bits x.0).from w.0)) v r.0;
+        high_bit = ltb-true v (tick w.0 ((bits (suc x.0)).from w.0)) r.1;
+      }
+
   -- between the samples of a recessive bit and of the next one
   module _ (n i : ℕ) (less : suc n < length) (inside : i < s.count) (quiet : bus n ≡ false) where
     abbrev found : ℕ → Bool
@@ -186,12 +216,8 @@ module _ (steps : StayInStep) (errors : FindNoErrors) (winner : LeastWins) (stuf
 
     driver_at : (q : ℕ) → S n i < q → q ≤ S (suc n) i → found q ≡ true → Driver q
     driver_at q after_n by_next e =
-        let w = laws.dominant_by s.count s.delay drove i (tick i q) e in
-        let u = tick i q - s.delay w.0 i in
-        let x = any_one length (λ m. wants s o m w.0 && (nat_le (tick w.0 ((bits m).from w.0)) u && nat_lt u (tick w.0 ((bits (suc m)).from w.0)))) w.3 in
-        let p = and_parts (wants s o x.0 w.0) (nat_le (tick w.0 ((bits x.0).from w.0)) u && nat_lt u (tick w.0 ((bits (suc x.0)).from w.0))) x.2 in
-        let r = and_parts (nat_le (tick w.0 ((bits x.0).from w.0)) u) (nat_lt u (tick w.0 ((bits (suc x.0)).from w.0))) p.1 in
-        driver_by q w.0 x.0 after_n by_next w.1 w.2 x.1 p.0 (leb-true (tick w.0 ((bits x.0).from w.0)) u r.0) (ltb-true u (tick w.0 ((bits (suc x.0)).from w.0)) r.1)
+        let x = driving_at i (tick i q) e in
+        driver_by q x.by x.bit after_n by_next x.there x.come x.inside_bits x.dominant x.low_bit x.high_bit
 
     driven_then : (w q : ℕ) → w < s.count → wants s o (suc n) w ≡ true → reaches_at s (bits (suc n)) w i ≤ tick i q → q ≤ S (suc n) i → found q ≡ true
     driven_then w q there dominant reach by_next =

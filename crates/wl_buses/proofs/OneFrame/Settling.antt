@@ -1,20 +1,17 @@
 -- A bit with an edge: each station begins it by itself, or by the first edge that reaches it.
-use Rattle.std.proofs.Common.{◌≡◌, ◌≢◌, ◌∙◌, ◌⊎◌, inl, inr, refl, sym, ap, subst, ℕ, zero, suc, ◌+◌, ◌-◌, ◌*◌, ◌<◌, ◌≤◌, ◌&&◌, not, max, cond, Bool, true, false, Option, Some, None, arith}
+use Rattle.std.proofs.Common.{◌≡◌, ◌∙◌, ◌⊎◌, inl, inr, refl, sym, ap, ℕ, zero, suc, ◌+◌, ◌-◌, ◌<◌, ◌≤◌, ◌&&◌, not, max, cond, Bool, true, false, Option, Some, None, arith}
 use Rattle.std.specs.Prelude.{◌==◌, nat_le}
-use Rattle.std.proofs.lemmas.Bool.{and_from, and_parts, cases_Bool, cases_eq, cases_lt, eq-eqb, eqb-true, false_from_ne_true, le-leb, leb-true, lt-leb, ne_eqb, not-true}
-use Rattle.std.proofs.Math.Nat.{lt_of_mul-lt-mul_left, mul-le-mul_left}
-use Rattle.wl_level.specs.Places.{IsFirstPlace, first_place}
+use Rattle.std.proofs.lemmas.Bool.{and_from, and_parts, cases_Bool, cases_lt, false_from_ne_true, le-leb, leb-true, lt-leb, ne_eqb}
 use Rattle.wl_level.proofs.Callers.{first_cong, first_found, first_is, first_none, none_first}
 use Rattle.wl_topology.specs.Driven.{any_below}
 use Rattle.wl_topology.proofs.Callers.{any_from, any_one, any_same}
-use Rattle.wl_phase.specs.Clocks.{Steady, instant, steady_tick}
+use Rattle.wl_phase.specs.Clocks.{steady_tick}
 use Rattle.wl_phase.specs.Ways.{moved_to}
-use Rattle.wl_phase.proofs.Callers.{floor_high}
 use Rattle.wl_buses.specs.OneFrame.Stations.{AreStations, Stations}
 use Rattle.wl_buses.specs.OneFrame.Starts.{BeginBit, BeginsAlone, Drives, FindsFirst, FollowsSoft, Start, reaches_at}
-use Rattle.wl_buses.specs.OneFrame.OneBit.{FollowsOne}
-use Rattle.wl_buses.specs.OneFrame.Expected.{edge_start, found_before, from_after, from_found, is_reached, looks_up_to, most, place_found, settled}
+use Rattle.wl_buses.specs.OneFrame.Expected.{edge_start, found_before, from_after, from_found, is_reached, most, place_found, settled}
 use Rattle.wl_buses.proofs.OneFrame.Measures.{tick_next}
+use Rattle.wl_buses.proofs.BothProofs.Small.{distinct, ticks_up}
 
 pub most_from : (n : ℕ) (f : ℕ → ℕ) (k : ℕ) → k < n → f k ≤ most n f
 most_from zero f k less = absurd (omega arith)
@@ -186,15 +183,12 @@ module _ (s : Stations) (are : AreStations s) (drives : ℕ → Bool) (due : ℕ
       (and_from (drives k) (not (k == i) && nat_le (tick k (from k) + s.delay k i) (tick i q)) d.dominant
       (and_from (not (k == i)) (nat_le (tick k (from k) + s.delay k i) (tick i q)) (ap not (ne_eqb k i d.other)) (le-leb (tick k (from k) + s.delay k i) (tick i q) h)))
 
-  apart : (k i : ℕ) → not (k == i) ≡ true → k ≢ i
-  apart k i e same = (let f = eq-eqb k i same in let g : not (k == i) ≡ false = ap not f in cc)
-
   pub reached_from : (i q : ℕ) → is_reached s drives from i q ≡ true → (k : ℕ) × Drives s b i k × (reaches_at s b k i ≤ tick i q)
   reached_from i q e =
       let x = any_one s.count (λ w. drives w && (not (w == i) && nat_le (tick w (from w) + s.delay w i) (tick i q))) e in
       let p = and_parts (drives x.0) (not (x.0 == i) && nat_le (tick x.0 (from x.0) + s.delay x.0 i) (tick i q)) x.2 in
       let r = and_parts (not (x.0 == i)) (nat_le (tick x.0 (from x.0) + s.delay x.0 i) (tick i q)) p.1 in
-      (x.0, record { inside = x.1; other = apart x.0 i r.0; dominant = p.0 }, leb-true (tick x.0 (from x.0) + s.delay x.0 i) (tick i q) r.1)
+      (x.0, record { inside = x.1; other = distinct x.0 i r.0; dominant = p.0 }, leb-true (tick x.0 (from x.0) + s.delay x.0 i) (tick i q) r.1)
 
   unreached : (i k q : ℕ) → Drives s b i k → is_reached s drives from i q ≡ false → tick i q < reaches_at s b k i
   unreached i k q d e = elim (cases_lt (tick i q) (reaches_at s b k i)) [
@@ -210,7 +204,7 @@ module _ (s : Stations) (are : AreStations s) (drives : ℕ → Bool) (due : ℕ
       (any_from s.count some.0 (λ w. drives w && not (w == i)) some.1.inside (and_from (drives some.0) (not (some.0 == i)) some.1.dominant (ap not (ne_eqb some.0 i some.1.other)))) in
       let p = and_parts (drives x.at) (not (x.at == i)) x.passes in (
         x.at,
-        record { inside = x.inside; other = apart x.at i p.1; dominant = p.0 },
+        record { inside = x.inside; other = distinct x.at i p.1; dominant = p.0 },
         λ w d. x.least w d.inside (and_from (drives w) (not (w == i)) d.dominant (ap not (ne_eqb w i d.other))),
       )
 
@@ -269,24 +263,12 @@ module _ (s : Stations) (are : AreStations s) (drives : ℕ → Bool) (due : ℕ
       place : b.place i ≡ moved_to (q - 1) (s.lengths i).sjw (due i)
       place = ap (λ c. place_found s due i (found_before s drives from i (suc (cond c (due i) (most s.count (λ k. tick k (from k) + s.delay k i)))))) dominant ∙ ap (place_found s due i) e
 
-  -- a quantum takes a tick or more
-  tick_up : (i q : ℕ) → i < s.count → q ≤ tick i q
-  tick_up i q inside =
-      let steady = are.line.steady i inside in
-      let some = steady.divides in
-      let fast = steady.not_fast in
-      let high = floor_high (s.clocks i) q some in
-      let m : q * (s.clocks i).den ≤ q * (s.clocks i).num = mul-le-mul_left q fast in
-      let less : (s.clocks i).den * q < (s.clocks i).den * suc (tick i q) = omega arith in
-      let h = lt_of_mul-lt-mul_left (s.clocks i).den less in
-      omega arith
-
   -- and one that drives it recessive
   other_by : (i : ℕ) → i < s.count → drives i ≡ false → ((k : ℕ) → Drives s b i k → tick i 0 < reaches_at s b k i) → (w : ℕ) → Drives s b i w
       → (o : Option ℕ) → found_before s drives from i (suc (most s.count (λ k. tick k (from k) + s.delay k i))) ≡ o → BeginsAlone s b i ⊎ FollowsSoft s b i
   other_by i inside recessive early w d None e =
       let bound = most_from s.count (λ k. tick k (from k) + s.delay k i) w d.inside in
-      let up = tick_up i (most s.count (λ k. tick k (from k) + s.delay k i)) inside in
+      let up = ticks_up (s.clocks i) (are.line.steady i inside) (most s.count (λ k. tick k (from k) + s.delay k i)) in
       let here = reached_by i w (most s.count (λ k. tick k (from k) + s.delay k i)) d (omega arith) in
       let none = first_none (is_reached s drives from i) (suc (most s.count (λ k. tick k (from k) + s.delay k i))) e (most s.count (λ k. tick k (from k) + s.delay k i)) (omega arith) in
       cc

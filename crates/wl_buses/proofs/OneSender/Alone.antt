@@ -4,8 +4,8 @@ use Rattle.std.specs.Prelude.{nat_le, nat_lt, ◌==◌}
 use Rattle.std.proofs.lemmas.Bool.{both_ways, cases_Bool, cases_lt, cases_eq, and_parts, and_from, and_left, and_right, le-leb, lt-leb, leb-true, lt-ltb, ltb-true, eq-eqb, ne_eqb, false_from_ne_true}
 use Rattle.std.proofs.lemmas.List.{get_or_past}
 use Rattle.wl_level.specs.declared.Level.{Level}
-use Rattle.wl_level.specs.declared.Level.TheVariants.{Dominant, Recessive}
-use Rattle.wl_level.specs.Levels.{is_dominant, level_of}
+use Rattle.wl_level.specs.declared.Level.TheVariants.{Recessive}
+use Rattle.wl_level.specs.Levels.{is_dominant}
 use Rattle.wl_level.specs.Places.{at}
 use Rattle.wl_topology.specs.Driven.{any_below, driven, DrivenLaws}
 use Rattle.wl_topology.proofs.Callers.{any_from, any_none}
@@ -29,10 +29,6 @@ found_by_one laws nodes delay drove i j t inside others = elim (cases_Bool (driv
       (let p = and_parts _ _ e in
       both_ways (driven nodes delay drove j t) is_not (laws.dominant_from nodes delay drove i j t inside (leb-true (delay i j) t p.0) p.1))))
 ]
-
-pub level_same : (v : Level) → level_of (is_dominant v) ≡ v
-level_same Dominant = refl
-level_same Recessive = refl
 
 -- bits of a list, each from a tick on
 module _ (y : List Level) (tick : ℕ → ℕ) (later : (b c : ℕ) → b ≤ c → tick b ≤ tick c) where

@@ -4,6 +4,7 @@ use Rattle.std.specs.Prelude.{◌==◌, drop}
 use Rattle.std.proofs.lemmas.Bool.{cases_lt, cases_eq, cases_order, eq-eqb, ne_eqb}
 use Rattle.std.proofs.Math.Bridge.{le_prop}
 use Rattle.std.proofs.Math.Nat.{mul-le-mul_right, mul-le-mul_left}
+use Rattle.std.proofs.lemmas.Option.{none-some}
 use Rattle.wl_level.specs.declared.Level.{Level}
 use Rattle.wl_level.specs.declared.Level.TheVariants.{Recessive}
 use Rattle.wl_segments.specs.Lengths.{sample_at, bit_quanta}
@@ -30,20 +31,18 @@ use Rattle.wl_buses.proofs.OneSender.Planned.{Laws}
 use Rattle.wl_buses.proofs.OneSender.Replies as replies
 use Rattle.wl_buses.proofs.OneSender.Choosing.{StayLaws}
 use Rattle.wl_buses.proofs.OneSender.Resting as resting
-use Rattle.wl_buses.proofs.OneSender.Resting.{Rests, RestsAt, SendsNext, rests_first}
+use Rattle.wl_buses.proofs.OneSender.Resting.{Rests, SendsNext, rests_first}
 use Rattle.wl_buses.proofs.OneSender.Silence.{CountsTo, Decides, counts_to, integrating, left_of}
 use Rattle.wl_buses.proofs.OneSender.Speaking as speaking
 use Rattle.wl_buses.proofs.OneSender.Through as through
+use Rattle.wl_buses.proofs.BothProofs.Small.{zero_first}
 
 cases_head : (o : Option Content) → (o ≡ None) ⊎ ((h : Content) × (o ≡ Some h))
 cases_head None = inl refl
 cases_head (Some h) = inr (h, refl)
 
 none_or_some : {A : Type 0} (o : Option Content) (h : Content) → o ≡ None → o ≡ Some h → A
-none_or_some o h e f = absurd (apart h (sym e ∙ f))
-  where
-    apart : (h : Content) → None ≡ Some h → ⊥
-    apart h e = cc
+none_or_some o h e f = absurd (none-some h (sym e ∙ f))
 
 module _ (laws : Laws) (stay : StayLaws) (b : SenderBus) (stuffed : ℕ → List Level) (is : IsBus b) (sends : SendsFirst b) (frames : AreFrames b stuffed) (meets : IsInStepWithAll b)
     (slots : EndsInSlots b) where
@@ -757,9 +756,6 @@ module _ (laws : Laws) (stay : StayLaws) (b : SenderBus) (stuffed : ℕ → List
     order = λ h. absurd (omega arith);
     due = (let low = (is.book a is.sender).lengths.ps2_low in omega arith);
   }
-    where
-      zero_first : (m n : ℕ) → 0 + m + n ≡ m + n
-      zero_first m n = omega arith
 
   start_first : (i : ℕ) → (inside : i < l.nodes) → (first_epoch.rest.node i inside).start ≤ 0
   unfolding first_epoch rests_first

@@ -5,7 +5,7 @@ use Rattle.std.proofs.lemmas.Grind.{div_ceil_times}
 use Rattle.std.proofs.Math.Nat.{div-mul-le_self, mul-le-mul_right, le_of_mul-le-mul_right}
 use Rattle.wl_node.specs.declared.setup.NodeSetup.{NodeSetup}
 use Rattle.wl_plan.specs.declared.plan.Plan.{Plan}
-use Rattle.wl_plan.specs.PlanLine.{no_setup, setup_at}
+use Rattle.wl_plan.specs.PlanLine.{no_setup}
 use Rattle.wl_phase.specs.Clocks.{Steady}
 use Rattle.wl_bound.specs.Conditions.{plain}
 use Rattle.wl_bound.specs.Families.{Buses, family_of, longest_in, member_at, members_of, no_member, shortest_in, units}

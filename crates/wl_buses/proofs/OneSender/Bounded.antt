@@ -1,31 +1,18 @@
 -- From the condition for margins to the inequalities on clocks.
-use Rattle.std.proofs.Common.{◌≡◌, ◌≢◌, ◌∙◌, inl, inr, refl, sym, ap, ℕ, zero, suc, ◌+◌, ◌-◌, ◌*◌, ◌<◌, ◌≤◌, min, Bool, true, false, cond, not, ◌&&◌, ◌||◌, arith}
+use Rattle.std.proofs.Common.{◌≡◌, ◌≢◌, ◌∙◌, inl, inr, refl, sym, ap, ℕ, ◌+◌, ◌-◌, ◌*◌, ◌<◌, ◌≤◌, min, true, cond, not, ◌&&◌, arith}
 use Rattle.std.specs.Prelude.{◌==◌, nat_lt}
 use Rattle.std.proofs.lemmas.Bool.{cases_eq, and_from, and_left, eq-eqb, lt-ltb, ne_eqb}
 use Rattle.std.proofs.Math.Nat.{mul-le-mul_left, mul-le-mul_right}
 use Rattle.wl_segments.specs.Lengths.{sample_at, bit_quanta}
 use Rattle.wl_bound.specs.Families.{Bus}
-use Rattle.wl_bound.specs.Terms.{greatest, is_third, sends_but}
+use Rattle.wl_bound.specs.Terms.{is_third, sends_but}
 use Rattle.wl_bound.specs.Terms.{ahead, drift, jump, late, look, pulled, strays, trip, way}
 use Rattle.wl_bound.specs.Conditions.{IsSound}
 use Rattle.wl_bound.specs.Conditions.{left_of, right_of}
 use Rattle.wl_buses.specs.OneSender.OneSender.{SenderBus, IsBus, IsListener, lengths_of}
 use Rattle.wl_buses.specs.OneSender.Tolerances.{Tolerance, FitClocks, longer_bit}
 use Rattle.wl_buses.specs.OneSender.Bounds.{IsBoundOf}
-
-greatest_each : (n : ℕ) (test : ℕ → Bool) (f : ℕ → ℕ) (k : ℕ) → k < n → test k ≡ true → f k ≤ greatest n test f
-greatest_each zero test f k less e = absurd (omega arith)
-greatest_each (suc n) test f k less e = elim (cases_eq k n) [
-  | inl here ↦
-      (let now : cond (test n) (f n) 0 ≡ f n = ap (λ b. cond b (f n) 0) (ap test (sym here) ∙ e) in
-      let same : f k ≡ f n = ap f here in
-      omega arith)
-  | inr apart ↦ (let h = greatest_each n test f k (omega arith) e in omega arith)
-]
-
-or_not : (x y : Bool) → y ≡ false → (x || not y) ≡ true
-or_not true y e = refl
-or_not false y e = ap not e
+use Rattle.wl_buses.proofs.BothProofs.Small.{greatest_each, or_not}
 
 module _ (bus : Bus) (t : Tolerance) (b : SenderBus) (is : IsBus b) (of : IsBoundOf bus t b) (sound : IsSound bus) where
   abbrev a : ℕ

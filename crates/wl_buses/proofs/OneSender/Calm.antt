@@ -1,12 +1,10 @@
 -- A bus at rest whose sender has nothing to send up to the end.
-use Rattle.std.proofs.Common.{◌≡◌, ◌∙◌, inl, inr, refl, sym, ap, subst, ℕ, suc, ◌+◌, ◌-◌, ◌*◌, ◌<◌, ◌≤◌, [], Bool, false, cond, None, ◌||◌, arith}
-use Rattle.std.specs.Prelude.{nat_lt}
-use Rattle.std.proofs.lemmas.Bool.{both_ways, cases_lt, cases_eq, false_from_ne_true, lt-ltb, le-ltb}
+use Rattle.std.proofs.Common.{◌≡◌, ◌∙◌, inl, inr, refl, sym, ap, subst, ℕ, suc, ◌+◌, ◌*◌, ◌<◌, ◌≤◌, [], Bool, false, None, arith}
+use Rattle.std.proofs.lemmas.Bool.{cases_lt, cases_eq}
 use Rattle.std.proofs.Math.Bridge.{le_prop}
 use Rattle.wl_level.specs.declared.Level.{Level}
 use Rattle.wl_level.specs.declared.Level.TheVariants.{Recessive}
-use Rattle.wl_level.specs.Levels.{is_dominant, level_of}
-use Rattle.wl_topology.specs.Driven.{driven}
+use Rattle.wl_level.specs.Levels.{is_dominant}
 use Rattle.wl_segments.specs.Lengths.{sample_at, bit_quanta}
 use Rattle.wl_node.specs.History.{ready_head}
 use Rattle.wl_phase.specs.Clocks.{steady_tick}
@@ -15,7 +13,8 @@ use Rattle.wl_plan.specs.Simulation.{level, seen, AreInside}
 use Rattle.wl_buses.specs.BothProofs.Levels.{levels_before}
 use Rattle.wl_buses.specs.BothProofs.Expected.{IsExpected, levels_found}
 use Rattle.wl_buses.specs.OneSender.OneSender.{SenderBus, IsBus, IsListener, lengths_of}
-use Rattle.wl_buses.proofs.BothProofs.Expecting.{level_first, level_then, levels_same, seen_is}
+use Rattle.wl_buses.proofs.BothProofs.Expecting.{level_first, level_then, seen_is}
+use Rattle.wl_buses.proofs.OneSender.Drove as all_drove
 use Rattle.wl_buses.proofs.OneSender.Planned.{Laws}
 use Rattle.wl_buses.proofs.OneSender.Resting as resting
 use Rattle.wl_buses.proofs.OneSender.Resting.{Rests, RestsAt}
@@ -43,16 +42,17 @@ module _ (laws : Laws) (b : SenderBus) (is : IsBus b) (t : ℕ) (rest : Rests la
   abbrev up : (i : ℕ) → i < l.nodes → (k n : ℕ) → k ≤ n → tick i k ≤ tick i n
   up = resting.up laws.clocks b is
 
-  pub drove : ℕ → ℕ → Bool
-  drove i u = cond (nat_lt u t) (level l i u) false
+  abbrev none_driven : ℕ → ℕ → Bool
+  none_driven i u = false
 
-  drove_old : (i u : ℕ) → u < t → drove i u ≡ level l i u
-  unfolding drove
-  drove_old i u less = rw (lt-ltb u t less) refl
+  abbrev pub drove : ℕ → ℕ → Bool
+  drove = all_drove.drove b t none_driven
 
-  drove_new : (i u : ℕ) → t ≤ u → drove i u ≡ false
-  unfolding drove
-  drove_new i u late = rw (le-ltb u t late) refl
+  abbrev drove_old : (i u : ℕ) → u < t → drove i u ≡ level l i u
+  drove_old = all_drove.drove_old b t none_driven
+
+  abbrev drove_new : (i u : ℕ) → t ≤ u → drove i u ≡ false
+  drove_new = all_drove.drove_new b t none_driven
 
   abbrev pub lv : ℕ → ℕ → Level
   lv i = levels_found l drove i
@@ -61,33 +61,11 @@ module _ (laws : Laws) (b : SenderBus) (is : IsBus b) (t : ℕ) (rest : Rests la
     abbrev at_rest : RestsAt laws.clocks b is t i inside
     at_rest = rest.node i inside
 
-    level_old : (k : ℕ) → k < at_rest.start → lv i k ≡ resting.actual laws.clocks b is i k
-    level_old k less =
-        ap level_of (laws.simulation.found_same l drove (level l) i (l.instant i k) (λ j inside_j come.
-        (let e = is.ticks i k inside in
-        let before = at_rest.before k less in
-        drove_old j (l.instant i k - l.delay j i) (omega arith))))
-
-    lists_old : (k : ℕ) → k ≤ at_rest.start → levels_before (resting.actual laws.clocks b is i) k ≡ levels_before (lv i) k
-    lists_old k few = levels_same (resting.actual laws.clocks b is i) (lv i) k (λ n less. sym (level_old n (omega arith)))
+    abbrev lists_old : (k : ℕ) → k ≤ at_rest.start → levels_before (resting.actual laws.clocks b is i) k ≡ levels_before (lv i) k
+    lists_old = all_drove.lists_old b t none_driven laws.clocks laws.simulation laws.lines is rest i inside
 
     silent : (k : ℕ) → at_rest.start ≤ k → lv i k ≡ Recessive
-    silent k late = ap level_of (ap (λ d. d || l.disturbed i (l.instant i k)) none ∙ is.undisturbed i (l.instant i k) inside)
-      where
-        each : (j : ℕ) → j < l.nodes → l.delay j i ≤ l.instant i k → drove j (l.instant i k - l.delay j i) ≡ false
-        each j inside_j come =
-            let e = is.ticks i k inside in
-            let after = at_rest.after in
-            let rise = up i inside at_rest.start k late in
-            elim (cases_lt (l.instant i k - l.delay j i) t) [
-              | inl early ↦ drove_old j (l.instant i k - l.delay j i) early ∙ rest.quiet j i (l.instant i k - l.delay j i) inside_j inside early (omega arith)
-              | inr from_then ↦ drove_new j (l.instant i k - l.delay j i) from_then
-            ]
-
-        none : driven l.nodes l.delay drove i (l.instant i k) ≡ false
-        none = false_from_ne_true (driven l.nodes l.delay drove i (l.instant i k)) (λ e.
-            (let by = laws.lines.dominant_by l.nodes l.delay drove i (l.instant i k) e in
-            both_ways (drove by.0 (l.instant i k - l.delay by.0 i)) (each by.0 by.1 by.2) by.3))
+    silent k late = all_drove.silent_then b t none_driven laws.clocks laws.simulation laws.lines is rest i inside k late (λ j inside_j come from_then. refl)
 
     unready : (k : ℕ) → ((n : ℕ) → n < k → tick i n < l.stop) → (c : ℕ) → 10 ≤ c → at_rest.base + c * B i + S i < k
         → ready_head (left_of (b.setups i) (at_rest.waits.passed 10)) (at_rest.base + c * B i + S i) ≡ None

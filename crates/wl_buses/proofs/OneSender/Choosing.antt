@@ -20,6 +20,7 @@ use Rattle.wl_buses.proofs.OneSender.Planned as planned
 use Rattle.wl_buses.proofs.OneSender.Planned.{Laws, IsHeard}
 use Rattle.wl_buses.proofs.OneSender.Resting.{Rests, SendsNext}
 use Rattle.wl_buses.proofs.OneSender.Yielding.{NextLaw}
+use Rattle.wl_buses.proofs.OneSender.Listeners.{Numbers, number_is, number_of}
 
 -- the laws of an acknowledgement that may be early
 pub record StayLaws : Type 0 where
@@ -74,25 +75,17 @@ module _ (laws : Laws) (stay : StayLaws) (b : SenderBus) (is : IsBus b) (meets :
   answer = planned.answer laws b is meets t rest frame y from m sends
 
   -- when each listener would begin its acknowledgement, and end it, if no other one came before
-  pub who : (j : ℕ) → IsListener b j ⊎ (IsListener b j → ⊥)
-  who j = elim (cases_lt j l.nodes) [
-    | inl inside ↦ elim (cases_eq j a) [ inl here ↦ inr (λ p. p.1 here) | inr apart ↦ inl (inside, apart) ]
-    | inr out ↦ inr (λ p. (let inside = p.0 in omega arith))
-  ]
+  abbrev begins : Numbers b
+  begins j p = tick j (answer j (planned.heard_by laws b is meets t rest frame y from m sends j p))
 
-  natural_by : (j : ℕ) → (IsListener b j ⊎ (IsListener b j → ⊥)) → ℕ
-  natural_by j (inl p) = tick j (answer j (planned.heard_by laws b is meets t rest frame y from m sends j p))
-  natural_by j (inr n) = 0
-
-  natural_end_by : (j : ℕ) → (IsListener b j ⊎ (IsListener b j → ⊥)) → ℕ
-  natural_end_by j (inl p) = tick j (answer j (planned.heard_by laws b is meets t rest frame y from m sends j p) + B j)
-  natural_end_by j (inr n) = 0
+  abbrev ends : Numbers b
+  ends j p = tick j (answer j (planned.heard_by laws b is meets t rest frame y from m sends j p) + B j)
 
   pub natural : ℕ → ℕ
-  natural j = natural_by j (who j)
+  natural j = number_of b begins 0 j
 
   pub natural_end : ℕ → ℕ
-  natural_end j = natural_end_by j (who j)
+  natural_end j = number_of b ends 0 j
 
   pub record IsNatural (j : ℕ) : Type 0 where
     pub heard : Heard j
@@ -100,16 +93,10 @@ module _ (laws : Laws) (stay : StayLaws) (b : SenderBus) (is : IsBus b) (meets :
     pub natural_end_is : natural_end j ≡ tick j (answer j heard + B j)
 
   pub natural_of : (j : ℕ) → IsListener b j → IsNatural j
-  unfolding natural natural_by natural_end natural_end_by
-  natural_of j p = by (who j) refl
-    where
-      by : (w : IsListener b j ⊎ (IsListener b j → ⊥)) → who j ≡ w → IsNatural j
-      by (inl q) e = record {
-        heard = planned.heard_by laws b is meets t rest frame y from m sends j q;
-        natural_is = ap (natural_by j) e;
-        natural_end_is = ap (natural_end_by j) e;
-      }
-      by (inr n) e = absurd (n p)
+  unfolding natural natural_end
+  natural_of j p =
+      let n = number_is b j p in
+      record { heard = planned.heard_by laws b is meets t rest frame y from m sends j n.0; natural_is = n.1 begins 0; natural_end_is = n.1 ends 0 }
 
   -- none comes to it by then
   abbrev pub Stays : ℕ → Type 0

@@ -1,8 +1,8 @@
 -- From a family to the bus of one of its plans.
-use Rattle.std.proofs.Common.{◌≡◌, ◌∙◌, inl, inr, refl, sym, ap, ℕ, suc, ◌+◌, ◌-◌, ◌*◌, ◌<◌, ◌≤◌, List, length, Bool, true, false, cond, not, ◌&&◌, Some, None, arith}
+use Rattle.std.proofs.Common.{◌≡◌, ◌∙◌, inl, inr, refl, sym, ap, ℕ, suc, ◌+◌, ◌-◌, ◌*◌, ◌<◌, ◌≤◌, List, length, true, cond, not, ◌&&◌, Some, None, arith}
 use Rattle.std.specs.Prelude.{◌==◌, nat_lt}
 use Rattle.std.specs.Int.{div_ceil}
-use Rattle.std.proofs.lemmas.Bool.{cases_eq, cases_lt, le-leb, lt-leb, lt-ltb, eq-eqb, ne_eqb}
+use Rattle.std.proofs.lemmas.Bool.{both_ways, cases_eq, cases_lt, le-leb, lt-leb, lt-ltb, eq-eqb, ne_eqb}
 use Rattle.std.proofs.lemmas.Grind.{div_ceil_times}
 use Rattle.std.proofs.lemmas.List.{get_or_past}
 use Rattle.std.proofs.Math.Nat.{mul-le-mul_right, le_of_mul-le-mul_right}
@@ -18,18 +18,17 @@ use Rattle.wl_phase.specs.InStep.{arrival}
 use Rattle.wl_topology.specs.Limits.{never}
 use Rattle.wl_phase.proofs.Callers.{tick_up}
 use Rattle.wl_bound.specs.Conditions.{plain}
-use Rattle.wl_buses.proofs.OneSender.PlanProofs.{loop_over}
 use Rattle.wl_bound.specs.Senders.{lone_sender}
 use Rattle.wl_bound.specs.Families.{Buses, bus_of, delay_in, lengths_in, longest_in, no_member, only_listens, sends_in, shortest_in, units}
 use Rattle.wl_bound.specs.Verdicts.{idle_at, is_ready_from}
 use Rattle.wl_buses.specs.OneSender.OneSender.{SenderBus, IsBus, IsListener, SendsFirst, lengths_of, sender_of, listener_of}
-use Rattle.wl_buses.specs.BothProofs.Plans.{IsSteadyPlan}
+use Rattle.wl_buses.specs.BothProofs.Plans.{IsSteadyPlan, IsOfFamily}
 use Rattle.wl_buses.specs.OneSender.Tolerances.{IsWithinTolerance}
 use Rattle.wl_buses.specs.OneSender.Bounds.{IsBoundOf}
 use Rattle.wl_buses.specs.OneSender.Through.{AreFrames}
 use Rattle.wl_buses.specs.OneSender.Clean.{HasOneSender, bus_with, tolerance_of}
-use Rattle.wl_buses.specs.BothProofs.Plans.{IsOfFamily}
 use Rattle.wl_buses.specs.BothProofs.Queues.{decides_at}
+use Rattle.wl_buses.proofs.BothProofs.Small.{loop_over}
 
 module _ (f : Buses) (plan : Plan) (clocks : ℕ → Steady) (sender : ℕ) (one : HasOneSender plan sender) (stuffed : ℕ → List Level) (steady : IsSteadyPlan plan clocks)
     (of : IsOfFamily f plan clocks) (is : IsBus (bus_with plan clocks sender one stuffed)) where
@@ -140,12 +139,9 @@ module _ (f : Buses) (plan : Plan) (clocks : ℕ → Steady) (sender : ℕ) (one
           let h : not (nat_lt (tick_of (setup_at plan sender).clock one.first.ready) (idle_at (setup_at plan j))) ≡ true =
           ap (λ q. is_ready_from (setup_at plan sender) q (idle_at (setup_at plan j))) (sym one.queue) ∙ one.idle j p.0 p.1 in
           elim (cases_lt (tick_of (setup_at plan sender).clock one.first.ready) (idle_at (setup_at plan j))) [
-            | inl early ↦ (let e = lt-ltb (tick_of (setup_at plan sender).clock one.first.ready) (idle_at (setup_at plan j)) early in absurd (both (ap not e) h))
+            | inl early ↦ (let e = lt-ltb (tick_of (setup_at plan sender).clock one.first.ready) (idle_at (setup_at plan j)) early in absurd (both_ways _ (ap not e) h))
             | inr late ↦ late
           ]
-        where
-          both : {v : Bool} → v ≡ false → v ≡ true → ⊥
-          both e f = cc
 
       others : (j : ℕ) → (p : IsListener b j) → one.first.ready ≤ decides * bit_quanta l + sample_at l
           → steady_tick (clocks j) (10 * bit_quanta (lengths_of b j) + sample_at (lengths_of b j)) < arrival (sender_of b) (listener_of b j) 0

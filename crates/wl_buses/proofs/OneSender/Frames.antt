@@ -1,8 +1,9 @@
 -- A frame bit by bit, up to an ACK slot that is acknowledged: the machine that sends it, and one that receives it.
-use Rattle.std.proofs.Common.{◌≡◌, ◌∙◌, ◌⊎◌, inl, inr, refl, sym, ap, subst, ℕ, zero, suc, ◌+◌, ◌-◌, ◌<◌, ◌≤◌, List, [], ◌∷◌, ◌++◌, length, take, drop, Bool, true, false, cond, not, ◌&&◌, Option, Some, None, arith, length-append, append_assoc, add-one}
+use Rattle.std.proofs.Common.{◌≡◌, ◌∙◌, ◌⊎◌, inl, inr, refl, sym, ap, subst, ℕ, zero, suc, ◌+◌, ◌-◌, ◌<◌, ◌≤◌, List, [], ◌∷◌, ◌++◌, length, take, drop, true, false, cond, not, ◌&&◌, Option, Some, None, arith, length-append, append_assoc, add-one}
 use Rattle.std.proofs.lemmas.Bool.{cases_lt, cases_eq, cases_Bool, and_left, and_right}
 use Rattle.std.proofs.lemmas.List.{get_or_past, take_more, length-take-le, take_all, take_at}
 use Rattle.std.proofs.Math.ListN.{take-append-drop}
+use Rattle.std.proofs.lemmas.Option.{none-some}
 use Rattle.wl_level.specs.declared.Level.{Level}
 use Rattle.wl_level.specs.declared.Level.TheVariants.{Dominant, Recessive}
 use Rattle.wl_level.specs.Levels.{is_dominant, same, opposite}
@@ -24,6 +25,7 @@ use Rattle.wl_machine.specs.Judged.{judged, drive_of}
 use Rattle.wl_machine.specs.Laws.{FoundSent}
 use Rattle.wl_machine.specs.States.{stretch_by}
 use Rattle.wl_machine.proofs.Callers.{end_stays, ends_at, role_next, tail_sends}
+use Rattle.wl_wire.proofs.Callers.{no_loss}
 
 -- the laws of the crates below, of a stuffed list and of its fronts
 pub record FrameGoes : Type 0 where
@@ -43,12 +45,6 @@ read_of c is = ((frame_is_read (bits_of c) c).0 (is, sent_free, refl)).content
 first_of : (c : Content) → IsContent c → at (bits_of c) 0 ≡ Dominant
 unfolding bits_of
 first_of c is = ((frame_is_read (bits_of c) c).0 (is, sent_free, refl)).begins
-
-no_loss : (s a : Bool) (b : Level) → (not s && a && not (is_dominant b) && is_dominant b) ≡ false
-no_loss true a b = refl
-no_loss false true Dominant = refl
-no_loss false true Recessive = refl
-no_loss false false b = refl
 
 not_both : (a b : Option ℕ) (n m : ℕ) → a ≡ Some n → a ≡ Some m → n ≡ m
 not_both a b n m e f = some_same n m (sym e ∙ f)
@@ -289,10 +285,7 @@ module _ (goes : FrameGoes) (head : Content) (c : IsContent head) (y : List Leve
   some_bits = not_empty y (goes.end head y c is)
     where
       not_empty : (v : List Level) → stuffed_end v ≡ Some (length v) → 0 < length v
-      not_empty [] e = absurd (none_some 0 e)
-        where
-          none_some : (n : ℕ) → None ≡ Some n → ⊥
-          none_some n p = cc
+      not_empty [] e = absurd (none-some 0 e)
       not_empty (x ∷ v) e = omega arith
 
   pub begins_dominant : at y 0 ≡ Dominant

@@ -1,18 +1,17 @@
 -- A bit clock that no edge moves, one quantum later.
 use Rattle.std.proofs.Common.{◌≡◌, ◌≢◌, ◌∙◌, ◌⊎◌, inl, inr, refl, sym, ap, subst, ℕ, suc, ◌+◌, ◌-◌, ◌<◌, ◌≤◌, Bool, true, false, cond, not, ◌&&◌, Some, arith, min}
-use Rattle.std.proofs.lemmas.Bool.{both_ways, eq-eqb, ne_eqb, le-ltb, lt-ltb, cases_eq, cases_Bool, and_from, and_left, and_right}
+use Rattle.std.proofs.lemmas.Bool.{both_ways, eq-eqb, ne_eqb, le-ltb, cases_eq, cases_Bool, and_from, and_left, and_right}
 use Rattle.wl_level.specs.declared.Level.TheVariants.{Dominant, Recessive}
 use Rattle.wl_level.specs.Levels.{is_dominant}
-use Rattle.wl_segments.specs.declared.SyncRules.{SyncRules}
-use Rattle.wl_segments.specs.declared.SyncRules.TheVariants.{After, Book}
+use Rattle.wl_segments.specs.declared.SyncRules.TheVariants.{Book}
 use Rattle.wl_segments.specs.Lengths.{sample_at, bit_quanta}
 use Rattle.wl_sync.specs.declared.Beat.TheVariants.{Plain, Sample, Start}
 use Rattle.wl_sync.specs.declared.Sync.TheVariants.{Hard}
-use Rattle.wl_sync.specs.Edges.{Seen, edge_restarts, is_hard_edge, looks}
+use Rattle.wl_sync.specs.Edges.{Seen, edge_restarts}
 use Rattle.wl_sync.specs.Running.{Running}
 use Rattle.wl_sync.specs.Steps.{end_of, running_edge, running_sync, running_restart, running_over, running_first, running_on, running_after, running_answer, running_beat, beat_between}
 use Rattle.wl_phase.specs.Ways.{ByTheBook}
-use Rattle.wl_phase.proofs.Callers.{IsValid, none_is, moved_is, late, late_is, late_over, driving_late, soft_driving, beat_is}
+use Rattle.wl_phase.proofs.Callers.{IsValid, none_is, moved_is, late, late_is, late_over, driving_late, soft_driving, beat_is, looks_from, hard_from}
 
 -- p quanta of the running bit are over, which is longer before its sample by so many; fresh: and has not synchronised
 pub record IsAt (r : Running) (p longer : ℕ) (fresh : Bool) : Type 0 where
@@ -187,27 +186,12 @@ module _ (r : Running) (x : Seen) (p longer : ℕ) (fresh : Bool) (book : ByTheB
   pub is_start : running_sync r x ≡ false → p ≡ bit_quanta r.lengths → running_beat (running_edge r) x ≡ Start
   is_start e over = beat_none e ∙ ap (λ s. beat_between false r s x.level) (none_over e over)
 
--- A node that awaits a start of frame and drives recessive synchronises hard by the next edge, if nothing has synchronised its bit.
-looks_always : (s : SyncRules) (place k : ℕ) → s ≡ Book → 0 < k → looks s place k ≡ true
-looks_always After place k e h = cc
-looks_always Book place k e h = lt-ltb 0 k h
-
-hard_by : (s : SyncRules) (x : Seen) → s ≡ Book → x.awaits ≡ true → x.driving ≡ false → is_hard_edge s x ≡ true
-hard_by After x e f g = cc
-hard_by Book x e f g = and_from x.awaits (not x.driving) f (ap not g)
-
 pub syncs_hard : (r : Running) (x : Seen) → r.lengths.sync ≡ Book → 0 < r.quanta → x.level ≡ Dominant → x.awaits ≡ true → x.driving ≡ false → r.level ≡ Recessive
     → r.sample ≡ Recessive → r.synced ≡ false → running_answer r x ≡ Some Hard
 syncs_hard r x book begun now awaits driving was sampled fresh =
-    let hard = hard_by r.lengths.sync x book awaits driving in
+    let hard = hard_from r.lengths.sync x book awaits driving in
     let counts : running_sync r x ≡ true =
     and_from _ _ (and_from _ _ (and_from _ _ (and_from _ _ (and_from _ _ (ap is_dominant now) (ap (λ v. not (is_dominant v)) was)) (ap (λ v. not (is_dominant v)) sampled))
-    (looks_always r.lengths.sync (sample_at r.lengths) r.quanta book begun))
+    (looks_from r.lengths.sync (sample_at r.lengths) r.quanta book begun))
     (ap not (and_left _ _ (and_right _ _ driving)))) (ap not fresh) in
     rw (counts, hard) refl
-
--- Nothing moves a bit after a dominant sample, up to the next one.
-pub sampled_dominant : (r : Running) (x : Seen) → r.sample ≡ Dominant → running_sync r x ≡ false
-sampled_dominant r x e =
-    let g : ((is_dominant x.level && not (is_dominant r.level)) && not (is_dominant r.sample)) ≡ false = and_right _ _ (ap (λ v. not (is_dominant v)) e) in
-    rw g refl

@@ -83,6 +83,10 @@ module _ (clocks : ClockGoes) (setup : NodeSetup) (book : ByTheBook setup.segmen
   seen_are zero = ap (λ h. h.seen) node_first
   seen_are (suc k) = ap (λ h. h.seen) (node_next k) ∙ ap (λ v. v ++ sees_at k ∷ []) (seen_are k)
 
+  -- the beat of a quantum, by what was seen before it
+  pub beat_same : (k : ℕ) → beat_of l (seen_before sees_at k) (sees_at k) ≡ beat_at k
+  beat_same k = ap (λ v. beat_of l v (sees_at k)) (sym (seen_are k))
+
   seen_next_is : (k : ℕ) → (node (suc k)).seen ≡ (node k).seen ++ sees_at k ∷ []
   seen_next_is k = ap (λ h. h.seen) (node_next k)
 

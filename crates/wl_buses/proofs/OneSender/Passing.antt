@@ -8,6 +8,7 @@ use Rattle.wl_node.specs.declared.setup.Passed.{Passed}
 use Rattle.wl_node.specs.History.{is_sent, ready_head}
 use Rattle.wl_buses.specs.BothProofs.Queues.{first_ready, queued_contents, ready_at}
 use Rattle.std.proofs.lemmas.Bool.{cases_lt, le-leb}
+use Rattle.std.proofs.lemmas.Option.{none-some}
 
 abbrev pub contents : List Passed → List Content
 contents = map (λ p. p.frame)
@@ -66,10 +67,7 @@ pub record IsNext (queue : List Queued) (n : ℕ) (head : Content) : Type 0 wher
   pub frame : queued.frame ≡ head
 
 ready_is : (qs : List Queued) (k : ℕ) (head : Content) → ready_head qs k ≡ Some head → (q : Queued) × (more : List Queued) × (qs ≡ q ∷ more) × (q.frame ≡ head)
-ready_is [] k head e = absurd (none_some head e)
-  where
-    none_some : (head : Content) → None ≡ Some head → ⊥
-    none_some head e = cc
+ready_is [] k head e = absurd (none-some head e)
 ready_is (q ∷ qs) k head e = (q, qs, refl, by (nat_le q.ready k) e)
   where
     by : (b : Bool) → cond b (Some q.frame) None ≡ Some head → q.frame ≡ head

@@ -1,50 +1,27 @@
 -- The line of a plan is that of a bus.
-use Rattle.std.proofs.Common.{◌≡◌, inl, inr, refl, sym, ap, subst, ℕ, ◌+◌, ◌*◌, ◌<◌, ◌≤◌, List, length, true, false, not, ◌&&◌, arith}
+use Rattle.std.proofs.Common.{◌≡◌, inl, inr, refl, sym, ap, ℕ, ◌+◌, ◌<◌, ◌≤◌, List, length, true, false, not, ◌&&◌, arith}
 use Rattle.std.specs.Prelude.{◌==◌}
 use Rattle.std.specs.List.{list_any}
-use Rattle.std.specs.Int.{abs_diff}
 use Rattle.std.proofs.lemmas.Bool.{cases_Bool, cases_eq, and_from, and_parts, ne_eqb}
-use Rattle.std.proofs.lemmas.List.Elements.{All-get_or}
-use Rattle.std.proofs.Math.Nat.{mul-le-mul_right}
 use Rattle.wl_level.specs.declared.Level.{Level}
-use Rattle.wl_clock.specs.Timing.{IsTiming, IsRate, tick_of}
-use Rattle.wl_segments.specs.Lengths.{AreLengths}
+use Rattle.wl_clock.specs.Timing.{tick_of}
 use Rattle.wl_topology.specs.Delays.{Cable, IsTopology, delay_of, place_at, propagation_of}
 use Rattle.wl_topology.specs.Limits.{never}
 use Rattle.wl_frame.specs.Grammar.{Content}
-use Rattle.wl_phase.specs.Clocks.{Steady, IsSteady, steady_timing}
+use Rattle.wl_phase.specs.Clocks.{Steady}
 use Rattle.wl_plan.specs.declared.plan.Plan.{Plan}
 use Rattle.wl_plan.specs.Checked.{CheckedIsSound}
-use Rattle.wl_plan.specs.PlanLine.{is_at, no_setup, setup_at}
+use Rattle.wl_plan.specs.PlanLine.{is_at}
 use Rattle.wl_buses.specs.OneSender.OneSender.{IsBus, IsListener}
 use Rattle.wl_buses.specs.BothProofs.Plans.{IsSteadyPlan}
 use Rattle.wl_buses.specs.OneSender.Plans.{sender_bus_of}
-
-same_place : (x per : ℕ) → abs_diff x x * per ≡ 0
-same_place x per = let e : abs_diff x x ≡ 0 = omega arith in let f : abs_diff x x * per ≡ 0 * per = ap (λ n. n * per) e in omega arith
+use Rattle.wl_buses.proofs.BothProofs.Small.{lengths_at, loop_over, steady_at}
 
 -- on a cable a way over a third node is longer
 way_over : (cable : Cable) → IsTopology cable → (i j k : ℕ) → j < length cable.places → propagation_of cable i k < propagation_of cable i j + propagation_of cable j k
 way_over cable is i j k inside =
     let some = is.positive j j inside inside in
-    let x = (place_at cable i).x in
-    let y = (place_at cable j).x in
-    let z = (place_at cable k).x in
-    let none : abs_diff (place_at cable j).x (place_at cable j).x * cable.per ≡ 0 = same_place (place_at cable j).x cable.per in
-    let way : abs_diff (place_at cable i).x (place_at cable k).x * cable.per ≤ (abs_diff (place_at cable i).x (place_at cable j).x + abs_diff (place_at cable j).x (place_at cable k).x) * cable.per =
-    mul-le-mul_right cable.per (omega arith) in
-    let sum : (abs_diff (place_at cable i).x (place_at cable j).x + abs_diff (place_at cable j).x (place_at cable k).x) * cable.per
-    ≡ abs_diff (place_at cable i).x (place_at cable j).x * cable.per + abs_diff (place_at cable j).x (place_at cable k).x * cable.per = omega arith in
-    omega arith
-
--- by the loop of the third node
-pub loop_over : (cable : Cable) (i j k : ℕ) → propagation_of cable i k + propagation_of cable j j ≤ propagation_of cable i j + propagation_of cable j k
-loop_over cable i j k =
-    let none : abs_diff (place_at cable j).x (place_at cable j).x * cable.per ≡ 0 = same_place (place_at cable j).x cable.per in
-    let way : abs_diff (place_at cable i).x (place_at cable k).x * cable.per ≤ (abs_diff (place_at cable i).x (place_at cable j).x + abs_diff (place_at cable j).x (place_at cable k).x) * cable.per =
-    mul-le-mul_right cable.per (omega arith) in
-    let sum : (abs_diff (place_at cable i).x (place_at cable j).x + abs_diff (place_at cable j).x (place_at cable k).x) * cable.per
-    ≡ abs_diff (place_at cable i).x (place_at cable j).x * cable.per + abs_diff (place_at cable j).x (place_at cable k).x * cable.per = omega arith in
+    let loop = loop_over cable i j k in
     omega arith
 
 -- also if some nodes only listen: what they drive comes to no other node
@@ -88,11 +65,6 @@ module _ (cable : Cable) (is : IsTopology cable) where
             ])
       ]
 
-first_rate : (r : Steady) → IsTiming (steady_timing r) → IsSteady r
-first_rate r is =
-    let rate = All-get_or IsRate (steady_timing r).rates 0 (record { from = 0; num = 1; den = 1 }) (omega arith) is.rates in
-    record { divides = rate.divides; not_fast = rate.not_fast }
-
 module _ (sound : CheckedIsSound) (plan : Plan) (clocks : ℕ → Steady) (is : IsSteadyPlan plan clocks)
     (sender : ℕ) (inside : sender < length plan.nodes) (frame : Content) (stuffed : List Level) (decides : ℕ) where
   other : (j : ℕ) × IsListener (sender_bus_of plan clocks sender frame stuffed decides) j
@@ -103,12 +75,6 @@ module _ (sound : CheckedIsSound) (plan : Plan) (clocks : ℕ → Steady) (is : 
         | inr later ↦ (0, (omega arith, λ e. later (sym e)))
       ]
 
-  lengths_at : (i : ℕ) → i < length plan.nodes → AreLengths (setup_at plan i).segments
-  lengths_at i less = All-get_or (λ node. AreLengths node.segments) plan.nodes i no_setup less is.checked.segments
-
-  timing_at : (i : ℕ) → i < length plan.nodes → IsTiming (setup_at plan i).clock
-  timing_at i less = All-get_or (λ node. IsTiming node.clock) plan.nodes i no_setup less is.checked.clocks
-
   pub plan_is_bus : IsBus (sender_bus_of plan clocks sender frame stuffed decides)
   plan_is_bus = record {
     causal = (sound plan is.checked).causal;
@@ -116,8 +82,8 @@ module _ (sound : CheckedIsSound) (plan : Plan) (clocks : ℕ → Steady) (is : 
     other = other;
     drives = λ i levels less. refl;
     ticks = λ i k less. ap (λ t. tick_of t k) (is.rates i less);
-    steady = λ i less. first_rate (clocks i) (subst IsTiming (is.rates i less) (timing_at i less));
-    book = λ i less. record { lengths = lengths_at i less; book = is.book i less };
+    steady = λ i less. steady_at plan is.checked i less (clocks i) (is.rates i less);
+    book = λ i less. record { lengths = lengths_at plan is.checked i less; book = is.book i less };
     undisturbed = λ i t less. ap (list_any (is_at plan i t)) is.undisturbed;
     detours = λ i j k ni nj nk. (let placed = is.checked.placed in detour plan.topology is.checked.cable i j k (omega arith) (omega arith) (omega arith));
   }

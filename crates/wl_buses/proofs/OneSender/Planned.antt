@@ -1,8 +1,8 @@
 -- What all nodes of a bus with one sender do from its rest up to the first acknowledgement: the sender alone drives, and each other node samples its bits.
-use Rattle.std.proofs.Common.{◌≡◌, ◌≢◌, ◌∙◌, inl, inr, refl, sym, ap, subst, ℕ, suc, ◌+◌, ◌-◌, ◌*◌, ◌<◌, ◌≤◌, List, [], length, min, Bool, true, false, cond, Some, None, ◌∷◌, ◌++◌, ◌||◌, arith}
-use Rattle.std.specs.Prelude.{nat_lt}
+use Rattle.std.proofs.Common.{◌≡◌, ◌≢◌, ◌∙◌, inl, inr, refl, sym, ap, subst, ℕ, suc, ◌+◌, ◌-◌, ◌*◌, ◌<◌, ◌≤◌, List, [], length, min, Bool, true, false, Some, None, ◌∷◌, ◌++◌, ◌||◌, arith}
 use Rattle.std.proofs.Math.Nat.{mul-le-mul_right}
-use Rattle.std.proofs.lemmas.Bool.{cases_lt, cases_eq, lt-ltb, le-ltb}
+use Rattle.std.proofs.lemmas.Bool.{cases_lt, cases_eq}
+use Rattle.std.proofs.Math.Bool.{or-false}
 use Rattle.wl_level.specs.declared.Level.{Level}
 use Rattle.wl_level.specs.declared.Level.TheVariants.{Dominant, Recessive}
 use Rattle.wl_level.specs.Levels.{is_dominant, level_of}
@@ -26,9 +26,10 @@ use Rattle.wl_plan.specs.Simulation.{level}
 use Rattle.wl_plan.specs.SimulationLaws.{SimulationLaws}
 use Rattle.wl_buses.specs.BothProofs.Expected.{levels_found}
 use Rattle.wl_buses.specs.OneSender.OneSender.{SenderBus, IsBus, IsListener, IsInStepWithAll, lengths_of, listener_of}
-use Rattle.wl_buses.proofs.OneSender.Alone.{sent, sent_before, drove_by, drove_sender, drove_other, finds_bit, finds_none, level_same}
+use Rattle.wl_buses.proofs.OneSender.Drove as all_drove
+use Rattle.wl_buses.proofs.OneSender.Alone.{sent, sent_before, drove_by, drove_sender, drove_other, finds_bit, finds_none}
 use Rattle.wl_buses.proofs.OneSender.Answering as answering
-use Rattle.wl_buses.proofs.BothProofs.Expecting.{LastQuantum, last_quantum, levels_same}
+use Rattle.wl_buses.proofs.BothProofs.Expecting.{LastQuantum, last_quantum}
 use Rattle.wl_buses.proofs.OneSender.Frames as frames
 use Rattle.wl_buses.proofs.OneSender.Frames.{FrameGoes}
 use Rattle.wl_buses.proofs.OneSender.Nodes.{ClockGoes, IsGoing, Does, node}
@@ -39,6 +40,7 @@ use Rattle.wl_buses.proofs.OneSender.Resting.{Rests, RestsAt, SendsNext}
 use Rattle.wl_buses.proofs.OneSender.Silence.{CountsTo, IsSilentAt, counted, counts_to, ten_counted, left_none, silent_at, silent_same, waiting_awaits, waiting_drives}
 use Rattle.wl_buses.proofs.OneSender.Speaking as speaking
 use Rattle.wl_buses.proofs.OneSender.Speaking.{HearsOwn}
+use Rattle.wl_buses.proofs.BothProofs.Small.{level_same}
 
 -- the laws of the crates below
 pub record Laws : Type 0 where
@@ -110,22 +112,20 @@ module _ (laws : Laws) (b : SenderBus) (is : IsBus b) (meets : IsInStepWithAll b
   abbrev alone : ℕ → ℕ → Bool
   alone = drove_by y begins begins_later a
 
-  pub drove : ℕ → ℕ → Bool
-  drove i u = cond (nat_lt u t) (level l i u) (drove_by y begins begins_later a i u)
+  abbrev pub drove : ℕ → ℕ → Bool
+  drove = all_drove.drove b t alone
 
-  pub drove_old : (i u : ℕ) → u < t → drove i u ≡ level l i u
-  unfolding drove
-  drove_old i u less = rw (lt-ltb u t less) refl
+  abbrev pub drove_old : (i u : ℕ) → u < t → drove i u ≡ level l i u
+  drove_old = all_drove.drove_old b t alone
 
-  drove_new : (i u : ℕ) → t ≤ u → drove i u ≡ alone i u
-  unfolding drove
-  drove_new i u late = rw (le-ltb u t late) refl
+  abbrev drove_new : (i u : ℕ) → t ≤ u → drove i u ≡ alone i u
+  drove_new = all_drove.drove_new b t alone
 
   pub others_silent : (i u : ℕ) → i ≢ a → t ≤ u → drove i u ≡ false
   others_silent i u apart late = drove_new i u late ∙ drove_other y begins begins_later a i u apart
 
-  pub sender_sends : (u : ℕ) → t ≤ u → drove a u ≡ sent y begins begins_later u
-  sender_sends u late = drove_new a u late ∙ drove_sender y begins begins_later a u
+  pub sender_sends : (i u : ℕ) → i ≡ a → t ≤ u → drove i u ≡ sent y begins begins_later u
+  sender_sends i u here late = drove_new i u late ∙ ap (λ n. alone n u) here ∙ drove_sender y begins begins_later a u
 
   alone_silent : (i u : ℕ) → u < t → alone i u ≡ false
   alone_silent i u less = elim (cases_eq i a) [
@@ -138,26 +138,15 @@ module _ (laws : Laws) (b : SenderBus) (is : IsBus b) (meets : IsInStepWithAll b
   abbrev pub levels : ℕ → ℕ → Level
   levels i = levels_found l drove i
 
-  or_false : (v : Bool) → (v || false) ≡ v
-  or_false true = refl
-  or_false false = refl
-
   module _ (i : ℕ) (inside : i < l.nodes) where
     abbrev pub at_rest : RestsAt laws.clocks b is t i inside
     at_rest = rest.node i inside
 
     -- before then it sees what it sees
-    level_old : (k : ℕ) → k < at_rest.start → levels i k ≡ actual i k
-    level_old k less =
-        ap level_of (laws.simulation.found_same l drove (level l) i (l.instant i k) (λ j inside_j come.
-        (let e = is.ticks i k inside in
-        let before = at_rest.before k less in
-        drove_old j (l.instant i k - l.delay j i) (omega arith))))
-
     pub first : IsSilentAt laws.clocks (b.setups i) (is.book i inside) (levels i) at_rest.base at_rest.waits at_rest.start
     first =
         silent_same laws.clocks (b.setups i) (is.book i inside) (actual i) (levels i) at_rest.base at_rest.waits at_rest.start
-        (levels_same (actual i) (levels i) at_rest.start (λ k less. sym (level_old k less))) at_rest.state
+        (all_drove.lists_old b t alone laws.clocks laws.simulation laws.lines is rest i inside at_rest.start (omega arith)) at_rest.state
 
     -- and from then on what the sender drives
     level_new : (k : ℕ) → at_rest.start ≤ k → found l drove i (l.instant i k) ≡ found l alone i (l.instant i k)
@@ -176,7 +165,7 @@ module _ (laws : Laws) (b : SenderBus) (is : IsBus b) (meets : IsInStepWithAll b
     undisturbed : (k : ℕ) → at_rest.start ≤ k → (v : Bool) → driven l.nodes l.delay alone i (l.instant i k) ≡ v → levels i k ≡ level_of v
     undisturbed k late v e =
         ap level_of (level_new k late ∙ ap (λ d. driven l.nodes l.delay alone i (l.instant i k) || d) (is.undisturbed i (l.instant i k) inside)
-        ∙ or_false (driven l.nodes l.delay alone i (l.instant i k)) ∙ e)
+        ∙ or-false (driven l.nodes l.delay alone i (l.instant i k)) ∙ e)
 
     -- a node finds the bit that has arrived
     pub finds_one : (k n : ℕ) → at_rest.start ≤ k → n ≤ last → begins n + l.delay a i ≤ tick i k → tick i k < begins (suc n) + l.delay a i → levels i k ≡ at line n
@@ -404,5 +393,5 @@ module _ (laws : Laws) (b : SenderBus) (is : IsBus b) (meets : IsInStepWithAll b
           | inl few ↦ few
           | inr many ↦ (let rise = up a is.sender (base (suc last) + S a) k many in absurd (omega arith))
         ] in
-        sender_sends u late
+        sender_sends a u refl late
         ∙ speaking.drives_bits laws.clocks laws.frame b is meets t rest frame y from m sends (levels a) own (S a) (omega arith) slot_quiet k u begun less low high

@@ -34,7 +34,7 @@ use Rattle.wl_phase.proofs.Callers.{answer_not, bit_next, none_is, quantum_more,
 use Rattle.wl_buses.proofs.OneSender.Frames as frames
 use Rattle.wl_buses.proofs.OneSender.Frames.{FrameGoes}
 use Rattle.wl_buses.proofs.OneSender.Gliding.{IsAt, syncs_hard}
-use Rattle.wl_buses.proofs.OneSender.Nodes.{ClockGoes, IsGoing, Does, Takes, node, clock_at, sees_at, beat_at, seen_are, valid_at, clock_next, does_plain, does_start, does_sample}
+use Rattle.wl_buses.proofs.OneSender.Nodes.{beat_same, ClockGoes, IsGoing, Does, Takes, node, clock_at, sees_at, beat_at, seen_are, valid_at, clock_next, does_plain, does_start, does_sample}
 use Rattle.wl_buses.proofs.OneSender.Silence.{AwaitsFrame, given, head_none, takes_on, takes_new}
 
 -- the laws of the crate below, of listeners
@@ -234,9 +234,6 @@ module _ (clocks : ClockGoes) (goes : FrameGoes) (setup : NodeSetup) (book : ByT
         ∙ ap (stretch_by (Framing None)) (sym (frames.own_more goes head c y is n (omega arith))))
         (takes_on clocks setup book levels k (Heard n) (frames.receiver_goes_on goes head c y is n (given clocks setup book levels k) few now)))
 
-    beat_same : (k : ℕ) → beat_of setup.segments (seen_before seen k) (seen k) ≡ beat_at clocks setup book levels k
-    beat_same k = ap (λ v. beat_of setup.segments v (seen k)) (sym (seen_are clocks setup book levels k))
-
     taken_length : (n : ℕ) → n ≤ last → length (take n s.bits) ≡ n
     taken_length n h = length-take-le n s.bits (let e = bits_length in omega arith)
 
@@ -245,7 +242,7 @@ module _ (clocks : ClockGoes) (goes : FrameGoes) (setup : NodeSetup) (book : ByT
         → ((q : ℕ) → q ≤ last → samples_from setup.segments seen found i ≡ take q s.bits → IsReceiving (found + i) q) → IsReceiving (suc (found + i)) n
     one_more i n few v is_beat e old =
         let longer : samples_from setup.segments seen found i ++ v ∷ [] ≡ take n s.bits =
-        ap (λ u. samples_from setup.segments seen found i ++ u) (sym (ap sampled_by (beat_same (found + i) ∙ is_beat))) ∙ e in
+        ap (λ u. samples_from setup.segments seen found i ++ u) (sym (ap sampled_by (beat_same clocks setup book levels (found + i) ∙ is_beat))) ∙ e in
         let some : 0 < n = (let a = ap length longer in let b = length_more (samples_from setup.segments seen found i) v in let d = taken_length n few in omega arith) in
         let one : n - 1 + 1 ≡ n = omega arith in
         let cut : take n s.bits ≡ take (n - 1) s.bits ++ at s.bits (n - 1) ∷ [] =
@@ -276,7 +273,7 @@ module _ (clocks : ClockGoes) (goes : FrameGoes) (setup : NodeSetup) (book : ByT
         unsampled : (b : Beat) → beat_at clocks setup book levels (found + i) ≡ b → sampled_by b ≡ [] → samples_from setup.segments seen found i ≡ take n s.bits
         unsampled b is_beat none =
             sym (append-nil (samples_from setup.segments seen found i))
-            ∙ ap (λ v. samples_from setup.segments seen found i ++ v) (sym (ap sampled_by (beat_same (found + i) ∙ is_beat) ∙ none)) ∙ e
+            ∙ ap (λ v. samples_from setup.segments seen found i ++ v) (sym (ap sampled_by (beat_same clocks setup book levels (found + i) ∙ is_beat) ∙ none)) ∙ e
 
     -- so it listens
     listening : (k n : ℕ) → IsListening s j seen found k n → 0 < n → Doing k (Heard n) Recessive
@@ -363,10 +360,10 @@ module _ (clocks : ClockGoes) (goes : FrameGoes) (setup : NodeSetup) (book : ByT
     pub delimiter_by : (k : ℕ) → SamplesBit s j seen found last k → Doing (suc k) (Heard (suc last)) Recessive
     delimiter_by k sampled =
         let place = sampled.place in
-        let beat : beat_at clocks setup book levels k ≡ Sample (at s.bits last) = sym (beat_same k) ∙ sampled.level in
+        let beat : beat_at clocks setup book levels k ≡ Sample (at s.bits last) = sym (beat_same clocks setup book levels k) ∙ sampled.level in
         samples k last (at s.bits last) (omega arith) beat (bits_at last (omega arith))
         (subst (λ q. IsReceiving q last) place (receiving sampled.quanta last (omega arith) sampled.before))
 
     -- and the rest of that bit is PHASE_SEG2
     pub delimiter_place : (k : ℕ) → SamplesBit s j seen found last k → (longer : ℕ) × IsAt (clock_at clocks setup book levels (suc k)) (suc S) longer false
-    delimiter_place k sampled = sampled_place clocks setup book levels laws.ways k (at s.bits last) (sym (beat_same k) ∙ sampled.level)
+    delimiter_place k sampled = sampled_place clocks setup book levels laws.ways k (at s.bits last) (sym (beat_same clocks setup book levels k) ∙ sampled.level)

@@ -1,11 +1,10 @@
 -- One frame of a bus with one sender, from its rest to the acknowledgements: one that is early moves the nodes to which it comes first, and each is over in time.
 use Rattle.std.proofs.Common.{◌≡◌, ◌≢◌, ◌∙◌, ◌⊎◌, inl, inr, refl, sym, ap, subst, ℕ, suc, ◌+◌, ◌-◌, ◌*◌, ◌<◌, ◌≤◌, List, [], ◌∷◌, ◌++◌, length, min, Bool, true, false, cond, ◌||◌, ◌&&◌, arith}
 use Rattle.std.specs.Prelude.{nat_le, nat_lt, ◌==◌}
-use Rattle.std.proofs.lemmas.Bool.{both_ways, cases_lt, cases_eq, and_from, and_left, and_right, false_from_ne_true, le-leb, lt-leb, lt-ltb, le-ltb, eq-eqb, ne_eqb}
+use Rattle.std.proofs.lemmas.Bool.{cases_lt, cases_eq, and_from, and_left, and_right, le-leb, lt-leb, lt-ltb, le-ltb, eq-eqb, ne_eqb}
 use Rattle.wl_level.specs.declared.Level.{Level}
 use Rattle.wl_level.specs.declared.Level.TheVariants.{Dominant, Recessive}
 use Rattle.wl_level.specs.Levels.{level_of}
-use Rattle.wl_topology.specs.Driven.{driven}
 use Rattle.wl_segments.specs.Lengths.{sample_at, bit_quanta}
 use Rattle.wl_sync.specs.Running.{clock_after}
 use Rattle.wl_frame.specs.Grammar.{Content}
@@ -22,6 +21,7 @@ use Rattle.wl_buses.specs.BothProofs.Levels.{levels_before}
 use Rattle.wl_buses.specs.BothProofs.Expected.{levels_found}
 use Rattle.wl_buses.specs.OneSender.OneSender.{SenderBus, IsBus, IsListener, IsInStepWithAll, lengths_of, listener_of}
 use Rattle.wl_buses.specs.OneSender.Through.{EndsInSlots}
+use Rattle.wl_buses.proofs.OneSender.Drove as all_drove
 use Rattle.wl_buses.proofs.OneSender.Alone.{sent, sent_after}
 use Rattle.wl_buses.proofs.OneSender.Answering as answering
 use Rattle.wl_buses.proofs.OneSender.Choosing as choosing
@@ -37,8 +37,9 @@ use Rattle.wl_buses.proofs.OneSender.Resting.{Rests, RestsAt, SendsNext}
 use Rattle.wl_buses.proofs.OneSender.Settling as settling
 use Rattle.wl_buses.proofs.OneSender.Silence.{CountsTo, Waits, IsSilentAt, left_none, silent_at, silent_same, ten_counted}
 use Rattle.wl_buses.proofs.OneSender.Speaking as speaking
-use Rattle.wl_buses.proofs.OneSender.Speaking.{HearsOwn, comes_back}
+use Rattle.wl_buses.proofs.OneSender.Speaking.{comes_back}
 use Rattle.wl_buses.proofs.OneSender.Tails.{after_receiving, received_first, received_passed, received_quiet}
+use Rattle.wl_buses.proofs.OneSender.Listeners.{Numbers, number_is, number_of}
 
 -- a level on the line from a tick to another one
 abbrev pub lasts : (from to : ℕ) → ℕ → Bool
@@ -124,23 +125,18 @@ module _ (laws : Laws) (stay : StayLaws) (b : SenderBus) (is : IsBus b) (meets :
   abbrev chosen : (j : ℕ) → IsListener b j → Stays j ⊎ Comes j
   chosen = choosing.chosen laws stay b is meets slots t rest frame y from m sends
 
-  abbrev who : (j : ℕ) → IsListener b j ⊎ (IsListener b j → ⊥)
-  who = choosing.who laws stay b is meets slots t rest frame y from m sends
-
   -- when it begins, and ends
-  begin_by : (j : ℕ) → (IsListener b j ⊎ (IsListener b j → ⊥)) → ℕ
-  begin_by j (inl p) = tick j (reply_by j (natural_of j p) (chosen j p))
-  begin_by j (inr n) = 0
+  abbrev begins_at : Numbers b
+  begins_at j p = tick j (reply_by j (natural_of j p) (chosen j p))
 
-  end_by : (j : ℕ) → (IsListener b j ⊎ (IsListener b j → ⊥)) → ℕ
-  end_by j (inl p) = tick j (sample_by j (natural_of j p) (chosen j p) + (lengths_of b j).ps2)
-  end_by j (inr n) = 0
+  abbrev ends_at : Numbers b
+  ends_at j p = tick j (sample_by j (natural_of j p) (chosen j p) + (lengths_of b j).ps2)
 
   pub begin : ℕ → ℕ
-  begin j = begin_by j (who j)
+  begin j = number_of b begins_at 0 j
 
   pub end : ℕ → ℕ
-  end j = end_by j (who j)
+  end j = number_of b ends_at 0 j
 
   pub record IsPlanned (j : ℕ) : Type 0 where
     pub nat : IsNatural j
@@ -149,12 +145,10 @@ module _ (laws : Laws) (stay : StayLaws) (b : SenderBus) (is : IsBus b) (meets :
     pub end_is : end j ≡ tick j (sample_by j nat choice + (lengths_of b j).ps2)
 
   pub plan_of : (j : ℕ) → IsListener b j → IsPlanned j
-  unfolding begin begin_by end end_by
-  plan_of j p = by (who j) refl
-    where
-      by : (w : IsListener b j ⊎ (IsListener b j → ⊥)) → who j ≡ w → IsPlanned j
-      by (inl q) e = record { nat = natural_of j q; choice = chosen j q; begin_is = ap (begin_by j) e; end_is = ap (end_by j) e }
-      by (inr n) e = absurd (n p)
+  unfolding begin end
+  plan_of j p =
+      let n = number_is b j p in
+      record { nat = natural_of j n.0; choice = chosen j n.0; begin_is = n.1 begins_at 0; end_is = n.1 ends_at 0 }
 
   -- what is known of these quanta: the sample comes no later than without, and the acknowledgement begins no earlier than where another one comes
   pub record AreQuanta (j : ℕ) (v : IsNatural j) (c : Stays j ⊎ Comes j) : Type 0 where
@@ -215,20 +209,28 @@ module _ (laws : Laws) (stay : StayLaws) (b : SenderBus) (is : IsBus b) (meets :
       omega arith
 
   -- what all drive
-  pub drove : ℕ → ℕ → Bool
-  drove i u = cond (nat_lt u t) (level l i u) (cond (i == a) (sent y begins begins_later u) (lasts (begin i) (end i) u))
+  pub drives_then : ℕ → ℕ → Bool
+  drives_then i u = cond (i == a) (sent y begins begins_later u) (lasts (begin i) (end i) u)
 
-  pub drove_old : (i u : ℕ) → u < t → drove i u ≡ level l i u
-  unfolding drove
-  drove_old i u less = rw (lt-ltb u t less) refl
+  then_sender : (i u : ℕ) → i ≡ a → drives_then i u ≡ sent y begins begins_later u
+  unfolding drives_then
+  then_sender i u here = rw (eq-eqb i a here) refl
+
+  then_other : (i u : ℕ) → i ≢ a → drives_then i u ≡ lasts (begin i) (end i) u
+  unfolding drives_then
+  then_other i u apart = rw (ne_eqb i a apart) refl
+
+  abbrev pub drove : ℕ → ℕ → Bool
+  drove = all_drove.drove b t drives_then
+
+  abbrev pub drove_old : (i u : ℕ) → u < t → drove i u ≡ level l i u
+  drove_old = all_drove.drove_old b t drives_then
 
   pub drove_sender : (u : ℕ) → t ≤ u → drove a u ≡ sent y begins begins_later u
-  unfolding drove
-  drove_sender u late = rw (le-ltb u t late, eq-eqb a a refl) refl
+  drove_sender u late = all_drove.drove_new b t drives_then a u late ∙ then_sender a u refl
 
   pub drove_other : (i u : ℕ) → i ≢ a → t ≤ u → drove i u ≡ lasts (begin i) (end i) u
-  unfolding drove
-  drove_other i u apart late = rw (le-ltb u t late, ne_eqb i a apart) refl
+  drove_other i u apart late = all_drove.drove_new b t drives_then i u late ∙ then_other i u apart
 
   abbrev pub lv : ℕ → ℕ → Level
   lv i = levels_found l drove i
@@ -265,7 +267,7 @@ module _ (laws : Laws) (stay : StayLaws) (b : SenderBus) (is : IsBus b) (meets :
           | inr late ↦ elim (cases_eq j a) [
             | inl here ↦
                 subst (λ n. drove n (l.instant i k - l.delay j i) ≡ planned.drove laws b is meets t rest frame y from m sends n (l.instant i k - l.delay j i)) (sym here)
-                (drove_sender (l.instant i k - l.delay j i) late ∙ sym (planned.sender_sends laws b is meets t rest frame y from m sends (l.instant i k - l.delay j i) late))
+                (drove_sender (l.instant i k - l.delay j i) late ∙ sym (planned.sender_sends laws b is meets t rest frame y from m sends a (l.instant i k - l.delay j i) refl late))
             | inr apart ↦
                 (let p = plan_of j (inside_j, apart) in
                 let n = none j p in
@@ -277,32 +279,18 @@ module _ (laws : Laws) (stay : StayLaws) (b : SenderBus) (is : IsBus b) (meets :
     -- whatever is under way is recessive
     pub silent_then : (rest.node i inside).start ≤ k → AllOver i (tick i k) → lv i k ≡ Recessive
     silent_then late over =
-        ap level_of (ap (λ d. d || l.disturbed i (l.instant i k)) none ∙ is.undisturbed i (l.instant i k) inside)
-      where
-        each : (j : ℕ) → j < l.nodes → l.delay j i ≤ l.instant i k → drove j (l.instant i k - l.delay j i) ≡ false
-        each j inside_j come =
-            let e = is.ticks i k inside in
-            let after = (rest.node i inside).after in
-            let rise = up i inside (rest.node i inside).start k late in
-            elim (cases_lt (l.instant i k - l.delay j i) t) [
-              | inl early ↦ drove_old j (l.instant i k - l.delay j i) early ∙ rest.quiet j i (l.instant i k - l.delay j i) inside_j inside early (omega arith)
-              | inr from_then ↦ elim (cases_eq j a) [
-                | inl here ↦
-                    (let bits = over.bits in
-                    let same : l.delay j i ≡ l.delay a i = ap (λ n. l.delay n i) here in
-                    subst (λ n. drove n (l.instant i k - l.delay j i) ≡ false) (sym here)
-                    (drove_sender (l.instant i k - l.delay j i) from_then ∙ sent_after y begins begins_later (l.instant i k - l.delay j i) (omega arith)))
-                | inr apart ↦
-                    (let p = plan_of j (inside_j, apart) in
-                    let n = over.answers j p in
-                    drove_other j (l.instant i k - l.delay j i) apart from_then ∙ lasts_no_more (begin j) (end j) (l.instant i k - l.delay j i) (omega arith))
-              ]
-            ]
-
-        none : driven l.nodes l.delay drove i (l.instant i k) ≡ false
-        none = false_from_ne_true (driven l.nodes l.delay drove i (l.instant i k)) (λ e.
-            (let by = laws.lines.dominant_by l.nodes l.delay drove i (l.instant i k) e in
-            both_ways (drove by.0 (l.instant i k - l.delay by.0 i)) (each by.0 by.1 by.2) by.3))
+        all_drove.silent_then b t drives_then laws.clocks laws.simulation laws.lines is rest i inside k late (λ j inside_j come from_then.
+        (let e = is.ticks i k inside in
+        elim (cases_eq j a) [
+          | inl here ↦
+              (let bits = over.bits in
+              let same : l.delay j i ≡ l.delay a i = ap (λ n. l.delay n i) here in
+              then_sender j (l.instant i k - l.delay j i) here ∙ sent_after y begins begins_later (l.instant i k - l.delay j i) (omega arith))
+          | inr apart ↦
+              (let p = plan_of j (inside_j, apart) in
+              let n = over.answers j p in
+              then_other j (l.instant i k - l.delay j i) apart ∙ lasts_no_more (begin j) (end j) (l.instant i k - l.delay j i) (omega arith))
+        ]))
 
     -- an acknowledgement is there
     pub answered_then : (j : ℕ) → (p : IsPlanned j) → begin j + l.delay j i ≤ tick i k → tick i k < end j + l.delay j i → lv i k ≡ Dominant
@@ -318,15 +306,8 @@ module _ (laws : Laws) (stay : StayLaws) (b : SenderBus) (is : IsBus b) (meets :
     abbrev at_rest : RestsAt laws.clocks b is t i inside
     at_rest = rest.node i inside
 
-    level_old : (k : ℕ) → k < at_rest.start → lv i k ≡ resting.actual laws.clocks b is i k
-    level_old k less =
-        ap level_of (laws.simulation.found_same l drove (level l) i (l.instant i k) (λ j inside_j come.
-        (let e = is.ticks i k inside in
-        let before = at_rest.before k less in
-        drove_old j (l.instant i k - l.delay j i) (omega arith))))
-
-    pub lists_old : (k : ℕ) → k ≤ at_rest.start → levels_before (resting.actual laws.clocks b is i) k ≡ levels_before (lv i) k
-    lists_old k few = levels_same (resting.actual laws.clocks b is i) (lv i) k (λ n less. sym (level_old n (omega arith)))
+    abbrev pub lists_old : (k : ℕ) → k ≤ at_rest.start → levels_before (resting.actual laws.clocks b is i) k ≡ levels_before (lv i) k
+    lists_old = all_drove.lists_old b t drives_then laws.clocks laws.simulation laws.lines is rest i inside
 
     pub first : IsSilentAt laws.clocks (b.setups i) (is.book i inside) (lv i) at_rest.base at_rest.waits at_rest.start
     first =

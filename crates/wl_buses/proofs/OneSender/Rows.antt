@@ -1,20 +1,15 @@
 -- Worked clocks and delays: a sender and two listeners, one a hundredth faster and one a hundredth slower.
 use Rattle.std.proofs.Common.{◌≡◌, refl, ℕ, zero, suc, List, [], ◌∷◌, false, arith}
-use Rattle.wl_segments.specs.declared.SyncRules.TheVariants.{Book}
-use Rattle.wl_segments.specs.Lengths.{Lengths}
 use Rattle.wl_level.specs.declared.Level.{Level}
 use Rattle.wl_level.specs.declared.Level.TheVariants.{Dominant}
 use Rattle.wl_frame.specs.Grammar.{content_of}
 use Rattle.wl_buses.specs.OneSender.OneSender.{SenderBus}
 use Rattle.wl_buses.specs.OneSender.Through.{due_quantum}
 use Rattle.wl_buses.specs.OneSender.Tolerances.{FitClocks, Tolerance}
+use Rattle.wl_buses.proofs.BothProofs.Rows.{l}
 use Rattle.wl_phase.specs.Clocks.{steady_timing}
 use Rattle.wl_phase.specs.InStep.{Sender, Listener, AreNear}
 use Rattle.wl_phase.specs.Answer.{IsInTime, ComesAfterSample, EndsAfterMove, EndsBeforeSample, EndsInTime, FitsBit}
-
--- a bit of 1 + 3 + 3 + 3 quanta with its sample at place 7, and a jump width of 2
-abbrev l : Lengths
-l = record { prop = 3; ps1 = 3; ps2 = 3; sjw = 2; sync = Book }
 
 abbrev s : Sender
 s = record { clock = record { offset = 0; num = 100; den = 1 }; bit_quanta = 10; from = 110; bits = [] }

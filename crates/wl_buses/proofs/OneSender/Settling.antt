@@ -11,9 +11,9 @@ use Rattle.wl_node.specs.declared.setup.Passed.{Passed}
 use Rattle.wl_node.specs.History.{passed_frames}
 use Rattle.wl_phase.specs.Ways.{ByTheBook}
 use Rattle.wl_buses.proofs.OneSender.Bits.{at_place}
-use Rattle.wl_buses.proofs.OneSender.Gliding.{sampled_dominant}
 use Rattle.wl_buses.proofs.OneSender.Nodes.{ClockGoes, IsGoing, IsUnmoved, Does, Completes, clock_at, sees_at, beat_sample, sample_before, sample_on, sample_start, level_before, step_on, step_start, step_complete}
 use Rattle.wl_buses.proofs.OneSender.Silence.{IsSilentAt, Waits, given}
+use Rattle.wl_buses.proofs.BothProofs.Small.{sampled_dominant}
 
 module _ (clocks : ClockGoes) (setup : NodeSetup) (book : ByTheBook setup.segments) (levels : ℕ → Level) (passed : List Passed) (q longer : ℕ) (s : Stretch) (drive : Level)
     (quiet : drive_of s ≡ Recessive) (w : Waits (q + setup.segments.ps2) (sample_at setup.segments) (bit_quanta setup.segments)) (first : w.stretch 0 ≡ s) (gone : w.passed 0 ≡ passed)

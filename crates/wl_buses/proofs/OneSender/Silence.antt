@@ -1,13 +1,13 @@
 -- A node on a silent line: until the bus is idle to it, and until it begins a frame of its own.
-use Rattle.std.proofs.Common.{◌≡◌, ◌≢◌, ◌∙◌, inl, inr, refl, sym, ap, subst, ℕ, zero, suc, ◌+◌, ◌-◌, ◌*◌, ◌<◌, ◌≤◌, min, List, [], ◌∷◌, ◌++◌, length, replicate, Bool, true, cond, Some, None, arith, add-one, append-nil}
+use Rattle.std.proofs.Common.{◌≡◌, ◌≢◌, ◌∙◌, inl, inr, refl, sym, ap, subst, ℕ, zero, suc, ◌+◌, ◌-◌, ◌*◌, ◌<◌, ◌≤◌, min, List, [], ◌∷◌, ◌++◌, length, replicate, Bool, true, cond, Some, None, arith, append-nil}
 use Rattle.std.specs.Prelude.{◌==◌, drop, count_by}
 use Rattle.std.proofs.lemmas.Bool.{cases_lt, cases_eq, cases_order, ne_eqb}
 use Rattle.std.proofs.Math.Nat.{mul-le-mul_right, lt_of_mul-lt-mul_right}
 use Rattle.wl_level.specs.declared.Level.{Level}
 use Rattle.wl_level.specs.declared.Level.TheVariants.{Dominant, Recessive}
-use Rattle.wl_level.specs.Levels.{is_dominant, same}
-use Rattle.wl_level.specs.Places.{run_before, run_at_end}
-use Rattle.wl_level.proofs.Callers.{at_new, length_more, run_old, snoc}
+use Rattle.wl_level.specs.Levels.{is_dominant}
+use Rattle.wl_level.specs.Places.{run_at_end}
+use Rattle.wl_level.proofs.Callers.{snoc, run_more}
 use Rattle.wl_segments.specs.Lengths.{sample_at, bit_quanta}
 use Rattle.wl_segments.specs.declared.SyncRules.{SyncRules}
 use Rattle.wl_segments.specs.declared.SyncRules.TheVariants.{After, Book}
@@ -34,13 +34,7 @@ use Rattle.wl_buses.proofs.OneSender.Nodes.{ClockGoes, IsGoing, IsCalm, Does, Co
 run_of : (c : ℕ) → run_at_end Recessive (replicate c Recessive) ≡ c
 run_of zero = refl
 run_of (suc c) =
-    ap (run_at_end Recessive) (snoc [] Recessive c) ∙ one_more (replicate c Recessive) ∙ ap suc (run_of c)
-  where
-    one_more : (xs : List Level) → run_at_end Recessive (xs ++ Recessive ∷ []) ≡ suc (run_at_end Recessive xs)
-    one_more xs =
-        ap (run_before Recessive (xs ++ Recessive ∷ [])) (length_more xs Recessive ∙ add-one (length xs))
-        ∙ ap (λ l. cond (same l Recessive) (suc (run_before Recessive (xs ++ Recessive ∷ []) (length xs))) 0) (at_new xs Recessive)
-        ∙ ap suc (run_old Recessive xs Recessive (length xs) (omega arith))
+    ap (run_at_end Recessive) (snoc [] Recessive c) ∙ run_more Recessive (replicate c Recessive) Recessive ∙ ap suc (run_of c)
 
 -- what a machine makes of one more
 pub integrates : (c : ℕ) (x : Sampled) → c ≢ 10 → x.level ≡ Recessive → judged (stretch_by Integration (replicate c Recessive)) x ≡ continues Nothing

@@ -20,7 +20,7 @@ use Rattle.wl_phase.specs.InStep.{seen_before, sampled_by, samples_from}
 use Rattle.wl_phase.specs.Answer.{SamplesNext}
 use Rattle.wl_buses.proofs.OneSender.Frames as frames
 use Rattle.wl_buses.proofs.OneSender.Frames.{FrameGoes}
-use Rattle.wl_buses.proofs.OneSender.Nodes.{ClockGoes, Does, Takes, beat_at, sees_at, seen_are, does_plain, does_start, does_sample}
+use Rattle.wl_buses.proofs.OneSender.Nodes.{beat_same, ClockGoes, Does, Takes, beat_at, sees_at, does_plain, does_start, does_sample}
 use Rattle.wl_buses.proofs.OneSender.Receiving.{cases_beat, sampled_level}
 use Rattle.wl_buses.proofs.OneSender.Silence.{given, takes_on}
 
@@ -40,9 +40,6 @@ module _ (clocks : ClockGoes) (goes : FrameGoes) (setup : NodeSetup) (book : ByT
 
   abbrev samples : (from n : ℕ) → List Level
   samples from n = samples_from setup.segments seen from n
-
-  beat_same : (k : ℕ) → beat_of setup.segments (seen_before seen k) (seen k) ≡ beat_at clocks setup book levels k
-  beat_same k = ap (λ v. beat_of setup.segments v (seen k)) (sym (seen_are clocks setup book levels k))
 
   empty_front : (xs ys : List Level) → xs ++ ys ≡ [] → xs ≡ []
   empty_front [] ys e = refl
@@ -70,7 +67,7 @@ module _ (clocks : ClockGoes) (goes : FrameGoes) (setup : NodeSetup) (book : ByT
           | inr other ↦ elim other [
             | inl start ↦ subst (λ v. Doing (suc (from + n)) s v) drives (does_start clocks setup book levels (from + n) s Recessive start before)
             | inr sampled ↦
-                (let one : samples from n ++ sampled.0 ∷ [] ≡ [] = ap (λ v. samples from n ++ v) (sym (ap sampled_by (beat_same (from + n) ∙ sampled.1))) ∙ none in
+                (let one : samples from n ++ sampled.0 ∷ [] ≡ [] = ap (λ v. samples from n ++ v) (sym (ap sampled_by (beat_same clocks setup book levels (from + n) ∙ sampled.1))) ∙ none in
                 let long = length_more (samples from n) sampled.0 in
                 let e = ap length one in
                 absurd (omega arith))
@@ -83,7 +80,7 @@ module _ (clocks : ClockGoes) (goes : FrameGoes) (setup : NodeSetup) (book : ByT
       let none : drive_of (Frame (suc last)) ≡ Recessive = frames.sender_drives goes head c y is (suc last) (omega arith) ∙ get_or_past y (suc last) Recessive (omega arith) in
       let before : Doing m (Frame (suc last)) Recessive =
       subst (λ q. Doing q (Frame (suc last)) Recessive) place (stays (suc k) (Frame (suc last)) none first next.quanta next.first) in
-      let beat : beat_at clocks setup book levels m ≡ Sample Dominant = sym (beat_same m) ∙ next.beat in
+      let beat : beat_at clocks setup book levels m ≡ Sample Dominant = sym (beat_same clocks setup book levels m) ∙ next.beat in
       let now : levels m ≡ Dominant = sampled_level clocks setup book levels ways m Dominant beat in
       does_sample clocks setup book levels m (Frame (suc last)) (Frame (suc (suc last))) Recessive Dominant beat before
       (subst (λ t. Takes clocks setup book levels m (Frame (suc last)) t)

@@ -39,12 +39,11 @@ use Rattle.wl_buses.proofs.OneSender.Choosing as choosing
 use Rattle.wl_buses.proofs.OneSender.Choosing.{StayLaws}
 use Rattle.wl_buses.proofs.OneSender.Replies.{lasts, lasts_not_yet, lasts_no_more, lasts_now}
 use Rattle.wl_buses.proofs.OneSender.Resting as resting
-use Rattle.wl_buses.proofs.OneSender.Resting.{Rests, RestsAt, SendsNext}
+use Rattle.wl_buses.proofs.OneSender.Resting.{Rests, SendsNext}
 use Rattle.wl_buses.proofs.OneSender.Settling as settling
 use Rattle.wl_buses.proofs.OneSender.Silence.{CountsTo, Waits, IsSilentAt, counts_to, silent_at, ten_counted}
 use Rattle.wl_buses.proofs.OneSender.Slots.{slot_sampled, stays, none_before}
 use Rattle.wl_buses.proofs.OneSender.Speaking as speaking
-use Rattle.wl_buses.proofs.OneSender.Speaking.{HearsOwn, comes_back}
 use Rattle.wl_buses.proofs.OneSender.Tails.{after_sending, sent_first, sent_passed, sent_quiet}
 
 module _ (laws : Laws) (stay : StayLaws) (b : SenderBus) (is : IsBus b) (meets : IsInStepWithAll b) (slots : EndsInSlots b) (t : ℕ) (rest : Rests laws.clocks b is t)
@@ -180,7 +179,7 @@ module _ (laws : Laws) (stay : StayLaws) (b : SenderBus) (is : IsBus b) (meets :
   abbrev alone : ℕ → Level
   alone = planned.levels laws b is meets t rest frame y from m sends a
 
-  loop : (n : ℕ) → begins n + l.delay a a ≤ tick a (base n + S a)
+  abbrev loop : (n : ℕ) → begins n + l.delay a a ≤ tick a (base n + S a)
   loop = speaking.loop laws.clocks laws.frame b is meets t rest frame y from m sends
 
   start_before_own : (rest.node a is.sender).start ≤ from
@@ -535,7 +534,7 @@ module _ (laws : Laws) (stay : StayLaws) (b : SenderBus) (is : IsBus b) (meets :
           ∙ elim (cases_lt k delimiter) [
             | inl bits ↦
                 (let rise = up a is.sender (suc k) slot_sample (omega arith) in
-                sym (planned.sender_sends laws b is meets t rest frame y from m sends u from_then)
+                sym (planned.sender_sends laws b is meets t rest frame y from m sends a u refl from_then)
                 ∙ planned.sender_drives laws b is meets t rest frame y from m sends (tick a slot_sample) (omega arith) k u from_then (omega arith) low high
                 ∙ ap (λ ls. is_dominant (history_of (b.setups a) ls).drive) (lists_delimited (suc k) (omega arith)))
             | inr over ↦

@@ -24,19 +24,21 @@ use Rattle.wl_buses.specs.BothProofs.Levels.{levels_before}
 use Rattle.wl_buses.specs.BothProofs.Expected.{IsExpected, levels_found}
 use Rattle.wl_buses.specs.OneSender.OneSender.{SenderBus, IsBus, IsListener, SendsFirst, IsInStepWithAll, EndsAfterSlot, IsAtStretch, IsAcknowledged, lengths_of, listener_of, sender_of}
 use Rattle.wl_buses.proofs.OneSender.Answering as answering
-use Rattle.wl_buses.proofs.BothProofs.Expecting.{driven_is, levels_same, seen_by_quanta, seen_is}
+use Rattle.wl_buses.proofs.BothProofs.Expecting as expecting
+use Rattle.wl_buses.proofs.BothProofs.Expecting.{levels_same, seen_by_quanta, seen_is}
 use Rattle.wl_buses.proofs.OneSender.Frames as frames
 use Rattle.wl_buses.proofs.OneSender.Leasts.{least, least_most, least_each, least_from, least_is}
 use Rattle.wl_buses.proofs.OneSender.Nodes.{Does, IsGoing, node, sees_at, seen_are, does_same, going_same}
 use Rattle.wl_buses.proofs.OneSender.Planned as planned
 use Rattle.wl_buses.proofs.OneSender.Planned.{Laws, IsHeard}
-use Rattle.wl_buses.proofs.OneSender.Resting.{Rests, SendsNext}
-use Rattle.wl_buses.proofs.OneSender.Resting.{rests_first}
+use Rattle.wl_buses.proofs.OneSender.Resting.{Rests, SendsNext, rests_first}
 use Rattle.wl_buses.proofs.OneSender.Silence.{integrating}
 use Rattle.wl_buses.proofs.OneSender.Speaking as speaking
 use Rattle.wl_buses.proofs.OneSender.Speaking.{comes_back}
 use Rattle.wl_buses.proofs.OneSender.Alone.{sent_before}
 use Rattle.wl_buses.proofs.OneSender.Slots.{slot_sampled}
+use Rattle.wl_buses.proofs.BothProofs.Small.{zero_first}
+use Rattle.wl_buses.proofs.OneSender.Listeners.{Numbers, number_is, number_of, other_is}
 
 module _ (laws : Laws) (b : SenderBus) (is : IsBus b) (sends : SendsFirst b) (meets : IsInStepWithAll b) (ends : EndsAfterSlot b) where
   abbrev pub l : Line
@@ -74,9 +76,6 @@ module _ (laws : Laws) (b : SenderBus) (is : IsBus b) (sends : SendsFirst b) (me
         let ten = ap (steady_tick (b.clocks j)) (zero_first (10 * bit_quanta (lengths_of b j)) (sample_at (lengths_of b j))) in
         omega arith);
   }
-    where
-      zero_first : (m n : ℕ) → 0 + m + n ≡ m + n
-      zero_first m n = omega arith
 
   abbrev tick : ℕ → ℕ → ℕ
   tick i k = planned.tick laws b is meets 0 rest b.frame b.stuffed from b.decides first_frame i k
@@ -105,41 +104,28 @@ module _ (laws : Laws) (b : SenderBus) (is : IsBus b) (sends : SendsFirst b) (me
   drove = planned.drove laws b is meets 0 rest b.frame b.stuffed from b.decides first_frame
 
   -- when each listener begins its acknowledgement, if no other one moves it
-  who : (j : ℕ) → IsListener b j ⊎ (IsListener b j → ⊥)
-  who j = elim (cases_lt j l.nodes) [
-    | inl inside ↦ elim (cases_eq j a) [ inl here ↦ inr (λ p. p.1 here) | inr apart ↦ inl (inside, apart) ]
-    | inr out ↦ inr (λ p. (let inside = p.0 in omega arith))
-  ]
-
-  begin_by : (j : ℕ) → (IsListener b j ⊎ (IsListener b j → ⊥)) → ℕ
-  begin_by j (inl p) = tick j (planned.answer laws b is meets 0 rest b.frame b.stuffed from b.decides first_frame j (planned.heard_by laws b is meets 0 rest b.frame b.stuffed from b.decides first_frame j p))
-  begin_by j (inr n) = l.stop
+  abbrev reply_begins : Numbers b
+  reply_begins j p = tick j (planned.answer laws b is meets 0 rest b.frame b.stuffed from b.decides first_frame j (planned.heard_by laws b is meets 0 rest b.frame b.stuffed from b.decides first_frame j p))
 
   pub begin : ℕ → ℕ
-  begin j = begin_by j (who j)
+  begin j = number_of b reply_begins l.stop j
 
-  pub record IsPlanned (j : ℕ) : Type 0 where
+  pub record BeginsReply (j : ℕ) : Type 0 where
     pub heard : Heard j
     pub begin_is : begin j ≡ tick j (planned.answer laws b is meets 0 rest b.frame b.stuffed from b.decides first_frame j heard)
 
-  pub plan_of : (j : ℕ) → IsListener b j → IsPlanned j
-  unfolding begin begin_by
-  plan_of j p = by (who j) refl
-    where
-      by : (w : IsListener b j ⊎ (IsListener b j → ⊥)) → who j ≡ w → IsPlanned j
-      by (inl q) e = record { heard = planned.heard_by laws b is meets 0 rest b.frame b.stuffed from b.decides first_frame j q; begin_is = ap (begin_by j) e }
-      by (inr n) e = absurd (n p)
+  pub reply_of : (j : ℕ) → IsListener b j → BeginsReply j
+  unfolding begin
+  reply_of j p =
+      let n = number_is b j p in
+      record { heard = planned.heard_by laws b is meets 0 rest b.frame b.stuffed from b.decides first_frame j n.0; begin_is = n.1 reply_begins l.stop }
 
   begin_sender : begin a ≡ l.stop
-  unfolding begin begin_by
-  begin_sender = by (who a) refl
-    where
-      by : (w : IsListener b a ⊎ (IsListener b a → ⊥)) → who a ≡ w → begin_by a (who a) ≡ l.stop
-      by (inl q) e = absurd (q.1 refl)
-      by (inr n) e = ap (begin_by a) e
+  unfolding begin
+  begin_sender = other_is b reply_begins l.stop a (λ p. p.1 refl)
 
-  cases_node : (i : ℕ) → i < l.nodes → (i ≡ a) ⊎ IsPlanned i
-  cases_node i inside = elim (cases_eq i a) [ inl here ↦ inl here | inr apart ↦ inr (plan_of i (inside, apart)) ]
+  cases_node : (i : ℕ) → i < l.nodes → (i ≡ a) ⊎ BeginsReply i
+  cases_node i inside = elim (cases_eq i a) [ inl here ↦ inl here | inr apart ↦ inr (reply_of i (inside, apart)) ]
 
   -- how far it is to another node
   gap : ℕ → ℕ → ℕ
@@ -194,16 +180,16 @@ module _ (laws : Laws) (b : SenderBus) (is : IsBus b) (sends : SendsFirst b) (me
       let e = ends.sender in
       omega arith
 
-  comes_by : (i : ℕ) → (p : IsPlanned i) → begin i + l.delay i a ≤ slot_tick
+  comes_by : (i : ℕ) → (p : BeginsReply i) → begin i + l.delay i a ≤ slot_tick
   comes_by i p = let e = p.begin_is in let f = (planned.answered laws b is meets 0 rest b.frame b.stuffed from b.decides first_frame i p.heard).before in omega arith
 
-  begin_inside : (i : ℕ) → IsPlanned i → begin i < l.stop
+  begin_inside : (i : ℕ) → BeginsReply i → begin i < l.stop
   begin_inside i p = let e = comes_by i p in let f = slot_inside in omega arith
 
   pub sender_until : until a ≤ slot_tick
   sender_until =
       let other = is.other in
-      let p = plan_of other.0 other.1 in
+      let p = reply_of other.0 other.1 in
       let e = until_each other.0 a other.1.0 in
       let f = gap_other other.0 a other.1.1 in
       let g = comes_by other.0 p in
@@ -213,7 +199,7 @@ module _ (laws : Laws) (b : SenderBus) (is : IsBus b) (sends : SendsFirst b) (me
   pub record IsFirst (i : ℕ) : Type 0 where
     pub inside : i < l.nodes
     pub apart : i ≢ a
-    pub plan : IsPlanned i
+    pub plan : BeginsReply i
     pub comes : until a ≡ begin i + l.delay i a
 
   first : (i : ℕ) × IsFirst i
@@ -225,7 +211,7 @@ module _ (laws : Laws) (b : SenderBus) (is : IsBus b) (sends : SendsFirst b) (me
       by : (i : ℕ) → i < l.nodes → until a ≡ begin i + gap i a → IsFirst i
       by i inside e = elim (cases_eq i a) [
         | inl here ↦ (let f : begin i ≡ begin a = ap begin here in let g = begin_sender in let h = sender_until in let k = slot_inside in absurd (omega arith))
-        | inr apart ↦ (let g = gap_other i a apart in record { inside = inside; apart = apart; plan = plan_of i (inside, apart); comes = omega arith })
+        | inr apart ↦ (let g = gap_other i a apart in record { inside = inside; apart = apart; plan = reply_of i (inside, apart); comes = omega arith })
       ]
 
   near : (i j : ℕ) → i < l.nodes → j < l.nodes → until j ≤ until i + l.delay i j
@@ -244,8 +230,7 @@ module _ (laws : Laws) (b : SenderBus) (is : IsBus b) (sends : SendsFirst b) (me
             (let e = is.ticks i 0 inside in
             let f : tick i 0 ≡ tick a 0 = ap (λ n. tick n 0) here in
             let rise = up a is.sender 0 (planned.base laws b is meets 0 rest b.frame b.stuffed from b.decides first_frame 0) (omega arith) in
-            subst (λ n. drove n t ≡ false) (sym here)
-            (planned.sender_sends laws b is meets 0 rest b.frame b.stuffed from b.decides first_frame t (omega arith) ∙ sent_before b.stuffed begins begins_later t (omega arith)))
+            planned.sender_sends laws b is meets 0 rest b.frame b.stuffed from b.decides first_frame i t here (omega arith) ∙ sent_before b.stuffed begins begins_later t (omega arith))
         | inr apart ↦ planned.others_silent laws b is meets 0 rest b.frame b.stuffed from b.decides first_frame i t apart (omega arith)
       ]
 
@@ -265,7 +250,7 @@ module _ (laws : Laws) (b : SenderBus) (is : IsBus b) (sends : SendsFirst b) (me
               planned.sender_drives laws b is meets 0 rest b.frame b.stuffed from b.decides first_frame (until a) sender_until k t (omega arith) (omega arith) (omega arith) (omega arith)
               ∙ sym (is.drives a (levels_before (levels_found l drove a) (suc k)) is.sender)
 
-          by_other : IsPlanned i → drove i t ≡ l.drives i (levels_before (levels_found l drove i) (suc k))
+          by_other : BeginsReply i → drove i t ≡ l.drives i (levels_before (levels_found l drove i) (suc k))
           by_other p =
               let e = is.ticks i k inside in
               let f = until_each i i inside in
@@ -278,11 +263,11 @@ module _ (laws : Laws) (b : SenderBus) (is : IsBus b) (sends : SendsFirst b) (me
               planned.others_silent laws b is meets 0 rest b.frame b.stuffed from b.decides first_frame i t p.heard.listener.1 (omega arith)
               ∙ sym (is.drives i (levels_before (levels_found l drove i) (suc k)) inside ∙ ap is_dominant (planned.silent laws b is meets 0 rest b.frame b.stuffed from b.decides first_frame i p.heard (suc k) (begun_first i p.heard (suc k)) before).2.drives)
 
-  driven_there : (i t : ℕ) → i < l.nodes → t < until i → level l i t ≡ drove i t
-  driven_there = driven_is laws.simulation l until drove is.causal expected
+  abbrev driven_there : (i t : ℕ) → i < l.nodes → t < until i → level l i t ≡ drove i t
+  driven_there = expecting.driven_is laws.simulation l until drove is.causal expected
 
   -- each listener samples the CRC delimiter before that
-  sampled_before : (j : ℕ) → j < l.nodes → (p : IsPlanned j) → tick j p.heard.quantum < until j
+  sampled_before : (j : ℕ) → j < l.nodes → (p : BeginsReply j) → tick j p.heard.quantum < until j
   sampled_before j inside p =
       let answer = planned.answer laws b is meets 0 rest b.frame b.stuffed from b.decides first_frame j p.heard in
       let low = (is.book j inside).lengths.ps2_low in
@@ -324,7 +309,7 @@ module _ (laws : Laws) (b : SenderBus) (is : IsBus b) (sends : SendsFirst b) (me
   -- so it has the frame
   pub received : (j : ℕ) → IsListener b j → IsAtStretch b j (stretch_by (Framing None) (b.stuffed ++ Recessive ∷ []))
   received j listener =
-      let p = plan_of j listener in
+      let p = reply_of j listener in
       let inside = listener.0 in
       let before : (k : ℕ) → k < suc p.heard.quantum → l.instant j k < until j =
       λ k less. (let e = is.ticks j k inside in let rise = up j inside k p.heard.quantum (omega arith) in let f = sampled_before j inside p in omega arith) in

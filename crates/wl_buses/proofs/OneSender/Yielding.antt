@@ -27,7 +27,7 @@ use Rattle.wl_phase.specs.InStep.{seen_before, sampled_by, samples_from}
 use Rattle.wl_phase.specs.Answer.{FindsDominant, SamplesNext, moved_sample}
 use Rattle.wl_buses.proofs.OneSender.Frames as frames
 use Rattle.wl_buses.proofs.OneSender.Frames.{FrameGoes}
-use Rattle.wl_buses.proofs.OneSender.Nodes.{ClockGoes, calm_acked, IsGoing, Does, Takes, clock_at, sees_at, seen_are, beat_at, sample_before, does_plain, does_start, does_sample}
+use Rattle.wl_buses.proofs.OneSender.Nodes.{beat_same, ClockGoes, calm_acked, IsGoing, Does, Takes, clock_at, sees_at, seen_are, beat_at, sample_before, does_plain, does_start, does_sample}
 use Rattle.wl_buses.proofs.OneSender.Receiving.{cases_beat, sampled_place}
 use Rattle.wl_buses.proofs.OneSender.Silence.{given}
 use Rattle.wl_buses.proofs.OneSender.Slots.{none_before}
@@ -67,9 +67,6 @@ module _ (clocks : ClockGoes) (goes : FrameGoes) (setup : NodeSetup) (book : ByT
   pub sample_low : k < n → n ≤ k + setup.segments.ps2 → n + (sample_at setup.segments - 1) ≤ m
   sample_low after early = let a = book.lengths.prop_low in omega arith
 
-  beat_same : (q : ℕ) → beat_of setup.segments (seen_before seen q) (seen q) ≡ beat_at clocks setup book levels q
-  beat_same q = ap (λ v. beat_of setup.segments v (seen q)) (sym (seen_are clocks setup book levels q))
-
   module _ (after : k < n) (early : n ≤ k + setup.segments.ps2) (up_to : (q : ℕ) → k < q → q ≤ n → Doing q (Heard (suc last)) Recessive)
       (steady : clock_at clocks setup book levels (suc k) ≡ steady_clock setup.segments)
       (quiet : (q : ℕ) → k < q → q < n → levels q ≡ Recessive) (loud : (q : ℕ) → n ≤ q → q ≤ m → levels q ≡ Dominant) where
@@ -99,7 +96,7 @@ module _ (clocks : ClockGoes) (goes : FrameGoes) (setup : NodeSetup) (book : ByT
         (ap (samples_from setup.segments seen (suc k)) whole ∙ next.first) in
         let one : samples_from setup.segments seen (suc k) (q - suc k) ++ v ∷ [] ≡ [] =
         ap (λ w. samples_from setup.segments seen (suc k) (q - suc k) ++ w)
-        (sym (ap (λ i. sampled_by (beat_of setup.segments (seen_before seen i) (seen i))) here ∙ ap sampled_by (beat_same q ∙ e))) ∙ none in
+        (sym (ap (λ i. sampled_by (beat_of setup.segments (seen_before seen i) (seen i))) here ∙ ap sampled_by (beat_same clocks setup book levels q ∙ e))) ∙ none in
         let long = length_more (samples_from setup.segments seen (suc k) (q - suc k)) v in
         let f = ap length one in
         omega arith
@@ -191,7 +188,7 @@ module _ (clocks : ClockGoes) (goes : FrameGoes) (setup : NodeSetup) (book : ByT
         }
 
     beat : beat_at clocks setup book levels m ≡ Sample Dominant
-    beat = sym (beat_same m) ∙ next.beat
+    beat = sym (beat_same clocks setup book levels m) ∙ next.beat
 
     with_drive : (v : Level) → Doing m (Heard (suc last)) v → (replies.reply < m → v ≡ Dominant) → (m ≤ replies.reply → v ≡ Recessive) → Sampled
     with_drive v d loud_by quiet_by =

@@ -24,7 +24,7 @@ use Rattle.wl_machine.specs.Frames.{differing, frame_role, framing_by, framing_r
 use Rattle.wl_machine.specs.BetweenFrames.{after_intermission, begun_head, idle_on}
 use Rattle.wl_machine.specs.Judged.{judged, judged_by, or_next, stretch_after}
 use Rattle.wl_machine.specs.States.{stretch_by}
-use Rattle.wl_buses.proofs.FirstFrame.Callers.{TakesOn, goes_idle}
+use Rattle.wl_buses.proofs.OneFrame.TakenOn.{TakesOn, goes_idle}
 use Rattle.wl_buses.specs.FrameEnd.Ends.{end_frame}
 
 -- the stuffed part goes on, or a flag begins

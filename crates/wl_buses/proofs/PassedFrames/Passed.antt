@@ -30,13 +30,14 @@ use Rattle.wl_buses.specs.OneFrame.Machines.{HasWon, MayBegin, bus_levels}
 use Rattle.wl_buses.specs.OneFrame.Nodes.{IsRun, clock_sees}
 use Rattle.wl_buses.specs.OneFrame.Starts.{Drives, reaches_at}
 use Rattle.wl_buses.specs.OneFrame.Stations.{AreStations, HaveRoom, Stations}
-use Rattle.wl_buses.proofs.OneFrame.Callers.{from_sample}
-use Rattle.wl_buses.proofs.FirstFrame.Callers.{TakesOn}
+use Rattle.wl_buses.proofs.OneFrame.Expecting.{from_sample}
+use Rattle.wl_buses.proofs.OneFrame.TakenOn.{TakesOn}
 use Rattle.wl_buses.specs.FirstFrame.Faults.{is_fault}
 use Rattle.wl_buses.specs.FrameEnd.Again.{RestsAgain}
 use Rattle.wl_buses.specs.FrameEnd.Asked.{EndAsAsked}
 use Rattle.wl_buses.specs.FrameEnd.Rests.{passed_frame, passing_bit}
-use Rattle.wl_buses.proofs.FrameEnd.Callers.{MachineLaws, found_was, samples_up}
+use Rattle.wl_buses.proofs.FrameEnd.Below.{MachineLaws}
+use Rattle.wl_buses.proofs.FrameEnd.Hearing.{found_was, samples_up}
 use Rattle.wl_buses.specs.NextFrames.NextNodes.{GoesThrough}
 use Rattle.wl_buses.specs.PassedFrames.Passing.{PassesOne}
 use Rattle.wl_buses.proofs.PassedFrames.Judging.{takes_idle, takes_stuffed}

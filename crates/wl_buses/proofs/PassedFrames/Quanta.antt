@@ -17,8 +17,8 @@ use Rattle.wl_node.specs.declared.setup.NodeSetup.{NodeSetup}
 use Rattle.wl_node.specs.declared.setup.Passed.{Passed}
 use Rattle.wl_node.specs.History.{History, by_beat, counters_of, error_count, passed_frames, sampled_next}
 use Rattle.wl_wire.specs.InStep.{is_fine}
+use Rattle.wl_wire.proofs.Callers.{fine_counts}
 use Rattle.wl_buses.specs.OneFrame.Nodes.{IsRun, clock_sees}
-use Rattle.wl_buses.proofs.OneFrame.Callers.{fine_counts}
 use Rattle.wl_buses.specs.FirstFrame.Faults.{fault_count, is_fault}
 
 -- what is fine is no error, and leaves the counters at 0

@@ -21,7 +21,7 @@ use Rattle.wl_phase.specs.InStep.{seen_before}
 use Rattle.wl_phase.specs.Ways.{ByTheBook, WayLaws}
 use Rattle.wl_buses.specs.OneFrame.Clocked.{SamplesBy}
 use Rattle.wl_buses.specs.OneFrame.Nodes.{IsRun, clock_sees}
-use Rattle.wl_buses.proofs.OneFrame.Callers.{happened_by, inputs_by, seen_are}
+use Rattle.wl_buses.proofs.OneFrame.Nodes.{happened_by, inputs_by, seen_are}
 use Rattle.wl_buses.proofs.PassedFrames.Quanta.{calm_one}
 
 -- no quantum between two is a sample

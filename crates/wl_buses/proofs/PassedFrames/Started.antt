@@ -11,7 +11,7 @@ use Rattle.wl_buses.specs.OneFrame.Expected.{Outset, expected_sample}
 use Rattle.wl_buses.specs.OneFrame.Lines.{BeginsAfter}
 use Rattle.wl_buses.specs.OneFrame.Starts.{BeginsAlone, Drives, FollowsHard, reaches_at}
 use Rattle.wl_buses.specs.OneFrame.Stations.{AreStations, Stations}
-use Rattle.wl_buses.proofs.OneFrame.Callers.{tick_next}
+use Rattle.wl_buses.proofs.OneFrame.Measures.{tick_next}
 use Rattle.wl_buses.proofs.PassedFrames.Distance.{none_before}
 use Rattle.wl_buses.proofs.PassedFrames.Samples.{NoneSamples}
 

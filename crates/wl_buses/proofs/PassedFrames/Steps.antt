@@ -1,5 +1,5 @@
 -- A node that goes through a frame finds nothing in it, bit by bit, and one bit alone completes a frame.
-use Rattle.std.proofs.Common.{◌≡◌, ◌≢◌, ◌∙◌, inl, inr, refl, sym, ap, subst, ℕ, zero, suc, ◌+◌, ◌-◌, ◌<◌, ◌≤◌, Bool, true, false, List, [], ◌∷◌, ◌++◌, length, Option, Some, None, arith}
+use Rattle.std.proofs.Common.{◌≡◌, ◌≢◌, ◌∙◌, inl, inr, sym, ap, subst, ℕ, zero, suc, ◌+◌, ◌-◌, ◌<◌, ◌≤◌, Bool, true, false, List, [], ◌∷◌, ◌++◌, length, Option, Some, None, arith}
 use Rattle.std.specs.Prelude.{◌==◌, count_by}
 use Rattle.std.proofs.lemmas.Bool.{cases_lt, ne_eqb}
 use Rattle.wl_level.specs.declared.Level.{Level}
@@ -34,22 +34,23 @@ use Rattle.wl_buses.specs.OneFrame.Machines.{AreMachines, HasWon, bus_levels}
 use Rattle.wl_buses.specs.OneFrame.Nodes.{IsInBit, IsRun, clock_sees}
 use Rattle.wl_buses.specs.OneFrame.Starts.{Start}
 use Rattle.wl_buses.specs.OneFrame.Stations.{AreStations, HaveRoom, Stations}
-use Rattle.wl_buses.proofs.OneFrame.Callers.{after_there, drives_are, goes, has_expected, right_at}
-use Rattle.wl_buses.proofs.FirstFrame.Callers.{TakesOn}
+use Rattle.wl_buses.proofs.OneFrame.Expecting.{after_there, drives_are}
+use Rattle.wl_buses.proofs.OneFrame.Machines.{goes, levels_length}
+use Rattle.wl_buses.proofs.OneFrame.Nodes.{has_expected}
+use Rattle.wl_buses.proofs.OneFrame.Seeing.{right_at}
+use Rattle.wl_buses.proofs.OneFrame.TakenOn.{TakesOn}
 use Rattle.wl_buses.specs.FrameEnd.Asked.{EndAsAsked, begun_frame}
 use Rattle.wl_buses.specs.FrameEnd.Clocks.{SeesEnd}
 use Rattle.wl_buses.specs.FrameEnd.Ends.{GoesToEnd, end_bit, end_frame, end_levels, end_stretch}
 use Rattle.wl_buses.specs.FrameEnd.Rests.{passing_bit}
-use Rattle.wl_buses.proofs.FrameEnd.Callers.{MachineLaws, begins_after, found_was, samples_up}
+use Rattle.wl_buses.proofs.FrameEnd.Below.{MachineLaws}
+use Rattle.wl_buses.proofs.FrameEnd.Hearing.{begins_after, found_was, samples_up}
 use Rattle.wl_buses.specs.NextFrames.NextNodes.{GoesThrough}
+use Rattle.wl_buses.proofs.FrameEnd.Sampling as sampling
 use Rattle.wl_buses.proofs.PassedFrames.Between as between
 use Rattle.wl_buses.proofs.PassedFrames.Judging.{ends_none, takes_stuffed, takes_third}
 use Rattle.wl_buses.proofs.PassedFrames.Quanta.{IsCalm}
 use Rattle.wl_buses.proofs.PassedFrames.Samples as samples
-
-pub bits_long : (s : Stations) (bits : ℕ → Start) (n : ℕ) → length (bus_levels s bits n) ≡ n
-bits_long s bits zero = refl
-bits_long s bits (suc n) = length_more (bus_levels s bits n) (level_of (bus_bit s bits n)) ∙ ap suc (bits_long s bits n)
 
 module _ (m : MachineLaws) (ways : WayLaws) (s : Stations) (are : AreStations s) (room : HaveRoom s) (o : Outset) (is : IsOutset s o) (end : ℕ) (some : 0 < end)
     (valid : (n : ℕ) → n < end → stuffed_end (bus_levels s (expected_bits s o) n) ≡ None)
@@ -179,7 +180,7 @@ module _ (m : MachineLaws) (ways : WayLaws) (s : Stations) (are : AreStations s)
       no_start : awaits_start (X (suc n)) ≡ false
       no_start =
           let f = framing_at n (omega arith) in
-          ap awaits_start f.1 ∙ ne_eqb (length (bus_levels s bits (suc n))) 0 (λ e. (let l = bits_long s bits (suc n) in omega (arith, e)))
+          ap awaits_start f.1 ∙ ne_eqb (length (bus_levels s bits (suc n))) 0 (λ e. (let l = levels_length s bits (suc n) in omega (arith, e)))
 
       finds_early : (q : ℕ) → S n < q → q ≤ S (suc n) → levels q ≡ level_of (driven s.count s.delay (expected_drove s o end) i (steady_tick (s.clocks i) q))
       finds_early q a b =
@@ -193,9 +194,9 @@ module _ (m : MachineLaws) (ways : WayLaws) (s : Stations) (are : AreStations s)
       sees_early = record {
         level = λ q a b. ap (λ y. y.level) (between.expects_there setup levels node run s o i n segments at begins q a) ∙ finds_early q a b;
         awaits = λ q a b. ap (λ y. y.awaits) (between.expects_there setup levels node run s o i n segments at begins q a) ∙ no_start;
-        before = λ q a b. ap (λ y. y.driving) (between.expects_there setup levels node run s o i n segments at begins q a) ∙ between.drives_old setup levels node run s o i n segments at begins q b;
+        before = λ q a b. ap (λ y. y.driving) (between.expects_there setup levels node run s o i n segments at begins q a) ∙ sampling.before_start setup levels node run s o i n segments at begins q b;
         after = λ q a b. (let h = begins in
-            ap (λ y. y.driving) (between.expects_there setup levels node run s o i n segments at begins q (omega arith)) ∙ between.drives_new setup levels node run s o i n segments at begins q a);
+            ap (λ y. y.driving) (between.expects_there setup levels node run s o i n segments at begins q (omega arith)) ∙ sampling.after_start setup levels node run s o i n segments at begins q a);
       }
 
       bit : BitIs (s.lengths i) expects (S n) ((bits (suc n)).place i) ((bits (suc n)).from i) (level_of (bus (suc n)))
@@ -243,10 +244,10 @@ module _ (m : MachineLaws) (ways : WayLaws) (s : Stations) (are : AreStations s)
             ap (λ y. y.level) (between.expects_there setup levels node run s o i n segments at_end begins_end q a) ∙ finds q (omega arith) (omega arith));
         awaits = λ q slot a b. ap (λ y. y.awaits) (between.expects_there setup levels node run s o i n segments at_end begins_end q a) ∙ no_start_end slot;
         before = λ q slot a b. ap (λ y. y.driving) (between.expects_there setup levels node run s o i n segments at_end begins_end q a)
-            ∙ between.drives_old setup levels node run s o i n segments at_end begins_end q b;
+            ∙ sampling.before_start setup levels node run s o i n segments at_end begins_end q b;
         after = λ q slot a b. (let h = begins_end in
             ap (λ y. y.driving) (between.expects_there setup levels node run s o i n segments at_end begins_end q (omega arith))
-            ∙ between.drives_new setup levels node run s o i n segments at_end begins_end q a);
+            ∙ sampling.after_start setup levels node run s o i n segments at_end begins_end q a);
       }
 
       bit_end : BitIs (s.lengths i) expects_end (S n) ((bits (suc n)).place i) ((bits (suc n)).from i) (level_of (bus (suc n)))

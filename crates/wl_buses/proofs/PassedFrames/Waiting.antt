@@ -32,8 +32,8 @@ use Rattle.wl_phase.specs.InStep.{seen_before}
 use Rattle.wl_phase.specs.Ways.{ByTheBook}
 use Rattle.wl_buses.specs.OneFrame.Clocked.{BitIs, EdgeLaws, SamplesBy}
 use Rattle.wl_buses.specs.OneFrame.Nodes.{IsRun, clock_sees}
-use Rattle.wl_buses.proofs.OneFrame.Callers.{drive_by as driven_by}
-use Rattle.wl_buses.proofs.FirstFrame.Callers.{TakesOn, goes_idle}
+use Rattle.wl_buses.proofs.OneFrame.Nodes.{drive_by as driven_by}
+use Rattle.wl_buses.proofs.OneFrame.TakenOn.{TakesOn, goes_idle}
 use Rattle.wl_buses.proofs.PassedFrames.Quanta.{IsCalm}
 use Rattle.wl_buses.proofs.PassedFrames.Samples as samples
 

@@ -24,12 +24,14 @@ use Rattle.wl_buses.specs.FirstFrame.Faults.{fault_count}
 use Rattle.wl_buses.specs.FrameEnd.Again.{RestsAgain}
 use Rattle.wl_buses.specs.FrameEnd.Asked.{CanBeAnswered, EndsBefore}
 use Rattle.wl_buses.specs.FrameEnd.Rests.{passed_frame, waiting_frame}
-use Rattle.wl_buses.proofs.FrameEnd.Callers.{MachineLaws}
+use Rattle.wl_buses.proofs.FrameEnd.Below.{MachineLaws}
 use Rattle.wl_buses.specs.NextFrames.Frames.{FollowOneAnother, Frame, IsBegun, frames_drove, resting_of, third_sample}
 use Rattle.wl_buses.specs.NextFrames.NextNodes.{HandsNext}
 use Rattle.wl_buses.specs.NextFrames.NextStarts.{AreFreeNext, AreResting, Resting, rest_next, rested, start_next}
 use Rattle.wl_buses.specs.NextFrames.Runs.{GoesThroughOne}
-use Rattle.wl_buses.proofs.NextFrames.Callers.{FreeLaw, GoesOn, IsHeard, NothingFound, RestAfter, RestsLaw, ThroughLaw, WaitLaw, finds_alone, goes_first, goes_on, hands_one, resting}
+use Rattle.wl_buses.proofs.NextFrames.Chaining.{FreeLaw, GoesOn, RestsLaw, ThroughLaw, WaitLaw, finds_alone, goes_first, goes_on}
+use Rattle.wl_buses.proofs.NextFrames.Windows.{IsHeard, NothingFound, RestAfter, resting}
+use Rattle.wl_buses.proofs.NextFrames.Queueing.{hands_one}
 use Rattle.wl_buses.specs.PassedFrames.Passing.{PassesOne}
 use Rattle.wl_buses.specs.SentFrames.Sending.{ByQueues, PassesAll}
 use Rattle.wl_buses.specs.SentFrames.Winners.{passed_with}

@@ -16,13 +16,16 @@ use Rattle.wl_wire.specs.Wire.{sampled}
 use Rattle.wl_buses.specs.OneFrame.Expected.{IsOutset, Outset, expected_bits, past_at}
 use Rattle.wl_buses.specs.OneFrame.Machines.{HasWon, no_frame_sample}
 use Rattle.wl_buses.specs.OneFrame.Stations.{AreStations, HaveRoom, Stations}
-use Rattle.wl_buses.proofs.OneFrame.Callers.{takes_head}
+use Rattle.wl_buses.proofs.OneFrame.Waited.{takes_head}
 use Rattle.wl_buses.specs.FirstFrame.FirstStarts.{AreIdle, Waiting, begins_first, first_outset, handed_first, last_before, silent_past}
-use Rattle.wl_buses.proofs.FirstFrame.Callers.{MayTogether, idle_by}
+use Rattle.wl_buses.proofs.FirstFrame.Beginning.{MayTogether, idle_by}
 use Rattle.wl_buses.specs.FrameEnd.Asked.{EndsBefore}
 use Rattle.wl_buses.specs.NextFrames.Frames.{FollowOneAnother, Frame, IsBegun, IsBegunAfter, resting_of}
 use Rattle.wl_buses.specs.NextFrames.NextStarts.{begins_next}
-use Rattle.wl_buses.proofs.NextFrames.Callers.{FreeLaw, MayWait, RestAfter, begun, has_begun}
+use Rattle.wl_buses.proofs.NextFrames.Chaining.{FreeLaw}
+use Rattle.wl_buses.proofs.NextFrames.Outset.{MayWait, begun}
+use Rattle.wl_buses.proofs.NextFrames.Windows.{RestAfter}
+use Rattle.wl_buses.proofs.NextFrames.Winning.{has_begun}
 use Rattle.wl_buses.specs.SentFrames.Sending.{ByQueues}
 use Rattle.wl_buses.specs.SentFrames.Winners.{won_by}
 

@@ -8,13 +8,15 @@ use Rattle.wl_plan.specs.Line.{Line}
 use Rattle.wl_buses.specs.BothProofs.Queues.{queued_contents}
 use Rattle.wl_buses.specs.OneFrame.Lines.{BeginsAfter, IsLineOf, RestsBefore, finds_expected, node_after}
 use Rattle.wl_buses.specs.OneFrame.Stations.{AreStations, HaveRoom, Stations}
-use Rattle.wl_buses.proofs.OneFrame.Callers.{finds_driven, run_of}
+use Rattle.wl_buses.proofs.OneFrame.Lines.{finds_driven, run_of}
 use Rattle.wl_buses.specs.FirstFrame.FirstStarts.{AreIdle, HandTheFirst, Waiting, first_outset, rest_first}
-use Rattle.wl_buses.proofs.FrameEnd.Callers.{MachineLaws}
+use Rattle.wl_buses.proofs.FrameEnd.Below.{MachineLaws}
 use Rattle.wl_buses.specs.FirstFrame.Faults.{fault_count}
 use Rattle.wl_buses.specs.NextFrames.Frames.{FollowOneAnother, Frame, IsBegun, frames_drove}
 use Rattle.wl_buses.specs.NextFrames.Lines.{finds_frames}
-use Rattle.wl_buses.proofs.NextFrames.Callers.{AfterFirst, IsHeard, NothingFound, RestAfter, RestFirst, begins_first, powered_up, rests_before, rests_first}
+use Rattle.wl_buses.proofs.NextFrames.PoweredUp.{AfterFirst, RestFirst, begins_first, powered_up, rests_before}
+use Rattle.wl_buses.proofs.NextFrames.Windows.{IsHeard, NothingFound, RestAfter}
+use Rattle.wl_buses.proofs.NextFrames.LineResting.{rests_first}
 use Rattle.wl_buses.specs.SentFrames.Sending.{ByQueues, PassesAll, LineSends}
 use Rattle.wl_buses.specs.SentFrames.Winners.{won_by}
 use Rattle.wl_buses.proofs.SentFrames.Handing.{HandLaw}

@@ -28,10 +28,10 @@ use Rattle.wl_buses.specs.OneFrame.Machines.{AllRight, AreMachines, GoesByMachin
 use Rattle.wl_buses.specs.OneFrame.OneBit.{IsRight}
 use Rattle.wl_buses.specs.OneFrame.Starts.{Start}
 use Rattle.wl_buses.specs.OneFrame.Stations.{AreStations, HaveRoom, Stations}
-use Rattle.wl_buses.proofs.OneFrame.Callers.{drives_are}
+use Rattle.wl_buses.proofs.OneFrame.Expecting.{drives_are}
 use Rattle.wl_buses.specs.FrameEnd.Asked.{EndAsAsked, EndsBefore}
-use Rattle.wl_buses.proofs.FrameEnd.Callers.{MachineLaws}
-use Rattle.wl_buses.proofs.NextFrames.Callers.{CourseLaw, SameBits, has_begun}
+use Rattle.wl_buses.proofs.FrameEnd.Below.{MachineLaws}
+use Rattle.wl_buses.proofs.NextFrames.Winning.{CourseLaw, SameBits, has_begun}
 
 -- the laws that this rests on
 abbrev pub DriveLaw : Type 0

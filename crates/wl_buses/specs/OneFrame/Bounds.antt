@@ -19,7 +19,7 @@ abbrev pub bus_way : Stations → (k i : ℕ) → ℕ
 bus_way s k i = max (if s.may_send k then (s.delay k i + s.delay i k) * shared_tick s i k else 0) (greatest s.count (other_sends s k) (following_way s k i))
 
 -- The nodes and delays of the bus are these, in its units, and each clock lies within its tolerance. None that may send only listens.
-pub record IsBusOf (bus : Bus) (s : Stations) : Type 0 where
+pub record HasStations (bus : Bus) (s : Stations) : Type 0 where
   pub nodes : bus.nodes ≡ s.count
   pub some : 0 < bus.tick
   pub slowest : (i : ℕ) → i < s.count → bus.tick * (s.clocks i).num ≤ bus.longest i * (s.clocks i).den

@@ -1,6 +1,5 @@
 -- What is expected of stations in a frame: the bits that their machines drive, and when each bit begins, if each sample is what is on the bus.
 use Rattle.std.specs.Prelude.{◌≡◌, ℕ, zero, suc, ◌+◌, ◌-◌, ◌<◌, ◌≤◌, ◌==◌, ◌&&◌, not, nat_le, nat_lt, max, Bool, true, false, List, [], ◌∷◌, ◌++◌, Option, Some, None, if◌then◌else◌}
-use Rattle.wl_level.specs.declared.Level.{Level}
 use Rattle.wl_level.specs.Levels.{is_dominant, level_of}
 use Rattle.wl_level.specs.Places.{first_place}
 use Rattle.wl_segments.specs.Lengths.{bit_quanta, sample_at}

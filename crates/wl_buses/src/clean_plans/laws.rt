@@ -8,11 +8,11 @@ ghost use Rattle.wl_bound.specs.Covered.{is_covered};
 ghost use Rattle.wl_bound.specs.Families.{Bus, Buses};
 ghost use Rattle.wl_bound.specs.Verdicts.{verdict_of};
 ghost use Rattle.wl_bound.specs.declared.verdict.Verdict.TheVariants.{ForAny};
-ghost use Rattle.wl_room.specs.Rooms.{leaves_room, plain_bus};
+ghost use Rattle.wl_bound.specs.Rooms.{leaves_room, plain_bus};
 ghost use Rattle.wl_buses.specs.BothProofs.Plans.{IsOfFamily};
 ghost use Rattle.wl_buses.specs.BothProofs.Plans.{IsSteadyPlan};
 ghost use Rattle.wl_buses.specs.OneFrame.Answers.{HasRoomToAnswer};
-ghost use Rattle.wl_buses.specs.OneFrame.Bounds.{IsBusOf};
+ghost use Rattle.wl_buses.specs.OneFrame.Bounds.{HasStations};
 ghost use Rattle.wl_buses.specs.OneFrame.Expected.{expected_sample};
 ghost use Rattle.wl_buses.specs.OneFrame.Plans.{IsPlanOf};
 ghost use Rattle.wl_buses.specs.OneFrame.Stations.{AreStations, HaveRoom, Stations};
@@ -65,7 +65,7 @@ pub fn each_frame_ends_later()
 /// lies, and whenever each node begins. What `margin` tests before it says that this is proved is enough.
 pub fn any_senders_are_clean()
     ensures plan { (plan : Plan) (s : Stations) (bus : Bus) (chase : ℕ → ℕ) → IsPlanOf plan s → plan.disturbances ≡ []
-        → IsBusOf bus s → IsSound bus → HasRoomToAnswer bus chase → LeavesRoomToRest bus chase
+        → HasStations bus s → IsSound bus → HasRoomToAnswer bus chase → LeavesRoomToRest bus chase
         → HasFirstFrames plan (queues_of plan) s → AllGetThrough plan s }
     ensures family { (f : Buses) (plan : Plan) (clocks : ℕ → Steady) → IsSteadyPlan plan clocks
         → IsOfFamily f plan clocks → NoneListens plan → HasFirstFrames plan (queues_of plan) (stations_of f plan clocks)

@@ -6,11 +6,11 @@ ghost use Rattle.wl_bound.specs.Covered.{is_covered};
 ghost use Rattle.wl_bound.specs.Families.{Buses, family_of};
 ghost use Rattle.wl_bound.specs.Oscillators.{Pace};
 ghost use Rattle.wl_bound.specs.Verdicts.{outside_of};
-ghost use Rattle.wl_room.specs.Rooms.{IsShort, least_chase, leaves_room, plain_bus};
+ghost use Rattle.wl_bound.specs.Rooms.{IsShort, least_chase, leaves_room, plain_bus};
 ghost use Rattle.wl_buses.specs.BothProofs.Plans.{IsOfFamily};
 ghost use Rattle.wl_buses.specs.BothProofs.Plans.{IsSteadyPlan};
 ghost use Rattle.wl_buses.specs.OneFrame.Answers.{HasRoomToAnswer};
-ghost use Rattle.wl_buses.specs.OneFrame.Bounds.{IsBusOf};
+ghost use Rattle.wl_buses.specs.OneFrame.Bounds.{HasStations};
 ghost use Rattle.wl_buses.specs.OneFrame.Plans.{IsPlanOf};
 ghost use Rattle.wl_buses.specs.OneFrame.Stations.{Stations};
 ghost use Rattle.wl_buses.specs.FirstFrame.FirstFrames.{AreIdleWhenReady, HasFirstFrames, HasFrames, queues_of};
@@ -23,7 +23,7 @@ pub fn a_family_leaves_room()
     ensures answers { (f : Buses) → leaves_room f ≡ true → HasRoomToAnswer (plain_bus f) (least_chase (plain_bus f)) }
     ensures rests { (f : Buses) → leaves_room f ≡ true → LeavesRoomToRest (plain_bus f) (least_chase (plain_bus f)) }
 {
-    wl_room::room_law();
+    wl_bound::room_law();
 }
 
 /// Law: the test asks no more of a bus than that: if it has the room with any numbers of edges in which nodes catch up, it passes, since
@@ -38,7 +38,7 @@ pub fn a_plan_has_stations()
     ensures plan { (f : Buses) (plan : Plan) (clocks : ℕ → Steady) → IsSteadyPlan plan clocks → IsOfFamily f plan clocks
         → NoneListens plan → IsPlanOf plan (stations_of f plan clocks) }
     ensures bus { (f : Buses) (plan : Plan) (clocks : ℕ → Steady) → IsOfFamily f plan clocks → NoneListens plan
-        → IsBusOf (plain_bus f) (stations_of f plan clocks) }
+        → HasStations (plain_bus f) (stations_of f plan clocks) }
 {}
 
 /// Law: a plan that is covered, and in which the condition has no cause to say nothing, has first frames that find all other nodes idle.

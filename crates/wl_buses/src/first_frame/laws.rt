@@ -13,7 +13,7 @@ ghost use Rattle.wl_plan.specs.PlanLine.{setup_at};
 ghost use Rattle.wl_plan.specs.declared.plan.Plan.{Plan};
 ghost use Rattle.wl_bound.specs.Conditions.{IsSound};
 ghost use Rattle.wl_bound.specs.Families.{Bus};
-ghost use Rattle.wl_buses.specs.OneFrame.Bounds.{IsBusOf};
+ghost use Rattle.wl_buses.specs.OneFrame.Bounds.{HasStations};
 ghost use Rattle.wl_buses.specs.OneFrame.Expected.{IsOutset, expected_bits};
 ghost use Rattle.wl_buses.specs.OneFrame.Lines.{BeginsAfter, IsLineOf, RestsBefore, finds_expected, node_after};
 ghost use Rattle.wl_buses.specs.OneFrame.Machines.{bus_levels};
@@ -109,7 +109,7 @@ pub fn the_first_frame_goes_as_expected()
     ensures room { (plan : Plan) (queues : ℕ → List Content) (s : Stations) → IsPlanOf plan s → plan.disturbances ≡ []
         → HaveWays s → HaveRoom s → HasFirstFrames plan queues s → GoesToItsCrc plan queues s }
     ensures sound { (plan : Plan) (queues : ℕ → List Content) (s : Stations) (bus : Bus) → IsPlanOf plan s
-        → plan.disturbances ≡ [] → IsBusOf bus s → IsSound bus → HasFirstFrames plan queues s
+        → plan.disturbances ≡ [] → HasStations bus s → IsSound bus → HasFirstFrames plan queues s
         → GoesToItsCrc plan queues s }
 {
     wl_plan::checked_is_sound();

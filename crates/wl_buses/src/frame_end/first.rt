@@ -6,7 +6,7 @@ ghost use Rattle.wl_plan.specs.declared.plan.Plan.{Plan};
 ghost use Rattle.wl_bound.specs.Conditions.{IsSound};
 ghost use Rattle.wl_bound.specs.Families.{Bus};
 ghost use Rattle.wl_buses.specs.OneFrame.Answers.{HasRoomToAnswer};
-ghost use Rattle.wl_buses.specs.OneFrame.Bounds.{IsBusOf};
+ghost use Rattle.wl_buses.specs.OneFrame.Bounds.{HasStations};
 ghost use Rattle.wl_buses.specs.OneFrame.Plans.{IsPlanOf};
 ghost use Rattle.wl_buses.specs.OneFrame.Stations.{Stations};
 ghost use Rattle.wl_buses.specs.FirstFrame.FirstFrames.{HasFirstFrames};
@@ -20,7 +20,7 @@ use crate::frame_end::laws::a_plan_goes_to_the_end;
 /// least of the frames that are begun is sent and received by all others, and nobody finds an error, up to the third bit of the intermission.
 pub fn the_first_frame_gets_through()
     ensures { (plan : Plan) (queues : ℕ → List Content) (s : Stations) (bus : Bus) (chase : ℕ → ℕ) → IsPlanOf plan s
-        → plan.disturbances ≡ [] → IsBusOf bus s → IsSound bus → HasRoomToAnswer bus chase
+        → plan.disturbances ≡ [] → HasStations bus s → IsSound bus → HasRoomToAnswer bus chase
         → HasFirstFrames plan queues s → FirstGetsThrough plan queues s }
 {
     wl_plan::checked_is_sound();

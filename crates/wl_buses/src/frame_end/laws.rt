@@ -30,7 +30,7 @@ ghost use Rattle.wl_wire.specs.Wire.{Handed};
 ghost use Rattle.wl_bound.specs.Conditions.{IsSound};
 ghost use Rattle.wl_bound.specs.Families.{Bus};
 ghost use Rattle.wl_buses.specs.OneFrame.Answers.{HasRoomToAnswer};
-ghost use Rattle.wl_buses.specs.OneFrame.Bounds.{IsBusOf};
+ghost use Rattle.wl_buses.specs.OneFrame.Bounds.{HasStations};
 ghost use Rattle.wl_buses.specs.OneFrame.Plans.{IsPlanOf};
 ghost use Rattle.wl_buses.specs.FrameEnd.Again.{HasRoomToRest, LeavesRoomToRest, RestsAgain, past_end};
 ghost use Rattle.wl_buses.specs.FrameEnd.Lines.{LineEnds, LineRests, rests_until};
@@ -228,7 +228,7 @@ pub fn a_line_rests_after_a_frame()
 /// Law: a bus that meets this inequality has that room, wherever within its tolerance each clock lies. It is the last one of those for
 /// acknowledgements (`HasRoomToAnswer`), with twelve bits' drift in the place of ten.
 pub fn a_bus_has_room_to_rest()
-    ensures { (bus : Bus) (s : Stations) (chase : ℕ → ℕ) → AreOnALine s → IsBusOf bus s → HasRoomToAnswer bus chase
+    ensures { (bus : Bus) (s : Stations) (chase : ℕ → ℕ) → AreOnALine s → HasStations bus s → HasRoomToAnswer bus chase
         → LeavesRoomToRest bus chase
         → (winner : ℕ) → winner < s.count → s.may_send winner ≡ true → HasRoomToRest s (chased_way s winner chase) }
 {}
@@ -238,7 +238,7 @@ pub fn a_bus_has_room_to_rest()
 /// one of them has won, and its frame is acknowledged and received by all others. With room for twelve bits' drift all rest afterwards.
 pub fn a_plan_goes_to_the_end()
     ensures ends { (plan : Plan) (s : Stations) (bus : Bus) (o : Outset) (rest chase : ℕ → ℕ) (end stop : ℕ)
-        → IsPlanOf plan s → plan.disturbances ≡ [] → IsBusOf bus s → IsSound bus
+        → IsPlanOf plan s → plan.disturbances ≡ [] → HasStations bus s → IsSound bus
         → HasRoomToAnswer bus chase → IsOutset s o → EndsBefore s o end
         → ((i : ℕ) → i < s.count → BeginsAfter s o i (rest i))
         → ((i : ℕ) → i < s.count → RestsBefore s o i (finds_expected (line_of plan) s o end i)
@@ -247,7 +247,7 @@ pub fn a_plan_goes_to_the_end()
         → (won : HasWon s (expected_bits s o) o.frames end)
         × LineEnds (line_of plan) (setup_at plan) s o end won.station won.frame stop }
     ensures rests { (plan : Plan) (s : Stations) (bus : Bus) (o : Outset) (rest chase : ℕ → ℕ) (end : ℕ)
-        → IsPlanOf plan s → plan.disturbances ≡ [] → IsBusOf bus s → IsSound bus
+        → IsPlanOf plan s → plan.disturbances ≡ [] → HasStations bus s → IsSound bus
         → HasRoomToAnswer bus chase → LeavesRoomToRest bus chase → IsOutset s o → EndsBefore s o end
         → ((i : ℕ) → i < s.count → BeginsAfter s o i (rest i))
         → ((i : ℕ) → i < s.count → RestsBefore s o i (finds_expected (line_of plan) s o end i)

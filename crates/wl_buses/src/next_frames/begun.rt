@@ -3,7 +3,7 @@
 ghost use Rattle.std.specs.Prelude.{ℕ};
 ghost use Rattle.wl_bound.specs.Families.{Bus};
 ghost use Rattle.wl_buses.specs.OneFrame.Answers.{HasRoomToAnswer};
-ghost use Rattle.wl_buses.specs.OneFrame.Bounds.{IsBusOf};
+ghost use Rattle.wl_buses.specs.OneFrame.Bounds.{HasStations};
 ghost use Rattle.wl_buses.specs.OneFrame.Expected.{IsOutset, Outset, expected_bits};
 ghost use Rattle.wl_buses.specs.OneFrame.Machines.{HasWon};
 ghost use Rattle.wl_buses.specs.OneFrame.Stations.{AreOnALine, AreStations, HaveRoom, Stations};
@@ -58,7 +58,7 @@ pub fn another_frame_follows()
 /// Law: a bus has that room whoever wins if it meets the inequalities for acknowledgements and for rest, wherever within its tolerance each
 /// clock lies.
 pub fn a_bus_has_room_for_all()
-    ensures { (bus : Bus) (s : Stations) (chase : ℕ → ℕ) → AreOnALine s → IsBusOf bus s → HasRoomToAnswer bus chase
+    ensures { (bus : Bus) (s : Stations) (chase : ℕ → ℕ) → AreOnALine s → HasStations bus s → HasRoomToAnswer bus chase
         → LeavesRoomToRest bus chase → HasRoomForAll s chase }
 {
     crate::one_frame::ack::a_bus_has_room_to_answer();

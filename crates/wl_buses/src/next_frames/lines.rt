@@ -10,7 +10,7 @@ ghost use Rattle.wl_node.specs.History.{error_count};
 ghost use Rattle.wl_plan.specs.Line.{Line};
 ghost use Rattle.wl_plan.specs.PlanLine.{line_of, setup_at};
 ghost use Rattle.wl_plan.specs.declared.plan.Plan.{Plan};
-ghost use Rattle.wl_buses.specs.OneFrame.Bounds.{IsBusOf};
+ghost use Rattle.wl_buses.specs.OneFrame.Bounds.{HasStations};
 ghost use Rattle.wl_buses.specs.OneFrame.Lines.{IsLineOf, node_after};
 ghost use Rattle.wl_buses.specs.OneFrame.Plans.{IsPlanOf};
 ghost use Rattle.wl_buses.specs.OneFrame.Stations.{AreStations, HaveRoom, Stations};
@@ -51,14 +51,14 @@ pub fn a_line_goes_from_frame_to_frame()
 /// bus meets the condition for margins. The first of the frames may be the plan's first one, from the power-up of all nodes on.
 pub fn a_plan_goes_from_frame_to_frame()
     ensures goes { (plan : Plan) (s : Stations) (bus : Bus) (frames : ℕ → Frame) (count stop : ℕ) → IsPlanOf plan s
-        → plan.disturbances ≡ [] → IsBusOf bus s → IsSound bus
+        → plan.disturbances ≡ [] → HasStations bus s → IsSound bus
         → (are : FollowOneAnother s frames count) → 0 < count
         → BeginFrames (line_of plan) (setup_at plan) s frames count are
         → IsBeforeLast (line_of plan) s frames count stop
         → LineGoes (line_of plan) (setup_at plan) s frames count are stop }
     ensures power_up { (plan : Plan) (queues : ℕ → List Content) (s : Stations) (bus : Bus) (frames : ℕ → Frame)
         (count stop : ℕ) → IsPlanOf plan s
-        → plan.disturbances ≡ [] → IsBusOf bus s → IsSound bus → HasFirstFrames plan queues s
+        → plan.disturbances ≡ [] → HasStations bus s → IsSound bus → HasFirstFrames plan queues s
         → (are : FollowOneAnother s frames count) → 0 < count → (frames 0).outset ≡ outset_of plan queues s
         → ((i : ℕ) → i < s.count → HandsBetween s frames count are i (setup_at plan i)
         (node_after (setup_at plan i) (finds_frames (line_of plan) s frames count i)))
@@ -78,7 +78,7 @@ pub fn a_plan_goes_from_frame_to_frame()
 /// else happened to it that isn't fine.
 pub fn nothing_passes_before_the_frames()
     ensures { (plan : Plan) (queues : ℕ → List Content) (s : Stations) (bus : Bus) (frames : ℕ → Frame) (count i q : ℕ)
-        → IsPlanOf plan s → plan.disturbances ≡ [] → IsBusOf bus s → IsSound bus
+        → IsPlanOf plan s → plan.disturbances ≡ [] → HasStations bus s → IsSound bus
         → HasFirstFrames plan queues s → FollowOneAnother s frames count → 0 < count
         → (frames 0).outset ≡ outset_of plan queues s → i < s.count
         → q ≤ suc (rest_first (waiting_of plan queues s) i + sample_at (s.lengths i))

@@ -14,7 +14,7 @@ ghost use Rattle.wl_plan.specs.PlanLine.{line_of, setup_at};
 ghost use Rattle.wl_plan.specs.declared.plan.Plan.{Plan};
 ghost use Rattle.wl_bound.specs.Conditions.{IsSound};
 ghost use Rattle.wl_bound.specs.Families.{Bus};
-ghost use Rattle.wl_buses.specs.OneFrame.Bounds.{IsBusOf};
+ghost use Rattle.wl_buses.specs.OneFrame.Bounds.{HasStations};
 ghost use Rattle.wl_buses.specs.OneFrame.Lines.{IsLineOf};
 ghost use Rattle.wl_buses.specs.OneFrame.Nodes.{IsRun};
 ghost use Rattle.wl_buses.specs.OneFrame.Plans.{IsPlanOf};
@@ -70,7 +70,7 @@ pub fn a_line_rests_after_its_frames()
 /// Law: so it is with each plan of such nodes, if its bus meets the condition for margins.
 pub fn a_plan_rests_after_its_frames()
     ensures { (plan : Plan) (s : Stations) (bus : Bus) (frames : ℕ → Frame) (count stop : ℕ) → IsPlanOf plan s
-        → plan.disturbances ≡ [] → IsBusOf bus s → IsSound bus
+        → plan.disturbances ≡ [] → HasStations bus s → IsSound bus
         → (are : FollowOneAnother s frames count) → 0 < count
         → BeginFrames (line_of plan) (setup_at plan) s frames count are
         → AllAreSent (line_of plan) (setup_at plan) s frames count → stop ≤ (line_of plan).stop

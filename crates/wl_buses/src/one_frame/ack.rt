@@ -4,7 +4,7 @@ ghost use Rattle.std.specs.Prelude.{◌≡◌, ◌<◌, ◌≤◌, ℕ, suc, tru
 ghost use Rattle.wl_bound.specs.Families.{Bus};
 ghost use Rattle.wl_buses.specs.OneFrame.Acknowledged.{AreAllClose, CatchUp, IsAcknowledgedByAll, IsAnsweredByAll, answering, chased_way};
 ghost use Rattle.wl_buses.specs.OneFrame.Answers.{HasRoomToAnswer};
-ghost use Rattle.wl_buses.specs.OneFrame.Bounds.{IsBusOf};
+ghost use Rattle.wl_buses.specs.OneFrame.Bounds.{HasStations};
 ghost use Rattle.wl_buses.specs.OneFrame.Course.{IsCourse, since_edge, still_sends};
 ghost use Rattle.wl_buses.specs.OneFrame.Starts.{Start};
 ghost use Rattle.wl_buses.specs.OneFrame.Stations.{AreOnALine, AreStations, HaveRoom, Stations};
@@ -52,11 +52,11 @@ pub fn a_frame_is_acknowledged()
 /// Law: a bus that meets these inequalities has room for acknowledgements, wherever within its tolerance each clock lies. They are those
 /// of the condition for margins, of any two nodes as if both sent. Each node catches up with whoever wins in `chase` edges.
 pub fn a_bus_has_room_to_answer()
-    ensures room { (bus : Bus) (s : Stations) (chase : ℕ → ℕ) → AreOnALine s → IsBusOf bus s
+    ensures room { (bus : Bus) (s : Stations) (chase : ℕ → ℕ) → AreOnALine s → HasStations bus s
         → HasRoomToAnswer bus chase
         → (winner : ℕ) → winner < s.count → s.may_send winner ≡ true
         → HaveRoom (answering s (chased_way s winner chase)) }
-    ensures catch { (bus : Bus) (s : Stations) (chase : ℕ → ℕ) → AreOnALine s → IsBusOf bus s
+    ensures catch { (bus : Bus) (s : Stations) (chase : ℕ → ℕ) → AreOnALine s → HasStations bus s
         → HasRoomToAnswer bus chase
         → (winner : ℕ) → winner < s.count → s.may_send winner ≡ true → CatchUp s winner chase }
 {}

@@ -23,7 +23,7 @@ ghost use Rattle.wl_phase.specs.Ways.{ByTheBook, moved_to};
 ghost use Rattle.wl_bound.specs.Conditions.{IsSound};
 ghost use Rattle.wl_bound.specs.Families.{Bus};
 ghost use Rattle.wl_plan.specs.declared.plan.Plan.{Plan};
-ghost use Rattle.wl_buses.specs.OneFrame.Bounds.{IsBusOf};
+ghost use Rattle.wl_buses.specs.OneFrame.Bounds.{HasStations};
 ghost use Rattle.wl_buses.specs.OneFrame.Clocked.{BitIs, NoEdgeLaws, BitPlaceLaws, BitStartLaws, EdgeLaws};
 ghost use Rattle.wl_buses.specs.OneFrame.Plans.{IsPlanOf};
 ghost use Rattle.wl_buses.specs.OneFrame.Stations.{AreClose, AreOnALine, AreStations, HaveRoom, HaveWays, Stations};
@@ -88,8 +88,8 @@ pub fn a_bit_clock_follows_an_edge()
 /// Law: a bus that meets the condition for margins has room for any senders, wherever within its tolerance each clock lies. The ways are
 /// there and back, or over the edges that a station follows.
 pub fn a_sound_bus_has_room()
-    ensures ways { (bus : Bus) (s : Stations) → AreOnALine s → IsBusOf bus s → HaveWays s }
-    ensures room { (bus : Bus) (s : Stations) → AreOnALine s → IsBusOf bus s → IsSound bus
+    ensures ways { (bus : Bus) (s : Stations) → AreOnALine s → HasStations bus s → HaveWays s }
+    ensures room { (bus : Bus) (s : Stations) → AreOnALine s → HasStations bus s → IsSound bus
         → HaveRoom s }
 {}
 
@@ -294,7 +294,7 @@ pub fn a_plan_does_what_is_expected()
         (node_after (setup_at plan i) (finds_expected (line_of plan) s o length i)) (rest i))
         → IsBeforeEnd (line_of plan) s o length end → DoesAsExpected (line_of plan) (setup_at plan) s o length end }
     ensures sound { (plan : Plan) (s : Stations) (bus : Bus) (o : Outset) (rest : ℕ → ℕ) (length end : ℕ)
-        → IsPlanOf plan s → plan.disturbances ≡ [] → IsBusOf bus s → IsSound bus → IsOutset s o
+        → IsPlanOf plan s → plan.disturbances ≡ [] → HasStations bus s → IsSound bus → IsOutset s o
         → 0 < length
         → ((n : ℕ) → n < length → stuffed_end (bus_levels s (expected_bits s o) n) ≡ None)
         → ((i : ℕ) → i < s.count → BeginsAfter s o i (rest i))

@@ -5,7 +5,7 @@ ghost use Rattle.wl_bound.specs.Conditions.{IsSound};
 ghost use Rattle.wl_bound.specs.Families.{Bus};
 ghost use Rattle.wl_plan.specs.PlanLine.{line_of, setup_at};
 ghost use Rattle.wl_plan.specs.declared.plan.Plan.{Plan};
-ghost use Rattle.wl_buses.specs.OneFrame.Bounds.{IsBusOf};
+ghost use Rattle.wl_buses.specs.OneFrame.Bounds.{HasStations};
 ghost use Rattle.wl_buses.specs.OneFrame.Plans.{IsPlanOf};
 ghost use Rattle.wl_buses.specs.OneFrame.Stations.{Stations};
 ghost use Rattle.wl_buses.specs.FirstFrame.FirstFrames.{HasFirstFrames, outset_of, queues_of};
@@ -21,7 +21,7 @@ use crate::sent_frames::winners::the_winner_sends_its_next_frame;
 /// it has sent those with which it has won, which are the first of its queue, received each other one, and found no error.
 pub fn a_plan_sends_by_its_queues()
     ensures { (plan : Plan) (s : Stations) (bus : Bus) (frames : ℕ → Frame) (count : ℕ) → IsPlanOf plan s
-        → plan.disturbances ≡ [] → IsBusOf bus s → IsSound bus → HasFirstFrames plan (queues_of plan) s
+        → plan.disturbances ≡ [] → HasStations bus s → IsSound bus → HasFirstFrames plan (queues_of plan) s
         → (are : FollowOneAnother s frames count) → 0 < count → (frames 0).outset ≡ outset_of plan (queues_of plan) s
         → (by : ByQueues s (setup_at plan) frames count are)
         → LineSends (line_of plan) (setup_at plan) s frames count are by }
@@ -49,7 +49,7 @@ pub fn a_plan_sends_by_its_queues()
 /// Law: so the nodes of such a plan go from frame to frame.
 pub fn a_plan_goes_by_its_queues()
     ensures { (plan : Plan) (s : Stations) (bus : Bus) (frames : ℕ → Frame) (count stop : ℕ) → IsPlanOf plan s
-        → plan.disturbances ≡ [] → IsBusOf bus s → IsSound bus → HasFirstFrames plan (queues_of plan) s
+        → plan.disturbances ≡ [] → HasStations bus s → IsSound bus → HasFirstFrames plan (queues_of plan) s
         → (are : FollowOneAnother s frames count) → 0 < count → (frames 0).outset ≡ outset_of plan (queues_of plan) s
         → ByQueues s (setup_at plan) frames count are → IsBeforeLast (line_of plan) s frames count stop
         → LineGoes (line_of plan) (setup_at plan) s frames count are stop }

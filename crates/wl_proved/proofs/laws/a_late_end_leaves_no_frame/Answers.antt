@@ -1,6 +1,6 @@
 use Rattle.std.proofs.Common.{arith}
 use Rattle.wl_bound.specs.Conditions.{plain}
-use Rattle.wl_room.specs.Rooms.{plain_bus}
+use Rattle.wl_bound.specs.Rooms.{plain_bus}
 use Rattle.wl_buses.specs.FamilyPlans.FamilyStations.{stations_of}
 use Rattle.wl_plan.specs.PlanLine.{setup_at}
 use Rattle.wl_proved.proofs.Early as early

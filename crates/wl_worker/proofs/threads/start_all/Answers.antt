@@ -14,12 +14,12 @@ loop-link-preserved g c =
       (let m = was.0 in let s = step.1 in omega arith),
       (let m = was.1 in let n = pushed.len in omega arith),
       (let m = was.2 in let n = pushed.capacity in omega arith),
-      (λ k d b. subst (λ (xs : List g.row.L.Denot). g.L.Link.is_of (slice_index_or xs (suc k) d) c.args.plan.now) step.0 (was.3 (suc k) d (let s = step.1 in omega arith))),
+      (λ k d b. subst (λ (xs : List g.row.L.Denot). g.L.Link.is_of (slice_index_or xs (suc k) d) c.args.shared.now.plan.now) step.0 (was.3 (suc k) d (let s = step.1 in omega arith))),
       (λ k d b.
           let here : g.L.Link.number (slice_index_or _ k d) ≡ c.loop-link.worker + suc k
           = subst (λ (xs : List g.row.L.Denot). g.L.Link.number (slice_index_or xs (suc k) d) ≡ c.loop-link.worker + suc k) step.0 (was.4 (suc k) d (let s = step.1 in omega arith)) in
           here ∙ (let e : c.loop-link.worker + suc k ≡ c.loop-link.worker + 1 + k = omega arith in e)),
-      (λ k d b. one_behind c.loop-link.children.items c.push_reserved.new.self.items c.in-Ok.child c.loop-link.worker (λ j child. IsPromise c.args.plan.now c.args.workers j child.promise)
+      (λ k d b. one_behind c.loop-link.children.items c.push_reserved.new.self.items c.in-Ok.child c.loop-link.worker (λ j child. IsPromise c.args.shared.now.plan.now c.args.shared.now.workers j child.promise)
           pushed.items many was.5 c.in-Ok.ensures.promise k d b),
     )
 

@@ -3,9 +3,9 @@ use Rattle.wl_plan.specs.declared.plan.Plan.{Plan}
 use Rattle.wl_plan.specs.PlanLine.{line_of, setup_at}
 use Rattle.wl_bound.specs.Conditions.{IsSound, plain}
 use Rattle.wl_bound.specs.Families.{Bus}
-use Rattle.wl_room.specs.Rooms.{least_chase, plain_bus}
+use Rattle.wl_bound.specs.Rooms.{least_chase, plain_bus}
 use Rattle.wl_buses.specs.OneFrame.Answers.{HasRoomToAnswer}
-use Rattle.wl_buses.specs.OneFrame.Bounds.{IsBusOf}
+use Rattle.wl_buses.specs.OneFrame.Bounds.{HasStations}
 use Rattle.wl_buses.specs.OneFrame.Plans.{IsPlanOf}
 use Rattle.wl_buses.specs.OneFrame.Stations.{AreStations, Stations}
 use Rattle.wl_buses.specs.FirstFrame.FirstFrames.{HasFirstFrames, queues_of}
@@ -19,7 +19,7 @@ use Rattle.wl_buses.proofs.CleanPlans.Verdicts.{of_verdict}
 use Rattle.wl_buses.proofs.CleanPlans.Whole.{all_sent, through}
 use Rattle.wl_buses.proofs.clean_plans.laws.any_senders_are_clean.Goals as goal
 
-whole : goal.After-each_frame_ends_later → (plan : Plan) (s : Stations) (bus : Bus) (chase : ℕ → ℕ) → IsPlanOf plan s → plan.disturbances ≡ [] → IsBusOf bus s → IsSound bus
+whole : goal.After-each_frame_ends_later → (plan : Plan) (s : Stations) (bus : Bus) (chase : ℕ → ℕ) → IsPlanOf plan s → plan.disturbances ≡ [] → HasStations bus s → IsSound bus
     → HasRoomToAnswer bus chase → LeavesRoomToRest bus chase → HasFirstFrames plan (queues_of plan) s → AllGetThrough plan s
 whole c plan s bus chase of calm bus_of sound answer rest has =
     (let found = c.what_is_found_stays.ensures in

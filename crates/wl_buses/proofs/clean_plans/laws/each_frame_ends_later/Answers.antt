@@ -1,4 +1,4 @@
-use Rattle.wl_buses.proofs.FrameEnd.Callers.{MachineLaws}
+use Rattle.wl_buses.proofs.FrameEnd.Below.{MachineLaws}
 use Rattle.wl_buses.proofs.CleanPlans.Growing.{ends_later, grows}
 use Rattle.wl_buses.proofs.clean_plans.laws.each_frame_ends_later.Goals as goal
 

@@ -1,4 +1,4 @@
-use Rattle.wl_room.specs.Rooms.{plain_bus}
+use Rattle.wl_bound.specs.Rooms.{plain_bus}
 use Rattle.wl_buses.proofs.FamilyPlans.Roomy.{answers, rests}
 use Rattle.wl_buses.proofs.family_plans.laws.a_family_leaves_room.Goals as goal
 

@@ -1,6 +1,6 @@
 use Rattle.wl_plan.specs.PlanLine.{line_of, setup_at}
 use Rattle.wl_buses.specs.OneFrame.Stations.{AreStations}
-use Rattle.wl_buses.proofs.OneFrame.Callers.{line_of_plan}
+use Rattle.wl_buses.proofs.OneFrame.Plans.{line_of_plan}
 use Rattle.wl_buses.specs.FirstFrame.FirstFrames.{outset_of, waiting_of}
 use Rattle.wl_buses.specs.FirstFrame.FirstStarts.{rest_first}
 use Rattle.wl_buses.proofs.frame_end.first.the_first_frame_gets_through.Goals as goal

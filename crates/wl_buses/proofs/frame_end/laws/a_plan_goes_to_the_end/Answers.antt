@@ -1,7 +1,8 @@
 use Rattle.std.proofs.Common.{◌<◌, arith}
 use Rattle.wl_plan.specs.PlanLine.{line_of, setup_at}
 use Rattle.wl_buses.specs.OneFrame.Stations.{AreStations}
-use Rattle.wl_buses.proofs.OneFrame.Callers.{line_of_plan, may}
+use Rattle.wl_buses.proofs.OneFrame.Plans.{line_of_plan}
+use Rattle.wl_buses.proofs.OneFrame.Expecting.{may}
 use Rattle.wl_buses.proofs.FrameEnd.Asked.{not_first}
 use Rattle.wl_buses.proofs.frame_end.laws.a_plan_goes_to_the_end.Goals as goal
 

@@ -1,4 +1,4 @@
-use Rattle.wl_buses.proofs.FrameEnd.Callers.{MachineLaws}
+use Rattle.wl_buses.proofs.FrameEnd.Below.{MachineLaws}
 use Rattle.wl_buses.proofs.NextFrames.Winning.{another, begun_by}
 use Rattle.wl_buses.proofs.next_frames.begun.another_frame_follows.Goals as goal
 

@@ -1,4 +1,4 @@
-use Rattle.wl_buses.proofs.FrameEnd.Callers.{MachineLaws}
+use Rattle.wl_buses.proofs.FrameEnd.Below.{MachineLaws}
 use Rattle.wl_buses.proofs.NextFrames.Winning.{winner}
 use Rattle.wl_buses.proofs.next_frames.begun.one_station_wins.Goals as goal
 

@@ -1,4 +1,4 @@
-use Rattle.wl_buses.proofs.FrameEnd.Callers.{MachineLaws}
+use Rattle.wl_buses.proofs.FrameEnd.Below.{MachineLaws}
 use Rattle.wl_buses.proofs.NextFrames.LineGoing.{line_goes}
 use Rattle.wl_buses.proofs.next_frames.lines.a_line_goes_from_frame_to_frame.Goals as goal
 

@@ -1,5 +1,5 @@
 use Rattle.wl_buses.specs.OneFrame.Stations.{AreStations}
-use Rattle.wl_buses.proofs.OneFrame.Callers.{line_of_plan}
+use Rattle.wl_buses.proofs.OneFrame.Plans.{line_of_plan}
 use Rattle.wl_plan.specs.PlanLine.{line_of, setup_at}
 use Rattle.wl_buses.specs.FirstFrame.FirstFrames.{waiting_of}
 use Rattle.wl_buses.proofs.NextFrames.PoweredUp.{powered_up}

@@ -1,8 +1,8 @@
 use Rattle.wl_buses.specs.OneFrame.Stations.{AreStations}
-use Rattle.wl_buses.proofs.OneFrame.Callers.{line_of_plan}
+use Rattle.wl_buses.proofs.OneFrame.Plans.{line_of_plan}
 use Rattle.wl_plan.specs.PlanLine.{line_of, setup_at}
 use Rattle.wl_buses.specs.FirstFrame.FirstFrames.{waiting_of}
-use Rattle.wl_buses.proofs.FrameEnd.Callers.{MachineLaws}
+use Rattle.wl_buses.proofs.FrameEnd.Below.{MachineLaws}
 use Rattle.wl_buses.proofs.NextFrames.PoweredUp.{nothing_passed}
 use Rattle.wl_buses.proofs.next_frames.lines.nothing_passes_before_the_frames.Goals as goal
 

@@ -1,4 +1,4 @@
-use Rattle.wl_buses.proofs.FrameEnd.Callers.{MachineLaws}
+use Rattle.wl_buses.proofs.FrameEnd.Below.{MachineLaws}
 use Rattle.wl_buses.proofs.NextFrames.Beginning.{begins_since}
 use Rattle.wl_buses.proofs.next_frames.nodes.a_node_begins_the_next_frame.Goals as goal
 

@@ -1,6 +1,7 @@
 use Rattle.std.proofs.Common.{ℕ, ◌+◌, arith}
 use Rattle.wl_segments.specs.Lengths.{sample_at}
-use Rattle.wl_buses.proofs.FrameEnd.Callers.{MachineLaws, samples_up}
+use Rattle.wl_buses.proofs.FrameEnd.Below.{MachineLaws}
+use Rattle.wl_buses.proofs.FrameEnd.Hearing.{samples_up}
 use Rattle.wl_buses.proofs.NextFrames.Beginning.{rest_early}
 use Rattle.wl_buses.proofs.NextFrames.Through.{finds_early, goes_through}
 use Rattle.wl_buses.proofs.next_frames.nodes.a_node_goes_through_the_next_frame.Goals as goal

@@ -1,4 +1,4 @@
-use Rattle.wl_buses.proofs.FrameEnd.Callers.{MachineLaws}
+use Rattle.wl_buses.proofs.FrameEnd.Below.{MachineLaws}
 use Rattle.wl_buses.proofs.NextFrames.Windows.{alone}
 use Rattle.wl_buses.proofs.next_frames.runs.each_frame_is_found_alone.Goals as goal
 

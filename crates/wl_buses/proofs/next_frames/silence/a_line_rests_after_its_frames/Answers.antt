@@ -1,4 +1,4 @@
-use Rattle.wl_buses.proofs.FrameEnd.Callers.{MachineLaws}
+use Rattle.wl_buses.proofs.FrameEnd.Below.{MachineLaws}
 use Rattle.wl_buses.proofs.NextFrames.Falling.{falls_silent}
 use Rattle.wl_buses.proofs.next_frames.silence.a_line_rests_after_its_frames.Goals as goal
 

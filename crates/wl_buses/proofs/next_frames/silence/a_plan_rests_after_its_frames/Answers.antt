@@ -1,4 +1,4 @@
-use Rattle.wl_buses.proofs.OneFrame.Callers.{line_of_plan}
+use Rattle.wl_buses.proofs.OneFrame.Plans.{line_of_plan}
 use Rattle.wl_plan.specs.PlanLine.{line_of, setup_at}
 use Rattle.wl_buses.proofs.next_frames.silence.a_plan_rests_after_its_frames.Goals as goal
 

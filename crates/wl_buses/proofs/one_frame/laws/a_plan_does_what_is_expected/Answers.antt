@@ -1,4 +1,3 @@
-use Rattle.std.proofs.Common.{◌≡◌, ◌<◌, arith}
 use Rattle.wl_plan.specs.PlanLine.{line_of, setup_at}
 use Rattle.wl_buses.specs.OneFrame.Stations.{AreStations}
 use Rattle.wl_buses.proofs.OneFrame.Plans.{line_of_plan}

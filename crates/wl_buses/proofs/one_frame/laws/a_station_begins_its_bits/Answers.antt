@@ -1,4 +1,3 @@
-use Rattle.wl_sync.specs.Running.{clock_after}
 use Rattle.wl_phase.specs.Ways.{WayLaws}
 use Rattle.wl_phase.proofs.Callers.{Goes}
 use Rattle.wl_buses.specs.OneFrame.Clocked.{EdgeLaws}

@@ -1,4 +1,4 @@
-use Rattle.wl_buses.proofs.FrameEnd.Callers.{MachineLaws}
+use Rattle.wl_buses.proofs.FrameEnd.Below.{MachineLaws}
 use Rattle.wl_buses.proofs.SentFrames.Handing.{all_passed}
 use Rattle.wl_buses.proofs.sent_frames.nodes.a_queue_hands_all_its_frames.Goals as goal
 

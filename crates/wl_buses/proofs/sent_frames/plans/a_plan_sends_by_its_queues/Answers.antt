@@ -2,10 +2,10 @@ use Rattle.std.proofs.Common.{refl, suc, ◌+◌, arith}
 use Rattle.wl_segments.specs.Lengths.{sample_at}
 use Rattle.wl_plan.specs.PlanLine.{line_of, setup_at}
 use Rattle.wl_buses.specs.OneFrame.Stations.{AreStations}
-use Rattle.wl_buses.proofs.OneFrame.Callers.{line_of_plan}
+use Rattle.wl_buses.proofs.OneFrame.Plans.{line_of_plan}
 use Rattle.wl_buses.specs.FirstFrame.FirstFrames.{queues_of, waiting_of}
 use Rattle.wl_buses.specs.FirstFrame.FirstStarts.{rest_first}
-use Rattle.wl_buses.proofs.FrameEnd.Callers.{MachineLaws}
+use Rattle.wl_buses.proofs.FrameEnd.Below.{MachineLaws}
 use Rattle.wl_buses.proofs.SentFrames.Planned.{line_sends}
 use Rattle.wl_buses.proofs.sent_frames.plans.a_plan_sends_by_its_queues.Goals as goal
 

@@ -1,4 +1,4 @@
-use Rattle.wl_buses.proofs.FrameEnd.Callers.{MachineLaws}
+use Rattle.wl_buses.proofs.FrameEnd.Below.{MachineLaws}
 use Rattle.wl_buses.proofs.SentFrames.Winning.{begun_with}
 use Rattle.wl_buses.proofs.sent_frames.winners.the_winner_sends_the_frame_that_it_began.Goals as goal
 

@@ -1,0 +1,10 @@
+use Rattle.std.proofs.Common.{◌≡◌, ◌<◌}
+use Rattle.std.specs.Prelude.{IfSome}
+use Rattle.wl_level.specs.Places.{first_place}
+use Rattle.wl_bound.specs.Rooms.{lacks_room}
+use Rattle.wl_bound.specs.OneBuses.{the_bus}
+use Rattle.wl_bound.proofs.bus.OneBus.first_lacking.Given as goal
+
+-- the first of the nodes so far
+abbrev pub invariant-loop-i : goal.invariant-loop-i
+invariant-loop-i l = (l.first ≡ first_place (lacks_room (the_bus l.self)) l.i) × IfSome l.first (λ i. i < (the_bus l.self).nodes)

@@ -1,7 +1,0 @@
-use Rattle.std.proofs.Common.{ℕ, ◌+◌, ◌*◌, ◌<◌, get_or}
-use Rattle.wl_bound.specs.Evaluated.{AreWaysOfBus, IsWay}
-use Rattle.wl_bound.proofs.family.Family.put_ways.Given as goal
-
--- the rows before, and of this row the nodes so far
-abbrev pub invariant-loop-j : goal.invariant-loop-j
-invariant-loop-j l = AreWaysOfBus l.i l.self l.setting l.ways × ((k d : ℕ) → k < l.j → IsWay l.self l.setting l.i k (get_or l.ways (16 * l.i + k) d))

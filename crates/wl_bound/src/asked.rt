@@ -1,0 +1,241 @@
+//! The condition as it is asked of one bus, for any senders or for one at a time.
+ghost use Rattle.std.specs.Prelude.{◌≡◌, false, true, ◌<◌, IfSome};
+ghost use Rattle.std.specs.Option.{ForNone, ForSome};
+ghost use Rattle.wl_level.specs.Places.{first_place};
+ghost use Rattle.wl_bound.specs.Conditions.{fails, fails_at, failure_of, first_failure_of, left_by, left_of, right_of, sides_in};
+ghost use Rattle.wl_bound.specs.Evaluated.{AreRowsIfSeveral, AreRowsOfBus};
+ghost use Rattle.wl_bound.specs.OneBuses.{the_bus};
+ghost use Rattle.wl_bound.specs.Terms.{several};
+ghost use Rattle.wl_bound.specs.declared.condition.Senders.TheVariants.{Any, One};
+
+use crate::bus::OneBus;
+use crate::condition::{Failure, Inequality, Senders, Sides};
+use crate::evaluated::{EvaluatedBus, Rows};
+use crate::family::{Setting, Source};
+
+/// A bus, how many of its nodes send at once, and what is worked out once for these. One sender at a time needs nothing of that: each sender
+/// has a bus of its own.
+#[derive(Clone, Copy)]
+pub(crate) struct AskedBus<'f> {
+    pub(crate) bus: OneBus<'f>,
+    pub(crate) senders: Senders,
+    pub(crate) rows: Option<&'f Rows>,
+    pub(crate) ghost some: { senders ≡ Any → ForSome rows (λ r. AreRowsOfBus (the_bus bus) r.now) },
+    pub(crate) ghost none: { senders ≡ Any → ForNone rows (several (the_bus bus) ≡ false) },
+}
+
+impl<'f> OneBus<'f> {
+    /// Returns what is worked out once for these senders.
+    pub(crate) fn rows_for(&self, senders: Senders) -> Option<Rows>
+        ensures { senders ≡ Any → AreRowsIfSeveral (the_bus self.now) result }
+    {
+        match senders {
+            Senders::Any => self.rows_if_several(),
+            Senders::One => None,
+        }
+    }
+
+    /// Returns what takes time by an inequality. If several nodes send, it is worked out for this pair alone.
+    fn left(&self, inequality: Inequality, i: u8, j: u8) -> u128
+        requires one { i < (the_bus self.now).nodes }
+        requires other { j < (the_bus self.now).nodes }
+        ensures { result ≡ left_of (the_bus self.now) inequality i j }
+    {
+        if self.several() {
+            return self.left_of_several(inequality, i, j);
+        }
+        let rows = None;
+        EvaluatedBus { bus: *self, rows }.left(inequality, i, j)
+    }
+
+    /// Returns it where several nodes send.
+    #[inline(never)]
+    fn left_of_several(&self, inequality: Inequality, i: u8, j: u8) -> u128
+        requires one { i < (the_bus self.now).nodes }
+        requires other { j < (the_bus self.now).nodes }
+        requires several { several (the_bus self.now) ≡ true }
+        ensures { result ≡ left_of (the_bus self.now) inequality i j }
+    {
+        let rows = self.rows();
+        let rows = Some(&rows);
+        EvaluatedBus { bus: *self, rows }.left(inequality, i, j)
+    }
+
+    /// Returns the time that there is by an inequality.
+    #[tactic(auto, unfolding(crate::specs::Conditions::right_of))]
+    fn right(&self, inequality: Inequality, i: u8, j: u8) -> u128
+        requires one { i < (the_bus self.now).nodes }
+        requires other { j < (the_bus self.now).nodes }
+        ensures { result ≡ right_of (the_bus self.now) inequality i j }
+    {
+        match inequality {
+            Inequality::DriftFitsJump => self.jump(i).min(self.jump(j)),
+            Inequality::BitIsThereAtSample => self.sample(i),
+            Inequality::NoBitTooEarly => self.phase_two(i),
+        }
+    }
+
+    /// Returns the greatest left side over the senders, each of them alone.
+    fn left_alone(&self, inequality: Inequality, i: u8, j: u8) -> u128
+        requires one { i < (the_bus self.now).nodes }
+        requires other { j < (the_bus self.now).nodes }
+        ensures { result ≡ left_by self.now.family.now self.now.setting One inequality i j }
+    {
+        let mut greatest = 0;
+        for a in 0..self.nodes() {
+            if self.family.member(a).sends {
+                let source = Source::Alone(a);
+                let setting = Setting {
+                    source,
+                    ..self.setting
+                };
+                let alone = OneBus {
+                    family: self.family,
+                    setting,
+                };
+                greatest = greatest.max(alone.left(inequality, i, j));
+            }
+        }
+        greatest
+    }
+
+    /// Returns both sides. What several nodes ask is worked out for this pair alone.
+    #[inline(never)]
+    pub(crate) fn sides(&self, senders: Senders, inequality: Inequality, i: u8, j: u8) -> Sides
+        requires one { i < (the_bus self.now).nodes }
+        requires other { j < (the_bus self.now).nodes }
+        ensures { result ≡ sides_in self.now.family.now self.now.setting senders inequality i j }
+    {
+        let rows = self.rows_for(senders);
+        let asked = AskedBus {
+            bus: *self,
+            senders,
+            rows: rows.as_ref(),
+        };
+        asked.sides(inequality, i, j)
+    }
+
+    /// Returns the first inequality that fails, with its pair of nodes.
+    pub(crate) fn first_failure(&self, senders: Senders) -> Option<Failure>
+        ensures { result ≡ first_failure_of self.now.family.now self.now.setting senders }
+    {
+        let rows = self.rows_for(senders);
+        let asked = AskedBus {
+            bus: *self,
+            senders,
+            rows: rows.as_ref(),
+        };
+        asked.first_failure()
+    }
+}
+
+impl<'f> AskedBus<'f> {
+    /// Returns what takes time by an inequality.
+    fn left(&self, inequality: Inequality, i: u8, j: u8) -> u128
+        requires one { i < (the_bus self.now.bus).nodes }
+        requires other { j < (the_bus self.now.bus).nodes }
+        ensures { result ≡ left_by self.now.bus.family.now self.now.bus.setting self.now.senders inequality i j }
+    {
+        match self.senders {
+            Senders::Any => {
+                let bus = EvaluatedBus {
+                    bus: self.bus,
+                    rows: self.rows,
+                };
+                bus.left(inequality, i, j)
+            }
+            Senders::One => self.bus.left_alone(inequality, i, j),
+        }
+    }
+
+    /// Returns both sides.
+    pub(crate) fn sides(&self, inequality: Inequality, i: u8, j: u8) -> Sides
+        requires one { i < (the_bus self.now.bus).nodes }
+        requires other { j < (the_bus self.now.bus).nodes }
+        ensures { result ≡ sides_in self.now.bus.family.now self.now.bus.setting self.now.senders inequality i j }
+    {
+        Sides {
+            left: self.left(inequality, i, j),
+            right: self.bus.right(inequality, i, j),
+        }
+    }
+
+    /// True if an inequality fails for a pair.
+    fn fails(&self, inequality: Inequality, i: u8, j: u8) -> bool
+        requires one { i < (the_bus self.now.bus).nodes }
+        requires other { j < (the_bus self.now.bus).nodes }
+        ensures { result ≡ fails self.now.bus.family.now self.now.bus.setting self.now.senders inequality i j }
+    {
+        if !self.bus.family.is_asked(inequality, i, j) {
+            return false;
+        }
+        let sides = self.sides(inequality, i, j);
+        sides.right < sides.left
+    }
+
+    /// Returns the first node with which it fails for node `i`.
+    fn first_other(&self, inequality: Inequality, i: u8) -> Option<u8>
+        requires node { i < (the_bus self.now.bus).nodes }
+        ensures first { let b = self.now.bus in
+            result ≡ first_place (fails b.family.now b.setting self.now.senders inequality i) (the_bus b).nodes }
+        ensures inside { IfSome result (λ j. j < (the_bus self.now.bus).nodes) }
+    {
+        let mut first = None;
+        for j in 0..self.bus.nodes() {
+            if first.is_none() && self.fails(inequality, i, j) {
+                first = Some(j);
+            }
+        }
+        first
+    }
+
+    /// Returns the first node for which it fails with some other.
+    fn first_node(&self, inequality: Inequality) -> Option<u8>
+        ensures first { let b = self.now.bus in
+            result ≡ first_place (fails_at b.family.now b.setting self.now.senders inequality) (the_bus b).nodes }
+        ensures inside { IfSome result (λ i. i < (the_bus self.now.bus).nodes) }
+    {
+        let mut first = None;
+        for i in 0..self.bus.nodes() {
+            if first.is_none() && self.first_other(inequality, i).is_some() {
+                first = Some(i);
+            }
+        }
+        first
+    }
+
+    /// Returns the first pair for which it fails.
+    fn failure(&self, inequality: Inequality) -> Option<Failure>
+        ensures { result ≡ failure_of self.now.bus.family.now self.now.bus.setting self.now.senders inequality }
+    {
+        let node = match self.first_node(inequality) {
+            Some(node) => node,
+            None => return None,
+        };
+        let other = match self.first_other(inequality, node) {
+            Some(other) => other,
+            None => return None,
+        };
+        let sides = self.sides(inequality, node, other);
+        Some(Failure {
+            inequality,
+            node,
+            other,
+            sides,
+        })
+    }
+
+    /// Returns the first failure.
+    #[tactic(auto, unfolding(crate::specs::Conditions::first_failure_of))]
+    fn first_failure(&self) -> Option<Failure>
+        ensures { result ≡ first_failure_of self.now.bus.family.now self.now.bus.setting self.now.senders }
+    {
+        if let Some(failure) = self.failure(Inequality::DriftFitsJump) {
+            return Some(failure);
+        }
+        if let Some(failure) = self.failure(Inequality::BitIsThereAtSample) {
+            return Some(failure);
+        }
+        self.failure(Inequality::NoBitTooEarly)
+    }
+}

@@ -1,9 +1,0 @@
-use Rattle.std.proofs.Common.{◌≡◌}
-use Rattle.wl_topology.specs.Driven.{any_below}
-use Rattle.wl_bound.specs.Families.{bus_of}
-use Rattle.wl_room.specs.Rooms.{is_crowded}
-use Rattle.wl_room.proofs.room.is_crowded_by_any.Given as goal
-
--- one of the nodes so far
-abbrev pub invariant-loop-k : goal.invariant-loop-k
-invariant-loop-k l = l.crowded ≡ any_below l.k (is_crowded (bus_of l.family l.setting) l.i)

@@ -1,9 +1,0 @@
-use Rattle.std.proofs.Common.{◌≡◌}
-use Rattle.wl_topology.specs.Driven.{any_below}
-use Rattle.wl_bound.specs.Families.{bus_of}
-use Rattle.wl_room.specs.Rooms.{lacks_room}
-use Rattle.wl_room.proofs.room.is_roomy.Given as goal
-
--- one of the nodes so far
-abbrev pub invariant-loop-i : goal.invariant-loop-i
-invariant-loop-i l = l.lacks ≡ any_below l.i (lacks_room (bus_of l.family l.setting))

@@ -1,8 +1,0 @@
-use Rattle.std.proofs.Common.{◌≡◌}
-use Rattle.wl_topology.specs.Driven.{any_below}
-use Rattle.wl_room.specs.Rooms.{has_long_quantum, plain_bus}
-use Rattle.wl_room.proofs.times.any_long.Given as goal
-
--- one of the nodes so far
-abbrev pub invariant-loop-i : goal.invariant-loop-i
-invariant-loop-i l = l.long ≡ any_below l.i (has_long_quantum (plain_bus l.family))
