@@ -5,7 +5,7 @@ usage: rows.py PROGRAM[,PROGRAM..] [FILE|FOLDER..]   each program in turn; all o
        rows.py independent [FILE|FOLDER..]           plain.py, margin.py, settings.py and sweeps.py in the place of a program
 
 A folder has the rows of one subject, in files NAME.rows, and the texts that they are about. The lines of such a file:
-- `% REMARK`
+- `% REMARK`; `% long` before a row: a build without proof, which takes long, isn't asked it (LIGHT=1, as .ci/test.py sets it)
 - `@ PATH`: the text of the rows below, by its path from the top of the repository.
 - `$ WORDS`: a row, the words of a command line. The text is its standard input. After ` | ` are the words of a second one, whose standard
   input is what the first one wrote.
@@ -17,6 +17,7 @@ times these, in which `\\i` is the number of the time, from 0 on.
 
 What a row has to write is below it: standard output, then each line of standard error after `! `, then `= STATUS` unless it is 0.
 """
+import os
 import re
 import subprocess
 import sys
@@ -42,6 +43,7 @@ class Row(NamedTuple):
     commands: list  # the words of each
     text: bytes
     wanted: Answer
+    is_long: bool
 
 
 class Wrong(Exception):
@@ -101,22 +103,23 @@ def wanted_of(lines):
 
 def rows_of(file):
     """Yields the rows of a file."""
-    path, row = None, None
+    path, row, is_long = None, None, False
     name = file.relative_to(TOP) if file.is_relative_to(TOP) else file
 
     def made():
-        head, number, about, lines = row
+        head, number, about, is_long, lines = row
         words, sign, letters = ROW.fullmatch(head).groups()
         place = f"{name}:{number}: {head}"
-        try: return Row(place, [command.split() for command in words.split(" | ")], text_of(about, sign, letters), wanted_of(lines))
+        try: return Row(place, [command.split() for command in words.split(" | ")], text_of(about, sign, letters), wanted_of(lines), is_long)
         except (Wrong, OSError) as why: raise Wrong(f"{place}: {why}") from None
 
     for number, line in enumerate(file.read_text(encoding="utf-8").split("\n")[:-1], 1):
         if line[:2] in ("% ", "@ ", "$ ") or line == "%":
             if row: yield made()
-            row = (line, number, path, []) if line[0] == "$" else None
+            row = (line, number, path, is_long, []) if line[0] == "$" else None
+            is_long = line == "% long"
             if line[0] == "@": path = line[2:]
-        elif row: row[3].append(line)
+        elif row: row[-1].append(line)
         else: raise Wrong(f"{name}:{number}: an answer to nothing")
     if row: yield made()
 
@@ -148,6 +151,7 @@ def by_another(words, text):
 def asked(row, ask):
     """Returns the answer of a row's last command. What clap answers to wrong words no independent program has."""
     if ask is by_another and row.wanted.err.startswith(b"error: "): return None
+    if row.is_long and os.environ.get("LIGHT"): return None
     text, answer = row.text, None
     for words in row.commands:
         answer = ask(words, text)
