@@ -11,7 +11,7 @@ import sys
 # What names a fault of the project's own text, in a crate's part of the log and outside.
 IN_PART = re.compile(r"(fn|impl|struct|enum|trait|const|static) .*: (not proved|no proof)$|(\./)?(src|specs|proofs)/\S+:\d+:\d+: error|warning: no call of"
                      r"|rt: (run rt fmt|this fails the verdict)|logic=not-proved")
-OUTSIDE = re.compile(r"\w+/\w+: NOT REFUSED|wrong\.py: |rt: .*(: its tests FAILED$|: the program |: what the program wrote|was not run)|test .* FAILED$")
+OUTSIDE = re.compile(r"\w+/\w+: NOT (REFUSED|TRIED(?!.*: the check was killed by signal))|wrong\.py: |rt: .*(: its tests FAILED$|: the program |: what the program wrote|was not run)|test .* FAILED$")
 SAID = re.compile(r"note: (\./)?(src|specs|proofs)/\S+:\d+:\d+|.*(killed|No space|memory|no verdict|could not tell|panicked)")
 ENDS = re.compile(r"rt: (\w+)(: its tests are)? (NOT PROVED|proved)")
 

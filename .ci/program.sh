@@ -1,6 +1,6 @@
 #!/usr/bin/env bash
 # Runs a built program of Wireline as a user would, and compares status, standard output and the fault's line, byte for byte.
-# usage: program.sh PROGRAM [PART..]      every part if none is named: examples rows cost pages workers refused sweeps formats settings threads words rest
+# usage: program.sh PROGRAM [PART..]      every part if none is named: examples rows cost shown pages workers refused sweeps formats settings threads words rest
 # - each plan of examples/ with the report beside it, and each of those plans through candump, which must accept it; and by 2, 3 and 8 workers over
 #   either link; a bus with long delays by 2 and 3
 # - the check, the records, the explanation, the trace and the waveform of each of them as check/plain.py gives them, the traffic and the margin as
@@ -13,7 +13,7 @@
 # - each row of .ci/refused.txt: the status, the one line on standard error, nothing on standard output but what explain says of it, and the hint
 # - files for input and output: what stands at the named place on each outcome; devices, rights, full disks, closed descriptors, odd names
 # - settings: lists and plans as check/settings.py has them, and what is refused (.ci/settings.sh)
-# - the commands that README.md and the pages of docs/ show with a `$`, whose outputs are those below them (.ci/shown.py; the loop names the pages);
+# - the commands that README.md and the pages of docs/ show with a `$`, whose outputs are those below them (.ci/shown.py; .ci/test.py names the pages);
 #   the faults in the examples of docs/use/plan-text.md, the tables of docs/use/from-the-book.md (check/book.py), and the plan of README.md
 # - JSON and CSV of each command, by Python's readers (check/formats.py)
 # - sweeps: known answers, what is refused, files, memory (.ci/sweeps.sh)
@@ -54,9 +54,10 @@ remedy_of() { grep -F "| \`$1\` |" docs/use/commands.md | sed 's/ |$//;s/.* | //
 if part examples; then
 for report in examples/*.report; do
   name=$(basename "$report" .report)
-  [ -z "${LIGHT-}" ] || [ "$name" != sixteen_nodes ] || continue # what explain and margin say of it takes a build without proof minutes
+  [ -n "${LIGHT-}" -a "$name" = sixteen_nodes ] && is_long=yes || is_long= # what explain and margin say of it takes a build without proof minutes
   runs "run of $name" "examples/$name.toml" 0 "$report" "$room/none" run
   for word in check records explain trace vcd; do
+    [ -z "$is_long" -o "$word" != explain ] || continue
     python3 -B check/plain.py "$word" < "examples/$name.toml" > "$room/wanted"
     runs "$word of $name" "examples/$name.toml" 0 "$room/wanted" "$room/none" "$word"
   done
@@ -65,6 +66,7 @@ for report in examples/*.report; do
   "$program" candump < "examples/$name.toml" > "$room/out" 2> "$room/err"
   is "candump of $name" [ $? = 0 -a ! -s "$room/err" ]
   is "lines of candump of $name" [ "$(grep -c '^frame [0-9]* sent ' "$report")" = "$(wc -l < "$room/out")" ]
+  [ -z "$is_long" ] || continue
   python3 -B check/margin.py < "examples/$name.toml" > "$room/beyond"
   runs "margin of $name" "examples/$name.toml" 0 "$room/beyond" "$room/none" margin
 done
@@ -186,6 +188,10 @@ used=$( (TIMEFORMAT='%U %S'; time timeout 300 "$program" margin < examples/sixte
 is "the margins of 16 nodes take $used ms" [ "$used" -lt 400 -a ! -s "$room/err" -a "$(grep -c '^pair ' "$room/out")" = 240 ]
 fi
 
+if part shown; then
+for page in $(python3 -B .ci/test.py pages); do is "what the page $page shows" python3 -B .ci/shown.py "$page" "$program"; done
+fi
+
 if part pages; then
 # A page has what the other commands write, each text once, also of a plan whose remarks look like a page's own words.
 printf '# </pre><script>alert(1)</script> &amp; \r\n' | cat - examples/burst.toml > "$room/marked.toml"
@@ -198,9 +204,6 @@ if command -v chromium > /dev/null; then
 fi
 
 use=docs/use
-for page in README.md $use/{commands,examples,explain,first-hour,formats,plan-text,reports,settings,sweeps,trace,traffic,views}.md docs/bus/any-senders.md; do
-  is "what the page $page shows" python3 -B .ci/shown.py "$page" "$program"
-done
 # The plan of plan-text.md, edited as each row of its table of examples says, has the fault that the row answers.
 sed -n '/^# pair.toml/,/^```$/{/^```$/d;p}' $use/plan-text.md > "$room/pair.toml"
 sed -n '/^| Text | Answer |$/,/^$/s/.*| `\([^`]*\)`[^|]*|$/fault: \1/p' $use/plan-text.md > "$room/answers"

@@ -15,7 +15,11 @@ The libraries below a crate are taken as `rt ci` has just left them; those that 
 many of its edits as change different functions, and one check of these functions and of what they call. It has to end with status 1. Each edited function
 has to be refused, and each other function that is read has to be proved. If that isn't so, each edit has a check of its own. So a wrong body costs no
 second proof of its crate. As many checks run side by side as RT_JOBS says; without that, as there are processors that have 3 GB of free memory each.
-Status 1 if a wrong body was not refused so.
+A check that was killed runs once more at the end, alone. What the last check of an edit said is in out/wrong-bodies/CRATE/NAME.log.
+
+Status 1 if a wrong body was not refused so: if the prover proves it (NOT REFUSED), or if it could not be tried (NOT TRIED, with the reason), as one that
+doesn't compile, that the prover gave no verdict on, or beside which another function isn't proved. A refusal only by a name that the proof has and the
+changed body hasn't says little of the contract: it counts, and is named at the end.
 """
 import glob
 import importlib.machinery
@@ -34,8 +38,12 @@ sys.dont_write_bytecode = True
 TOP = os.path.dirname(os.path.dirname(os.path.realpath(__file__)))
 GATE, NIGHT = f"{TOP}/.ci/wrong-bodies", f"{TOP}/check/wrong-bodies"
 PAGE, BEGIN, END = f"{TOP}/docs/change/wrong-bodies.md", "<!-- .ci/wrong.py page begins -->\n", "<!-- .ci/wrong.py page ends -->\n"
+LOGS = f"{TOP}/out/wrong-bodies"
 REFUSED = ("not proved", "no proof")
 ACCEPTED = "the prover proves all that it reads"
+# What the prover says of a proof that names what the edit took away: that says little of the contract.
+NAMES = re.compile(r"(has no field|is not in scope|has no `|was not admitted)")
+BY_NAME = "only by a name in its proof (change a value, and keep the names): "
 
 Edit = namedtuple("Edit", "crate name file function mistakes pairs")
 
@@ -201,6 +209,9 @@ def checked(rt, crate, run, is_kept):
             words = [*words, "--incremental", "kept"]
         how = {"cwd": room, "stdin": subprocess.DEVNULL, "stdout": subprocess.PIPE, "stderr": subprocess.STDOUT, "errors": "replace"}
         ran = subprocess.run([*rt.rtlib.guarded(), *words], check=False, **how)
+    for edit in run["edits"]:
+        os.makedirs(f"{LOGS}/{edit.crate}", exist_ok=True)
+        with open(f"{LOGS}/{edit.name}.log", "w", encoding="utf-8") as it: it.write(f"{ran.stdout}status {ran.returncode}\n")
     return ran.returncode, ran.stdout, time.time() - began
 
 
@@ -223,10 +234,23 @@ def judged(run, status, said):
         own = [(verdict, rest) for name, verdict, rest in verdicts if is_of(name, edit)]
         refusal = next((it for it in own if it[0] in REFUSED), None)
         if status == 0: yield edit, None, ACCEPTED
-        elif not well: yield edit, None, f"the check ended with status {status} before the prover had tried it: {first_error(said)}"
+        elif not well: yield edit, None, f"{ended(status)}: {first_error(said)}"
         elif others: yield edit, None, f"also not proved: {', '.join(others)}"
         elif not refusal: yield edit, None, f"the prover says of it: {own[0][0] if own else 'nothing'}"
-        else: yield edit, (refusal[0] + refusal[1])[:150], None
+        else: yield edit, by_name(said, edit, refusal) + (refusal[0] + refusal[1])[:150], None
+
+
+def by_name(said, edit, refusal):
+    """Returns BY_NAME if no goal refuses an edited function, but names in its proof that are gone; else nothing."""
+    own = [it for it in re.findall(r"(?m)^(?:note: )?(?:\./)?proofs/(\S+):\d+:\d+:(.*)", said) if it[0].startswith(edit.function.replace("::", "/") + "/")]
+    errors = [text for _, text in own if "error" in text] or [text for _, text in own]
+    return BY_NAME if errors and all(NAMES.search(it) for it in errors) and "did not prove" not in refusal[1] else ""
+
+
+def ended(status):
+    """Returns how a check ended that has no verdict on each function that it was asked for."""
+    if status < 0: return f"the check was killed by signal {-status}, also alone, most likely for lack of memory"
+    return {1: "the changed crate can't be read", 3: "the prover gave no verdict"}.get(status, f"the check ended with status {status}")
 
 
 def first_error(said):
@@ -258,7 +282,7 @@ def attempt(folder, names, is_kept):
     runs = runs_of(edits)
     rt, crates = kit()
     build(rt, crates, {it.crate for it in edits})
-    refused, failed, untried, again = 0, [], [], []
+    refused, failed, untried, named, again = 0, [], {}, [], []
 
     def told(run, status, said, seconds):
         nonlocal refused
@@ -272,16 +296,19 @@ def attempt(folder, names, is_kept):
             print(f"{edit.name}: {word} in {edit.function}: {how or why}", flush=True)
             refused += bool(how)
             failed.extend([edit.name] * is_accepted)
-            untried.extend([edit.name] * (not how and not is_accepted))
+            if word == "NOT TRIED": untried[edit.name] = why
+            if how and how.startswith(BY_NAME): named.append(edit.name)
         print(f"  {run['edits'][0].crate}: {seconds:.0f} s by the clock", flush=True)
 
     for it in tried(rt, crates, runs, is_kept): told(*it)
     # Edits that stood in one another's way have a check each.
     if again:
         for it in tried(rt, crates, list(again), is_kept): told(*it)
-    if untried: print(f"{len(untried)} could not be tried: {' '.join(untried)}")
-    print(f"{refused} of {len(edits)} wrong bodies refused, {len(failed)} not{': ' if failed else ''}{' '.join(failed)}")
-    return 1 if failed else 0
+    for name, why in untried.items(): print(f"could not be tried: {name}: {why}")
+    if named: print(f"{len(named)} were refused only by a name in a proof: {' '.join(named)}")
+    counts = [f"{len(found)} {what}{': ' if found else ''}{' '.join(found)}" for what, found in (("not", failed), ("not tried", untried))]
+    print(f"{refused} of {len(edits)} wrong bodies refused, {', '.join(counts)}")
+    return 0 if refused == len(edits) else 1
 
 
 # ---- The page and the sources

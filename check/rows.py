@@ -5,7 +5,7 @@ usage: rows.py PROGRAM[,PROGRAM..] [FILE|FOLDER..]   each program in turn; all o
        rows.py independent [FILE|FOLDER..]           plain.py, margin.py, settings.py and sweeps.py in the place of a program
 
 A folder has the rows of one subject, in files NAME.rows, and the texts that they are about. The lines of such a file:
-- `% REMARK`
+- `% REMARK`; `% long` before a row: a build without proof, which takes long, isn't asked it (LIGHT=1, as .ci/test.py sets it)
 - `@ PATH`: the text of the rows below, by its path from the top of the repository.
 - `$ WORDS`: a row, the words of a command line. The text is its standard input. After ` | ` are the words of a second one, whose standard
   input is what the first one wrote.
@@ -53,6 +53,7 @@ class Row(NamedTuple):
     fails: bool  # whether the reader fails after the text
     in_rooms: bool  # whether it is asked with room for 0 bytes, for 1, and so on
     wanted: Answer
+    is_long: bool
 
 
 class Wrong(Exception):
@@ -112,22 +113,23 @@ def wanted_of(lines):
 
 def rows_of(file):
     """Yields the rows of a file."""
-    path, row = None, None
+    path, row, is_long = None, None, False
     name = file.relative_to(TOP) if file.is_relative_to(TOP) else file
 
     def made():
-        head, number, about, lines = row
+        head, number, about, is_long, lines = row
         star, words, sign, fails, letters = ROW.fullmatch(head).groups()
         place, commands = f"{name}:{number}: {head}", [command.split() for command in words.split(" | ")]
-        try: return Row(place, commands, text_of(about, sign, letters), bool(fails), bool(star), wanted_of(lines))
+        try: return Row(place, commands, text_of(about, sign, letters), bool(fails), bool(star), wanted_of(lines), is_long)
         except (Wrong, OSError) as why: raise Wrong(f"{place}: {why}") from None
 
     for number, line in enumerate(file.read_text(encoding="utf-8").split("\n")[:-1], 1):
         if line[:2] in ("% ", "@ ", "$ ", "$*") or line == "%":
             if row: yield made()
-            row = (line, number, path, []) if line[0] == "$" else None
+            row = (line, number, path, is_long, []) if line[0] == "$" else None
+            is_long = line == "% long"
             if line[0] == "@": path = line[2:]
-        elif row: row[3].append(line)
+        elif row: row[-1].append(line)
         else: raise Wrong(f"{name}:{number}: an answer to nothing")
     if row: yield made()
 
@@ -182,6 +184,7 @@ def by_another(words, text):
 def asked(row, program):
     """Returns the answer of a row's last command, or None. What clap answers to wrong words no independent program has, nor devices that fail."""
     if program is None and (row.fails or row.wanted.err.startswith(b"error: ")): return None
+    if row.is_long and os.environ.get("LIGHT"): return None
     text, answer = row.text, None
     for words in row.commands:
         if program is None: answer = by_another(words, text)

@@ -1,6 +1,8 @@
 -- The answer of a text by its document, and what is said of one that is refused.
-use Rattle.std.proofs.Common.{◌≡◌, ◌≤◌, ◌∙◌, ℕ, List, Option, Some, None, Result, Err, ap, length, refl, subst, sym, take}
+use Rattle.std.proofs.Common.{◌≡◌, ◌≤◌, ◌∙◌, ℕ, List, Some, None, Result, Ok, Err, ap, length, subst, sym, take}
+use Rattle.std.specs.Prelude.{IfOk, MatchResult, Vec}
 use Rattle.toml.specs.Data.{Members}
+use Rattle.wl_device.specs.Devices.{Answer}
 use Rattle.wl_setup.specs.declared.bus.Bus.{Bus}
 use Rattle.wl_setup.specs.declared.fault.SetupFault.{SetupFault}
 use Rattle.wl_setup.specs.declared.fault.SetupFault.TheVariants.{Toml}
@@ -8,8 +10,12 @@ use Rattle.wl_setup.specs.Buses.{bus_of_text}
 use Rattle.wl_setup.specs.Document.{fault_path, plan_text_of}
 use Rattle.wl_setup.specs.Plans.{after}
 use Rattle.wl_setup.specs.Reading.{document_answer, document_of}
+use Rattle.wl_explain.specs.Condition.{IsExplanation}
 use Rattle.wl_explain.specs.Refusals.{IsDocumentRefusal, IsRefusal, refusal_words, toml_words}
-use Rattle.wl_engines.specs.Explained.{bus_answer}
+use Rattle.wl_engines.specs.Explained.{ExplainsText, bus_answer}
+use Rattle.wl_engines.specs.Output.{WritesText}
+use Rattle.wl_engines.specs.declared.fault.RunFault.{RunFault}
+use Rattle.wl_engines.specs.declared.fault.RunFault.TheVariants.{Text, Setup, Work, Write, Memory}
 
 pub answer_of : (text : List ℕ) (top : Members) (r : Result Bus SetupFault) → document_of text ≡ Some top → after (plan_text_of top) bus_of_text ≡ r → bus_answer text ≡ r
 answer_of text top r is answer = ap (λ o. after (document_answer o) bus_of_text) is ∙ answer
@@ -22,3 +28,16 @@ no_answer text none = ap (λ o. after (document_answer o) bus_of_text) none
 
 pub no_toml : (text : List ℕ) (place : ℕ) (said : List ℕ) → document_of text ≡ None → place ≤ length text → said ≡ toml_words (take place text) → IsRefusal text Toml said
 no_toml text place said none within same = subst (λ o. IsDocumentRefusal o text Toml said) (sym none) (place, within, same)
+
+-- the doubts of a text's bus were made and went out, or memory ran out
+module _ {T : Type 0} (takes : T → Answer → T → Type 0) (t t' : T) where
+  pub explains_bus : {Z E : Type 0} (text : List ℕ) (bus : Bus) → bus_answer text ≡ Ok bus → (made : Result (Vec ℕ Z) E) (r : Result (Unit {0}) RunFault)
+      → IfOk made (λ said. IsExplanation bus said.items) → MatchResult made (λ said. WritesText takes said.items t t' r) (λ e. (r ≡ Err Memory) × (t' ≡ t))
+      → ExplainsText takes text t t' r
+  explains_bus text bus answer (Ok said) (Ok u) is wrote = (bus, said.items, answer, is, wrote)
+  explains_bus text bus answer (Ok said) (Err Write) is wrote = (wrote.0, (bus, said.items, answer, is, wrote.1))
+  explains_bus text bus answer (Ok said) (Err Memory) is wrote = absurd wrote
+  explains_bus text bus answer (Ok said) (Err (Text fault)) is wrote = absurd wrote
+  explains_bus text bus answer (Ok said) (Err (Setup fault)) is wrote = absurd wrote
+  explains_bus text bus answer (Ok said) (Err (Work fault)) is wrote = absurd wrote
+  explains_bus text bus answer (Err e) r is none = subst (λ (r : Result (Unit {0}) RunFault). ExplainsText takes text t t' r) (sym none.0) none.1

@@ -2,7 +2,7 @@ mod Gathering
 mod MergeLaws
 mod NamedNodes
 mod Working
-mod Viewing
 mod PageProofs
 mod TrafficProofs
 mod Explaining
+mod OutputLemmas

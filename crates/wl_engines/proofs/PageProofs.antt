@@ -1,18 +1,21 @@
 -- What a writer into memory holds after a run of calls, and a page that goes out.
-use Rattle.std.proofs.Common.{◌≡◌, ◌++◌, ◌∷◌, [], List, ℕ, Result, Ok, Err, sym, ap, ◌∙◌, append_assoc}
-use Rattle.std.specs.Prelude.{IfOk}
+use Rattle.std.proofs.Common.{◌≡◌, ◌++◌, ◌∷◌, [], List, ℕ, Result, Ok, Err, sym, subst, ap, ◌∙◌, append_assoc}
+use Rattle.std.specs.Prelude.{IfOk, MatchResult, Vec}
 use Rattle.std.proofs.lemmas.List.{append-nil}
 use Rattle.wl_device.specs.Bounded.{ReadsUpTo}
 use Rattle.wl_device.specs.Devices.{Answer, moved, ended, again, failed, Run, moved_bytes}
 use Rattle.wl_device.specs.declared.bounded.Ended.TheVariants as reading
 use Rattle.wl_page.specs.Page.{page_of}
 use Rattle.wl_setup.specs.Limits.{most_bytes}
+use Rattle.wl_setup.specs.declared.bus.Bus.{Bus}
 use Rattle.wl_views.specs.declared.tick.Tick.{Tick}
 use Rattle.wl_engines.specs.declared.fault.RunFault.{RunFault}
 use Rattle.wl_engines.specs.declared.fault.RunFault.TheVariants.{Text, Setup, Work, Write, Memory}
 use Rattle.wl_engines.specs.declared.kept.Kept.{Kept}
+use Rattle.wl_engines.specs.Explained.{bus_answer}
 use Rattle.wl_engines.specs.Keeping.{KeepsMore}
-use Rattle.wl_engines.specs.Paged.{Pages, PagesText}
+use Rattle.wl_engines.specs.Output.{WritesText}
+use Rattle.wl_engines.specs.Paged.{IsPage, Pages, PagesText}
 
 abbrev pub keeps : Kept → Answer → Kept → Type 0
 keeps s a t = KeepsMore s.bytes.items a t.bytes.items
@@ -40,6 +43,19 @@ pages_whole gives takes tick s s' t t' text reads (Err (Text fault)) h = (text, 
 pages_whole gives takes tick s s' t t' text reads (Err (Setup fault)) h = (text, reading.End, reads, h)
 pages_whole gives takes tick s s' t t' text reads (Err (Work fault)) h = (text, reading.End, reads, h)
 pages_whole gives takes tick s s' t t' text reads (Err Write) h = (text, reading.End, reads, h)
+
+-- the page of a text's bus was made and went out, or memory ran out
+module _ {T : Type 0} (takes : T → Answer → T → Type 0) (tick : Tick) (text : List ℕ) (t t' : T) where
+  pub pages_bus : {Z E : Type 0} (bus : Bus) → bus_answer text ≡ Ok bus → (made : Result (Vec ℕ Z) E) (r : Result (Unit {0}) RunFault)
+      → MatchResult made (λ whole. WritesText takes whole.items t t' r) (λ e. (r ≡ Err Memory) × (t' ≡ t))
+      → IfOk made (λ whole. IsPage tick text bus whole.items) → PagesText takes tick text t t' r
+  pages_bus bus answer (Ok whole) (Ok u) wrote is = (bus, whole.items, answer, is, wrote)
+  pages_bus bus answer (Ok whole) (Err Write) wrote is = (wrote.0, (bus, whole.items, answer, is, wrote.1))
+  pages_bus bus answer (Ok whole) (Err Memory) wrote is = absurd wrote
+  pages_bus bus answer (Ok whole) (Err (Text fault)) wrote is = absurd wrote
+  pages_bus bus answer (Ok whole) (Err (Setup fault)) wrote is = absurd wrote
+  pages_bus bus answer (Ok whole) (Err (Work fault)) wrote is = absurd wrote
+  pages_bus bus answer (Err e) r none is = subst (λ (r : Result (Unit {0}) RunFault). PagesText takes tick text t t' r) (sym none.0) none.1
 
 -- pages of equal texts are equal
 pub same_page : {figures figures' settings settings' margin margin' traffic traffic' report report' trace trace' wave wave' : List ℕ}

@@ -1,24 +1,36 @@
--- Runs of workers that come to no outcome.
-use Rattle.std.proofs.Common.{◌≡◌, ℕ, List, Result, Ok, Err, refl, sym, subst}
-use Rattle.std.specs.Prelude.{IsErrAnd}
+-- Runs of workers.
+use Rattle.std.proofs.Common.{◌≡◌, ℕ, List, Result, Ok, Err, sym, subst}
+use Rattle.std.specs.Prelude.{IfErr, IfOk, MatchResult, Vec}
 use Rattle.wl_device.specs.Devices.{Answer}
 use Rattle.wl_plan.specs.declared.plan.Plan.{Plan}
 use Rattle.wl_setup.specs.Plans.{GivesPlan}
 use Rattle.wl_engines.specs.declared.fault.RunFault.{RunFault}
 use Rattle.wl_engines.specs.declared.fault.RunFault.TheVariants as run
-use Rattle.wl_engines.specs.Workers.{IsWorkFault, RunsByWorkers}
+use Rattle.wl_engines.specs.Output.{WritesText}
+use Rattle.wl_engines.specs.Plans.{IsRunOutput}
+use Rattle.wl_engines.specs.Workers.{CanWork, IsWorkFault, RunsByWorkers}
 
-module _ {S T : Type 0} (gives : S → Answer → S → Type 0) (takes : T → Answer → T → Type 0) (workers : ℕ) (s s' : S) (t : T) where
+module _ {S T : Type 0} (gives : S → Answer → S → Type 0) (takes : T → Answer → T → Type 0) (workers : ℕ) (s s' : S) (t t' : T) where
+  -- the workers came to no outcome
   ended : (plan : Plan) (names : List (List ℕ)) → GivesPlan gives s (Ok (plan, names)) s' → (fault : RunFault) → IsWorkFault workers fault
-      → RunsByWorkers gives takes workers s s' t t (Err fault)
-  ended plan names given (run.Work fault) h = ((h, plan, names, given), refl)
-  ended plan names given run.Memory h = refl
-  ended plan names given run.Write h = absurd h
-  ended plan names given (run.Text fault) h = absurd h
-  ended plan names given (run.Setup fault) h = absurd h
+      → t' ≡ t → RunsByWorkers gives takes workers s s' t t' (Err fault)
+  ended plan names given (run.Work fault) h same = ((h, plan, names, given), same)
+  ended plan names given run.Memory h same = same
+  ended plan names given run.Write h same = absurd h
+  ended plan names given (run.Text fault) h same = absurd h
+  ended plan names given (run.Setup fault) h same = absurd h
 
-  -- the fault of the workers is passed on
-  pub ended_by : (plan : Plan) (names : List (List ℕ)) → GivesPlan gives s (Ok (plan, names)) s' → (fault : RunFault) → IsWorkFault workers fault
-      → (r : Result (Unit {0}) RunFault) → IsErrAnd r (λ other. other ≡ fault) → RunsByWorkers gives takes workers s s' t t r
-  ended_by plan names given fault h (Ok u) e = absurd e
-  ended_by plan names given fault h (Err other) e = ended plan names given other (subst (IsWorkFault workers) (sym e) h)
+  -- the report of the workers went out, or there is none
+  pub runs_work : {Z : Type 0} (plan : Plan) (names : List (List ℕ)) → GivesPlan gives s (Ok (plan, names)) s'
+      → (made : Result (Vec ℕ Z) RunFault) → IfOk made (λ text. IsRunOutput plan names text.items) → IfOk made (λ text. CanWork workers)
+      → IfErr made (IsWorkFault workers) → (r : Result (Unit {0}) RunFault)
+      → MatchResult made (λ text. WritesText takes text.items t t' r) (λ fault. (r ≡ Err fault) × (t' ≡ t))
+      → RunsByWorkers gives takes workers s s' t t' r
+  runs_work plan names given (Ok text) is can fault (Ok u) wrote = (can, (plan, names, text.items, given, is, wrote))
+  runs_work plan names given (Ok text) is can fault (Err run.Write) wrote = (wrote.0, (can, (plan, names, text.items, given, is, wrote.1)))
+  runs_work plan names given (Ok text) is can fault (Err run.Memory) wrote = absurd wrote
+  runs_work plan names given (Ok text) is can fault (Err (run.Text other)) wrote = absurd wrote
+  runs_work plan names given (Ok text) is can fault (Err (run.Setup other)) wrote = absurd wrote
+  runs_work plan names given (Ok text) is can fault (Err (run.Work other)) wrote = absurd wrote
+  runs_work plan names given (Err e) is can fault r none =
+      subst (λ (r : Result (Unit {0}) RunFault). RunsByWorkers gives takes workers s s' t t' r) (sym none.0) (ended plan names given e fault none.1)

@@ -10,3 +10,5 @@ pub mod TrafficRun
 pub mod Workers
 pub mod Keeping
 pub mod Paged
+pub mod Output
+pub mod View

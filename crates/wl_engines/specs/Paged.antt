@@ -1,5 +1,5 @@
 -- The page of a run goes out (this project's profile).
-use Rattle.std.specs.Prelude.{◌≡◌, ◌≢◌, ℕ, List, Result, Ok, Err}
+use Rattle.std.specs.Prelude.{◌≡◌, ◌≢◌, ℕ, List, Result, Ok, Err, string_bytes}
 use Rattle.wl_device.specs.Bounded.{ReadsUpTo}
 use Rattle.wl_device.specs.Devices.{Answer, Writes}
 use Rattle.wl_device.specs.declared.bounded.Ended.{Ended}
@@ -8,6 +8,7 @@ use Rattle.wl_device.specs.declared.device.WriteFault.{WriteFault}
 use Rattle.wl_explain.specs.Condition.{IsExplanation}
 use Rattle.wl_margin.specs.Margins.{IsMarginText}
 use Rattle.wl_page.specs.Page.{page_of}
+use Rattle.wl_plan.specs.declared.plan.Plan.{Plan}
 use Rattle.wl_report.specs.Report.{report_text}
 use Rattle.wl_serial.specs.Outcome.{outcome_of, totals_of}
 use Rattle.wl_setup.specs.Check.{IsPlanCheck}
@@ -23,6 +24,8 @@ use Rattle.wl_engines.specs.Explained.{bus_answer}
 use Rattle.wl_engines.specs.Ran.{Ran}
 use Rattle.wl_engines.specs.declared.fault.RunFault.{RunFault}
 use Rattle.wl_engines.specs.declared.fault.RunFault.TheVariants.{Setup, Memory}
+use Rattle.wl_engines.specs.declared.run_page.BusTexts.{BusTexts}
+use Rattle.wl_engines.specs.declared.run_page.RunTexts.{RunTexts}
 
 -- the page of a bus with its text: what the other commands write of it, each once and whole, and the text itself
 unfoldable pub IsPage : Tick → List ℕ → Bus → List ℕ → Type 0
@@ -39,6 +42,18 @@ IsPage tick text bus whole =
       trace = trace_text bus.plan bus.names;
       wave = vcd_text tick bus.plan bus.names;
     }))
+
+-- what is shown of a bus without a run
+abbrev pub ShowsBus : Tick → Bus → BusTexts → Type 0
+ShowsBus tick bus texts =
+    IsExplanation bus (string_bytes texts.figures) × IsPlanCheck bus.plan bus.names (string_bytes texts.settings)
+    × IsMarginText (tick_picoseconds tick) bus (string_bytes texts.margin)
+
+-- what is shown of a run
+abbrev pub ShowsRun : Tick → Plan → List (List ℕ) → RunTexts → Type 0
+ShowsRun tick plan names texts =
+    (string_bytes texts.traffic ≡ traffic_text tick plan names) × (texts.report.items ≡ report_text (totals_of (outcome_of plan)))
+    × (texts.trace.items ≡ trace_text plan names) × (texts.wave.items ≡ vcd_text tick plan names)
 
 module _ {T : Type 0} (takes : T → Answer → T → Type 0) (tick : Tick) (text : List ℕ) (t t' : T) where
   -- the page of the text's bus went out, as far as it went

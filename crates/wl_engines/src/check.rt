@@ -1,11 +1,26 @@
 //! Returns the check of a plan.
+ghost use Rattle.std.specs.Prelude.{IfOk};
 ghost use Rattle.wl_setup.specs.Check.{IsPlanCheck};
 ghost use Rattle.wl_engines.specs.Plans.{RunsPlan};
 
 use crate::fault::RunFault;
-use std::alloc::Global;
-use wl_device::{Sink, Source, write_all};
-use wl_setup::{check_plan, read_plan};
+use crate::view::{View, run_view};
+use std::alloc::{AllocError, Global};
+use wl_device::{Sink, Source};
+use wl_plan::CheckedPlan;
+use wl_setup::{Names, check_plan};
+
+/// Returns the check of a plan, under these names of its nodes.
+pub(crate) fn check_text(
+    alloc: Global,
+    plan: &CheckedPlan,
+    names: &Names,
+) -> Result<Vec<u8>, AllocError>
+    ensures { IfOk result (λ text. IsPlanCheck plan.now names.now text.items) }
+{
+    let text = check_plan(alloc, plan, names)?;
+    Ok(text.into_bytes())
+}
 
 /// Reads a plan's text, tests whether the plan can be run, and writes the check: what each node's bit segments allow, and how long a level
 /// takes from each node to each later one and back.
@@ -19,8 +34,5 @@ pub fn check_run<R: Source, W: Sink>(
 ) -> Result<(), RunFault>
     ensures { RunsPlan R.gives W.takes IsPlanCheck reader.old reader.new writer.old writer.new result }
 {
-    let (plan, names) = read_plan(alloc, reader)?;
-    let text = check_plan(alloc, &plan, &names)?;
-    write_all(text.as_bytes(), writer)?;
-    Ok(())
+    run_view(alloc, View::Check, reader, writer)
 }

@@ -1,15 +1,20 @@
 //! The explanation of a plan.
-ghost use Rattle.std.specs.Prelude.{◌≡◌, ℕ, List, Some};
+ghost use Rattle.std.specs.Prelude.{◌≡◌, ℕ, List, Some, Err, IfOk, length};
 ghost use Rattle.toml.specs.View.{table_view};
+ghost use Rattle.wl_explain.specs.Condition.{IsExplanation};
+ghost use Rattle.wl_setup.specs.Buses.{IsBusOf};
 ghost use Rattle.wl_setup.specs.Reading.{document_of};
 ghost use Rattle.wl_engines.specs.Explained.{Explains, ExplainsText};
 
 use crate::fault::RunFault;
-use std::alloc::Global;
+use crate::output::write_made;
+use std::alloc::{AllocError, Global};
 use toml::Table;
 use wl_device::{Ended, Sink, Source, write_all};
 use wl_explain::{explain_fault, explain_plan, explain_size, explain_toml};
-use wl_setup::{NoDocument, SetupFault, bus_of_document, document_or_place, read_bytes};
+use wl_setup::{
+    Bus, NoDocument, PlacedFault, SetupFault, bus_of_document, document_or_place, read_bytes,
+};
 
 /// Reads a plan's text, tests whether the plan can be run, and writes what is doubtful of it and its bus, one a line, and then the figures.
 /// Of a plan that is refused it writes what is wrong and what to change, and returns the fault whether or not the writer took all of that.
@@ -35,25 +40,41 @@ pub fn explain_run<R: Source, W: Sink>(
     }
 }
 
+/// Returns what is doubtful of a bus, and its figures.
+fn doubts_of(alloc: Global, bus: &Bus) -> Result<Vec<u8>, AllocError>
+    requires { length bus.now.deviations ≡ length bus.now.plan.nodes }
+    ensures { IfOk result (λ said. IsExplanation bus.now said.items) }
+{
+    Ok(explain_plan(alloc, bus)?.into_bytes())
+}
+
+/// Writes what is wrong with a plan's document and what to change, and returns its fault.
+fn write_refusal<W: Sink>(
+    alloc: Global,
+    top: &Table,
+    placed: PlacedFault,
+    writer: &mut W,
+) -> Result<(), RunFault>
+    requires { IsBusOf (table_view top.now) (Err placed) }
+    ensures { (text : List ℕ) → document_of text ≡ Some (table_view top.now)
+        → ExplainsText W.takes text writer.old writer.new result }
+{
+    if let SetupFault::Memory = placed.fault {
+        return Err(RunFault::Memory);
+    }
+    let said = explain_fault(alloc, top, placed.path, &placed.fault)?;
+    let _ = write_all(said.as_bytes(), writer);
+    Err(RunFault::Setup(placed.fault))
+}
+
 /// Writes the explanation of a plan's document.
 fn explain_document<W: Sink>(alloc: Global, top: &Table, writer: &mut W) -> Result<(), RunFault>
     ensures { (text : List ℕ) → document_of text ≡ Some (table_view top.now)
         → ExplainsText W.takes text writer.old writer.new result }
 {
     match bus_of_document(alloc, top) {
-        Ok(bus) => {
-            let said = explain_plan(alloc, &bus)?;
-            write_all(said.as_bytes(), writer)?;
-            Ok(())
-        }
-        Err(placed) => {
-            if let SetupFault::Memory = placed.fault {
-                return Err(RunFault::Memory);
-            }
-            let said = explain_fault(alloc, top, placed.path, &placed.fault)?;
-            let _ = write_all(said.as_bytes(), writer);
-            Err(RunFault::Setup(placed.fault))
-        }
+        Ok(bus) => write_made(doubts_of(alloc, &bus), writer),
+        Err(placed) => write_refusal(alloc, top, placed, writer),
     }
 }
 

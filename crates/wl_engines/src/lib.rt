@@ -22,10 +22,12 @@ mod kept;
 mod laws;
 mod margin;
 mod merge;
+mod output;
 mod plan;
 mod records;
 mod run_page;
 mod traffic;
+mod view;
 mod views;
 mod workers;
 

@@ -1,23 +1,24 @@
 //! The margin of a bus.
-ghost use Rattle.std.specs.Prelude.{◌≡◌, IfOk, length, string_bytes};
+ghost use Rattle.std.specs.Prelude.{◌≡◌, IfOk, length};
 ghost use Rattle.wl_engines.specs.Margin.{IsMarginOutput, RunsBus};
 
 use crate::fault::RunFault;
+use crate::output::write_made;
 use std::alloc::{AllocError, Global};
-use wl_device::{Sink, Source, write_all};
+use wl_device::{Sink, Source};
 use wl_margin::{all_send_text, margin_text};
 use wl_setup::{Bus, read_bus};
 use wl_views::Tick;
 
 /// Returns the margin of a bus: of the plan's senders, or, if `all_send`, of all nodes that don't only listen.
-fn text_of_bus(alloc: Global, tick: Tick, all_send: bool, bus: &Bus) -> Result<String, AllocError>
+fn text_of_bus(alloc: Global, tick: Tick, all_send: bool, bus: &Bus) -> Result<Vec<u8>, AllocError>
     requires { length bus.now.deviations ≡ length bus.now.plan.nodes }
-    ensures { IfOk result (λ text. IsMarginOutput tick all_send bus.now (string_bytes text)) }
+    ensures { IfOk result (λ text. IsMarginOutput tick all_send bus.now text.items) }
 {
     if all_send {
-        all_send_text(alloc, tick.picoseconds(), bus)
+        Ok(all_send_text(alloc, tick.picoseconds(), bus)?.into_bytes())
     } else {
-        margin_text(alloc, tick.picoseconds(), bus)
+        Ok(margin_text(alloc, tick.picoseconds(), bus)?.into_bytes())
     }
 }
 
@@ -37,8 +38,8 @@ pub fn margin_run<R: Source, W: Sink>(
     ensures { RunsBus R.gives W.takes (IsMarginOutput tick all_send)
         reader.old reader.new writer.old writer.new result }
 {
-    let bus = read_bus(alloc, reader)?;
-    let text = text_of_bus(alloc, tick, all_send, &bus)?;
-    write_all(text.as_bytes(), writer)?;
-    Ok(())
+    match read_bus(alloc, reader) {
+        Ok(bus) => write_made(text_of_bus(alloc, tick, all_send, &bus), writer),
+        Err(fault) => Err(RunFault::from(fault)),
+    }
 }

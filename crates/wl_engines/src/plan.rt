@@ -5,15 +5,15 @@ ghost use Rattle.wl_report.specs.Report.{report_text};
 ghost use Rattle.wl_engines.specs.Plans.{RunsPlan, IsRunOutput};
 
 use crate::fault::RunFault;
+use crate::view::{View, run_view};
 use std::alloc::{AllocError, Global};
-use wl_device::{Sink, Source, write_all};
+use wl_device::{Sink, Source};
 use wl_plan::CheckedPlan;
 use wl_report::report;
 use wl_serial::run_totals;
-use wl_setup::read_checked;
 
 /// Returns the report of a plan's simulation.
-fn report_of(alloc: Global, plan: &CheckedPlan) -> Result<Vec<u8>, AllocError>
+pub(crate) fn report_of(alloc: Global, plan: &CheckedPlan) -> Result<Vec<u8>, AllocError>
     ensures { IfOk result (λ text. text.items ≡ report_text (totals_of (outcome_of plan.now))) }
 {
     let totals = run_totals(alloc, plan)?;
@@ -32,8 +32,5 @@ pub fn plan_run<R: Source, W: Sink>(
 ) -> Result<(), RunFault>
     ensures { RunsPlan R.gives W.takes IsRunOutput reader.old reader.new writer.old writer.new result }
 {
-    let (plan, _names) = read_checked(alloc, reader)?;
-    let text = report_of(alloc, &plan)?;
-    write_all(&text, writer)?;
-    Ok(())
+    run_view(alloc, View::Report, reader, writer)
 }

@@ -1,20 +1,21 @@
 //! The records of a plan's simulation.
-ghost use Rattle.std.specs.Prelude.{◌≡◌, IfOk};
-ghost use Rattle.wl_engines.specs.Plans.{RunsPlan, IsRecordsOutput, records_text};
+ghost use Rattle.std.specs.Prelude.{IfOk, List, ℕ};
+ghost use Rattle.wl_engines.specs.Plans.{RunsPlan, IsRecordsOutput};
 
 use crate::fault::RunFault;
+use crate::view::{View, run_view};
 use std::alloc::{AllocError, Global};
-use wl_device::{Sink, Source, write_all};
+use wl_device::{Sink, Source};
 use wl_plan::CheckedPlan;
 use wl_record::text_of;
 use wl_serial::{outcome_is_recordable, records_are_true, records_of, run_serial};
-use wl_setup::read_checked;
 
 /// Returns the records of a plan's simulation, as text.
-fn records_text(alloc: Global, plan: &CheckedPlan) -> Result<Vec<u8>, AllocError>
-    ensures { IfOk result (λ text. text.items ≡ records_text plan.now) }
+pub(crate) fn records_text(alloc: Global, plan: &CheckedPlan) -> Result<Vec<u8>, AllocError>
+    ensures { (names : List (List ℕ)) → IfOk result (λ text. IsRecordsOutput plan.now names text.items) }
 {
     outcome_is_recordable();
+    records_are_true();
     let outcome = run_serial(alloc, plan)?;
     let records = records_of(alloc, &outcome)?;
     text_of(alloc, &records)
@@ -32,9 +33,5 @@ pub fn records_run<R: Source, W: Sink>(
 ) -> Result<(), RunFault>
     ensures { RunsPlan R.gives W.takes IsRecordsOutput reader.old reader.new writer.old writer.new result }
 {
-    records_are_true();
-    let (plan, _names) = read_checked(alloc, reader)?;
-    let text = records_text(alloc, &plan)?;
-    write_all(&text, writer)?;
-    Ok(())
+    run_view(alloc, View::Records, reader, writer)
 }

@@ -1,13 +1,15 @@
 //! A run of a plan as one page.
 ghost use Rattle.std.specs.Prelude.{◌≡◌, IfOk, length};
-ghost use Rattle.wl_serial.specs.Outcome.{outcome_of};
+ghost use Rattle.wl_report.specs.Report.{report_text};
+ghost use Rattle.wl_serial.specs.Outcome.{outcome_of, totals_of};
 ghost use Rattle.wl_views.specs.Vcd.{vcd_text};
-ghost use Rattle.wl_engines.specs.Paged.{IsPage, Pages, PagesText};
+ghost use Rattle.wl_engines.specs.Paged.{IsPage, Pages, PagesText, ShowsBus, ShowsRun};
 
 use crate::fault::RunFault;
 use crate::kept::Kept;
+use crate::output::write_made;
 use std::alloc::{AllocError, Global};
-use wl_device::{Ended, Sink, Source, write_all};
+use wl_device::{Ended, Sink, Source};
 use wl_explain::explain_plan;
 use wl_margin::margin_text;
 use wl_page::{Texts, page};
@@ -36,32 +38,100 @@ fn wave_of(
     }
 }
 
+/// What the page shows of a bus without a run.
+#[derive(Drop)]
+struct BusTexts {
+    figures: String,
+    settings: String,
+    margin: String,
+}
+
+/// Returns what the page shows of a bus without a run.
+fn bus_texts(alloc: Global, tick: Tick, bus: &Bus) -> Result<BusTexts, AllocError>
+    requires deviations { length bus.now.deviations ≡ length bus.now.plan.nodes }
+    ensures { IfOk result (ShowsBus tick bus.now) }
+{
+    let figures = explain_plan(alloc, bus)?;
+    let settings = check_plan(alloc, &bus.plan, &bus.names)?;
+    let margin = margin_text(alloc, tick.picoseconds(), bus)?;
+    Ok(BusTexts {
+        figures,
+        settings,
+        margin,
+    })
+}
+
+/// What the page shows of a run.
+#[derive(Drop)]
+struct RunTexts {
+    traffic: String,
+    report: Vec<u8>,
+    trace: Vec<u8>,
+    wave: Vec<u8>,
+}
+
+/// Returns the report of a run.
+fn report_of_run(alloc: Global, outcome: &Outcome) -> Result<Vec<u8>, AllocError>
+    ensures { IfOk result (λ text. text.items ≡ report_text (totals_of outcome.now)) }
+{
+    let totals = outcome.totals(alloc)?;
+    report(alloc, &totals)
+}
+
+/// Returns what the page shows of a run of a plan, which has this outcome.
+fn run_texts_of(
+    alloc: Global,
+    tick: Tick,
+    plan: &CheckedPlan,
+    names: &Names,
+    outcome: &Outcome,
+) -> Result<RunTexts, AllocError>
+    requires outcome { outcome.now ≡ outcome_of plan.now }
+    ensures { IfOk result (ShowsRun tick plan.now names.now) }
+{
+    let traffic = traffic_of(alloc, tick, plan, names, outcome)?.text;
+    let report = report_of_run(alloc, outcome)?;
+    let trace = trace(alloc, plan, names, outcome)?;
+    let wave = wave_of(alloc, tick, plan, names, outcome)?;
+    Ok(RunTexts {
+        traffic,
+        report,
+        trace,
+        wave,
+    })
+}
+
+/// Returns what the page shows of a simulation of a plan, which is run once.
+fn run_texts(
+    alloc: Global,
+    tick: Tick,
+    plan: &CheckedPlan,
+    names: &Names,
+) -> Result<RunTexts, AllocError>
+    ensures { IfOk result (ShowsRun tick plan.now names.now) }
+{
+    let outcome = run_serial(alloc, plan)?;
+    run_texts_of(alloc, tick, plan, names, &outcome)
+}
+
 /// Returns the page of a bus, whose text is given: the simulation of its plan is run once.
 fn page_of_bus(alloc: Global, tick: Tick, text: &[u8], bus: &Bus) -> Result<Vec<u8>, AllocError>
     requires deviations { length bus.now.deviations ≡ length bus.now.plan.nodes }
     ensures { IfOk result (λ whole. IsPage tick text.now bus.now whole.items) }
 {
-    let figures = explain_plan(alloc, bus)?;
-    let (plan, names) = (&bus.plan, &bus.names);
-    let settings = check_plan(alloc, plan, names)?;
-    let margin = margin_text(alloc, tick.picoseconds(), bus)?;
-    let outcome = run_serial(alloc, plan)?;
-    let traffic = traffic_of(alloc, tick, plan, names, &outcome)?;
-    let totals = outcome.totals(alloc)?;
-    let report = report(alloc, &totals)?;
-    let trace = trace(alloc, plan, names, &outcome)?;
-    let wave = wave_of(alloc, tick, plan, names, &outcome)?;
+    let known = bus_texts(alloc, tick, bus)?;
+    let run = run_texts(alloc, tick, &bus.plan, &bus.names)?;
     page(
         alloc,
         &Texts {
-            figures: figures.as_bytes(),
-            settings: settings.as_bytes(),
-            margin: margin.as_bytes(),
-            traffic: traffic.text.as_bytes(),
-            report: &report,
+            figures: known.figures.as_bytes(),
+            settings: known.settings.as_bytes(),
+            margin: known.margin.as_bytes(),
+            traffic: run.traffic.as_bytes(),
+            report: &run.report,
             plan: text,
-            trace: &trace,
-            wave: &wave,
+            trace: &run.trace,
+            wave: &run.wave,
         },
     )
 }
@@ -75,10 +145,10 @@ fn page_text<W: Sink>(
 ) -> Result<(), RunFault>
     ensures { PagesText W.takes tick text.now writer.old writer.new result }
 {
-    let bus = bus_of_bytes(alloc, text)?;
-    let whole = page_of_bus(alloc, tick, text, &bus)?;
-    write_all(&whole, writer)?;
-    Ok(())
+    match bus_of_bytes(alloc, text) {
+        Ok(bus) => write_made(page_of_bus(alloc, tick, text, &bus), writer),
+        Err(fault) => Err(RunFault::from(fault)),
+    }
 }
 
 /// Reads a plan's text, simulates the plan, and writes one page of HTML. The page has the plan, its figures and settings, its margin,

@@ -2,18 +2,25 @@
 ghost use Rattle.std.specs.Prelude.{◌≡◌, IfOk};
 ghost use Rattle.wl_views.specs.Candump.{log_text};
 ghost use Rattle.wl_views.specs.TraceText.{trace_text};
+ghost use Rattle.wl_engines.specs.Output.{Outputs};
 ghost use Rattle.wl_engines.specs.Plans.{RunsPlan, IsCandumpOutput, IsTraceOutput, IsVcdOutput};
 
 use crate::fault::RunFault;
+use crate::view::{View, run_view};
 use std::alloc::{AllocError, Global};
-use wl_device::{Sink, Source, write_all};
+use wl_device::{Sink, Source};
 use wl_plan::CheckedPlan;
 use wl_serial::run_serial;
-use wl_setup::{Names, read_checked};
+use wl_setup::Names;
 use wl_views::{Tick, candump, sent_in_time, trace, vcd};
 
 /// Returns the log of the frames that a plan's simulation sent.
-fn log_text(alloc: Global, tick: Tick, from: u32, plan: &CheckedPlan) -> Result<Vec<u8>, AllocError>
+pub(crate) fn log_text(
+    alloc: Global,
+    tick: Tick,
+    from: u32,
+    plan: &CheckedPlan,
+) -> Result<Vec<u8>, AllocError>
     ensures { IfOk result (λ text. text.items ≡ log_text tick from plan.now) }
 {
     sent_in_time();
@@ -35,9 +42,21 @@ pub fn candump_run<R: Source, W: Sink>(
 ) -> Result<(), RunFault>
     ensures { RunsPlan R.gives W.takes (IsCandumpOutput tick from) reader.old reader.new writer.old writer.new result }
 {
-    let (plan, _names) = read_checked(alloc, reader)?;
-    let text = log_text(alloc, tick, from, &plan)?;
-    write_all(&text, writer)?;
+    run_view(alloc, View::Candump(tick, from), reader, writer)
+}
+
+/// Writes the waveform of a plan's simulation by pieces, as it is found. Memory is asked for before the first of them.
+pub(crate) fn write_wave<W: Sink>(
+    alloc: Global,
+    tick: Tick,
+    plan: &CheckedPlan,
+    names: &Names,
+    writer: &mut W,
+) -> Result<(), RunFault>
+    ensures { Outputs W.takes (IsVcdOutput tick plan.now names.now) writer.old writer.new result }
+{
+    let outcome = run_serial(alloc, plan)?;
+    vcd(alloc, tick, plan, names, &outcome, writer)?;
     Ok(())
 }
 
@@ -55,14 +74,15 @@ pub fn vcd_run<R: Source, W: Sink>(
 ) -> Result<(), RunFault>
     ensures { RunsPlan R.gives W.takes (IsVcdOutput tick) reader.old reader.new writer.old writer.new result }
 {
-    let (plan, names) = read_checked(alloc, reader)?;
-    let outcome = run_serial(alloc, &plan)?;
-    vcd(alloc, tick, &plan, &names, &outcome, writer)?;
-    Ok(())
+    run_view(alloc, View::Vcd(tick), reader, writer)
 }
 
 /// Returns the trace of a plan's simulation, under these names of its nodes.
-fn trace_text(alloc: Global, plan: &CheckedPlan, names: &Names) -> Result<Vec<u8>, AllocError>
+pub(crate) fn trace_text(
+    alloc: Global,
+    plan: &CheckedPlan,
+    names: &Names,
+) -> Result<Vec<u8>, AllocError>
     ensures { IfOk result (λ text. text.items ≡ trace_text plan.now names.now) }
 {
     let outcome = run_serial(alloc, plan)?;
@@ -80,8 +100,5 @@ pub fn trace_run<R: Source, W: Sink>(
 ) -> Result<(), RunFault>
     ensures { RunsPlan R.gives W.takes IsTraceOutput reader.old reader.new writer.old writer.new result }
 {
-    let (plan, names) = read_checked(alloc, reader)?;
-    let text = trace_text(alloc, &plan, &names)?;
-    write_all(&text, writer)?;
-    Ok(())
+    run_view(alloc, View::Trace, reader, writer)
 }

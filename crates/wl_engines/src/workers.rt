@@ -1,7 +1,8 @@
 //! The report of a plan's simulation, by workers.
-ghost use Rattle.std.specs.Prelude.{◌≡◌, IfOk, IfErr};
+ghost use Rattle.std.specs.Prelude.{◌≡◌, Err, IfOk, IfErr, MatchResult};
 ghost use Rattle.wl_serial.specs.Outcome.{outcome_of, totals_of};
 ghost use Rattle.wl_report.specs.Report.{report_text};
+ghost use Rattle.wl_engines.specs.Output.{WritesText};
 ghost use Rattle.wl_engines.specs.Workers.{CanWork, IsWorkFault, RunsByWorkers};
 
 use crate::fault::RunFault;
@@ -45,6 +46,20 @@ fn report_by<H: Threads + Wait + Sync>(
     Ok(report(alloc, &totals)?)
 }
 
+/// Writes a report if there is one.
+fn write_report<W: Sink>(made: Result<Vec<u8>, RunFault>, writer: &mut W) -> Result<(), RunFault>
+    ensures { MatchResult made (λ text. WritesText W.takes text.items writer.old writer.new result)
+        (λ fault. (result ≡ Err fault) × (writer.new ≡ writer.old)) }
+{
+    match made {
+        Ok(text) => {
+            write_all(&text, writer)?;
+            Ok(())
+        }
+        Err(fault) => Err(fault),
+    }
+}
+
 /// Reads a plan's text, simulates the plan by `workers` workers, and writes the report of the one-thread simulation (`plan_run`). There is
 /// a thread for each worker, and the workers hand records over by this kind of link.
 ///
@@ -61,10 +76,10 @@ pub fn workers_run_by<H: Threads + Wait + Sync, R: Source, W: Sink>(
 ) -> Result<(), RunFault>
     ensures { RunsByWorkers R.gives W.takes workers reader.old reader.new writer.old writer.new result }
 {
-    let (plan, _names) = read_checked(alloc, reader)?;
-    let text = report_by(rt, alloc, plan, workers, kind)?;
-    write_all(&text, writer)?;
-    Ok(())
+    match read_checked(alloc, reader) {
+        Ok((plan, _names)) => write_report(report_by(rt, alloc, plan, workers, kind), writer),
+        Err(fault) => Err(RunFault::from(fault)),
+    }
 }
 
 /// Does the same by workers over one hub.
