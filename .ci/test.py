@@ -40,6 +40,7 @@ PAGES = [
 TOO_LONG = {"settings", "docs/use/sweeps.md"}
 LEFT = """left out, since this build takes too long for it: the lists of examples/settings, explain and margin of examples/sixteen_nodes.toml, the rows of
 check/rows below `% long`, and of the commands that pages show `settings --best` and sweeps of many runs"""
+LINES = 60  # of what a part with failures wrote at most so many are shown
 SECONDS = 1800  # a part that hasn't ended by then has failed
 
 RUNNING = set()  # the groups of processes of the parts that run
@@ -79,7 +80,9 @@ def run(part, is_light):
     passed, failed = counted(said)
     if ran.returncode and not failed: failed, said = 1, f"{said}status {ran.returncode}\n"
     if not ran.returncode and not passed: failed, said = failed + 1, f"{said}nothing was compared\n"
-    return passed, failed, said if failed else "", used.ru_utime + used.ru_stime
+    lines = said.splitlines(keepends=True) if failed else []
+    if len(lines) > LINES: lines = [*lines[:LINES], f".. {len(lines) - LINES} lines more, by {' '.join(part.words)}\n"]
+    return passed, failed, "".join(lines), used.ru_utime + used.ru_stime
 
 
 def counted(said):

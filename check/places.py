@@ -1,6 +1,6 @@
 """The comparison `hints`: strangers' plan texts that are refused, and whether the place that `--hint` names is what it shows, and in the fault's table.
 
-The fault is plain.py's, its table that of refusals.py. Tables are counted by their headers, so texts whose nodes are in line are left out.
+The fault is plain.py's, and has to be the program's, too; its table is that of refusals.py. Tables are counted by their headers, so texts whose nodes are in line are left out.
 """
 import random
 import re
@@ -63,8 +63,15 @@ def hints(tally, program, seed, numbers, options):
             while found is None or len(found[0]) > 20_000 or re.search(rb'(?m)^\s*"?(node|disturbance)"?\s*=', found[0]): found = refused_text(rng)
             text, top, fault = found
             file.write_bytes(text)
-            wrong = wrong_of(asked(program, "check", "--hint", str(file))[1], text, top, fault)
+            said, name = asked(program, "check", "--hint", str(file))[1], f"text {number} of seed {seed}"
+            wrong = wrong_of(said, text, top, fault)
             tally.tried += 1
             tally.count("faults", fault.split("(")[0])
+            tally.compare(name, "fault", text, said.split("\n")[0], f"fault: {fault}")
             if wrong is None: tally.count("places", "none")
-            else: tally.compare(f"text {number} of seed {seed}", "place", text, wrong, "")
+            else: tally.compare(name, "place", text, wrong, "")
+
+
+def is_well(tally):
+    """Whether hints had places at all."""
+    return tally.tried < 10 or tally.counts.get("agreed", {}).get("place", 0) > 0

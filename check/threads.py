@@ -1,13 +1,14 @@
 """Random plans by workers and either link beside one thread: the comparisons `workers` and `work`. A run has to end within 300 seconds.
 
-`workers` are the program's, 2 to 8 of them: bytes, fault and status have to be the same. In `work` PROGRAM is test_rows, whose part `workers` runs the same in one
-process, and by 3 workers in threads of its own. It is asked about many plans at once, so it tries many more of them. Half of its plans are wide
-ones, of engines.py.
+`workers` are the program's, 2 to 8 of them: bytes, fault and status have to be the same, and those of one thread plain.py's. In `work` PROGRAM is
+test_rows, whose part `workers` runs the same in one process, and by 3 workers in threads of its own. It is asked about many plans at once, so it tries
+many more of them. Half of its plans are wide ones, of engines.py.
 """
 import random
 import sys
 
 sys.dont_write_bytecode = True
+import plain
 import random_plans
 from engines import wide_plan
 from tally import asked
@@ -24,6 +25,7 @@ def workers(tally, program, seed, numbers, options):
         wanted = asked(program, "run", text=text, limit=LIMIT)
         tally.tried += 1
         tally.count("plans", "refused" if wanted[2] else "run")
+        tally.compare(f"plan {number} of seed {seed}", "run", text, wanted, plain.answer("run", text))
         for many, link in RUNS:
             got = asked(program, "run", "--workers", many, "--link", link, text=text, limit=LIMIT)
             tally.compare(f"plan {number} of seed {seed} by {many} workers", f"run by {link}", text, got, wanted)
