@@ -1,5 +1,6 @@
 mod Alone
 mod Found
+mod Naming
 mod Rows
 mod Words
 mod Written

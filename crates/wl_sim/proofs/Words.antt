@@ -1,5 +1,5 @@
 -- What clap makes of the command line of the program.
-use Rattle.std.proofs.Common.{◌≡◌, ◌∙◌, refl, sym, subst, ap, ap₂, inl, arith, ℕ, ◌==◌, ◌+◌, ◌*◌, ◌^◌, ◌&&◌, nat_lt, Bool, true, false, [], ◌∷◌, List, length, map, string_bytes, slice_index, if◌then◌else◌, Option, Some, None, option_map, option_and_then, unwrap_or, codes}
+use Rattle.std.proofs.Common.{◌≡◌, ◌∙◌, refl, sym, subst, ap, inl, arith, ℕ, ◌==◌, ◌^◌, ◌&&◌, nat_lt, Bool, true, false, [], ◌∷◌, List, length, map, string_bytes, Option, Some, None, option_map, option_and_then, unwrap_or, codes}
 use Rattle.std.specs.Char.{digit_value}
 use Rattle.std.specs.List.{list_all}
 use Rattle.std.specs.Option.{option_map_or}
@@ -19,14 +19,9 @@ use Rattle.wl_device.specs.Devices.{Answer}
 use Rattle.wl_engines.specs.declared.fault.RunFault.TheVariants as run
 use Rattle.wl_sweep_engine.specs.declared.fault.SweepFault.TheVariants as sweep
 use Rattle.wl_settings.specs.declared.fault.SettingsFault.TheVariants as settings
-use Rattle.wl_settings.specs.declared.said.Shown.{Shown}
-use Rattle.wl_settings.specs.declared.said.Shown.TheVariants.{Best}
-use Rattle.wl_sim.specs.CommandLine.{program, task_word, tick_among, workers_among, read_link, link_among, entered, file_among, file_in, file_named, format_among, format_in, read_format, is_flagged, is_set, number_among, number_or_zero, plain_values, plainly_swept, ranges_among, ranges_in, values_among, word_in, Enters, NamedTask, HasValues, NamesTask}
-use Rattle.wl_worker.specs.declared.by_links.LinkKind.{LinkKind}
-use Rattle.wl_worker.specs.declared.by_links.LinkKind.TheVariants.{Hub}
-use Rattle.wl_views.specs.declared.tick.Tick.{Tick}
-use Rattle.wl_views.specs.declared.tick.TimeUnit.TheVariants.{Nanosecond}
+use Rattle.wl_sim.specs.CommandLine.{task_word, tick_among, workers_among, read_link, link_among, entered, file_among, file_in, file_named, format_among, format_in, read_format, is_flagged, is_set, number_among, number_or_zero, plain_values, ranges_among, ranges_in, values_among, word_in, Enters, HasValues, NamesTask}
 use Rattle.wl_views.specs.Ticks.{read_tick}
+use Rattle.wl_sim.proofs.Naming.{one_found}
 use Rattle.wl_sim.specs.Tasks.{Does, DoesSweep, IsCount, run_status}
 use Rattle.wl_sim.specs.Orders.{Asks, Ends, EndsPlainly, Performs, ReadsFrom, ReadsOrder, RunsWords}
 use Rattle.wl_files.specs.Files.{Standing}
@@ -40,7 +35,6 @@ use Rattle.wl_sim.specs.declared.command.Refusal.TheVariants.{Words, Memory}
 use Rattle.wl_sim.specs.declared.command.Task.{Task}
 use Rattle.wl_sim.specs.declared.command.Task.TheVariants.{Merge, Horizon, Check, Records, Run, Explain, Trace, Candump, Vcd, Page, Margin, Traffic, Settings, Sweep}
 use Rattle.wl_sim.specs.declared.sweep.Swept.{Swept}
-use Rattle.wl_sim.specs.declared.values.Values.{Values}
 
 -- the word of a task enters its subcommand, without a fault
 word_enters : (t : Task) (name : Text) → HasValues (Some plain_values) t → Enters t (name ∷ task_word t ∷ [])
@@ -172,69 +166,6 @@ format_text f = ap (λ o. option_map_or read_format o (Some None)) (sym (first_v
 -- whether a flag is set, by its text
 pub flag_text : (f : Found) (id : Text) → is_flagged id (rows_of f) ≡ option_map_or is_set (first_value f id) false
 flag_text f id = ap (λ o. option_map_or is_set o false) (sym (first_value-rows f id))
-
--- which task has a word, by its first two letters, but for `traffic` by its fourth, and the values of its options
-tick_in : Option Values → Tick
-tick_in given = unwrap_or (option_and_then (λ v. v.tick) given) (record { count = 1; unit = Nanosecond })
-
-workers_in : Option Values → ℕ
-workers_in given = unwrap_or (option_and_then (λ v. v.workers) given) 1
-
-link_in : Option Values → LinkKind
-link_in given = unwrap_or (option_and_then (λ v. v.link) given) Hub
-
-swept_in : Option Values → Swept
-swept_in given = unwrap_or (option_and_then (λ v. v.swept) given) plainly_swept
-
-strict_in : Option Values → Bool
-strict_in given = unwrap_or (option_map (λ v. v.strict) given) false
-
-all_in : Option Values → Bool
-all_in given = unwrap_or (option_map (λ v. v.all_send) given) false
-
-from_in : Option Values → ℕ
-from_in given = unwrap_or (option_and_then (λ v. v.from) given) 0
-
-shown_in : Option Values → Shown
-shown_in given = unwrap_or (option_map (λ v. v.shown) given) (Best None)
-
-task_by : Option Values → ℕ → Task
-task_by given n =
-    if n == 412 then Merge else (if n == 437 then Horizon else (if n == 411 then Check else (if n == 417 then Records else
-    (if n == 461 then Explain else (if n == 390 then Candump (tick_in given) (from_in given) else (if n == 415 then Vcd (tick_in given) else
-    (if n == 458 then Trace else (if n == 403 then Page (tick_in given) else (if n == 400 then Margin (tick_in given) (all_in given) else
-    (if n == 472 then Sweep (swept_in given) else (if n == 418 then Settings (tick_in given) (shown_in given) else
-    Run (workers_in given) (link_in given))))))))))))
-
-task_at : Option Values → Option Text → Task
-task_at given None = Merge
-task_at given (Some w) =
-    if slice_index w 3 == 102 then Traffic (tick_in given) (strict_in given) else task_by given (slice_index w 0 + 3 * slice_index w 1)
-
-task_at_word : (given : Option Values) (t : Task) → HasValues given t → task_at given (Some (task_word t)) ≡ t
-unfolding task_at task_by tick_in from_in strict_in all_in workers_in link_in swept_in shown_in
-task_at_word given Merge h = refl
-task_at_word given Horizon h = refl
-task_at_word given Check h = refl
-task_at_word given Records h = refl
-task_at_word given (Run workers kind) h = ap₂ (λ o p. Run (unwrap_or o 1) (unwrap_or p Hub)) h.0 h.1
-task_at_word given Explain h = refl
-task_at_word given Trace h = refl
-task_at_word given (Candump tick from) h =
-    ap₂ (λ o p. Candump (unwrap_or o (record { count = 1; unit = Nanosecond })) (unwrap_or p 0)) h.0 h.1
-task_at_word given (Vcd tick) h = ap (λ o. Vcd (unwrap_or o (record { count = 1; unit = Nanosecond }))) h
-task_at_word given (Page tick) h = ap (λ o. Page (unwrap_or o (record { count = 1; unit = Nanosecond }))) h
-task_at_word given (Margin tick all) h =
-    ap₂ (λ o p. Margin (unwrap_or o (record { count = 1; unit = Nanosecond })) (unwrap_or p false)) h.0 h.1
-task_at_word given (Traffic tick strict) h =
-    ap₂ (λ o p. Traffic (unwrap_or o (record { count = 1; unit = Nanosecond })) (unwrap_or p false)) h.0 h.1
-task_at_word given (Settings tick shown) h =
-    ap₂ (λ o p. Settings (unwrap_or o (record { count = 1; unit = Nanosecond })) (unwrap_or p (Best None))) h.0 h.1
-task_at_word given (Sweep swept) h = ap (λ o. Sweep (unwrap_or o plainly_swept)) h
-
--- what was found makes at most one task
-one_found : (t u : Task) (word : Option Text) (given : Option Values) → NamedTask word given t → NamedTask word given u → u ≡ t
-one_found t u word given h g = sym (task_at_word given u g.1) ∙ (ap (task_at given) (sym g.0 ∙ h.0) ∙ task_at_word given t h.1)
 
 -- words enter at most one task
 one_task : (t u : Task) (words : List Text) → Enters t words → Enters u words → u ≡ t

@@ -339,6 +339,55 @@ HasValues given Trace = Unit {0}
 abbrev pub NamedTask : Option Text → Option Values → Task → Type 0
 NamedTask word given t = (word ≡ Some (task_word t)) × HasValues given t
 
+-- the task that a word names by itself
+abbrev pub plain_task : Text → Option Task
+plain_task word =
+    if bytes_eq word (codes "merge") then Some Merge
+    else (if bytes_eq word (codes "horizon") then Some Horizon
+    else (if bytes_eq word (codes "check") then Some Check
+    else (if bytes_eq word (codes "records") then Some Records
+    else (if bytes_eq word (codes "explain") then Some Explain
+    else (if bytes_eq word (codes "trace") then Some Trace
+    else None)))))
+
+-- the tasks with values of options that may be missing
+abbrev pub run_task : Values → Option Task
+run_task values = option_and_then (λ workers. option_map (λ link. Run workers link) values.link) values.workers
+
+abbrev pub candump_task : Values → Option Task
+candump_task values = option_and_then (λ tick. option_map (λ from. Candump tick from) values.from) values.tick
+
+abbrev pub sweep_task : Values → Option Task
+sweep_task values = option_map (λ swept. Sweep swept) values.swept
+
+-- the task that a word names with a tick
+abbrev pub timed_task : Text → Values → Tick → Option Task
+timed_task word values tick =
+    if bytes_eq word (codes "vcd") then Some (Vcd tick)
+    else (if bytes_eq word (codes "page") then Some (Page tick)
+    else (if bytes_eq word (codes "margin") then Some (Margin tick values.all_send)
+    else (if bytes_eq word (codes "traffic") then Some (Traffic tick values.strict)
+    else (if bytes_eq word (codes "settings") then Some (Settings tick values.shown)
+    else None))))
+
+-- the task that a word names with values of options
+abbrev pub valued_task : Text → Values → Option Task
+valued_task word values =
+    if bytes_eq word (codes "run") then run_task values
+    else (if bytes_eq word (codes "candump") then candump_task values
+    else (if bytes_eq word (codes "sweep") then sweep_task values
+    else option_and_then (timed_task word values) values.tick))
+
+-- the first of two
+abbrev pub or_task : Option Task → Option Task → Option Task
+or_task (Some t) other = Some t
+or_task None other = other
+
+-- the task that a word and values name, if they name one
+abbrev pub task_named : Option Text → Option Values → Option Task
+task_named None given = None
+task_named (Some word) given = or_task (plain_task word) (option_and_then (valued_task word) given)
+
 -- a subcommand with its rows makes this task
 abbrev pub FoundTask : Option (Text × List Row) → Task → Type 0
 FoundTask found t = NamedTask (word_in found) (option_map (λ p. values_among p.1) found) t

@@ -191,6 +191,11 @@ abbrev pub after_sent : Result Done Fault → Result (Unit {0}) WriteFault → R
 after_sent answer (Ok u) = answer
 after_sent answer (Err f) = Err (fault.Run run.Write)
 
+-- the answer after a text was written in another format, or why not all of that went
+abbrev pub after_written : Result Done Fault → Result (Unit {0}) Fault → Result Done Fault
+after_written answer (Ok u) = answer
+after_written answer (Err f) = Err f
+
 -- What is written in the place of a text, after an engine has written that into memory and answered.
 module _ {T : Type 0} (takes : T → Answer → T → Type 0) (t t' : T) (format : Format) (what : Subject) where
   -- its bytes in another format, or nothing

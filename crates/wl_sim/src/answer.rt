@@ -13,7 +13,7 @@ use wl_setup::SetupFault;
 use wl_sweep_engine::{SweepFault, Tally};
 
 /// What came of a task whose output was written whole.
-#[derive(Clone, Copy, Debug, PartialEq, Eq)]
+#[derive(Clone, Copy)]
 pub enum Done {
     /// The output says all.
     Plain,

@@ -1,7 +1,8 @@
 //! The command line.
 ghost use Rattle.std.specs.Prelude.{◌≡◌, ◌≢◌, ◌↔◌, map, string_bytes, codes, IfOk, IfErr, Some, option_map};
 ghost use Rattle.clap.specs.Words.{kind_of, subcommand_rows_of};
-ghost use Rattle.wl_sim.specs.CommandLine.{Enters, FoundTask, NamedTask, file_in, has_flag, ranges_in};
+ghost use Rattle.wl_sim.specs.CommandLine.{Enters, FoundTask, file_in, has_flag, ranges_in};
+ghost use Rattle.wl_sim.specs.CommandLine.{candump_task, plain_task, run_task, sweep_task, task_named, timed_task, valued_task};
 ghost use Rattle.wl_sim.specs.Orders.{FindsOrder, ReadsOrder};
 
 use crate::subcommands::matches_of;
@@ -22,7 +23,7 @@ use wl_setup::Text;
 use wl_views::Tick;
 
 /// What the program is asked to do.
-#[derive(Clone, Copy, Debug, PartialEq, Eq)]
+#[derive(Clone, Copy)]
 pub enum Task {
     /// Returns the canonical text of a record text.
     Merge,
@@ -58,7 +59,7 @@ pub enum Task {
 }
 
 /// What the words of the command line ask for.
-#[derive(Debug, Drop)]
+#[derive(Drop)]
 pub struct Order {
     /// What is to be done.
     pub task: Task,
@@ -77,7 +78,7 @@ pub struct Order {
 }
 
 /// Why no task could be read from the command line.
-#[derive(Clone, Copy, Debug, PartialEq, Eq)]
+#[derive(Clone, Copy, PartialEq, Eq)]
 pub enum Refusal {
     /// The words were refused, or help was asked for; the text is on standard error.
     Words,
@@ -85,41 +86,76 @@ pub enum Refusal {
     Memory,
 }
 
-/// Returns the task of a subcommand, by its name and the values of its options.
-fn task_named(name: Option<&str>, values: Option<Values>) -> Option<Task>
-    ensures { (task : Task) → (result ≡ Some task) ↔ NamedTask (option_map (λ s. s.now) name.entry) values task }
+/// Returns the task that a word names by itself.
+fn plain_task(word: &str) -> Option<Task>
+    ensures { result ≡ plain_task word.now }
 {
-    match name? {
+    match word {
         "merge" => Some(Task::Merge),
         "horizon" => Some(Task::Horizon),
         "check" => Some(Task::Check),
         "records" => Some(Task::Records),
-        "run" => {
-            let values = values?;
-            Some(Task::Run(values.workers?, values.link?))
-        }
         "explain" => Some(Task::Explain),
         "trace" => Some(Task::Trace),
-        "candump" => {
-            let values = values?;
-            Some(Task::Candump(values.tick?, values.from?))
-        }
-        "vcd" => Some(Task::Vcd(values?.tick?)),
-        "page" => Some(Task::Page(values?.tick?)),
-        "margin" => {
-            let values = values?;
-            Some(Task::Margin(values.tick?, values.all_send))
-        }
-        "traffic" => {
-            let values = values?;
-            Some(Task::Traffic(values.tick?, values.strict))
-        }
-        "settings" => {
-            let values = values?;
-            Some(Task::Settings(values.tick?, values.shown))
-        }
-        "sweep" => Some(Task::Sweep(values?.swept?)),
         _ => None,
+    }
+}
+
+/// Returns the task of `run`, if the values have what it wants.
+fn run_task(values: &Values) -> Option<Task>
+    ensures { result ≡ run_task values.now }
+{
+    Some(Task::Run(values.workers?, values.link?))
+}
+
+/// Returns the task of `candump`, if the values have what it wants.
+fn candump_task(values: &Values) -> Option<Task>
+    ensures { result ≡ candump_task values.now }
+{
+    Some(Task::Candump(values.tick?, values.from?))
+}
+
+/// Returns the task of `sweep`, if the values have what it wants.
+fn sweep_task(values: &Values) -> Option<Task>
+    ensures { result ≡ sweep_task values.now }
+{
+    Some(Task::Sweep(values.swept?))
+}
+
+/// Returns the task that a word names at ticks that take so long.
+fn timed_task(word: &str, tick: Tick, values: &Values) -> Option<Task>
+    ensures { result ≡ timed_task word.now values.now tick }
+{
+    match word {
+        "vcd" => Some(Task::Vcd(tick)),
+        "page" => Some(Task::Page(tick)),
+        "margin" => Some(Task::Margin(tick, values.all_send)),
+        "traffic" => Some(Task::Traffic(tick, values.strict)),
+        "settings" => Some(Task::Settings(tick, values.shown)),
+        _ => None,
+    }
+}
+
+/// Returns the task that a word names with values of options.
+fn valued_task(word: &str, values: &Values) -> Option<Task>
+    ensures { result ≡ valued_task word.now values.now }
+{
+    match word {
+        "run" => run_task(values),
+        "candump" => candump_task(values),
+        "sweep" => sweep_task(values),
+        _ => timed_task(word, values.tick?, values),
+    }
+}
+
+/// Returns the task of a subcommand, by its name and the values of its options.
+fn task_named(name: Option<&str>, values: Option<Values>) -> Option<Task>
+    ensures { result ≡ task_named (option_map (λ s. s.now) name.entry) values }
+{
+    let name = name?;
+    match plain_task(name) {
+        Some(task) => Some(task),
+        None => valued_task(name, &values?),
     }
 }
 

@@ -1,6 +1,8 @@
 //! The output of a task in another format.
-ghost use Rattle.std.specs.Prelude.{◌≡◌};
-ghost use Rattle.wl_sim.specs.Tasks.{WritesAs, WritesFormatted, WritesRefused, is_write, subject_of};
+ghost use Rattle.std.specs.Prelude.{◌≡◌, Result};
+ghost use Rattle.wl_sim.specs.declared.answer.Done.{Done};
+ghost use Rattle.wl_sim.specs.declared.answer.Fault.{Fault};
+ghost use Rattle.wl_sim.specs.Tasks.{WritesAs, WritesFormatted, WritesRefused, after_written, is_write, subject_of};
 
 use crate::answer::{Done, Fault};
 use crate::command::Task;
@@ -37,6 +39,27 @@ pub(crate) fn subject_of(task: Task) -> Option<Subject>
     }
 }
 
+/// Writes a text in another format. On a fault not all of it went.
+fn write_other<W: Sink>(
+    alloc: Global,
+    format: Format,
+    subject: Subject,
+    text: &[u8],
+    writer: &mut W,
+) -> Result<(), Fault>
+    ensures { (answer : Result Done Fault)
+        → WritesFormatted W.takes writer.old writer.new format subject text.now answer (after_written answer result) }
+{
+    match formatted(alloc, format, subject, text) {
+        Ok(bytes) => match write_all(&bytes, writer) {
+            Ok(()) => Ok(()),
+            Err(_) => Err(Fault::Run(RunFault::Write)),
+        },
+        Err(FormatFault::Shape) => Err(Fault::Format),
+        Err(FormatFault::Memory) => Err(Fault::Run(RunFault::Memory)),
+    }
+}
+
 /// Writes a text in another format, and returns an answer if all of it went.
 fn write_formatted<W: Sink>(
     alloc: Global,
@@ -48,13 +71,9 @@ fn write_formatted<W: Sink>(
 ) -> Result<Done, Fault>
     ensures { WritesFormatted W.takes writer.old writer.new format subject text.now answer result }
 {
-    match formatted(alloc, format, subject, text) {
-        Ok(bytes) => match write_all(&bytes, writer) {
-            Ok(()) => answer,
-            Err(_) => Err(Fault::Run(RunFault::Write)),
-        },
-        Err(FormatFault::Shape) => Err(Fault::Format),
-        Err(FormatFault::Memory) => Err(Fault::Run(RunFault::Memory)),
+    match write_other(alloc, format, subject, text, writer) {
+        Ok(()) => answer,
+        Err(fault) => Err(fault),
     }
 }
 

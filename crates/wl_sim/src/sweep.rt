@@ -22,7 +22,7 @@ const WORST: &str = "Adds to each sender a frame whose edges are ten bits apart"
 const PAGE: &str = "Writes one page of HTML: a map of the rows of the first two ranges";
 
 /// What is asked of a sweep beside its plan and its ranges.
-#[derive(Clone, Copy, Debug, PartialEq, Eq)]
+#[derive(Clone, Copy)]
 pub struct Swept {
     /// What is varied, and how many members are run.
     pub asked: Asked,
