@@ -242,8 +242,9 @@ def judged(run, status, said):
 
 def by_name(said, edit, refusal):
     """Returns BY_NAME if no goal refuses an edited function, but names in its proof that are gone; else nothing."""
-    own = [it for it in re.findall(r"(?m)^(?:note: )?(?:\./)?proofs/(\S+):\d+:\d+:(.*)", said) if it[0].startswith(edit.function.replace("::", "/") + "/")]
-    errors = [text for _, text in own if "error" in text] or [text for _, text in own]
+    told = re.findall(r"(?m)^(?:note: )?(?:\./)?proofs/(\S+?):\d+:\d+:(.*(?:\n  .*)*)", said)
+    own = [text for place, text in told if place.startswith(edit.function.replace("::", "/") + "/")]
+    errors = [it for it in own if "error" in it] or own
     return BY_NAME if errors and all(NAMES.search(it) for it in errors) and "did not prove" not in refusal[1] else ""
 
 
