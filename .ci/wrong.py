@@ -177,12 +177,17 @@ def newest(folder, parts):
     return max((os.stat(f"{at}/{name}").st_mtime for part in parts for at, _, names in os.walk(f"{folder}/{part}") for name in names), default=0)
 
 
+def made(folder):
+    """Returns when a library was put there: a toolchain that keeps libraries gives them as links, whose files are older."""
+    return max((os.stat(at).st_mtime for at, _, _ in os.walk(folder)), default=0)
+
+
 def build(rt, crates, wanted):
     """Builds the libraries below the wanted crates, but for those that `rt ci` has just left: built without a stamp, and newer than all sources below."""
     below = {it.name: it for name in wanted for it in crates[name].below()}
     left = {name: f"{it.folder}/out/rlib" for name, it in below.items()}
     sources = max((newest(it.folder, rt.rtlib.PARTS) for it in below.values()), default=0)
-    is_ci = all(os.path.isdir(it) and not os.path.isfile(f"{it}/stamp") and newest(it, [""]) > sources for it in left.values())
+    is_ci = all(os.path.isdir(it) and not os.path.isfile(f"{it}/stamp") and made(it) > sources for it in left.values())
     for it in [] if is_ci else below.values():
         if not it.is_built():
             print(f"building {it.name} first", flush=True)
