@@ -6,9 +6,10 @@ usage: wrong.py [--night] [--kept] [CRATE..]   tries the edits of .ci/wrong-bodi
        wrong.py check                 tells whether each edit still fits its source, and whether the table of docs/change/wrong-bodies.md is that of the edits
        wrong.py page                  writes that table
 
-An edit is a file FOLDER/CRATE/NAME.edit, in the form of the toolchain's edits (`file: PATH`, `old: TEXT`, `new: TEXT`), with two lines more:
+An edit is a file FOLDER/CRATE/NAME.edit, in the form of the toolchain's edits (`file: PATH`, `old: TEXT`, `new: TEXT`), with three lines more:
   function: PATH     the function that it changes, as a check prints it without the crate's name; without this line it is that of the first old text
   mistake: WORDS     in .ci/wrong-bodies: the mistake that was named before the code was written, if the edit makes one of these
+  alone: WHY         the edit has a check of its own, since other edits of its crate stand in its way, or it in theirs
 Mistakes that no contract excludes are in .ci/wrong-bodies/by-rows.txt, with the rows or the signature that do.
 
 The libraries below a crate are taken as `rt ci` has just left them; those that are older than their sources are built first. A copy of the crate gets as
@@ -45,12 +46,12 @@ ACCEPTED = "the prover proves all that it reads"
 NAMES = re.compile(r"(has no field|is not in scope|has no `|was not admitted)")
 BY_NAME = "only by a name in its proof (change a value, and keep the names): "
 
-Edit = namedtuple("Edit", "crate name file function mistakes pairs")
+Edit = namedtuple("Edit", "crate name file function mistakes pairs is_alone")
 
 
 def read(edit):
     """Returns the edit of a file: what it changes, and its pairs of a path, an old text and a new one."""
-    path, old, function, mistakes, pairs = "", None, "", [], []
+    path, old, function, mistakes, pairs, is_alone = "", None, "", [], [], False
     with open(edit, encoding="utf-8") as lines:
         for line in lines.read().splitlines():
             word, _, text = line.partition(":")
@@ -58,11 +59,12 @@ def read(edit):
             if word == "file": path = text.strip()
             elif word == "function": function = text.strip()
             elif word == "mistake": mistakes.append(text.strip())
+            elif word == "alone": is_alone = True
             elif word == "old": old = text
             elif word == "new": pairs.append((path, old, text))
     crate = os.path.basename(os.path.dirname(edit))
     function = function or (function_of(f"{TOP}/crates/{crate}/src", *pairs[0][:2]) if pairs else "")
-    return Edit(crate, f"{crate}/{os.path.basename(edit)[: -len('.edit')]}", edit, function, mistakes, pairs)
+    return Edit(crate, f"{crate}/{os.path.basename(edit)[: -len('.edit')]}", edit, function, mistakes, pairs, is_alone)
 
 
 # ---- The function of an edit that doesn't name it
@@ -145,7 +147,8 @@ def runs_of(edits):
     for edit in edits:
         for run in runs:
             texts, why = applied(edit, run["texts"])
-            if run["edits"][0].crate == edit.crate and not why and edit.function not in [it.function for it in run["edits"]]:
+            is_apart = edit.is_alone or run["edits"][0].is_alone
+            if run["edits"][0].crate == edit.crate and not (why or is_apart) and edit.function not in [it.function for it in run["edits"]]:
                 run["edits"].append(edit)
                 run["texts"] = texts
                 break
