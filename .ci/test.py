@@ -10,7 +10,7 @@ usage: test.py PROGRAM
 - refused texts with their faults and hints, settings, JSON and CSV, odd command lines (parts of .ci/program.sh)
 
 A build without proof has run-time checks, and takes up to 600 times as long as the proved program. So it gets fewer inputs, and the first lines say what it
-doesn't get at all. As many parts run at once as there are processors; on two of them it ends within five minutes. There is a line for each part that has
+doesn't get at all. As many parts run at once as there are processors; without a proof all of it took seven minutes of processor time. There is a line for each part that has
 ended, with what differs, and a last line 'N passed, M failed'. The status is 1 if something failed. Python 3.11 or later.
 """
 import os
