@@ -86,13 +86,23 @@ is "a command is completed" [ "$(cat "$room/out")" = vcd ]
 ln -s "$program" "$room/wl_sim"
 "$room/wl_sim" --help 2> "$room/help" > /dev/null < /dev/null
 is "tools/help.txt is the program's help" cmp -s "$room/help" tools/help.txt
-for word in --help help frobnicate Run --version 'candump --tick' 'run --workers 9'; do
+for word in frobnicate Run 'candump --tick' 'run --workers 9' 'help frobnicate' 'run --frobnicate --help' ''; do
   # shellcheck disable=SC2086
   "$program" $word 2> "$room/wanted" < /dev/null
   # shellcheck disable=SC2086
   ends 2 $word
   is "the words '$word' are answered by the program" cmp -s "$room/err" "$room/wanted"
 done
+# Help that is asked for is an answer
+for word in --help -h help 'help run' 'run --help' 'sweep -h' --version -V; do
+  # shellcheck disable=SC2086
+  "$program" $word 2> "$room/wanted" < /dev/null
+  # shellcheck disable=SC2086
+  ends 0 $word
+  is "the words '$word' are answered on standard output" cmp -s "$room/out" "$room/wanted"
+  is "and by nothing else" [ ! -s "$room/err" ]
+done
+ends 3 check -- --help && says "a file of that name" "file: --help"
 python3 - > "$room/out" << 'PYTHON'
 import os, subprocess
 ours, theirs = os.openpty()
@@ -134,13 +144,15 @@ if ! env PATH=/usr/bin:/bin bash -c 'command -v rt' > /dev/null; then
   ends 1 run "$plan" && says "no toolchain" "no command 'rt' on the PATH"
   ends 1 build && is "no toolchain, said once" [ "$(grep -c "no command 'rt'" "$room/err")" = 1 ]
 fi
-ends 2 help && is "help without a build" cmp -s "$room/err" tools/help.txt
+ends 0 help && is "help without a build" cmp -s "$room/out" tools/help.txt
+ends 2 && is "no word and no build" cmp -s "$room/err" tools/help.txt
 cp crates/wl_sim/src/subcommands.rt "$tree/crates/wl_sim/src"
 "$program" --version 2> "$room/wanted" < /dev/null
-ends 2 --version && is "the version without a build" cmp -s "$room/err" "$room/wanted"
+ends 0 --version && is "the version without a build" cmp -s "$room/out" "$room/wanted"
 cat > "$stub/rt" << 'STUB'
 #!/bin/sh
 [ -z "${FAILS-}" ] || { echo "error: $FAILS" >&2; exit 1; }
+[ "$1" != version ] || { echo "${KIT-a stub}"; exit 0; }
 echo "$1" >> "$CALLS"
 if [ "$1" = run ]; then
   mkdir -p out
@@ -176,7 +188,10 @@ is "the unproved build is kept" [ "$(cat "$room/calls")" = try ]
 ends 0 build && says "how far it is" "wl_x is proved"
 ends 0 build && says "a second build" "up to date"
 is "the proved build is kept" [ "$(tr '\n' ' ' < "$room/calls")" = "try run " ]
-touch -d '1 second' "$tree/crates/wl_sim/src/main.rt" && sleep 1.2
+touch "$tree/crates/wl_sim/src/main.rt"
+ends 0 run "$plan"
+is "the time of a source doesn't count" [ "$(tr '\n' ' ' < "$room/calls")" = "try run " ]
+printf '// more\n' >> "$tree/crates/wl_sim/src/main.rt" && touch -d '2001-01-01' "$tree/crates/wl_sim/src/main.rt"
 ends 0 run "$plan"
 is "a source that changed is built" [ "$(tr '\n' ' ' < "$room/calls")" = "try run try " ]
 # A program that is gone before a link to it is made: that of the next case is taken
@@ -184,6 +199,11 @@ rm -rf "$tree/out" "$tree/crates/wl_sim/out" "$room/calls"
 GONE=$room/gone ends 0 run "$plan" && is "a program was gone" [ -e "$room/gone" ]
 is "the report of the next case's program" cmp -s "$room/out" "$report"
 is "nothing is said of the one that was gone" [ "$(grep -vc '^wireline: compiling' "$room/err")" = 0 ]
+# A kit that is known, but no optimised program by it: another build is made
+rm -rf "$tree/out" "$tree/crates/wl_sim/out" "$room/calls"
+KIT=$(sed -n 's/^KITS = {"\(.*\)"}$/\1/p' tools/quick_build.py) ends 0 run "$plan" && says "an optimised build" "compiling an optimised program without a proof"
+says "another build" "can't be had, or differs"
+is "the report of another build" cmp -s "$room/out" "$report"
 # First calls that meet: one builds, the others wait for it
 rm -rf "$tree/out" "$tree/crates/wl_sim/out" "$room/calls"
 for n in 1 2 3 4 5; do "${script[@]}" run "$plan" > "$room/out$n" 2> "$room/err$n" & done
@@ -204,7 +224,7 @@ is "nothing of a killed build is in TMPDIR" [ -z "$(ls -A "$room/temporary")" ]
 ends 0 run "$plan"
 is "the report after a kill" cmp -s "$room/out" "$report"
 is "a build after a kill" [ "$(tr '\n' ' ' < "$room/calls")" = "try try " ]
-is "nothing else is left of a kill" [ "$(ls -A "$tree/out/wireline" | sort | tr '\n' ' ')" = "begun lock wl_sim " ]
+is "nothing else is left of a kill" [ "$(ls -A "$tree/out/wireline" | sort | tr '\n' ' ')" = "lock quick.sum wl_sim " ]
 # A TMPDIR that isn't there
 rm -rf "$tree/out" "$room/calls"
 TMPDIR=$room/none ends 0 run "$plan"
