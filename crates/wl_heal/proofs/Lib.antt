@@ -1,0 +1,6 @@
+mod Samples
+mod Cases
+mod Possible
+mod Inside
+mod Wires
+mod Silent

@@ -1,0 +1,17 @@
+//! Laws of a disturbed bus, each proved as the contract of a function that does nothing.
+
+ghost use Rattle.std.specs.Prelude.{◌≡◌, ◌<◌, ◌≤◌, ℕ, true, false, List, length};
+ghost use Rattle.wl_machine.specs.Stretch.{Sampled, Input};
+ghost use Rattle.wl_machine.specs.Judged.{stretch_of};
+ghost use Rattle.wl_wire.specs.Wire.{Event, Wire, is_between, stretch_at, wire_after};
+ghost use Rattle.wl_heal.specs.Silence.{stretch_on, is_off, silent_bits, IsSilence, bits_in, IsSilent};
+
+/// Law: 23 recessive samples bring each machine between frames, whatever reached it before and whatever it is handed meanwhile, in whatever
+/// modes. It has to drive recessive at each of them, and not to be off the bus before them. So if a bus stays recessive for 23 bits, all
+/// its machines are between frames.
+pub fn a_silence_brings_all_between()
+    ensures machine { (past : List Input) (xs : List Sampled) → is_off (stretch_of past) ≡ false → silent_bits ≤ length xs
+        → IsSilence (stretch_of past) xs → is_between (stretch_on (stretch_of past) xs) ≡ true }
+    ensures wire { (w : Wire) (events : List Event) → silent_bits ≤ bits_in events → IsSilent w events
+        → (k : ℕ) → k < w.count → is_off (stretch_at w k) ≡ false → is_between (stretch_at (wire_after w events) k) ≡ true }
+{}
