@@ -4,3 +4,6 @@ mod Possible
 mod Inside
 mod Wires
 mod Silent
+mod Phases
+mod Costs
+mod CostsRec

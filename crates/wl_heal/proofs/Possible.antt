@@ -35,7 +35,7 @@ HasTail own = (end : ℕ) → stuffed_end own ≡ Some end → (end ≤ length o
 abbrev pub IsPossibleBy : Sort → List Level → Type 0
 IsPossibleBy Integration own = run_at_end Recessive own < 11
 IsPossibleBy (Framing head) own = HasTail own
-IsPossibleBy (Flagging (PassiveFlag unacknowledged) role) own = (run_at_end Recessive own < 6) × (run_at_end Dominant own < 6)
+IsPossibleBy (Flagging (PassiveFlag unacknowledged) role) own = (run_at_end Recessive own < 6) × (run_at_end Dominant own < 6) × (unacknowledged ≡ true → role ≡ Tx)
 IsPossibleBy (Flagging flag role) own = length own < 6
 IsPossibleBy (Waiting (PassiveFlag unacknowledged) role flagged) own = Unit {0}
 IsPossibleBy (Waiting flag role flagged) own = length flagged ≤ 6
@@ -69,8 +69,8 @@ behind_intermission Rx mode head = freed head
 
 flagged : (mode : Mode) (role : Role) → IsPossible (stretch_by (Flagging (error_flag mode) role) [])
 flagged Active role = omega arith
-flagged Passive role = (omega arith, omega arith)
-flagged Off role = (omega arith, omega arith)
+flagged Passive role = (omega arith, omega arith, λ e. cc)
+flagged Off role = (omega arith, omega arith, λ e. cc)
 
 -- a dominant sample of a wait
 abbrev pub waiting_on : Flag → Role → List Level → List Level → Sampled → Judgement
@@ -139,9 +139,9 @@ module _ (x : Sampled) where
       cond_both (run_at_end x.level (own ++ x.level ∷ []) == 6) _ _ (Goes (Flagging (PassiveFlag unacknowledged) role) own) (λ e. tt)
       (λ e. by x.level (eqb-false (run_at_end x.level (own ++ x.level ∷ [])) 6 e))
     where
-      by : (l : Level) → (run_at_end l (own ++ l ∷ []) ≡ 6 → ⊥) → (run_at_end Recessive (own ++ l ∷ []) < 6) × (run_at_end Dominant (own ++ l ∷ []) < 6)
-      by Dominant n = let z = (run_other own).0 in let up = run_up Dominant Dominant own in let d = h.1 in (omega arith, omega arith)
-      by Recessive n = let z = (run_other own).1 in let up = run_up Recessive Recessive own in let d = h.0 in (omega arith, omega arith)
+      by : (l : Level) → (run_at_end l (own ++ l ∷ []) ≡ 6 → ⊥) → IsPossibleBy (Flagging (PassiveFlag unacknowledged) role) (own ++ l ∷ [])
+      by Dominant n = let z = (run_other own).0 in let up = run_up Dominant Dominant own in let d = h.1 in (omega arith, omega arith, h.2)
+      by Recessive n = let z = (run_other own).1 in let up = run_up Recessive Recessive own in let d = h.0 in (omega arith, omega arith, h.2)
 
   -- frames
 
@@ -176,9 +176,9 @@ module _ (x : Sampled) where
         (λ no nine r. let few = (h end e).1 in tail_on end e (omega arith))
       where
         unanswered_goes : (mode : Mode) → P (unanswered mode)
-        unanswered_goes Passive = (omega arith, omega arith)
+        unanswered_goes Passive = (omega arith, omega arith, λ e. refl)
         unanswered_goes Active = omega arith
-        unanswered_goes Off = (omega arith, omega arith)
+        unanswered_goes Off = (omega arith, omega arith, λ e. cc)
 
     receives : (o : Option ℕ) → stuffed_end own ≡ o → P (framing_received own o x)
     receives None e = receiving_cases P x own (λ due s. flagged x.mode Rx) (λ f. grown own None e (λ end g. cc) h)

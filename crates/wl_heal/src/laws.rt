@@ -1,9 +1,12 @@
 //! Laws of a disturbed bus, each proved as the contract of a function that does nothing.
 
-ghost use Rattle.std.specs.Prelude.{◌≡◌, ◌<◌, ◌≤◌, ℕ, true, false, List, length};
+ghost use Rattle.std.specs.Prelude.{◌≡◌, ◌≢◌, ◌<◌, ◌≤◌, ◌+◌, ◌/◌, ℕ, true, false, List, length};
+ghost use Rattle.wl_confine.specs.declared.Mode.TheVariants.{Off};
+ghost use Rattle.wl_confine.specs.Counts.{Counts, mode_of};
 ghost use Rattle.wl_machine.specs.Stretch.{Sampled, Input};
 ghost use Rattle.wl_machine.specs.Judged.{stretch_of};
 ghost use Rattle.wl_wire.specs.Wire.{Event, Wire, is_between, stretch_at, wire_after};
+ghost use Rattle.wl_heal.specs.Costs.{FindsItsDominant, counts_on};
 ghost use Rattle.wl_heal.specs.Silence.{stretch_on, is_off, silent_bits, IsSilence, bits_in, IsSilent};
 
 /// Law: 23 recessive samples bring each machine between frames, whatever reached it before and whatever it is handed meanwhile, in whatever
@@ -14,4 +17,15 @@ pub fn a_silence_brings_all_between()
         → IsSilence (stretch_of past) xs → is_between (stretch_on (stretch_of past) xs) ≡ true }
     ensures wire { (w : Wire) (events : List Event) → silent_bits ≤ bits_in events → IsSilent w events
         → (k : ℕ) → k < w.count → is_off (stretch_at w k) ≡ false → is_between (stretch_at (wire_after w events) k) ≡ true }
+{}
+
+/// Law: what a machine counts in n samples, whatever they are and in whatever modes, if it finds each dominant bit that it drives. Its TEC
+/// rises by n + 13 at most, and its REC by n + (n + 120) / 16. So it isn't bus off within 242 samples after a TEC of 0.
+pub fn what_a_disturbance_counts()
+    ensures tec { (past : List Input) (xs : List Sampled) (c : Counts) → FindsItsDominant (stretch_of past) xs
+        → (counts_on c (stretch_of past) xs).tec ≤ c.tec + (length xs + 13) }
+    ensures rec { (past : List Input) (xs : List Sampled) (c : Counts) → FindsItsDominant (stretch_of past) xs
+        → (counts_on c (stretch_of past) xs).rec ≤ c.rec + (length xs + (length xs + 120) / 16) }
+    ensures on { (past : List Input) (xs : List Sampled) (c : Counts) → FindsItsDominant (stretch_of past) xs
+        → c.tec + length xs < 243 → mode_of (counts_on c (stretch_of past) xs) ≢ Off }
 {}
