@@ -4,6 +4,9 @@ mod Possible
 mod Inside
 mod Wires
 mod Silent
+mod Healed
 mod Phases
 mod Costs
 mod CostsRec
+mod Apart
+mod Present

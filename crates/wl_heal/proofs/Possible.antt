@@ -41,6 +41,7 @@ IsPossibleBy (Waiting (PassiveFlag unacknowledged) role flagged) own = Unit {0}
 IsPossibleBy (Waiting flag role flagged) own = length flagged ≤ 6
 IsPossibleBy (Delimiting role) own = length own < 8
 IsPossibleBy (Intermission role) own = length own < 3
+IsPossibleBy OffBus own = recessive_runs own ≡ 128 → ⊥
 IsPossibleBy sort own = Unit {0}
 
 abbrev pub IsPossible : Stretch → Type 0
@@ -107,7 +108,7 @@ module _ (x : Sampled) where
       either (Goes Suspension own) (is_dominant x.level) _ _ (one_ended x.level) (either (Goes Suspension own) (length own == 7) _ _ (freed x.head) tt)
 
   offs : (own : List Level) → Goes OffBus own (judged_by OffBus own x)
-  offs own = either (Goes OffBus own) (recessive_runs (own ++ x.level ∷ []) == 128) (begins happens.Recovered (free x.head) []) (continues happens.Nothing) (freed x.head) tt
+  offs own = cond_both (recessive_runs (own ++ x.level ∷ []) == 128) (begins happens.Recovered (free x.head) []) (continues happens.Nothing) (Goes OffBus own) (λ e. freed x.head) (λ e. eqb-false (recessive_runs (own ++ x.level ∷ [])) 128 e)
 
   delimits : (role : Role) (own : List Level) → length own < 8 → Goes (Delimiting role) own (judged_by (Delimiting role) own x)
   delimits role own h =
@@ -206,7 +207,7 @@ module _ (x : Sampled) where
 
 pub possible_next : (s : Stretch) (input : Input) → IsPossible s → IsPossible (stretch_after s input)
 possible_next s (Sample x) h = by_sort x s.sort s.own h
-possible_next s SwitchedOff h = tt
+possible_next s SwitchedOff h = λ e. absurd (omega (arith, e))
 
 possible_on : (s : Stretch) (inputs : List Input) → IsPossible s → IsPossible (fold stretch_after s inputs)
 possible_on s [] h = h

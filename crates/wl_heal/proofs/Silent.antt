@@ -64,7 +64,7 @@ first_by false c e = rw e refl
 pub first_dominant : (c : Content) → drive_by (Framing (Some c)) [] ≡ Dominant
 first_dominant c = first_by c.extended c refl
 
-two_levels : (l : Level) → l ≡ Dominant → l ≡ Recessive → ⊥
+pub two_levels : (l : Level) → l ≡ Dominant → l ≡ Recessive → ⊥
 two_levels Dominant d r = cc
 two_levels Recessive d r = cc
 

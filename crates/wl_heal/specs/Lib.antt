@@ -1,2 +1,3 @@
 pub mod Silence
 pub mod Costs
+pub mod Joining

@@ -1,12 +1,12 @@
 -- A bus that is recessive for some time, whatever came before.
-use Rattle.std.specs.Prelude.{◌≡◌, ℕ, zero, suc, Bool, true, false, List, [], ◌∷◌}
+use Rattle.std.specs.Prelude.{◌≡◌, ◌<◌, ℕ, zero, suc, Bool, true, false, List, [], ◌∷◌}
 use Rattle.wl_level.specs.declared.Level.{Level}
 use Rattle.wl_level.specs.declared.Level.TheVariants.{Recessive}
 use Rattle.wl_machine.specs.Stretch.{Sort, Stretch, Sampled}
 use Rattle.wl_machine.specs.Stretch.Sort.{OffBus}
 use Rattle.wl_machine.specs.Stretch.Input.{Sample}
 use Rattle.wl_machine.specs.Judged.{stretch_after, drive_of}
-use Rattle.wl_wire.specs.Wire.{Wire, Event, Bit, Own, bus, next_wire}
+use Rattle.wl_wire.specs.Wire.{Wire, Event, Bit, Own, bus, stretch_at, next_wire}
 
 -- the running stretch after more samples; this project's profile
 abbrev pub stretch_on : Stretch → List Sampled → Stretch
@@ -20,6 +20,10 @@ is_off_by sort = false
 
 abbrev pub is_off : Stretch → Bool
 is_off s = is_off_by s.sort
+
+-- no machine of a wire is; this project's profile
+abbrev pub AreOnBus : Wire → Type 0
+AreOnBus w = (k : ℕ) → k < w.count → is_off (stretch_at w k) ≡ false
 
 -- so many recessive samples bring a machine between frames: seven to the end of a frame that it receives, six bits of a passive flag, eight of a
 -- delimiter, and two of an intermission; Bosch CAN 2.0 part B, sections 3.2.1 and 3.2.3 to 3.2.5

@@ -5,9 +5,11 @@ ghost use Rattle.wl_confine.specs.declared.Mode.TheVariants.{Off};
 ghost use Rattle.wl_confine.specs.Counts.{Counts, mode_of};
 ghost use Rattle.wl_machine.specs.Stretch.{Sampled, Input};
 ghost use Rattle.wl_machine.specs.Judged.{stretch_of};
+ghost use Rattle.wl_wire.specs.Heads.{OwnHeads};
+ghost use Rattle.wl_wire.specs.InStep.{AreSoundFrames, AreInStep, FindsNoError};
 ghost use Rattle.wl_wire.specs.Wire.{Event, Wire, is_between, stretch_at, wire_after};
 ghost use Rattle.wl_heal.specs.Costs.{FindsItsDominant, counts_on};
-ghost use Rattle.wl_heal.specs.Silence.{stretch_on, is_off, silent_bits, IsSilence, bits_in, IsSilent};
+ghost use Rattle.wl_heal.specs.Silence.{stretch_on, is_off, AreOnBus, silent_bits, IsSilence, bits_in, IsSilent};
 
 /// Law: 23 recessive samples bring each machine between frames, whatever reached it before and whatever it is handed meanwhile, in whatever
 /// modes. It has to drive recessive at each of them, and not to be off the bus before them. So if a bus stays recessive for 23 bits, all
@@ -18,6 +20,18 @@ pub fn a_silence_brings_all_between()
     ensures wire { (w : Wire) (events : List Event) → silent_bits ≤ bits_in events → IsSilent w events
         → (k : ℕ) → k < w.count → is_off (stretch_at w k) ≡ false → is_between (stretch_at (wire_after w events) k) ≡ true }
 {}
+
+/// Law: such a silence heals a bus. Whatever its machines did before, none of which is off the bus, from then on they are in step and none
+/// finds an error, if their frames differ in format, identifier or RTR bit.
+pub fn a_silence_heals()
+    ensures step { (w : Wire) (silence events : List Event) → AreSoundFrames w.count w.frames → OwnHeads w → AreOnBus w
+        → silent_bits ≤ bits_in silence → IsSilent w silence → AreInStep (wire_after (wire_after w silence) events) }
+    ensures errors { (w : Wire) (silence events : List Event) → AreSoundFrames w.count w.frames → OwnHeads w → AreOnBus w
+        → silent_bits ≤ bits_in silence → IsSilent w silence → FindsNoError (wire_after (wire_after w silence) events) }
+{
+    a_silence_brings_all_between();
+    wl_wire::laws::machines_that_are_in_step_stay_so();
+}
 
 /// Law: what a machine counts in n samples, whatever they are and in whatever modes, if it finds each dominant bit that it drives. Its TEC
 /// rises by n + 13 at most, and its REC by n + (n + 120) / 16. So it isn't bus off within 242 samples after a TEC of 0.
