@@ -10,3 +10,5 @@ mod Costs
 mod CostsRec
 mod Apart
 mod Present
+mod Steps
+mod Joined

@@ -244,6 +244,15 @@ there (Intermission role) own p off h = eq-eqb (length own) 2 (omega (arith, h, 
 there Suspension own p off h = refl
 there OffBus own p off h = cc
 
+-- between frames a machine stays there, with a recessive sample
+pub between_stays : (s : Stretch) (head : Option Content) (mode : Mode) → IsPossible s → is_off s ≡ false → is_between s ≡ true → drive_of s ≡ Recessive
+    → is_between (stretch_after s (Sample (sample_of Recessive head mode))) ≡ true
+between_stays s head mode p off b d = elim (stays head mode 0 s.sort s.own b d) [
+  | inl h ↦ h
+  | inr h ↦ there (stretch_after s (Sample (sample_of Recessive head mode))).sort (stretch_after s (Sample (sample_of Recessive head mode))).own
+    (possible_next s (Sample (sample_of Recessive head mode)) p) (inside_next is_off_by off_test s (sample_of Recessive head mode) off) h
+]
+
 -- over all samples
 comes : (xs : List Sampled) (s : Stretch) → IsPossible s → is_off s ≡ false → IsNear (length xs) s → IsSilence s xs → is_between (stretch_on s xs) ≡ true
 comes [] s p off (inl b) h = b

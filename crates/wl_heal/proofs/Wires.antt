@@ -22,6 +22,18 @@ silent_from w (Some j) e h k lt = cc
 pub bus_recessive : (w : Wire) → bus w ≡ Recessive → (k : ℕ) → k < w.count → drive_of (stretch_at w k) ≡ Recessive
 bus_recessive w h k lt = silent_from w (first_place (drives_dominant w) w.count) refl h k lt
 
+-- so it is dominant where somebody does
+pub bus_driven : (w : Wire) (k : ℕ) → k < w.count → drive_of (stretch_at w k) ≡ Dominant → bus w ≡ Recessive → ⊥
+bus_driven w k lt d r = differ (drive_of (stretch_at w k)) d (bus_recessive w r k lt)
+  where
+    differ : (l : Level) → l ≡ Dominant → l ≡ Recessive → ⊥
+    differ Dominant e f = cc
+    differ Recessive e f = cc
+
+pub level_cases : (l : Level) → (l ≡ Dominant) ⊎ (l ≡ Recessive)
+level_cases Dominant = inl refl
+level_cases Recessive = inr refl
+
 -- where it is dominant somebody does
 pub record Drives (w : Wire) : Type 0 where
   pub machine : ℕ
