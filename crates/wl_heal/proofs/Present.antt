@@ -17,18 +17,18 @@ use Rattle.wl_heal.proofs.Inside.{inside_next}
 use Rattle.wl_heal.proofs.Silent.{two_levels}
 use Rattle.wl_heal.proofs.Wires.{Drives, bus_dominant, bus_recessive, bit_next, level_cases}
 
+abbrev pub moved : (u : Wire) → (ℕ → List Input) → Wire
+moved u past = record { count = u.count; frames = u.frames; past = past }
+
 -- machines with the same stretches are in the same step
 module _ (u : Wire) (past : ℕ → List Input) (same : (j : ℕ) → j < u.count → stretch_of (past j) ≡ stretch_at u j) where
-  abbrev pub moved : Wire
-  moved = record { count = u.count; frames = u.frames; past = past }
-
-  pub between_moves : AreBetween u → AreBetween moved
+  pub between_moves : AreBetween u → AreBetween (moved u past)
   between_moves b j lt = ap is_between (same j lt) ∙ b j lt
 
-  pub intermission_moves : (own : List Level) → AreInIntermission u own → AreInIntermission moved own
+  pub intermission_moves : (own : List Level) → AreInIntermission u own → AreInIntermission (moved u past) own
   intermission_moves own i = record { each = λ j lt. ((i.each j lt).0, same j lt ∙ (i.each j lt).1); short = i.short }
 
-  pub frame_moves : (own : List Level) → AreInFrame u own → AreInFrame moved own
+  pub frame_moves : (own : List Level) → AreInFrame u own → AreInFrame (moved u past) own
   frame_moves own f = record {
     begun = f.begun;
     each = λ j lt. ((f.each j lt).0, same j lt ∙ (f.each j lt).1);

@@ -9,6 +9,7 @@ ghost use Rattle.wl_wire.specs.Heads.{OwnHeads};
 ghost use Rattle.wl_wire.specs.InStep.{AreSoundFrames, AreInStep, FindsNoError};
 ghost use Rattle.wl_wire.specs.Wire.{Event, Wire, is_between, stretch_at, wire_after};
 ghost use Rattle.wl_heal.specs.Costs.{FindsItsDominant, counts_on};
+ghost use Rattle.wl_heal.specs.Joining.{Change, AreThosePresent, AreInStepBeside, FindNoFault, wire_with};
 ghost use Rattle.wl_heal.specs.Silence.{stretch_on, is_off, AreOnBus, silent_bits, IsSilence, bits_in, IsSilent};
 
 /// Law: 23 recessive samples bring each machine between frames, whatever reached it before and whatever it is handed meanwhile, in whatever
@@ -43,3 +44,17 @@ pub fn what_a_disturbance_counts()
     ensures on { (past : List Input) (xs : List Sampled) (c : Counts) → FindsItsDominant (stretch_of past) xs
         → c.tec + length xs < 243 → mode_of (counts_on c (stretch_of past) xs) ≢ Off }
 {}
+
+/// Law: a machine that joins disturbs nobody, nor does one that comes back from bus off. Let two or more machines be in step, and let each
+/// of the others integrate or be off the bus. No such machine may have found more recessive bits in a row than the end of a frame has so
+/// far. Then all stay so, whatever happens, whoever appears, and whatever is handed. No machine finds an error.
+pub fn a_joining_machine_disturbs_nobody()
+    ensures step { (w present : Wire) (most : ℕ) (changes : List Change) → AreSoundFrames most w.frames → OwnHeads w
+        → AreThosePresent w present → 2 ≤ present.count → AreInStepBeside w present → (wire_with w changes).count ≤ most
+        → (after : Wire) × AreThosePresent (wire_with w changes) after × AreInStepBeside (wire_with w changes) after }
+    ensures errors { (w present : Wire) (most : ℕ) (changes : List Change) → AreSoundFrames most w.frames → OwnHeads w
+        → AreThosePresent w present → 2 ≤ present.count → AreInStepBeside w present → (wire_with w changes).count ≤ most
+        → FindNoFault (wire_with w changes) }
+{
+    wl_wire::laws::machines_that_are_in_step_stay_so();
+}

@@ -3,11 +3,8 @@ use Rattle.wl_wire.specs.Wire.{wire_after}
 use Rattle.wl_wire.specs.InStep.{AreInStep}
 use Rattle.wl_wire.proofs.Callers.{count_after}
 use Rattle.wl_heal.proofs.Healed.{sound_after}
-use Rattle.wl_heal.proofs.Joined.{runs_up}
-use Rattle.wl_heal.proofs.Steps.{sends_on}
 use Rattle.wl_heal.proofs.laws.a_silence_heals.Goals as goal
 
--- T
 pub returns : goal.returns
 returns c = record {
   step = λ w silence events sound heads on long silent.
