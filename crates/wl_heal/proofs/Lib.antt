@@ -12,3 +12,5 @@ mod Apart
 mod Present
 mod Steps
 mod Joined
+mod Six
+mod Flagged

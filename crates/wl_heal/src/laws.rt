@@ -7,8 +7,9 @@ ghost use Rattle.wl_machine.specs.Stretch.{Sampled, Input};
 ghost use Rattle.wl_machine.specs.Judged.{stretch_of};
 ghost use Rattle.wl_wire.specs.Heads.{OwnHeads};
 ghost use Rattle.wl_wire.specs.InStep.{AreSoundFrames, AreInStep, FindsNoError};
-ghost use Rattle.wl_wire.specs.Wire.{Event, Wire, is_between, stretch_at, wire_after};
+ghost use Rattle.wl_wire.specs.Wire.{Event, Wire, Handed, is_between, stretch_at, wire_after};
 ghost use Rattle.wl_heal.specs.Costs.{FindsItsDominant, counts_on};
+ghost use Rattle.wl_heal.specs.Healing.{AreActive, AllTakePart, IsDominantFor, AreInStepWithin};
 ghost use Rattle.wl_heal.specs.Joining.{Change, AreThosePresent, AreInStepBeside, FindNoFault, wire_with};
 ghost use Rattle.wl_heal.specs.Silence.{stretch_on, is_off, AreOnBus, silent_bits, IsSilence, bits_in, IsSilent};
 
@@ -58,3 +59,10 @@ pub fn a_joining_machine_disturbs_nobody()
 {
     wl_wire::laws::machines_that_are_in_step_stay_so();
 }
+
+/// Law: six dominant bits in a row bring all error active machines in step, 20 bits after the first of them at the latest, whatever they did
+/// before. So does each flag of an error or an overload. None may integrate or be off the bus.
+pub fn six_dominant_bits_bring_all_in_step()
+    ensures { (w : Wire) (handed : ℕ → ℕ → Handed) → AreActive handed → AllTakePart w → IsDominantFor 6 w handed
+        → AreInStepWithin 20 w handed }
+{}

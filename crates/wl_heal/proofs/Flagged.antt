@@ -1,0 +1,111 @@
+-- Six dominant bits bring all machines of a wire in step.
+use Rattle.std.proofs.Common.{◌≡◌, ◌∙◌, ℕ, zero, suc, ◌+◌, ◌<◌, ◌≤◌, List, [], ◌∷◌, ◌++◌, length, Bool, true, false, cond, Option, Some, None, inl, inr, ◌⊎◌, refl, sym, ap, subst, arith}
+use Rattle.std.specs.Prelude.{◌==◌, slice_get}
+use Rattle.std.proofs.lemmas.Bool.{eq-eqb, ne_eqb, cases_eq}
+use Rattle.wl_level.specs.declared.Level.{Level}
+use Rattle.wl_level.specs.declared.Level.TheVariants.{Dominant, Recessive}
+use Rattle.wl_frame.specs.Grammar.{Content}
+use Rattle.wl_confine.specs.declared.Mode.{Mode}
+use Rattle.wl_confine.specs.declared.Mode.TheVariants.{Active}
+use Rattle.wl_confine.specs.declared.Happened.TheVariants as happens
+use Rattle.wl_machine.specs.declared.state.Role.{Role}
+use Rattle.wl_machine.specs.Stretch.{Stretch, Sampled, continues, begins}
+use Rattle.wl_machine.specs.Stretch.Input.{Sample}
+use Rattle.wl_machine.specs.Stretch.Sort.{Delimiting, Intermission}
+use Rattle.wl_machine.specs.Judged.{stretch_after, drive_of}
+use Rattle.wl_machine.specs.States.{sample_of, stretch_by}
+use Rattle.wl_wire.specs.Wire.{Wire, Handed, Bit, bus, stretch_at, sampled, next_wire}
+use Rattle.wl_wire.specs.InStep.{AreInStep}
+use Rattle.wl_heal.specs.Joining.{is_apart, is_apart_by}
+use Rattle.wl_heal.specs.Healing.{bits_after, AreActive, AllTakePart, IsDominantFor, AreInStepWithin}
+use Rattle.wl_heal.proofs.Apart.{apart_test}
+use Rattle.wl_heal.proofs.Inside.{inside_next}
+use Rattle.wl_heal.proofs.Possible.{possible}
+use Rattle.wl_heal.proofs.Samples.{going, longer}
+use Rattle.wl_heal.proofs.Silent.{two_levels}
+use Rattle.wl_heal.proofs.Six.{down_of, down_next, down_most, IsDown, is_down, stays_down, delimits, flag_over}
+use Rattle.wl_heal.proofs.Wires.{Drives, bus_dominant, bus_recessive, bit_next, level_cases}
+
+-- a bit later, and some bits more
+pub later : (most : ℕ) (w : Wire) (handed : ℕ → ℕ → Handed) → AreInStepWithin most (next_wire w (Bit (handed 0))) (λ i. handed (suc i)) → AreInStepWithin (suc most) w handed
+later most w handed h = (suc h.0, (let le = h.1 in omega arith), h.2)
+
+pub longer_within : (m n : ℕ) (w : Wire) (handed : ℕ → ℕ → Handed) → m ≤ n → AreInStepWithin m w handed → AreInStepWithin n w handed
+longer_within m n w handed le h = (h.0, (let few = h.1 in omega arith), h.2)
+
+-- what a machine finds
+pub finds : (w : Wire) (handed : ℕ → Handed) (k : ℕ) (l : Level) → bus w ≡ l
+    → stretch_at (next_wire w (Bit handed)) k ≡ stretch_after (stretch_at w k) (Sample (sample_of l (slice_get (w.frames k) (handed k).which) (handed k).mode))
+finds w handed k l e =
+    bit_next w handed k ∙ ap (λ b. stretch_after (stretch_at w k) (Sample (sample_of b (slice_get (w.frames k) (handed k).which) (handed k).mode))) e
+
+-- nobody drives dominant
+pub silent : (w : Wire) → ((k : ℕ) → k < w.count → drive_of (stretch_at w k) ≡ Recessive) → bus w ≡ Recessive
+silent w none = elim (level_cases (bus w)) [
+  | inl d ↦ (let driver : Drives w = bus_dominant w d in absurd (two_levels (drive_of (stretch_at w driver.machine)) driver.dominant (none driver.machine driver.inside)))
+  | inr r ↦ r
+]
+
+pub take_part_next : (w : Wire) (handed : ℕ → Handed) → AllTakePart w → AllTakePart (next_wire w (Bit handed))
+take_part_next w handed all k lt =
+    ap is_apart (bit_next w handed k) ∙ inside_next is_apart_by apart_test (stretch_at w k) (sampled (bus w) (w.frames k) (handed k)) (all k lt)
+
+-- one delimiter of all
+delimiter_next : (role : Role) (own : List Level) (head : Option Content) (mode : Mode) → (b : Bool) → (length own == 7) ≡ b
+    → stretch_after (stretch_by (Delimiting role) own) (Sample (sample_of Recessive head mode)) ≡ cond b (stretch_by (Intermission role) []) (stretch_by (Delimiting role) (own ++ Recessive ∷ []))
+delimiter_next role own head mode true e = ap (λ b. going (Delimiting role) own Recessive (cond b (begins happens.Nothing (Intermission role) []) (continues happens.Nothing))) e
+delimiter_next role own head mode false e = ap (λ b. going (Delimiting role) own Recessive (cond b (begins happens.Nothing (Intermission role) []) (continues happens.Nothing))) e
+
+all_delimit : (n : ℕ) (w : Wire) (handed : ℕ → ℕ → Handed) (own : List Level) → length own + n ≡ 7
+    → ((k : ℕ) → k < w.count → (role : Role) × (stretch_at w k ≡ stretch_by (Delimiting role) own)) → AreInStepWithin (suc n) w handed
+all_delimit zero w handed own e all =
+    later 0 w handed (0, omega arith, inr (inl ([], record { each = λ k lt. ((all k lt).0, next k lt); short = omega arith })))
+  where
+    next : (k : ℕ) → (lt : k < w.count) → stretch_at (next_wire w (Bit (handed 0))) k ≡ stretch_by (Intermission (all k lt).0) []
+    next k lt =
+        finds w (handed 0) k Recessive (silent w (λ j jt. ap drive_of (all j jt).1)) ∙ ap (λ s. stretch_after s (Sample (sample_of Recessive (slice_get (w.frames k) (handed 0 k).which) (handed 0 k).mode))) (all k lt).1
+        ∙ delimiter_next (all k lt).0 own (slice_get (w.frames k) (handed 0 k).which) (handed 0 k).mode true (eq-eqb (length own) 7 (omega arith))
+all_delimit (suc n) w handed own e all =
+    later (suc n) w handed (all_delimit n (next_wire w (Bit (handed 0))) (λ i. handed (suc i)) (own ++ Recessive ∷ []) (let long = longer own Recessive in omega arith) (λ k lt. ((all k lt).0, next k lt)))
+  where
+    next : (k : ℕ) → (lt : k < w.count) → stretch_at (next_wire w (Bit (handed 0))) k ≡ stretch_by (Delimiting (all k lt).0) (own ++ Recessive ∷ [])
+    next k lt =
+        finds w (handed 0) k Recessive (silent w (λ j jt. ap drive_of (all j jt).1)) ∙ ap (λ s. stretch_after s (Sample (sample_of Recessive (slice_get (w.frames k) (handed 0 k).which) (handed 0 k).mode))) (all k lt).1
+        ∙ delimiter_next (all k lt).0 own (slice_get (w.frames k) (handed 0 k).which) (handed 0 k).mode false (ne_eqb (length own) 7 (λ f. omega arith))
+
+-- all flags come to their ends
+abbrev pub AllDown : ℕ → Wire → Type 0
+AllDown n w = (k : ℕ) → k < w.count → IsDown n (stretch_at w k)
+
+recessive_then : (w : Wire) (handed : ℕ → ℕ → Handed) (n : ℕ) → AllDown n w → bus w ≡ Recessive → AreInStepWithin 8 w handed
+recessive_then w handed n all r =
+    later 7 w handed (all_delimit 6 (next_wire w (Bit (handed 0))) (λ i. handed (suc i)) (Recessive ∷ []) refl
+    (λ k lt. let d = delimits (stretch_at w k).sort (stretch_at w k).own n (slice_get (w.frames k) (handed 0 k).which) (handed 0 k).mode (all k lt) (bus_recessive w r k lt) in (d.0, finds w (handed 0) k Recessive r ∙ d.1)))
+
+all_down : (n : ℕ) (w : Wire) (handed : ℕ → ℕ → Handed) → AllDown n w → AreInStepWithin (n + 8) w handed
+all_down zero w handed all =
+    recessive_then w handed 0 all (silent w (λ k lt. flag_over (stretch_at w k).sort (stretch_at w k).own (possible (w.past k)) (all k lt)))
+all_down (suc n) w handed all = elim (level_cases (bus w)) [
+  | inr r ↦ longer_within 8 (suc n + 8) w handed (omega arith) (recessive_then w handed (suc n) all r)
+  | inl d ↦ longer_within (suc (n + 8)) (suc n + 8) w handed (omega arith) (later (n + 8) w handed (all_down n (next_wire w (Bit (handed 0))) (λ i. handed (suc i))
+    (λ k lt. subst (IsDown n) (sym (finds w (handed 0) k Dominant d))
+    (stays_down (stretch_at w k).sort (stretch_at w k).own n (slice_get (w.frames k) (handed 0 k).which) (handed 0 k).mode (possible (w.past k)) (all k lt)))))
+]
+
+-- dominant bits bring all there
+dominant_down : (n : ℕ) (w : Wire) (handed : ℕ → ℕ → Handed) → AreActive handed → AllTakePart w → IsDominantFor n w handed
+    → ((k : ℕ) → k < w.count → down_of (stretch_at w k) ≤ n) → AreInStepWithin (n + 14) w handed
+dominant_down zero w handed active part dominant near =
+    all_down 6 w handed (λ k lt. is_down (stretch_at w k).sort (stretch_at w k).own (possible (w.past k)) (near k lt))
+dominant_down (suc n) w handed active part dominant near =
+    longer_within (suc (n + 14)) (suc n + 14) w handed (omega arith)
+    (later (n + 14) w handed (dominant_down n (next_wire w (Bit (handed 0))) (λ i. handed (suc i)) (λ i k. active (suc i) k) (take_part_next w (handed 0) part) (λ i lt. dominant (suc i) (omega arith)) next))
+  where
+    next : (k : ℕ) → k < w.count → down_of (stretch_at (next_wire w (Bit (handed 0))) k) ≤ n
+    next k lt =
+        subst (λ s. down_of s ≤ n) (sym (finds w (handed 0) k Dominant (dominant 0 (omega arith))
+        ∙ ap (λ m. stretch_after (stretch_at w k) (Sample (sample_of Dominant (slice_get (w.frames k) (handed 0 k).which) m))) (active 0 k)))
+        (down_next (slice_get (w.frames k) (handed 0 k).which) n (stretch_at w k).sort (stretch_at w k).own (part k lt) (near k lt))
+
+pub six_dominant : (w : Wire) (handed : ℕ → ℕ → Handed) → AreActive handed → AllTakePart w → IsDominantFor 6 w handed → AreInStepWithin 20 w handed
+six_dominant w handed active part dominant = dominant_down 6 w handed active part dominant (λ k lt. down_most (stretch_at w k).sort (stretch_at w k).own)

@@ -1,0 +1,28 @@
+-- Machines that come in step again.
+use Rattle.std.specs.Prelude.{◌≡◌, ◌<◌, ◌≤◌, ℕ, zero, suc, false}
+use Rattle.wl_level.specs.declared.Level.TheVariants.{Dominant}
+use Rattle.wl_confine.specs.declared.Mode.TheVariants.{Active}
+use Rattle.wl_wire.specs.Wire.{Wire, Handed, Bit, bus, stretch_at, next_wire}
+use Rattle.wl_wire.specs.InStep.{AreInStep}
+use Rattle.wl_heal.specs.Joining.{is_apart}
+
+-- a wire so many bits later, by what each machine is handed with each bit; this project's profile
+abbrev pub bits_after : Wire → (ℕ → ℕ → Handed) → ℕ → Wire
+bits_after w handed zero = w
+bits_after w handed (suc n) = bits_after (next_wire w (Bit (handed 0))) (λ i. handed (suc i)) n
+
+-- all are error active at each bit; Bosch CAN 2.0 part B, section 8
+abbrev pub AreActive : (ℕ → ℕ → Handed) → Type 0
+AreActive handed = (n k : ℕ) → (handed n k).mode ≡ Active
+
+-- no machine integrates or is off the bus; this project's profile
+abbrev pub AllTakePart : Wire → Type 0
+AllTakePart w = (k : ℕ) → k < w.count → is_apart (stretch_at w k) ≡ false
+
+-- the next bits are dominant; this project's profile
+abbrev pub IsDominantFor : ℕ → Wire → (ℕ → ℕ → Handed) → Type 0
+IsDominantFor n w handed = (i : ℕ) → i < n → bus (bits_after w handed i) ≡ Dominant
+
+-- all machines are in step, so many bits later at most; this project's profile
+abbrev pub AreInStepWithin : ℕ → Wire → (ℕ → ℕ → Handed) → Type 0
+AreInStepWithin most w handed = (n : ℕ) × (n ≤ most) × AreInStep (bits_after w handed n)
