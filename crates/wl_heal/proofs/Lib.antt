@@ -14,3 +14,7 @@ mod Steps
 mod Joined
 mod Six
 mod Flagged
+mod Lengths
+mod Settle
+mod Leftover
+mod Heal

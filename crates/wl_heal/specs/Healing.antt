@@ -1,9 +1,9 @@
 -- Machines that come in step again.
-use Rattle.std.specs.Prelude.{◌≡◌, ◌<◌, ◌≤◌, ℕ, zero, suc, false}
+use Rattle.std.specs.Prelude.{◌≡◌, ◌<◌, ◌≤◌, ℕ, zero, suc, false, List}
 use Rattle.wl_level.specs.declared.Level.TheVariants.{Dominant}
 use Rattle.wl_confine.specs.declared.Mode.TheVariants.{Active}
-use Rattle.wl_wire.specs.Wire.{Wire, Handed, Bit, bus, stretch_at, next_wire}
-use Rattle.wl_wire.specs.InStep.{AreInStep}
+use Rattle.wl_wire.specs.Wire.{Wire, Handed, Event, Bit, bus, stretch_at, next_wire, wire_after}
+use Rattle.wl_wire.specs.InStep.{AreInStep, FindsNoError}
 use Rattle.wl_heal.specs.Joining.{is_apart}
 
 -- a wire so many bits later, by what each machine is handed with each bit; this project's profile
@@ -22,6 +22,15 @@ AllTakePart w = (k : ℕ) → k < w.count → is_apart (stretch_at w k) ≡ fals
 -- the next bits are dominant; this project's profile
 abbrev pub IsDominantFor : ℕ → Wire → (ℕ → ℕ → Handed) → Type 0
 IsDominantFor n w handed = (i : ℕ) → i < n → bus (bits_after w handed i) ≡ Dominant
+
+-- from this wire on all are in step, and no machine finds an error; Bosch CAN 2.0 part B, section 8
+abbrev pub StayWithoutError : Wire → Type 0
+StayWithoutError w = (events : List Event) → AreInStep (wire_after w events) × FindsNoError (wire_after w events)
+
+-- so many bits bring error active machines in step: six of a flag, 16 of rest, 150 of a frame up to its ACK delimiter, 17 of its end and of
+-- rest after it, and 20 of a flag; Bosch CAN 2.0 part B, sections 3.2.1 and 3.2.3 to 3.2.5
+abbrev pub healing_bits : ℕ
+healing_bits = 209
 
 -- all machines are in step, so many bits later at most; this project's profile
 abbrev pub AreInStepWithin : ℕ → Wire → (ℕ → ℕ → Handed) → Type 0

@@ -9,7 +9,7 @@ ghost use Rattle.wl_wire.specs.Heads.{OwnHeads};
 ghost use Rattle.wl_wire.specs.InStep.{AreSoundFrames, AreInStep, FindsNoError};
 ghost use Rattle.wl_wire.specs.Wire.{Event, Wire, Handed, is_between, stretch_at, wire_after};
 ghost use Rattle.wl_heal.specs.Costs.{FindsItsDominant, counts_on};
-ghost use Rattle.wl_heal.specs.Healing.{AreActive, AllTakePart, IsDominantFor, AreInStepWithin};
+ghost use Rattle.wl_heal.specs.Healing.{bits_after, healing_bits, StayWithoutError, AreActive, AllTakePart, IsDominantFor, AreInStepWithin};
 ghost use Rattle.wl_heal.specs.Joining.{Change, AreThosePresent, AreInStepBeside, FindNoFault, wire_with};
 ghost use Rattle.wl_heal.specs.Silence.{stretch_on, is_off, AreOnBus, silent_bits, IsSilence, bits_in, IsSilent};
 
@@ -66,3 +66,14 @@ pub fn six_dominant_bits_bring_all_in_step()
     ensures { (w : Wire) (handed : ℕ → ℕ → Handed) → AreActive handed → AllTakePart w → IsDominantFor 6 w handed
         → AreInStepWithin 20 w handed }
 {}
+
+/// Law: error active machines heal. Whatever they did before, and whatever they are handed, they are in step within 209 bits, and from then on
+/// none finds an error, if their frames differ in format, identifier or RTR bit. None may integrate or be off the bus.
+pub fn active_machines_heal()
+    ensures step { (w : Wire) (handed : ℕ → ℕ → Handed) → AreActive handed → AllTakePart w
+        → AreInStepWithin healing_bits w handed }
+    ensures errors { (w : Wire) (handed : ℕ → ℕ → Handed) → AreSoundFrames w.count w.frames → OwnHeads w → AreActive handed
+        → AllTakePart w → (n : ℕ) × (n ≤ healing_bits) × StayWithoutError (bits_after w handed n) }
+{
+    wl_wire::laws::machines_that_are_in_step_stay_so();
+}
