@@ -1,24 +1,24 @@
 -- A machine that takes no part, one sample later.
-use Rattle.std.proofs.Common.{◌≡◌, ◌∙◌, ℕ, zero, suc, ◌+◌, ◌-◌, ◌%◌, ◌<◌, ◌≤◌, List, [], ◌∷◌, ◌++◌, length, Bool, true, false, not, cond, ◌&&◌, Option, Some, None, refl, sym, ap, arith, add-one, inl, inr, ◌⊎◌}
+use Rattle.std.proofs.Common.{◌≡◌, ◌∙◌, ℕ, zero, suc, ◌+◌, ◌%◌, ◌≤◌, List, [], ◌∷◌, ◌++◌, length, true, false, cond, ◌&&◌, Option, Some, None, refl, sym, ap, arith, add-one, inl, inr, ◌⊎◌}
 use Rattle.std.specs.Prelude.{◌==◌, nat_lt, nat_eq}
-use Rattle.std.proofs.lemmas.Bool.{cond_both, eqb-true, eqb-false, ne_eqb, eq-eqb, both_ways}
+use Rattle.std.proofs.lemmas.Bool.{ne_eqb}
 use Rattle.wl_level.specs.declared.Level.{Level}
-use Rattle.wl_level.specs.declared.Level.TheVariants.{Dominant, Recessive}
+use Rattle.wl_level.specs.declared.Level.TheVariants.{Recessive}
 use Rattle.wl_level.specs.Places.{run_at_end, run_before, count_places}
 use Rattle.wl_level.proofs.Callers.{run_old, count_cong, length_more}
 use Rattle.wl_frame.specs.Grammar.{Content}
 use Rattle.wl_confine.specs.declared.Happened.TheVariants as happens
-use Rattle.wl_machine.specs.Stretch.{Sort, Stretch, Sampled, Input, Judgement, continues, begins, free}
-use Rattle.wl_machine.specs.Stretch.Input.{Sample, SwitchedOff}
+use Rattle.wl_machine.specs.Stretch.{Sort, Stretch, Sampled, Judgement, continues, begins, free}
+use Rattle.wl_machine.specs.Stretch.Input.{Sample}
 use Rattle.wl_machine.specs.Stretch.Sort.{Integration, Idle, Framing, Flagging, Waiting, Delimiting, Intermission, Suspension, OffBus}
 use Rattle.wl_machine.specs.BetweenFrames.{recessive_runs}
-use Rattle.wl_machine.specs.Judged.{judged, judged_by, stretch_after, stretch_of, drive_of, drive_by}
-use Rattle.wl_machine.specs.States.{sample_of, stretch_by}
+use Rattle.wl_machine.specs.Judged.{judged_by, stretch_after, drive_by}
+use Rattle.wl_machine.specs.States.{stretch_by}
 use Rattle.wl_wire.specs.Wire.{is_between, may_be_alone}
 use Rattle.wl_heal.specs.Joining.{is_apart, is_apart_by, is_no_fault}
 use Rattle.wl_heal.proofs.Inside.{IsOfOutside}
 use Rattle.wl_heal.proofs.Possible.{IsPossibleBy}
-use Rattle.wl_heal.proofs.Samples.{going, either, run_same, run_other}
+use Rattle.wl_heal.proofs.Samples.{going, either}
 
 pub apart_test : IsOfOutside is_apart_by
 apart_test = record {

@@ -1,17 +1,16 @@
 -- What a sample in a frame can do, case by case.
-use Rattle.std.proofs.Common.{◌≡◌, ℕ, ◌-◌, List, [], ◌∷◌, length, Bool, true, false, not, cond, ◌&&◌, Option, Some, None, refl}
+use Rattle.std.proofs.Common.{◌≡◌, ℕ, List, [], length, Bool, true, false, not, cond, ◌&&◌, Some, None, refl}
 use Rattle.std.specs.Prelude.{nat_le, ◌==◌}
-use Rattle.std.proofs.lemmas.Bool.{cond_both, eqb-true, eqb-false, eq-eqb, and_parts, not-true, both_ways}
+use Rattle.std.proofs.lemmas.Bool.{eqb-true, eqb-false, eq-eqb, and_parts, not-true, both_ways}
 use Rattle.wl_level.specs.declared.Level.{Level}
 use Rattle.wl_level.specs.Levels.{is_dominant, same}
 use Rattle.wl_level.specs.Places.{before}
 use Rattle.wl_frame.specs.Stuffing.{is_stuff, destuffed_bits}
-use Rattle.wl_frame.specs.Grammar.{Content, bits_of, layout_of, is_crc_right, is_arbitration, content_of}
+use Rattle.wl_frame.specs.Grammar.{Content, bits_of, layout_of, is_crc_right, content_of}
 use Rattle.wl_confine.specs.declared.ErrorKind.TheVariants.{Bit, Stuff, Form, Crc}
 use Rattle.wl_confine.specs.declared.Happened.TheVariants as happens
 use Rattle.wl_machine.specs.declared.state.Role.TheVariants.{Tx, Rx}
 use Rattle.wl_machine.specs.Stretch.{Sampled, Judgement, continues, begins}
-use Rattle.wl_machine.specs.Stretch.Flag.{OverloadFlag}
 use Rattle.wl_machine.specs.Stretch.Sort.{Flagging, Intermission}
 use Rattle.wl_machine.specs.Stretch.Ended.{Sent, Received}
 use Rattle.wl_machine.specs.Flags.{fails, error_flag}

@@ -1,13 +1,12 @@
 -- What samples can count at most as a receiver's, as `Costs` says of a transmitter's: in sixteenths.
-use Rattle.std.proofs.Common.{◌≡◌, ◌∙◌, ℕ, zero, suc, ◌+◌, ◌-◌, ◌*◌, ◌<◌, ◌≤◌, List, [], ◌∷◌, ◌++◌, length, Bool, true, false, not, cond, ◌&&◌, Option, Some, None, refl, sym, ap, subst, arith, inl, inr}
+use Rattle.std.proofs.Common.{◌≡◌, ℕ, ◌+◌, ◌-◌, ◌*◌, ◌<◌, ◌≤◌, List, [], ◌∷◌, ◌++◌, length, Bool, true, false, not, cond, ◌&&◌, Option, Some, None, refl, ap, arith, inl, inr}
 use Rattle.std.specs.Prelude.{◌==◌, nat_lt, ◌/◌}
 use Rattle.std.specs.List.{list_any}
-use Rattle.std.proofs.lemmas.Bool.{cond_both, eqb-true, eqb-false, and_parts, both_ways, cases_lt, ltb-true}
+use Rattle.std.proofs.lemmas.Bool.{cond_both, eqb-true, both_ways, cases_lt, ltb-true}
 use Rattle.wl_level.specs.declared.Level.{Level}
 use Rattle.wl_level.specs.declared.Level.TheVariants.{Dominant, Recessive}
-use Rattle.wl_level.specs.Levels.{is_dominant, same}
-use Rattle.wl_level.specs.Places.{run_at_end, before}
-use Rattle.wl_level.proofs.Callers.{dominant_from}
+use Rattle.wl_level.specs.Levels.{is_dominant}
+use Rattle.wl_level.specs.Places.{run_at_end}
 use Rattle.wl_frame.specs.Stuffing.{destuffed_bits}
 use Rattle.wl_frame.specs.Grammar.{Content}
 use Rattle.wl_confine.specs.declared.ErrorKind.{ErrorKind}
@@ -24,15 +23,15 @@ use Rattle.wl_machine.specs.Stretch.Flag.{ActiveFlag, OverloadFlag, PassiveFlag}
 use Rattle.wl_machine.specs.Stretch.Sort.{Integration, Idle, Framing, Flagging, Waiting, Delimiting, Intermission, Suspension, OffBus}
 use Rattle.wl_machine.specs.Stretch.Input.{Sample}
 use Rattle.wl_machine.specs.BetweenFrames.{after_intermission, begun_head, idle_on, recessive_runs}
-use Rattle.wl_machine.specs.Flags.{error_flag, error_of, fails, delimiter_error, dominant_flag, passive_flag, is_after_flag, is_each_eighth, long_from, dominant_run, long_of, flag_bit_of}
+use Rattle.wl_machine.specs.Flags.{error_flag, error_of, fails, delimiter_error, dominant_flag, is_after_flag, is_each_eighth, long_from, dominant_run, flag_bit_of}
 use Rattle.wl_machine.specs.Frames.{stuffed_end, frame_role, framing_by, framing_sent, framing_received, unanswered}
-use Rattle.wl_machine.specs.Judged.{judged, judged_by, stretch_after, stretch_of, drive_of, drive_by}
-use Rattle.wl_machine.specs.States.{sample_of, stretch_by}
+use Rattle.wl_machine.specs.Judged.{judged, judged_by, stretch_after, stretch_of, drive_by}
+use Rattle.wl_machine.specs.States.{sample_of}
 use Rattle.wl_heal.specs.Costs.{FindsItsDominant, counts_on}
 use Rattle.wl_heal.proofs.Cases.{differing_cases, sending_cases, receiving_cases, sent_tail_cases, acknowledging_cases, received_tail_cases}
 use Rattle.wl_heal.proofs.Costs.{equal_run, equal_up, equal_last, after_none}
 use Rattle.wl_heal.proofs.Phases.{wait_phase, wait_up, wait_counts, wait_first, phase_small}
-use Rattle.wl_heal.proofs.Possible.{IsPossible, IsPossibleBy, possible, possible_next, waiting_on}
+use Rattle.wl_heal.proofs.Possible.{IsPossible, IsPossibleBy, possible, possible_next}
 use Rattle.wl_heal.proofs.Samples.{going, either, longer, run_last}
 
 

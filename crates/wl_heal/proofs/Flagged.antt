@@ -1,23 +1,21 @@
 -- Six dominant bits bring all machines of a wire in step.
-use Rattle.std.proofs.Common.{◌≡◌, ◌∙◌, ℕ, zero, suc, ◌+◌, ◌<◌, ◌≤◌, List, [], ◌∷◌, ◌++◌, length, Bool, true, false, cond, Option, Some, None, inl, inr, ◌⊎◌, refl, sym, ap, subst, arith}
+use Rattle.std.proofs.Common.{◌≡◌, ◌∙◌, ℕ, zero, suc, ◌+◌, ◌<◌, ◌≤◌, List, [], ◌∷◌, ◌++◌, length, Bool, true, false, cond, Option, inl, inr, refl, sym, ap, subst, arith}
 use Rattle.std.specs.Prelude.{◌==◌, slice_get}
-use Rattle.std.proofs.lemmas.Bool.{eq-eqb, ne_eqb, cases_eq}
+use Rattle.std.proofs.lemmas.Bool.{eq-eqb, ne_eqb}
 use Rattle.wl_level.specs.declared.Level.{Level}
 use Rattle.wl_level.specs.declared.Level.TheVariants.{Dominant, Recessive}
 use Rattle.wl_frame.specs.Grammar.{Content}
 use Rattle.wl_confine.specs.declared.Mode.{Mode}
-use Rattle.wl_confine.specs.declared.Mode.TheVariants.{Active}
 use Rattle.wl_confine.specs.declared.Happened.TheVariants as happens
 use Rattle.wl_machine.specs.declared.state.Role.{Role}
-use Rattle.wl_machine.specs.Stretch.{Stretch, Sampled, continues, begins}
+use Rattle.wl_machine.specs.Stretch.{continues, begins}
 use Rattle.wl_machine.specs.Stretch.Input.{Sample}
 use Rattle.wl_machine.specs.Stretch.Sort.{Delimiting, Intermission}
 use Rattle.wl_machine.specs.Judged.{stretch_after, drive_of}
 use Rattle.wl_machine.specs.States.{sample_of, stretch_by}
 use Rattle.wl_wire.specs.Wire.{Wire, Handed, Bit, bus, stretch_at, sampled, next_wire}
-use Rattle.wl_wire.specs.InStep.{AreInStep}
 use Rattle.wl_heal.specs.Joining.{is_apart, is_apart_by}
-use Rattle.wl_heal.specs.Healing.{bits_after, AreActive, AllTakePart, IsDominantFor, AreInStepWithin}
+use Rattle.wl_heal.specs.Healing.{AreActive, AllTakePart, IsDominantFor, AreInStepWithin}
 use Rattle.wl_heal.proofs.Apart.{apart_test}
 use Rattle.wl_heal.proofs.Inside.{inside_next}
 use Rattle.wl_heal.proofs.Possible.{possible}

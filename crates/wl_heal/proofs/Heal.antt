@@ -1,7 +1,7 @@
 -- Error active machines come in step, whatever they did before.
-use Rattle.std.proofs.Common.{◌≡◌, ◌∙◌, ℕ, zero, suc, ◌+◌, ◌-◌, ◌<◌, ◌≤◌, List, [], ◌∷◌, ◌++◌, length, Bool, true, false, not, cond, ◌&&◌, Option, Some, None, inl, inr, ◌⊎◌, refl, sym, ap, subst, arith}
-use Rattle.std.specs.Prelude.{◌==◌, slice_get}
-use Rattle.std.proofs.lemmas.Bool.{ne_eqb, cases_lt, not-true, both_ways}
+use Rattle.std.proofs.Common.{◌≡◌, ◌∙◌, ℕ, zero, suc, ◌+◌, ◌-◌, ◌<◌, ◌≤◌, List, [], ◌∷◌, ◌++◌, length, Bool, true, false, not, cond, Option, Some, None, inl, inr, ◌⊎◌, refl, sym, ap, subst, arith}
+use Rattle.std.specs.Prelude.{slice_get}
+use Rattle.std.proofs.lemmas.Bool.{ne_eqb, not-true}
 use Rattle.wl_level.specs.declared.Level.{Level}
 use Rattle.wl_level.specs.declared.Level.TheVariants.{Dominant, Recessive}
 use Rattle.wl_level.specs.Levels.{is_dominant}
@@ -9,7 +9,6 @@ use Rattle.wl_level.specs.Places.{first_place, or_at, IsFirstPlace}
 use Rattle.wl_level.proofs.Callers.{first_is, first_none}
 use Rattle.wl_frame.specs.Grammar.{Content}
 use Rattle.wl_frame.specs.Stuffing.{destuffed_bits}
-use Rattle.wl_confine.specs.declared.Mode.{Mode}
 use Rattle.wl_confine.specs.declared.Mode.TheVariants.{Active}
 use Rattle.wl_confine.specs.declared.Happened.TheVariants as happens
 use Rattle.wl_machine.specs.declared.state.Role.{Role}
@@ -19,13 +18,12 @@ use Rattle.wl_machine.specs.Stretch.Input.{Sample}
 use Rattle.wl_machine.specs.Stretch.Sort.{Integration, Idle, Framing, Flagging, Waiting, Delimiting, Intermission, Suspension, OffBus}
 use Rattle.wl_machine.specs.Flags.{flag_bit_of}
 use Rattle.wl_machine.specs.Frames.{stuffed_end, frame_role, drive_up_to}
-use Rattle.wl_machine.specs.Judged.{stretch_after, stretch_of, drive_of, drive_by}
+use Rattle.wl_machine.specs.Judged.{stretch_after, drive_of, drive_by}
 use Rattle.wl_machine.specs.States.{sample_of, stretch_by}
 use Rattle.wl_machine.proofs.Callers.{end_more, end_stays, ends_at}
 use Rattle.wl_wire.specs.Wire.{Wire, Handed, Event, Bit, bus, stretch_at, is_between, next_wire, wire_after}
 use Rattle.wl_wire.specs.Heads.{OwnHeads}
-use Rattle.wl_wire.specs.InStep.{AreInStep, AreBetween}
-use Rattle.wl_heal.specs.Joining.{is_apart}
+use Rattle.wl_wire.specs.InStep.{AreBetween}
 use Rattle.wl_heal.specs.Healing.{bits_after, AreActive, AllTakePart, IsDominantFor, AreInStepWithin}
 use Rattle.wl_heal.proofs.Flagged.{later, longer_within, finds, take_part_next, six_dominant}
 use Rattle.wl_heal.proofs.Leftover.{Leftover, leftover_next, drives_frame, drives_slot}

@@ -1,5 +1,5 @@
 -- What holds of a wire goes on to the wire after some events.
-use Rattle.std.proofs.Common.{◌≡◌, ℕ, List, [], ◌∷◌, refl}
+use Rattle.std.proofs.Common.{List, [], ◌∷◌}
 use Rattle.wl_wire.specs.Wire.{Wire, Event, next_wire, wire_after}
 use Rattle.wl_wire.specs.InStep.{AreSoundFrames}
 

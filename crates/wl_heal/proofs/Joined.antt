@@ -1,23 +1,22 @@
 -- Machines in step, beside others that take no part, one event later.
-use Rattle.std.proofs.Common.{◌≡◌, ◌∙◌, ℕ, zero, suc, ◌+◌, ◌-◌, ◌<◌, ◌≤◌, List, [], ◌∷◌, ◌++◌, length, Bool, true, false, not, cond, ◌&&◌, Option, Some, None, refl, sym, ap, subst, arith, inl, inr, ◌⊎◌}
-use Rattle.std.specs.Prelude.{◌==◌, slice_get, nat_le}
-use Rattle.std.proofs.lemmas.Bool.{and_parts, both_ways, eqb-true, eqb-false, eq-eqb, ne_eqb, cases_lt, le-leb, lt-leb, not-true}
+use Rattle.std.proofs.Common.{◌≡◌, ◌∙◌, ℕ, suc, ◌+◌, ◌-◌, ◌<◌, ◌≤◌, List, [], ◌∷◌, ◌++◌, length, Bool, true, false, not, cond, ◌&&◌, Option, Some, None, refl, sym, ap, subst, arith, inl, inr, ◌⊎◌}
+use Rattle.std.specs.Prelude.{◌==◌, slice_get}
+use Rattle.std.proofs.lemmas.Bool.{and_parts, both_ways, eq-eqb, ne_eqb, cases_lt, le-leb, lt-leb, not-true}
 use Rattle.wl_level.specs.declared.Level.{Level}
 use Rattle.wl_level.specs.declared.Level.TheVariants.{Dominant, Recessive}
 use Rattle.wl_level.specs.Levels.{is_dominant, opposite}
 use Rattle.wl_level.specs.Places.{run_at_end, or_at, before, at}
 use Rattle.wl_level.proofs.Callers.{recessive_from}
 use Rattle.wl_frame.specs.Grammar.{Content, bits_of}
-use Rattle.wl_frame.specs.Stuffing.{is_stuff, destuffed_bits}
-use Rattle.wl_confine.specs.declared.Mode.{Mode}
+use Rattle.wl_frame.specs.Stuffing.{destuffed_bits}
 use Rattle.wl_confine.specs.declared.Happened.{Happened}
 use Rattle.wl_confine.specs.declared.Happened.TheVariants as happens
 use Rattle.wl_machine.specs.declared.state.Role.{Role}
-use Rattle.wl_machine.specs.declared.state.Role.TheVariants.{Tx, Rx}
-use Rattle.wl_machine.specs.Stretch.{Sort, Stretch, Sampled, Input}
+use Rattle.wl_machine.specs.declared.state.Role.TheVariants.{Tx}
+use Rattle.wl_machine.specs.Stretch.{Sort, Stretch, Sampled}
 use Rattle.wl_machine.specs.Stretch.Input.{Sample}
 use Rattle.wl_machine.specs.Stretch.Sort.{Framing, Intermission}
-use Rattle.wl_machine.specs.Frames.{stuffed_end, frame_role, frame_drive, drive_up_to, stuffed_drive}
+use Rattle.wl_machine.specs.Frames.{stuffed_end, drive_up_to, stuffed_drive}
 use Rattle.wl_machine.specs.Judged.{judged, stretch_after, stretch_of, drive_of, head_of}
 use Rattle.wl_machine.specs.States.{sample_of, stretch_by}
 use Rattle.wl_machine.proofs.Callers.{end_more, end_stays, ends_at}
@@ -27,7 +26,7 @@ use Rattle.wl_wire.specs.InStep.{AreSoundFrames, AreBetween, AreInIntermission, 
 use Rattle.wl_heal.specs.Silence.{is_off_by, is_off}
 use Rattle.wl_heal.specs.Joining.{is_apart, is_apart_by, AreThosePresent, RunsUpTo, RunsAt, tail_runs, AreInStepBeside, Change, Happens, Joins, joined_wire, changed, wire_with, is_no_fault, FindNoFault}
 use Rattle.wl_heal.proofs.Apart.{StaysApart, apart_test, apart_alone, apart_or_between, apart_no_fault, stays_apart}
-use Rattle.wl_heal.proofs.Inside.{inside_next, off_test}
+use Rattle.wl_heal.proofs.Inside.{inside_next}
 use Rattle.wl_heal.proofs.Possible.{possible}
 use Rattle.wl_heal.proofs.Present.{moved, between_moves, intermission_moves, frame_moves, stretch_there, bus_same, sound_there, heads_there, handed_there, present_next, all_present, are_present, two_present}
 use Rattle.wl_heal.proofs.Samples.{longer, run_same, run_other, run_last, five_due}

@@ -1,5 +1,5 @@
 -- Flags that are under way come to an end, where no others begin.
-use Rattle.std.proofs.Common.{◌≡◌, ◌-◌, ◌+◌, ◌<◌, ◌≤◌, ℕ, suc, List, [], ◌∷◌, ◌++◌, length, Bool, true, false, not, cond, ◌&&◌, Option, Some, None, refl, arith}
+use Rattle.std.proofs.Common.{◌≡◌, ◌-◌, ◌+◌, ◌≤◌, ℕ, suc, List, [], ◌∷◌, ◌++◌, length, Bool, true, false, not, cond, ◌&&◌, Option, Some, None, refl, arith}
 use Rattle.std.specs.Prelude.{◌==◌}
 use Rattle.wl_level.specs.declared.Level.{Level}
 use Rattle.wl_level.specs.Levels.{is_dominant}
@@ -12,21 +12,20 @@ use Rattle.wl_confine.specs.declared.Happened.{Happened}
 use Rattle.wl_confine.specs.declared.Happened.TheVariants as happens
 use Rattle.wl_machine.specs.declared.state.Role.{Role}
 use Rattle.wl_machine.specs.declared.state.Role.TheVariants.{Tx, Rx}
-use Rattle.wl_machine.specs.Stretch.{Flag, Sort, Stretch, Sampled, Judgement, continues, begins, free}
+use Rattle.wl_machine.specs.Stretch.{Flag, Sort, Sampled, Judgement, continues, begins, free}
 use Rattle.wl_machine.specs.Stretch.Flag.{ActiveFlag, OverloadFlag, PassiveFlag}
 use Rattle.wl_machine.specs.Stretch.Sort.{Integration, Idle, Framing, Flagging, Waiting, Delimiting, Intermission, Suspension, OffBus}
-use Rattle.wl_machine.specs.Stretch.Input.{Sample}
 use Rattle.wl_machine.specs.BetweenFrames.{after_intermission, begun_head, idle_on, recessive_runs}
-use Rattle.wl_machine.specs.Flags.{error_flag, error_of, fails, delimiter_error, is_after_flag, is_each_eighth, long_from, dominant_run, long_of}
+use Rattle.wl_machine.specs.Flags.{error_flag, fails, delimiter_error, is_after_flag, is_each_eighth, long_from, dominant_run, long_of}
 use Rattle.wl_machine.specs.Frames.{stuffed_end, frame_role, framing_by, framing_sent, framing_received, unanswered}
-use Rattle.wl_machine.specs.Judged.{judged_by, stretch_after, drive_by}
+use Rattle.wl_machine.specs.Judged.{judged_by, drive_by}
 use Rattle.wl_heal.proofs.Cases.{differing_cases, sending_cases, receiving_cases, sent_tail_cases, acknowledging_cases, received_tail_cases}
 use Rattle.wl_heal.proofs.Possible.{waiting_on}
 use Rattle.wl_machine.specs.States.{stretch_by}
 use Rattle.wl_heal.proofs.Samples.{going, either}
 use Rattle.std.proofs.lemmas.Bool.{eqb-true}
 use Rattle.wl_level.specs.declared.Level.TheVariants.{Dominant, Recessive}
-use Rattle.wl_machine.specs.Frames.{drive_up_to, tail_drive}
+use Rattle.wl_machine.specs.Frames.{tail_drive}
 use Rattle.wl_heal.proofs.Possible.{IsPossibleBy}
 use Rattle.wl_heal.proofs.Samples.{longer}
 use Rattle.wl_heal.proofs.Settle.{is_new_flag}

@@ -1,6 +1,6 @@
 -- Before the end of its stuffed part a frame has no more than 147 samples, whoever sends it and whatever it is.
-use Rattle.std.proofs.Common.{◌≡◌, ◌∙◌, ℕ, zero, suc, ◌+◌, ◌-◌, ◌*◌, ◌<◌, ◌≤◌, List, [], ◌∷◌, ◌++◌, length, Bool, true, false, not, cond, ◌&&◌, Option, Some, None, refl, sym, ap, subst, arith, append-nil, length-append, inl, inr}
-use Rattle.std.specs.Prelude.{◌==◌, nat_le, fold}
+use Rattle.std.proofs.Common.{◌≡◌, ◌∙◌, ℕ, suc, ◌+◌, ◌-◌, ◌*◌, ◌≤◌, List, [], ◌∷◌, ◌++◌, length, Bool, true, false, not, cond, ◌&&◌, Option, Some, None, refl, sym, ap, subst, arith, append-nil, length-append, inl, inr}
+use Rattle.std.specs.Prelude.{◌==◌, fold}
 use Rattle.std.proofs.lemmas.Bool.{cases_Bool, leb-true, both_ways}
 use Rattle.wl_level.specs.declared.Level.{Level}
 use Rattle.wl_level.specs.declared.Level.TheVariants.{Dominant, Recessive}
@@ -9,19 +9,19 @@ use Rattle.wl_level.specs.Places.{at, before, run_at, run_at_end}
 use Rattle.wl_level.proofs.Callers.{first_none}
 use Rattle.wl_frame.specs.Stuffing.{is_stuff, destuffed_bits}
 use Rattle.wl_frame.specs.Header.{is_extended}
-use Rattle.wl_frame.specs.Grammar.{Content, bits_of, is_front, is_whole, is_crc_right, byte_count, covered_length, layout_by}
+use Rattle.wl_frame.specs.Grammar.{Content, bits_of, is_front, is_whole, byte_count, covered_length, layout_by}
 use Rattle.wl_frame.proofs.Callers.{front_more, stuff_run, run_more, destuffed_more}
 use Rattle.wl_confine.specs.declared.Mode.{Mode}
 use Rattle.wl_confine.specs.declared.Mode.TheVariants.{Active, Passive, Off}
 use Rattle.wl_confine.specs.declared.Happened.TheVariants as happens
 use Rattle.wl_machine.specs.declared.state.Role.{Role}
 use Rattle.wl_machine.specs.declared.state.Role.TheVariants.{Tx, Rx}
-use Rattle.wl_machine.specs.Stretch.{Flag, Sort, Stretch, Sampled, Input, Judgement, continues, begins, free}
+use Rattle.wl_machine.specs.Stretch.{Sort, Stretch, Sampled, Input, Judgement, continues, begins, free}
 use Rattle.wl_machine.specs.Stretch.Flag.{ActiveFlag, OverloadFlag, PassiveFlag}
 use Rattle.wl_machine.specs.Stretch.Sort.{Integration, Idle, Framing, Flagging, Waiting, Delimiting, Intermission, Suspension, OffBus}
 use Rattle.wl_machine.specs.Stretch.Input.{Sample, SwitchedOff}
 use Rattle.wl_machine.specs.BetweenFrames.{after_intermission, begun_head, idle_on, recessive_runs}
-use Rattle.wl_machine.specs.Flags.{error_flag, fails, delimiter_error, is_after_flag, is_each_eighth, long_from, dominant_run, long_of}
+use Rattle.wl_machine.specs.Flags.{fails, delimiter_error, is_after_flag, is_each_eighth, long_from, dominant_run, long_of}
 use Rattle.wl_machine.specs.Frames.{stuffed_end, sent_at, frame_role, framing_by, framing_sent, framing_received, unanswered}
 use Rattle.wl_machine.specs.Judged.{judged_by, stretch_after, stretch_of}
 use Rattle.wl_machine.specs.States.{stretch_by}

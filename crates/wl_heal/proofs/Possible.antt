@@ -1,15 +1,13 @@
 -- What is so in the running stretch of every machine, whatever has reached it: it is no longer than its sort allows.
-use Rattle.std.proofs.Common.{◌≡◌, ◌∙◌, ℕ, suc, ◌+◌, ◌-◌, ◌<◌, ◌≤◌, List, [], ◌∷◌, ◌++◌, length, Bool, true, false, not, cond, ◌&&◌, Option, Some, None, refl, sym, ap, subst, arith}
-use Rattle.std.specs.Prelude.{nat_le, nat_eq, ◌==◌, fold}
+use Rattle.std.proofs.Common.{◌≡◌, ◌∙◌, ℕ, ◌+◌, ◌-◌, ◌<◌, ◌≤◌, List, [], ◌∷◌, ◌++◌, length, Bool, true, false, not, cond, Option, Some, None, refl, sym, ap, arith}
+use Rattle.std.specs.Prelude.{◌==◌, fold}
 use Rattle.std.proofs.lemmas.Bool.{cond_both, eqb-true, eqb-false}
-use Rattle.std.proofs.lemmas.List.Sums.{fold-append}
 use Rattle.wl_level.specs.declared.Level.{Level}
 use Rattle.wl_level.specs.declared.Level.TheVariants.{Dominant, Recessive}
-use Rattle.wl_level.specs.Levels.{is_dominant, same}
-use Rattle.wl_level.specs.Places.{or_at, run_at_end, before}
-use Rattle.wl_frame.specs.Stuffing.{is_stuff, destuffed_bits}
-use Rattle.wl_frame.specs.Grammar.{Content, bits_of, is_crc_right, is_arbitration}
-use Rattle.wl_confine.specs.declared.ErrorKind.{ErrorKind}
+use Rattle.wl_level.specs.Levels.{is_dominant}
+use Rattle.wl_level.specs.Places.{or_at, run_at_end}
+use Rattle.wl_frame.specs.Stuffing.{destuffed_bits}
+use Rattle.wl_frame.specs.Grammar.{Content}
 use Rattle.wl_confine.specs.declared.Mode.{Mode}
 use Rattle.wl_confine.specs.declared.Mode.TheVariants.{Active, Passive, Off}
 use Rattle.wl_confine.specs.declared.Happened.TheVariants as happens
@@ -19,12 +17,12 @@ use Rattle.wl_machine.specs.Stretch.{Flag, Sort, Stretch, Sampled, Input, Judgem
 use Rattle.wl_machine.specs.Stretch.Flag.{ActiveFlag, OverloadFlag, PassiveFlag}
 use Rattle.wl_machine.specs.Stretch.Sort.{Integration, Idle, Framing, Flagging, Waiting, Delimiting, Intermission, Suspension, OffBus}
 use Rattle.wl_machine.specs.Stretch.Input.{Sample, SwitchedOff}
-use Rattle.wl_machine.specs.Flags.{fails, error_flag, error_of, is_after_flag, is_each_eighth, long_from, dominant_run, long_of}
-use Rattle.wl_machine.specs.BetweenFrames.{after_intermission, begun_head, idle_on, recessive_runs}
-use Rattle.wl_machine.specs.Frames.{stuffed_end, sent_at, frame_role, framing_by, framing_sent, framing_received, sending, differing, sent_tail, unanswered, receiving, received_tail, acknowledging, last_bit}
-use Rattle.wl_machine.specs.Judged.{judged, judged_by, stretch_after, stretch_of}
-use Rattle.wl_machine.specs.States.{sample_of, stretch_by}
-use Rattle.wl_machine.proofs.Callers.{stretch_next, end_more, end_stays, ends_at}
+use Rattle.wl_machine.specs.Flags.{error_flag, is_after_flag, is_each_eighth, long_from, dominant_run, long_of}
+use Rattle.wl_machine.specs.BetweenFrames.{after_intermission, idle_on, recessive_runs}
+use Rattle.wl_machine.specs.Frames.{stuffed_end, frame_role, framing_by, framing_sent, framing_received, unanswered}
+use Rattle.wl_machine.specs.Judged.{judged_by, stretch_after, stretch_of}
+use Rattle.wl_machine.specs.States.{stretch_by}
+use Rattle.wl_machine.proofs.Callers.{end_more, end_stays, ends_at}
 use Rattle.wl_heal.proofs.Cases.{differing_cases, sending_cases, receiving_cases, sent_tail_cases, acknowledging_cases, received_tail_cases}
 use Rattle.wl_heal.proofs.Samples.{going, either, longer, run_up, run_other}
 

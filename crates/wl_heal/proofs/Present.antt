@@ -1,16 +1,15 @@
 -- The machines of a wire that take part, as a wire of their own.
-use Rattle.std.proofs.Common.{◌≡◌, ◌≢◌, ◌∙◌, ℕ, zero, suc, ◌+◌, ◌<◌, ◌≤◌, List, [], ◌∷◌, ◌++◌, Bool, true, false, not, cond, ◌&&◌, Option, Some, None, refl, sym, ap, subst, arith, inl, inr, ◌⊎◌}
+use Rattle.std.proofs.Common.{◌≡◌, ◌∙◌, ℕ, zero, suc, ◌<◌, ◌≤◌, List, [], ◌∷◌, ◌++◌, Bool, true, false, not, cond, Some, refl, sym, ap, subst, arith, inl, inr}
 use Rattle.std.specs.Prelude.{◌==◌, slice_get}
 use Rattle.std.proofs.lemmas.Bool.{both_ways, eqb-false, eqb-true, cases_lt, ne_eqb, eq-eqb, cond_both, not-true}
 use Rattle.wl_level.specs.declared.Level.{Level}
 use Rattle.wl_level.specs.declared.Level.TheVariants.{Dominant, Recessive}
-use Rattle.wl_frame.specs.Grammar.{Content}
-use Rattle.wl_machine.specs.Stretch.{Stretch, Input}
+use Rattle.wl_machine.specs.Stretch.{Input}
 use Rattle.wl_machine.specs.Stretch.Input.{Sample}
 use Rattle.wl_machine.specs.Judged.{drive_of, stretch_of, head_of}
-use Rattle.wl_wire.specs.Wire.{Wire, Handed, Event, Bit, Own, stretch_at, bus, sampled, next_wire, is_between}
+use Rattle.wl_wire.specs.Wire.{Wire, Handed, Bit, stretch_at, bus, sampled, next_wire, is_between}
 use Rattle.wl_wire.specs.Heads.{OwnHeads}
-use Rattle.wl_wire.specs.InStep.{Has, AreSoundFrames, AreBetween, AreInIntermission, AreInFrame, IsSender}
+use Rattle.wl_wire.specs.InStep.{AreSoundFrames, AreBetween, AreInIntermission, AreInFrame}
 use Rattle.wl_heal.specs.Joining.{is_apart, is_apart_by, AreThosePresent}
 use Rattle.wl_heal.proofs.Apart.{apart_test, apart_drive}
 use Rattle.wl_heal.proofs.Inside.{inside_next}

@@ -1,10 +1,9 @@
 -- One sample more: runs of equal levels, and what a judgement begins.
-use Rattle.std.proofs.Common.{◌≡◌, ◌∙◌, ℕ, zero, suc, ◌+◌, ◌<◌, ◌≤◌, List, [], ◌∷◌, ◌++◌, length, Bool, true, false, cond, Option, Some, None, refl, sym, ap, subst, arith, length-append, inl, inr, ◌⊎◌}
-use Rattle.std.specs.Prelude.{nat_le}
-use Rattle.std.proofs.lemmas.Bool.{cases_Bool, le-leb}
+use Rattle.std.proofs.Common.{◌≡◌, ◌∙◌, ℕ, zero, suc, ◌+◌, ◌<◌, ◌≤◌, List, [], ◌∷◌, ◌++◌, length, Bool, true, false, cond, refl, sym, ap, subst, arith, length-append}
+use Rattle.std.proofs.lemmas.Bool.{le-leb}
 use Rattle.wl_level.specs.declared.Level.{Level}
 use Rattle.wl_level.specs.declared.Level.TheVariants.{Dominant, Recessive}
-use Rattle.wl_level.specs.Levels.{same, is_dominant, opposite}
+use Rattle.wl_level.specs.Levels.{same}
 use Rattle.wl_level.specs.Places.{at, before, run_at, run_before, run_at_end}
 use Rattle.wl_level.proofs.Callers.{run_more, run_positive, same_self, same_equal}
 use Rattle.wl_frame.specs.Stuffing.{is_stuff}

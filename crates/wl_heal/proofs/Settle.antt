@@ -1,31 +1,31 @@
 -- Recessive samples bring an error active machine between frames within 16, if it begins no flag with them. A dominant one begins one, near the end.
-use Rattle.std.proofs.Common.{◌≡◌, ◌∙◌, ℕ, zero, suc, ◌+◌, ◌-◌, ◌<◌, ◌≤◌, List, [], ◌∷◌, ◌++◌, length, Bool, true, false, not, cond, ◌&&◌, Option, Some, None, ◌⊎◌, inl, inr, refl, sym, ap, subst, arith}
+use Rattle.std.proofs.Common.{◌≡◌, ◌∙◌, ℕ, suc, ◌+◌, ◌-◌, ◌<◌, ◌≤◌, List, [], ◌∷◌, ◌++◌, length, Bool, true, false, not, cond, Option, Some, None, ◌⊎◌, inl, inr, refl, sym, ap, subst, arith}
 use Rattle.std.specs.Prelude.{◌==◌}
-use Rattle.std.proofs.lemmas.Bool.{cond_both, eqb-true, eqb-false, cases_lt, both_ways, and_from, not-true, and_parts, eq-eqb}
+use Rattle.std.proofs.lemmas.Bool.{cond_both, eqb-true, cases_lt, both_ways, and_from, not-true, and_parts, eq-eqb}
 use Rattle.wl_level.specs.declared.Level.{Level}
 use Rattle.wl_level.specs.declared.Level.TheVariants.{Dominant, Recessive}
-use Rattle.wl_level.specs.Levels.{is_dominant, same, opposite}
+use Rattle.wl_level.specs.Levels.{same, opposite}
 use Rattle.wl_level.specs.Places.{or_at, run_at_end, before, at}
 use Rattle.wl_frame.specs.Stuffing.{is_stuff, destuffed_bits}
-use Rattle.wl_frame.specs.Grammar.{Content, bits_of, is_crc_right, is_whole}
+use Rattle.wl_frame.specs.Grammar.{Content, bits_of, is_whole}
 use Rattle.wl_confine.specs.declared.Mode.TheVariants.{Active}
 use Rattle.wl_confine.specs.declared.Happened.TheVariants as happens
 use Rattle.wl_machine.specs.declared.state.Role.{Role}
 use Rattle.wl_machine.specs.declared.state.Role.TheVariants.{Tx, Rx}
-use Rattle.wl_machine.specs.Stretch.{Flag, Sort, Stretch, Sampled, Judgement, continues, begins, free}
+use Rattle.wl_machine.specs.Stretch.{Sort, Stretch, Sampled, Judgement, continues, begins, free}
 use Rattle.wl_machine.specs.Stretch.Flag.{ActiveFlag, OverloadFlag, PassiveFlag}
 use Rattle.wl_machine.specs.Stretch.Sort.{Integration, Idle, Framing, Flagging, Waiting, Delimiting, Intermission, Suspension, OffBus}
 use Rattle.wl_machine.specs.Stretch.Input.{Sample}
 use Rattle.wl_machine.specs.BetweenFrames.{after_intermission, begun_head, idle_on}
 use Rattle.wl_machine.specs.Flags.{delimiter_error, fails}
 use Rattle.wl_machine.specs.Frames.{stuffed_end, sent_at, frame_role, frame_drive, drive_up_to, stuffed_drive, framing_by, framing_sent, framing_received}
-use Rattle.wl_machine.specs.Judged.{judged_by, stretch_after, drive_of, drive_by}
+use Rattle.wl_machine.specs.Judged.{judged_by, stretch_after, drive_by}
 use Rattle.wl_machine.specs.States.{sample_of, stretch_by}
 use Rattle.wl_machine.proofs.Callers.{end_more, end_stays, ends_at}
 use Rattle.wl_wire.specs.Wire.{is_between, is_between_by}
-use Rattle.wl_heal.specs.Joining.{is_apart, is_apart_by}
+use Rattle.wl_heal.specs.Joining.{is_apart_by}
 use Rattle.wl_heal.proofs.Cases.{sending_cases, differing_cases, receiving_cases, sent_tail_cases, acknowledging_cases, received_tail_cases}
-use Rattle.wl_heal.proofs.Possible.{HasTail, IsPossible, IsPossibleBy}
+use Rattle.wl_heal.proofs.Possible.{HasTail, IsPossibleBy}
 use Rattle.wl_heal.proofs.Samples.{going, either, longer, run_same, run_last, five_due}
 use Rattle.wl_heal.proofs.Silent.{two_levels, first_dominant}
 

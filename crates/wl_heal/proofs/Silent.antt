@@ -1,32 +1,30 @@
 -- Recessive samples bring a machine between frames.
-use Rattle.std.proofs.Common.{◌≡◌, ◌∙◌, ℕ, zero, suc, ◌+◌, ◌-◌, ◌<◌, ◌≤◌, List, [], ◌∷◌, ◌++◌, length, Bool, true, false, not, cond, ◌&&◌, Option, Some, None, ◌⊎◌, inl, inr, refl, sym, ap, subst, arith}
+use Rattle.std.proofs.Common.{◌≡◌, ◌∙◌, ℕ, suc, ◌+◌, ◌-◌, ◌<◌, ◌≤◌, List, [], ◌∷◌, ◌++◌, length, Bool, true, false, not, cond, Option, Some, None, ◌⊎◌, inl, inr, refl, sym, ap, subst, arith}
 use Rattle.std.specs.Prelude.{◌==◌, slice_get}
-use Rattle.std.proofs.lemmas.Bool.{cond_both, eqb-true, eqb-false, eq-eqb, cases_Bool, cases_lt, both_ways, not-true, and_parts, and_from}
+use Rattle.std.proofs.lemmas.Bool.{cond_both, eqb-true, eq-eqb, cases_lt, both_ways, not-true, and_parts, and_from}
 use Rattle.wl_level.specs.declared.Level.{Level}
 use Rattle.wl_level.specs.declared.Level.TheVariants.{Dominant, Recessive}
 use Rattle.wl_level.specs.Levels.{is_dominant, same, opposite}
 use Rattle.wl_level.specs.Places.{or_at, run_at_end, before, at}
 use Rattle.wl_level.proofs.Callers.{recessive_from}
 use Rattle.wl_frame.specs.Stuffing.{is_stuff, destuffed_bits}
-use Rattle.wl_frame.specs.Grammar.{Content, bits_of, number_bits, is_crc_right, is_whole}
-use Rattle.wl_frame.specs.Header.{sent_free}
+use Rattle.wl_frame.specs.Grammar.{Content, bits_of, number_bits, is_whole}
 use Rattle.wl_confine.specs.declared.Mode.{Mode}
 use Rattle.wl_confine.specs.declared.Mode.TheVariants.{Active, Passive, Off}
-use Rattle.wl_confine.specs.declared.ErrorKind.{ErrorKind}
 use Rattle.wl_confine.specs.declared.Happened.TheVariants as happens
 use Rattle.wl_machine.specs.declared.state.Role.{Role}
 use Rattle.wl_machine.specs.declared.state.Role.TheVariants.{Tx, Rx}
-use Rattle.wl_machine.specs.Stretch.{Flag, Sort, Stretch, Sampled, Input, Judgement, continues, begins, free}
+use Rattle.wl_machine.specs.Stretch.{Sort, Stretch, Sampled, Input, Judgement, continues, begins, free}
 use Rattle.wl_machine.specs.Stretch.Flag.{ActiveFlag, OverloadFlag, PassiveFlag}
 use Rattle.wl_machine.specs.Stretch.Sort.{Integration, Idle, Framing, Flagging, Waiting, Delimiting, Intermission, Suspension, OffBus}
-use Rattle.wl_machine.specs.Stretch.Input.{Sample, SwitchedOff}
-use Rattle.wl_machine.specs.Flags.{fails, error_flag}
+use Rattle.wl_machine.specs.Stretch.Input.{Sample}
+use Rattle.wl_machine.specs.Flags.{error_flag}
 use Rattle.wl_machine.specs.BetweenFrames.{after_intermission, idle_on}
 use Rattle.wl_machine.specs.Frames.{stuffed_end, sent_at, frame_role, frame_drive, drive_up_to, stuffed_drive, framing_by, framing_sent, framing_received, unanswered}
-use Rattle.wl_machine.specs.Judged.{judged, judged_by, stretch_after, stretch_of, drive_of, drive_by}
+use Rattle.wl_machine.specs.Judged.{judged_by, stretch_after, stretch_of, drive_of, drive_by}
 use Rattle.wl_machine.specs.States.{sample_of, stretch_by}
 use Rattle.wl_machine.proofs.Callers.{end_more, end_stays, ends_at}
-use Rattle.wl_wire.specs.Wire.{Wire, Handed, Event, Bit, Own, is_between, is_between_by, stretch_at, bus, sampled, may_be_alone, next_wire, wire_after}
+use Rattle.wl_wire.specs.Wire.{Wire, Handed, Event, Bit, Own, is_between, is_between_by, stretch_at, bus, sampled, next_wire, wire_after}
 use Rattle.wl_heal.specs.Silence.{stretch_on, is_off, is_off_by, silent_bits, IsSilence, bits_in, IsSilent}
 use Rattle.wl_heal.proofs.Cases.{sending_cases, receiving_cases, sent_tail_cases, acknowledging_cases, received_tail_cases}
 use Rattle.wl_heal.proofs.Possible.{HasTail, IsPossible, IsPossibleBy, possible, possible_next}

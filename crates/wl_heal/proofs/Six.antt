@@ -1,15 +1,15 @@
 -- Six dominant samples bring an error active machine into a flag, or into the wait after one.
-use Rattle.std.proofs.Common.{◌≡◌, ◌∙◌, ℕ, zero, suc, ◌+◌, ◌-◌, ◌<◌, ◌≤◌, List, [], ◌∷◌, ◌++◌, length, Bool, true, false, not, cond, ◌&&◌, Option, Some, None, ◌⊎◌, inl, inr, refl, sym, ap, subst, arith}
+use Rattle.std.proofs.Common.{◌≡◌, ◌∙◌, ℕ, suc, ◌-◌, ◌<◌, ◌≤◌, List, [], ◌∷◌, ◌++◌, length, Bool, true, false, cond, Option, Some, None, inl, inr, refl, sym, ap, subst, arith}
 use Rattle.std.specs.Prelude.{◌==◌}
-use Rattle.std.proofs.lemmas.Bool.{cond_both, eqb-true, eqb-false, ne_eqb, cases_lt, both_ways, and_from}
+use Rattle.std.proofs.lemmas.Bool.{cond_both, ne_eqb, cases_lt, both_ways, and_from}
 use Rattle.wl_level.specs.declared.Level.{Level}
 use Rattle.wl_level.specs.declared.Level.TheVariants.{Dominant, Recessive}
-use Rattle.wl_level.specs.Levels.{is_dominant, same, opposite}
+use Rattle.wl_level.specs.Levels.{same, opposite}
 use Rattle.wl_level.specs.Places.{or_at, run_at_end, before, at}
-use Rattle.wl_frame.specs.Stuffing.{is_stuff, destuffed_bits}
-use Rattle.wl_frame.specs.Grammar.{Content, bits_of, is_crc_right}
+use Rattle.wl_frame.specs.Stuffing.{destuffed_bits}
+use Rattle.wl_frame.specs.Grammar.{Content, bits_of}
 use Rattle.wl_confine.specs.declared.Mode.{Mode}
-use Rattle.wl_confine.specs.declared.Mode.TheVariants.{Active, Passive, Off}
+use Rattle.wl_confine.specs.declared.Mode.TheVariants.{Active}
 use Rattle.wl_confine.specs.declared.Happened.TheVariants as happens
 use Rattle.wl_machine.specs.declared.state.Role.{Role}
 use Rattle.wl_machine.specs.declared.state.Role.TheVariants.{Tx, Rx}
@@ -20,12 +20,12 @@ use Rattle.wl_machine.specs.Stretch.Input.{Sample}
 use Rattle.wl_machine.specs.BetweenFrames.{begun_head}
 use Rattle.wl_machine.specs.Flags.{delimiter_error, fails, is_after_flag, is_each_eighth, long_from, dominant_run, long_of}
 use Rattle.wl_machine.specs.Frames.{stuffed_end, sent_at, frame_role, framing_by, framing_sent, framing_received}
-use Rattle.wl_machine.specs.Judged.{judged_by, stretch_after, drive_of, drive_by}
+use Rattle.wl_machine.specs.Judged.{judged_by, stretch_after, drive_by}
 use Rattle.wl_machine.specs.States.{sample_of, stretch_by}
 use Rattle.wl_machine.proofs.Callers.{end_more, end_stays, ends_at}
-use Rattle.wl_heal.specs.Joining.{is_apart, is_apart_by}
+use Rattle.wl_heal.specs.Joining.{is_apart_by}
 use Rattle.wl_heal.proofs.Cases.{differing_cases, differing_due, sending_cases, receiving_cases, sent_tail_cases, acknowledging_cases, received_tail_cases}
-use Rattle.wl_heal.proofs.Possible.{HasTail, IsPossible, IsPossibleBy}
+use Rattle.wl_heal.proofs.Possible.{IsPossibleBy}
 use Rattle.wl_heal.proofs.Samples.{going, either, longer, run_same, run_last, five_due}
 
 -- how many dominant samples it takes at most

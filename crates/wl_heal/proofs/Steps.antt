@@ -1,7 +1,6 @@
 -- How machines in step go on: who is between frames and finds a dominant bit, who is in an intermission, and who sends a frame without an error.
-use Rattle.std.proofs.Common.{◌≡◌, ◌∙◌, ℕ, zero, suc, ◌+◌, ◌-◌, ◌<◌, ◌≤◌, List, [], ◌∷◌, ◌++◌, length, Bool, true, false, cond, Option, Some, None, refl, sym, ap, subst, arith}
-use Rattle.std.specs.Prelude.{◌==◌}
-use Rattle.std.proofs.lemmas.Bool.{ne_eqb, cond-true}
+use Rattle.std.proofs.Common.{◌≡◌, ℕ, ◌-◌, ◌<◌, List, [], ◌∷◌, ◌++◌, length, true, false, cond, Option, Some, None, refl, ap, arith}
+use Rattle.std.proofs.lemmas.Bool.{ne_eqb}
 use Rattle.wl_level.specs.declared.Level.{Level}
 use Rattle.wl_level.specs.declared.Level.TheVariants.{Dominant, Recessive}
 use Rattle.wl_level.specs.Levels.{is_dominant, same}
@@ -17,13 +16,13 @@ use Rattle.wl_machine.specs.Stretch.Flag.{OverloadFlag}
 use Rattle.wl_machine.specs.Stretch.Input.{Sample}
 use Rattle.wl_machine.specs.Stretch.Sort.{Integration, Idle, Framing, Flagging, Waiting, Delimiting, Intermission, Suspension, OffBus}
 use Rattle.wl_machine.specs.BetweenFrames.{after_intermission, begun_head}
-use Rattle.wl_machine.specs.Frames.{stuffed_end, sent_at, frame_role, framing, framing_by, framing_sent, differing, unanswered}
-use Rattle.wl_machine.specs.Judged.{judged_by, stretch_after}
+use Rattle.wl_machine.specs.Frames.{stuffed_end, frame_role, framing, framing_by, framing_sent, differing, unanswered}
+use Rattle.wl_machine.specs.Judged.{stretch_after}
 use Rattle.wl_machine.specs.States.{sample_of, stretch_by}
 use Rattle.wl_wire.specs.Wire.{is_between_by}
 use Rattle.wl_wire.specs.InStep.{is_fine}
 use Rattle.wl_heal.proofs.Cases.{differing_cases, sending_cases, sent_tail_cases}
-use Rattle.wl_heal.proofs.Samples.{going, either}
+use Rattle.wl_heal.proofs.Samples.{going}
 use Rattle.wl_heal.proofs.Silent.{first_dominant}
 
 -- between frames a dominant sample is the first of a frame

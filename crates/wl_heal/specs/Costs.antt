@@ -1,8 +1,6 @@
 -- What a disturbance costs a machine.
 use Rattle.std.specs.Prelude.{◌≡◌, List, [], ◌∷◌}
-use Rattle.wl_level.specs.declared.Level.{Level}
 use Rattle.wl_level.specs.declared.Level.TheVariants.{Dominant}
-use Rattle.wl_confine.specs.declared.Happened.{Happened}
 use Rattle.wl_confine.specs.Counts.{Counts, counts_after}
 use Rattle.wl_machine.specs.Stretch.{Stretch, Sampled}
 use Rattle.wl_machine.specs.Stretch.Input.{Sample}

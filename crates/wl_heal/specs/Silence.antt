@@ -1,6 +1,5 @@
 -- A bus that is recessive for some time, whatever came before.
 use Rattle.std.specs.Prelude.{◌≡◌, ◌<◌, ℕ, zero, suc, Bool, true, false, List, [], ◌∷◌}
-use Rattle.wl_level.specs.declared.Level.{Level}
 use Rattle.wl_level.specs.declared.Level.TheVariants.{Recessive}
 use Rattle.wl_machine.specs.Stretch.{Sort, Stretch, Sampled}
 use Rattle.wl_machine.specs.Stretch.Sort.{OffBus}

@@ -1,5 +1,5 @@
 use Rattle.std.proofs.Common.{refl}
-use Rattle.wl_heal.proofs.Joined.{along, no_faults, HasJoined}
+use Rattle.wl_heal.proofs.Joined.{along, no_faults}
 use Rattle.wl_heal.specs.Joining.{wire_with}
 use Rattle.wl_heal.proofs.laws.a_joining_machine_disturbs_nobody.Goals as goal
 

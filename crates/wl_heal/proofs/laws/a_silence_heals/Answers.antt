@@ -1,6 +1,5 @@
 use Rattle.std.proofs.Common.{◌<◌, subst, inl}
 use Rattle.wl_wire.specs.Wire.{wire_after}
-use Rattle.wl_wire.specs.InStep.{AreInStep}
 use Rattle.wl_wire.proofs.Callers.{count_after}
 use Rattle.wl_heal.proofs.Healed.{sound_after}
 use Rattle.wl_heal.proofs.laws.a_silence_heals.Goals as goal
