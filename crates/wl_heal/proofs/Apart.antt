@@ -22,8 +22,13 @@ use Rattle.wl_heal.proofs.Samples.{going, either}
 
 pub apart_test : IsOfOutside is_apart_by
 apart_test = record {
-  idle = refl; framing = λ head. refl; flagging = λ flag role. refl; waiting = λ flag role flagged. refl;
-  delimiting = λ role. refl; intermission = λ role. refl; suspension = refl;
+  idle = refl;
+  framing = λ head. refl;
+  flagging = λ flag role. refl;
+  waiting = λ flag role flagged. refl;
+  delimiting = λ role. refl;
+  intermission = λ role. refl;
+  suspension = refl;
 }
 
 -- it drives recessive, and has no bit by itself

@@ -34,7 +34,6 @@ use Rattle.wl_heal.proofs.Phases.{wait_phase, wait_up, wait_counts, wait_first, 
 use Rattle.wl_heal.proofs.Possible.{IsPossible, IsPossibleBy, possible, possible_next}
 use Rattle.wl_heal.proofs.Samples.{going, either, longer, run_last}
 
-
 -- what happens adds so much to the REC, times 16
 abbrev pub rec_of : Happened → ℕ
 rec_of (happens.RxError kind) = 16

@@ -86,8 +86,8 @@ all_down zero w handed all =
 all_down (suc n) w handed all = elim (level_cases (bus w)) [
   | inr r ↦ longer_within 8 (suc n + 8) w handed (omega arith) (recessive_then w handed (suc n) all r)
   | inl d ↦ longer_within (suc (n + 8)) (suc n + 8) w handed (omega arith) (later (n + 8) w handed (all_down n (next_wire w (Bit (handed 0))) (λ i. handed (suc i))
-    (λ k lt. subst (IsDown n) (sym (finds w (handed 0) k Dominant d))
-    (stays_down (stretch_at w k).sort (stretch_at w k).own n (slice_get (w.frames k) (handed 0 k).which) (handed 0 k).mode (possible (w.past k)) (all k lt)))))
+      (λ k lt. subst (IsDown n) (sym (finds w (handed 0) k Dominant d))
+      (stays_down (stretch_at w k).sort (stretch_at w k).own n (slice_get (w.frames k) (handed 0 k).which) (handed 0 k).mode (possible (w.past k)) (all k lt)))))
 ]
 
 -- dominant bits bring all there

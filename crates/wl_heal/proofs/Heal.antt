@@ -74,7 +74,7 @@ new_flag Suspension own h = cc
 new_flag OffBus own h = cc
 
 dominant_bus : (w : Wire) (k : ℕ) → k < w.count → drive_of (stretch_at w k) ≡ Dominant → bus w ≡ Dominant
-dominant_bus w k lt d = elim (level_cases (bus w)) [ | inl e ↦ e | inr e ↦ absurd (bus_driven w k lt d e) ]
+dominant_bus w k lt d = elim (level_cases (bus w)) [ inl e ↦ e | inr e ↦ absurd (bus_driven w k lt d e) ]
 
 flag_runs : (n : ℕ) (w : Wire) (handed : ℕ → ℕ → Handed) (k : ℕ) → k < w.count → (flag : Flag) → IsDominantFlag flag → (role : Role) (own : List Level)
     → stretch_at w k ≡ stretch_by (Flagging flag role) own → length own + n ≡ 6 → IsDominantFor n w handed
@@ -133,7 +133,7 @@ module _ (w : Wire) (handed : ℕ → ℕ → Handed) (active : AreActive handed
   flag_next most few f = later most w handed (longer_within 20 most next rest few (flag_heals next rest rest_active next_part f))
 
   unless_flag : (most : ℕ) → 20 ≤ most → (NoneBegins next → AreInStepWithin (suc most) w handed) → AreInStepWithin (suc most) w handed
-  unless_flag most few go = elim (decide next) [ | inl f ↦ flag_next most few f | inr none ↦ go none ]
+  unless_flag most few go = elim (decide next) [ inl f ↦ flag_next most few f | inr none ↦ go none ]
 
   near_next : (n : ℕ) → bus w ≡ Recessive → NoneBegins next → ((k : ℕ) → k < w.count → Settles (suc n) (stretch_at w k)) → (k : ℕ) → k < w.count → Settles n (stretch_at next k)
   near_next n r none near k lt =
@@ -164,13 +164,13 @@ module _ (w : Wire) (handed : ℕ → ℕ → Handed) (active : AreActive handed
 
 -- the last six recessive bits
 near_all : (w : Wire) (m n : ℕ) → m ≤ n → ((k : ℕ) → k < w.count → Settles m (stretch_at w k)) → (k : ℕ) → k < w.count → Settles n (stretch_at w k)
-near_all w m n le near k lt = elim (near k lt) [ | inl b ↦ inl b | inr h ↦ inr (omega arith) ]
+near_all w m n le near k lt = elim (near k lt) [ inl b ↦ inl b | inr h ↦ inr (omega arith) ]
 
 settle : (n : ℕ) → n ≤ 6 → (w : Wire) (handed : ℕ → ℕ → Handed) → AreActive handed → AllTakePart w → ((k : ℕ) → k < w.count → Settles n (stretch_at w k)) → AreInStepWithin (n + 21) w handed
 settle zero few w handed active part near = (0, omega arith, inl (λ k lt. settled (stretch_at w k).sort (stretch_at w k).own (possible (w.past k)) (part k lt) (near k lt)))
 settle (suc n) few w handed active part near = longer_within (suc (n + 21)) (suc n + 21) w handed (omega arith) (elim (level_cases (bus w)) [
   | inr r ↦ unless_flag w handed active part (n + 21) (omega arith) (λ none.
-    later (n + 21) w handed (settle n (omega arith) (next_wire w (Bit (handed 0))) (λ i. handed (suc i)) (rest_active w handed active part) (next_part w handed active part) (near_next w handed active part n r none near)))
+      later (n + 21) w handed (settle n (omega arith) (next_wire w (Bit (handed 0))) (λ i. handed (suc i)) (rest_active w handed active part) (next_part w handed active part) (near_next w handed active part n r none near)))
   | inl d ↦ elim (some_not w handed active part (near_all w (suc n) 6 few near) d) [
     | inl b ↦ (0, omega arith, inl b)
     | inr f ↦ flag_next w handed active part (n + 21) (omega arith) f
@@ -183,11 +183,11 @@ resting : (n : ℕ) (w : Wire) (handed : ℕ → ℕ → Handed) → AreActive h
 resting zero w handed active part b lt role own e few near = settle 6 (omega arith) w handed active part (near_all w (6 + 0) 6 (omega arith) near)
 resting (suc n) w handed active part b lt role own e few near = longer_within (suc (n + 27)) (suc n + 27) w handed (omega arith) (elim (level_cases (bus w)) [
   | inl d ↦ flag_next w handed active part (n + 27) (omega arith) (breaks w handed active part b lt d
-    (ap (λ s. is_new_flag (stretch_after s (Sample (sample_of Dominant (head w handed active part b) Active)))) e ∙ intermission_breaks (head w handed active part b) role own (ne_eqb (length own) 2 (λ f. omega arith))))
+      (ap (λ s. is_new_flag (stretch_after s (Sample (sample_of Dominant (head w handed active part b) Active)))) e ∙ intermission_breaks (head w handed active part b) role own (ne_eqb (length own) 2 (λ f. omega arith))))
   | inr r ↦ unless_flag w handed active part (n + 27) (omega arith) (λ none.
-    later (n + 27) w handed (resting n (next_wire w (Bit (handed 0))) (λ i. handed (suc i)) (rest_active w handed active part) (next_part w handed active part) b lt role (own ++ Recessive ∷ [])
-    (found w handed active part b Recessive r ∙ ap (λ s. stretch_after s (Sample (sample_of Recessive (head w handed active part b) Active))) e ∙ rests_on role own (head w handed active part b) Active (omega arith))
-    (let m = longer own Recessive in omega arith) (near_next w handed active part (6 + n) r none (near_all w (6 + suc n) (suc (6 + n)) (omega arith) near))))
+      later (n + 27) w handed (resting n (next_wire w (Bit (handed 0))) (λ i. handed (suc i)) (rest_active w handed active part) (next_part w handed active part) b lt role (own ++ Recessive ∷ [])
+      (found w handed active part b Recessive r ∙ ap (λ s. stretch_after s (Sample (sample_of Recessive (head w handed active part b) Active))) e ∙ rests_on role own (head w handed active part b) Active (omega arith))
+      (let m = longer own Recessive in omega arith) (near_next w handed active part (6 + n) r none (near_all w (6 + suc n) (suc (6 + n)) (omega arith) near))))
 ])
 
 -- a machine in the tail of a frame
@@ -223,12 +223,12 @@ ending zero w handed active part b lt frame own end e found_end place few near =
 ending (suc n) w handed active part b lt frame own end e found_end place few near = elim (level_cases (bus w)) [
   | inl d ↦ longer_within 30 (suc n + 30) w handed (omega arith) (tail_broken w handed active part b lt frame own end e found_end (omega arith) d)
   | inr r ↦ longer_within (suc (n + 30)) (suc n + 30) w handed (omega arith) (unless_flag w handed active part (n + 30) (omega arith) (λ none.
-    elim (went w handed active part b lt frame own end e found_end (omega arith) r none) [
-      | on early is ↦ (let m = longer own Recessive in later (n + 30) w handed
-        (ending n (next_wire w (Bit (handed 0))) (λ i. handed (suc i)) (rest_active w handed active part) (next_part w handed active part) b lt frame (own ++ Recessive ∷ []) end is
-        (end_stays own Recessive end found_end) (omega arith) (omega arith) (near_next w handed active part (9 + n) r none (near_all w (9 + suc n) (suc (9 + n)) (omega arith) near))))
-      | over nine role is ↦ absurd (omega arith)
-    ]))
+      elim (went w handed active part b lt frame own end e found_end (omega arith) r none) [
+        | on early is ↦ (let m = longer own Recessive in later (n + 30) w handed
+            (ending n (next_wire w (Bit (handed 0))) (λ i. handed (suc i)) (rest_active w handed active part) (next_part w handed active part) b lt frame (own ++ Recessive ∷ []) end is
+            (end_stays own Recessive end found_end) (omega arith) (omega arith) (near_next w handed active part (9 + n) r none (near_all w (9 + suc n) (suc (9 + n)) (omega arith) near))))
+        | over nine role is ↦ absurd (omega arith)
+      ]))
 ]
 
 -- a machine in a frame, up to its ACK slot
@@ -284,8 +284,8 @@ quiet : (n : ℕ) (w : Wire) (handed : ℕ → ℕ → Handed) → AreActive han
 quiet zero w handed active part near left = (0, omega arith, inl (λ k lt. settled (stretch_at w k).sort (stretch_at w k).own (possible (w.past k)) (part k lt) (near k lt)))
 quiet (suc n) w handed active part near left = elim (level_cases (bus w)) [
   | inr r ↦ longer_within (suc (n + 187)) (suc n + 187) w handed (omega arith) (unless_flag w handed active part (n + 187) (omega arith) (λ none.
-    later (n + 187) w handed (quiet n (next_wire w (Bit (handed 0))) (λ i. handed (suc i)) (rest_active w handed active part) (next_part w handed active part) (near_next w handed active part n r none near)
-    (left_next w handed active part 0 none (λ k lt e. let six = left k lt e in omega arith)))))
+      later (n + 187) w handed (quiet n (next_wire w (Bit (handed 0))) (λ i. handed (suc i)) (rest_active w handed active part) (next_part w handed active part) (near_next w handed active part n r none near)
+      (left_next w handed active part 0 none (λ k lt e. let six = left k lt e in omega arith)))))
   | inl d ↦ longer_within 187 (suc n + 187) w handed (omega arith) (driven d)
 ]
   where

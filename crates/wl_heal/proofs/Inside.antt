@@ -36,8 +36,13 @@ pub record IsOfOutside (t : Sort → Bool) : Type 0 where
 
 pub off_test : IsOfOutside is_off_by
 off_test = record {
-  idle = refl; framing = λ head. refl; flagging = λ flag role. refl; waiting = λ flag role flagged. refl;
-  delimiting = λ role. refl; intermission = λ role. refl; suspension = refl;
+  idle = refl;
+  framing = λ head. refl;
+  flagging = λ flag role. refl;
+  waiting = λ flag role flagged. refl;
+  delimiting = λ role. refl;
+  intermission = λ role. refl;
+  suspension = refl;
 }
 
 module _ (t : Sort → Bool) (is : IsOfOutside t) where

@@ -24,7 +24,7 @@ use Rattle.wl_wire.specs.Wire.{Wire, Handed, Event, Bit, Own, stretch_at, bus, s
 use Rattle.wl_wire.specs.Heads.{OwnHeads}
 use Rattle.wl_wire.specs.InStep.{AreSoundFrames, AreBetween, AreInIntermission, AreInFrame, AreInStep, FindsNoError, is_fine}
 use Rattle.wl_heal.specs.Silence.{is_off_by, is_off}
-use Rattle.wl_heal.specs.Joining.{is_apart, is_apart_by, AreThosePresent, RunsUpTo, RunsAt, tail_runs, AreInStepBeside, Change, Happens, Joins, joined_wire, changed, wire_with, is_no_fault, FindNoFault}
+use Rattle.wl_heal.specs.Joining.{is_apart, is_apart_by, AreThosePresent, RunsUpTo, RunsAt, tail_runs, AreInStepBeside, Change, Happens, Joins, joined_wire, wire_changed, wire_with, is_no_fault, FindNoFault}
 use Rattle.wl_heal.proofs.Apart.{StaysApart, apart_test, apart_alone, apart_or_between, apart_no_fault, stays_apart}
 use Rattle.wl_heal.proofs.Inside.{inside_next}
 use Rattle.wl_heal.proofs.Possible.{possible}
@@ -276,9 +276,9 @@ module _ (step_law : StepLaw) (error_law : ErrorLaw) (w u : Wire) (m : AreThoseP
     few_recessive e r = elim (cases_lt (run_at_end Recessive own) 5) [
       | inl lt ↦ omega arith
       | inr five ↦ absurd (bus_driven u f.sender.0 f.sender.1
-        (ap drive_of f.sender.3.framing ∙ ap (λ o. drive_up_to o (Some f.sender.2) own) e ∙ ap (λ role. stuffed_drive role (Some f.sender.2) own) f.sender.3.role
-        ∙ ap (λ b. cond b (opposite (before own (length own))) (at (bits_of f.sender.2) (length (destuffed_bits own (length own))))) (five_due Recessive own five)
-        ∙ ap opposite (run_last Recessive own (length own) (omega arith))) (same_bus ∙ r))
+          (ap drive_of f.sender.3.framing ∙ ap (λ o. drive_up_to o (Some f.sender.2) own) e ∙ ap (λ role. stuffed_drive role (Some f.sender.2) own) f.sender.3.role
+          ∙ ap (λ b. cond b (opposite (before own (length own))) (at (bits_of f.sender.2) (length (destuffed_bits own (length own))))) (five_due Recessive own five)
+          ∙ ap opposite (run_last Recessive own (length own) (omega arith))) (same_bus ∙ r))
     ]
 
     -- a bit of the stuffed part
@@ -336,9 +336,9 @@ module _ (step_law : StepLaw) (error_law : ErrorLaw) (w u : Wire) (m : AreThoseP
               let long = longer own (bus u) in
               elim (cases_lt (length own - end) 2) [
                 | inl lt ↦ (let no = no_slot in let t = tail_low (length own - end) (omega arith) in let t' = tail_low (length (own ++ bus u ∷ []) - end) (omega arith) in
-                  weaker w' (suc (tail_runs (length own - end))) (tail_runs (length (own ++ bus u ∷ []) - end)) (omega arith) runs)
+                    weaker w' (suc (tail_runs (length own - end))) (tail_runs (length (own ++ bus u ∷ []) - end)) (omega arith) runs)
                 | inr ge ↦ (let t = tail_high (length own - end) ge in let t' = tail_high (length (own ++ bus u ∷ []) - end) (omega arith) in
-                  weaker w' (suc (tail_runs (length own - end))) (tail_runs (length (own ++ bus u ∷ []) - end)) (omega arith) runs)
+                    weaker w' (suc (tail_runs (length own - end))) (tail_runs (length (own ++ bus u ∷ []) - end)) (omega arith) runs)
               ]
 
       at_end : stretch_at u' f.sender.0 ≡ stretch_by (Intermission Tx) [] → (bus w ≡ Dominant) ⊎ (bus w ≡ Recessive) → IsJoined w'
@@ -356,7 +356,7 @@ module _ (step_law : StepLaw) (error_law : ErrorLaw) (w u : Wire) (m : AreThoseP
         by (over end e nine is) = at_end end e is (level_cases (bus w))
 
   bit_joined : AreInStepBeside w u → IsJoined w'
-  bit_joined (inl b) = elim (level_cases (bus w)) [ | inl d ↦ begins_frame b d | inr r ↦ freed b r ]
+  bit_joined (inl b) = elim (level_cases (bus w)) [ inl d ↦ begins_frame b d | inr r ↦ freed b r ]
   bit_joined (inr (inl i)) = rests i.0 i.1 i.2
   bit_joined (inr (inr f)) = in_frame f.0 f.1 f.2
 
@@ -494,25 +494,25 @@ module _ (step_law : StepLaw) (error_law : ErrorLaw) (heads_law : (w : Wire) (ev
   sound_here : (w : Wire) → w.frames ≡ frames → w.count ≤ most → (j : IsJoined w) → AreSoundFrames j.present.count j.present.frames
   sound_here w same few j = sound_there w j.present j.those most few j.two (subst (AreSoundFrames most) (sym same) sound)
 
-  one : (w : Wire) → w.frames ≡ frames → w.count ≤ most → OwnHeads w → IsJoined w → (change : Change) → IsJoined (changed w change)
+  one : (w : Wire) → w.frames ≡ frames → w.count ≤ most → OwnHeads w → IsJoined w → (change : Change) → IsJoined (wire_changed w change)
   one w same few heads j (Happens (Bit handed)) =
       bit_joined step_law error_law w j.present j.those j.two (sound_here w same few j) (heads_there w j.present j.those heads) handed j.step
   one w same few heads j (Happens (Own machine handed)) = alone_joined w j.present j.those machine handed j.two j.step
   one w same few heads j Joins = joins w j
 
-  one_heads : (w : Wire) → OwnHeads w → (change : Change) → OwnHeads (changed w change)
+  one_heads : (w : Wire) → OwnHeads w → (change : Change) → OwnHeads (wire_changed w change)
   one_heads w heads (Happens event) = heads_law w (event ∷ []) heads
   one_heads w heads Joins = heads_joined w heads
 
-  grows_one : (w : Wire) (change : Change) → w.count ≤ (changed w change).count
+  grows_one : (w : Wire) (change : Change) → w.count ≤ (wire_changed w change).count
   grows_one w (Happens event) = omega arith
   grows_one w Joins = omega arith
 
   grows : (w : Wire) (changes : List Change) → w.count ≤ (wire_with w changes).count
   grows w [] = omega arith
-  grows w (change ∷ changes) = let a = grows_one w change in let b = grows (changed w change) changes in omega arith
+  grows w (change ∷ changes) = let a = grows_one w change in let b = grows (wire_changed w change) changes in omega arith
 
-  same_frames : (w : Wire) (change : Change) → (changed w change).frames ≡ w.frames
+  same_frames : (w : Wire) (change : Change) → (wire_changed w change).frames ≡ w.frames
   same_frames w (Happens event) = refl
   same_frames w Joins = refl
 
@@ -525,8 +525,8 @@ module _ (step_law : StepLaw) (error_law : ErrorLaw) (heads_law : (w : Wire) (ev
   along w [] h few = h
   along w (change ∷ changes) h few =
       let up = grows_one w change in
-      let all = grows (changed w change) changes in
-      along (changed w change) changes
+      let all = grows (wire_changed w change) changes in
+      along (wire_changed w change) changes
       (record { same = same_frames w change ∙ h.same; heads = one_heads w h.heads change; joined = one w h.same (omega arith) h.heads h.joined change }) few
 
   -- no error

@@ -126,10 +126,10 @@ module _ (x : Sampled) where
     sends : (c : Content) (o : Option ℕ) → stuffed_end own ≡ o → P (framing_sent c own o x)
     sends c None e = elim (cases_Bool (is_stuff own (length own))) [
       | inl due ↦ sending_cases P x c own
-        (λ s. grown own x.level (λ d. turned s due) h)
-        (λ s. differing_due P x c own due tt tt)
+          (λ s. grown own x.level (λ d. turned s due) h)
+          (λ s. differing_due P x c own due tt tt)
       | inr bit ↦ (let on = grown own x.level (λ d. absurd (both_ways (is_stuff own (length own)) bit d)) h in
-        sending_cases P x c own (λ s. on) (λ s. differing_cases P x c own tt tt on))
+          sending_cases P x c own (λ s. on) (λ s. differing_cases P x c own tt tt on))
     ]
       where
         turned : same (sent_at c own (length own)) x.level ≡ true → is_stuff own (length own) ≡ true → same (before own (length own)) x.level ≡ false

@@ -58,8 +58,8 @@ module _ (w u : Wire) (m : AreThosePresent w u) where
 
   pub bus_same : bus u ≡ bus w
   bus_same = elim (level_cases (bus u)) [
-    | inl d ↦ elim (level_cases (bus w)) [ | inl e ↦ d ∙ sym e | inr r ↦ absurd (driven_whole d r) ]
-    | inr r ↦ elim (level_cases (bus w)) [ | inl e ↦ absurd (silent_whole r e) | inr e ↦ r ∙ sym e ]
+    | inl d ↦ elim (level_cases (bus w)) [ inl e ↦ d ∙ sym e | inr r ↦ absurd (driven_whole d r) ]
+    | inr r ↦ elim (level_cases (bus w)) [ inl e ↦ absurd (silent_whole r e) | inr e ↦ r ∙ sym e ]
   ]
 
   -- their frames and what they send
@@ -128,8 +128,8 @@ module _ (test : ℕ → Bool) where
     inside = λ j lt. inside_by j lt (j == t.count) refl;
     all = λ k lt e. elim (cases_lt k n) [
       | inl below ↦ (let there = old.all k below e in
-        let jt = there.1 in
-        (there.0, omega arith, ap (λ b. cond b n (t.place there.0)) (ne_eqb there.0 t.count (λ f. omega arith)) ∙ there.2))
+          let jt = there.1 in
+          (there.0, omega arith, ap (λ b. cond b n (t.place there.0)) (ne_eqb there.0 t.count (λ f. omega arith)) ∙ there.2))
       | inr above ↦ (t.count, omega arith, (let same : n ≡ k = omega arith in ap (λ b. cond b n (t.place t.count)) (eq-eqb t.count t.count refl) ∙ same))
     ];
     distinct = λ i j it jt e. distinct_by i j it jt e (i == t.count) (j == t.count) refl refl;

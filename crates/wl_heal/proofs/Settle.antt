@@ -144,8 +144,8 @@ module _ (head : Option Content) where
           (λ s f. elim (cases_lt (run_at_end Recessive own) 5) [
             | inl few ↦ inr (stuffed_on e few h)
             | inr five ↦ absurd (two_levels (sent_at c own (length own))
-              (ap (λ b. cond b (opposite (before own (length own))) (at (bits_of c) (length (destuffed_bits own (length own))))) (five_due Recessive own five)
-              ∙ ap opposite (run_last Recessive own (length own) (omega arith))) sent)
+                (ap (λ b. cond b (opposite (before own (length own))) (at (bits_of c) (length (destuffed_bits own (length own))))) (five_due Recessive own five)
+                ∙ ap opposite (run_last Recessive own (length own) (omega arith))) sent)
           ])
           (λ s. absurd (both_ways (same (sent_at c own (length own)) Recessive) s (ap (λ l. same l Recessive) sent)))
       sends c t role (Some end) e d h =
@@ -159,7 +159,7 @@ module _ (head : Option Content) where
           elim (cases_lt (run_at_end Recessive own) 5) [
             | inl few ↦ receiving_cases P r own (λ due s f. cc) (λ on f. inr (stuffed_on e few h))
             | inr five ↦ receiving_cases P r own (λ due s f. cc)
-              (λ on. absurd (both_ways _ on (and_from _ _ (five_due Recessive own five) (ap (same Recessive) (run_last Recessive own (length own) (omega arith))))))
+                (λ on. absurd (both_ways _ on (and_from _ _ (five_due Recessive own five) (ap (same Recessive) (run_last Recessive own (length own) (omega arith))))))
           ]
       receives t (Some end) e h =
           let low = (t end e).0 in

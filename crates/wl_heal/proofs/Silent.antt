@@ -25,7 +25,7 @@ use Rattle.wl_machine.specs.Judged.{judged_by, stretch_after, stretch_of, drive_
 use Rattle.wl_machine.specs.States.{sample_of, stretch_by}
 use Rattle.wl_machine.proofs.Callers.{end_more, end_stays, ends_at}
 use Rattle.wl_wire.specs.Wire.{Wire, Handed, Event, Bit, Own, is_between, is_between_by, stretch_at, bus, sampled, next_wire, wire_after}
-use Rattle.wl_heal.specs.Silence.{stretch_on, is_off, is_off_by, silent_bits, IsSilence, bits_in, IsSilent}
+use Rattle.wl_heal.specs.Silence.{stretch_on, is_off, is_off_by, silent_bits, IsSilence, bus_bits, StaysRecessive}
 use Rattle.wl_heal.proofs.Cases.{sending_cases, receiving_cases, sent_tail_cases, acknowledging_cases, received_tail_cases}
 use Rattle.wl_heal.proofs.Possible.{HasTail, IsPossible, IsPossibleBy, possible, possible_next}
 use Rattle.wl_heal.proofs.Inside.{inside_next, off_test}
@@ -173,8 +173,8 @@ module _ (head : Option Content) (mode : Mode) where
           (λ s. elim (cases_lt (run_at_end Recessive own) 5) [
             | inl few ↦ stuffed_on e few h
             | inr five ↦ absurd (two_levels (sent_at c own (length own))
-              (ap (λ b. cond b (opposite (before own (length own))) (at (bits_of c) (length (destuffed_bits own (length own))))) (five_due Recessive own five)
-              ∙ ap opposite (run_last Recessive own (length own) (omega arith))) sent)
+                (ap (λ b. cond b (opposite (before own (length own))) (at (bits_of c) (length (destuffed_bits own (length own))))) (five_due Recessive own five)
+                ∙ ap opposite (run_last Recessive own (length own) (omega arith))) sent)
           ])
           (λ s. absurd (both_ways (same (sent_at c own (length own)) Recessive) s (ap (λ l. same l Recessive) sent)))
       sends c t role (Some end) e d h =
@@ -193,7 +193,7 @@ module _ (head : Option Content) (mode : Mode) where
           elim (cases_lt (run_at_end Recessive own) 5) [
             | inl few ↦ receiving_cases P x own (λ due s. failed n (omega arith) mode Rx) (λ on. stuffed_on e few h)
             | inr five ↦ receiving_cases P x own (λ due s. failed n (omega arith) mode Rx)
-              (λ on. absurd (both_ways _ on (and_from _ _ (five_due Recessive own five) (ap (same Recessive) (run_last Recessive own (length own) (omega arith))))))
+                (λ on. absurd (both_ways _ on (and_from _ _ (five_due Recessive own five) (ap (same Recessive) (run_last Recessive own (length own) (omega arith))))))
           ]
       receives t (Some end) e h =
           let low = (t end e).0 in
@@ -248,7 +248,7 @@ pub between_stays : (s : Stretch) (head : Option Content) (mode : Mode) → IsPo
 between_stays s head mode p off b d = elim (stays head mode 0 s.sort s.own b d) [
   | inl h ↦ h
   | inr h ↦ there (stretch_after s (Sample (sample_of Recessive head mode))).sort (stretch_after s (Sample (sample_of Recessive head mode))).own
-    (possible_next s (Sample (sample_of Recessive head mode)) p) (inside_next is_off_by off_test s (sample_of Recessive head mode) off) h
+      (possible_next s (Sample (sample_of Recessive head mode)) p) (inside_next is_off_by off_test s (sample_of Recessive head mode) off) h
 ]
 
 -- over all samples
@@ -294,7 +294,7 @@ alone_near w machine handed k n near =
     stays (slice_get (w.frames k) handed.which) handed.mode n (stretch_at w k).sort (stretch_at w k).own free_here.0 (recessive_from (drive_of (stretch_at w k)) (not-true _ free_here.1)))
     near
 
-near_along : (w : Wire) (events : List Event) (k : ℕ) → k < w.count → is_off (stretch_at w k) ≡ false → IsNear (bits_in events) (stretch_at w k) → IsSilent w events
+near_along : (w : Wire) (events : List Event) (k : ℕ) → k < w.count → is_off (stretch_at w k) ≡ false → IsNear (bus_bits events) (stretch_at w k) → StaysRecessive w events
     → is_between (stretch_at (wire_after w events) k) ≡ true
 near_along w [] k lt off (inl b) h = b
 near_along w [] k lt off (inr few) h = there (stretch_at w k).sort (stretch_at w k).own (possible (w.past k)) off few
@@ -302,14 +302,14 @@ near_along w (Bit handed ∷ events) k lt off near h =
     let next = bit_next w handed k in
     near_along (next_wire w (Bit handed)) events k lt
     (ap is_off next ∙ inside_next is_off_by off_test (stretch_at w k) (sampled (bus w) (w.frames k) (handed k)) off)
-    (subst (IsNear (bits_in events)) (sym next)
-    (subst (λ y. IsNear (bits_in events) (stretch_after (stretch_at w k) (Sample y))) (sym (sample_here w handed k h.0))
-    (nearer (slice_get (w.frames k) (handed k).which) (handed k).mode (bits_in events) (stretch_at w k).sort (stretch_at w k).own (possible (w.past k)) off (bus_recessive w h.0 k lt) near))) h.1
+    (subst (IsNear (bus_bits events)) (sym next)
+    (subst (λ y. IsNear (bus_bits events) (stretch_after (stretch_at w k) (Sample y))) (sym (sample_here w handed k h.0))
+    (nearer (slice_get (w.frames k) (handed k).which) (handed k).mode (bus_bits events) (stretch_at w k).sort (stretch_at w k).own (possible (w.past k)) off (bus_recessive w h.0 k lt) near))) h.1
 near_along w (Own machine handed ∷ events) k lt off near h =
     near_along (next_wire w (Own machine handed)) events k lt
-    (alone_next w machine handed k (λ s. is_off s ≡ false) (λ may. inside_next is_off_by off_test (stretch_at w k) (sampled Recessive (w.frames k) handed) off) off) (alone_near w machine handed k (bits_in events) near) h
+    (alone_next w machine handed k (λ s. is_off s ≡ false) (λ may. inside_next is_off_by off_test (stretch_at w k) (sampled Recessive (w.frames k) handed) off) off) (alone_near w machine handed k (bus_bits events) near) h
 
-pub silence_ends_on_wire : (w : Wire) (events : List Event) → silent_bits ≤ bits_in events → IsSilent w events → (k : ℕ) → k < w.count → is_off (stretch_at w k) ≡ false
+pub silence_ends_on_wire : (w : Wire) (events : List Event) → silent_bits ≤ bus_bits events → StaysRecessive w events → (k : ℕ) → k < w.count → is_off (stretch_at w k) ≡ false
     → is_between (stretch_at (wire_after w events) k) ≡ true
 silence_ends_on_wire w events long h k lt off =
-    near_along w events k lt off (inr (far (stretch_at w k).sort (stretch_at w k).own (bits_in events) long)) h
+    near_along w events k lt off (inr (far (stretch_at w k).sort (stretch_at w k).own (bus_bits events) long)) h

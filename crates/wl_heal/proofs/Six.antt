@@ -79,10 +79,10 @@ module _ (head : Option Content) (n : ℕ) where
     sends c None e h = elim (cases_lt (run_at_end Dominant own) 5) [
       | inl few ↦ (let on = stuffed_on e few h in sending_cases P x c own (λ s. on) (λ s. differing_cases P x c own (omega arith) (omega arith) on))
       | inr five ↦ sending_cases P x c own
-        (λ s. absurd (both_ways (same (sent_at c own (length own)) Dominant)
-        (ap (λ b. same (cond b (opposite (before own (length own))) (at (bits_of c) (length (destuffed_bits own (length own))))) Dominant) (five_due Dominant own five)
-        ∙ ap (λ l. same (opposite l) Dominant) (run_last Dominant own (length own) (omega arith))) s))
-        (λ s. differing_due P x c own (five_due Dominant own five) (omega arith) (omega arith))
+          (λ s. absurd (both_ways (same (sent_at c own (length own)) Dominant)
+          (ap (λ b. same (cond b (opposite (before own (length own))) (at (bits_of c) (length (destuffed_bits own (length own))))) Dominant) (five_due Dominant own five)
+          ∙ ap (λ l. same (opposite l) Dominant) (run_last Dominant own (length own) (omega arith))) s))
+          (λ s. differing_due P x c own (five_due Dominant own five) (omega arith) (omega arith))
     ]
     sends c (Some end) e h =
         sent_tail_cases P x c (length own - end) (λ one d. slot_on end e one h) (λ one r. cc) (λ no d. omega arith) (λ nine r. cc) (λ no nine r. cc)
@@ -91,7 +91,7 @@ module _ (head : Option Content) (n : ℕ) where
     receives None e h = elim (cases_lt (run_at_end Dominant own) 5) [
       | inl few ↦ (let on = stuffed_on e few h in receiving_cases P x own (λ due s. omega arith) (λ f. on))
       | inr five ↦ receiving_cases P x own (λ due s. omega arith)
-        (λ f. absurd (both_ways _ f (and_from _ _ (five_due Dominant own five) (ap (same Dominant) (run_last Dominant own (length own) (omega arith))))))
+          (λ f. absurd (both_ways _ f (and_from _ _ (five_due Dominant own five) (ap (same Dominant) (run_last Dominant own (length own) (omega arith))))))
     ]
     receives (Some end) e h =
         received_tail_cases P x (destuffed_bits own end) (length own - end)

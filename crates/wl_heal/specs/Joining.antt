@@ -59,12 +59,12 @@ pub data Change : Type 0 where
 abbrev pub joined_wire : Wire → Wire
 joined_wire w = record { count = suc w.count; frames = w.frames; past = λ k. if k == w.count then [] else w.past k }
 
-abbrev pub changed : Wire → Change → Wire
-changed w (Happens event) = next_wire w event
-changed w Joins = joined_wire w
+abbrev pub wire_changed : Wire → Change → Wire
+wire_changed w (Happens event) = next_wire w event
+wire_changed w Joins = joined_wire w
 
 abbrev pub wire_with : Wire → List Change → Wire
-wire_with w changes = fold changed w changes
+wire_with w changes = fold wire_changed w changes
 
 -- what happens to a machine without an error or a flag, also that it is back from bus off; Bosch CAN 2.0 part B, section 8, rule 12
 abbrev pub is_no_fault : Happened → Bool

@@ -35,12 +35,12 @@ IsSilence s [] = Unit {0}
 IsSilence s (x ∷ xs) = (x.level ≡ Recessive) × (drive_of s ≡ Recessive) × IsSilence (stretch_after s (Sample x)) xs
 
 -- how many bits of the bus are among these events, and that each is recessive; this project's profile
-abbrev pub bits_in : List Event → ℕ
-bits_in [] = zero
-bits_in (Bit handed ∷ events) = suc (bits_in events)
-bits_in (Own machine handed ∷ events) = bits_in events
+abbrev pub bus_bits : List Event → ℕ
+bus_bits [] = zero
+bus_bits (Bit handed ∷ events) = suc (bus_bits events)
+bus_bits (Own machine handed ∷ events) = bus_bits events
 
-abbrev pub IsSilent : Wire → List Event → Type 0
-IsSilent w [] = Unit {0}
-IsSilent w (Bit handed ∷ events) = (bus w ≡ Recessive) × IsSilent (next_wire w (Bit handed)) events
-IsSilent w (Own machine handed ∷ events) = IsSilent (next_wire w (Own machine handed)) events
+abbrev pub StaysRecessive : Wire → List Event → Type 0
+StaysRecessive w [] = Unit {0}
+StaysRecessive w (Bit handed ∷ events) = (bus w ≡ Recessive) × StaysRecessive (next_wire w (Bit handed)) events
+StaysRecessive w (Own machine handed ∷ events) = StaysRecessive (next_wire w (Own machine handed)) events

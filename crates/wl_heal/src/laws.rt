@@ -11,7 +11,7 @@ ghost use Rattle.wl_wire.specs.Wire.{Event, Wire, Handed, is_between, stretch_at
 ghost use Rattle.wl_heal.specs.Costs.{FindsItsDominant, counts_on};
 ghost use Rattle.wl_heal.specs.Healing.{bits_after, healing_bits, StayWithoutError, AreActive, AllTakePart, IsDominantFor, AreInStepWithin};
 ghost use Rattle.wl_heal.specs.Joining.{Change, AreThosePresent, AreInStepBeside, FindNoFault, wire_with};
-ghost use Rattle.wl_heal.specs.Silence.{stretch_on, is_off, AreOnBus, silent_bits, IsSilence, bits_in, IsSilent};
+ghost use Rattle.wl_heal.specs.Silence.{stretch_on, is_off, AreOnBus, silent_bits, IsSilence, bus_bits, StaysRecessive};
 
 /// Law: 23 recessive samples bring each machine between frames, whatever reached it before and whatever it is handed meanwhile, in whatever
 /// modes. It has to drive recessive at each of them, and not to be off the bus before them. So if a bus stays recessive for 23 bits, all
@@ -19,7 +19,7 @@ ghost use Rattle.wl_heal.specs.Silence.{stretch_on, is_off, AreOnBus, silent_bit
 pub fn a_silence_brings_all_between()
     ensures machine { (past : List Input) (xs : List Sampled) → is_off (stretch_of past) ≡ false → silent_bits ≤ length xs
         → IsSilence (stretch_of past) xs → is_between (stretch_on (stretch_of past) xs) ≡ true }
-    ensures wire { (w : Wire) (events : List Event) → silent_bits ≤ bits_in events → IsSilent w events
+    ensures wire { (w : Wire) (events : List Event) → silent_bits ≤ bus_bits events → StaysRecessive w events
         → (k : ℕ) → k < w.count → is_off (stretch_at w k) ≡ false → is_between (stretch_at (wire_after w events) k) ≡ true }
 {}
 
@@ -27,9 +27,9 @@ pub fn a_silence_brings_all_between()
 /// finds an error, if their frames differ in format, identifier or RTR bit.
 pub fn a_silence_heals()
     ensures step { (w : Wire) (silence events : List Event) → AreSoundFrames w.count w.frames → OwnHeads w → AreOnBus w
-        → silent_bits ≤ bits_in silence → IsSilent w silence → AreInStep (wire_after (wire_after w silence) events) }
+        → silent_bits ≤ bus_bits silence → StaysRecessive w silence → AreInStep (wire_after (wire_after w silence) events) }
     ensures errors { (w : Wire) (silence events : List Event) → AreSoundFrames w.count w.frames → OwnHeads w → AreOnBus w
-        → silent_bits ≤ bits_in silence → IsSilent w silence → FindsNoError (wire_after (wire_after w silence) events) }
+        → silent_bits ≤ bus_bits silence → StaysRecessive w silence → FindsNoError (wire_after (wire_after w silence) events) }
 {
     a_silence_brings_all_between();
     wl_wire::laws::machines_that_are_in_step_stay_so();
