@@ -21,11 +21,12 @@ use Rattle.wl_machine.specs.Frames.{stuffed_end, frame_role, drive_up_to}
 use Rattle.wl_machine.specs.Judged.{stretch_after, drive_of, drive_by}
 use Rattle.wl_machine.specs.States.{sample_of, stretch_by}
 use Rattle.wl_machine.proofs.Callers.{end_more, end_stays, ends_at}
-use Rattle.wl_wire.specs.Wire.{Wire, Handed, Event, Bit, bus, stretch_at, is_between, next_wire, wire_after}
+use Rattle.wl_wire.specs.Wire.{Wire, Handed, Event, Bit, bus, sampled, stretch_at, is_between, next_wire, wire_after}
 use Rattle.wl_wire.specs.Heads.{OwnHeads}
 use Rattle.wl_wire.specs.InStep.{AreBetween}
-use Rattle.wl_heal.specs.Healing.{bits_after, AreActive, AllTakePart, IsDominantFor, AreInStepWithin}
-use Rattle.wl_heal.proofs.Flagged.{later, longer_within, finds, take_part_next, six_dominant}
+use Rattle.wl_heal.specs.Healing.{bits_after, AreActive, AllTakePart, IsDominantFor, HealWithin}
+use Rattle.wl_heal.proofs.Errors.{errs, may_err, one_error, none_without_flag}
+use Rattle.wl_heal.proofs.Flagged.{Heals, later, longer_within as longer_by, may_at, finds, take_part_next, six_may}
 use Rattle.wl_heal.proofs.Leftover.{Leftover, leftover_next, drives_frame, drives_slot}
 use Rattle.wl_heal.proofs.Lengths.{short_frame}
 use Rattle.wl_heal.proofs.Possible.{possible}
@@ -105,10 +106,16 @@ decide w = by (first_place (λ k. is_new_flag (stretch_at w k)) w.count) refl
         let first : IsFirstPlace (λ k. is_new_flag (stretch_at w k)) w.count k = first_is (λ k. is_new_flag (stretch_at w k)) w.count k e in
         inl (record { machine = k; inside = first.inside; begun = first.passes })
 
-flag_heals : (w : Wire) (handed : ℕ → ℕ → Handed) → AreActive handed → AllTakePart w → BeginsFlag w → AreInStepWithin 20 w handed
+abbrev one_each : ℕ → ℕ
+one_each k = 1
+
+longer_within : (m n : ℕ) (w : Wire) (handed : ℕ → ℕ → Handed) → m ≤ n → HealWithin m w handed → HealWithin n w handed
+longer_within m n w handed le h = (h.0, (let few = h.1 in omega arith), h.2, h.3)
+
+flag_heals : (w : Wire) (handed : ℕ → ℕ → Handed) → AreActive handed → AllTakePart w → BeginsFlag w → Heals (may_at w) 20 w handed
 flag_heals w handed active part f =
     let is : IsNewFlag (stretch_at w f.machine) = new_flag (stretch_at w f.machine).sort (stretch_at w f.machine).own f.begun in
-    six_dominant w handed active part (flag_runs 6 w handed f.machine f.inside is.flag is.dominant is.role [] is.is refl)
+    six_may w handed active part (flag_runs 6 w handed f.machine f.inside is.flag is.dominant is.role [] is.is refl)
 
 module _ (w : Wire) (handed : ℕ → ℕ → Handed) (active : AreActive handed) (part : AllTakePart w) where
   abbrev next : Wire
@@ -129,10 +136,27 @@ module _ (w : Wire) (handed : ℕ → ℕ → Handed) (active : AreActive handed
   found : (k : ℕ) (l : Level) → bus w ≡ l → stretch_at next k ≡ stretch_after (stretch_at w k) (Sample (sample_of l (head k) Active))
   found k l e = finds w (handed 0) k l e ∙ ap (λ m. stretch_after (stretch_at w k) (Sample (sample_of l (head k) m))) (active 0 k)
 
-  flag_next : (most : ℕ) → 20 ≤ most → BeginsFlag next → AreInStepWithin (suc most) w handed
-  flag_next most few f = later most w handed (longer_within 20 most next rest few (flag_heals next rest rest_active next_part f))
+  flag_next : (most : ℕ) → 20 ≤ most → BeginsFlag next → HealWithin (suc most) w handed
+  flag_next most few f =
+      later one_each (may_at next) most w handed one_now (longer_by (may_at next) 20 most next rest few (flag_heals next rest rest_active next_part f))
+    where
+      one_now : (k : ℕ) → k < w.count → errs (stretch_at w k) (sampled (bus w) (w.frames k) (handed 0 k)) + may_at next k ≤ 1
+      one_now k lt =
+          subst (λ m. errs (stretch_at w k) (sample_of (bus w) (head k) m) + may_at next k ≤ 1) (sym (active 0 k))
+          (subst (λ (s : Stretch). errs (stretch_at w k) (sample_of (bus w) (head k) Active) + may_err s.sort ≤ 1) (sym (found k (bus w) refl)) (one_error (stretch_at w k) (bus w) (head k)))
 
-  unless_flag : (most : ℕ) → 20 ≤ most → (NoneBegins next → AreInStepWithin (suc most) w handed) → AreInStepWithin (suc most) w handed
+  -- no error without one
+  later_none : NoneBegins next → (most : ℕ) → HealWithin most next rest → HealWithin (suc most) w handed
+  later_none none most h = later one_each one_each most w handed none_now h
+    where
+      none_now : (k : ℕ) → k < w.count → errs (stretch_at w k) (sampled (bus w) (w.frames k) (handed 0 k)) + 1 ≤ 1
+      none_now k lt =
+          let fine : errs (stretch_at w k) (sampled (bus w) (w.frames k) (handed 0 k)) ≡ 0 =
+          ap (λ m. errs (stretch_at w k) (sample_of (bus w) (head k) m)) (active 0 k)
+          ∙ none_without_flag (stretch_at w k) (bus w) (head k) (ap is_new_flag (sym (found k (bus w) refl)) ∙ none k lt) in
+          omega arith
+
+  unless_flag : (most : ℕ) → 20 ≤ most → (NoneBegins next → HealWithin (suc most) w handed) → HealWithin (suc most) w handed
   unless_flag most few go = elim (decide next) [ inl f ↦ flag_next most few f | inr none ↦ go none ]
 
   near_next : (n : ℕ) → bus w ≡ Recessive → NoneBegins next → ((k : ℕ) → k < w.count → Settles (suc n) (stretch_at w k)) → (k : ℕ) → k < w.count → Settles n (stretch_at next k)
@@ -166,26 +190,26 @@ module _ (w : Wire) (handed : ℕ → ℕ → Handed) (active : AreActive handed
 near_all : (w : Wire) (m n : ℕ) → m ≤ n → ((k : ℕ) → k < w.count → Settles m (stretch_at w k)) → (k : ℕ) → k < w.count → Settles n (stretch_at w k)
 near_all w m n le near k lt = elim (near k lt) [ inl b ↦ inl b | inr h ↦ inr (omega arith) ]
 
-settle : (n : ℕ) → n ≤ 6 → (w : Wire) (handed : ℕ → ℕ → Handed) → AreActive handed → AllTakePart w → ((k : ℕ) → k < w.count → Settles n (stretch_at w k)) → AreInStepWithin (n + 21) w handed
-settle zero few w handed active part near = (0, omega arith, inl (λ k lt. settled (stretch_at w k).sort (stretch_at w k).own (possible (w.past k)) (part k lt) (near k lt)))
+settle : (n : ℕ) → n ≤ 6 → (w : Wire) (handed : ℕ → ℕ → Handed) → AreActive handed → AllTakePart w → ((k : ℕ) → k < w.count → Settles n (stretch_at w k)) → HealWithin (n + 21) w handed
+settle zero few w handed active part near = (0, omega arith, inl (λ k lt. settled (stretch_at w k).sort (stretch_at w k).own (possible (w.past k)) (part k lt) (near k lt)), λ k lt. omega arith)
 settle (suc n) few w handed active part near = longer_within (suc (n + 21)) (suc n + 21) w handed (omega arith) (elim (level_cases (bus w)) [
   | inr r ↦ unless_flag w handed active part (n + 21) (omega arith) (λ none.
-      later (n + 21) w handed (settle n (omega arith) (next_wire w (Bit (handed 0))) (λ i. handed (suc i)) (rest_active w handed active part) (next_part w handed active part) (near_next w handed active part n r none near)))
+      later_none w handed active part none (n + 21) (settle n (omega arith) (next_wire w (Bit (handed 0))) (λ i. handed (suc i)) (rest_active w handed active part) (next_part w handed active part) (near_next w handed active part n r none near)))
   | inl d ↦ elim (some_not w handed active part (near_all w (suc n) 6 few near) d) [
-    | inl b ↦ (0, omega arith, inl b)
+    | inl b ↦ (0, omega arith, inl b, λ k lt. omega arith)
     | inr f ↦ flag_next w handed active part (n + 21) (omega arith) f
   ]
 ])
 
 -- a machine in an intermission
 resting : (n : ℕ) (w : Wire) (handed : ℕ → ℕ → Handed) → AreActive handed → AllTakePart w → (b : ℕ) → b < w.count → (role : Role) (own : List Level)
-    → stretch_at w b ≡ stretch_by (Intermission role) own → length own + n ≡ 2 → ((k : ℕ) → k < w.count → Settles (6 + n) (stretch_at w k)) → AreInStepWithin (n + 27) w handed
+    → stretch_at w b ≡ stretch_by (Intermission role) own → length own + n ≡ 2 → ((k : ℕ) → k < w.count → Settles (6 + n) (stretch_at w k)) → HealWithin (n + 27) w handed
 resting zero w handed active part b lt role own e few near = settle 6 (omega arith) w handed active part (near_all w (6 + 0) 6 (omega arith) near)
 resting (suc n) w handed active part b lt role own e few near = longer_within (suc (n + 27)) (suc n + 27) w handed (omega arith) (elim (level_cases (bus w)) [
   | inl d ↦ flag_next w handed active part (n + 27) (omega arith) (breaks w handed active part b lt d
       (ap (λ s. is_new_flag (stretch_after s (Sample (sample_of Dominant (head w handed active part b) Active)))) e ∙ intermission_breaks (head w handed active part b) role own (ne_eqb (length own) 2 (λ f. omega arith))))
   | inr r ↦ unless_flag w handed active part (n + 27) (omega arith) (λ none.
-      later (n + 27) w handed (resting n (next_wire w (Bit (handed 0))) (λ i. handed (suc i)) (rest_active w handed active part) (next_part w handed active part) b lt role (own ++ Recessive ∷ [])
+      later_none w handed active part none (n + 27) (resting n (next_wire w (Bit (handed 0))) (λ i. handed (suc i)) (rest_active w handed active part) (next_part w handed active part) b lt role (own ++ Recessive ∷ [])
       (found w handed active part b Recessive r ∙ ap (λ s. stretch_after s (Sample (sample_of Recessive (head w handed active part b) Active))) e ∙ rests_on role own (head w handed active part b) Active (omega arith))
       (let m = longer own Recessive in omega arith) (near_next w handed active part (6 + n) r none (near_all w (6 + suc n) (suc (6 + n)) (omega arith) near))))
 ])
@@ -201,7 +225,7 @@ went w handed active part b lt frame own end e found_end far r none =
     (late_on (head w handed active part b) (frame_role frame own) frame own end found_end far (ap is_new_flag (sym is) ∙ none b lt))
 
 tail_broken : (w : Wire) (handed : ℕ → ℕ → Handed) (active : AreActive handed) (part : AllTakePart w) (b : ℕ) → b < w.count → (frame : Option Content) (own : List Level) (end : ℕ)
-    → stretch_at w b ≡ stretch_by (Framing frame) own → stuffed_end own ≡ Some end → 2 ≤ length own - end → bus w ≡ Dominant → AreInStepWithin 30 w handed
+    → stretch_at w b ≡ stretch_by (Framing frame) own → stuffed_end own ≡ Some end → 2 ≤ length own - end → bus w ≡ Dominant → HealWithin 30 w handed
 tail_broken w handed active part b lt frame own end e found_end far d =
     flag_next w handed active part 29 (omega arith) (breaks w handed active part b lt d
     (ap (λ s. is_new_flag (stretch_after s (Sample (sample_of Dominant (head w handed active part b) Active)))) e
@@ -209,22 +233,22 @@ tail_broken w handed active part b lt frame own end e found_end far d =
 
 ending : (n : ℕ) (w : Wire) (handed : ℕ → ℕ → Handed) → AreActive handed → AllTakePart w → (b : ℕ) → b < w.count → (frame : Option Content) (own : List Level) (end : ℕ)
     → stretch_at w b ≡ stretch_by (Framing frame) own → stuffed_end own ≡ Some end → (length own - end) + n ≡ 9 → n ≤ 7
-    → ((k : ℕ) → k < w.count → Settles (9 + n) (stretch_at w k)) → AreInStepWithin (n + 30) w handed
+    → ((k : ℕ) → k < w.count → Settles (9 + n) (stretch_at w k)) → HealWithin (n + 30) w handed
 ending zero w handed active part b lt frame own end e found_end place few near = elim (level_cases (bus w)) [
   | inl d ↦ tail_broken w handed active part b lt frame own end e found_end (omega arith) d
   | inr r ↦ unless_flag w handed active part 29 (omega arith) (λ none. last r none (went w handed active part b lt frame own end e found_end (omega arith) r none))
 ]
   where
-    last : bus w ≡ Recessive → NoneBegins (next_wire w (Bit (handed 0))) → TailOn frame own (length own - end) (stretch_at (next_wire w (Bit (handed 0))) b) → AreInStepWithin 30 w handed
+    last : bus w ≡ Recessive → NoneBegins (next_wire w (Bit (handed 0))) → TailOn frame own (length own - end) (stretch_at (next_wire w (Bit (handed 0))) b) → HealWithin 30 w handed
     last r none (on early is) = absurd (early (omega arith))
     last r none (over nine role is) =
-        later 29 w handed (resting 2 (next_wire w (Bit (handed 0))) (λ i. handed (suc i)) (rest_active w handed active part) (next_part w handed active part) b lt role [] is refl
+        later_none w handed active part none 29 (resting 2 (next_wire w (Bit (handed 0))) (λ i. handed (suc i)) (rest_active w handed active part) (next_part w handed active part) b lt role [] is refl
         (near_next w handed active part 8 r none (near_all w (9 + 0) 9 (omega arith) near)))
 ending (suc n) w handed active part b lt frame own end e found_end place few near = elim (level_cases (bus w)) [
   | inl d ↦ longer_within 30 (suc n + 30) w handed (omega arith) (tail_broken w handed active part b lt frame own end e found_end (omega arith) d)
   | inr r ↦ longer_within (suc (n + 30)) (suc n + 30) w handed (omega arith) (unless_flag w handed active part (n + 30) (omega arith) (λ none.
       elim (went w handed active part b lt frame own end e found_end (omega arith) r none) [
-        | on early is ↦ (let m = longer own Recessive in later (n + 30) w handed
+        | on early is ↦ (let m = longer own Recessive in later_none w handed active part none (n + 30)
             (ending n (next_wire w (Bit (handed 0))) (λ i. handed (suc i)) (rest_active w handed active part) (next_part w handed active part) b lt frame (own ++ Recessive ∷ []) end is
             (end_stays own Recessive end found_end) (omega arith) (omega arith) (near_next w handed active part (9 + n) r none (near_all w (9 + suc n) (suc (9 + n)) (omega arith) near))))
         | over nine role is ↦ absurd (omega arith)
@@ -243,11 +267,11 @@ goes w handed active part b lt frame own e early none =
     is ∙ early_on (head w handed active part b) (bus w) (frame_role frame own) frame own early (ap is_new_flag (sym is) ∙ none b lt)
 
 slots : (n : ℕ) (w : Wire) (handed : ℕ → ℕ → Handed) → AreActive handed → AllTakePart w → (b : ℕ) → b < w.count → (frame : Option Content) (own : List Level) (end : ℕ)
-    → stretch_at w b ≡ stretch_by (Framing frame) own → stuffed_end own ≡ Some end → end ≤ length own → (length own - end) + n ≡ 2 → AreInStepWithin (n + 37) w handed
+    → stretch_at w b ≡ stretch_by (Framing frame) own → stuffed_end own ≡ Some end → end ≤ length own → (length own - end) + n ≡ 2 → HealWithin (n + 37) w handed
 slots zero w handed active part b lt frame own end e found_end low place =
     ending 7 w handed active part b lt frame own end e found_end (omega arith) (omega arith) (λ k kt. inr (settle_most (stretch_at w k).sort (stretch_at w k).own))
 slots (suc n) w handed active part b lt frame own end e found_end low place = longer_within (suc (n + 37)) (suc n + 37) w handed (omega arith) (unless_flag w handed active part (n + 37) (omega arith) (λ none.
-    later (n + 37) w handed (slots n (next_wire w (Bit (handed 0))) (λ i. handed (suc i)) (rest_active w handed active part) (next_part w handed active part) b lt frame (own ++ bus w ∷ []) end
+    later_none w handed active part none (n + 37) (slots n (next_wire w (Bit (handed 0))) (λ i. handed (suc i)) (rest_active w handed active part) (next_part w handed active part) b lt frame (own ++ bus w ∷ []) end
     (goes w handed active part b lt frame own e (subst (λ o. IsEarly o own) (sym found_end) (omega arith)) none)
     (end_stays own (bus w) end found_end) (let m = longer own (bus w) in omega arith) (let m = longer own (bus w) in omega arith))))
 
@@ -261,17 +285,17 @@ ends_now own l end e g =
     by false h = cc
 
 framing_on : (n : ℕ) (w : Wire) (handed : ℕ → ℕ → Handed) → AreActive handed → AllTakePart w → (b : ℕ) → b < w.count → (frame : Option Content) (own : List Level)
-    → stretch_at w b ≡ stretch_by (Framing frame) own → stuffed_end own ≡ None → length own + n ≡ 148 → AreInStepWithin (n + 39) w handed
+    → stretch_at w b ≡ stretch_by (Framing frame) own → stuffed_end own ≡ None → length own + n ≡ 148 → HealWithin (n + 39) w handed
 framing_on zero w handed active part b lt frame own e none_yet long = let few = short_frame (w.past b) frame own e none_yet in absurd (omega arith)
 framing_on (suc n) w handed active part b lt frame own e none_yet long = longer_within (suc (n + 39)) (suc n + 39) w handed (omega arith) (unless_flag w handed active part (n + 39) (omega arith) (λ none.
     let is = goes w handed active part b lt frame own e (subst (λ o. IsEarly o own) (sym none_yet) tt) none in
-    later (n + 39) w handed (by_end (stuffed_end (own ++ bus w ∷ [])) refl is
+    later_none w handed active part none (n + 39) (by_end (stuffed_end (own ++ bus w ∷ [])) refl is
     (λ still. framing_on n (next_wire w (Bit (handed 0))) (λ i. handed (suc i)) (rest_active w handed active part) (next_part w handed active part) b lt frame (own ++ bus w ∷ []) is still
     (let m = longer own (bus w) in omega arith)))))
   where
     by_end : (o : Option ℕ) → stuffed_end (own ++ bus w ∷ []) ≡ o → next_frame w handed b frame own
-        → (stuffed_end (own ++ bus w ∷ []) ≡ None → AreInStepWithin (n + 39) (next_wire w (Bit (handed 0))) (λ i. handed (suc i)))
-        → AreInStepWithin (n + 39) (next_wire w (Bit (handed 0))) (λ i. handed (suc i))
+        → (stuffed_end (own ++ bus w ∷ []) ≡ None → HealWithin (n + 39) (next_wire w (Bit (handed 0))) (λ i. handed (suc i)))
+        → HealWithin (n + 39) (next_wire w (Bit (handed 0))) (λ i. handed (suc i))
     by_end None f is still = still f
     by_end (Some end) f is still =
         let here = ends_now own (bus w) end none_yet f in
@@ -280,17 +304,17 @@ framing_on (suc n) w handed active part b lt frame own e none_yet long = longer_
 
 -- nobody in a flag: the bus rests, or a machine in a frame drives it
 quiet : (n : ℕ) (w : Wire) (handed : ℕ → ℕ → Handed) → AreActive handed → AllTakePart w → ((k : ℕ) → k < w.count → Settles n (stretch_at w k))
-    → ((k : ℕ) → k < w.count → Leftover 0 (stretch_at w k).sort (stretch_at w k).own) → AreInStepWithin (n + 187) w handed
-quiet zero w handed active part near left = (0, omega arith, inl (λ k lt. settled (stretch_at w k).sort (stretch_at w k).own (possible (w.past k)) (part k lt) (near k lt)))
+    → ((k : ℕ) → k < w.count → Leftover 0 (stretch_at w k).sort (stretch_at w k).own) → HealWithin (n + 187) w handed
+quiet zero w handed active part near left = (0, omega arith, inl (λ k lt. settled (stretch_at w k).sort (stretch_at w k).own (possible (w.past k)) (part k lt) (near k lt)), λ k lt. omega arith)
 quiet (suc n) w handed active part near left = elim (level_cases (bus w)) [
   | inr r ↦ longer_within (suc (n + 187)) (suc n + 187) w handed (omega arith) (unless_flag w handed active part (n + 187) (omega arith) (λ none.
-      later (n + 187) w handed (quiet n (next_wire w (Bit (handed 0))) (λ i. handed (suc i)) (rest_active w handed active part) (next_part w handed active part) (near_next w handed active part n r none near)
+      later_none w handed active part none (n + 187) (quiet n (next_wire w (Bit (handed 0))) (λ i. handed (suc i)) (rest_active w handed active part) (next_part w handed active part) (near_next w handed active part n r none near)
       (left_next w handed active part 0 none (λ k lt e. let six = left k lt e in omega arith)))))
   | inl d ↦ longer_within 187 (suc n + 187) w handed (omega arith) (driven d)
 ]
   where
     in_frame : (k : ℕ) → k < w.count → (frame : Option Content) (own : List Level) → stretch_at w k ≡ stretch_by (Framing frame) own → (o : Option ℕ) → stuffed_end own ≡ o → drive_up_to o frame own ≡ Dominant
-        → AreInStepWithin 187 w handed
+        → HealWithin 187 w handed
     in_frame k lt frame own e None f d =
         let few = short_frame (w.past k) frame own e f in
         longer_within ((148 - length own) + 39) 187 w handed (omega arith) (framing_on (148 - length own) w handed active part k lt frame own e f (omega arith))
@@ -298,7 +322,7 @@ quiet (suc n) w handed active part near left = elim (level_cases (bus w)) [
         let one = drives_slot (frame_role frame own) (destuffed_bits own end) (length own - end) d in
         longer_within 38 187 w handed (omega arith) (slots 1 w handed active part k lt frame own end e f (omega arith) (omega arith))
 
-    driven : bus w ≡ Dominant → AreInStepWithin 187 w handed
+    driven : bus w ≡ Dominant → HealWithin 187 w handed
     driven d =
         let driver : Drives w = bus_dominant w d in
         let is = drives_frame (stretch_at w driver.machine).sort (stretch_at w driver.machine).own (possible (w.past driver.machine)) (left driver.machine driver.inside) driver.dominant in
@@ -307,12 +331,12 @@ quiet (suc n) w handed active part near left = elim (level_cases (bus w)) [
 
 -- flags under way end
 ended : (n : ℕ) (w : Wire) (handed : ℕ → ℕ → Handed) → AreActive handed → AllTakePart w
-    → ((k : ℕ) → k < w.count → Leftover n (stretch_at w k).sort (stretch_at w k).own) → AreInStepWithin (n + 203) w handed
+    → ((k : ℕ) → k < w.count → Leftover n (stretch_at w k).sort (stretch_at w k).own) → HealWithin (n + 203) w handed
 ended zero w handed active part left = quiet 16 w handed active part (λ k lt. inr (settle_most (stretch_at w k).sort (stretch_at w k).own)) left
 ended (suc n) w handed active part left = longer_within (suc (n + 203)) (suc n + 203) w handed (omega arith) (unless_flag w handed active part (n + 203) (omega arith) (λ none.
-    later (n + 203) w handed (ended n (next_wire w (Bit (handed 0))) (λ i. handed (suc i)) (rest_active w handed active part) (next_part w handed active part) (left_next w handed active part n none left))))
+    later_none w handed active part none (n + 203) (ended n (next_wire w (Bit (handed 0))) (λ i. handed (suc i)) (rest_active w handed active part) (next_part w handed active part) (left_next w handed active part n none left))))
 
-pub heal : (w : Wire) (handed : ℕ → ℕ → Handed) → AreActive handed → AllTakePart w → AreInStepWithin 209 w handed
+pub heal : (w : Wire) (handed : ℕ → ℕ → Handed) → AreActive handed → AllTakePart w → HealWithin 209 w handed
 heal w handed active part = ended 6 w handed active part (λ k lt e. omega arith)
 
 -- and what machines are sending is theirs

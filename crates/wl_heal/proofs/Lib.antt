@@ -16,5 +16,6 @@ mod Six
 mod Flagged
 mod Lengths
 mod Settle
+mod Errors
 mod Leftover
 mod Heal

@@ -158,6 +158,17 @@ abbrev pub flag_left : Sort → List Level → ℕ
 flag_left (Flagging flag role) own = 6 - length own
 flag_left sort own = 0
 
+pub flag_most : (sort : Sort) (own : List Level) → flag_left sort own ≤ 7
+flag_most (Flagging flag role) own = omega arith
+flag_most Integration own = omega arith
+flag_most Idle own = omega arith
+flag_most (Framing frame) own = omega arith
+flag_most (Waiting flag role flagged) own = omega arith
+flag_most (Delimiting role) own = omega arith
+flag_most (Intermission role) own = omega arith
+flag_most Suspension own = omega arith
+flag_most OffBus own = omega arith
+
 pub record IsDown (most : ℕ) (s : Stretch) : Type 0 where
   pub down : is_down_by s.sort ≡ true
   pub left : flag_left s.sort s.own ≤ most

@@ -1,8 +1,10 @@
 -- Machines that come in step again.
-use Rattle.std.specs.Prelude.{◌≡◌, ◌<◌, ◌≤◌, ℕ, zero, suc, false, List}
+use Rattle.std.specs.Prelude.{◌≡◌, ◌<◌, ◌≤◌, ℕ, zero, suc, ◌+◌, false, List, if◌then◌else◌}
 use Rattle.wl_level.specs.declared.Level.TheVariants.{Dominant}
 use Rattle.wl_confine.specs.declared.Mode.TheVariants.{Active}
-use Rattle.wl_wire.specs.Wire.{Wire, Handed, Event, Bit, bus, stretch_at, next_wire, wire_after}
+use Rattle.wl_confine.specs.Counts.{is_error}
+use Rattle.wl_machine.specs.Judged.{judged}
+use Rattle.wl_wire.specs.Wire.{Wire, Handed, Event, Bit, bus, stretch_at, sampled, next_wire, wire_after}
 use Rattle.wl_wire.specs.InStep.{AreInStep, FindsNoError}
 use Rattle.wl_heal.specs.Joining.{is_apart}
 
@@ -32,6 +34,14 @@ StayWithoutError w = (events : List Event) → AreInStep (wire_after w events) �
 abbrev pub healing_bits : ℕ
 healing_bits = 209
 
--- all machines are in step, so many bits later at most; this project's profile
-abbrev pub AreInStepWithin : ℕ → Wire → (ℕ → ℕ → Handed) → Type 0
-AreInStepWithin most w handed = (n : ℕ) × (n ≤ most) × AreInStep (bits_after w handed n)
+-- how many errors a machine finds with so many bits; Bosch CAN 2.0 part B, section 7.1
+abbrev pub errors_found : ℕ → Wire → (ℕ → ℕ → Handed) → ℕ → ℕ
+errors_found zero w handed k = 0
+errors_found (suc n) w handed k =
+    (if is_error (judged (stretch_at w k) (sampled (bus w) (w.frames k) (handed 0 k))).happened then 1 else 0)
+    + errors_found n (next_wire w (Bit (handed 0))) (λ i. handed (suc i)) k
+
+-- all machines are in step, so many bits later at most, and each has found one error at most until then; this project's profile
+abbrev pub HealWithin : ℕ → Wire → (ℕ → ℕ → Handed) → Type 0
+HealWithin most w handed =
+    (n : ℕ) × (n ≤ most) × AreInStep (bits_after w handed n) × ((k : ℕ) → k < w.count → errors_found n w handed k ≤ 1)

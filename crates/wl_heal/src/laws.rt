@@ -9,7 +9,8 @@ ghost use Rattle.wl_wire.specs.Heads.{OwnHeads};
 ghost use Rattle.wl_wire.specs.InStep.{AreSoundFrames, AreInStep, FindsNoError};
 ghost use Rattle.wl_wire.specs.Wire.{Event, Wire, Handed, is_between, stretch_at, wire_after};
 ghost use Rattle.wl_heal.specs.Costs.{FindsItsDominant, counts_on};
-ghost use Rattle.wl_heal.specs.Healing.{bits_after, healing_bits, StayWithoutError, AreActive, AllTakePart, IsDominantFor, AreInStepWithin};
+ghost use Rattle.wl_heal.specs.Healing.{AreActive, AllTakePart, IsDominantFor, HealWithin};
+ghost use Rattle.wl_heal.specs.Healing.{StayWithoutError, bits_after, healing_bits};
 ghost use Rattle.wl_heal.specs.Joining.{Change, AreThosePresent, AreInStepBeside, FindNoFault, wire_with};
 ghost use Rattle.wl_heal.specs.Silence.{stretch_on, is_off, AreOnBus, silent_bits, IsSilence, bus_bits, StaysRecessive};
 
@@ -20,16 +21,19 @@ pub fn a_silence_brings_all_between()
     ensures machine { (past : List Input) (xs : List Sampled) → is_off (stretch_of past) ≡ false → silent_bits ≤ length xs
         → IsSilence (stretch_of past) xs → is_between (stretch_on (stretch_of past) xs) ≡ true }
     ensures wire { (w : Wire) (events : List Event) → silent_bits ≤ bus_bits events → StaysRecessive w events
-        → (k : ℕ) → k < w.count → is_off (stretch_at w k) ≡ false → is_between (stretch_at (wire_after w events) k) ≡ true }
+        → (k : ℕ) → k < w.count → is_off (stretch_at w k) ≡ false
+        → is_between (stretch_at (wire_after w events) k) ≡ true }
 {}
 
-/// Law: such a silence heals a bus. Whatever its machines did before, none of which is off the bus, from then on they are in step and none
-/// finds an error, if their frames differ in format, identifier or RTR bit.
+/// Law: such a silence heals a bus, whatever its machines did before, if none is off the bus. From then on they are in step, and none finds
+/// an error. Their frames have to differ in format, identifier or RTR bit.
 pub fn a_silence_heals()
     ensures step { (w : Wire) (silence events : List Event) → AreSoundFrames w.count w.frames → OwnHeads w → AreOnBus w
-        → silent_bits ≤ bus_bits silence → StaysRecessive w silence → AreInStep (wire_after (wire_after w silence) events) }
+        → silent_bits ≤ bus_bits silence → StaysRecessive w silence
+        → AreInStep (wire_after (wire_after w silence) events) }
     ensures errors { (w : Wire) (silence events : List Event) → AreSoundFrames w.count w.frames → OwnHeads w → AreOnBus w
-        → silent_bits ≤ bus_bits silence → StaysRecessive w silence → FindsNoError (wire_after (wire_after w silence) events) }
+        → silent_bits ≤ bus_bits silence → StaysRecessive w silence
+        → FindsNoError (wire_after (wire_after w silence) events) }
 {
     a_silence_brings_all_between();
     wl_wire::laws::machines_that_are_in_step_stay_so();
@@ -61,19 +65,20 @@ pub fn a_joining_machine_disturbs_nobody()
 }
 
 /// Law: six dominant bits in a row bring all error active machines in step, 20 bits after the first of them at the latest, whatever they did
-/// before. So does each flag of an error or an overload. None may integrate or be off the bus.
+/// before. Each finds one error at most. None may integrate or be off the bus.
 pub fn six_dominant_bits_bring_all_in_step()
     ensures { (w : Wire) (handed : ℕ → ℕ → Handed) → AreActive handed → AllTakePart w → IsDominantFor 6 w handed
-        → AreInStepWithin 20 w handed }
+        → HealWithin 20 w handed }
 {}
 
-/// Law: error active machines heal. Whatever they did before, and whatever they are handed, they are in step within 209 bits, and from then on
-/// none finds an error, if their frames differ in format, identifier or RTR bit. None may integrate or be off the bus.
+/// Law: error active machines heal. Whatever they did before, and whatever they are handed, they are in step within 209 bits, with one error
+/// each at most. From then on none finds an error, if their frames differ in format, identifier or RTR bit. None may integrate or be off the
+/// bus.
 pub fn active_machines_heal()
     ensures step { (w : Wire) (handed : ℕ → ℕ → Handed) → AreActive handed → AllTakePart w
-        → AreInStepWithin healing_bits w handed }
-    ensures errors { (w : Wire) (handed : ℕ → ℕ → Handed) → AreSoundFrames w.count w.frames → OwnHeads w → AreActive handed
-        → AllTakePart w → (n : ℕ) × (n ≤ healing_bits) × StayWithoutError (bits_after w handed n) }
+        → HealWithin healing_bits w handed }
+    ensures errors { (w : Wire) (handed : ℕ → ℕ → Handed) → AreSoundFrames w.count w.frames → OwnHeads w
+        → AreActive handed → AllTakePart w → (n : ℕ) × (n ≤ healing_bits) × StayWithoutError (bits_after w handed n) }
 {
     wl_wire::laws::machines_that_are_in_step_stay_so();
 }
