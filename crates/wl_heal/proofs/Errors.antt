@@ -1,8 +1,8 @@
 -- An error of an error active machine begins a flag, and in a flag and the wait after it there is none.
-use Rattle.std.proofs.Common.{◌≡◌, ◌∙◌, ◌-◌, ◌+◌, ◌≤◌, ℕ, suc, List, [], ◌∷◌, ◌++◌, length, Bool, true, false, not, cond, ◌&&◌, Option, Some, None, refl, sym, ap, subst, arith, inl, inr}
+use Rattle.std.proofs.Common.{◌≡◌, ◌-◌, ◌+◌, ◌≤◌, ℕ, List, [], ◌∷◌, ◌++◌, length, Bool, true, false, not, cond, ◌&&◌, Option, Some, None, refl, ap, arith}
 use Rattle.std.specs.Prelude.{◌==◌}
 use Rattle.std.specs.List.{list_any}
-use Rattle.std.proofs.lemmas.Bool.{cases_Bool, both_ways}
+use Rattle.std.proofs.lemmas.Bool.{both_ways}
 use Rattle.wl_level.specs.declared.Level.{Level}
 use Rattle.wl_level.specs.declared.Level.TheVariants.{Dominant, Recessive}
 use Rattle.wl_level.specs.Levels.{is_dominant}
@@ -16,7 +16,7 @@ use Rattle.wl_confine.specs.declared.Happened.TheVariants as happens
 use Rattle.wl_confine.specs.Counts.{is_error}
 use Rattle.wl_machine.specs.declared.state.Role.{Role}
 use Rattle.wl_machine.specs.declared.state.Role.TheVariants.{Tx, Rx}
-use Rattle.wl_machine.specs.Stretch.{Flag, Sort, Stretch, Sampled, Judgement, continues, begins, free}
+use Rattle.wl_machine.specs.Stretch.{Sort, Stretch, Sampled, Judgement, continues, begins, free}
 use Rattle.wl_machine.specs.Stretch.Flag.{ActiveFlag, OverloadFlag, PassiveFlag}
 use Rattle.wl_machine.specs.Stretch.Sort.{Integration, Idle, Framing, Flagging, Waiting, Delimiting, Intermission, Suspension, OffBus}
 use Rattle.wl_machine.specs.Stretch.Input.{Sample}
@@ -29,7 +29,7 @@ use Rattle.wl_heal.proofs.Cases.{differing_cases, sending_cases, receiving_cases
 use Rattle.wl_heal.proofs.Possible.{waiting_on}
 use Rattle.wl_heal.proofs.Samples.{going, either}
 use Rattle.wl_heal.proofs.Settle.{is_new_flag, is_new_flag_by}
-use Rattle.wl_heal.proofs.Six.{IsDown, is_down_by}
+use Rattle.wl_heal.proofs.Six.{is_down_by}
 
 flag_bit_fine : (l : Level) (role : Role) → is_error (cond (is_dominant l) happens.Nothing (flag_bit_of role)) ≡ false
 flag_bit_fine Dominant role = refl

@@ -9,7 +9,7 @@ use Rattle.wl_confine.specs.declared.Mode.{Mode}
 use Rattle.wl_confine.specs.declared.Mode.TheVariants.{Active}
 use Rattle.wl_confine.specs.declared.Happened.TheVariants as happens
 use Rattle.wl_machine.specs.declared.state.Role.{Role}
-use Rattle.wl_machine.specs.Stretch.{Stretch, Sampled, continues, begins}
+use Rattle.wl_machine.specs.Stretch.{Stretch, continues, begins}
 use Rattle.wl_machine.specs.Stretch.Input.{Sample}
 use Rattle.wl_machine.specs.Stretch.Sort.{Delimiting, Intermission}
 use Rattle.wl_machine.specs.Judged.{stretch_after, drive_of}
