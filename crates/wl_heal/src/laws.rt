@@ -18,10 +18,10 @@ ghost use Rattle.wl_heal.specs.Silence.{stretch_on, is_off, AreOnBus, silent_bit
 /// modes. It has to drive recessive at each of them, and not to be off the bus before them. So if a bus stays recessive for 23 bits, all
 /// its machines are between frames.
 pub fn a_silence_brings_all_between()
-    ensures machine { (past : List Input) (xs : List Sampled) → is_off (stretch_of past) ≡ false → silent_bits ≤ length xs
-        → IsSilence (stretch_of past) xs → is_between (stretch_on (stretch_of past) xs) ≡ true }
-    ensures wire { (w : Wire) (events : List Event) → silent_bits ≤ bus_bits events → StaysRecessive w events
-        → (k : ℕ) → k < w.count → is_off (stretch_at w k) ≡ false
+    ensures machine { (past : List Input) (xs : List Sampled) → is_off (stretch_of past) ≡ false
+        → silent_bits ≤ length xs → IsSilence (stretch_of past) xs → is_between (stretch_on (stretch_of past) xs) ≡ true }
+    ensures wire { (w : Wire) (events : List Event) → silent_bits ≤ bus_bits events
+        → StaysRecessive w events → (k : ℕ) → k < w.count → is_off (stretch_at w k) ≡ false
         → is_between (stretch_at (wire_after w events) k) ≡ true }
 {}
 
@@ -31,8 +31,8 @@ pub fn a_silence_heals()
     ensures step { (w : Wire) (silence events : List Event) → AreSoundFrames w.count w.frames → OwnHeads w → AreOnBus w
         → silent_bits ≤ bus_bits silence → StaysRecessive w silence
         → AreInStep (wire_after (wire_after w silence) events) }
-    ensures errors { (w : Wire) (silence events : List Event) → AreSoundFrames w.count w.frames → OwnHeads w → AreOnBus w
-        → silent_bits ≤ bus_bits silence → StaysRecessive w silence
+    ensures errors { (w : Wire) (silence events : List Event) → AreSoundFrames w.count w.frames → OwnHeads w
+        → AreOnBus w → silent_bits ≤ bus_bits silence → StaysRecessive w silence
         → FindsNoError (wire_after (wire_after w silence) events) }
 {
     a_silence_brings_all_between();
