@@ -19,7 +19,8 @@ ghost use Rattle.wl_heal.specs.Silence.{stretch_on, is_off, AreOnBus, silent_bit
 /// its machines are between frames.
 pub fn a_silence_brings_all_between()
     ensures machine { (past : List Input) (xs : List Sampled) → is_off (stretch_of past) ≡ false
-        → silent_bits ≤ length xs → IsSilence (stretch_of past) xs → is_between (stretch_on (stretch_of past) xs) ≡ true }
+        → silent_bits ≤ length xs → IsSilence (stretch_of past) xs
+        → is_between (stretch_on (stretch_of past) xs) ≡ true }
     ensures wire { (w : Wire) (events : List Event) → silent_bits ≤ bus_bits events
         → StaysRecessive w events → (k : ℕ) → k < w.count → is_off (stretch_at w k) ≡ false
         → is_between (stretch_at (wire_after w events) k) ≡ true }
