@@ -13,10 +13,7 @@ use Rattle.wl_machine.specs.States.{stretch_by}
 use Rattle.wl_machine.proofs.Callers.{stretch_next}
 use Rattle.wl_wire.specs.Wire.{Wire, Handed, Bit, Own, stretch_at, bus, sampled, may_be_alone, added, next_wire, wire_after, Event}
 use Rattle.wl_wire.specs.InStep.{Has, is_fine, FindsNoError}
-
--- each frame that is sent is one of the machine's own
-abbrev pub OwnHeads : Wire → Type 0
-OwnHeads w = (k : ℕ) (c : Content) → head_of (stretch_at w k).sort ≡ Some c → Has w.frames k c
+pub use Rattle.wl_wire.specs.Heads.{OwnHeads}
 
 -- what a machine samples at a bit of the bus
 abbrev pub sample_at : Wire → (ℕ → Handed) → ℕ → Sampled

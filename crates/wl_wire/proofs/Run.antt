@@ -182,3 +182,31 @@ module _ (decides : ArbitrationDecides) (laws : HeadLaws) where
       → (own : List Level) → AreInFrame (wire_after (idle_wire count frames) events) own → length own < 157
   frames_end count frames events sound own f =
       short_frame (wire_after (idle_wire count frames) events) (sound_after (idle_wire count frames) events sound) (kept count frames events sound).heads own f
+
+  -- from any wire in step
+  record IsSteady (w : Wire) : Type 0 where
+    heads : OwnHeads w
+    step : AreInStep w
+
+  steady_on : (w : Wire) → AreSoundFrames w.count w.frames → IsSteady w → (event : Event) → IsSteady (next_wire w event)
+  steady_on w sound steady (Bit handed) = record { heads = heads_at_bit w handed laws steady.heads; step = step_bit w sound steady.heads steady.step handed }
+  steady_on w sound steady (Own machine handed) =
+      record { heads = heads_alone w machine handed laws steady.heads; step = step_alone w sound steady.heads steady.step machine handed }
+
+  steady_after : (w : Wire) (events : List Event) → AreSoundFrames w.count w.frames → IsSteady w → IsSteady (wire_after w events)
+  steady_after w [] sound steady = steady
+  steady_after w (event ∷ events) sound steady = steady_after (next_wire w event) events sound (steady_on w sound steady event)
+
+  pub own_heads_stay : (w : Wire) (events : List Event) → OwnHeads w → OwnHeads (wire_after w events)
+  own_heads_stay w [] heads = heads
+  own_heads_stay w (Bit handed ∷ events) heads = own_heads_stay (next_wire w (Bit handed)) events (heads_at_bit w handed laws heads)
+  own_heads_stay w (Own machine handed ∷ events) heads = own_heads_stay (next_wire w (Own machine handed)) events (heads_alone w machine handed laws heads)
+
+  pub remain_in_step : (w : Wire) (events : List Event) → AreSoundFrames w.count w.frames → OwnHeads w → AreInStep w → AreInStep (wire_after w events)
+  remain_in_step w events sound heads step = (steady_after w events sound (record { heads = heads; step = step })).step
+
+  pub remain_without_error : (w : Wire) (events : List Event) → AreSoundFrames w.count w.frames → OwnHeads w → AreInStep w → FindsNoError (wire_after w events)
+  remain_without_error w events sound heads step =
+      let after : IsSteady (wire_after w events) = steady_after w events sound (record { heads = heads; step = step }) in
+      finds_none (wire_after w events) (fine_at_bit (wire_after w events) (sound_after w events sound) after.heads after.step)
+      (fine_alone (wire_after w events) (sound_after w events sound) after.heads after.step)

@@ -1,4 +1,5 @@
 pub mod Wire
 pub mod InStep
+pub mod Heads
 pub mod Winner
 pub mod Outcome

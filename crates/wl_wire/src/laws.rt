@@ -4,6 +4,7 @@ ghost use Rattle.std.specs.Prelude.{◌≡◌, ◌<◌, ℕ, List, length};
 ghost use Rattle.wl_level.specs.declared.Level.{Level};
 ghost use Rattle.wl_confine.specs.Counts.{no_counts};
 ghost use Rattle.wl_frame.specs.Grammar.{Content};
+ghost use Rattle.wl_wire.specs.Heads.{OwnHeads};
 ghost use Rattle.wl_wire.specs.InStep.{AreSoundFrames, AreInFrame, AreInStep, FindsNoError};
 ghost use Rattle.wl_wire.specs.Outcome.{Passage, HaveGot, IsFree, counts_after_all};
 ghost use Rattle.wl_wire.specs.Winner.{HasOneWinner};
@@ -16,6 +17,19 @@ pub fn machines_stay_in_step()
         → AreInStep (wire_after (idle_wire count frames) events) }
     ensures errors { (count : ℕ) (frames : ℕ → List Content) (events : List Event) → AreSoundFrames count frames
         → FindsNoError (wire_after (idle_wire count frames) events) }
+{
+    wl_machine::laws::a_sent_frame_is_the_head_that_began_its_stretch();
+    wl_frame::laws::the_arbitration_decides();
+}
+
+/// Law: machines that are in step stay so, wherever they are and whatever brought them there, if each that is sending has a frame of its own.
+/// What they are sending stays that, also if they are not in step.
+pub fn machines_that_are_in_step_stay_so()
+    ensures step { (w : Wire) (events : List Event) → AreSoundFrames w.count w.frames → OwnHeads w → AreInStep w
+        → AreInStep (wire_after w events) }
+    ensures errors { (w : Wire) (events : List Event) → AreSoundFrames w.count w.frames → OwnHeads w → AreInStep w
+        → FindsNoError (wire_after w events) }
+    ensures heads { (w : Wire) (events : List Event) → OwnHeads w → OwnHeads (wire_after w events) }
 {
     wl_machine::laws::a_sent_frame_is_the_head_that_began_its_stretch();
     wl_frame::laws::the_arbitration_decides();

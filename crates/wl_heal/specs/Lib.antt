@@ -1,0 +1,4 @@
+pub mod Silence
+pub mod Costs
+pub mod Joining
+pub mod Healing
