@@ -1,0 +1,4 @@
+mod Sums
+mod Windows
+mod Waits
+mod Rows
