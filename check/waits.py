@@ -7,6 +7,8 @@
     waits.py waits RUNS SEED [LEFT]    random messages, some in queues of two; random frames of them on one bus, first in first out at
                                        each node, the least number wins. Looks at each premise of no_frame_waits_longer and at what it
                                        says. LEFT is a premise: window, wait, known, begun, ended, few, begins, next, joins or entered
+    waits.py cases RUNS SEED [LEFT]    the same of no_frame_waits_longer_by_cases, with a case for each node that blocks and each instant
+                                       of readiness after the window's. LEFT is own, entered or ready
 """
 
 import random
@@ -173,6 +175,80 @@ def wait_case(rng, left):
     return broken(t, frames, w, r), any(f[3] > f[1] + r[f[0]] for f in frames if f[0] < t.n), longest
 
 
+class Cases:
+    """Windows of a table by cases: (message, node that blocks or None, readiness after the window's instant less s)."""
+
+    def __init__(self, t, left):
+        self.t, self.left, self.r = t, left, [0] * t.n
+        self.busy = {}
+
+    def own(self, m, x, e): return x // self.t.period[e] + (0 if e == m or self.left == "own" else 1)
+
+    def early(self, l, e):
+        mixed = self.t.level[e] > e and self.t.node[e] == l and self.left != "entered"
+        return self.t.s + (self.r[e] if mixed else 0)
+
+    def least(self, base, l, others, mine):
+        """The least w that passes the inequality, or None; `mine` are messages that are counted by their curve too."""
+        t, w = self.t, 0
+        while (more := base + sum(ceil(w + self.early(l, e), t.period[e]) * t.cost[e] for e in others + mine)) > w:
+            w = more
+            if w > 1500: return None
+        return w
+
+    def grow(self, m, l):
+        """Takes a message's windows with that blocker into its bound. False if there is none."""
+        t = self.t
+        block = t.s + t.idle if l is None else max(t.cost[e] for e in range(t.n) if t.node[e] == l and e > t.level[m])
+        mine = [e for e in range(t.n) if t.node[e] == t.node[m]]
+        others = [e for e in range(t.n) if e < t.level[m] and e not in mine]
+        busy = self.least(block, l, others, mine)
+        if busy is None: return False
+        self.busy[m, l] = busy
+        for x in sorted({0} | {k * t.period[e] for e in mine for k in range(ceil(busy + t.s, t.period[e]) + 1)}):
+            if x > busy + t.s: break
+            w = self.least(block + sum(self.own(m, x, e) * t.cost[e] for e in mine), l, others, [])
+            if w is None: return False
+            since = 0 if self.left == "ready" else t.s
+            self.r[m] = max(self.r[m], since + w + t.tail[m] - x)
+        return True
+
+    def bounds(self):
+        t = self.t
+        while True:
+            old = list(self.r)
+            for m in range(t.n):
+                for l in [None] + sorted({t.node[e] for e in range(t.n) if e > t.level[m]}):
+                    if not self.grow(m, l): return None
+            if self.r == old: return self.r
+
+    def broken(self, frames):
+        """The names of the premises that don't hold."""
+        t, found = self.t, set()
+        for last, (m, ready, *_) in enumerate(frames):
+            first, start = window(t, frames, last, t.n)
+            l = None if frames[first][4] is not None else t.node[frames[first - 1][0]]
+            x = ready + t.s - start - 1
+            if self.left == "ready" and start >= ready: found.add("ready")
+            if x < 0 or x > self.busy[m, l] + t.s: found.add("busy")
+            before = [f for f in frames[first:last]]
+            for e in range(t.n):
+                if t.node[e] == t.node[m] and sum(f[0] == e for f in before) > self.own(m, x, e): found.add("own")
+            if any(t.node[f[0]] != t.node[m] and start >= f[1] + self.early(l, f[0]) for f in before): found.add("entered")
+        return found
+
+
+def case_case(rng, left):
+    """As wait_case, by cases."""
+    t = Table(rng, None)
+    cases = Cases(t, left)
+    r = cases.bounds()
+    if r is None: return None
+    frames = play(rng, t, None)
+    longest = max((f[3] - f[1]) / r[f[0]] if r[f[0]] > 0 else 9 for f in frames)
+    return cases.broken(frames), any(f[3] > f[1] + r[f[0]] for f in frames), longest
+
+
 def main():
     kind, runs, rng = sys.argv[1], int(sys.argv[2]), random.Random(int(sys.argv[3]))
     left = sys.argv[4] if len(sys.argv) > 4 else None
@@ -182,7 +258,7 @@ def main():
         return 1 if (wrong > 0) != (left is not None) else 0
     whole = alone = wrong = unbound = longest = 0
     while whole + alone < runs:
-        found = wait_case(rng, left)
+        found = (case_case if kind == "cases" else wait_case)(rng, left)
         if found is None: unbound += 1
         elif left is None or found[0] == {left}:
             if left is None and found[0]: sys.exit(f"waits.py: the bus breaks {sorted(found[0])}")

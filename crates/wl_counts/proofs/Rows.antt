@@ -1,7 +1,7 @@
 -- Worked counts and sums, by computation.
 use Rattle.std.proofs.Common.{◌≡◌, refl, ◌*◌, true, cond}
 use Rattle.std.specs.Prelude.{◌==◌}
-use Rattle.wl_counts.specs.Counts.{sum_below, periods_in, frames_of}
+use Rattle.wl_counts.specs.Counts.{sum_below, periods_in, message_count}
 use Rattle.wl_counts.specs.Waits.{Table, demand}
 
 -- 0 + 1 + 4 + 9
@@ -29,14 +29,14 @@ seven : periods_in 7 7 ≡ 1
 seven = refl
 
 -- frames of messages 0, 0, 0, 0: all of one
-frames : frames_of (λ k. 0) 0 4 ≡ 4
+frames : message_count (λ k. 0) 0 4 ≡ 4
 frames = refl
 
-others : frames_of (λ k. 0) 1 4 ≡ 0
+others : message_count (λ k. 0) 1 4 ≡ 0
 others = refl
 
 -- frame k is of message k: one of the frames below 4 is of message 2
-each : frames_of (λ k. k) 2 4 ≡ 1
+each : message_count (λ k. k) 2 4 ≡ 1
 each = refl
 
 -- Those three messages, all in half milliseconds: a frame takes 2, and nothing blocks the last one. Its busy period is 14: three frames, two and two.

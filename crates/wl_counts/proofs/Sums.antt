@@ -2,7 +2,7 @@
 use Rattle.std.proofs.Common.{◌≡◌, ◌∙◌, ap, refl, sym, ℕ, zero, suc, ◌+◌, ◌*◌, ◌<◌, ◌≤◌, eqb, arith, inl, inr}
 use Rattle.std.proofs.Math.Nat.{mul-le-mul_right}
 use Rattle.std.proofs.lemmas.Bool.{cases_eq, eq-eqb, ne_eqb}
-use Rattle.wl_counts.specs.Counts.{one_if, sum_below, frames_of}
+use Rattle.wl_counts.specs.Counts.{one_if, sum_below, message_count}
 
 pub sum_le : (f g : ℕ → ℕ) (n : ℕ) → ((k : ℕ) → k < n → f k ≤ g k) → sum_below f n ≤ sum_below g n
 sum_le f g zero h = omega arith
@@ -57,26 +57,26 @@ sum_one d c (suc n) h = elim (cases_eq d n) [
 ]
 
 pub by_messages : (message cost : ℕ → ℕ) (n messages : ℕ) → ((k : ℕ) → k < n → message k < messages)
-    → sum_below (λ k. cost (message k)) n ≡ sum_below (λ e. frames_of message e n * cost e) messages
+    → sum_below (λ k. cost (message k)) n ≡ sum_below (λ e. message_count message e n * cost e) messages
 by_messages message cost zero messages known =
-    let none : sum_below (λ e. frames_of message e 0 * cost e) messages ≡ 0 = sum_zero (λ e. frames_of message e 0 * cost e) messages (λ e below. let h : 0 * cost e ≡ 0 = omega arith in h) in
+    let none : sum_below (λ e. message_count message e 0 * cost e) messages ≡ 0 = sum_zero (λ e. message_count message e 0 * cost e) messages (λ e below. let h : 0 * cost e ≡ 0 = omega arith in h) in
     sym none
 by_messages message cost (suc n) messages known =
-    let old : sum_below (λ k. cost (message k)) n ≡ sum_below (λ e. frames_of message e n * cost e) messages =
+    let old : sum_below (λ k. cost (message k)) n ≡ sum_below (λ e. message_count message e n * cost e) messages =
     by_messages message cost n messages (λ k below. known k (omega arith)) in
     let last : sum_below (λ e. one_if (eqb (message n) e) * cost e) messages ≡ cost (message n) = sum_one (message n) cost messages (known n (omega arith)) in
-    let both : sum_below (λ e. frames_of message e n * cost e + one_if (eqb (message n) e) * cost e) messages ≡ sum_below (λ e. frames_of message e n * cost e) messages + sum_below (λ e. one_if (eqb (message n) e) * cost e) messages =
-    sum_plus (λ e. frames_of message e n * cost e) (λ e. one_if (eqb (message n) e) * cost e) messages in
-    let split : sum_below (λ e. frames_of message e (suc n) * cost e) messages ≡ sum_below (λ e. frames_of message e n * cost e + one_if (eqb (message n) e) * cost e) messages =
-    sum_same (λ e. frames_of message e (suc n) * cost e) (λ e. frames_of message e n * cost e + one_if (eqb (message n) e) * cost e) messages
-    (λ e below. apart (frames_of message e n) (one_if (eqb (message n) e)) (cost e)) in
+    let both : sum_below (λ e. message_count message e n * cost e + one_if (eqb (message n) e) * cost e) messages ≡ sum_below (λ e. message_count message e n * cost e) messages + sum_below (λ e. one_if (eqb (message n) e) * cost e) messages =
+    sum_plus (λ e. message_count message e n * cost e) (λ e. one_if (eqb (message n) e) * cost e) messages in
+    let split : sum_below (λ e. message_count message e (suc n) * cost e) messages ≡ sum_below (λ e. message_count message e n * cost e + one_if (eqb (message n) e) * cost e) messages =
+    sum_same (λ e. message_count message e (suc n) * cost e) (λ e. message_count message e n * cost e + one_if (eqb (message n) e) * cost e) messages
+    (λ e below. apart (message_count message e n) (one_if (eqb (message n) e)) (cost e)) in
     omega arith
   where
     apart : (a b c : ℕ) → (a + b) * c ≡ a * c + b * c
     apart a b c = omega arith
 
-pub by_counts : (message cost most : ℕ → ℕ) (n messages : ℕ) → ((k : ℕ) → k < n → message k < messages) → ((e : ℕ) → e < messages → frames_of message e n ≤ most e) → sum_below (λ k. cost (message k)) n ≤ sum_below (λ e. most e * cost e) messages
+pub by_counts : (message cost most : ℕ → ℕ) (n messages : ℕ) → ((k : ℕ) → k < n → message k < messages) → ((e : ℕ) → e < messages → message_count message e n ≤ most e) → sum_below (λ k. cost (message k)) n ≤ sum_below (λ e. most e * cost e) messages
 by_counts message cost most n messages known few =
     let e1 = by_messages message cost n messages known in
-    let e2 = sum_le (λ e. frames_of message e n * cost e) (λ e. most e * cost e) messages (λ e below. mul-le-mul_right (cost e) (few e below)) in
+    let e2 = sum_le (λ e. message_count message e n * cost e) (λ e. most e * cost e) messages (λ e below. mul-le-mul_right (cost e) (few e below)) in
     omega arith

@@ -1,8 +1,8 @@
 -- Frames that follow one another begin in time, and none waits longer than its bound.
 use Rattle.std.proofs.Common.{◌≡◌, ◌∙◌, ap, sym, subst, ℕ, zero, suc, ◌+◌, ◌-◌, ◌*◌, ◌<◌, ◌≤◌, true, eqb, arith, inl, inr}
 use Rattle.std.proofs.lemmas.Bool.{cases_Bool, both_ways, eqb-true, false_from_ne_true, cases_lt}
-use Rattle.wl_counts.specs.Counts.{one_if, sum_below, picks_below, frames_of, periods_in, LiesIn}
-use Rattle.wl_counts.specs.Waits.{Frames, Table, AreAtMost, AreSporadic, FollowOn, HaveFew, AreEnough, WaitBefore, HasWindow, AreFrames, share}
+use Rattle.wl_counts.specs.Counts.{one_if, sum_below, picks_below, message_count, periods_in, LiesIn}
+use Rattle.wl_counts.specs.Waits.{Frames, Table, AreAtMost, AreSporadic, FollowOn, HaveFew, AreEnough, WaitBefore, HasWindow, HaveWindows, share}
 use Rattle.wl_counts.proofs.Sums.{by_counts, sum_zero}
 use Rattle.wl_counts.proofs.Windows.{few}
 
@@ -16,7 +16,7 @@ module _ (message begin cost bound : ℕ → ℕ) (n from blocking messages w : 
       omega arith
 
   -- the first m take no longer than the window, if no message has too many of them
-  first_costs : (m : ℕ) → m ≤ n → ((e : ℕ) → e < messages → frames_of message e m ≤ bound e) → blocking + sum_below (λ j. cost (message j)) m ≤ w
+  first_costs : (m : ℕ) → m ≤ n → ((e : ℕ) → e < messages → message_count message e m ≤ bound e) → blocking + sum_below (λ j. cost (message j)) m ≤ w
   first_costs m within less =
       let h : sum_below (λ j. cost (message j)) m ≤ sum_below (λ e. bound e * cost e) messages =
       by_counts message cost bound m messages (λ k below. row.known k (omega arith)) less in
@@ -77,7 +77,7 @@ jitter_curve most jitter message arrived ready count curve near picked e first n
     let length : (back + jitter e) + on ≡ (back + on) + jitter e = omega arith in
     subst (λ x. picks_below picked n ≤ most e x) length h
 
-module _ (t : Table) (x : Frames) (w r : ℕ → ℕ) (count : ℕ) (enough : AreEnough t w r) (are : AreFrames t x r count) where
+module _ (t : Table) (x : Frames) (w r : ℕ → ℕ) (count : ℕ) (enough : AreEnough t w r) (are : HaveWindows t x r count) where
   module _ (last : ℕ) (inside : last < count) (old : WaitBefore x r last) where
     -- the frames of the window by number, from its first one
     message_in : ℕ → ℕ
@@ -116,7 +116,7 @@ module _ (t : Table) (x : Frames) (w r : ℕ → ℕ) (count : ℕ) (enough : Ar
         let m : ℕ = x.message last in
         elim (cases_Bool (t.joins (x.message last) e)) [
           | inl member ↦
-              (let few : frames_of message_in e q ≤ t.most e (t.early (x.message last) e + w (x.message last)) =
+              (let few : message_count message_in e q ≤ t.most e (t.early (x.message last) e + w (x.message last)) =
               are.few (λ k. eqb (x.message (win.first + k)) e) e win.first q win.from (t.early (x.message last) e) (w (x.message last)) (omega arith)
               (λ k less picked.
               let same : x.message (win.first + k) ≡ e = eqb-true (x.message (win.first + k)) e picked in
@@ -129,7 +129,7 @@ module _ (t : Table) (x : Frames) (w r : ℕ → ℕ) (count : ℕ) (enough : Ar
               ap (λ b. one_if b * t.most e (t.early (x.message last) e + w (x.message last))) member in
               omega arith)
           | inr stranger ↦
-              (let none : frames_of message_in e q ≡ 0 =
+              (let none : message_count message_in e q ≡ 0 =
               sum_zero (λ k. one_if (eqb (x.message (win.first + k)) e)) q
               (λ k less.
               ap one_if

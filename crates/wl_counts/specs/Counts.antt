@@ -34,5 +34,5 @@ AreApart picked instant n period =
     (j k : ℕ) → j < k → k < n → picked j ≡ true → picked k ≡ true → instant j + period ≤ instant k
 
 -- how many of the frames below n are of message e; this project's profile
-abbrev pub frames_of : (message : ℕ → ℕ) (e n : ℕ) → ℕ
-frames_of message e n = picks_below (λ k. message k == e) n
+abbrev pub message_count : (message : ℕ → ℕ) (e n : ℕ) → ℕ
+message_count message e n = picks_below (λ k. message k == e) n

@@ -1,6 +1,6 @@
 -- How long frames wait that follow one another on a bus: numbers alone. Frames are numbered in the order in which they win the arbitration.
 use Rattle.std.specs.Prelude.{◌≡◌, ℕ, suc, ◌+◌, ◌*◌, ◌<◌, ◌≤◌, Bool, true}
-use Rattle.wl_counts.specs.Counts.{LiesIn, one_if, sum_below, picks_below, frames_of}
+use Rattle.wl_counts.specs.Counts.{LiesIn, one_if, sum_below, picks_below, message_count}
 
 -- the message of each frame, and the instants at which it is ready, begins and is sent; this project's profile
 pub record Frames : Type 0 where
@@ -31,7 +31,7 @@ pub record FollowOn (message begin cost : ℕ → ℕ) (n from blocking messages
 -- If the first m of them begin by an instant, no message has more of them than its bound.
 abbrev pub HaveFew : (message begin bound : ℕ → ℕ) (m by messages : ℕ) → Type 0
 HaveFew message begin bound m by messages =
-    ((k : ℕ) → k < m → begin k ≤ by) → (e : ℕ) → e < messages → frames_of message e m ≤ bound e
+    ((k : ℕ) → k < m → begin k ≤ by) → (e : ℕ) → e < messages → message_count message e m ≤ bound e
 
 -- What is known of the messages of a bus, by number. `cost` is the time from the beginning of a frame to that of the next winner, and `tail` the time to
 -- its end. The rest is about a window of message m: the frames that win without a gap up to one of m, none of a lesser priority than m's node has.
@@ -75,7 +75,7 @@ pub record HasWindow (t : Table) (x : Frames) (r : ℕ → ℕ) (last : ℕ) : T
   pub entered : (k : ℕ) → first ≤ k → k ≤ last → WaitBefore x r last → from < x.ready k + t.early (x.message last) (x.message k)
 
 -- frames of a bus with that table
-pub record AreFrames (t : Table) (x : Frames) (r : ℕ → ℕ) (count : ℕ) : Type 0 where
+pub record HaveWindows (t : Table) (x : Frames) (r : ℕ → ℕ) (count : ℕ) : Type 0 where
   pub known : (k : ℕ) → k < count → x.message k < t.messages
   pub begun : (k : ℕ) → k < count → x.ready k ≤ x.begin k
   pub ended : (k : ℕ) → k < count → x.sent k ≤ x.begin k + t.tail (x.message k)

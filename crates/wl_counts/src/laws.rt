@@ -1,8 +1,9 @@
 //! Laws of counts, sums and waits, each proved as the contract of a function that does nothing.
 
 ghost use Rattle.std.specs.Prelude.{◌≡◌, ℕ, ◌+◌, ◌*◌, ◌/◌, ◌<◌, ◌≤◌, Bool, true};
-ghost use Rattle.wl_counts.specs.Counts.{AreApart, LieIn, frames_of, periods_in, picks_below, sum_below};
-ghost use Rattle.wl_counts.specs.Waits.{AreAtMost, AreEnough, AreFrames, AreSporadic, FollowOn, Frames, HaveFew, Table};
+ghost use Rattle.wl_counts.specs.Cases.{AreEnoughByCases, HaveCases, CaseTable};
+ghost use Rattle.wl_counts.specs.Counts.{AreApart, LieIn, message_count, periods_in, picks_below, sum_below};
+ghost use Rattle.wl_counts.specs.Waits.{AreAtMost, AreEnough, HaveWindows, AreSporadic, FollowOn, Frames, HaveFew, Table};
 
 /// Law: of instants that are a period apart at least, ceil(length / period) at most lie in a half-open window. The window is later than
 /// `from - back` and no later than `from + on`, so its length is `back + on`.
@@ -26,13 +27,13 @@ pub fn a_closed_window_has_few()
 pub fn a_sum_over_frames_is_one_over_messages()
     ensures { (message cost : ℕ → ℕ) (n messages : ℕ) → ((k : ℕ) → k < n → message k < messages)
         → sum_below (λ k. cost (message k)) n
-        ≡ sum_below (λ e. frames_of message e n * cost e) messages }
+        ≡ sum_below (λ e. message_count message e n * cost e) messages }
 {}
 
 /// Law: so if each message has a greatest count, their sum is no less than that of the frames.
 pub fn a_sum_over_frames_is_bounded()
     ensures { (message cost most : ℕ → ℕ) (n messages : ℕ) → ((k : ℕ) → k < n → message k < messages)
-        → ((e : ℕ) → e < messages → frames_of message e n ≤ most e)
+        → ((e : ℕ) → e < messages → message_count message e n ≤ most e)
         → sum_below (λ k. cost (message k)) n ≤ sum_below (λ e. most e * cost e) messages }
 {
     a_sum_over_frames_is_one_over_messages();
@@ -67,16 +68,25 @@ pub fn periods_give_a_curve()
 /// Law: a frame that is ready by up to its message's jitter after it arrived has the curve of the arrivals, in a window that is
 /// longer by the jitter.
 pub fn a_jitter_widens_a_curve()
-    ensures { (most : ℕ → ℕ → ℕ) (jitter message arrived ready : ℕ → ℕ) (count : ℕ) → AreAtMost most message arrived count
-        → ((k : ℕ) → k < count → (arrived k ≤ ready k) × (ready k ≤ arrived k + jitter (message k)))
+    ensures { (most : ℕ → ℕ → ℕ) (jitter message arrived ready : ℕ → ℕ) (count : ℕ)
+        → AreAtMost most message arrived count → ((k : ℕ) → k < count → (arrived k ≤ ready k) × (ready k ≤ arrived k + jitter (message k)))
         → AreAtMost (λ e length. most e (length + jitter e)) message ready count }
 {}
 
 /// Law: no frame waits longer than the bound of its message, from the instant at which it is ready to its end, if windows and bounds pass
 /// the inequalities. The bounds may occur in the premises, as jitter of frames that waited after lesser ones of their own queue.
 pub fn no_frame_waits_longer()
-    ensures { (t : Table) (x : Frames) (w r : ℕ → ℕ) (count : ℕ) → AreEnough t w r → AreFrames t x r count
+    ensures { (t : Table) (x : Frames) (w r : ℕ → ℕ) (count : ℕ) → AreEnough t w r → HaveWindows t x r count
         → (k : ℕ) → k < count → x.sent k ≤ x.ready k + r (x.message k) }
+{
+    a_row_begins_in_time();
+}
+
+/// Law: so it is with a window for each message and case, whose last frame isn't counted. A case may say which node blocks, and how long
+/// after the window's instant the last frame becomes ready: then own frames are counted up to there, and the wait is shorter by it.
+pub fn no_frame_waits_longer_by_cases()
+    ensures { (t : CaseTable) (x : Frames) (w : ℕ → ℕ → ℕ) (r : ℕ → ℕ) (count : ℕ) → AreEnoughByCases t w r
+        → HaveCases t x r count → (k : ℕ) → k < count → x.sent k ≤ x.ready k + r (x.message k) }
 {
     a_row_begins_in_time();
 }
