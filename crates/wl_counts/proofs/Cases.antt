@@ -1,10 +1,10 @@
 -- No frame waits longer than its bound, by windows of cases.
-use Rattle.std.proofs.Common.{◌≡◌, ap, sym, subst, ℕ, zero, suc, ◌+◌, ◌-◌, ◌*◌, ◌<◌, ◌≤◌, Bool, true, false, eqb, arith, inl, inr}
+use Rattle.std.proofs.Common.{◌≡◌, ap, sym, subst, ℕ, zero, suc, ◌+◌, ◌-◌, ◌<◌, ◌≤◌, true, eqb, arith, inl, inr}
 use Rattle.std.proofs.lemmas.Bool.{cases_Bool, eqb-true, cases_lt}
-use Rattle.wl_counts.specs.Counts.{one_if, sum_below, picks_below, message_count, LiesIn}
+use Rattle.wl_counts.specs.Counts.{one_if, sum_below, message_count}
 use Rattle.wl_counts.specs.Waits.{Frames, FollowOn, HaveFew, WaitBefore}
-use Rattle.wl_counts.specs.Cases.{CaseTable, AreEnoughByCases, HasCase, HaveCases, counted, case_share, case_demand}
-use Rattle.wl_counts.proofs.Waits.{begin_in_time}
+use Rattle.wl_counts.specs.Cases.{CaseTable, AreEnoughByCases, HasCase, HaveCases, counted, case_share}
+use Rattle.wl_counts.proofs.Waits.{begin_in_time, wait_all}
 
 -- a longer front has no fewer picks
 sum_more : (f : ℕ → ℕ) (m n : ℕ) → m ≤ n → sum_below f m ≤ sum_below f n
@@ -95,16 +95,5 @@ module _ (t : CaseTable) (x : Frames) (w : ℕ → ℕ → ℕ) (r : ℕ → ℕ
         enough.wait (x.message last) win.case_is known in
         omega arith
 
-  wait_all : (n : ℕ) → n ≤ count → WaitBefore x r n
-  wait_all zero within k below = absurd (omega arith)
-  wait_all (suc n) within k below =
-      let old : WaitBefore x r n = wait_all n (omega arith) in
-      elim (cases_lt k n) [
-        | inl less ↦ old k less
-        | inr last ↦
-            (let same : k ≡ n = omega arith in
-            subst (λ j. x.sent j ≤ x.ready j + r (x.message j)) (sym same) (wait_step n (omega arith) old (are.window n (omega arith))))
-      ]
-
   pub wait_short_by_cases : (k : ℕ) → k < count → x.sent k ≤ x.ready k + r (x.message k)
-  wait_short_by_cases k below = wait_all count (omega arith) k below
+  wait_short_by_cases k below = wait_all x r count (λ n within old. wait_step n within old (are.window n within)) count (omega arith) k below

@@ -77,6 +77,19 @@ jitter_curve most jitter message arrived ready count curve near picked e first n
     let length : (back + jitter e) + on ≡ (back + on) + jitter e = omega arith in
     subst (λ x. picks_below picked n ≤ most e x) length h
 
+-- if each frame waits no longer than its bound after frames that don't, none waits longer
+module _ (x : Frames) (r : ℕ → ℕ) (count : ℕ) (step : (n : ℕ) → n < count → WaitBefore x r n → x.sent n ≤ x.ready n + r (x.message n)) where
+  pub wait_all : (n : ℕ) → n ≤ count → WaitBefore x r n
+  wait_all zero within k below = absurd (omega arith)
+  wait_all (suc n) within k below =
+      let old : WaitBefore x r n = wait_all n (omega arith) in
+      elim (cases_lt k n) [
+        | inl less ↦ old k less
+        | inr last ↦
+            (let same : k ≡ n = omega arith in
+            subst (λ j. x.sent j ≤ x.ready j + r (x.message j)) (sym same) (step n (omega arith) old))
+      ]
+
 module _ (t : Table) (x : Frames) (w r : ℕ → ℕ) (count : ℕ) (enough : AreEnough t w r) (are : HaveWindows t x r count) where
   module _ (last : ℕ) (inside : last < count) (old : WaitBefore x r last) where
     -- the frames of the window by number, from its first one
@@ -156,16 +169,5 @@ module _ (t : Table) (x : Frames) (w r : ℕ → ℕ) (count : ℕ) (enough : Ar
         let wait : t.early (x.message last) (x.message last) + w (x.message last) + t.tail (x.message last) ≤ r (x.message last) + t.cost (x.message last) = enough.wait (x.message last) known in
         omega arith
 
-  wait_all : (n : ℕ) → n ≤ count → WaitBefore x r n
-  wait_all zero within k below = absurd (omega arith)
-  wait_all (suc n) within k below =
-      let old : WaitBefore x r n = wait_all n (omega arith) in
-      elim (cases_lt k n) [
-        | inl less ↦ old k less
-        | inr last ↦
-            (let same : k ≡ n = omega arith in
-            subst (λ j. x.sent j ≤ x.ready j + r (x.message j)) (sym same) (wait_step n (omega arith) old))
-      ]
-
   pub wait_short : (k : ℕ) → k < count → x.sent k ≤ x.ready k + r (x.message k)
-  wait_short k below = wait_all count (omega arith) k below
+  wait_short k below = wait_all x r count wait_step count (omega arith) k below

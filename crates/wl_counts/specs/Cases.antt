@@ -1,6 +1,6 @@
 -- The finer form: windows by cases, one for each node that may block and each time after the window's instant at which the last frame becomes ready.
 use Rattle.std.specs.Prelude.{◌≡◌, ℕ, suc, ◌+◌, ◌-◌, ◌*◌, ◌<◌, ◌≤◌, Bool, true, false}
-use Rattle.wl_counts.specs.Counts.{one_if, sum_below, message_count}
+use Rattle.wl_counts.specs.Counts.{sum_below, message_count}
 use Rattle.wl_counts.specs.Waits.{Frames, AreAtMost, WaitBefore}
 
 -- As a Table, with a window for each message m and each case c of it. Its last frame is not counted. Of message e, `arrives` says that its frames are

@@ -69,7 +69,8 @@ pub fn periods_give_a_curve()
 /// longer by the jitter.
 pub fn a_jitter_widens_a_curve()
     ensures { (most : ℕ → ℕ → ℕ) (jitter message arrived ready : ℕ → ℕ) (count : ℕ)
-        → AreAtMost most message arrived count → ((k : ℕ) → k < count → (arrived k ≤ ready k) × (ready k ≤ arrived k + jitter (message k)))
+        → AreAtMost most message arrived count
+        → ((k : ℕ) → k < count → (arrived k ≤ ready k) × (ready k ≤ arrived k + jitter (message k)))
         → AreAtMost (λ e length. most e (length + jitter e)) message ready count }
 {}
 
