@@ -1,0 +1,5 @@
+mod Sums
+mod Windows
+mod Waits
+mod Cases
+mod Rows
