@@ -6,17 +6,18 @@ usage: wrong.py [--night] [--kept] [CRATE..]   tries the edits of .ci/wrong-bodi
        wrong.py check                 tells whether each edit still fits its source, and whether the table of docs/change/wrong-bodies.md is that of the edits
        wrong.py page                  writes that table
 
-An edit is a file FOLDER/CRATE/NAME.edit, in the form of the toolchain's edits (`file: PATH`, `old: TEXT`, `new: TEXT`), with three lines more:
+An edit is a file FOLDER/CRATE/NAME.edit, in the form of the toolchain's edits (`file: PATH`, `old: TEXT`, `new: TEXT`), with two lines more:
   function: PATH     the function that it changes, as a check prints it without the crate's name; without this line it is that of the first old text
   mistake: WORDS     in .ci/wrong-bodies: the mistake that was named before the code was written, if the edit makes one of these
-  alone: WHY         the edit has a check of its own, since other edits of its crate stand in its way, or it in theirs
 Mistakes that no contract excludes are in .ci/wrong-bodies/by-rows.txt, with the rows or the signature that do.
 
 The libraries below a crate are taken as `rt ci` has just left them; those that are older than their sources are built first. A copy of the crate gets as
 many of its edits as change different functions, and one check of these functions and of what they call. It has to end with status 1. Each edited function
-has to be refused, and each other function that is read has to be proved. If that isn't so, each edit has a check of its own. So a wrong body costs no
-second proof of its crate. As many checks run side by side as RT_JOBS says; without that, as there are processors that have 3 GB of free memory each.
-A check that was killed runs once more at the end, alone. What the last check of an edit said is in out/wrong-bodies/CRATE/NAME.log.
+has to be refused by itself: if it isn't proved only because it calls a function that isn't, the check says nothing of it, and it waits for the next check.
+Each function that isn't edited has to be proved, but for those that call an edited one. If that isn't so, each edit has a check of its own. The checks of a
+crate run one after another, each over what those before it proved, in a folder of this run. So a wrong body costs no second proof of its crate. As many
+crates are tried side by side as RT_JOBS says; without that, as there are processors that have 3 GB of free memory each. A check that was killed runs once
+more at the end, alone. What the last check of an edit said is in out/wrong-bodies/CRATE/NAME.log.
 
 Status 1 if a wrong body was not refused so: if the prover proves it (NOT REFUSED), or if it could not be tried (NOT TRIED, with the reason), as one that
 doesn't compile, that the prover gave no verdict on, or beside which another function isn't proved. A refusal only by a name that the proof has and the
@@ -46,12 +47,16 @@ ACCEPTED = "the prover proves all that it reads"
 NAMES = re.compile(r"(has no field|is not in scope|has no `|was not admitted)")
 BY_NAME = "only by a name in its proof (change a value, and keep the names): "
 
-Edit = namedtuple("Edit", "crate name file function mistakes pairs is_alone")
+# What it says of a function whose own proof it did not judge.
+BY_CALLEE = re.compile(r"[:;] it calls `")
+WAITS = "it calls a function that is not proved"
+
+Edit = namedtuple("Edit", "crate name file function mistakes pairs")
 
 
 def read(edit):
     """Returns the edit of a file: what it changes, and its pairs of a path, an old text and a new one."""
-    path, old, function, mistakes, pairs, is_alone = "", None, "", [], [], False
+    path, old, function, mistakes, pairs = "", None, "", [], []
     with open(edit, encoding="utf-8") as lines:
         for line in lines.read().splitlines():
             word, _, text = line.partition(":")
@@ -59,12 +64,11 @@ def read(edit):
             if word == "file": path = text.strip()
             elif word == "function": function = text.strip()
             elif word == "mistake": mistakes.append(text.strip())
-            elif word == "alone": is_alone = True
             elif word == "old": old = text
             elif word == "new": pairs.append((path, old, text))
     crate = os.path.basename(os.path.dirname(edit))
     function = function or (function_of(f"{TOP}/crates/{crate}/src", *pairs[0][:2]) if pairs else "")
-    return Edit(crate, f"{crate}/{os.path.basename(edit)[: -len('.edit')]}", edit, function, mistakes, pairs, is_alone)
+    return Edit(crate, f"{crate}/{os.path.basename(edit)[: -len('.edit')]}", edit, function, mistakes, pairs)
 
 
 # ---- The function of an edit that doesn't name it
@@ -141,22 +145,13 @@ def applied(edit, texts):
     return made, None
 
 
-def runs_of(edits):
-    """Returns runs of edits of one crate each, with the texts that they change: in a run each function is changed once."""
-    runs = []
+def together(edits):
+    """Returns the edits of one crate that go into one check, and the texts that they change: each function is changed once."""
+    some, texts = [], {}
     for edit in edits:
-        for run in runs:
-            texts, why = applied(edit, run["texts"])
-            is_apart = edit.is_alone or run["edits"][0].is_alone
-            if run["edits"][0].crate == edit.crate and not (why or is_apart) and edit.function not in [it.function for it in run["edits"]]:
-                run["edits"].append(edit)
-                run["texts"] = texts
-                break
-        else:
-            texts, why = applied(edit, {})
-            if why: sys.exit(f"{edit.name}: {why}")
-            runs.append({"edits": [edit], "texts": texts})
-    return runs
+        made, why = applied(edit, texts)
+        if not why and edit.function not in [it.function for it in some]: some, texts = [*some, edit], made
+    return some, texts
 
 
 # ---- The toolchain
@@ -203,24 +198,20 @@ def words_of(rt, crate, functions):
     return [rt.rtlib.RATTLE, "check", *words, *(it for name in functions for it in ("--only", name))]
 
 
-def checked(rt, crate, run, is_kept):
-    """Checks a copy of the crate with the run's edits, over a copy of its kept work if that is asked for, and returns the status, what was said, and the seconds by the clock."""
-    began = time.time()
+def checked(rt, crate, edits, texts, kept):
+    """Checks a copy of the crate with these edits, over what earlier checks kept, and returns the status and what was said."""
     with tempfile.TemporaryDirectory(prefix="wrong-body-") as room:
         for part in rt.rtlib.PARTS:
             if os.path.isdir(f"{crate.folder}/{part}"): shutil.copytree(f"{crate.folder}/{part}", f"{room}/{part}")
-        for path, text in run["texts"].items():
+        for path, text in texts.items():
             with open(f"{room}/{path}", "w", encoding="utf-8") as it: it.write(text)
-        words, kept = run["words"], f"{crate.folder}/out/incremental"
-        if is_kept and os.path.isdir(kept):
-            shutil.copytree(kept, f"{room}/kept")
-            words = [*words, "--incremental", "kept"]
+        words = [*words_of(rt, crate, [it.function for it in edits]), "--incremental", kept]
         how = {"cwd": room, "stdin": subprocess.DEVNULL, "stdout": subprocess.PIPE, "stderr": subprocess.STDOUT, "errors": "replace"}
         ran = subprocess.run([*rt.rtlib.guarded(), *words], check=False, **how)
-    for edit in run["edits"]:
+    for edit in edits:
         os.makedirs(f"{LOGS}/{edit.crate}", exist_ok=True)
         with open(f"{LOGS}/{edit.name}.log", "w", encoding="utf-8") as it: it.write(f"{ran.stdout}status {ran.returncode}\n")
-    return ran.returncode, ran.stdout, time.time() - began
+    return ran.returncode, ran.stdout
 
 
 # ---- What a check says
@@ -233,17 +224,19 @@ def is_of(name, edit):
     return bool(closure) and (module + rest).startswith(edit.function + "::")
 
 
-def judged(run, status, said):
-    """Yields each edit of a run with how the prover refused it and None, or with None and why that is no refusal."""
+def judged(edits, status, said):
+    """Yields each edit of a check with how the prover refused it and None, or with None and why that is no refusal."""
     verdicts = re.findall(r"(?m)^fn (\S+): (proved|[a-z ]+)(.*)", said)
     well = status == 1 and re.search(r"(?m)^only=\d+ proved=\d+\n?\Z", said)
-    others = [name for name, verdict, _ in verdicts if verdict != "proved" and not any(is_of(name, it) for it in run["edits"])]
-    for edit in run["edits"]:
+    others = [name for name, verdict, rest in verdicts if verdict != "proved" and not BY_CALLEE.match(rest) and not any(is_of(name, it) for it in edits)]
+    for edit in edits:
         own = [(verdict, rest) for name, verdict, rest in verdicts if is_of(name, edit)]
-        refusal = next((it for it in own if it[0] in REFUSED), None)
+        refusals = [it for it in own if it[0] in REFUSED]
+        refusal = next((it for it in refusals if not BY_CALLEE.match(it[1])), None)
         if status == 0: yield edit, None, ACCEPTED
         elif not well: yield edit, None, f"{ended(status)}: {first_error(said)}"
         elif others: yield edit, None, f"also not proved: {', '.join(others)}"
+        elif refusals and not refusal: yield edit, None, WAITS
         elif not refusal: yield edit, None, f"the prover says of it: {own[0][0] if own else 'nothing'}"
         else: yield edit, by_name(said, edit, refusal) + (refusal[0] + refusal[1])[:150], None
 
@@ -267,52 +260,66 @@ def first_error(said):
     return next((it for it in lines if "error" in it), lines[-1])[:300]
 
 
-def tried(rt, crates, runs, is_kept):
-    """Tries the runs side by side, the longest first, and yields each with what the check said. What was killed is tried again at the end, alone."""
+def crate_tried(rt, crate, edits, is_kept):
+    """Tries a crate's edits and returns what the prover says of each, its edits whose check was killed, and the seconds by the clock of each check."""
+    answers, killed, seconds, left, apart = [], [], [], list(edits), []
+    with tempfile.TemporaryDirectory(prefix="wrong-bodies-") as room:
+        kept = f"{room}/kept"
+        if is_kept and os.path.isdir(f"{crate.folder}/out/incremental"): shutil.copytree(f"{crate.folder}/out/incremental", kept)
+        while left or apart:
+            began = time.time()
+            some, texts = together(left or apart[:1])
+            status, said = checked(rt, crate, some, texts, kept)
+            seconds.append(time.time() - began)
+            told = [it for it in judged(some, status, said) if it[1] or is_final(it[2]) or len(some) == 1]
+            done = some if status < 0 else [edit for edit, _, _ in told]
+            if status < 0: killed.extend(some)
+            else: answers.extend(told)
+            apart = [it for it in apart if it not in done] + ([] if done else some)
+            left = [it for it in left if it not in done + apart]
+    return answers, killed, seconds
+
+
+def is_final(why):
+    """True if an edit needs no other check: the prover has proved what was changed."""
+    return why in (ACCEPTED, "the prover says of it: proved")
+
+
+def tried(rt, crates, edits, is_kept):
+    """Tries the edits, crates side by side, the longest first, and yields the answers of each crate. What was killed is tried again at the end, alone."""
     jobs = os.environ.get("RT_JOBS", "")
     jobs = int(jobs) if jobs.isdigit() and int(jobs) else max(1, min(rt.processors(), rt.free() // 3_000_000_000))
-    lines = {name: crates[name].count(rb"\n") for name in {it["edits"][0].crate for it in runs}}
-    runs = sorted(runs, key=lambda it: -lines[it["edits"][0].crate])
-    for run in runs:
-        run["words"] = words_of(rt, crates[run["edits"][0].crate], [it.function for it in run["edits"]])
-    print(f"wrong bodies: {sum(len(it['edits']) for it in runs)} in {len(runs)} checks, {jobs} at once", flush=True)
+    names = sorted({it.crate for it in edits}, key=lambda name: -crates[name].count(rb"\n"))
+    print(f"wrong bodies: {len(edits)} of {len(names)} crates, {jobs} at once", flush=True)
     killed = []
     with ThreadPoolExecutor(jobs) as pool:
-        running = {pool.submit(checked, rt, crates[it["edits"][0].crate], it, is_kept): it for it in runs}
+        running = {pool.submit(crate_tried, rt, crates[name], [it for it in edits if it.crate == name], is_kept): name for name in names}
         for future in as_completed(running):
-            run, (status, said, seconds) = running[future], future.result()
-            if status >= 0: yield run, status, said, seconds
-            else: killed.append(run)
-    for run in killed: yield (run, *checked(rt, crates[run["edits"][0].crate], run, is_kept))
+            answers, lost, seconds = future.result()
+            killed.extend(lost)
+            yield running[future], answers, seconds
+    for edit in killed:
+        answers, lost, seconds = crate_tried(rt, crates[edit.crate], [edit], is_kept)
+        yield edit.crate, [*answers, *((it, None, ended(-9)) for it in lost)], seconds
 
 
 def attempt(folder, names, is_kept):
     edits = edits_of(folder, names)
-    runs = runs_of(edits)
+    for edit in edits:
+        why = applied(edit, {})[1]
+        if why: sys.exit(f"{edit.name}: {why}")
     rt, crates = kit()
     build(rt, crates, {it.crate for it in edits})
-    refused, failed, untried, named, again = 0, [], {}, [], []
-
-    def told(run, status, said, seconds):
-        nonlocal refused
-        found = list(judged(run, status, said))
-        if len(found) > 1 and not all(how for _, how, _ in found):
-            again.extend(runs_of([edit])[0] for edit in run["edits"])
-            return
-        for edit, how, why in found:
-            is_accepted = not how and why in (ACCEPTED, "the prover says of it: proved")
-            word = "refused" if how else "NOT REFUSED" if is_accepted else "NOT TRIED"
+    refused, failed, untried, named = 0, [], {}, []
+    for crate, answers, seconds in tried(rt, crates, edits, is_kept):
+        for edit, how, why in answers:
+            word = "refused" if how else "NOT REFUSED" if is_final(why) else "NOT TRIED"
             print(f"{edit.name}: {word} in {edit.function}: {how or why}", flush=True)
             refused += bool(how)
-            failed.extend([edit.name] * is_accepted)
+            if word == "NOT REFUSED": failed.append(edit.name)
             if word == "NOT TRIED": untried[edit.name] = why
             if how and how.startswith(BY_NAME): named.append(edit.name)
-        print(f"  {run['edits'][0].crate}: {seconds:.0f} s by the clock", flush=True)
-
-    for it in tried(rt, crates, runs, is_kept): told(*it)
-    # Edits that stood in one another's way have a check each.
-    if again:
-        for it in tried(rt, crates, list(again), is_kept): told(*it)
+        print(f"  {crate}: {len(seconds)} checks, {', '.join(f'{it:.0f}' for it in seconds)} s by the clock", flush=True)
     for name, why in untried.items(): print(f"could not be tried: {name}: {why}")
     if named: print(f"{len(named)} were refused only by a name in a proof: {' '.join(named)}")
     counts = [f"{len(found)} {what}{': ' if found else ''}{' '.join(found)}" for what, found in (("not", failed), ("not tried", untried))]

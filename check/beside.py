@@ -1,14 +1,12 @@
-"""The comparisons `margin`, `explain`, `settings`, `sweeps`, `readers`, `formats` and `pages`, on random inputs.
+"""The comparisons `margin`, `explain`, `settings`, `sweeps`, `formats` and `pages`, on random inputs.
 
 `margin` and `explain` take families around the border of the condition (families.py), and margin.py and plain.py beside the program. `settings` and `sweeps`
-have settings.py and sweeps.py; the members of a tenth of the sweeps are run by plain.py, and of the others by the program. `readers` has a plan of the
-usual form beside the same plan in a form that the quick reader leaves to the TOML reader. `formats` has JSON and CSV beside the text, `pages` the texts of a
-page beside the other commands.
+have settings.py and sweeps.py; the members of a tenth of the sweeps are run by plain.py, and of the others by the program. `formats` has JSON and
+CSV beside the text, `pages` the texts of a page beside the other commands.
 """
 import html
 import random
 import re
-import resource
 import sys
 
 sys.dont_write_bytecode = True
@@ -180,96 +178,6 @@ def sweeps(tally, program, seed, numbers, options):
         except of_sweeps.Refused as refused:
             printed = "", f"{refused}\n", refused.status
         tally.compare(name, "sweep --print 0", text, asked(program, "sweep", *words, "--print", "0", text=text), printed)
-
-
-# ---- The two readers of plans
-
-
-def spelled(rng, number):
-    return rng.choice([hex(number), f"{number:_}", f"0x{number:_X}", f"0b{number:b}", f"0o{number:o}", f"+{number}"])
-
-
-def usual(rng, plan):
-    """A text of the usual form: a line for each key, with comments, blanks, underscores and hexadecimal numbers. Rates are in line, frames in half of them."""
-    lines = []
-    for line in random_plans.toml_text(plan, rng.choice([{"rates"}, {"rates", "frame"}])).split("\n"):
-        if rng.random() < 0.1: lines.append(rng.choice(["", "  ", "# a comment", "\t# é"]))
-        key, equals, value = line.partition(" = ")
-        if equals and value.isdigit() and value == str(int(value)) and rng.random() < 0.2: value = spelled(rng, int(value))
-        if rng.random() < 0.3: value = value.replace("}, {", rng.choice(["},{", "}, # c\n  {", "}\n, {"])).replace("}]", rng.choice(["}]", "},\n]", "} ]"]))
-        lines.append((key + rng.choice([" = ", "=", "\t=  "]) + value if equals else line) + rng.choice([""] * 6 + [" ", " # c", "\r"]))
-    return "\n".join(lines).encode() + b"\n"
-
-
-def other_forms(rng, text, plan):
-    """The same plan in forms of which no text is usual, each with a name."""
-    yield "a mark of byte order", b"\xef\xbb\xbf" + text
-    last = plan.get("disturbance")
-    if last: yield "disturbances first", random_plans.toml_text({key: plan[key] for key in sorted(plan, key=lambda key: key != "disturbance")}, False).encode()
-    yield "tables in line", random_plans.toml_text(plan, True).encode()
-    yield "quoted keys", re.sub(rb"(?m)^(\w+)(?=[ \t]*=)", lambda found: found[0] if rng.random() < 0.5 else b'"' + found[0] + b'"', text)
-    yield "headers with blanks", re.sub(rb"(?m)^\[\[(.*)\]\]", lambda found: b"[[ " + found[1].replace(b".", b" . ") + b" ]]", text)
-    yield "dotted keys", text + b"\nzz.a.b = 1\n"
-
-
-LONG = {  # arrays in line, and the version, of texts that the quick reader has to take
-    "frames below headers": (set(), 1), "rates in line": ({"rates"}, 2), "frames that come again": ({"rates"}, 3), "frames in line": ({"rates", "frame"}, 3)}
-
-
-def long_plan(version):
-    clock = {"num": 100, "den": 1}
-    own = clock if version == 1 else {"rates": [{"from": 0} | clock]}
-    again = {"every": 500_000} if version == 3 else {}
-    nodes = [{"name": f"n{node}", "offset": node} | own | {"prop": 4, "ps1": 3, "ps2": 2, "sjw": 2, "x": node, "out": 10, "in": 10,
-              "frame": [{"id": 16 * frame + node, "dlc": 8, "bytes": [frame] * 8, "ready": 300} | again for frame in range(64)]} for node in range(16)]
-    return {"version": version, "end": 6_000_000, "per": 1, "node": nodes}
-
-
-def used():
-    """The processor time of all children that ended, in seconds: other work on the machine changes it less than the time by the clock."""
-    usage = resource.getrusage(resource.RUSAGE_CHILDREN)
-    return usage.ru_utime + usage.ru_stime
-
-
-def least_times(program, *texts):
-    """The least processor time of nine runs of `check` for each text, by turns: the machine's speed changes."""
-    times = [[] for _ in texts]
-    for _ in range(9):
-        for text, own in zip(texts, times):
-            began = used()
-            asked(program, "check", text=text)
-            own.append(used() - began)
-    return map(min, times)
-
-
-def are_taken(tally, program):
-    """That the quick reader takes texts of the usual form: `check` takes far less time than of the same with a mark of byte order."""
-    for form, (in_line, version) in LONG.items():
-        text = random_plans.toml_text(long_plan(version), in_line).encode() + b"\n"
-        quick, slow = least_times(program, text, b"\xef\xbb\xbf" + text)
-        tally.compare(form, "in less than 3/4 of the time", text, quick < 0.75 * slow, True)
-
-
-def readers(tally, program, seed, numbers, options):
-    if 0 in numbers: are_taken(tally, program)
-    for number in numbers:
-        rng = random.Random(f"{seed} {number} readers")
-        plan = random_plans.choose_tolerances(rng, random_plans.choose_sync(rng, random_plans.random_plan(rng), rng.choice(["none", "book", "wrong"] if number % 9 == 0 else ["none", "book"])))
-        if plan["version"] == 2 and rng.random() < 0.3:
-            plan["version"] = 1
-            for node in plan["node"]: node |= {key: value for key, value in node.pop("rates")[0].items() if key != "from"}
-        if rng.random() < 0.3: plan = versions.with_traffic(rng, plan)[0]
-        if rng.random() < 0.4: random_plans.spoil(rng, plan)
-        plan = {key: value for key, value in plan.items() if not random_plans.is_tables(value)} | {key: value for key, value in plan.items() if random_plans.is_tables(value)}
-        text = usual(rng, plan)
-        command = rng.choice(["check", "check", "check", "margin", "records"] if len(text) < 3_000 else ["check"])
-        first = asked(program, command, text=text)
-        tally.tried += 1
-        tally.count("answers", first[1].split("(")[0].strip() or "a plan")
-        forms = list(other_forms(rng, text, plan))
-        form, other = rng.choice(forms[:-1])
-        second = asked(program, command, text=other)
-        tally.compare(f"plan {number} of seed {seed}", f"{form}, {command}", text + b"\n# ----\n" + other, second, first)
 
 
 # ---- Formats and pages

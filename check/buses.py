@@ -1,5 +1,5 @@
 #!/usr/bin/env python3
-"""The table of buses from practice in docs/use/margins.md: for each what `check` and `margin` say, and in how many power-ups `sweep` finds it not clean.
+"""The table of buses from practice in docs/proof/margins-tried.md: for each what `check` and `margin` say, and in how many power-ups `sweep` finds it not clean.
 
 usage: buses.py PROGRAM [--texts N] [--runs N] [ROW..]     rows by their numbers from 0, all without any
        buses.py answers                                    how many are sound, by margin.py, and how many of these have room for acknowledgements and to rest

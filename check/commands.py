@@ -85,7 +85,7 @@ book_hard_before_the_sample|book_hard_at_the_sample|book_hard_behind_the_sample|
 book_late_within_sjw|book_late_beyond_sjw|book_late_at_the_sample|book_late_while_driving|book_late_at_the_sample_while_driving|book_early_within_sjw
 book_early_at_the_border|book_early_beyond_sjw|book_early_that_ends_the_bit|book_early_while_driving|book_second_edge_of_a_bit|book_second_edge_at_the_border
 book_edge_behind_a_dominant_sample|book_hard_in_quantum_0|book_error_0_of_its_own_start_of_frame
-book_hard_integrating|book_hard_waiting|book_hard_suspend|book_hard_intermission|book_hard_sending
+book_hard_integrating|book_hard_waiting|book_hard_suspend|book_hard_intermission|book_hard_sending|book_hard_again_while_integrating
 """
 
 
@@ -146,11 +146,11 @@ class CountedCounters(plain.Counters):
 
 
 class CountedBitClock(plain.BitClock):
-    def step(self, level, idle, awaits_start, driving):
+    def step(self, level, idle, awaits_start, driving, integrates):
         before, sampled, synchronised, place, sjw = self.before, self.sampled, self.synchronised, self.place, self.segments.sjw
         sample_at, end = self.segments.sample_at() + self.longer, self.segments.bit_quanta() + self.longer - self.shorter
         self.steps = getattr(self, "steps", 0) + 1
-        beat, sync = super().step(level, idle, awaits_start, driving)
+        beat, sync = super().step(level, idle, awaits_start, driving, integrates)
         if before == plain.DOMINANT or level == plain.RECESSIVE: return beat, sync
         if self.segments.book:
             for row in book_rows(self, sync, awaits_start, driving, sampled, synchronised, place, sample_at, end): reached["book_" + row] += 1
@@ -179,7 +179,7 @@ def book_rows(clock, sync, awaits_start, driving, sampled, synchronised, place, 
         return ["late_at_the_sample_while_driving" if at_sample else "late_while_driving"]
     if sync == "Hard":
         where = "at_the_sample" if at_sample else "at_the_border" if at_border else "before_the_sample" if place + 1 < sample_at else "behind_the_sample"
-        rows = ["hard_" + where, "hard_" + clock.state]
+        rows = ["hard_" + where, "hard_" + clock.state] + ["hard_again_while_integrating"] * synchronised
     elif sync == 0: rows = ["error_0"] + ["error_0_while_driving"] * driving + ["error_0_of_its_own_start_of_frame"] * (driving and awaits_start)
     elif sync > 0: rows = ["late_within_sjw" if sync <= sjw else "late_beyond_sjw"] + ["late_at_the_sample"] * at_sample
     else:

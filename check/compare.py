@@ -16,13 +16,13 @@ Seed 1 and one process by default. Input N of a seed is always the same, in howe
   margin        margin, and explain of every other plan, on families around the border of the condition
   settings      settings of texts with few settings each
   sweeps        sweeps of a few members over random words, and a member that is printed
-  readers       plans of the usual form beside the same in forms that the quick reader leaves to the TOML reader
   hints         the place that a hint names, on strangers' texts
   formats       JSON and CSV of each command beside its text, on random plans
   pages         the texts of pages beside what the other commands write
   versions      plans of version 1 or 2 beside the same in version 3; --bits N ends each plan after so many bits
   repeats       frames that come again beside their instances as tables; --bits N
   version-3     plans of version 3 with what it has more; --bits N, --workers N
+  version-4     plans of version 4, a third of them with values at its limits
   cyclic        repeats, on the plans of plans/
   workers       runs by 2 to 8 workers and either link beside one thread
   work          PROGRAM is test_rows: the same in one process, and workers by threads of its own
@@ -54,11 +54,12 @@ WHATS = {
     "traffic": ("traffic", "traffic", 1_000, {}),
     "candump": ("log", "candump", 1_000, {}),
     "refusals": ("refusals", "refusals", 1_000, {}),
-    **{name: ("beside", name, 1_000, {}) for name in ("margin", "settings", "sweeps", "readers", "formats", "pages")},
+    **{name: ("beside", name, 1_000, {}) for name in ("margin", "settings", "sweeps", "formats", "pages")},
     "hints": ("places", "hints", 1_000, {}),
     "versions": ("versions", "versions", 1_000, {"bits": "0"}),
     "repeats": ("versions", "repeats", 1_000, {"bits": "0"}),
     "version-3": ("versions", "version_3", 1_000, {"bits": "0", "workers": ""}),
+    "version-4": ("controllers", "version_4", 1_000, {}),
     "cyclic": ("versions", "cyclic", 0, {}),
     **{name: ("threads", name, 500, {}) for name in ("workers", "work")},
     "engines": ("engines", "engines", 500, {}),

@@ -16,7 +16,8 @@ import random_plans
 import traffic  # gives plain.py that command
 from tally import asked
 
-PLANS = sorted((Path(__file__).resolve().parent.parent / "examples").glob("*.toml"))
+WHOLE_SECOND = "thirty_nodes_29bit"  # 120 million quanta: the gate asks its report, and what check and candump write
+PLANS = sorted(it for it in (Path(__file__).resolve().parent.parent / "examples").glob("*.toml") if it.stem != WHOLE_SECOND)
 COUNTS = {"examples": len(PLANS)}
 
 

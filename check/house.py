@@ -1,7 +1,8 @@
 #!/usr/bin/env python3
 """Looks for what makes the sources hard to read, and fails if it finds something that accepted.txt doesn't have with a reason.
 
-usage: house.py [--all] [repeats|wide|names|unused|long|english|comments|links|quotes|cites|edits|flags]..     all of them if none is named; --all shows what is accepted, too
+usage: house.py [--all] [repeats|wide|names|unused|long|english|large|wordy|dated|comments|links|quotes|cites|edits|flags]..
+       all of them if none is named; --all shows what is accepted, too
 
 repeats  lemma statements that stand more than once, up to the names of their variables (definitions and proofs are read, bodies not; a module's own
          name for a lemma of another one is none)
@@ -10,6 +11,9 @@ names    words of specs/ that two crates define
 unused   definitions of specs/ that no clause and no other definition names, but for `most_x-is`: they belong into proofs/
 long     files of more than 800 lines, functions of more than 40
 english  of each page: sentences of more than 30 words, lines of more than 100 columns, and words that CONTRIBUTING asks not to use
+large    pages of more than 20 KB
+wordy    pages of which more than 8 % of the words are it, one, that, those, what, this, other, so or such: a thing is named again
+dated    dates in pages of docs/: a page says what is, and bench/results.tsv has what was measured when
 comments of the doc comments of src/: sentences of more than 30 words, words to avoid, and functions with an answer whose comment doesn't begin with
          it ('Returns ..', 'True if ..') or with a verb
 flags    commands of the toolchain (`rt ..`) in pages, and their flags, that its help doesn't have; not looked at if there is no `rt` on the path
@@ -201,6 +205,36 @@ def english():
                 yield name, f"{name}:{at + 1} {len(line)} columns"
 
 
+def large():
+    for path in pages():
+        size = path.stat().st_size
+        if size > 20 * 1024:
+            yield path.relative_to(TOP), f"{path.relative_to(TOP)} {size} bytes"
+
+
+POINTING = {"it", "one", "ones", "that", "those", "what", "this", "other", "others", "so", "such"}
+
+
+def wordy():
+    for path in pages():
+        words, name = [], path.relative_to(TOP)
+        for _, line in plain_lines(path.read_text(encoding="utf-8")):
+            words += re.findall(r"[a-z']+", re.sub(r"`[^`]*`", "x", re.sub(r"\]\([^)]*\)", "]", line)).lower())
+        share = 100 * sum(it in POINTING for it in words) / max(len(words), 1)
+        if name.parts[0] != "crates" and len(words) > 200 and share > 8:
+            yield name, f"{name} {share:.1f} %"
+
+
+MONTHS = "January|February|March|April|May|June|July|August|September|October|November|December"
+
+
+def dated():
+    for path in pages():
+        for at, line in enumerate(path.read_text(encoding="utf-8").splitlines()):
+            if path.relative_to(TOP).parts[0] == "docs" and re.search(rf"\b[1-3]?[0-9] ({MONTHS})\b|\b({MONTHS}) 20[0-9][0-9]\b", line):
+                yield path.relative_to(TOP), f"{path.relative_to(TOP)}:{at + 1} a date"
+
+
 def doc_blocks(text):
     """Yields the place of each doc comment, its text, and the line of code below it."""
     said, begun = [], 0
@@ -356,7 +390,7 @@ def accepted():
 
 
 def main():
-    every = {it.__name__: it for it in (repeats, wide, names, unused, long, english, comments, links, quotes, cites, edits, flags)}
+    every = {it.__name__: it for it in (repeats, wide, names, unused, long, english, large, wordy, dated, comments, links, quotes, cites, edits, flags)}
     words, left, bad = sys.argv[1:], accepted(), 0
     show = "--all" in words
     for kind in [it for it in words if it != "--all"] or every:

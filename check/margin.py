@@ -441,12 +441,18 @@ CHANGES = {
 }
 
 
+def changed_fault(s, ps1, ps2, sjw):
+    """Why segments are refused with these quanta added: in the ranges of those that are set one by one, if they are in these without, else of a controller's."""
+    made = s._replace(ps1=s.ps1 + ps1, ps2=s.ps2 + ps2, sjw=s.sjw + sjw)
+    return plain.controller_fault(made.prop + made.ps1, made.ps2, made.sjw) if s.fault() else made.fault()
+
+
 def first_help(family, one):
     """Returns the first change that raises the least margin most, of those that every node's segments allow; or None if the condition doesn't hold with it."""
     best = None, family.reserve(one)
     for words, (ps1, ps2, sjw) in CHANGES.items():
         own = [node.segments for node in family.plan.nodes]
-        if any(s._replace(ps1=s.ps1 + ps1, ps2=s.ps2 + ps2, sjw=s.sjw + sjw).fault() for s in own): continue
+        if any(changed_fault(s, ps1, ps2, sjw) for s in own): continue
         reserve = family.reserve(one, changes=(ps1, ps2, sjw))
         if reserve > best[1]: best = words, reserve
     return best[0] if best[1] >= 0 else None

@@ -26,6 +26,23 @@ class Fault(Exception):
     """Why an input is refused."""
 
 
+# ---- Limits of plans, by the version of their text (P)
+
+class Limits(NamedTuple):
+    nodes: int
+    offset: int
+    start: int  # the last quantum with which a rate begins
+    end: int
+    quanta: int
+    queued: int
+    disturbances: int
+
+
+NARROW = Limits(16, 2**20, 2**20, 2**36, 2**20, 64, 64)
+WIDE = Limits(64, 2**34, 2**30, 2**40, 2**30, 65_536, 256)
+LIMITS_OF = {1: NARROW, 2: NARROW, 3: NARROW._replace(queued=4096), 4: WIDE}
+
+
 # ---- Clock: the tick at which a quantum begins (P)
 
 class Rate(NamedTuple):
@@ -48,17 +65,17 @@ class Clock(NamedTuple):
     def quanta_before(self, end):
         return bisect_left(range(end), end, key=self.at)
 
-    def fault(self):
+    def fault(self, limits=NARROW):
         starts = [rate.start for rate in self.rates]
         if any(rate.den == 0 for rate in self.rates): return "ZeroDen"
         if any(rate.num < rate.den for rate in self.rates): return "TooFast"
         if any(rate.num > 2**20 * rate.den for rate in self.rates): return "TooSlow"
-        if self.offset > 2**20: return "BigOffset"
+        if self.offset > limits.offset: return "BigOffset"
         if any(rate.den > 1_000_000 for rate in self.rates): return "BigDen"
         if not starts: return "NoRates"
         if len(starts) > 16: return "TooManyRates"
         if starts[0] != 0 or starts != sorted(set(starts)): return "RateOrder"
-        if starts[-1] > 2**20: return "BadFrom"
+        if starts[-1] > limits.start: return "BadFrom"
 
 
 # ---- Bit clock: segments, samples, synchronisation (B 10)
@@ -89,6 +106,14 @@ class Segments(NamedTuple):
         if not 8 <= self.bit_quanta() <= 25: return "Length"
 
 
+def controller_fault(tseg1, tseg2, sjw):
+    """Segments of which PROP_SEG and PHASE_SEG1 are one (ISO 11898-1; TSEG2 of 2 at least is P)."""
+    if not 2 <= tseg1 <= 256: return "Phase1"
+    if not 2 <= tseg2 <= 128: return "Phase2"
+    if not 1 <= sjw <= min(tseg1 - 1, tseg2): return "Jump"
+    if 1 + tseg1 + tseg2 < 8: return "Length"
+
+
 class BitClock:
     """One step is one quantum: the beat (Start, Sample or Plain) and the synchronisation (Hard, a phase error, or None)."""
 
@@ -101,11 +126,13 @@ class BitClock:
     def start(self, synchronised):
         self.place, self.longer, self.shorter, self.synchronised = 0, 0, 0, synchronised
 
-    def step(self, level, idle, awaits_start, driving):
+    def step(self, level, idle, awaits_start, driving, integrates):
         before, self.before = self.before, level
         if self.segments.book:
-            edge = level == DOMINANT and before == RECESSIVE and self.sampled == RECESSIVE and not self.synchronised
-            return self.step_by_the_book(level, awaits_start and not driving, driving, edge)
+            hard = awaits_start and not driving
+            again = integrates and hard  # bus integration (ISO 11898-1): by each edge, also by a second one in a bit
+            edge = level == DOMINANT and before == RECESSIVE and self.sampled == RECESSIVE and (again or not self.synchronised)
+            return self.step_by_the_book(level, hard, driving, edge)
         self.place += 1
         sample_at = self.segments.sample_at() + self.longer
         if self.first or self.place == sample_at + self.segments.ps2 - self.shorter:
@@ -260,11 +287,14 @@ class Machine:
     def idle(self):
         return self.state in ("waiting", "suspend")
 
+    def integrates(self):
+        return self.state == "integrating"
+
     def awaits_start(self):
         """The next edge may be a start of frame: up to its own, for a node that has decided to send."""
         between = self.state == "intermission" and self.count in (1, 2)
         decided = self.state == "sending" and self.count == 0
-        return self.idle() or self.state == "integrating" or between or decided
+        return self.idle() or self.integrates() or between or decided
 
     def drive(self):
         """The level from the next bit start on."""
@@ -498,7 +528,8 @@ class Node:
         return self.setup.clock.at(self.quanta)
 
     def quantum(self, level):
-        beat, sync = self.bit_clock.step(level, self.machine.idle(), self.machine.awaits_start(), self.drive == DOMINANT)
+        stays = self.machine.idle(), self.machine.awaits_start(), self.drive == DOMINANT, self.machine.integrates()
+        beat, sync = self.bit_clock.step(level, *stays)
         if sync == "Hard": self.hards += 1
         elif sync is not None: self.phases.append(sync)
         if sync is not None: self.events.append((self.quanta, self.samples, f"sync {'hard' if sync == 'Hard' else sync}"))
@@ -614,7 +645,7 @@ class Plan(NamedTuple):
     per: int
     disturbances: list  # of (number of the one node or None, x, from, to)
     end: int
-    queued: int = 64  # the most frames that wait at a node
+    limits: Limits = NARROW
 
     def delay(self, i, j):
         a, b = self.places[i], self.places[j]
@@ -625,7 +656,7 @@ class Plan(NamedTuple):
 
     def topology_fault(self):
         if not self.places: return "NoNodes"
-        if len(self.places) > 16: return "TooManyNodes"
+        if len(self.places) > self.limits.nodes: return "TooManyNodes"
         pairs = [(i, j) for i in range(len(self.places)) for j in range(len(self.places))]
         for i, j in pairs:
             if self.delay(i, j) == 0: return f"ZeroDelay({i}, {j})"
@@ -633,15 +664,15 @@ class Plan(NamedTuple):
             if self.delay(i, j) > 2**20: return f"TooLong({i}, {j})"
 
     def fault(self):
-        if self.end > 2**36: return "End"
+        if self.end > self.limits.end: return "End"
         for i, node in enumerate(self.nodes):
             short = node.segments.book and node.segments.sample_at() == 3  # it may sample every third quantum
-            if node.clock.quanta_before(self.end) > (786_432 if short else 1_048_576): return f"Quanta({i})"
+            if node.clock.quanta_before(self.end) > self.limits.quanta * (3 if short else 4) // 4: return f"Quanta({i})"
         for i, node in enumerate(self.nodes):
-            if len(node.queue) > self.queued: return f"Queue({i})"
+            if len(node.queue) > self.limits.queued: return f"Queue({i})"
         for n, (node, x, start, end) in enumerate(self.disturbances):
             far = any(self.place_delay(x, j) > 2**20 for j in range(len(self.places))) if node is None else node >= len(self.places)
-            if start >= end or end > 2**36 or n > 63 or far: return f"Disturbance({n})"
+            if start >= end or end > self.limits.end or n >= self.limits.disturbances or far: return f"Disturbance({n})"
 
 
 def whole(low, end):
@@ -661,7 +692,9 @@ SYNC = lambda value: type(value) is str and value in ("after", "book")
 NAME = lambda value: type(value) is str and re.fullmatch("[A-Za-z0-9_-]{1,32}", value)
 TOP = {"version": NUMBER, "end": NUMBER, "per": NUMBER, "node": TABLES}
 FRACTION, NOMINAL = {"num": NUMBER, "den": NUMBER}, {"quantum": NUMBER, "ppm": PPM}
-LENGTHS = dict.fromkeys(("prop", "ps1", "ps2", "sjw"), NUMBER) | {"x": SMALL, "out": NUMBER, "in": NUMBER}
+PLACE = {"x": SMALL, "out": NUMBER, "in": NUMBER}
+LENGTHS = dict.fromkeys(("prop", "ps1", "ps2", "sjw"), NUMBER) | PLACE
+CONTROLLER = dict.fromkeys(("tseg1", "tseg2", "sjw"), NUMBER) | PLACE
 FRAME = {"id": SMALL, "dlc": SMALL}, {"remote": TRUTH, "bytes": array_of(BYTE), "ready": NUMBER, "extended": TRUTH}
 INTERVAL = {"from": NUMBER, "to": NUMBER}
 
@@ -674,7 +707,7 @@ def frame_keys(version, table):
 
 
 def disturbance_keys(version, table):
-    return {"node": NAME} | INTERVAL if version == 3 and "node" in table else {"x": SMALL} | INTERVAL
+    return {"node": NAME} | INTERVAL if version >= 3 and "node" in table else {"x": SMALL} | INTERVAL
 
 
 def test_keys(table, required, optional):
@@ -708,15 +741,19 @@ def clock_keys(table):
     return NOMINAL if "quantum" in table else FRACTION
 
 
+def length_keys(version, table):
+    return CONTROLLER if version >= 4 and ("tseg1" in table or "tseg2" in table) else LENGTHS
+
+
 def read_plan(text):
     top = read_toml(text)
-    if "version" in top and NUMBER(top["version"]) and top["version"] not in (1, 2, 3): raise Fault("Version")
+    if "version" in top and NUMBER(top["version"]) and top["version"] not in LIMITS_OF: raise Fault("Version")
     test_keys(top, TOP, {"disturbance": TABLES, "sync": SYNC})
     version = top["version"]
     for node in top["node"]:
-        clock = {"rates": TABLES} if version == 2 or version == 3 and "rates" in node else clock_keys(node)
-        listen = {"listen": TRUTH} if version == 3 else {}
-        test_keys(node, {"name": NAME, "offset": NUMBER} | clock | LENGTHS, {"frame": TABLES, "tolerance": TOLERANCE} | listen)
+        clock = {"rates": TABLES} if version == 2 or version >= 3 and "rates" in node else clock_keys(node)
+        listen = {"listen": TRUTH} if version >= 3 else {}
+        test_keys(node, {"name": NAME, "offset": NUMBER} | clock | length_keys(version, node), {"frame": TABLES, "tolerance": TOLERANCE} | listen)
         for rate in node.get("rates", []): test_keys(rate, {"from": NUMBER} | clock_keys(rate), {})
         for frame in node.get("frame", []): test_keys(frame, *frame_keys(version, frame))
     for disturbance in top.get("disturbance", []): test_keys(disturbance, disturbance_keys(version, disturbance), {})
@@ -728,7 +765,7 @@ def read_plan(text):
     number = lambda table: names.index(table["node"]) if table["node"] in names else len(names)
     disturbances = [(number(table) if "node" in table else None, table.get("x", 0), table["from"], table["to"])
                     for table in top.get("disturbance", [])]
-    plan = Plan(nodes, places, top["per"], disturbances, top["end"], 4096 if version == 3 else 64)
+    plan = Plan(nodes, places, top["per"], disturbances, top["end"], LIMITS_OF[version])
     refuse("Topology(%s)", plan.topology_fault())
     refuse("Plan(%s)", plan.fault())
     return plan
@@ -744,11 +781,22 @@ def table_rate(i, start, table):
     return Rate(start, table["quantum"] * (1_000_000 + table["ppm"]), 1_000_000)
 
 
-def instances(clock, end, table, ready):
+def instances(clock, end, table, ready, most):
     """The quanta at which a frame becomes ready: those of one that comes again only before the plan ends (P)."""
     if "every" not in table: return [ready]
-    last = min(clock.quanta_before(end), ready + table["every"] * min(table.get("count", 4097), 4097))
+    last = min(clock.quanta_before(end), ready + table["every"] * min(table.get("count", most), most))
     return range(ready, last, table["every"])
+
+
+def node_segments(i, node, book):
+    if "tseg1" not in node:
+        segments = Segments(node["prop"], node["ps1"], node["ps2"], node["sjw"], book)
+        refuse(f"NodeSegments({i}, %s)", segments.fault())
+        return segments
+    tseg1, tseg2, sjw = node["tseg1"], node["tseg2"], node["sjw"]
+    refuse(f"NodeSegments({i}, %s)", controller_fault(tseg1, tseg2, sjw))
+    ps1 = min(tseg1 - 1, tseg2)
+    return Segments(tseg1 - ps1, ps1, tseg2, sjw, book)
 
 
 def read_node(i, node, book, top):
@@ -756,17 +804,17 @@ def read_node(i, node, book, top):
         rates = [table_rate(i, table["from"], table) for table in node["rates"]]
     else:
         rates = [table_rate(i, 0, node)]
-    clock = Clock(node["offset"], rates)
-    segments = Segments(node["prop"], node["ps1"], node["ps2"], node["sjw"], book)
-    refuse(f"NodeClock({i}, %s)", clock.fault())
-    refuse(f"NodeSegments({i}, %s)", segments.fault())
+    clock, limits = Clock(node["offset"], rates), LIMITS_OF[top["version"]]
+    refuse(f"NodeClock({i}, %s)", clock.fault(limits))
+    segments = node_segments(i, node, book)
     queue = []
     for n, table in enumerate(node.get("frame", [])):
         frame = table_frame(table)
         refuse(f"NodeFrame({i}, {n}, %s)", frame.fault())
-        queue += [Queued(frame, ready) for ready in instances(clock, min(top["end"], 2**36), table, table.get("ready", 0))]
-        if top["version"] == 3: queue = queue[:4097]  # one more than may wait is enough to refuse it
-    if top["version"] == 3: queue.sort(key=lambda queued: queued.ready)
+        most = limits.queued + 1  # one more than may wait is enough to refuse it
+        queue += [Queued(frame, ready) for ready in instances(clock, min(top["end"], limits.end), table, table.get("ready", 0), most)]
+        if top["version"] >= 3: queue = queue[:most]
+    if top["version"] >= 3: queue.sort(key=lambda queued: queued.ready)
     return Setup(node["name"], clock, segments, queue)
 
 

@@ -1,6 +1,6 @@
 """What `explain` writes of a plan that is refused, beside the first fault by plain.py: the comparison `refusals`.
 
-Written from docs/use/explain.md, "Of a plan that is refused", docs/use/plan-text.md, "Keys", and the table of faults in docs/use/commands.md, whose last
+Written from docs/use/explain.md, "Of a plan that is refused", docs/use/plan-text.md, "Keys", and the table of faults in docs/use/faults.md, whose last
 column says what to change. plain.py says which fault is the first; here it gets its table and its keys.
 """
 import functools
@@ -23,9 +23,9 @@ def tables(top):
     version = top["version"]
     yield ("plan",), top, plain.TOP, {"disturbance": plain.TABLES, "sync": plain.SYNC}
     for i, node in enumerate(top["node"]):
-        clock = {"rates": plain.TABLES} if version == 2 or version == 3 and "rates" in node else plain.clock_keys(node)
-        required = {"name": plain.NAME, "offset": plain.NUMBER} | clock | plain.LENGTHS
-        yield ("node", i), node, required, {"frame": plain.TABLES, "tolerance": plain.TOLERANCE} | ({"listen": plain.TRUTH} if version == 3 else {})
+        clock = {"rates": plain.TABLES} if version == 2 or version >= 3 and "rates" in node else plain.clock_keys(node)
+        required = {"name": plain.NAME, "offset": plain.NUMBER} | clock | plain.length_keys(version, node)
+        yield ("node", i), node, required, {"frame": plain.TABLES, "tolerance": plain.TOLERANCE} | ({"listen": plain.TRUTH} if version >= 3 else {})
         for n, rate in enumerate(node.get("rates", [])): yield ("rate", i, n), rate, {"from": plain.NUMBER} | plain.clock_keys(rate), {}
         for n, frame in enumerate(node.get("frame", [])): yield ("frame", i, n), frame, *plain.frame_keys(version, frame)
     for n, table in enumerate(top.get("disturbance", [])): yield ("disturbance", n), table, plain.disturbance_keys(version, table), {}
@@ -43,7 +43,8 @@ def faulty_table(top):
 
 CLOCK = ["quantum", "ppm", "num", "den", "rates"]
 KEYS = {
-    "BigOffset": ["offset"], "Prop": ["prop"], "Phase1": ["ps1"], "Phase2": ["ps2"], "Jump": ["sjw", "ps1"], "Length": ["prop", "ps1", "ps2"],
+    "BigOffset": ["offset"], "Prop": ["prop"], "Phase1": ["ps1", "tseg1"], "Phase2": ["ps2", "tseg2"], "Jump": ["sjw", "ps1", "tseg1", "tseg2"],
+    "Length": ["prop", "ps1", "ps2", "tseg1", "tseg2"],
     "Id": ["id", "extended"], "Dlc": ["dlc"], "DataLength": ["dlc", "remote", "bytes"], "ExtendedId": ["id", "extended"],
 }
 
@@ -83,6 +84,13 @@ CAUSES = {
     "End": "end is above 68,719,476,736 ticks", "Quanta": "more quanta begin before end than may", "Queue": "more than 64 frames wait, or 4,096 in version 3",
     "Disturbance": "it ends before it begins, ends too late, is too far from a node, names no node, or is one of more than 64", "Toml": "the text is no TOML 1.1",
 }
+# In version 4; the last three at a node with `tseg1` or `tseg2`.
+WIDE_CAUSES = {
+    "BigOffset": "offset is above 17,179,869,184 ticks", "BadFrom": "a rate begins after quantum 1,073,741,824",
+    "TooManyNodes": "there are more than 64 nodes", "End": "end is above 1,099,511,627,776 ticks", "Queue": "more than 65,536 frames wait",
+    "Disturbance": "it ends before it begins, ends too late, is too far from a node, names no node, or is one of more than 256",
+    "Phase1": "tseg1 is out of its bounds", "Phase2": "tseg2 is out of its bounds", "Jump": "sjw is out of its bounds, above tseg1 - 1 or above tseg2",
+}
 ESCAPES = {"\b": "\\b", "\t": "\\t", "\n": "\\n", "\f": "\\f", "\r": "\\r"}
 
 
@@ -95,13 +103,23 @@ def shown(text):
 
 
 @functools.cache
-def faults_table():
-    rows = re.findall(r"^\| `([^`]*)` \| (?:plan|any|records) \| .* \| (.*) \|$", (Path(__file__).parent.parent / "docs/use/commands.md").read_text(), re.M)
+def faults_table(heading):
+    page = (Path(__file__).parent.parent / "docs/use/faults.md").read_text()
+    rows = re.findall(r"^\| `([^`]*)` \| .* \| (.*) \|$", page.split(f"\n## {heading}\n")[1].split("\n## ")[0], re.M)
     return [(re.compile(re.sub(r"\b(key|n|i|j)\b", ".*", re.escape(fault)), re.S), change) for fault, change in rows]
 
 
-def remedy(fault):
-    return next(change for pattern, change in faults_table() if pattern.fullmatch(fault))
+def is_wide(top, fault):
+    """Whether the words of version 4 are for this fault: on segments they are for those of a controller."""
+    if top.get("version") != 4 or type(top["version"]) is not int: return False
+    if not fault.startswith("NodeSegments"): return True
+    node = top["node"][int(re.search("[0-9]+", fault)[0])]
+    return "tseg1" in node or "tseg2" in node
+
+
+def remedy(top, fault):
+    headings = ["Faults in version 4"] * is_wide(top, fault) + ["Faults"]
+    return next(change for heading in headings for pattern, change in faults_table(heading) if pattern.fullmatch(fault))
 
 
 def value_words(value):
@@ -144,11 +162,12 @@ def about(top, fault, words):
 
 def refusal_text(text, fault, words):
     """The two lines, as a pattern: where a text is no TOML a place stands there."""
-    cause = next(CAUSES[word] for word in re.findall("[A-Za-z0-9]+", fault.split("(")[0] + " " + fault)
-                 if word in CAUSES and (word not in ("Missing", "Kind", "Unknown") or fault.startswith(word)))
-    if fault == "Toml": return f"wrong: line [0-9]+, column [0-9]+: {re.escape(cause)}\nchange: {re.escape(remedy(fault))}\n"
-    top = {} if fault == "Size" else tomllib.loads(text.decode())
-    return re.escape(f"wrong: {about(top, fault, words)}: {cause}\nchange: {remedy(fault)}\n")
+    top = {} if fault in ("Toml", "Size") else tomllib.loads(text.decode())
+    causes = CAUSES | WIDE_CAUSES if is_wide(top, fault) else CAUSES
+    cause = next(causes[word] for word in re.findall("[A-Za-z0-9]+", fault.split("(")[0] + " " + fault)
+                 if word in causes and (word not in ("Missing", "Kind", "Unknown") or fault.startswith(word)))
+    if fault == "Toml": return f"wrong: line [0-9]+, column [0-9]+: {re.escape(cause)}\nchange: {re.escape(remedy(top, fault))}\n"
+    return re.escape(f"wrong: {about(top, fault, words)}: {cause}\nchange: {remedy(top, fault)}\n")
 
 
 def refusals(tally, program, seed, numbers, options):

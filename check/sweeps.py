@@ -22,7 +22,8 @@ MOST = 2**128 - 1  # so many members are counted, and no more
 CLOCK = ("num", "den", "quantum", "ppm")
 TOP = ("end", "per")
 REPEAT = ("every", "count")
-KEYS = TOP + CLOCK + REPEAT + ("offset", "prop", "ps1", "ps2", "sjw", "x", "out", "in", "tolerance")
+SEGMENTS = "prop", "ps1", "ps2", "tseg1", "tseg2"
+KEYS = TOP + CLOCK + REPEAT + SEGMENTS + ("offset", "sjw", "x", "out", "in", "tolerance")
 
 
 class Refused(Exception):
@@ -67,9 +68,9 @@ def frame_lines(frame):
 
 def node_lines(version, node):
     said = f"\n[[node]]\nname = \"{node['name']}\"\noffset = {node['offset']}\n"
-    own = version == 1 or version == 3 and [rate["from"] for rate in node["rates"]] == [0]
+    own = version == 1 or version >= 3 and [rate["from"] for rate in node["rates"]] == [0]
     if own: said += clock_lines(node["rates"][0])
-    said += "".join(f"{key} = {node[key]}\n" for key in ("prop", "ps1", "ps2", "sjw", "x", "out", "in", "tolerance") if key in node)
+    said += "".join(f"{key} = {node[key]}\n" for key in SEGMENTS + ("sjw", "x", "out", "in", "tolerance") if key in node)
     if node.get("listen"): said += "listen = true\n"
     if not own: said += "".join(f"\n[[node.rates]]\nfrom = {rate['from']}\n{clock_lines(rate)}" for rate in node["rates"])
     return said + "".join(map(frame_lines, node.get("frame", [])))
@@ -128,7 +129,7 @@ def quantum_of(node):
 
 
 def bit_of(node):
-    return min(2**48, quantum_of(node) * (1 + node["prop"] + node["ps1"] + node["ps2"]))
+    return min(2**48, quantum_of(node) * (1 + sum(node.get(key, 0) for key in SEGMENTS)))
 
 
 def digits_of(plan, options):
@@ -231,7 +232,7 @@ def tables_of(node, key):
 
 
 def has(node, key):
-    return key not in CLOCK + REPEAT or any(key in table for table in tables_of(node, key))
+    return key not in CLOCK + REPEAT + SEGMENTS or any(key in table for table in tables_of(node, key))
 
 
 def target_of(nodes, called):

@@ -121,8 +121,9 @@ def bit_of(node):
     """The ticks of a bit, and its sample point in percent."""
     rate = (node.get("rates") or [node])[0]
     quantum = rate["num"] / rate["den"] if "num" in rate else rate["quantum"] * (1 + rate["ppm"] / 10**6)
-    quanta = 1 + node["prop"] + node["ps1"] + node["ps2"]
-    return quanta * quantum, 100 * (quanta - node["ps2"]) / quanta
+    behind = node["ps2"] if "ps2" in node else node["tseg2"]
+    quanta = 1 + sum(node.get(key, 0) for key in ("prop", "ps1", "tseg1")) + behind
+    return quanta * quantum, 100 * (quanta - behind) / quanta
 
 
 def stretches(sent):

@@ -12,6 +12,7 @@ _wireline() {
     check | explain | trace) options+=' --format' ;;
     candump) options+=' --tick --from' ;;
     vcd | page) options+=' --tick' ;;
+    merge | horizon) options+=' --wide' ;;
     margin) options+=' --tick --all-send --format' ;;
     traffic) options+=' --tick --strict --format' ;;
     settings) options+=' --tick --best --plan' ;;

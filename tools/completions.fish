@@ -10,6 +10,7 @@ complete -c wireline -n '__fish_seen_subcommand_from candump' -l from -x -d 'the
 complete -c wireline -n '__fish_seen_subcommand_from run check explain trace margin traffic sweep' -l format -x -a 'text json csv' -d 'the form of the output'
 complete -c wireline -n '__fish_seen_subcommand_from settings' -l best -x -d 'the most settings that are listed'
 complete -c wireline -n '__fish_seen_subcommand_from settings' -l plan -d 'the plan of the best one'
+complete -c wireline -n '__fish_seen_subcommand_from merge horizon' -l wide -d 'records of plans of version 4'
 complete -c wireline -n '__fish_seen_subcommand_from margin' -l all-send -d 'as if each node had frames'
 complete -c wireline -n '__fish_seen_subcommand_from traffic' -l strict -d 'status 1 unless the run works'
 complete -c wireline -n '__fish_seen_subcommand_from sweep' -l vary -x -d 'a row for each value: [NODE.]KEY=A..B[:STEP]'

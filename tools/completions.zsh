@@ -12,6 +12,7 @@ _wireline() {
     check | explain | trace) options+=($format) ;;
     candump) options+=('--tick[how long a tick takes]:time:' '--from[the second of tick 0]:seconds:') ;;
     vcd | page) options+=('--tick[how long a tick takes]:time:') ;;
+    merge | horizon) options+=('--wide[records of plans of version 4]') ;;
     margin) options+=('--tick[how long a tick takes]:time:' '--all-send[as if each node had frames]' $format) ;;
     traffic) options+=('--tick[how long a tick takes]:time:' '--strict[status 1 unless the run works]' $format) ;;
     settings) options+=('--tick[how long a tick takes]:time:' '--best[the most settings that are listed]:number:' '--plan[the plan of the best one]') ;;

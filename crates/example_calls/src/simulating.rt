@@ -76,8 +76,7 @@ fn simulated(alloc: Global) -> Result<Outcome> {
 
 /// Returns the report of an outcome.
 fn report_of(alloc: Global, outcome: &Outcome) -> Result<String> {
-    let totals = outcome.totals(alloc)?;
-    String::from_utf8(report(alloc, &totals)?)
+    String::from_utf8(report(alloc, outcome)?)
         .ok()
         .context("reports are letters and digits")
 }

@@ -11,7 +11,7 @@ use wl_sync::{BitClock, the_sample_comes_near};
 fn ways_to_the_sample(rt: HostRuntime) -> Result<(), Fail> {
     let mut clock = BitClock::new(Segments::new(3, 3, 3, 2)?);
     assert_eq!(rt; clock.before_sample(), None);
-    const WAYS: [Option<u8>; 13] = [
+    const WAYS: [Option<u16>; 13] = [
         Some(7),
         Some(6),
         Some(5),
@@ -32,20 +32,20 @@ fn ways_to_the_sample(rt: HostRuntime) -> Result<(), Fail> {
         } else {
             Level::Dominant
         };
-        let _ = clock.step(level, false, false, false);
+        let _ = clock.step(level, false, false);
         assert_eq!(rt; clock.before_sample(), WAYS[k], "after quantum {k}");
     }
     assert_eq!(rt; clock.free_quanta(Level::Dominant, false), 6);
     assert_eq!(rt; clock.free_quanta(Level::Recessive, true), 6);
     clock.skip(Level::Dominant, 6);
     assert_eq!(rt; clock.before_sample(), Some(1));
-    let _ = clock.step(Level::Recessive, false, false, false);
+    let _ = clock.step(Level::Recessive, false, false);
     assert_eq!(rt; clock.free_quanta(Level::Dominant, true), 0);
     assert_eq!(rt; clock.free_quanta(Level::Recessive, true), 9);
     clock.skip(Level::Recessive, 9);
     assert_eq!(rt; clock.before_sample(), Some(1));
     assert_eq!(rt; clock.resting_bit(), None);
-    let _ = clock.step(Level::Recessive, false, false, false);
+    let _ = clock.step(Level::Recessive, false, false);
     assert_eq!(rt; clock.resting_bit(), Some(10));
     assert_eq!(rt; clock.until_sample(Level::Dominant), None);
     assert_eq!(rt; clock.until_sample(Level::Recessive), Some(9));
@@ -69,14 +69,14 @@ fn bits_at_once(rt: HostRuntime) -> Result<(), Fail> {
                 if k == 5 {
                     level = Level::Dominant;
                 }
-                let _ = clock.step(level, false, false, false);
+                let _ = clock.step(level, false, false);
             }
             let way = clock.until_sample(level);
             assert!(rt; way.is_some(), "{lead} quanta");
             if let Some(before) = way {
                 let mut steps = clock;
                 for _ in 0..before as usize + 1 + more as usize * 10 {
-                    let _ = steps.step(level, false, false, false);
+                    let _ = steps.step(level, false, false);
                 }
                 clock.sample_bits(level, more);
                 assert_eq!(rt; clock, steps, "{lead} quanta, {more} bits more");

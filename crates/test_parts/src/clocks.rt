@@ -9,7 +9,7 @@ use std::alloc::Global;
 use wl_clock::{Clock, ClockFault, Rate};
 
 /// The last quantum whose tick may be asked.
-const LAST_QUANTUM: u64 = 2_097_152;
+const LAST_QUANTUM: u64 = 2_147_483_648;
 
 /// Up to which tick the quanta may be asked.
 const TICK_END: u64 = 281_474_976_710_656;

@@ -1,21 +1,22 @@
 //! The bit clock: `sync PROP PS1 PS2 SJW`, then words, then the level of each quantum.
 //!
 //! Of these words a row has those that hold throughout it, in this order: `book` for the rules of the book; `idle` if the bus is idle to
-//! the node; `awaits` if the next edge may be a start of frame to it; `driving` if it drives dominant. The answer has each quantum that
-//! begins a bit, samples one, or synchronises one.
+//! the node; `awaits` if the next edge may be a start of frame to it; `integrates` if it integrates; `driving` if it drives dominant. The
+//! answer has each quantum that begins a bit, samples one, or synchronises one.
 
 use crate::answer::{Answer, after, bit, word};
 use crate::segments::made;
 use std::alloc::Global;
 use wl_level::Level;
 use wl_segments::{Segments, SyncRules};
-use wl_sync::{Beat, BitClock, Sync};
+use wl_sync::{Beat, BitClock, Seen, Sync};
 
 /// What the node is throughout a row.
 #[derive(Clone, Copy)]
 struct Stays {
     idle: bool,
     awaits: bool,
+    integrates: bool,
     driving: bool,
 }
 
@@ -38,10 +39,12 @@ fn tell_rules(alloc: Global, segments: Segments, words: &[&str], answer: &mut An
 fn tell_words(alloc: Global, segments: Segments, words: &[&str], answer: &mut Answer) {
     let (idle, rest) = taken("idle", words);
     let (awaits, rest) = taken("awaits", rest);
+    let (integrates, rest) = taken("integrates", rest);
     let (driving, rest) = taken("driving", rest);
     let stays = Stays {
         idle,
         awaits,
+        integrates,
         driving,
     };
     let levels = answer.levels_of(alloc, rest);
@@ -60,7 +63,13 @@ fn taken<'a, 'b>(first: &str, words: &'a [&'b str]) -> (bool, &'a [&'b str]) {
 fn tell_of(segments: Segments, stays: Stays, seen: &[Level], answer: &mut Answer) {
     let mut clock = BitClock::new(segments);
     for (quantum, level) in seen.iter().enumerate() {
-        let (beat, sync) = clock.step(*level, stays.idle, stays.awaits, stays.driving);
+        let (beat, sync) = clock.see(Seen {
+            level: *level,
+            idle: stays.idle,
+            awaits: stays.awaits,
+            integrates: stays.integrates,
+            driving: stays.driving,
+        });
         tell_sync(quantum, sync, answer);
         tell_beat(quantum, beat, answer);
     }

@@ -5,7 +5,7 @@ ghost use Rattle.wl_replica.specs.State.{Fits};
 use crate::form::Form;
 use std::alloc::{AllocError, Global};
 use test_words::{Stop, numbers, parts};
-use wl_record_core::{MOST_NODES, Record};
+use wl_record_core::{MOST_NODES, Record, wide_record_limits_hold};
 
 /// What a holder does.
 #[derive(Clone, Copy)]
@@ -143,6 +143,7 @@ fn act<F: Form>(
             if told.node() >= MOST_NODES || !told.within() {
                 return Err(Stop::Unread);
             }
+            wide_record_limits_hold();
             holder.learn(told)?;
         }
         What::Join => holder.learn_from(alloc, other)?,

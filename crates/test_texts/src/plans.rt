@@ -87,7 +87,7 @@ fn groups(alloc: Global, plan: &Plan, words: &str) -> Result<String, AllocError>
     }
 }
 
-/// Returns a grouping of at most 16 nodes: its groups and their nodes, one group more than there are, then each node's group, and one node
+/// Returns a grouping of at most 64 nodes: its groups and their nodes, one group more than there are, then each node's group, and one node
 /// more than there are.
 fn shown_grouping(alloc: Global, grouping: &Grouping, most: u8) -> Result<String, AllocError> {
     let (nodes, groups) = (grouping.nodes(), grouping.groups());

@@ -3,7 +3,7 @@
 use std::alloc::{AllocError, Global};
 use wl_node::{NodeSetup, Queued};
 use wl_plan::Plan;
-use wl_setup::{ClockText, FrameText, Names, NodeText, PlanText, RateText};
+use wl_setup::{ClockText, FrameText, Names, NodeText, PlanText, RateText, SegmentsText};
 use wl_topology::Topology;
 
 /// What was written, if there was memory for it.
@@ -42,7 +42,7 @@ fn push_node_text(shown: &mut String, node: &NodeText) -> Told {
     for rate in node.rates.as_slice() {
         push_rate_text(shown, rate)?;
     }
-    push_segments(shown, [node.prop, node.ps1, node.ps2, node.sjw])?;
+    push_segments_text(shown, node)?;
     push_numbers(
         shown,
         &[
@@ -66,6 +66,17 @@ fn push_rate_text(shown: &mut String, rate: &RateText) -> Told {
     match rate.clock {
         ClockText::Rate { num, den } => push_numbers(shown, &[("num", num), ("den", den)]),
         ClockText::Ppm { quantum, ppm } => write!(shown, " quantum {quantum} ppm {ppm}"),
+    }
+}
+
+/// Adds the segments of a node as they are written.
+fn push_segments_text(shown: &mut String, node: &NodeText) -> Told {
+    match node.segments {
+        SegmentsText::Each { prop, ps1, ps2 } => push_segments(shown, [prop, ps1, ps2, node.sjw]),
+        SegmentsText::Controller { tseg1, tseg2 } => push_numbers(
+            shown,
+            &[("tseg1", tseg1), ("tseg2", tseg2), ("sjw", node.sjw)],
+        ),
     }
 }
 

@@ -44,7 +44,7 @@ use std::thread::Threads;
 use test_words::{Stop, answered};
 use wl_device::Host;
 use wl_plan::CheckedPlan;
-use wl_report::report;
+use wl_report::report_of_totals;
 use wl_serial::run_totals;
 use wl_setup::{SetupFault, read_checked};
 
@@ -81,7 +81,7 @@ fn of_plan<R: Threads + Wait + Sync>(
 /// Returns the report of a plan's one-thread simulation.
 fn report_alone(alloc: Global, plan: &CheckedPlan) -> Result<Vec<u8>, AllocError> {
     let totals = run_totals(alloc, plan)?;
-    report(alloc, &totals)
+    report_of_totals(alloc, &totals)
 }
 
 /// Returns a line and what is answered to it, by the report of the one-thread simulation.

@@ -10,7 +10,7 @@ use std::sync::Wait;
 use std::thread::Threads;
 use test_words::Stop;
 use wl_plan::CheckedPlan;
-use wl_report::report;
+use wl_report::report_of_totals;
 use wl_serial::Outcome;
 use wl_worker::{Fault, LinkKind, simulate, simulate_by};
 
@@ -113,6 +113,6 @@ pub fn end_of(alloc: Global, task: Task<'_>, ran: Result<Outcome, Fault>) -> Res
 /// True if the report of an outcome is that of one thread.
 fn is_alone(alloc: Global, task: Task<'_>, outcome: &Outcome) -> Result<bool, AllocError> {
     let totals = outcome.totals(alloc)?;
-    let said = report(alloc, &totals)?;
+    let said = report_of_totals(alloc, &totals)?;
     Ok(said.as_slice() == task.alone)
 }

@@ -7,7 +7,7 @@ use std::alloc::{AllocError, Global};
 use wl_group::Group;
 use wl_plan::{CheckedPlan, Grouping, GroupingFault};
 use wl_replica::Replica;
-use wl_report::report;
+use wl_report::report_of_totals;
 use wl_serial::Outcome;
 use wl_world::{Answer, Event, World};
 
@@ -116,7 +116,7 @@ fn tell_report(alloc: Global, world: &World, told: &mut String) -> Result<(), Al
 /// Writes the report of an outcome.
 fn tell_outcome(alloc: Global, outcome: &Outcome, told: &mut String) -> Result<(), AllocError> {
     let totals = outcome.totals(alloc)?;
-    let text = report(alloc, &totals)?;
+    let text = report_of_totals(alloc, &totals)?;
     match str::from_utf8(text.as_slice()) {
         Ok(text) => told.push_str(text)?,
         Err(_) => told.push_str("no letters\n")?,

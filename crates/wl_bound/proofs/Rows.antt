@@ -1,19 +1,21 @@
 -- Worked buses: two or three nodes in a row, 120 ns out and 130 ns in, 5 ns a metre. A tick is a nanosecond.
-use Rattle.std.proofs.Common.{◌≡◌, ◌==◌, ℕ, Bool, true, false, [], ◌∷◌, Some, None, refl}
+use Rattle.std.proofs.Common.{◌≡◌, ◌==◌, ℕ, Bool, true, false, [], ◌∷◌, Some, None, Ok, Err, refl}
 use Rattle.wl_clock.specs.declared.Rate.{Rate}
 use Rattle.wl_topology.specs.declared.Place.{Place}
-use Rattle.wl_segments.specs.declared.SyncRules.TheVariants.{Book}
+use Rattle.wl_segments.specs.declared.SegmentsFault.TheVariants as refusals
+use Rattle.wl_segments.specs.declared.SyncRules.TheVariants.{After, Book}
 use Rattle.wl_segments.specs.Lengths.{Lengths}
 use Rattle.wl_node.specs.declared.setup.NodeSetup.{NodeSetup}
 use Rattle.wl_plan.specs.declared.plan.Plan.{Plan}
 use Rattle.wl_plan.specs.PlanLine.{no_setup}
+use Rattle.wl_bound.specs.declared.family.Change.TheVariants.{LaterSample, WiderJump}
 use Rattle.wl_bound.specs.declared.family.Member.{Member}
 use Rattle.wl_bound.specs.declared.condition.Failure.{Failure}
 use Rattle.wl_bound.specs.declared.condition.Inequality.{Inequality}
 use Rattle.wl_bound.specs.declared.condition.Inequality.TheVariants.{DriftFitsJump, BitIsThereAtSample, NoBitTooEarly}
 use Rattle.wl_bound.specs.declared.condition.Senders.TheVariants.{Any, One}
 use Rattle.wl_bound.specs.Oscillators.{Pace, longest_of, oscillator_of, shortest_of}
-use Rattle.wl_bound.specs.Families.{Buses, delay_in, lengths_in, longest_in, sends_in, shortest_in, turns_in}
+use Rattle.wl_bound.specs.Families.{Buses, changed, delay_in, lengths_in, longest_in, sends_in, shortest_in, turns_in}
 use Rattle.wl_bound.specs.Terms.{ahead, answered, apart, behind, chase, drift, early, edges, jump, late, look, lost, pull, pulled, several, spread, strays, tour, trip, way}
 use Rattle.wl_bound.specs.Conditions.{first_failure_of, is_asked, left_of, plain, right_of}
 use Rattle.wl_bound.specs.declared.verdict.Outside.TheVariants.{ListenerSends, NobodyAcknowledges, NotByTheBook}
@@ -300,6 +302,28 @@ its_clock_counts = refl
 
 two_listeners : is_asked (λ i. true) DriftFitsJump 0 2 ≡ false
 two_listeners = refl
+
+-- ---- Changes
+
+-- a controller's segments, with TSEG1 of 127 quanta, stay in its own ranges
+abbrev controller : ℕ → ℕ → ℕ → Lengths
+controller prop phase sjw = record { prop = prop; ps1 = phase; ps2 = phase; sjw = sjw; sync = After }
+
+wider_of_controller : changed WiderJump (lengths 95 32 32 16) ≡ Ok (controller 95 32 17)
+wider_of_controller = refl
+
+later_of_controller : changed LaterSample (lengths 95 32 32 16) ≡ Ok (controller 97 31 16)
+later_of_controller = refl
+
+widest_of_controller : changed WiderJump (lengths 95 32 32 32) ≡ Err refusals.Jump
+widest_of_controller = refl
+
+-- segments of at most 8 quanta each stay so
+widest : changed WiderJump (lengths 8 8 8 4) ≡ Err refusals.Jump
+widest = refl
+
+latest : changed LaterSample (lengths 8 8 8 4) ≡ Err refusals.Phase1
+latest = refl
 
 -- ---- What lies outside
 

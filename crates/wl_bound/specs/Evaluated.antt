@@ -1,15 +1,11 @@
 -- What is worked out once for all pairs of nodes of a bus.
-use Rattle.std.specs.Prelude.{◌≡◌, ℕ, ◌+◌, ◌*◌, ◌<◌, ◌≤◌, false, List, Option, length, IfSome, IfNone, slice_index_or}
+use Rattle.std.specs.Prelude.{◌≡◌, ℕ, ◌+◌, ◌*◌, ◌<◌, ◌≤◌, List, Option, length, IfSome, slice_index_or}
 use Rattle.wl_topology.specs.Limits.{most_places}
 use Rattle.wl_bound.specs.declared.evaluated.Rows.{Rows}
 use Rattle.wl_bound.specs.Families.{Bus, Buses, IsFamily, bus_of}
 use Rattle.wl_bound.specs.Conditions.{plain}
 use Rattle.wl_bound.specs.Limits.{early_limit, frame_edges, way_limit}
-use Rattle.wl_bound.specs.Terms.{early, edges, several, way}
-
--- the pairs of nodes that a table has
-abbrev pub most_pairs : ℕ
-most_pairs = 256
+use Rattle.wl_bound.specs.Terms.{early, edges, way}
 
 -- how late a bit of node j can be at node i
 abbrev pub IsWay : Bus → ℕ → ℕ → ℕ → Type 0
@@ -18,14 +14,14 @@ IsWay b i j w = (w ≡ way b i j) × (w < way_limit)
 -- how late the bits of each node can be at node i
 pub record HasWaysOfNode (i : ℕ) (b : Bus) (ways : List ℕ) : Type 0 where
   pub nodes : b.nodes ≤ most_places
-  pub all : length ways ≡ most_pairs
-  pub row : (j d : ℕ) → j < b.nodes → IsWay b i j (slice_index_or ways (16 * i + j) d)
+  pub all : length ways ≡ most_places * b.nodes
+  pub row : (j d : ℕ) → j < b.nodes → IsWay b i j (slice_index_or ways (most_places * i + j) d)
 
 -- at each of the first n nodes
 pub record AreWaysOfBus (n : ℕ) (b : Bus) (ways : List ℕ) : Type 0 where
   pub nodes : b.nodes ≤ most_places
-  pub all : length ways ≡ most_pairs
-  pub each : (i j d : ℕ) → i < n → j < b.nodes → IsWay b i j (slice_index_or ways (16 * i + j) d)
+  pub all : length ways ≡ most_places * b.nodes
+  pub each : (i j d : ℕ) → i < n → j < b.nodes → IsWay b i j (slice_index_or ways (most_places * i + j) d)
 
 -- Of each of the first n nodes these say how early it can be, and in how many edges it catches up.
 pub record AreCaught (n : ℕ) (b : Bus) (early_by edges_by : List ℕ) : Type 0 where
@@ -39,11 +35,6 @@ pub record AreCaught (n : ℕ) (b : Bus) (early_by edges_by : List ℕ) : Type 0
 pub record AreRowsOfBus (b : Bus) (r : Rows) : Type 0 where
   pub ways : AreWaysOfBus b.nodes b r.ways
   pub caught : AreCaught b.nodes b r.early r.edges
-
--- exactly if several nodes send
-pub record AreRowsIfSeveral (b : Bus) (rows : Option Rows) : Type 0 where
-  pub some : IfSome rows (AreRowsOfBus b)
-  pub none : IfNone rows (several b ≡ false)
 
 -- a family with the terms of the plan's own bus beside it
 pub record IsKeptFamily (f : Buses) (kept : Option Rows) : Type 0 where

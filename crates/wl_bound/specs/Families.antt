@@ -1,8 +1,9 @@
 -- Families of buses: what of a plan the condition for a sound bus is about. This project's.
-use Rattle.std.specs.Prelude.{◌≡◌, ℕ, suc, ◌+◌, ◌-◌, ◌*◌, ◌==◌, nat_lt, not, Bool, false, List, [], ◌∷◌, length, Option, Some, None, Result, Ok, Err, slice_index_or}
+use Rattle.std.specs.Prelude.{◌≡◌, ℕ, suc, ◌+◌, ◌-◌, ◌*◌, ◌==◌, nat_lt, not, Bool, true, false, List, [], ◌∷◌, length, Option, Some, None, Result, Ok, Err, slice_index_or}
 use Rattle.std.specs.Int.{abs_diff}
+use Rattle.std.specs.Result.{is_ok}
 use Rattle.wl_segments.specs.declared.SegmentsFault.{SegmentsFault}
-use Rattle.wl_segments.specs.Lengths.{Lengths, segments_of}
+use Rattle.wl_segments.specs.Lengths.{Lengths, segments_of, controller_segments_of}
 use Rattle.wl_topology.specs.Delays.{Cable, propagation_of, place_at}
 use Rattle.wl_node.specs.declared.setup.NodeSetup.{NodeSetup}
 use Rattle.wl_plan.specs.declared.plan.Plan.{Plan}
@@ -108,12 +109,22 @@ delay_in f s i j = 1000000 * (s.length * propagation_of f.cable i j + s.longer *
 abbrev pub added_in : Buses → Setting → ℕ → ℕ → ℕ
 added_in f s i j = 1000000 * (s.longer * way_between f.cable i j)
 
--- The segments with one of them a quantum wider or narrower: the jump width; or PHASE_SEG1 instead of PHASE_SEG2, so that the bit keeps its length.
+-- the lengths are such as segments have that are set one by one
+abbrev pub are_set_singly : Lengths → Bool
+are_set_singly l = is_ok (segments_of l.prop l.ps1 l.ps2 l.sjw)
+
+-- segments of these lengths; else those of a controller, that has PROP_SEG and PHASE_SEG1 as one
+abbrev pub made_of : (singly : Bool) → (prop ps1 ps2 sjw : ℕ) → Result Lengths SegmentsFault
+made_of true prop ps1 ps2 sjw = segments_of prop ps1 ps2 sjw
+made_of false prop ps1 ps2 sjw = controller_segments_of (prop + ps1) ps2 sjw
+
+-- The segments with one of them a quantum wider or narrower: the jump width; or PHASE_SEG1 instead of PHASE_SEG2, so that the bit keeps its length. They
+-- are in the ranges of their own kind: lengths that fit segments that are set one by one stay such.
 abbrev pub changed : Change → Lengths → Result Lengths SegmentsFault
-changed WiderJump l = segments_of l.prop l.ps1 l.ps2 (l.sjw + 1)
-changed NarrowerJump l = segments_of l.prop l.ps1 l.ps2 (l.sjw - 1)
-changed LaterSample l = segments_of l.prop (l.ps1 + 1) (l.ps2 - 1) l.sjw
-changed EarlierSample l = segments_of l.prop (l.ps1 - 1) (l.ps2 + 1) l.sjw
+changed WiderJump l = made_of (are_set_singly l) l.prop l.ps1 l.ps2 (l.sjw + 1)
+changed NarrowerJump l = made_of (are_set_singly l) l.prop l.ps1 l.ps2 (l.sjw - 1)
+changed LaterSample l = made_of (are_set_singly l) l.prop (l.ps1 + 1) (l.ps2 - 1) l.sjw
+changed EarlierSample l = made_of (are_set_singly l) l.prop (l.ps1 - 1) (l.ps2 + 1) l.sjw
 
 -- no change if it is refused
 abbrev pub or_same : Lengths → Result Lengths SegmentsFault → Lengths

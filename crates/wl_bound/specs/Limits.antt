@@ -27,7 +27,7 @@ longest_limit = 2 ^ 86
 
 -- the quanta up to the sample, and PHASE_SEG2
 abbrev pub sample_limit : ℕ
-sample_limit = 2 ^ 80
+sample_limit = 2 ^ 82
 
 -- the way of a level between two nodes, and what the longer cable adds to its ticks
 abbrev pub delay_limit : ℕ
@@ -37,7 +37,7 @@ abbrev pub longer_limit : ℕ
 longer_limit = 2 ^ 52
 
 abbrev pub jump_limit : ℕ
-jump_limit = 2 ^ 75
+jump_limit = 2 ^ 81
 
 -- a look, and what a sender pulls forward
 abbrev pub look_limit : ℕ
@@ -51,28 +51,28 @@ abbrev pub way_limit : ℕ
 way_limit = 2 ^ 89
 
 abbrev pub drift_limit : ℕ
-drift_limit = 2 ^ 91
+drift_limit = 2 ^ 95
 
 -- what ten bits of drift take, with what a jump leaves; and how early a node can be
 abbrev pub spread_limit : ℕ
-spread_limit = 2 ^ 95
+spread_limit = 2 ^ 99
 
 abbrev pub early_limit : ℕ
-early_limit = 2 ^ 95
+early_limit = 2 ^ 99
 
 -- how late a bit can be by the edges of a third sender, after an acknowledgement, and with all that gathers
 abbrev pub tour_limit : ℕ
-tour_limit = 2 ^ 96
+tour_limit = 2 ^ 100
 
 abbrev pub behind_limit : ℕ
-behind_limit = 2 ^ 102 - 2 ^ 90
+behind_limit = 2 ^ 106 - 2 ^ 90
 
 abbrev pub late_limit : ℕ
-late_limit = 2 ^ 102
+late_limit = 2 ^ 106
 
 -- a left side of the condition
 abbrev pub side_limit : ℕ
-side_limit = 2 ^ 103
+side_limit = 2 ^ 107
 
 -- a look, with what gathers up to `longest_said`
 abbrev pub said_limit : ℕ

@@ -3,7 +3,8 @@ use Rattle.std.specs.Prelude.{◌≡◌, ℕ, ◌+◌, ◌-◌, ◌*◌, ◌/◌
 use Rattle.std.specs.Int.{div_ceil}
 use Rattle.std.specs.Result.{is_ok}
 use Rattle.wl_clock.specs.declared.Rate.{Rate}
-use Rattle.wl_clock.specs.Timing.{IsRate, timing_of_rates}
+use Rattle.wl_clock.specs.Timing.{IsRate, timing_within}
+use Rattle.wl_limits.specs.declared.Limits.TheVariants.{Wide}
 use Rattle.wl_bound.specs.Limits.{fast_limit, slow_limit}
 
 -- the greatest tolerance, in parts per million: a clock deviates by a tenth at most (this project's profile)
@@ -37,7 +38,7 @@ abbrev pub slowest_of : Rate → List Rate → Rate
 slowest_of r [] = r
 slowest_of r (next ∷ later) = slowest_of (if is_faster r next then next else r) later
 
--- the oscillator of the rates of a clock and of a tolerance, if the rates make a clock and the tolerance is small
+-- the oscillator of the rates of a clock and of a tolerance, if the rates make a clock by the wide limits and the tolerance is small
 abbrev pub pace_of : List Rate → ℕ → Option Pace
 pace_of [] tolerance = None
 pace_of (r ∷ later) tolerance =
@@ -45,7 +46,7 @@ pace_of (r ∷ later) tolerance =
 
 abbrev pub oscillator_of : List Rate → ℕ → Option Pace
 oscillator_of rates tolerance =
-    if not (is_ok (timing_of_rates 0 rates)) || nat_lt greatest_tolerance tolerance then None else pace_of rates tolerance
+    if not (is_ok (timing_within Wide 0 rates)) || nat_lt greatest_tolerance tolerance then None else pace_of rates tolerance
 
 -- the shortest quantum with a tolerance wider by some parts per million, in millionths of a tick, rounded down
 abbrev pub shortest_of : Pace → ℕ → ℕ

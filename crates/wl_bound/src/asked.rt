@@ -1,9 +1,9 @@
 //! The condition as it is asked of one bus, for any senders or for one at a time.
-ghost use Rattle.std.specs.Prelude.{◌≡◌, false, true, ◌<◌, IfSome};
-ghost use Rattle.std.specs.Option.{ForNone, ForSome};
+ghost use Rattle.std.specs.Prelude.{◌≡◌, ◌<◌, IfSome};
+ghost use Rattle.std.specs.Option.{ForSome};
 ghost use Rattle.wl_level.specs.Places.{first_place};
 ghost use Rattle.wl_bound.specs.Conditions.{fails, fails_at, failure_of, first_failure_of, left_by, left_of, right_of, sides_in};
-ghost use Rattle.wl_bound.specs.Evaluated.{AreRowsIfSeveral, AreRowsOfBus};
+ghost use Rattle.wl_bound.specs.Evaluated.{AreRowsOfBus};
 ghost use Rattle.wl_bound.specs.OneBuses.{the_bus};
 ghost use Rattle.wl_bound.specs.Terms.{several};
 ghost use Rattle.wl_bound.specs.declared.condition.Senders.TheVariants.{Any, One};
@@ -13,52 +13,44 @@ use crate::condition::{Failure, Inequality, Senders, Sides};
 use crate::evaluated::{EvaluatedBus, Rows};
 use crate::family::{Setting, Source};
 
-/// A bus, how many of its nodes send at once, and what is worked out once for these. One sender at a time needs nothing of that: each sender
-/// has a bus of its own.
+/// A bus, how many of its nodes are asked about at once, whether several send, and what is worked out once for these if there was memory for it.
+/// One sender at a time needs nothing of that: each sender has a bus of its own.
 #[derive(Clone, Copy)]
 pub(crate) struct AskedBus<'f> {
     pub(crate) bus: OneBus<'f>,
     pub(crate) senders: Senders,
+    pub(crate) is_shared: bool,
     pub(crate) rows: Option<&'f Rows>,
-    pub(crate) ghost some: { senders ≡ Any → ForSome rows (λ r. AreRowsOfBus (the_bus bus) r.now) },
-    pub(crate) ghost none: { senders ≡ Any → ForNone rows (several (the_bus bus) ≡ false) },
+    pub(crate) ghost some: { ForSome rows (λ r. AreRowsOfBus (the_bus bus) r.now) },
+    pub(crate) ghost shared: { is_shared ≡ several (the_bus bus) },
 }
 
 impl<'f> OneBus<'f> {
-    /// Returns what is worked out once for these senders.
+    /// Returns what is worked out once for these senders, if there is memory for it.
     pub(crate) fn rows_for(&self, senders: Senders) -> Option<Rows>
-        ensures { senders ≡ Any → AreRowsIfSeveral (the_bus self.now) result }
+        ensures { IfSome result (AreRowsOfBus (the_bus self.now)) }
     {
         match senders {
-            Senders::Any => self.rows_if_several(),
+            Senders::Any => match self.rows_if_several() {
+                Ok(rows) => rows,
+                Err(_) => None,
+            },
             Senders::One => None,
         }
     }
 
-    /// Returns what takes time by an inequality. If several nodes send, it is worked out for this pair alone.
+    /// Returns what takes time by an inequality. All of it is worked out for this pair alone.
     fn left(&self, inequality: Inequality, i: u8, j: u8) -> u128
         requires one { i < (the_bus self.now).nodes }
         requires other { j < (the_bus self.now).nodes }
         ensures { result ≡ left_of (the_bus self.now) inequality i j }
     {
-        if self.several() {
-            return self.left_of_several(inequality, i, j);
-        }
-        let rows = None;
-        EvaluatedBus { bus: *self, rows }.left(inequality, i, j)
-    }
-
-    /// Returns it where several nodes send.
-    #[inline(never)]
-    fn left_of_several(&self, inequality: Inequality, i: u8, j: u8) -> u128
-        requires one { i < (the_bus self.now).nodes }
-        requires other { j < (the_bus self.now).nodes }
-        requires several { several (the_bus self.now) ≡ true }
-        ensures { result ≡ left_of (the_bus self.now) inequality i j }
-    {
-        let rows = self.rows();
-        let rows = Some(&rows);
-        EvaluatedBus { bus: *self, rows }.left(inequality, i, j)
+        let bus = EvaluatedBus {
+            bus: *self,
+            is_shared: self.several(),
+            rows: None,
+        };
+        bus.left(inequality, i, j)
     }
 
     /// Returns the time that there is by an inequality.
@@ -99,22 +91,6 @@ impl<'f> OneBus<'f> {
         greatest
     }
 
-    /// Returns both sides. What several nodes ask is worked out for this pair alone.
-    #[inline(never)]
-    pub(crate) fn sides(&self, senders: Senders, inequality: Inequality, i: u8, j: u8) -> Sides
-        requires one { i < (the_bus self.now).nodes }
-        requires other { j < (the_bus self.now).nodes }
-        ensures { result ≡ sides_in self.now.family.now self.now.setting senders inequality i j }
-    {
-        let rows = self.rows_for(senders);
-        let asked = AskedBus {
-            bus: *self,
-            senders,
-            rows: rows.as_ref(),
-        };
-        asked.sides(inequality, i, j)
-    }
-
     /// Returns the first inequality that fails, with its pair of nodes.
     pub(crate) fn first_failure(&self, senders: Senders) -> Option<Failure>
         ensures { result ≡ first_failure_of self.now.family.now self.now.setting senders }
@@ -123,6 +99,7 @@ impl<'f> OneBus<'f> {
         let asked = AskedBus {
             bus: *self,
             senders,
+            is_shared: self.several(),
             rows: rows.as_ref(),
         };
         asked.first_failure()
@@ -140,6 +117,7 @@ impl<'f> AskedBus<'f> {
             Senders::Any => {
                 let bus = EvaluatedBus {
                     bus: self.bus,
+                    is_shared: self.is_shared,
                     rows: self.rows,
                 };
                 bus.left(inequality, i, j)

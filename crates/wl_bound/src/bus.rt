@@ -18,7 +18,7 @@ pub(crate) struct OneBus<'f> {
 }
 
 impl<'f> OneBus<'f> {
-    /// Returns how many nodes there are: 1 to 16.
+    /// Returns how many nodes there are: 1 to 64.
     pub(crate) fn nodes(&self) -> u8
         ensures value { result ≡ (the_bus self.now).nodes }
         ensures few { result ≤ most_places }

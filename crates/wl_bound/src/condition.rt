@@ -72,14 +72,13 @@ impl Family {
             family: self,
             setting: PLAIN,
         };
-        match &self.plain {
-            Some(rows) => {
-                let rows = Some(rows);
-                let asked = AskedBus { bus, senders, rows };
-                asked.sides(inequality, i, j)
-            }
-            None => bus.sides(senders, inequality, i, j),
-        }
+        let asked = AskedBus {
+            bus,
+            senders,
+            is_shared: bus.several(),
+            rows: self.plain.as_ref(),
+        };
+        asked.sides(inequality, i, j)
     }
 
     /// True if an inequality is asked of nodes `i` and `j`. Of a node and itself it is only whether its own bit is back at its sample. Of a

@@ -1,79 +1,84 @@
 //! What each pair of nodes asks of one bus, worked out once: how late and how early bits can be, and in how many edges a node catches up.
-ghost use Rattle.std.specs.Prelude.{◌≡◌, false, true, ◌+◌, ◌-◌, ◌*◌, ◌<◌, ◌≤◌};
-ghost use Rattle.std.specs.Option.{ForNone, ForSome};
+ghost use Rattle.std.specs.Prelude.{◌≡◌, true, ◌+◌, ◌-◌, ◌*◌, ◌<◌, ◌≤◌, IfOk, IfSome};
+ghost use Rattle.std.specs.Option.{ForSome};
 ghost use Rattle.wl_topology.specs.Limits.{most_places};
 ghost use Rattle.wl_bound.specs.Conditions.{left_of};
-ghost use Rattle.wl_bound.specs.Evaluated.{AreRowsIfSeveral, AreRowsOfBus, AreWaysOfBus, HasWaysOfNode};
+ghost use Rattle.wl_bound.specs.Evaluated.{AreRowsOfBus, AreWaysOfBus, HasWaysOfNode};
 ghost use Rattle.wl_bound.specs.Limits.{early_limit, late_limit, frame_edges, side_limit, tour_limit, way_limit};
 ghost use Rattle.wl_bound.specs.OneBuses.{the_bus};
 ghost use Rattle.wl_bound.specs.Terms.{ahead, answered, apart, behind, chase, drift, early, edges, greatest, is_answering, late, several, tour, trip, way};
 
 use crate::bus::OneBus;
 use crate::condition::Inequality;
+use std::alloc::AllocError;
+use wl_level::Listed;
 use wl_topology::MOST_NODES;
 
-/// For each two nodes a time, in units: the one of nodes `i` and `j` has place `16 i + j`.
-pub(crate) type Ways = [u128; MOST_NODES * MOST_NODES];
-
-/// Of a bus with several senders: for each two nodes how late a bit of the second can be at the first. Of each node it has how early that can
-/// be for the sender that wins the arbitration, in units, and how many edges it takes to catch up.
-#[derive(Clone, Copy, Debug)]
+/// Of a bus with several senders: for each two nodes how late a bit of the second can be at the first, in units. That of nodes `i` and `j` has
+/// place `64 i + j`. Of each node it has how early that can be for the sender that wins the arbitration, in units, and how many edges it takes
+/// to catch up.
+#[derive(Debug, Drop)]
 pub(crate) struct Rows {
-    pub(crate) ways: Ways,
+    pub(crate) ways: Listed<u128>,
     pub(crate) early: [u128; MOST_NODES],
     pub(crate) edges: [u128; MOST_NODES],
 }
 
-/// A bus with the terms that take the most steps and for which each pair of nodes asks, exactly if several nodes send.
+/// A bus and whether several nodes send. If so, and if there was memory for them, it has the terms that take the most steps and for which each
+/// pair of nodes asks.
 #[derive(Clone, Copy)]
 pub(crate) struct EvaluatedBus<'f> {
     pub(crate) bus: OneBus<'f>,
+    pub(crate) is_shared: bool,
     pub(crate) rows: Option<&'f Rows>,
     pub(crate) ghost some: { ForSome rows (λ r. AreRowsOfBus (the_bus bus) r.now) },
-    pub(crate) ghost none: { ForNone rows (several (the_bus bus) ≡ false) },
+    pub(crate) ghost shared: { is_shared ≡ several (the_bus bus) },
 }
 
 /// Returns the place of nodes `i` and `j`.
 fn place(i: u8, j: u8) -> usize
     requires one { i < most_places }
     requires other { j < most_places }
-    ensures { result ≡ 16 * i + j }
+    ensures { result ≡ most_places * i + j }
 {
     i as usize * MOST_NODES + j as usize
 }
 
 impl<'f> OneBus<'f> {
-    /// Returns those terms, if several nodes send.
-    pub(crate) fn rows_if_several(&self) -> Option<Rows>
-        ensures { AreRowsIfSeveral (the_bus self.now) result }
+    /// Returns those terms, if several nodes send. Refused only when out of memory.
+    pub(crate) fn rows_if_several(&self) -> Result<Option<Rows>, AllocError>
+        ensures { IfOk result (λ rows. IfSome rows (AreRowsOfBus (the_bus self.now))) }
     {
         if self.several() {
-            Some(self.rows())
+            Ok(Some(self.rows()?))
         } else {
-            None
+            Ok(None)
         }
     }
 
-    /// Returns those terms of all nodes.
+    /// Returns those terms of all nodes. Refused only when out of memory.
     #[tactic(auto, using(crate::proofs::WayRows::row_of))]
-    pub(crate) fn rows(&self) -> Rows
+    fn rows(&self) -> Result<Rows, AllocError>
         requires { several (the_bus self.now) ≡ true }
-        ensures { AreRowsOfBus (the_bus self.now) result }
+        ensures { IfOk result (AreRowsOfBus (the_bus self.now)) }
     {
-        let mut ways = [0; MOST_NODES * MOST_NODES];
+        let alloc = self.family.alloc();
+        let nodes = self.nodes();
+        let mut ways = vec![in alloc; 0u128; MOST_NODES * nodes as usize]?;
         let mut early = [0; MOST_NODES];
         let mut edges = [0; MOST_NODES];
-        for i in 0..self.nodes() {
-            self.put_ways(i, &mut ways);
-            let most = self.early(&ways, i);
+        for i in 0..nodes {
+            self.put_ways(i, ways.as_mut_slice());
+            let most = self.early(Some(ways.as_slice()), i);
             early[i as usize] = most;
             edges[i as usize] = self.edges(most, i);
         }
-        Rows { ways, early, edges }
+        let ways = Listed::from_vec(ways);
+        Ok(Rows { ways, early, edges })
     }
 
     /// Puts in how late the bits of all nodes can be at node `i`.
-    fn put_ways(&self, i: u8, ways: &mut Ways)
+    fn put_ways(&self, i: u8, ways: &mut [u128])
         requires node { i < (the_bus self.now).nodes }
         requires before { AreWaysOfBus i (the_bus self.now) ways.old }
         ensures { AreWaysOfBus (i + 1) (the_bus self.now) ways.new }
@@ -83,16 +88,18 @@ impl<'f> OneBus<'f> {
         }
     }
 
-    /// Returns how late a bit of node `j` can be at node `i`.
-    pub(crate) fn way_in(&self, ways: &Ways, i: u8, j: u8) -> u128
+    /// Returns how late a bit of node `j` can be at node `i`, from these ways if there are any.
+    pub(crate) fn way_in(&self, ways: Option<&[u128]>, i: u8, j: u8) -> u128
         requires one { i < (the_bus self.now).nodes }
         requires other { j < (the_bus self.now).nodes }
-        requires ways { HasWaysOfNode i (the_bus self.now) ways.now }
+        requires ways { ForSome ways (λ w. HasWaysOfNode i (the_bus self.now) w.now) }
         ensures value { result ≡ way (the_bus self.now) i j }
         ensures most { result < way_limit }
     {
-        let _ = self;
-        ways[place(i, j)]
+        match ways {
+            Some(ways) => ways[place(i, j)],
+            None => self.way(i, j),
+        }
     }
 }
 
@@ -105,7 +112,7 @@ impl<'f> EvaluatedBus<'f> {
         ensures most { result < way_limit }
     {
         match self.rows {
-            Some(rows) => self.bus.way_in(&rows.ways, i, j),
+            Some(rows) => self.bus.way_in(Some(rows.ways.as_slice()), i, j),
             None => self.bus.way(i, j),
         }
     }
@@ -119,7 +126,13 @@ impl<'f> EvaluatedBus<'f> {
     {
         match self.rows {
             Some(rows) => rows.early[i as usize],
-            None => 0,
+            None => {
+                if self.is_shared {
+                    self.bus.early(None, i)
+                } else {
+                    0
+                }
+            }
         }
     }
 
@@ -132,7 +145,13 @@ impl<'f> EvaluatedBus<'f> {
     {
         match self.rows {
             Some(rows) => rows.edges[i as usize],
-            None => 0,
+            None => {
+                if self.is_shared {
+                    self.bus.edges(self.early(i), i)
+                } else {
+                    0
+                }
+            }
         }
     }
 
@@ -201,7 +220,7 @@ impl<'f> EvaluatedBus<'f> {
         ensures value { result ≡ answered (the_bus self.now.bus) i j }
         ensures most { result < late_limit }
     {
-        if self.bus.several() {
+        if self.is_shared {
             self.latest_answer(i, j)
         } else {
             0

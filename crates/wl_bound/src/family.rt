@@ -1,10 +1,10 @@
 //! Families of buses: what of a plan the condition is about.
-ghost use Rattle.std.specs.Prelude.{◌≡◌, ◌≢◌, ◌+◌, ◌<◌, ◌≤◌, ◌++◌, length, IfOk, OnOk};
+ghost use Rattle.std.specs.Prelude.{◌≡◌, ◌≢◌, ◌+◌, ◌^◌, ◌<◌, ◌≤◌, ◌++◌, length, IfOk, IfSome, OnOk};
 ghost use Rattle.wl_topology.specs.Delays.{propagation_of};
 ghost use Rattle.wl_topology.specs.Limits.{longest_delay, most_places};
 ghost use Rattle.wl_bound.specs.Conditions.{plain};
-ghost use Rattle.wl_bound.specs.Evaluated.{AreRowsIfSeveral, IsKeptFamily};
-ghost use Rattle.wl_bound.specs.Families.{Buses, all_sending, bus_of, changed, family_of, member_at, member_of, members_of, only_listens, sending, way_between};
+ghost use Rattle.wl_bound.specs.Evaluated.{AreRowsOfBus, IsKeptFamily};
+ghost use Rattle.wl_bound.specs.Families.{Buses, all_sending, bus_of, changed, family_of, made_of, member_at, member_of, members_of, only_listens, sending, way_between};
 
 use crate::bus::OneBus;
 use crate::condition::PLAIN;
@@ -52,7 +52,8 @@ pub enum Change {
 }
 
 impl Change {
-    /// Returns the changed segments, or why they are refused.
+    /// Returns the changed segments, or why they are refused: as `Segments::new` does if it takes the segments as they are, else as
+    /// `Segments::of_controller` does.
     pub fn of(self, segments: &Segments) -> Result<Segments, SegmentsFault>
         ensures { result ≡ changed self segments.now }
     {
@@ -62,12 +63,25 @@ impl Change {
             segments.ps2(),
             segments.sjw(),
         );
+        let singly = Segments::new(prop, ps1, ps2, sjw).is_ok();
         match self {
-            Change::WiderJump => Segments::new(prop, ps1, ps2, sjw + 1),
-            Change::NarrowerJump => Segments::new(prop, ps1, ps2, sjw - 1),
-            Change::LaterSample => Segments::new(prop, ps1 + 1, ps2 - 1, sjw),
-            Change::EarlierSample => Segments::new(prop, ps1 - 1, ps2 + 1, sjw),
+            Change::WiderJump => made_of(singly, prop, ps1, ps2, sjw + 1),
+            Change::NarrowerJump => made_of(singly, prop, ps1, ps2, sjw - 1),
+            Change::LaterSample => made_of(singly, prop, ps1 + 1, ps2 - 1, sjw),
+            Change::EarlierSample => made_of(singly, prop, ps1 - 1, ps2 + 1, sjw),
         }
+    }
+}
+
+/// Returns segments of these lengths; those of a controller, with PROP_SEG and PHASE_SEG1 as one, unless they are set one by one.
+fn made_of(singly: bool, prop: u64, ps1: u64, ps2: u64, sjw: u64) -> Result<Segments, SegmentsFault>
+    requires { prop + ps1 < 2 ^ 64 }
+    ensures { result ≡ made_of singly prop ps1 ps2 sjw }
+{
+    if singly {
+        Segments::new(prop, ps1, ps2, sjw)
+    } else {
+        Segments::of_controller(prop + ps1, ps2, sjw)
     }
 }
 
@@ -91,6 +105,8 @@ pub struct Setting {
 pub struct Family {
     members: Listed<Member>,
     cable: Topology,
+    /// From which searches take memory for the terms of other buses. They don't need it.
+    alloc: Global,
     /// The terms of the plan's own bus, if several nodes send: it is asked about each pair of nodes.
     pub(crate) plain: Option<Rows>,
 }
@@ -118,9 +134,10 @@ impl Family {
         let mut family = Family {
             members,
             cable: plan.topology,
+            alloc,
             plain: None,
         };
-        let rows = family.plain_rows();
+        let rows = family.plain_rows()?;
         family.plain = rows;
         Ok(family)
     }
@@ -135,16 +152,17 @@ impl Family {
         let mut family = Family {
             members,
             cable: self.cable,
+            alloc,
             plain: None,
         };
-        let rows = family.plain_rows();
+        let rows = family.plain_rows()?;
         family.plain = rows;
         Ok(family)
     }
 
-    /// Returns the terms of the plan's own bus, if several nodes send.
-    fn plain_rows(&self) -> Option<Rows>
-        ensures { AreRowsIfSeveral (bus_of self.now plain) result }
+    /// Returns the terms of the plan's own bus, if several nodes send. Refused only when out of memory.
+    fn plain_rows(&self) -> Result<Option<Rows>, AllocError>
+        ensures { IfOk result (λ rows. IfSome rows (AreRowsOfBus (bus_of self.now plain))) }
     {
         let bus = OneBus {
             family: self,
@@ -153,7 +171,12 @@ impl Family {
         bus.rows_if_several()
     }
 
-    /// Returns how many nodes there are: 1 to 16.
+    /// Returns from where searches take memory.
+    pub(crate) fn alloc(&self) -> Global {
+        self.alloc
+    }
+
+    /// Returns how many nodes there are: 1 to 64.
     pub fn nodes(&self) -> u8
         ensures value { result ≡ length self.now.members }
         ensures few { result ≤ most_places }

@@ -99,6 +99,7 @@ impl<'f> OneBus<'f> {
         let asked = AskedBus {
             bus: *self,
             senders,
+            is_shared: self.several(),
             rows: rows.as_ref(),
         };
         let drift = asked.reserve_of(Inequality::DriftFitsJump);

@@ -3,12 +3,14 @@ ghost use Rattle.std.specs.Prelude.{◌≡◌, ◌+◌, ◌-◌, ◌*◌, ◌/�
 ghost use Rattle.std.specs.Int.{div_ceil};
 ghost use Rattle.std.specs.Bool.{OnTrue};
 ghost use Rattle.std.specs.Result.{is_ok};
-ghost use Rattle.wl_clock.specs.Timing.{IsRate, most_rates, timing_of_rates};
+ghost use Rattle.wl_clock.specs.Timing.{IsRate, most_rates, timing_within};
+ghost use Rattle.wl_limits.specs.declared.Limits.TheVariants.{Wide};
 ghost use Rattle.wl_bound.specs.Limits.{fast_limit, slow_limit};
 ghost use Rattle.wl_bound.specs.Oscillators.{IsOscillator, Pace, fastest_of, greatest_tolerance, is_faster, longest_of, oscillator_of, shortest_of, slowest_of};
 
 use std::marker::Model;
 use wl_clock::{Clock, Rate};
+use wl_limits::Limits;
 
 /// The greatest tolerance, in parts per million.
 pub(crate) const GREATEST_TOLERANCE: u32 = 100_000;
@@ -58,7 +60,7 @@ impl Model for Oscillator {
 impl Oscillator {
     /// Returns the oscillator of the rates of a clock and a tolerance of 0 to 100,000 ppm.
     ///
-    /// `None` if the tolerance is above, or if the rates make no clock (`Clock::with_rates`).
+    /// `None` if the tolerance is above, or if the rates make no clock by the wide limits (`Clock::within`).
     pub fn new(rates: &[Rate], tolerance: u32) -> Option<Oscillator>
         ensures { result ≡ oscillator_of rates.now tolerance }
     {
@@ -157,13 +159,13 @@ fn longest_at(slowest: &Rate, deviation: u128) -> u128
     (slowest.num * parts).div_ceil(slowest.den as u128)
 }
 
-/// True if the rates make a clock.
+/// True if the rates make a clock by the wide limits.
 fn make_a_clock(rates: &[Rate]) -> bool
-    ensures value { result ≡ is_ok (timing_of_rates 0 rates.now) }
+    ensures value { result ≡ is_ok (timing_within Wide 0 rates.now) }
     ensures rates { OnTrue result (All IsRate rates.now) }
     ensures few { OnTrue result (length rates.now ≤ most_rates) }
 {
-    match Clock::with_rates(0, rates) {
+    match Clock::within(Limits::Wide, 0, rates) {
         Ok(clock) => {
             let _start = clock.at(0);
             true

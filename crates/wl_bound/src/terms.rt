@@ -1,5 +1,6 @@
 //! The terms of the condition, in units of time.
 ghost use Rattle.std.specs.Prelude.{◌≡◌, true, ◌<◌, ◌≤◌};
+ghost use Rattle.std.specs.Option.{ForSome};
 ghost use Rattle.wl_topology.specs.Driven.{any_below};
 ghost use Rattle.wl_bound.specs.Evaluated.{HasWaysOfNode};
 ghost use Rattle.wl_bound.specs.Limits.{ahead_limit, behind_limit, drift_limit, early_limit, jump_limit, look_limit, frame_edges, spread_limit, trip_limit, way_limit};
@@ -7,7 +8,6 @@ ghost use Rattle.wl_bound.specs.OneBuses.{the_bus};
 ghost use Rattle.wl_bound.specs.Terms.{ahead, behind, drift, early, edges, greatest, is_answering, is_third, jump, look, lost, pull, pulled, sends_but, sends_third, several, spread, strays, trip, way};
 
 use crate::bus::OneBus;
-use crate::evaluated::Ways;
 
 /// The edges of a frame of 8 bytes that are ten bits apart.
 const SPARSE_EDGES: u128 = 14;
@@ -142,12 +142,12 @@ impl<'f> OneBus<'f> {
     }
 
     /// Returns how early node `i` can be for the bits of the sender that wins the arbitration, if several nodes send: how late the bits of a
-    /// sender but `i` can be there, with ten bits of drift.
+    /// sender but `i` can be there, with ten bits of drift. It is worked out from these ways if there are any.
     #[tactic(auto, unfolding(crate::specs::Terms::early))]
-    pub(crate) fn early(&self, ways: &Ways, i: u8) -> u128
+    pub(crate) fn early(&self, ways: Option<&[u128]>, i: u8) -> u128
         requires node { i < (the_bus self.now).nodes }
         requires several { several (the_bus self.now) ≡ true }
-        requires ways { HasWaysOfNode i (the_bus self.now) ways.now }
+        requires ways { ForSome ways (λ w. HasWaysOfNode i (the_bus self.now) w.now) }
         ensures value { result ≡ early (the_bus self.now) i }
         ensures most { result < early_limit }
     {

@@ -38,5 +38,5 @@ pub fn comes_in_time(
     let early = quantum + 2 * tick + 10 * bit.saturating_sub(their_bit);
     late <= sender.sample_at() as u128 * own_quantum
         && early <= sender.ps2() as u128 * own_quantum + way
-        && bit <= their_bit + sender.sjw() as u128 * own_quantum
+        && 10 * bit <= 10 * their_bit + sender.sjw() as u128 * own_quantum
 }

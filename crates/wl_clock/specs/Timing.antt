@@ -4,10 +4,9 @@ use Rattle.std.specs.List.{list_any}
 use Rattle.wl_clock.specs.declared.ClockFault.{ClockFault}
 use Rattle.wl_clock.specs.declared.ClockFault.TheVariants.{ZeroDen, TooFast, TooSlow, BigOffset, BigDen, BadPpm, NoRates, TooManyRates, RateOrder, BadFrom}
 use Rattle.wl_clock.specs.declared.Rate.{Rate}
-
--- the latest tick at which quantum 0 may begin (this project's profile)
-abbrev pub largest_offset : ℕ
-largest_offset = 1048576
+use Rattle.wl_limits.specs.declared.Limits.{Limits}
+use Rattle.wl_limits.specs.declared.Limits.TheVariants.{Narrow, Wide}
+use Rattle.wl_limits.specs.Limits.{offset_limit, from_limit}
 
 -- the most ticks that a quantum may take (this project's profile)
 abbrev pub slowest_rate : ℕ
@@ -24,10 +23,6 @@ largest_deviation = 100000
 -- the most rates that a clock has, one after another (this project's profile)
 abbrev pub most_rates : ℕ
 most_rates = 16
-
--- the last quantum with which a rate may begin (this project's profile)
-abbrev pub latest_from : ℕ
-latest_from = 1048576
 
 -- the tick of quantum 0, and the rates: each from its first quantum up to the next one's
 pub record Timing : Type 0 where
@@ -59,7 +54,7 @@ pub record IsRate (r : Rate) : Type 0 where
   pub not_fast : r.den ≤ r.num
   pub not_slow : r.num ≤ slowest_rate * r.den
   pub small : r.den ≤ largest_denominator
-  pub soon : r.from ≤ latest_from
+  pub soon : r.from ≤ from_limit Wide
 
 -- the first rate begins after this quantum, and each other one after the one in front of it
 abbrev pub begin_after : ℕ → List Rate → Bool
@@ -77,7 +72,7 @@ pub record IsTiming (t : Timing) : Type 0 where
   pub some : 0 < length t.rates
   pub few : length t.rates ≤ most_rates
   pub order : IsTrue (in_order t.rates)
-  pub near : t.offset ≤ largest_offset
+  pub near : t.offset ≤ offset_limit Wide
 
 -- what refuses a rate (this project's profile)
 abbrev pub has_zero_den : Rate → Bool
@@ -92,23 +87,27 @@ is_too_slow r = nat_lt (slowest_rate * r.den) r.num
 abbrev pub has_big_den : Rate → Bool
 has_big_den r = nat_lt largest_denominator r.den
 
-abbrev pub has_bad_from : Rate → Bool
-has_bad_from r = nat_lt latest_from r.from
+abbrev pub has_bad_from : Limits → Rate → Bool
+has_bad_from limits r = nat_lt (from_limit limits) r.from
 
--- The timing of an offset and rates, or the first refusal that applies: each is asked of all rates before the next one
+-- The timing of an offset and rates by these limits, or the first refusal that applies: each is asked of all rates before the next one
 -- is asked of any (this project's profile).
-abbrev pub timing_of_rates : ℕ → List Rate → Result Timing ClockFault
-timing_of_rates offset rates =
+abbrev pub timing_within : Limits → ℕ → List Rate → Result Timing ClockFault
+timing_within limits offset rates =
     if list_any has_zero_den rates then Err ZeroDen
     else if list_any is_too_fast rates then Err TooFast
     else if list_any is_too_slow rates then Err TooSlow
-    else if nat_lt largest_offset offset then Err BigOffset
+    else if nat_lt (offset_limit limits) offset then Err BigOffset
     else if list_any has_big_den rates then Err BigDen
     else if length rates == 0 then Err NoRates
     else if nat_lt most_rates (length rates) then Err TooManyRates
     else if not (in_order rates) then Err RateOrder
-    else if list_any has_bad_from rates then Err BadFrom
+    else if list_any (has_bad_from limits) rates then Err BadFrom
     else Ok (record { offset = offset; rates = rates })
+
+-- the same by the limits of plan texts of versions 1 to 3
+abbrev pub timing_of_rates : ℕ → List Rate → Result Timing ClockFault
+timing_of_rates offset rates = timing_within Narrow offset rates
 
 -- the timing of an offset and one rate, from quantum 0 on, or the first refusal that applies
 abbrev pub timing_of : ℕ → ℕ → ℕ → Result Timing ClockFault

@@ -7,8 +7,9 @@
 #![tactic(auto)]
 
 ghost use Rattle.std.specs.Prelude.{◌≡◌, ℕ, ◌+◌, ◌*◌, ◌^◌, ◌<◌, ◌≤◌, pos, unsigned_abs, length};
-ghost use Rattle.wl_clock.specs.Timing.{Timing, IsTiming, tick_of, timing_of, timing_of_rates, timing_of_ppm, rate_of_ppm, millionths, most_rates, slowest_rate};
+ghost use Rattle.wl_clock.specs.Timing.{Timing, IsTiming, tick_of, timing_of, timing_of_rates, timing_within, timing_of_ppm, rate_of_ppm, millionths, most_rates, slowest_rate};
 ghost use Rattle.wl_clock.specs.Padded.{padded_rates};
+ghost use Rattle.wl_limits.specs.Limits.{most_run_quanta};
 
 mod laws;
 mod quotients;
@@ -21,6 +22,7 @@ use refusals::{any_bad_from, any_big_den, any_too_fast, any_too_slow, any_zero_d
 use std::marker::Model;
 use stretches::{first_from, quick_first, quick_stretch, ticks_after};
 use thiserror::Error;
+use wl_limits::Limits;
 
 /// Why an offset and rates make no clock.
 #[derive(Clone, Copy, Debug, PartialEq, Eq, Error)]
@@ -34,7 +36,7 @@ pub enum ClockFault {
     /// A quantum would take more than 2^20 ticks.
     #[error("TooSlow")]
     TooSlow,
-    /// Quantum 0 would begin after tick 2^20.
+    /// Quantum 0 would begin after tick 2^20, by the wide limits after tick 2^34.
     #[error("BigOffset")]
     BigOffset,
     /// The denominator is above 1,000,000.
@@ -52,12 +54,10 @@ pub enum ClockFault {
     /// The first rate does not begin with quantum 0, or a later one does not begin after the one before it.
     #[error("RateOrder")]
     RateOrder,
-    /// A rate begins after quantum 2^20.
+    /// A rate begins after quantum 2^20, by the wide limits after quantum 2^30.
     #[error("BadFrom")]
     BadFrom,
 }
-
-const LARGEST_OFFSET: u64 = 1_048_576;
 
 const LARGEST_DEVIATION: u64 = 100_000;
 
@@ -178,6 +178,14 @@ impl Clock {
     pub fn with_rates(offset: u64, rates: &[Rate]) -> Result<Clock, ClockFault>
         ensures { result ≡ timing_of_rates offset rates.now }
     {
+        Clock::within(Limits::Narrow, offset, rates)
+    }
+
+    /// Does the same by these limits: `BigOffset` and `BadFrom` come by them.
+    pub fn within(limits: Limits, offset: u64, rates: &[Rate]) -> Result<Clock, ClockFault>
+        ensures { result ≡ timing_within limits offset rates.now }
+    {
+        wl_limits::wide_limits_hold();
         if any_zero_den(rates) {
             return Err(ClockFault::ZeroDen);
         }
@@ -187,7 +195,7 @@ impl Clock {
         if any_too_slow(rates) {
             return Err(ClockFault::TooSlow);
         }
-        if offset > LARGEST_OFFSET {
+        if offset > limits.offset_limit() {
             return Err(ClockFault::BigOffset);
         }
         if any_big_den(rates) {
@@ -202,7 +210,7 @@ impl Clock {
         if !in_order(rates) {
             return Err(ClockFault::RateOrder);
         }
-        if any_bad_from(rates) {
+        if any_bad_from(limits, rates) {
             return Err(ClockFault::BadFrom);
         }
         Ok(Clock {
@@ -222,13 +230,13 @@ impl Clock {
         &self.rates[..self.count]
     }
 
-    /// Returns the tick at which quantum `k` begins, for `k` up to 2^21.
+    /// Returns the tick at which quantum `k` begins, for `k` up to 2^31.
     pub fn at(&self, k: u64) -> u64
-        requires { k ≤ 2 ^ 21 }
+        requires { k ≤ most_run_quanta }
         ensures tick { result ≡ tick_of self.now k }
         ensures timing { IsTiming self.now }
 
-        // So the tick is below 2^42.
+        // So the tick is below 2^52.
         ensures low { self.now.offset + k ≤ result }
         ensures high { result ≤ self.now.offset + k * slowest_rate }
     {

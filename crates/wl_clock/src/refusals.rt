@@ -4,12 +4,11 @@ ghost use Rattle.std.specs.List.{list_any};
 ghost use Rattle.wl_clock.specs.Timing.{has_zero_den, is_too_fast, is_too_slow, has_big_den, has_bad_from, begin_after, in_order};
 
 use crate::Rate;
+use wl_limits::Limits;
 
 const SLOWEST_RATE: u128 = 1_048_576;
 
 const LARGEST_DENOMINATOR: u64 = 1_000_000;
-
-const LATEST_FROM: u64 = 1_048_576;
 
 /// True if some denominator is 0.
 pub fn any_zero_den(rates: &[Rate]) -> bool
@@ -39,11 +38,12 @@ pub fn any_big_den(rates: &[Rate]) -> bool
     rates.iter().any(|r| r.den > LARGEST_DENOMINATOR)
 }
 
-/// True if some rate begins after quantum 2^20.
-pub fn any_bad_from(rates: &[Rate]) -> bool
-    ensures { result ≡ list_any has_bad_from rates.now }
+/// True if some rate begins later than the limits allow.
+pub fn any_bad_from(limits: Limits, rates: &[Rate]) -> bool
+    ensures { result ≡ list_any (has_bad_from limits) rates.now }
 {
-    rates.iter().any(|r| r.from > LATEST_FROM)
+    let latest = limits.from_limit();
+    rates.iter().any(|r| r.from > latest)
 }
 
 /// True if the first rate begins with quantum 0, and each other one after the one before it.

@@ -1,6 +1,7 @@
 //! Stretches of quanta that go at one rate each.
 ghost use Rattle.std.specs.Prelude.{◌≡◌, ℕ, ◌+◌, ◌-◌, ◌*◌, ◌/◌, ◌^◌, ◌<◌, ◌≤◌, IsTrue, All, ◌∷◌};
 ghost use Rattle.wl_clock.specs.Timing.{IsRate, begin_after, slowest_rate, ticks_at_rate, ticks_after};
+ghost use Rattle.wl_limits.specs.Limits.{most_run_quanta};
 
 use crate::Rate;
 use crate::quotients::quotient;
@@ -9,11 +10,15 @@ use crate::quotients::quotient;
 fn stretch(rate: &Rate, k: u64) -> u64
     requires rate { IsRate rate.now }
     requires begun { rate.now.from ≤ k }
-    requires near { k ≤ 2 ^ 21 }
+    requires near { k ≤ most_run_quanta }
     ensures ticks { result ≡ ticks_at_rate rate.now k }
     ensures high { result ≤ (k - rate.now.from) * slowest_rate }
 {
-    (k - rate.from) * rate.num as u64 / rate.den
+    let quanta = k - rate.from;
+    match quanta.checked_mul(rate.num as u64) {
+        Some(parts) => parts / rate.den,
+        None => (quanta as u128 * rate.num / rate.den as u128) as u64,
+    }
 }
 
 /// Returns the least quantum that begins at least this many ticks after the first quantum of a rate, at that rate.
@@ -34,11 +39,14 @@ pub fn quick_stretch(rate: &Rate, inverse: u64, k: u64) -> u64
     requires rate { IsRate rate.now }
     requires inverse { inverse ≡ (2 ^ 64 - 1) / rate.now.den }
     requires begun { rate.now.from ≤ k }
-    requires near { k ≤ 2 ^ 21 }
+    requires near { k ≤ most_run_quanta }
     ensures ticks { result ≡ ticks_at_rate rate.now k }
     ensures high { result ≤ (k - rate.now.from) * slowest_rate }
 {
-    quotient((k - rate.from) * rate.num as u64, rate.den, inverse)
+    match (k - rate.from).checked_mul(rate.num as u64) {
+        Some(parts) => quotient(parts, rate.den, inverse),
+        None => stretch(rate, k),
+    }
 }
 
 /// Returns what `first_at` does; the inverse is that of the numerator.
@@ -59,7 +67,7 @@ pub fn ticks_after(rate: &Rate, later: &[Rate], k: u64) -> u64
     requires rates { All IsRate (rate.now ∷ later.now) }
     requires order { IsTrue (begin_after rate.now.from later.now) }
     requires begun { rate.now.from ≤ k }
-    requires near { k ≤ 2 ^ 21 }
+    requires near { k ≤ most_run_quanta }
     ensures ticks { result ≡ ticks_after rate.now later.now k }
     ensures high { result ≤ (k - rate.now.from) * slowest_rate }
 {

@@ -2,10 +2,11 @@
 use Rattle.std.specs.Prelude.{◌==◌, ℕ, zero, suc, Bool, if◌then◌else◌, List, [], ◌++◌, codes, Result}
 use Rattle.std.specs.List.{flat_map, list_any}
 use Rattle.std.specs.Fmt.{decimal}
+use Rattle.wl_limits.specs.declared.Limits.{Limits}
 use Rattle.wl_record_core.specs.declared.record.Record.{Record}
 use Rattle.wl_device.specs.declared.device.WriteFault.{WriteFault}
 use Rattle.wl_device.specs.Devices.{Answer, Writes}
-use Rattle.wl_record_core.specs.Limits.{most_nodes}
+use Rattle.wl_record_core.specs.Limits.{record_nodes}
 use Rattle.wl_record_core.specs.Slots.{node_of}
 use Rattle.wl_record.specs.Reading.{RecordsOf}
 use Rattle.wl_replica.specs.State.{State, slots_of}
@@ -40,14 +41,14 @@ lines_below s zero = []
 lines_below s (suc n) = lines_below s n ++ horizon_lines s n
 
 -- what the records of a text say
-abbrev pub horizons_of : List Record → List ℕ
-horizons_of rs = lines_below (state_of_all rs) most_nodes
+abbrev pub horizons_of : Limits → List Record → List ℕ
+horizons_of limits rs = lines_below (state_of_all limits rs) (record_nodes limits)
 
-module _ {S T : Type 0} (gives : S → Answer → S → Type 0) (takes : T → Answer → T → Type 0) (s s' : S) (t t' : T) where
+module _ {S T : Type 0} (limits : Limits) (gives : S → Answer → S → Type 0) (takes : T → Answer → T → Type 0) (s s' : S) (t t' : T) where
   -- the text of the records of all that was read went out, as far as it went
   abbrev pub WritesHorizons : Result (Unit {0}) WriteFault → Type 0
-  WritesHorizons r = (rs : List Record) × RecordsOf gives s rs s' × Writes takes t (horizons_of rs) r t'
+  WritesHorizons r = (rs : List Record) × RecordsOf limits gives s rs s' × Writes takes t (horizons_of limits rs) r t'
 
   -- what a run of horizon did
   abbrev pub TellsHorizons : Result (Unit {0}) RunFault → Type 0
-  TellsHorizons = Ran (RefusesText gives s s') WritesHorizons t t'
+  TellsHorizons = Ran (RefusesText limits gives s s') WritesHorizons t t'

@@ -3,8 +3,10 @@ use Rattle.std.specs.Prelude.{◌≡◌, ◌≢◌, ℕ, List, All, Result, Ok, 
 use Rattle.wl_device.specs.Devices.{Answer, Writes}
 use Rattle.wl_device.specs.declared.device.WriteFault.{WriteFault}
 use Rattle.wl_record_core.specs.Text.{text_of}
-use Rattle.wl_record_core.specs.Within.{IsWithin}
+use Rattle.wl_limits.specs.declared.Limits.{Limits}
+use Rattle.wl_record_core.specs.Within.{IsWide, IsWithinBy}
 use Rattle.wl_plan.specs.declared.plan.Plan.{Plan}
+use Rattle.wl_plan.specs.Checked.{IsPlanWithin}
 use Rattle.wl_plan.specs.PlanLine.{IsTrueOfPlan}
 use Rattle.wl_serial.specs.Outcome.{outcome_of, totals_of}
 use Rattle.wl_serial.specs.Records.{outcome_records}
@@ -23,9 +25,11 @@ use Rattle.wl_engines.specs.Ran.{Ran}
 abbrev pub records_text : Plan → List ℕ
 records_text plan = text_of (outcome_records (outcome_of plan))
 
--- all of them are true of the plan, and within the limits of records
+-- all of them are true of the plan and within the wide limits of records; those of a plan within narrower limits are within these
 abbrev pub IsRecordsOutput : Plan → List (List ℕ) → List ℕ → Type 0
-IsRecordsOutput plan names text = (text ≡ records_text plan) × All (λ told. IsTrueOfPlan plan told × IsWithin told) (outcome_records (outcome_of plan))
+IsRecordsOutput plan names text =
+    (text ≡ records_text plan) × All (λ told. IsTrueOfPlan plan told × IsWide told) (outcome_records (outcome_of plan))
+    × ((limits : Limits) (queued : ℕ) → IsPlanWithin limits queued plan → All (λ told. IsWithinBy limits told) (outcome_records (outcome_of plan)))
 
 -- the report of the one-thread simulation
 abbrev pub IsRunOutput : Plan → List (List ℕ) → List ℕ → Type 0

@@ -2,7 +2,8 @@
 ghost use Rattle.std.specs.Prelude.{◌≡◌, ◌<◌, ◌==◌, OnOk, IfOk, string_bytes};
 ghost use Rattle.std.specs.List.{flat_map};
 ghost use Rattle.wl_report.specs.Lines.{GrowsBy};
-ghost use Rattle.wl_record_core.specs.Limits.{most_nodes};
+ghost use Rattle.wl_limits.specs.declared.Limits.TheVariants.{Narrow};
+ghost use Rattle.wl_record_core.specs.Limits.{record_nodes};
 ghost use Rattle.wl_replica.specs.Canonical.{canonical};
 ghost use Rattle.wl_replica.specs.Dense.{says_something};
 ghost use Rattle.wl_engines.specs.Horizon.{TellsHorizons, horizon_line, interval_line, is_named, horizon_lines, lines_below};
@@ -11,6 +12,7 @@ use crate::fault::RunFault;
 use crate::gather::gather;
 use std::alloc::{AllocError, Global};
 use wl_device::{Sink, Source, write_all};
+use wl_limits::Limits;
 use wl_replica::Rows;
 
 /// True if some number of a row says something.
@@ -79,7 +81,7 @@ fn horizons(alloc: Global, rows: &Rows) -> Result<String, AllocError>
     Ok(text)
 }
 
-/// Reads a record text and writes what it says of each node that has a slot in its canonical text. That is how many of its first changes
+/// Reads a narrow record text and writes what it says of each node that has a slot in its canonical text. That is how many of its first changes
 /// are known without a gap, the tick below which the node is known, and the intervals in which it drives dominant.
 ///
 /// The whole output is made before the first write. If the input is refused, or memory runs out, the writer isn't called; if the writer
@@ -90,9 +92,21 @@ pub fn horizon_run<R: Source, W: Sink>(
     reader: &mut R,
     writer: &mut W,
 ) -> Result<(), RunFault>
-    ensures { TellsHorizons R.gives W.takes reader.old reader.new writer.old writer.new result }
+    ensures { TellsHorizons Narrow R.gives W.takes reader.old reader.new writer.old writer.new result }
 {
-    let rows = gather(alloc, reader)?;
+    horizon_run_within(alloc, Limits::Narrow, reader, writer)
+}
+
+/// Reads a record text by these limits, as `horizon_run` does. By the wide ones a text of 17 bytes may make it take 2 GiB.
+pub fn horizon_run_within<R: Source, W: Sink>(
+    alloc: Global,
+    limits: Limits,
+    reader: &mut R,
+    writer: &mut W,
+) -> Result<(), RunFault>
+    ensures { TellsHorizons limits R.gives W.takes reader.old reader.new writer.old writer.new result }
+{
+    let rows = gather(alloc, limits, reader)?;
     let text = horizons(alloc, &rows)?;
     write_all(text.as_bytes(), writer)?;
     Ok(())

@@ -1,9 +1,10 @@
 //! Laws of merging.
+ghost use Rattle.wl_limits.specs.declared.Limits.{Limits};
 ghost use Rattle.wl_engines.specs.Merge.{MergesAsOne};
 
-/// Law: merging in parts is merging as one, and only the set of records matters.
+/// Law: by some limits, merging in parts is merging as one, and only the set of records matters.
 pub fn merges_as_one()
-    ensures { MergesAsOne }
+    ensures { (limits : Limits) → MergesAsOne limits }
 {
     wl_record::spelling_law();
     wl_record::text_law();

@@ -2,12 +2,14 @@
 ghost use Rattle.std.specs.Prelude.{◌≡◌, IfOk};
 ghost use Rattle.wl_record_core.specs.Text.{text_of};
 ghost use Rattle.wl_replica.specs.Canonical.{canonical};
+ghost use Rattle.wl_limits.specs.declared.Limits.TheVariants.{Narrow};
 ghost use Rattle.wl_engines.specs.Merge.{Merges};
 
 use crate::fault::RunFault;
 use crate::gather::gather;
 use std::alloc::{AllocError, Global};
 use wl_device::{Sink, Source, write_all};
+use wl_limits::Limits;
 use wl_record::push_text_line;
 use wl_record_core::Record;
 use wl_replica::{RecordSink, Rows};
@@ -45,7 +47,7 @@ fn canonical_text(alloc: Global, rows: &Rows) -> Result<Vec<u8>, AllocError>
     Ok(lines.text)
 }
 
-/// Reads a record text and writes the canonical text of the replica that its records make, and nothing else.
+/// Reads a narrow record text and writes the canonical text of the replica that its records make, and nothing else.
 ///
 /// The whole output is made before the first write. If the input is refused, or memory runs out, the writer isn't called; if the writer
 /// fails, a prefix of the output has been written.
@@ -54,9 +56,21 @@ pub fn merge_run<R: Source, W: Sink>(
     reader: &mut R,
     writer: &mut W,
 ) -> Result<(), RunFault>
-    ensures { Merges R.gives W.takes reader.old reader.new writer.old writer.new result }
+    ensures { Merges Narrow R.gives W.takes reader.old reader.new writer.old writer.new result }
 {
-    let rows = gather(alloc, reader)?;
+    merge_run_within(alloc, Limits::Narrow, reader, writer)
+}
+
+/// Reads a record text by these limits, as `merge_run` does. By the wide ones a text of 17 bytes may make it take 2 GiB.
+pub fn merge_run_within<R: Source, W: Sink>(
+    alloc: Global,
+    limits: Limits,
+    reader: &mut R,
+    writer: &mut W,
+) -> Result<(), RunFault>
+    ensures { Merges limits R.gives W.takes reader.old reader.new writer.old writer.new result }
+{
+    let rows = gather(alloc, limits, reader)?;
     let text = canonical_text(alloc, &rows)?;
     write_all(&text, writer)?;
     Ok(())

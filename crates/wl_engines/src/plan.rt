@@ -9,7 +9,7 @@ use crate::view::{View, run_view};
 use std::alloc::{AllocError, Global};
 use wl_device::{Sink, Source};
 use wl_plan::CheckedPlan;
-use wl_report::report;
+use wl_report::report_of_totals;
 use wl_serial::run_totals;
 
 /// Returns the report of a plan's simulation.
@@ -17,7 +17,7 @@ pub(crate) fn report_of(alloc: Global, plan: &CheckedPlan) -> Result<Vec<u8>, Al
     ensures { IfOk result (λ text. text.items ≡ report_text (totals_of (outcome_of plan.now))) }
 {
     let totals = run_totals(alloc, plan)?;
-    report(alloc, &totals)
+    report_of_totals(alloc, &totals)
 }
 
 /// Reads a plan's text, simulates the plan on one thread, and writes the report: for each node its counters and the frames that passed, and

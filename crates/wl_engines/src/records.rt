@@ -8,7 +8,9 @@ use std::alloc::{AllocError, Global};
 use wl_device::{Sink, Source};
 use wl_plan::CheckedPlan;
 use wl_record::text_of;
-use wl_serial::{outcome_is_recordable, records_are_true, records_of, run_serial};
+use wl_serial::{
+    outcome_is_recordable, records_are_true, records_are_within, records_of, run_serial,
+};
 
 /// Returns the records of a plan's simulation, as text.
 pub(crate) fn records_text(alloc: Global, plan: &CheckedPlan) -> Result<Vec<u8>, AllocError>
@@ -16,6 +18,7 @@ pub(crate) fn records_text(alloc: Global, plan: &CheckedPlan) -> Result<Vec<u8>,
 {
     outcome_is_recordable();
     records_are_true();
+    records_are_within();
     let outcome = run_serial(alloc, plan)?;
     let records = records_of(alloc, &outcome)?;
     text_of(alloc, &records)

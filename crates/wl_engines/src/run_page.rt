@@ -14,7 +14,7 @@ use wl_explain::explain_plan;
 use wl_margin::margin_text;
 use wl_page::{Texts, page};
 use wl_plan::CheckedPlan;
-use wl_report::report;
+use wl_report::report_of_totals;
 use wl_serial::{Outcome, run_serial};
 use wl_setup::{Bus, Names, SetupFault, bus_of_bytes, check_plan, read_bytes};
 use wl_traffic::traffic_of;
@@ -75,7 +75,7 @@ fn report_of_run(alloc: Global, outcome: &Outcome) -> Result<Vec<u8>, AllocError
     ensures { IfOk result (λ text. text.items ≡ report_text (totals_of outcome.now)) }
 {
     let totals = outcome.totals(alloc)?;
-    report(alloc, &totals)
+    report_of_totals(alloc, &totals)
 }
 
 /// Returns what the page shows of a run of a plan, which has this outcome.

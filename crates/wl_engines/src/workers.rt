@@ -11,7 +11,7 @@ use std::sync::Wait;
 use std::thread::Threads;
 use wl_device::{Sink, Source, write_all};
 use wl_plan::CheckedPlan;
-use wl_report::report;
+use wl_report::report_of_totals;
 use wl_setup::read_checked;
 use wl_worker::{Gate, LinkKind, simulate_by};
 
@@ -43,7 +43,7 @@ fn report_by<H: Threads + Wait + Sync>(
 {
     let outcome = simulate_by(rt, alloc, plan.into_plan(), workers, kind, &OpenGate)?;
     let totals = outcome.totals(alloc)?;
-    Ok(report(alloc, &totals)?)
+    Ok(report_of_totals(alloc, &totals)?)
 }
 
 /// Writes a report if there is one.

@@ -1,5 +1,5 @@
 -- The text on a plan that is refused: what is wrong, with its place, keys and values, and what to change (this project's profile).
-use Rattle.std.specs.Prelude.{◌≡◌, ◌≤◌, ◌==◌, ◌+◌, ◌||◌, nat_lt, nat_le, ℕ, ℤ, pos, negsuc, Bool, true, false, List, [], ◌∷◌, ◌++◌, codes, length, take, filter, if◌then◌else◌, Option, Some, None, option_and_then}
+use Rattle.std.specs.Prelude.{◌≡◌, ◌≤◌, ◌==◌, ◌+◌, ◌||◌, nat_lt, nat_le, ℕ, ℤ, pos, negsuc, Bool, true, false, List, [], ◌∷◌, ◌++◌, codes, length, take, filter, if◌then◌else◌, Option, Some, None, is_some, option_and_then}
 use Rattle.std.specs.Fmt.{decimal, digits, signed_decimal}
 use Rattle.std.specs.List.{flat_map, list_any}
 use Rattle.std.specs.Str.{bytes_eq}
@@ -26,7 +26,9 @@ use Rattle.wl_setup.specs.Reading.{document_of}
 use Rattle.wl_setup.specs.Shown.{shown}
 use Rattle.wl_setup.specs.Document.{fault_path}
 use Rattle.wl_setup.specs.TablePaths.{table_at}
-use Rattle.wl_explain.specs.Remedies.{cause, remedy}
+use Rattle.wl_explain.specs.declared.remedies.TextForm.{TextForm}
+use Rattle.wl_explain.specs.declared.remedies.TextForm.TheVariants as form
+use Rattle.wl_explain.specs.Remedies.{cause, cause_in, remedy, remedy_in}
 
 -- what a value is
 abbrev pub truth_words : Bool → List ℕ
@@ -95,10 +97,10 @@ keys_of_clock _ = key.Quantum ∷ key.Ppm ∷ key.Num ∷ key.Den ∷ key.Rates 
 
 abbrev pub keys_of_segments : SegmentsFault → List Key
 keys_of_segments segments.Prop = key.Prop ∷ []
-keys_of_segments segments.Phase1 = key.Ps1 ∷ []
-keys_of_segments segments.Phase2 = key.Ps2 ∷ []
-keys_of_segments segments.Jump = key.Sjw ∷ key.Ps1 ∷ []
-keys_of_segments segments.Length = key.Prop ∷ key.Ps1 ∷ key.Ps2 ∷ []
+keys_of_segments segments.Phase1 = key.Ps1 ∷ key.Tseg1 ∷ []
+keys_of_segments segments.Phase2 = key.Ps2 ∷ key.Tseg2 ∷ []
+keys_of_segments segments.Jump = key.Sjw ∷ key.Ps1 ∷ key.Tseg1 ∷ key.Tseg2 ∷ []
+keys_of_segments segments.Length = key.Prop ∷ key.Ps1 ∷ key.Ps2 ∷ key.Tseg1 ∷ key.Tseg2 ∷ []
 
 abbrev pub keys_of_frame : FrameFault → List Key
 keys_of_frame frame.Id = key.Id ∷ key.Extended ∷ []
@@ -155,8 +157,33 @@ subject top path _ = codes "the plan"
 abbrev pub lines : List ℕ → List ℕ → List ℕ → List ℕ
 lines about wrong change = codes "wrong: " ++ about ++ codes ": " ++ wrong ++ codes "\nchange: " ++ change ++ codes "\n"
 
+-- a document is of version 4
+abbrev pub is_four : Data → Bool
+is_four (integer (pos n)) = n == 4
+is_four _ = false
+
+abbrev pub is_wide_by : Option Data → Bool
+is_wide_by None = false
+is_wide_by (Some d) = is_four d
+
+abbrev pub is_wide : Members → Bool
+is_wide top = is_wide_by (value_at key.Version top)
+
+-- a node's table has keys of a controller's segments
+abbrev pub has_controller_keys : Option Members → Bool
+has_controller_keys None = false
+has_controller_keys (Some node) = is_some (value_at key.Tseg1 node) || is_some (value_at key.Tseg2 node)
+
+-- by which words a fault is explained
+abbrev pub wide_form : Members → SetupFault → TextForm
+wide_form top (fault.NodeSegments i f) = if has_controller_keys (table_at (Node i) top) then form.Controller else form.Wide
+wide_form top _ = form.Wide
+
+abbrev pub form_of : Members → SetupFault → TextForm
+form_of top f = if is_wide top then wide_form top f else form.Narrow
+
 abbrev pub refusal_words : Members → TablePath → SetupFault → List ℕ
-refusal_words top path f = lines (subject top path f) (cause f) (remedy f)
+refusal_words top path f = lines (subject top path f) (cause_in (form_of top f) f) (remedy_in (form_of top f) f)
 
 -- the line of a text's place, and its column in characters, both from 1
 abbrev pub is_newline : ℕ → Bool

@@ -8,7 +8,7 @@ ghost use Rattle.wl_explain.specs.Condition.{told_failure, are_unlike, fail_line
 
 use crate::doubts::difference;
 use crate::words::{GREATEST_DIFFERENCE, bit_rate, push_unlike};
-use crate::{MILLION, quanta_begun};
+use crate::{MILLIONTHS, quanta_begun};
 use std::alloc::AllocError;
 use wl_bound::{Failure, Family, Inequality, Oscillator, Senders};
 use wl_clock::Clock;
@@ -197,10 +197,10 @@ fn strays(end: u64, clock: &Clock, oscillator: &Oscillator) -> bool
 {
     wl_clock::ticks_increase();
     let quanta = quanta_begun(clock, end);
-    let ticks = clock.at(quanta) - clock.at(0);
-    let longest = MILLION * (ticks + 1) / quanta;
-    let shortest = MILLION * ticks.saturating_sub(1) / quanta;
-    (longest as u128) < oscillator.shortest() || oscillator.longest() < shortest as u128
+    let ticks = (clock.at(quanta) - clock.at(0)) as u128;
+    let longest = MILLIONTHS * (ticks + 1) / quanta as u128;
+    let shortest = MILLIONTHS * ticks.saturating_sub(1) / quanta as u128;
+    longest < oscillator.shortest() || oscillator.longest() < shortest
 }
 
 /// Adds the line of a clock beyond its tolerance.

@@ -7,7 +7,7 @@
 //! arrived is this project's profile. The tolerance of an oscillator is `Segments::greatest_ppm`.
 #![tactic(auto)]
 
-ghost use Rattle.std.specs.Prelude.{◌≡◌, ℕ, ◌+◌, ◌*◌, ◌^◌, ◌<◌, ◌≤◌, ◌↔◌, IsTrue, [], ◌∷◌, IfSome, None};
+ghost use Rattle.std.specs.Prelude.{◌≡◌, ℕ, ◌+◌, ◌*◌, ◌/◌, ◌^◌, ◌<◌, ◌≤◌, ◌↔◌, IsTrue, [], ◌∷◌, IfSome, None};
 ghost use Rattle.wl_clock.specs.declared.Rate.{Rate};
 ghost use Rattle.wl_plan.specs.Limits.{most_quanta};
 ghost use Rattle.wl_explain.specs.Figures.{Ratio, IsQuantum, quantum_of, picoseconds, bits_per_second, sample_point, ComesBack, furthest_way, longest_cable, longest_trip, may_take, mean_quantum, metres, quanta_begun, rate_quantum, ticks_of, tolerance};
@@ -26,8 +26,10 @@ pub use doubts::{
 };
 pub use explanation::explain_plan;
 pub use laws::figures_of_the_run;
-pub use refusal::{column_number, explain_fault, explain_size, explain_toml, line_number, subject};
-pub use remedies::{cause, remedy};
+pub use refusal::{
+    column_number, explain_fault, explain_size, explain_toml, form_of, line_number, subject,
+};
+pub use remedies::{TextForm, cause, cause_in, remedy, remedy_in};
 use std::marker::Model;
 use wl_clock::Clock;
 use wl_plan::MOST_QUANTA;
@@ -40,6 +42,9 @@ const LONGEST_QUANTUM: u64 = 1_048_576;
 const LARGEST_DEN: u64 = 1_000_000;
 
 const MILLION: u64 = 1_000_000;
+
+/// The millionths of a tick.
+const MILLIONTHS: u128 = 1_000_000;
 
 /// How many nanoseconds a level takes along a metre of cable: two thirds of the speed of light.
 const METRE: u64 = 5;
@@ -76,8 +81,7 @@ impl Quantum {
     }
 
     /// Returns the mean quantum of a clock up to the end of a plan, in millionths of a tick, rounded down. It is the mean of the n quanta
-    /// that begin before tick `end`: of quantum 0 if there are none, and of the first 1,048,576 if there are more, as in no plan that can
-    /// be run.
+    /// that begin before tick `end`: of quantum 0 if there are none, and of the first 2^30 if there are more, as in no plan that can be run.
     ///
     /// Ticks are whole, so those of n quanta give their mean to less than a tick in n. If that leaves room for the mean of the clock's
     /// first 1,000,000 quanta, the answer is that one. Of a clock with one rate it is the rate, whatever the end. Else it is the ticks of
@@ -97,7 +101,7 @@ impl Quantum {
         let num = if may_take(quanta, million, ticks) {
             million
         } else {
-            MILLION * ticks / quanta
+            mean_of_ticks(quanta, ticks)
         };
         Quantum { num, den: MILLION }
     }
@@ -151,12 +155,12 @@ impl Quantum {
     }
 }
 
-/// Returns how many quanta of a clock begin before tick `end`: 1 to 1,048,576.
+/// Returns how many quanta of a clock begin before tick `end`: 1 to 2^30.
 fn quanta_begun(clock: &Clock, end: u64) -> u64
     requires { end < 2 ^ 48 }
     ensures quanta { result ≡ quanta_begun end clock.now }
     ensures some { 0 < result }
-    ensures few { result ≤ 2 ^ 20 }
+    ensures few { result ≤ 2 ^ 30 }
 {
     wl_clock::ticks_increase();
     clock.first_not_before(end).min(MOST_QUANTA).max(1)
@@ -164,12 +168,19 @@ fn quanta_begun(clock: &Clock, end: u64) -> u64
 
 /// True if this many quanta of this mean, in millionths of a tick, may take this many ticks; both are rounded down.
 fn may_take(quanta: u64, mean: u64, ticks: u64) -> bool
-    requires few { quanta ≤ 2 ^ 20 }
-    requires short { mean < 2 ^ 42 }
-    requires soon { ticks < 2 ^ 42 }
     ensures { result ≡ may_take quanta mean ticks }
 {
-    quanta * mean < MILLION * (ticks + 1) && MILLION * ticks < quanta * (mean + 1)
+    let (quanta, mean, ticks) = (quanta as u128, mean as u128, ticks as u128);
+    quanta * mean < MILLIONTHS * (ticks + 1) && MILLIONTHS * ticks < quanta * (mean + 1)
+}
+
+/// Returns the mean of this many quanta in millionths of a tick, rounded down, if they take this many ticks.
+fn mean_of_ticks(quanta: u64, ticks: u64) -> u64
+    requires some { 0 < quanta }
+    requires slow { ticks ≤ quanta * 1048576 }
+    ensures { result ≡ 1000000 * ticks / quanta }
+{
+    (MILLIONTHS * ticks as u128 / quanta as u128) as u64
 }
 
 /// Returns the sample point in hundredths of a per cent of the bit, rounded down.

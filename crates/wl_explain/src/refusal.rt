@@ -1,13 +1,13 @@
 //! The text on a plan that is refused: what is wrong, with its place, keys and values, and what to change.
-ghost use Rattle.std.specs.Prelude.{◌≡◌, ◌+◌, ◌<◌, ◌≤◌, ◌^◌, ◌++◌, IfOk, OnOk, Some, length, option_and_then, option_map, string_bytes};
+ghost use Rattle.std.specs.Prelude.{◌≡◌, ◌+◌, ◌<◌, ◌≤◌, ◌^◌, ◌++◌, IfOk, OnOk, Some, length, is_some, option_and_then, option_map, string_bytes};
 ghost use Rattle.toml.specs.Data.{get_member};
 ghost use Rattle.toml.specs.View.{array_view, view, table_view};
 ghost use Rattle.wl_setup.specs.Kinds.{list_of, value_at};
 ghost use Rattle.wl_setup.specs.Shown.{shown};
 ghost use Rattle.wl_setup.specs.TablePaths.{table_at};
-ghost use Rattle.wl_explain.specs.Refusals.{begins_letter, beside_words, hexadecimal_words, keys_of_clock, column_behind, column_number, keys_of_frame, frame_called, lacking, rate_called, valued, is_newline, key_words, keys_words, line_number, lines, missing_words, name_words, named_words, node_called, two_nodes, place_words, plan_subject, quanta_words, refusal_words, keys_of_segments, size_words, path_words, subject, subject_words, toml_words, topology_subject, value_words};
+ghost use Rattle.wl_explain.specs.Refusals.{begins_letter, beside_words, hexadecimal_words, keys_of_clock, column_behind, column_number, keys_of_frame, form_of, frame_called, has_controller_keys, is_four, is_wide, lacking, rate_called, valued, is_newline, key_words, keys_words, line_number, lines, missing_words, name_words, named_words, node_called, two_nodes, place_words, plan_subject, quanta_words, refusal_words, keys_of_segments, size_words, path_words, subject, subject_words, toml_words, topology_subject, value_words, wide_form};
 
-use crate::remedies::{cause, remedy};
+use crate::remedies::{TextForm, cause, cause_in, remedy, remedy_in};
 use std::alloc::{AllocError, Global};
 use toml::value::Array;
 use toml::{Table, Value};
@@ -17,6 +17,9 @@ use wl_plan::PlanFault;
 use wl_segments::SegmentsFault;
 use wl_setup::{Key, SetupFault, TablePath, Text, table_at, value_named};
 use wl_topology::TopologyFault;
+
+/// The version in which limits are wide, and nodes may have the segments of controllers.
+const WIDE_VERSION: u64 = 4;
 
 /// Returns what a value is.
 fn value_words(alloc: Global, value: &Value) -> Result<String, AllocError>
@@ -224,10 +227,10 @@ fn keys_of_segments(fault: SegmentsFault) -> &'static [Key]
 {
     match fault {
         SegmentsFault::Prop => &[Key::Prop],
-        SegmentsFault::Phase1 => &[Key::Ps1],
-        SegmentsFault::Phase2 => &[Key::Ps2],
-        SegmentsFault::Jump => &[Key::Sjw, Key::Ps1],
-        SegmentsFault::Length => &[Key::Prop, Key::Ps1, Key::Ps2],
+        SegmentsFault::Phase1 => &[Key::Ps1, Key::Tseg1],
+        SegmentsFault::Phase2 => &[Key::Ps2, Key::Tseg2],
+        SegmentsFault::Jump => &[Key::Sjw, Key::Ps1, Key::Tseg1, Key::Tseg2],
+        SegmentsFault::Length => &[Key::Prop, Key::Ps1, Key::Ps2, Key::Tseg1, Key::Tseg2],
     }
 }
 
@@ -393,6 +396,73 @@ fn lines(alloc: Global, about: &str, wrong: &str, change: &str) -> Result<String
     Ok(text)
 }
 
+/// True if a value is the number of version 4.
+fn is_four(value: &Value) -> bool
+    ensures { result ≡ is_four (view value.now) }
+{
+    match value {
+        Value::Integer(number) => match u64::try_from(*number) {
+            Ok(number) => number == WIDE_VERSION,
+            Err(_) => false,
+        },
+        _ => false,
+    }
+}
+
+/// True if a document is of version 4.
+fn is_wide(top: &Table) -> bool
+    ensures { result ≡ is_wide (table_view top.now) }
+{
+    match value_named(top, Key::Version.text()) {
+        Some(value) => is_four(value),
+        None => false,
+    }
+}
+
+/// True if a table has a key.
+fn has_key(table: &Table, key: Key) -> bool
+    ensures { result ≡ is_some (value_at key (table_view table.now)) }
+{
+    value_named(table, key.text()).is_some()
+}
+
+/// True if a node's table has keys of a controller's segments.
+fn has_controller_keys(node: Option<&Table>) -> bool
+    ensures { result ≡ has_controller_keys (option_map (λ t. table_view t.now) node.entry) }
+{
+    match node {
+        Some(node) => has_key(node, Key::Tseg1) || has_key(node, Key::Tseg2),
+        None => false,
+    }
+}
+
+/// Returns by which words a fault of a document of version 4 is explained.
+fn wide_form(top: &Table, fault: &SetupFault) -> TextForm
+    ensures { result ≡ wide_form (table_view top.now) fault.now }
+{
+    match fault {
+        SetupFault::NodeSegments(i, _) => {
+            if has_controller_keys(table_at(top, TablePath::Node(*i))) {
+                TextForm::Controller
+            } else {
+                TextForm::Wide
+            }
+        }
+        _ => TextForm::Wide,
+    }
+}
+
+/// Returns by which words a fault of a document is explained.
+pub fn form_of(top: &Table, fault: &SetupFault) -> TextForm
+    ensures { result ≡ form_of (table_view top.now) fault.now }
+{
+    if is_wide(top) {
+        wide_form(top, fault)
+    } else {
+        TextForm::Narrow
+    }
+}
+
 /// Returns the text on a document that is refused by this fault, its first, in this table: two lines. The first one says what is wrong: what
 /// the fault is about, and what of that is refused. The second one says what to change. Refused out of memory alone.
 pub fn explain_fault(
@@ -404,7 +474,8 @@ pub fn explain_fault(
     ensures { IfOk result (λ text. string_bytes text ≡ refusal_words (table_view top.now) path fault.now) }
 {
     let about = subject(alloc, top, path, fault)?;
-    lines(alloc, about.as_str(), cause(fault), remedy(fault))
+    let form = form_of(top, fault);
+    lines(alloc, about.as_str(), cause_in(form, fault), remedy_in(form, fault))
 }
 
 fn is_newline(byte: u8) -> bool

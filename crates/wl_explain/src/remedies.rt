@@ -1,7 +1,7 @@
 //! What is wrong at each fault of a plan's text, and what to change: tables, which the definitions of `specs/Remedies.antt` read. The words of
 //! changes are those of the table of faults in `docs/use/commands.md`.
 ghost use Rattle.std.specs.Prelude.{◌≡◌, map};
-ghost use Rattle.wl_explain.specs.Remedies.{cause, clock_name, fault_name, frame_name, listed, plan_name, remedy, segments_name, topology_name};
+ghost use Rattle.wl_explain.specs.Remedies.{cause, cause_in, clock_name, fault_name, frame_name, listed, plan_name, remedy, remedy_in, segments_name, topology_name, wide_remedy};
 
 use wl_clock::ClockFault;
 use wl_frame::frame::FrameFault;
@@ -56,7 +56,7 @@ const CAUSES: [(&str, &str); 37] = [
 #[rattlefmt::skip]
 const CHANGES: [(&str, &str); 34] = [
     ("Toml", "Correct the TOML there."),
-    ("Version", "Set `version = 1`, `version = 2` for rates that change, or `version = 3` for frames that come again, listeners and disturbances at one node."),
+    ("Version", "Set `version = 1`, `version = 2` for rates that change, `version = 3` for frames that come again, listeners and disturbances at one node, or `version = 4` for controllers with `tseg1` and for greater limits."),
     ("SameName", "Give each node a name of its own."),
     ("Size", "Shorten the plan to 1,048,576 bytes."),
     ("Read", "Check that standard input is a file or a pipe that can be read."),
@@ -93,11 +93,13 @@ const CHANGES: [(&str, &str); 34] = [
 
 /// What to change if a key is missing, by the key.
 #[rattlefmt::skip]
-const MISSING: [(&str, &str); 4] = [
+const MISSING: [(&str, &str); 6] = [
     ("version", "Pass a plan on standard input, with `version = 1` at its top."),
     ("num", "Give it `quantum` and `ppm`, or `num` and `den`."),
     ("rates", "Give each node its rates, as `rates = [{ from = 0, num = 100, den = 1 }]`."),
     ("every", "Give `every` beside `count`: the quanta from one instance to the next."),
+    ("tseg1", "Give `tseg1` and `tseg2`, or `prop`, `ps1` and `ps2` in their place."),
+    ("tseg2", "Give `tseg1` and `tseg2`, or `prop`, `ps1` and `ps2` in their place."),
 ];
 
 /// What to change if another key is missing.
@@ -107,7 +109,7 @@ const MISSING_OTHER: &str =
 /// What to change if the value of a key is of another kind, by the key.
 #[rattlefmt::skip]
 const KIND: [(&str, &str); 19] = [
-    ("version", "Set `version = 1`, `version = 2` or `version = 3`."),
+    ("version", "Set `version = 1`, `version = 2`, `version = 3` or `version = 4`."),
     ("end", "Give `end` as a whole number of ticks, up to 281,474,976,710,655."),
     ("name", "Give `name` as 1 to 32 ASCII letters, digits, `_` or `-`."),
     ("x", "Give `x` as a whole number from 0 to 2,147,483,647; choose a smaller unit of length for parts of one."),
@@ -134,7 +136,7 @@ const KIND_OTHER: &str =
 
 /// What to change if a key has no place in its table, by the key.
 #[rattlefmt::skip]
-const UNKNOWN: [(&str, &str); 10] = [
+const UNKNOWN: [(&str, &str); 12] = [
     ("num", "Keep `quantum` and `ppm`, or `num` and `den`, but not both; in version 2 put them into a rate."),
     ("den", "Keep `quantum` and `ppm`, or `num` and `den`, but not both; in version 2 put them into a rate."),
     ("ppm", "Remove `ppm`, or give `quantum` in the place of `num` and `den`; in version 2 put them into a rate."),
@@ -145,10 +147,71 @@ const UNKNOWN: [(&str, &str); 10] = [
     ("listen", "Put the key into a node of a plan with `version = 3`, or remove it."),
     ("node", "Set `version = 3`, and give a disturbance `node` or `x`, but not both."),
     ("x", "Remove the key; a disturbance has `x` or `node`, but not both."),
+    ("tseg1", "Put the key into a node of a plan with `version = 4`, or remove it."),
+    ("tseg2", "Put the key into a node of a plan with `version = 4`, or remove it."),
 ];
 
 /// What to change if another key has no place in its table.
 const UNKNOWN_OTHER: &str = "Remove the key, or correct its spelling.";
+
+/// What is wrong by the limits of version 4, by the fault's name, if it is something else then.
+#[rattlefmt::skip]
+const WIDE_CAUSES: [(&str, &str); 6] = [
+    ("BigOffset", "offset is above 17,179,869,184 ticks"),
+    ("BadFrom", "a rate begins after quantum 1,073,741,824"),
+    ("TooManyNodes", "there are more than 64 nodes"),
+    ("End", "end is above 1,099,511,627,776 ticks"),
+    ("Queue", "more than 65,536 frames wait"),
+    ("Disturbance", "it ends before it begins, ends too late, is too far from a node, names no node, or is one of more than 256"),
+];
+
+/// What to change by these limits.
+#[rattlefmt::skip]
+const WIDE_CHANGES: [(&str, &str); 7] = [
+    ("BigOffset", "Give an offset of at most 17,179,869,184."),
+    ("BadFrom", "Leave out rates that begin later than quantum 1,073,741,824."),
+    ("TooManyNodes", "Keep at most 64 nodes."),
+    ("End", "Set `end` to at most 1,099,511,627,776."),
+    ("Quanta", "Lower `end` to at most `offset` + 1,073,741,824 quanta of that node in ticks (805,306,368 for `sync = \"book\"` with the sample at place 3)."),
+    ("Queue", "Keep at most 65,536 frames a node."),
+    ("Disturbance", "Give at most 256 disturbances, each with `from` below `to`, and near enough to each node or at a node of the plan."),
+];
+
+/// What to change in version 4 if a key has no place in its table, by the key, if it is something else then.
+#[rattlefmt::skip]
+const WIDE_UNKNOWN: [(&str, &str); 3] = [
+    ("prop", "Remove the key; a node has `tseg1` and `tseg2`, or `prop`, `ps1` and `ps2`, but not both."),
+    ("ps1", "Remove the key; a node has `tseg1` and `tseg2`, or `prop`, `ps1` and `ps2`, but not both."),
+    ("ps2", "Remove the key; a node has `tseg1` and `tseg2`, or `prop`, `ps1` and `ps2`, but not both."),
+];
+
+/// What is wrong with the segments of a controller, by the fault's name, if it is something else than with those that are set one by one.
+#[rattlefmt::skip]
+const CONTROLLER_CAUSES: [(&str, &str); 3] = [
+    ("Phase1", "tseg1 is out of its bounds"),
+    ("Phase2", "tseg2 is out of its bounds"),
+    ("Jump", "sjw is out of its bounds, above tseg1 - 1 or above tseg2"),
+];
+
+/// What to change of them.
+#[rattlefmt::skip]
+const CONTROLLER_CHANGES: [(&str, &str); 4] = [
+    ("Phase1", "Set `tseg1` from 2 to 256."),
+    ("Phase2", "Set `tseg2` from 2 to 128."),
+    ("Jump", "Set `sjw` from 1 to 128, at most `tseg1` - 1 and at most `tseg2`."),
+    ("Length", "Lengthen the segments to 8 to 385 quanta in all."),
+];
+
+/// By which words a fault of a plan's text is explained.
+#[derive(Clone, Copy, Debug, PartialEq, Eq)]
+pub enum TextForm {
+    /// Those of versions 1 to 3.
+    Narrow,
+    /// Those of version 4, with its limits.
+    Wide,
+    /// Those of version 4, on the segments of a controller.
+    Controller,
+}
 
 /// Returns the text at a name in a table; another text if the table hasn't the name.
 fn listed(
@@ -277,5 +340,49 @@ pub fn remedy(fault: &SetupFault) -> &'static str
         | SetupFault::Plan(_)
         | SetupFault::Read
         | SetupFault::Memory => listed(&CHANGES, fault_name(fault), ""),
+    }
+}
+
+/// Returns what is wrong at a fault, by the words of this form.
+pub fn cause_in(form: TextForm, fault: &SetupFault) -> &'static str
+    ensures { result.now ≡ cause_in form fault.now }
+{
+    match form {
+        TextForm::Narrow => cause(fault),
+        TextForm::Wide => listed(&WIDE_CAUSES, fault_name(fault), cause(fault)),
+        TextForm::Controller => listed(&CONTROLLER_CAUSES, fault_name(fault), cause(fault)),
+    }
+}
+
+/// Returns what to change at a fault by the limits of version 4.
+fn wide_remedy(fault: &SetupFault) -> &'static str
+    ensures { result.now ≡ wide_remedy fault.now }
+{
+    match fault {
+        SetupFault::Unknown(key) => listed(&WIDE_UNKNOWN, key.as_str(), remedy(fault)),
+        SetupFault::Missing(_)
+        | SetupFault::Kind(_)
+        | SetupFault::Toml
+        | SetupFault::Version
+        | SetupFault::SameName
+        | SetupFault::Size
+        | SetupFault::NodeClock(_, _)
+        | SetupFault::NodeSegments(_, _)
+        | SetupFault::NodeFrame(_, _, _)
+        | SetupFault::Topology(_)
+        | SetupFault::Plan(_)
+        | SetupFault::Read
+        | SetupFault::Memory => listed(&WIDE_CHANGES, fault_name(fault), remedy(fault)),
+    }
+}
+
+/// Returns what to change at a fault, by the words of this form.
+pub fn remedy_in(form: TextForm, fault: &SetupFault) -> &'static str
+    ensures { result.now ≡ remedy_in form fault.now }
+{
+    match form {
+        TextForm::Narrow => remedy(fault),
+        TextForm::Wide => wide_remedy(fault),
+        TextForm::Controller => listed(&CONTROLLER_CHANGES, fault_name(fault), remedy(fault)),
     }
 }

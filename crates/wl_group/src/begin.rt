@@ -3,6 +3,7 @@ ghost use Rattle.std.specs.Prelude.{◌≡◌, ◌<◌, ◌≤◌, ◌++◌, ℕ
 ghost use Rattle.wl_record_core.specs.declared.record.Record.{Record as Told};
 ghost use Rattle.wl_record_core.specs.declared.record.Record.TheVariants.{Silence};
 ghost use Rattle.wl_replica.specs.State.{state_of};
+ghost use Rattle.wl_topology.specs.Limits.{most_places};
 ghost use Rattle.wl_node.specs.Reached.{IsNode, keeps_lists, node_setup};
 ghost use Rattle.wl_plan.specs.Line.{reach};
 ghost use Rattle.wl_plan.specs.PlanLine.{line_of, IsTrueOfPlan};
@@ -27,7 +28,7 @@ pub(crate) type Chosen = [bool; MOST_NODES];
 
 /// Returns the numbers of a list.
 pub(crate) fn chosen_of(members: &[u8]) -> Chosen
-    requires { All (λ m. m < 16) members.now }
+    requires { All (λ m. m < most_places) members.now }
     ensures { (i : ℕ) → is_chosen result i ≡ names members.now i }
 {
     let mut chosen = [false; MOST_NODES];

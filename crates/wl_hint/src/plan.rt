@@ -10,7 +10,7 @@ use std::alloc::{AllocError, Global};
 use std::str;
 use toml::Table;
 use wl_clock::ClockFault;
-use wl_explain::{cause, remedy, subject as about};
+use wl_explain::{TextForm, cause, cause_in, form_of, remedy, remedy_in, subject as about};
 use wl_frame::frame::FrameFault;
 use wl_plan::PlanFault;
 use wl_segments::SegmentsFault;
@@ -32,12 +32,19 @@ fn clock_key(fault: ClockFault) -> &'static str {
 }
 
 /// Returns the key of segments that are refused.
-fn segments_key(fault: SegmentsFault) -> &'static str {
-    match fault {
-        SegmentsFault::Prop | SegmentsFault::Length => "prop",
-        SegmentsFault::Phase1 => "ps1",
-        SegmentsFault::Phase2 => "ps2",
-        SegmentsFault::Jump => "sjw",
+fn segments_key(form: TextForm, fault: SegmentsFault) -> &'static str {
+    match form {
+        TextForm::Controller => match fault {
+            SegmentsFault::Phase2 => "tseg2",
+            SegmentsFault::Jump => "sjw",
+            _ => "tseg1",
+        },
+        TextForm::Narrow | TextForm::Wide => match fault {
+            SegmentsFault::Prop | SegmentsFault::Length => "prop",
+            SegmentsFault::Phase1 => "ps1",
+            SegmentsFault::Phase2 => "ps2",
+            SegmentsFault::Jump => "sjw",
+        },
     }
 }
 
@@ -70,11 +77,13 @@ fn topology_subject(fault: TopologyFault) -> (TablePath, &'static str) {
 }
 
 /// Returns the table and the key that a fault of numbers is about.
-fn subject(fault: &SetupFault) -> Option<(TablePath, &'static str)> {
+fn subject(form: TextForm, fault: &SetupFault) -> Option<(TablePath, &'static str)> {
     match fault {
         SetupFault::Version => Some((TablePath::Top, "version")),
         SetupFault::NodeClock(i, fault) => Some((TablePath::Node(*i), clock_key(*fault))),
-        SetupFault::NodeSegments(i, fault) => Some((TablePath::Node(*i), segments_key(*fault))),
+        SetupFault::NodeSegments(i, fault) => {
+            Some((TablePath::Node(*i), segments_key(form, *fault)))
+        }
         SetupFault::NodeFrame(i, n, fault) => Some((TablePath::Frame(*i, *n), frame_key(*fault))),
         SetupFault::Topology(fault) => Some(topology_subject(*fault)),
         SetupFault::Plan(fault) => Some(plan_subject(*fault)),
@@ -97,21 +106,22 @@ fn first_path(alloc: Global, top: &Table) -> Result<Option<TablePath>, AllocErro
 fn path_in(
     alloc: Global,
     top: &Table,
+    form: TextForm,
     fault: &SetupFault,
 ) -> Result<Option<TablePath>, AllocError> {
-    match subject(fault) {
+    match subject(form, fault) {
         Some((path, _)) => Ok(Some(path)),
         None => first_path(alloc, top),
     }
 }
 
 /// Returns the key that a fault is about; none if the table lacks it.
-fn key_in(fault: &SetupFault) -> &str {
+fn key_in(form: TextForm, fault: &SetupFault) -> &str {
     match fault {
         SetupFault::Kind(key) => key.as_str(),
         SetupFault::Unknown(key) => key.as_str(),
         SetupFault::SameName => "name",
-        other => match subject(other) {
+        other => match subject(form, other) {
             Some((_, key)) => key,
             None => "",
         },
@@ -167,7 +177,8 @@ fn said_of(
 ) -> Result<Text, AllocError> {
     let about = about(alloc, top, path, fault)?;
     let remark = remark(alloc, top, path, fault)?;
-    let (cause, remedy) = (cause(fault), remedy(fault));
+    let form = form_of(top, fault);
+    let (cause, remedy) = (cause_in(form, fault), remedy_in(form, fault));
     let said = format!(in alloc; "{written}{about}: {cause}{remark}. {remedy}")?;
     Text::new(alloc, said.as_str())
 }
@@ -182,7 +193,8 @@ fn in_table(
 ) -> Result<Hint, AllocError>
     ensures { IfOk result (PointsInto (Some text.now)) }
 {
-    match place_of(text, path, key_in(fault).as_bytes()) {
+    let key = key_in(form_of(top, fault), fault);
+    match place_of(text, path, key.as_bytes()) {
         Some(at) => {
             let written = written(alloc, text, at)?;
             Ok(Hint {
@@ -206,7 +218,7 @@ fn in_document(
 ) -> Result<Hint, AllocError>
     ensures { IfOk result (PointsInto (Some text.now)) }
 {
-    match path_in(alloc, top, fault)? {
+    match path_in(alloc, top, form_of(top, fault), fault)? {
         Some(path) => in_table(alloc, text, top, path, fault),
         None => Ok(Hint {
             place: None,

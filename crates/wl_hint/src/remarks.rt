@@ -3,17 +3,19 @@ ghost use Rattle.std.specs.Prelude.{◌≡◌};
 
 use std::alloc::{AllocError, Global};
 use toml::{Table, Value};
-use wl_clock::Clock;
-use wl_plan::{MOST_QUANTA, MOST_SHORT_QUANTA, PlanFault};
+use wl_clock::{Clock, Rate};
+use wl_explain::{TextForm, form_of};
+use wl_limits::Limits;
+use wl_plan::PlanFault;
 use wl_segments::SegmentsFault;
 use wl_setup::{SetupFault, TablePath, Text, table_at, value_named};
 
 /// The keys that plans have.
 #[rattlefmt::skip]
-const KNOWN: [&str; 33] = [
+const KNOWN: [&str; 35] = [
     "version", "end", "per", "sync", "node", "disturbance", "name", "offset", "quantum", "ppm", "num", "den", "rates", "prop", "ps1",
     "ps2", "sjw", "x", "out", "in", "frame", "id", "dlc", "remote", "extended", "bytes", "ready", "from", "to",
-    "tolerance", "every", "count", "listen",
+    "tolerance", "every", "count", "listen", "tseg1", "tseg2",
 ];
 
 /// Returns the first key of a table that no table of a plan has, which may be a misspelt one.
@@ -31,18 +33,29 @@ fn number(table: &Table, key: &str) -> Option<i64> {
     value_named(table, key)?.as_integer()
 }
 
-/// Returns the clock of a node with one rate.
-fn clock_of(node: &Table) -> Option<Clock> {
+/// Returns the limits of a document: the wide ones in version 4.
+fn limits_of(top: &Table) -> Limits {
+    if number(top, "version") == Some(4) {
+        Limits::Wide
+    } else {
+        Limits::Narrow
+    }
+}
+
+/// Returns the clock of a node with one rate, by these limits.
+fn clock_of(node: &Table, limits: Limits) -> Option<Clock> {
     let offset = u64::try_from(number(node, "offset")?).ok()?;
     match number(node, "quantum") {
         Some(quantum) => {
             let quantum = u64::try_from(quantum).ok()?;
-            Clock::from_ppm(offset, quantum, number(node, "ppm")?).ok()
+            let rate = Rate::from_ppm(0, quantum, number(node, "ppm")?).ok()?;
+            Clock::within(limits, offset, &[rate]).ok()
         }
         None => {
             let num = u64::try_from(number(node, "num")?).ok()?;
             let den = u64::try_from(number(node, "den")?).ok()?;
-            Clock::new(offset, num, den).ok()
+            let num = num as u128;
+            Clock::within(limits, offset, &[Rate { from: 0, num, den }]).ok()
         }
     }
 }
@@ -54,18 +67,20 @@ fn is_short(top: &Table, node: &Table) -> bool {
         None | Some("after") => false,
         Some(_) => true,
     };
-    follows && number(node, "prop") == Some(1) && number(node, "ps1") == Some(1)
+    let each = number(node, "prop") == Some(1) && number(node, "ps1") == Some(1);
+    follows && (each || number(node, "tseg1") == Some(2))
 }
 
 /// Returns the greatest end that the clock of node `i` allows, if it has one rate.
 fn latest_end(top: &Table, i: u64) -> Option<u64> {
     let node = table_at(top, TablePath::Node(i))?;
+    let limits = limits_of(top);
     let most = if is_short(top, node) {
-        MOST_SHORT_QUANTA
+        limits.short_quanta_limit()
     } else {
-        MOST_QUANTA
+        limits.quanta_limit()
     };
-    Some(clock_of(node)?.at(most))
+    Some(clock_of(node, limits)?.at(most))
 }
 
 /// Returns from which version on a key of a table may be in the place of a missing one; nothing if it has no such key.
@@ -75,6 +90,9 @@ fn later_form(table: &Table, missing: &str) -> &'static str {
             " (`rates` is a key from `version = 2` on)"
         }
         "x" if value_named(table, "node").is_some() => " (`node` is a key of `version = 3`)",
+        "prop" if value_named(table, "tseg1").is_some() => {
+            " (`tseg1` is a key of `version = 4`)"
+        }
         _ => "",
     }
 }
@@ -110,7 +128,9 @@ fn unit_of(key: &str, path: TablePath) -> &'static str {
     match (key, path) {
         ("from", TablePath::Rate(_, _)) => " (it is in quanta)",
         ("end" | "offset" | "quantum" | "out" | "in" | "from" | "to", _) => " (it is in ticks)",
-        ("ready" | "every" | "prop" | "ps1" | "ps2" | "sjw", _) => " (it is in quanta)",
+        ("ready" | "every" | "prop" | "ps1" | "ps2" | "tseg1" | "tseg2" | "sjw", _) => {
+            " (it is in quanta)"
+        }
         ("per", _) => " (it is in ticks a unit of length)",
         ("x", _) => " (it is in units of length)",
         _ => "",
@@ -139,6 +159,8 @@ fn home_of(key: &str, path: TablePath) -> &'static str {
         | "prop"
         | "ps1"
         | "ps2"
+        | "tseg1"
+        | "tseg2"
         | "sjw"
         | "x"
         | "out"
@@ -178,9 +200,12 @@ fn of_segment(table: Option<&Table>, key: &str, least: i64) -> &'static str {
 }
 
 /// Returns what is remarked of segments.
-fn of_segments(table: Option<&Table>, fault: SegmentsFault) -> &'static str {
+fn of_segments(table: Option<&Table>, form: TextForm, fault: SegmentsFault) -> &'static str {
+    let is_controller = form == TextForm::Controller;
     match fault {
         SegmentsFault::Prop => of_segment(table, "prop", 1),
+        SegmentsFault::Phase1 if is_controller => of_segment(table, "tseg1", 2),
+        SegmentsFault::Phase2 if is_controller => of_segment(table, "tseg2", 2),
         SegmentsFault::Phase1 => of_segment(table, "ps1", 1),
         SegmentsFault::Phase2 => of_segment(table, "ps2", 2),
         SegmentsFault::Length => " (with a shorter quantum there are more)",
@@ -201,8 +226,8 @@ pub(crate) fn remark(
         SetupFault::Plan(PlanFault::Quanta(i)) => of_quanta(alloc, top, *i),
         SetupFault::Kind(key) => String::from_str(alloc, unit_of(key.as_str(), path)),
         SetupFault::Unknown(key) => String::from_str(alloc, home_of(key.as_str(), path)),
-        SetupFault::NodeSegments(_, fault) => {
-            String::from_str(alloc, of_segments(table, *fault))
+        SetupFault::NodeSegments(_, segments) => {
+            String::from_str(alloc, of_segments(table, form_of(top, fault), *segments))
         }
         _ => Ok(String::new(alloc)),
     }

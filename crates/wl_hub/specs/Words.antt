@@ -10,7 +10,7 @@ use Rattle.wl_record_core.specs.declared.record.Record.TheVariants.{Edge, Clash,
 use Rattle.wl_record_core.specs.declared.record.Slot.{Slot}
 use Rattle.wl_record_core.specs.declared.record.Slot.TheVariants.{EdgeAt, SilenceAt}
 use Rattle.wl_record_core.specs.Slots.{slot_of}
-use Rattle.wl_record_core.specs.Within.{IsWithin}
+use Rattle.wl_record_core.specs.Within.{IsWide}
 use Rattle.wl_hub.specs.Places.{place, beyond}
 use Rattle.wl_lattice.specs.declared.numbers.TheConstants.{CLASH}
 use Rattle.wl_lattice.specs.Numbers.{word_number, joined_numbers}
@@ -86,7 +86,7 @@ HasWord shape (SilenceAt n c) = c < slice_index (silence_widths shape) n
 
 -- the record's slot has a word, and the record is within
 abbrev pub IsInShape : List (ℕ × ℕ) → Record → Type 0
-IsInShape shape r = HasWord shape (slot_of r) × IsWithin r
+IsInShape shape r = HasWord shape (slot_of r) × IsWide r
 
 -- where the word of a slot stands when all words are listed: edge words node by node, then silence words
 abbrev pub answer_place : List (ℕ × ℕ) → Slot → Option ℕ

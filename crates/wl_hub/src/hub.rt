@@ -113,11 +113,11 @@ impl<T: Truth> Hub<T> {
         }
     }
 
-    /// True if the record's slot has a word and the record is within its limits.
+    /// True if the record's slot has a word and the record is within the wide limits.
     pub fn in_shape(&self, told: Record) -> bool
         ensures { IsTrue result ↔ IsInShape (shape_of self.now) told }
     {
-        self.has_word(told.slot()) && told.within()
+        self.has_word(told.slot()) && told.is_wide()
     }
 
     fn edge_index(&self, node: u8, seq: u32) -> usize

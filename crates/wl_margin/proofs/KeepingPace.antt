@@ -6,7 +6,8 @@ use Rattle.wl_level.proofs.Callers.{first_none}
 use Rattle.wl_clock.specs.declared.ClockFault.{ClockFault}
 use Rattle.wl_clock.specs.declared.Rate.{Rate}
 use Rattle.wl_clock.specs.Same.{timing_decides}
-use Rattle.wl_clock.specs.Timing.{Timing, timing_of_rates}
+use Rattle.wl_clock.specs.Timing.{Timing, timing_within}
+use Rattle.wl_limits.specs.declared.Limits.TheVariants.{Wide}
 use Rattle.wl_topology.specs.Driven.{any_below}
 use Rattle.wl_topology.proofs.Callers.{any_from, any_one}
 use Rattle.wl_plan.specs.declared.plan.Plan.{Plan}
@@ -19,10 +20,10 @@ use Rattle.wl_bound.proofs.Clocks.{rates_are}
 use Rattle.wl_margin.specs.Paces.{breaks_pace, first_stray, has_rate, is_timing, is_turning, is_tolerated, keep_pace, keeps_pace, keeps_rate, rates_at, stray_by, told_stretch, is_astray, told_quanta, told_rate}
 
 -- a clock that was compared with one rate has it
-has_one : (t : Timing) (x : Rate) → is_timing t (timing_of_rates t.offset (x ∷ [])) ≡ true → t.rates ≡ x ∷ []
-has_one t x h = compared (timing_of_rates t.offset (x ∷ [])) refl h where
-  compared : (r : Result Timing ClockFault) → timing_of_rates t.offset (x ∷ []) ≡ r → is_timing t r ≡ true → t.rates ≡ x ∷ []
-  compared (Ok u) e s = (let same : t ≡ u = (timing_decides t u).0 s in ap (λ (v : Timing). v.rates) same ∙ rates_are t.offset (x ∷ []) u e)
+has_one : (t : Timing) (x : Rate) → is_timing t (timing_within Wide t.offset (x ∷ [])) ≡ true → t.rates ≡ x ∷ []
+has_one t x h = compared (timing_within Wide t.offset (x ∷ [])) refl h where
+  compared : (r : Result Timing ClockFault) → timing_within Wide t.offset (x ∷ []) ≡ r → is_timing t r ≡ true → t.rates ≡ x ∷ []
+  compared (Ok u) e s = (let same : t ≡ u = (timing_decides t u).0 s in ap (λ (v : Timing). v.rates) same ∙ rates_are Wide t.offset (x ∷ []) u e)
   compared (Err fault) e s = cc
 
 shortest_is : (f : Buses) (i : ℕ) → shortest_in f plain i ≡ shortest_of (member_at f i).oscillator 0
@@ -39,7 +40,7 @@ within_keeps f i x h = rw (longest_is f i, shortest_is f i) h
 
 has_kept : (f : Buses) (i : ℕ) (t : Timing) (x : Rate) → has_rate (member_at f i).oscillator t x ≡ true → keeps_pace f i t.rates ≡ true
 has_kept f i t x h =
-    let both = and_parts (is_timing t (timing_of_rates t.offset (x ∷ []))) (is_tolerated (member_at f i).oscillator x) h in
+    let both = and_parts (is_timing t (timing_within Wide t.offset (x ∷ []))) (is_tolerated (member_at f i).oscillator x) h in
     rw (has_one t x both.0) (within_keeps f i x both.1)
 
 kept : (b : Bool) {T : Type 0} (x : T) → is_some (cond b None (Some x)) ≡ false → b ≡ true

@@ -5,8 +5,10 @@ use Rattle.wl_level.specs.Places.{first_place}
 use Rattle.wl_clock.specs.declared.ClockFault.{ClockFault}
 use Rattle.wl_clock.specs.declared.Rate.{Rate}
 use Rattle.wl_clock.specs.Same.{same_timing}
-use Rattle.wl_clock.specs.Timing.{Timing, tick_of, timing_of_rates}
+use Rattle.wl_clock.specs.Timing.{Timing, tick_of, timing_within}
+use Rattle.wl_limits.specs.declared.Limits.TheVariants.{Wide}
 use Rattle.wl_topology.specs.Driven.{any_below}
+use Rattle.wl_node.specs.Limits.{most_run_quanta}
 use Rattle.wl_plan.specs.declared.plan.Plan.{Plan}
 use Rattle.wl_plan.specs.PlanLine.{setup_at}
 use Rattle.wl_setup.specs.declared.bus.Deviation.{Deviation}
@@ -35,12 +37,9 @@ rates_at deviations i = (slice_index_or deviations i (record { rates = []; toler
 abbrev pub is_turning : List Deviation → ℕ → Bool
 is_turning deviations i = not (length (rates_at deviations i) == 1)
 
--- the ticks of n quanta from quantum k on; no plan has a rate that begins later than half of this quantum
-abbrev pub last_quantum : ℕ
-last_quantum = 2097152
-
+-- the ticks of n quanta from quantum k on; no plan has a rate that begins later than half of the last quantum that a clock knows
 abbrev pub ticks_of_quanta : Timing → ℕ → ℕ → ℕ
-ticks_of_quanta t k n = tick_of t (min (k + n) last_quantum) - tick_of t (min k last_quantum)
+ticks_of_quanta t k n = tick_of t (min (k + n) most_run_quanta) - tick_of t (min k most_run_quanta)
 
 -- as many quanta as a tick has millionths: their ticks are the millionths of a tick that one quantum takes
 abbrev pub told_quanta : ℕ
@@ -60,7 +59,7 @@ is_timing t (Err fault) = false
 
 -- a clock has this one rate, and that is within the tolerance
 abbrev pub has_rate : Pace → Timing → Rate → Bool
-has_rate p t r = is_timing t (timing_of_rates t.offset (r ∷ [])) && is_tolerated p r
+has_rate p t r = is_timing t (timing_within Wide t.offset (r ∷ [])) && is_tolerated p r
 
 -- A clock whose oscillator has one rate keeps to it: it has that rate, or the one that its ticks tell, within the tolerance.
 abbrev pub keeps_rate : Pace → Rate → Timing → Bool

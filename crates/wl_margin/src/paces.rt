@@ -7,6 +7,8 @@ ghost use Rattle.wl_margin.specs.Paces.{PaceLaw, first_stray, has_rate, is_turni
 
 use wl_bound::{Family, Oscillator};
 use wl_clock::{Clock, Rate};
+use wl_limits::Limits;
+use wl_node::MOST_RUN_QUANTA;
 use wl_plan::CheckedPlan;
 use wl_setup::Deviation;
 
@@ -14,9 +16,6 @@ const MILLION: u128 = 1_000_000;
 
 /// A tick has this many millionths. The ticks of this number of quanta are the millionths of a tick that one quantum takes.
 const TOLD_QUANTA: u64 = 1_000_000;
-
-/// No plan has a rate that begins later than half of this quantum.
-const LAST_QUANTUM: u64 = 2_097_152;
 
 /// Quanta of a clock that take too few ticks or too many.
 #[derive(Clone, Copy, Debug, PartialEq, Eq)]
@@ -35,10 +34,10 @@ pub fn clocks_keep_pace()
 /// Returns the ticks of `n` quanta from quantum `k` on.
 fn ticks_of_quanta(clock: &Clock, k: u64, n: u64) -> u64
     ensures value { result ≡ ticks_of_quanta clock.now k n }
-    ensures most { result < 2 ^ 48 }
+    ensures most { result < 2 ^ 52 }
 {
-    let last = clock.at(k.saturating_add(n).min(LAST_QUANTUM));
-    last.saturating_sub(clock.at(k.min(LAST_QUANTUM)))
+    let last = clock.at(k.saturating_add(n).min(MOST_RUN_QUANTA));
+    last.saturating_sub(clock.at(k.min(MOST_RUN_QUANTA)))
 }
 
 /// Returns the one rate of a clock, as far as its ticks tell it.
@@ -67,7 +66,7 @@ fn has_rate(oscillator: &Oscillator, clock: &Clock, rate: Rate) -> bool
     ensures { result ≡ has_rate oscillator.now clock.now rate }
 {
     wl_clock::ticks_increase();
-    match Clock::with_rates(clock.at(0), &[rate]) {
+    match Clock::within(Limits::Wide, clock.at(0), &[rate]) {
         Ok(other) => {
             // its rates are rates
             let _start = other.at(0);

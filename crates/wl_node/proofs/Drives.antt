@@ -114,8 +114,8 @@ module _ (ways : SampleLaws) (setup : NodeSetup) where
   floor levels l =
       let f = floor_few (history_of setup levels) (way_at setup (history_of setup levels)) (same (history_of setup levels).drive (pending_of (history_of setup levels))) refl in
       let m = most_quiet-is in
-      let a = l.prop_high in
-      let b = l.ps1_high in
+      let a = l.high in
+      let b = l.ps2_low in
       let g = longer_least (floor_at setup (history_of setup levels)) (silence_of (is_waiting setup (history_of setup levels)) (stretch_of (history_of setup levels).inputs)) (least_way setup.segments) in
       omega arith
 

@@ -5,7 +5,8 @@ use Rattle.std.proofs.lemmas.List.{length-replicate}
 use Rattle.wl_level.specs.declared.Level.{Level}
 use Rattle.wl_level.proofs.Callers.{snoc}
 use Rattle.wl_sync.specs.declared.Beat.{Beat}
-use Rattle.wl_sync.specs.Bits.{Seen, sync_of}
+use Rattle.wl_sync.specs.declared.Seen.{Seen}
+use Rattle.wl_sync.specs.Bits.{sync_of}
 use Rattle.wl_sync.specs.Running.{clock_after}
 use Rattle.wl_sync.specs.Skips.{IsSampledAfter}
 use Rattle.wl_node.specs.declared.setup.NodeSetup.{NodeSetup}

@@ -9,7 +9,7 @@ use Rattle.wl_level.proofs.Callers.{recessive_from}
 use Rattle.wl_sync.specs.declared.Beat.{Beat}
 use Rattle.wl_sync.specs.declared.Beat.TheVariants.{Plain, Sample, Start}
 use Rattle.wl_segments.specs.Lengths.{bit_quanta}
-use Rattle.wl_sync.specs.Edges.{Seen}
+use Rattle.wl_sync.specs.declared.Seen.{Seen}
 use Rattle.wl_sync.specs.SampleLaws.{RecessiveLaws, SampleLaws, recessive_rest, recessive_way}
 use Rattle.wl_confine.specs.declared.Mode.{Mode}
 use Rattle.wl_confine.specs.Counts.{counts_of, mode_of}
@@ -110,7 +110,7 @@ module _ (rests : RestLaws) (silences : SilenceLaws) (ways : SampleLaws) (bits :
       -- as long as there is no sample
       left_on : (b : Beat) → rest_in (next b) ≡ Some rest → (next b).seen ≡ h.seen ++ now ∷ [] → Lasts (next b) k
       left_on b e f =
-          let near = bits.near setup.segments h.seen now.idle now.awaits now.driving in
+          let near = bits.near setup.segments h.seen now.idle now.awaits now.integrates now.driving in
           inl (subst (λ o. k ≤ rest_stay o setup (next b)) (sym e)
           (subst (λ seen. k ≤ recessive_way setup.segments seen + rest * bit_quanta setup.segments + behind_sample) (sym f) (omega (arith, few, near))))
 
@@ -118,12 +118,12 @@ module _ (rests : RestLaws) (silences : SilenceLaws) (ways : SampleLaws) (bits :
       left_sample v r same e = by r same
         where
           here : suc k ≤ 1 + rest * bit_quanta setup.segments + behind_sample
-          here = subst (λ n. suc k ≤ n + rest * bit_quanta setup.segments + behind_sample) (bits.last setup.segments h.seen now.idle now.awaits now.driving v e) few
+          here = subst (λ n. suc k ≤ n + rest * bit_quanta setup.segments + behind_sample) (bits.last setup.segments h.seen now.idle now.awaits now.integrates now.driving v e) few
 
           by : (r : ℕ) → r ≡ rest → Lasts (next (Sample v)) k
           by zero f =
               let g : suc k ≤ 1 + zero * bit_quanta setup.segments + behind_sample = subst (λ m. suc k ≤ 1 + m * bit_quanta setup.segments + behind_sample) (sym f) here in
-              let low = bits.behind setup.segments h.seen now.idle now.awaits now.driving v e in
+              let low = bits.behind setup.segments h.seen now.idle now.awaits now.integrates now.driving v e in
               inr (omega arith)
           by (suc n) f =
               let g : suc k ≤ 1 + suc n * bit_quanta setup.segments + behind_sample = subst (λ m. suc k ≤ 1 + m * bit_quanta setup.segments + behind_sample) (sym f) here in
@@ -131,7 +131,7 @@ module _ (rests : RestLaws) (silences : SilenceLaws) (ways : SampleLaws) (bits :
               inl (enough (rest_in (next (Sample v))) n k (next (Sample v))
               (rest_behind h n (rests.left (stretch_of h.inputs) (sampled_next setup h Recessive) n refl rested) v)
               (one_bit (bit_quanta setup.segments) behind_sample n (recessive_way setup.segments (next (Sample v)).seen) k g
-              (bits.next setup.segments h.seen now.idle now.awaits now.driving v e)))
+              (bits.next setup.segments h.seen now.idle now.awaits now.integrates now.driving v e)))
 
       left_by : (b : Beat) → beat_next setup h Recessive ≡ b → Lasts (next b) k
       left_by Start e = left_on Start is refl
@@ -153,8 +153,8 @@ module _ (rests : RestLaws) (silences : SilenceLaws) (ways : SampleLaws) (bits :
     goes_bit : h.drive ≡ Recessive → suc k ≤ recessive_rest setup.segments h.seen → Goes (next (beat_next setup h Recessive))
     goes_bit d less =
         let some : 0 < recessive_rest setup.segments h.seen = omega arith in
-        let on = bits.rest setup.segments h.seen now.idle now.awaits now.driving some in
-        subst (λ b. Goes (next b)) (sym (bits.plain setup.segments h.seen now.idle now.awaits now.driving some)) (record {
+        let on = bits.rest setup.segments h.seen now.idle now.awaits now.integrates now.driving some in
+        subst (λ b. Goes (next b)) (sym (bits.plain setup.segments h.seen now.idle now.awaits now.integrates now.driving some)) (record {
           drive = d;
           left = inr (omega arith);
         })

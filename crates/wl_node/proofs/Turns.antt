@@ -5,10 +5,11 @@ use Rattle.wl_level.specs.declared.Level.{Level}
 use Rattle.wl_level.specs.Levels.{is_dominant}
 use Rattle.wl_sync.specs.declared.Beat.{Beat}
 use Rattle.wl_sync.specs.declared.Beat.TheVariants.{Plain, Sample, Start}
-use Rattle.wl_sync.specs.Bits.{Seen, beat_of}
+use Rattle.wl_sync.specs.declared.Seen.{Seen}
+use Rattle.wl_sync.specs.Bits.{beat_of}
 use Rattle.wl_machine.specs.Judged.{awaits_start, stretch_of, is_idle_sort}
 use Rattle.wl_node.specs.declared.setup.NodeSetup.{NodeSetup}
-use Rattle.wl_node.specs.History.{History, history_of, history_after, no_history, seen_next, by_beat}
+use Rattle.wl_node.specs.History.{History, history_of, history_after, is_integration, no_history, seen_next, by_beat}
 
 pub history_first : (setup : NodeSetup) → history_of setup [] ≡ no_history
 unfolding history_of
@@ -19,10 +20,11 @@ unfolding history_of
 history_next setup levels level = fold-append (history_after setup) no_history levels (level ∷ [])
 
 -- what the bit clock is given is what it sees
-pub seen_is : (h : History) (level drive : Level) (idle awaits driving : Bool) → idle ≡ is_idle_sort (stretch_of h.inputs).sort
-    → awaits ≡ awaits_start (stretch_of h.inputs) → driving ≡ is_dominant drive → drive ≡ h.drive
-    → ◌≡◌ {A = Seen} (record { level = level; idle = idle; awaits = awaits; driving = driving }) (seen_next h level)
-seen_is h level drive idle awaits driving e f g d i = record { level = level; idle = e i; awaits = f i; driving = (g ∙ ap is_dominant d) i }
+pub seen_is : (h : History) (level drive : Level) (idle awaits integrates driving : Bool) → idle ≡ is_idle_sort (stretch_of h.inputs).sort
+    → awaits ≡ awaits_start (stretch_of h.inputs) → integrates ≡ is_integration (stretch_of h.inputs).sort → driving ≡ is_dominant drive → drive ≡ h.drive
+    → ◌≡◌ {A = Seen} (record { level = level; idle = idle; awaits = awaits; integrates = integrates; driving = driving }) (seen_next h level)
+seen_is h level drive idle awaits integrates driving e f n g d i =
+    record { level = level; idle = e i; awaits = f i; integrates = n i; driving = (g ∙ ap is_dominant d) i }
 
 -- the drive after one more level, by the beat
 pub drive_is : (setup : NodeSetup) (levels : List Level) (level : Level) (beat : Beat)

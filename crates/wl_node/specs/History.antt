@@ -10,13 +10,15 @@ use Rattle.wl_sync.specs.declared.Sync.{Sync}
 use Rattle.wl_sync.specs.declared.Sync.TheVariants.{Hard, Error}
 use Rattle.wl_sync.specs.declared.Beat.{Beat}
 use Rattle.wl_sync.specs.declared.Beat.TheVariants as beats
-use Rattle.wl_sync.specs.Bits.{Seen, beat_of, sync_of}
+use Rattle.wl_sync.specs.declared.Seen.{Seen}
+use Rattle.wl_sync.specs.Bits.{beat_of, sync_of}
 use Rattle.wl_confine.specs.declared.Mode.{Mode}
 use Rattle.wl_confine.specs.declared.Mode.TheVariants.{Active, Passive, Off}
 use Rattle.wl_confine.specs.declared.Happened.{Happened}
 use Rattle.wl_confine.specs.Counts.{Counts, counts_of, mode_of, is_error}
 use Rattle.wl_frame.specs.Grammar.{Content}
-use Rattle.wl_machine.specs.Stretch.{Sampled, Input, Ended, Judgement}
+use Rattle.wl_machine.specs.Stretch.{Sort, Sampled, Input, Ended, Judgement}
+use Rattle.wl_machine.specs.Stretch.Sort.{Integration}
 use Rattle.wl_machine.specs.Stretch.Input.{Sample, SwitchedOff}
 use Rattle.wl_machine.specs.Stretch.Ended.{NoFrame, Sent, Received}
 use Rattle.wl_machine.specs.Judged.{awaits_start, judged, stretch_of, drive_of, is_idle_sort}
@@ -70,12 +72,18 @@ switched_off Active Off = SwitchedOff ∷ []
 switched_off Passive Off = SwitchedOff ∷ []
 switched_off old new = []
 
+-- the node integrates: it takes no part in the traffic until it has sampled eleven recessive bits in a row (ISO 11898-1, bus integration)
+abbrev pub is_integration : Sort → Bool
+is_integration Integration = true
+is_integration sort = false
+
 -- what the bit clock sees at the next quantum
 abbrev pub seen_next : History → Level → Seen
 seen_next h level = record {
   level = level;
   idle = is_idle_sort (stretch_of h.inputs).sort;
   awaits = awaits_start (stretch_of h.inputs);
+  integrates = is_integration (stretch_of h.inputs).sort;
   driving = is_dominant h.drive;
 }
 

@@ -1,7 +1,7 @@
 -- Bits of a recessive line on a free bus, in which no frame is ready: each is sampled, and nothing else comes of it.
 use Rattle.std.specs.Prelude.{◌≡◌, ℕ, ◌+◌, true, List, [], ◌∷◌, ◌++◌, length, None}
 use Rattle.wl_level.specs.declared.Level.TheVariants.{Recessive}
-use Rattle.wl_sync.specs.Edges.{Seen}
+use Rattle.wl_sync.specs.declared.Seen.{Seen}
 use Rattle.wl_sync.specs.Running.{Follows}
 use Rattle.wl_sync.specs.Skips.{IsRestingBit}
 use Rattle.wl_confine.specs.declared.Mode.{Mode}

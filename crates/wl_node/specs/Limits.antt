@@ -1,10 +1,8 @@
 -- The limits of a node (this project's profile), each that of the constant of its name.
 use Rattle.std.specs.Prelude.{◌≡◌, ℕ, refl}
-use Rattle.wl_node.specs.declared.limits.TheConstants.{MOST_QUIET, MOST_RUN_QUANTA}
-
+use Rattle.wl_node.specs.declared.limits.TheConstants.{MOST_QUIET}
 -- the most quanta that a node runs
-abbrev pub most_run_quanta : ℕ
-most_run_quanta = MOST_RUN_QUANTA
+pub use Rattle.wl_limits.specs.Limits.{most_run_quanta}
 
 -- the most quanta for which a node is said to keep its drive
 unfoldable pub most_quiet : ℕ

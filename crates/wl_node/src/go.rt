@@ -157,8 +157,8 @@ impl Node {
         }
     }
 
-    /// Skips bits of this many quanta each, at most `most` quanta in all.
-    fn rest_bits(&mut self, quanta: u8, most: u64) -> u64
+    /// Skips bits of this many quanta each, at most `most` quanta in all, and no more bits than a run of samples takes.
+    fn rest_bits(&mut self, quanta: u16, most: u64) -> u64
         requires rests { AlwaysRests self.old.progress quanta }
         requires some { 0 < quanta }
         requires short { quanta_of self.old + most ≤ most_run_quanta }
@@ -168,7 +168,7 @@ impl Node {
     {
         let ready = self.progress.ready_from(&self.setup);
         let left = ready.saturating_sub(self.progress.quanta).min(most);
-        let bits = (left / quanta as u64).min(u16::MAX as u64) as u16;
+        let bits = (left / quanta as u64).min(u8::MAX as u64) as u8;
         if bits == 0 || !self.progress.has_room() {
             return 0;
         }
@@ -177,7 +177,7 @@ impl Node {
     }
 
     /// Skips this many such bits. None of them reaches the quantum at which a frame is ready.
-    fn rest_run(&mut self, quanta: u8, bits: u16)
+    fn rest_run(&mut self, quanta: u16, bits: u8)
         requires rests { AlwaysRests self.old.progress quanta }
         requires some { 0 < quanta }
         requires none { (quantum : ℕ) → quantum < self.old.progress.quanta + bits * quanta

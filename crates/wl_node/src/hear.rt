@@ -34,7 +34,7 @@ impl NodeProgress {
         match self.clock.until_sample(level) {
             Some(before) if (before as u64) < most => self.hear_sample(setup, level, before),
             Some(_) => {
-                self.skip(level, most as u8);
+                self.skip(level, most as u16);
                 most
             }
             None => 0,
@@ -43,7 +43,7 @@ impl NodeProgress {
 
     /// Runs this many quanta and the sample after them. Returns how many ran.
     #[inline(always)]
-    fn hear_sample(&mut self, setup: &NodeSetup, level: Level, before: u8) -> u64
+    fn hear_sample(&mut self, setup: &NodeSetup, level: Level, before: u16) -> u64
         requires ahead { IsSampleAhead self.old.clock level }
         requires before { before ≡ quanta_before_sample self.old.clock }
         requires settled { same self.old.drive self.old.traffic.pending ≡ true }

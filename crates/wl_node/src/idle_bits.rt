@@ -14,7 +14,7 @@ use wl_level::Level;
 impl NodeProgress {
     /// Returns the quanta of a bit, if that number of recessive ones leaves all but the samples as it is, as long as no frame is ready. So
     /// it is on a free bus, right after the sample of a bit that nothing moved.
-    pub fn rests(&self) -> Option<u8>
+    pub fn rests(&self) -> Option<u16>
         ensures rests { (n : ℕ) → result ≡ Some n → AlwaysRests self.now n }
         ensures some { (n : ℕ) → result ≡ Some n → 0 < n }
     {
@@ -25,7 +25,7 @@ impl NodeProgress {
     }
 
     /// Runs this many such bits at once. In none of them a frame is ready, and there is room for a run of samples.
-    pub fn rest_bits(&mut self, setup: &NodeSetup, quanta: u8, bits: u16)
+    pub fn rest_bits(&mut self, setup: &NodeSetup, quanta: u16, bits: u8)
         requires rests { AlwaysRests self.old quanta }
         requires some { 0 < quanta }
         requires none { (quantum : ℕ) → quantum < self.old.quanta + bits * quanta

@@ -82,11 +82,8 @@ impl NodeProgress {
         ensures keeps { self.new.traffic.samples.keeps ≡ self.old.traffic.samples.keeps }
     {
         let was = self.clock;
-        let idle = self.traffic.machine.idle();
-        let awaits = self.traffic.machine.awaits_start();
-        let (beat, sync) = self
-            .clock
-            .step(level, idle, awaits, self.drive.is_dominant());
+        let seen = self.sees(level);
+        let (beat, sync) = self.clock.see(seen);
         match beat {
             Beat::Sample(_) => {
                 self.clock = was;
@@ -122,7 +119,7 @@ impl NodeProgress {
         match self.clock.until_sample(level) {
             Some(before) if (before as u64) < most => self.keep_and_pass(level, before, most),
             Some(_) if !self.traffic.pending.is_dominant() => {
-                self.skip(level, most as u8);
+                self.skip(level, most as u16);
                 most
             }
             _ => 0,
@@ -132,7 +129,7 @@ impl NodeProgress {
     /// Runs the `before` quanta that come before the next sample, that sample, and what follows, as long as the machine only keeps the
     /// samples: at most `most` quanta. It runs none if the machine doesn't keep the first sample. Returns how many.
     #[inline(always)]
-    fn keep_and_pass(&mut self, level: Level, before: u8, most: u64) -> u64
+    fn keep_and_pass(&mut self, level: Level, before: u16, most: u64) -> u64
         requires ahead { IsSampleAhead self.old.clock level }
         requires before { before ≡ quanta_before_sample self.old.clock }
         requires recessive { self.old.drive ≡ Level.Recessive }
@@ -158,7 +155,7 @@ impl NodeProgress {
 
     /// Does the same up to and including the last of these samples.
     #[inline(always)]
-    fn keep_bits(&mut self, level: Level, before: u8, most: u64) -> u64
+    fn keep_bits(&mut self, level: Level, before: u16, most: u64) -> u64
         requires ahead { IsSampleAhead self.old.clock level }
         requires before { before ≡ quanta_before_sample self.old.clock }
         requires recessive { self.old.drive ≡ Level.Recessive }
@@ -212,7 +209,7 @@ impl NodeProgress {
         {
             return 0;
         }
-        self.skip(level, rest as u8);
+        self.skip(level, rest as u16);
         rest
     }
 }

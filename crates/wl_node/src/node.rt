@@ -35,7 +35,7 @@ pub struct NodeLists {
     /// The frames that it sent and received, in the order in which they were completed.
     pub frames: Listed<Passed>,
     /// Returns the resynchronising edges: quantum and phase error, in quanta, error 0 too.
-    pub phases: Listed<(u64, i8)>,
+    pub phases: Listed<(u64, i16)>,
 }
 
 impl Node {
@@ -216,7 +216,7 @@ impl Node {
     }
 
     /// Returns the resynchronising edges: quantum and phase error, in quanta, error 0 too. A counting node gives none.
-    pub fn phases(&self) -> &[(u64, i8)]
+    pub fn phases(&self) -> &[(u64, i16)]
         ensures { keeps_lists self.now ≡ true → Shows self.now (λ h. result.now ≡ phases_of h) }
     {
         &self.progress.syncs.phases

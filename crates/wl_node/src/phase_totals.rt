@@ -9,14 +9,14 @@ pub struct PhaseTotals {
     /// How many there are.
     pub count: u64,
     /// The least phase error, in quanta.
-    pub least: Option<i8>,
+    pub least: Option<i16>,
     /// The greatest one.
-    pub greatest: Option<i8>,
+    pub greatest: Option<i16>,
 }
 
 impl PhaseTotals {
     /// Returns what a report says of these edges, each given as its quantum and its phase error in quanta.
-    pub fn of(phases: &[(u64, i8)]) -> PhaseTotals
+    pub fn of(phases: &[(u64, i16)]) -> PhaseTotals
         ensures { result ≡ phase_totals phases.now }
     {
         let mut totals = PhaseTotals::none();
@@ -39,7 +39,7 @@ impl PhaseTotals {
 
     /// Counts one more edge, of this phase error.
     #[inline(always)]
-    pub(crate) fn add(&mut self, error: i8)
+    pub(crate) fn add(&mut self, error: i16)
         requires fits { self.old.count < 2 ^ 63 }
         ensures totals { (phases : List (ℕ × ℤ)) (quantum : ℕ) → self.old ≡ phase_totals phases
             → self.new ≡ phase_totals (phases ++ (quantum, error) ∷ []) }
@@ -53,7 +53,7 @@ impl PhaseTotals {
 
 /// Returns the least of some errors and one more, given the least of those.
 #[inline(always)]
-fn lesser(least: Option<i8>, error: i8) -> Option<i8>
+fn lesser(least: Option<i16>, error: i16) -> Option<i16>
     ensures { (errors : List ℤ) → least ≡ least_phase_error errors
         → result ≡ least_phase_error (errors ++ error ∷ []) }
 {
@@ -65,7 +65,7 @@ fn lesser(least: Option<i8>, error: i8) -> Option<i8>
 
 /// Returns the greatest of some errors and one more, given the greatest of those.
 #[inline(always)]
-fn greater(greatest: Option<i8>, error: i8) -> Option<i8>
+fn greater(greatest: Option<i16>, error: i16) -> Option<i16>
     ensures { (errors : List ℤ) → greatest ≡ greatest_phase_error errors
         → result ≡ greatest_phase_error (errors ++ error ∷ []) }
 {

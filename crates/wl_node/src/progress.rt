@@ -4,10 +4,11 @@ ghost use Rattle.std.specs.Prelude.{◌≡◌, suc, ◌+◌, ◌<◌, ◌≤◌,
 ghost use Rattle.wl_level.specs.Levels.{same};
 ghost use Rattle.wl_sync.specs.Skips.{free_quanta};
 ghost use Rattle.wl_node.specs.declared.setup.NodeSetup.{NodeSetup};
-ghost use Rattle.wl_node.specs.History.{History, by_beat};
-ghost use Rattle.wl_node.specs.Kept.{IsTraffic, IsRoomy, HasSeenNothing, IsSameProgress, HasProgressed, HasProgressedBy, KeepsDrive, sync_count};
+ghost use Rattle.wl_node.specs.History.{History, by_beat, seen_next};
+ghost use Rattle.wl_node.specs.Kept.{FitsHistory, IsTraffic, IsRoomy, HasSeenNothing, IsSameProgress, HasProgressed, HasProgressedBy, KeepsDrive, sync_count};
 ghost use Rattle.wl_node.specs.Limits.{most_run_quanta};
 
+use crate::integration::integrates;
 use crate::phase_totals::PhaseTotals;
 use crate::samples::SampleRuns;
 use crate::setup::NodeSetup;
@@ -18,7 +19,7 @@ use wl_confine::Counters;
 use wl_level::Level;
 use wl_machine::Machine;
 use wl_segments::Segments;
-use wl_sync::{Beat, BitClock};
+use wl_sync::{Beat, BitClock, Seen};
 
 /// What a node keeps beside its setup.
 #[derive(Drop)]
@@ -60,7 +61,7 @@ impl NodeProgress {
                 errors: 0,
                 samples: SampleRuns::new(
                     alloc,
-                    segments.bit_quanta() as u8,
+                    segments.bit_quanta() as u16,
                     first_room(keeps),
                     keeps,
                 )?,
@@ -110,11 +111,8 @@ impl NodeProgress {
         ensures samples { self.new.traffic.samples.count ≤ self.old.traffic.samples.count + 1 }
         ensures keeps { self.new.traffic.samples.keeps ≡ self.old.traffic.samples.keeps }
     {
-        let idle = self.traffic.machine.idle();
-        let awaits = self.traffic.machine.awaits_start();
-        let (beat, sync) = self
-            .clock
-            .step(level, idle, awaits, self.drive.is_dominant());
+        let seen = self.sees(level);
+        let (beat, sync) = self.clock.see(seen);
         self.syncs.note(self.quanta, sync);
         obey(
             &mut self.drive,
@@ -125,6 +123,20 @@ impl NodeProgress {
             level,
         );
         self.quanta += 1;
+    }
+
+    /// Returns what the bit clock sees at the next quantum, if the line has this level then.
+    #[inline(always)]
+    pub fn sees(&self, level: Level) -> Seen
+        ensures { (setup : NodeSetup) (h : History) → FitsHistory setup self.now h → result ≡ seen_next h level }
+    {
+        Seen {
+            level,
+            idle: self.traffic.machine.idle(),
+            awaits: self.traffic.machine.awaits_start(),
+            integrates: integrates(&self.traffic.machine),
+            driving: self.drive.is_dominant(),
+        }
     }
 
     /// Skips quanta of this level, at most `most`, in which nothing happens. None is a sample, none finds an edge, and a bit starts only if
@@ -144,13 +156,13 @@ impl NodeProgress {
         let settled = self.drive.is(self.traffic.pending);
         let free = (self.clock.free_quanta(level, settled) as u64).min(most);
         if 0 < free {
-            self.skip(level, free as u8);
+            self.skip(level, free as u16);
         }
         free
     }
 
     /// Skips this many of them at once.
-    pub fn skip(&mut self, level: Level, quanta: u8)
+    pub fn skip(&mut self, level: Level, quanta: u16)
         requires some { 0 < quanta }
         requires few { quanta ≤ free_quanta (same self.old.drive self.old.traffic.pending) self.old.clock level }
         requires short { self.old.quanta + quanta ≤ most_run_quanta }

@@ -60,10 +60,10 @@ fn until_ready(queue: &[Queued], sent: usize, quantum: u64) -> u64
 
 /// Returns the quanta up to the next sample. They go by the way to it, by whether the node drives what its machine wants, and by the least
 /// way from a bit's start to a sample.
-fn floor(way: Option<u8>, settled: bool, place: u32) -> u32
-    requires { place ≤ 17 }
+fn floor(way: Option<u16>, settled: bool, place: u32) -> u32
+    requires { place ≤ 385 }
     ensures value { result ≡ floor_by way settled place }
-    ensures small { result ≤ 255 }
+    ensures small { result ≤ 65535 }
 {
     match way {
         Some(quanta) => quanta as u32,
@@ -74,8 +74,8 @@ fn floor(way: Option<u8>, settled: bool, place: u32) -> u32
 
 /// Returns that number, longer by the samples for which the machine is silent, if the node drives what it wants.
 fn longer(least: u32, silence: u16, place: u32) -> u32
-    requires few { least ≤ 255 }
-    requires small { place ≤ 17 }
+    requires few { least ≤ 65535 }
+    requires small { place ≤ 385 }
     ensures { result ≡ floor_and_silence least silence place }
 {
     if least == 0 {

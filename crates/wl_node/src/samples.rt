@@ -1,5 +1,5 @@
-//! Samples, kept by runs: samples of one level that are a bit apart. A line at rest is one run, and so are the equal bits of a frame that a
-//! node takes at once. A node that only counts its samples lists no run.
+//! Samples, kept by runs: samples of one level that are a bit apart. A line at rest is a run for each 255 bits, and the equal bits of a
+//! frame that a node takes at once are one. A node that only counts its samples lists no run.
 
 ghost use Rattle.std.specs.Prelude.{◌≡◌, ◌*◌, ◌+◌, ◌<◌, ◌≤◌, ◌++◌, ℕ, [], ◌∷◌, true, false, length, take, min, IfOk, OnOk, vec_len, vec_capacity};
 ghost use Rattle.wl_node.specs.Limits.{most_run_quanta};
@@ -10,12 +10,12 @@ use std::alloc::{AllocError, Global};
 use std::marker::Model;
 use wl_level::{Level, Listed};
 
-/// Samples of one level: the first at quantum `from`, and each other one `step` quanta later.
+/// Samples of one level: the first at quantum `from`, and each other one `step` quanta later. A run takes 8 bytes, and at most 255 samples.
 #[derive(Clone, Copy, Debug)]
 pub(crate) struct Run {
     pub(crate) from: u32,
-    pub(crate) count: u16,
-    pub(crate) step: u8,
+    pub(crate) step: u16,
+    pub(crate) count: u8,
     pub(crate) level: Level,
 }
 
@@ -79,7 +79,7 @@ fn unroll(list: &mut Vec<(u64, Level)>, run: Run) -> Result<(), AllocError>
 /// The samples of a node that goes on, with the quanta of a bit that nothing moves.
 #[derive(Drop)]
 pub(crate) struct SampleRuns {
-    pub(crate) step: u8,
+    pub(crate) step: u16,
     /// True if the samples are listed, false if they are only counted.
     pub(crate) keeps: bool,
     pub(crate) runs: Vec<Run>,
@@ -93,7 +93,7 @@ impl SampleRuns {
     /// otherwise they are only counted.
     pub(crate) fn new(
         alloc: Global,
-        step: u8,
+        step: u16,
         room: usize,
         keeps: bool,
     ) -> Result<SampleRuns, AllocError>
@@ -152,7 +152,7 @@ impl SampleRuns {
     }
 
     /// Adds a run of this many samples: the first at quantum `from`, and each other one `step` quanta later.
-    pub(crate) fn push_run(&mut self, from: u64, step: u8, level: Level, bits: u16)
+    pub(crate) fn push_run(&mut self, from: u64, step: u16, level: Level, bits: u8)
         requires room { vec_len self.old.runs < vec_capacity self.old.runs }
         requires early { from < most_run_quanta }
         requires few { self.old.count ≤ from }
@@ -165,8 +165,8 @@ impl SampleRuns {
         if self.keeps {
             self.runs.push_reserved(Run {
                 from: from as u32,
-                count: bits,
                 step,
+                count: bits,
                 level,
             });
         }
@@ -233,25 +233,25 @@ impl Run {
     fn goes_on(&self, quantum: u64, level: Level) -> bool
         ensures level { result ≡ true → self.now.level ≡ level }
         ensures quantum { result ≡ true → quantum ≡ self.now.from + self.now.count * self.now.step }
-        ensures few { result ≡ true → self.now.count < 65535 }
+        ensures few { result ≡ true → self.now.count < 255 }
     {
         self.level.is(level)
-            && self.count < u16::MAX
+            && self.count < u8::MAX
             && self.from as u64 + self.count as u64 * self.step as u64 == quantum
     }
 }
 
 /// Adds a sample to the last run, or begins another run.
 #[inline(always)]
-fn add(runs: &mut Vec<Run>, quantum: u64, step: u8, level: Level)
+fn add(runs: &mut Vec<Run>, quantum: u64, step: u16, level: Level)
     requires room { vec_len runs.old < vec_capacity runs.old }
     requires early { quantum < most_run_quanta }
     ensures { samples_by runs.new.items ≡ samples_by runs.old.items ++ (quantum, level) ∷ [] }
 {
     let one = Run {
         from: quantum as u32,
-        count: 1,
         step,
+        count: 1,
         level,
     };
     let n = runs.len();
@@ -274,7 +274,7 @@ fn cut(runs: &mut Vec<Run>, count: u64, most: u64)
         };
         if left - most < last.count as u64 {
             runs.push_reserved(Run {
-                count: last.count - (left - most) as u16,
+                count: last.count - (left - most) as u8,
                 ..last
             });
             return;

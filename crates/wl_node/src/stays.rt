@@ -7,10 +7,10 @@ ghost use Rattle.wl_node.specs.Kept.{IsProgress, KeepsDrive};
 ghost use Rattle.wl_node.specs.Limits.{most_run_quanta};
 ghost use Rattle.wl_node.specs.Stays.{until_frame, free_stay, stay_at};
 
-use crate::limits::MOST_RUN_QUANTA;
 use crate::progress::NodeProgress;
 use crate::setup::{NodeSetup, Queued};
 use wl_level::Level;
+use wl_limits::MOST_RUN_QUANTA;
 
 impl NodeProgress {
     /// Returns for how many quanta more the drive stays, in a node of this setup, if each of them is recessive.

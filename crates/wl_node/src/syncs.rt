@@ -18,7 +18,7 @@ use wl_sync::Sync;
 pub struct Syncs {
     /// True if the edges are listed, false if only what a report says of them is kept.
     pub keeps: bool,
-    pub phases: Vec<(u64, i8)>,
+    pub phases: Vec<(u64, i16)>,
     pub totals: PhaseTotals,
     pub hards: u64,
 }
@@ -76,7 +76,7 @@ impl Syncs {
 
     /// Keeps a resynchronising edge.
     #[inline(always)]
-    fn note_error(&mut self, quantum: u64, error: i8)
+    fn note_error(&mut self, quantum: u64, error: i16)
         requires room { vec_len self.old.phases < vec_capacity self.old.phases }
         requires fits { sync_count self.old < most_run_quanta }
         ensures phases { self.old.keeps ≡ true

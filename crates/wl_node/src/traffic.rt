@@ -113,7 +113,7 @@ fn switch_off(machine: &mut Machine, pending: &mut Level, before: Mode, after: M
 /// one; each other comes `bit` quanta later, and the last one within `most`. Returns how many: at most 255. A machine keeps no more than
 /// seven equal bits in a row, so that there are fewer.
 #[inline(always)]
-fn keep_equal(machine: &mut Machine, level: Level, first: u64, bit: u8, most: u64) -> u8
+fn keep_equal(machine: &mut Machine, level: Level, first: u64, bit: u16, most: u64) -> u8
     requires short { most ≤ most_run_quanta }
     ensures kept { HasKept level result machine.old machine.new }
     ensures fits { 0 < result → first + (result - 1) * bit ≤ most }
@@ -185,7 +185,7 @@ impl Traffic {
     /// quanta later. `first` is how many quanta go up to and including the first one, and the last one comes within `most`. Returns how
     /// many: at most 255.
     #[inline(always)]
-    pub fn keep_bits(&mut self, from: u64, level: Level, first: u64, bit: u8, most: u64) -> u8
+    pub fn keep_bits(&mut self, from: u64, level: Level, first: u64, bit: u16, most: u64) -> u8
         requires room { vec_len self.old.samples.runs < vec_capacity self.old.samples.runs }
         requires early { from < most_run_quanta }
         requires few { self.old.samples.count ≤ from }
@@ -204,7 +204,7 @@ impl Traffic {
     {
         let bits = keep_equal(&mut self.machine, level, first, bit, most);
         if 0 < bits {
-            self.samples.push_run(from, bit, level, bits as u16);
+            self.samples.push_run(from, bit, level, bits);
         }
         bits
     }

@@ -3,7 +3,7 @@ use Rattle.std.proofs.Common.{◌≡◌, ◌∙◌, inl, inr, ap, ℕ, zero, suc
 use Rattle.std.proofs.lemmas.Bool.{cases_lt}
 use Rattle.std.proofs.Math.Nat.{mul-le-mul_left, mul-le-mul_right, lt_of_mul-lt-mul_left}
 use Rattle.wl_segments.specs.Lengths.{Lengths, sample_at, bit_quanta}
-use Rattle.wl_sync.specs.Edges.{Seen}
+use Rattle.wl_sync.specs.declared.Seen.{Seen}
 use Rattle.wl_phase.specs.Clocks.{Finds, steady_tick, instant}
 use Rattle.wl_phase.specs.Ways.{ByTheBook}
 use Rattle.wl_phase.specs.InStep.{Sender, Listener, ClocksAreNear, SamplesBit, bit_parts, quantum_parts, tick_parts, bit_instant, quantum_instant, slower_parts, faster_parts}
@@ -181,15 +181,12 @@ module _ (s : Sender) (own : Lengths) (j : Listener) (seen : ℕ → Seen) (foun
   short : A + tick_parts s j ≤ bit_quanta j.lengths * q + own.ps2 * Q
   short =
       let few : tick_parts s j ≤ Q = tick_short in
-      let two : 2 * Q ≤ own.ps2 * Q = mul-le-mul_right Q book.lengths.ps2_low in
-      let slow = near.slow in
-      let jump : j.lengths.sjw * q ≤ 4 * q = mul-le-mul_right q their_book.lengths.sjw_high in
-      let many : 8 * q ≤ bit_quanta j.lengths * q = mul-le-mul_right q their_book.lengths.low in
-      let bit = bit_is s j ds dj own same in
-      let a = book.lengths.prop_high in
-      let b = book.lengths.ps1_high in
-      let place_high : sample_at own * Q ≤ 17 * Q = mul-le-mul_right Q (let h : sample_at own ≤ 17 = omega arith in h) in
-      let ten : 10 * bit_quanta j.lengths * q ≡ 10 * (bit_quanta j.lengths * q) = omega arith in
+      let jump = time.jump in
+      let second = book.lengths.ps2_low in
+      let less : own.sjw * Q ≤ 10 * (own.ps2 - 1) * Q = mul-le-mul_right Q book.lengths.sjw_ps2 in
+      let ten : 10 * (own.ps2 - 1) * Q ≡ 10 * ((own.ps2 - 1) * Q) = omega arith in
+      let one : own.ps2 ≡ suc (own.ps2 - 1) = omega arith in
+      let all : own.ps2 * Q ≡ (own.ps2 - 1) * Q + Q = ap (λ n. n * Q) one ∙ (let x : suc (own.ps2 - 1) * Q ≡ (own.ps2 - 1) * Q + Q = omega arith in x) in
       omega arith
     where
       tick_short : tick_parts s j ≤ Q

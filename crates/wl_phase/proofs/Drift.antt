@@ -5,10 +5,8 @@ use Rattle.std.proofs.Math.Nat.{mul-le-mul_right}
 -- A bit of the sender takes A, a quantum q and a tick T; a bit has B quanta and its sample place S, with P after it; the jump width is J quanta.
 pub record AreLong (A q T B S P J : ℕ) : Type 0 where
   pub bit : B ≡ S + P
-  pub long : 8 ≤ B
   pub sample : J + 2 ≤ S
   pub early : 2 ≤ P
-  pub jump : J ≤ 4
   pub tick : T ≤ q
   pub slow : 10 * A ≤ 10 * (B * q) + J * q
   pub fast : 10 * (B * q) ≤ 10 * A + J * q
@@ -54,12 +52,6 @@ module _ {A q T B S P J : ℕ} (is : AreLong A q T B S P J) where
   bit_is : B * q ≡ S * q + P * q
   bit_is = ap (λ n. n * q) is.bit ∙ (let e : (S + P) * q ≡ S * q + P * q = omega arith in e)
 
-  bit_long : 8 * q ≤ B * q
-  bit_long = mul-le-mul_right q is.long
-
-  jump_short : J * q ≤ 4 * q
-  jump_short = mul-le-mul_right q is.jump
-
   -- a bit has begun when its sample comes
   pub begun_then : (m a t : ℕ) → m ≤ 10 → IsNear A q T B S m a t → a ≤ t
   begun_then m a t h n =
@@ -82,8 +74,9 @@ module _ {A q T B S P J : ℕ} (is : AreLong A q T B S P J) where
   -- nor has it a quantum after one before which the bit hadn't begun
   pub next_after : (a t : ℕ) → t < a + q → t + T ≤ a + A
   next_after a t h =
-      let long = bit_long in
-      let short = jump_short in
+      let far = sample_far in
+      let two = two_quanta in
+      let bit = bit_is in
       let ten = ten_faster in
       let tick = is.tick in
       omega arith

@@ -3,11 +3,11 @@ use Rattle.std.proofs.Common.{◌≡◌, inl, inr, ap, ℕ, suc, ◌+◌, ◌-�
 use Rattle.std.proofs.lemmas.Bool.{cases_lt}
 use Rattle.std.proofs.Math.Nat.{mul-le-mul_left, lt_of_mul-lt-mul_left}
 use Rattle.wl_segments.specs.Lengths.{Lengths, sample_at, bit_quanta}
-use Rattle.wl_sync.specs.Edges.{Seen}
+use Rattle.wl_sync.specs.declared.Seen.{Seen}
 use Rattle.wl_phase.specs.Clocks.{Steady, steady_tick, instant}
 use Rattle.wl_phase.specs.Ways.{ByTheBook, moved_to}
 use Rattle.wl_phase.specs.InStep.{Sender, Listener, SamplesBit, quantum_parts, tick_parts}
-use Rattle.wl_phase.specs.Answer.{ComesAfterSample, FindsEarly, FitsBit, answer_begin, answer_end, longer_parts, moved_sample}
+use Rattle.wl_phase.specs.Answer.{ComesAfterSample, FindsEarly, FitsBit, answer_begin, answer_end, longer_parts}
 use Rattle.wl_phase.proofs.Floors.{floor_low, floor_high}
 use Rattle.wl_phase.proofs.Hearing.{finder, tick_up}
 use Rattle.wl_phase.proofs.Others.{after_each, first_from, second_by}
@@ -83,7 +83,7 @@ module _ (s : Sender) (i j : Listener) (seen other_seen : ℕ → Seen) (found o
   -- until the sample that the jump width moves
   until_far : (x : ℕ) → x + j.lengths.sjw ≤ n + bit_quanta j.lengths → steady_tick j.clock x < answer_end i between k
   until_far x far =
-      let few = book.lengths.sjw_high in
+      let few = book.lengths.sjw_half in
       let many = book.lengths.low in
       let rise = tick_up j.clock dj x (n + (bit_quanta j.lengths - j.lengths.sjw)) (omega arith) in
       let high = second_by s i j seen other_seen found other_found between d k n ds di dj first second (bit_quanta j.lengths - j.lengths.sjw) in

@@ -9,12 +9,13 @@ use Rattle.wl_segments.specs.declared.SyncRules.TheVariants.{After, Book}
 use Rattle.wl_segments.specs.Lengths.{sample_at, bit_quanta, found_at}
 use Rattle.wl_sync.specs.declared.Sync.TheVariants.{Hard, Error}
 use Rattle.wl_sync.specs.declared.Beat.TheVariants.{Plain, Sample, Start}
-use Rattle.wl_sync.specs.Edges.{Seen, is_hard_edge, edge_restarts, phase_error}
+use Rattle.wl_sync.specs.declared.Seen.{Seen}
+use Rattle.wl_sync.specs.Edges.{is_hard_edge, edge_restarts, phase_error}
 use Rattle.wl_sync.specs.Running.{Running}
 use Rattle.wl_sync.specs.Steps.{end_of, running_edge, running_sync, running_restart, running_moved, running_over, running_first, running_on, running_placed, running_after, running_beat, running_answer, beat_between, samples}
 use Rattle.wl_sync.specs.Skips.{moved_place, quanta_before_sample}
 use Rattle.wl_phase.specs.Ways.{way_after}
-use Rattle.wl_phase.proofs.Steps.{IsValid, Leaves, found_one, way_before, way_past, edge_is, none_is, restart_is, moved_is, late, early, way_moved, zero_is, none_leaves, hard_leaves, late_leaves, early_leaves, over_leaves, near_leaves, sync_fresh}
+use Rattle.wl_phase.proofs.Steps.{IsValid, Leaves, found_one, way_before, way_past, edge_is, none_is, restart_is, moved_is, late, early, way_moved, zero_is, none_leaves, hard_leaves, late_leaves, early_leaves, over_leaves, near_leaves, sync_fresh, going_soft, synced_not}
 
 and_false : (a b : Bool) → a ≡ true → (a && b) ≡ false → b ≡ false
 and_false true b e f = f
@@ -65,28 +66,28 @@ module _ (r : Running) (x : Seen) (h : IsValid r) where
       let near = leb-true (found_at r.lengths + bit_quanta r.lengths - r.quanta) r.lengths.sjw g.1 in
       (past, omega arith)
 
-  over_from : running_sync r x ≡ true → sample_at r.lengths < r.quanta → r.lengths.sjw < 1 + bit_quanta r.lengths - r.quanta
+  over_from : r.synced ≡ false → sample_at r.lengths < r.quanta → r.lengths.sjw < 1 + bit_quanta r.lengths - r.quanta
       → Leaves r x (way_moved r) (running_over Book r (early r x) false x.level)
   over_from e past far = elim (cases_eq r.quanta (end_of (early r x))) [
-    | inl over ↦ rw (eq-eqb r.quanta (end_of (early r x)) over) (over_leaves r x h (sync_fresh r x e) past far over)
-    | inr apart ↦ rw (ne_eqb r.quanta (end_of (early r x)) apart) (early_leaves r x h (sync_fresh r x e) past far apart)
+    | inl over ↦ rw (eq-eqb r.quanta (end_of (early r x)) over) (over_leaves r x h e past far over)
+    | inr apart ↦ rw (ne_eqb r.quanta (end_of (early r x)) apart) (early_leaves r x h e past far apart)
   ]
 
   moved_leaves : running_sync r x ≡ true → running_restart r x ≡ false → Leaves r x (way_moved r) (running_after r x)
   moved_leaves e f =
       subst (Leaves r x (way_moved r)) (sym (moved_is r x h.lengths.book e f))
       (elim (cases_lt (sample_at r.lengths) r.quanta) as (λ o. Leaves r x (way_moved r) (running_over Book r moved false x.level)) [
-        | inl past ↦ subst (λ m. Leaves r x (way_moved r) (running_over Book r m false x.level)) (sym (early_is past)) (over_from e past (far_is e f past))
+        | inl past ↦ subst (λ m. Leaves r x (way_moved r) (running_over Book r m false x.level)) (sym (early_is past)) (over_from (sync_fresh r x e (going_soft r x e f)) past (far_is e f past))
         | inr before ↦
             subst (Leaves r x (way_moved r)) (sym (ap (λ m. running_over Book r m false x.level) (late_is before) ∙ late_over before))
-            (late_leaves r x h (sync_fresh r x e) before)
+            (late_leaves r x h (sync_fresh r x e (going_soft r x e f)) before)
       ])
 
   -- an edge that counts and doesn't synchronise hard
   soft_leaves : running_sync r x ≡ true → is_hard_edge r.lengths.sync x ≡ false → Leaves r x (way_moved r) (running_after r x)
   soft_leaves e g = elim (cases_Bool (running_restart r x)) [
     | inl f ↦ (let n = near_is f g in
-        subst (Leaves r x (way_moved r)) (sym (restart_is r x h.lengths.book f)) (near_leaves r x h (sync_fresh r x e) n.0 n.1))
+        subst (Leaves r x (way_moved r)) (sym (restart_is r x h.lengths.book f)) (near_leaves r x h (sync_fresh r x e g) n.0 n.1))
     | inr f ↦ moved_leaves e f
   ]
 
@@ -140,7 +141,7 @@ module _ (r : Running) (x : Seen) (h : IsValid r) where
   answer_error error q = elim (cases_Bool (running_sync r x)) [
     | inl e ↦ elim (cases_Bool (is_hard_edge r.lengths.sync x)) [
       | inl g ↦ (let a = answer_hard e g in cc)
-      | inr g ↦ (let a = answer_soft e g in let is = error_is (sync_fresh r x e) in cc)
+      | inr g ↦ (let a = answer_soft e g in let is = error_is (sync_fresh r x e g) in cc)
     ]
     | inr e ↦ (let a = answer_none e in cc)
   ]
@@ -171,7 +172,7 @@ module _ (r : Running) (x : Seen) (h : IsValid r) where
   -- a late edge doesn't count at a node that drives dominant
   pub driving_not : x.driving ≡ true → quanta_before_sample r + 1 < sample_at r.lengths → running_sync r x ≡ false
   driving_not e f = elim (cases_Bool r.synced) [
-    | inl synced ↦ and_right _ _ (ap not synced)
+    | inl synced ↦ synced_not r x synced (soft_driving r.lengths.sync x h.lengths.book e)
     | inr fresh ↦ elim (cases_lt (moved_place r) r.quanta) [
       | inl past ↦ (let way = way_past r past in absurd (omega arith))
       | inr before ↦ (let way = way_before r before in let none = h.fresh_longer fresh in driving_late e (omega arith) (omega arith))

@@ -6,7 +6,8 @@ use Rattle.wl_level.specs.declared.Level.TheVariants.{Dominant, Recessive}
 use Rattle.wl_segments.specs.Lengths.{Lengths, sample_at, bit_quanta}
 use Rattle.wl_sync.specs.declared.Sync.TheVariants.{Error}
 use Rattle.wl_sync.specs.declared.Beat.TheVariants.{Sample}
-use Rattle.wl_sync.specs.Edges.{Seen, phase_error}
+use Rattle.wl_sync.specs.declared.Seen.{Seen}
+use Rattle.wl_sync.specs.Edges.{phase_error}
 use Rattle.wl_sync.specs.Bits.{beat_of, sync_of}
 use Rattle.wl_sync.specs.Running.{Running, clock_after}
 use Rattle.wl_sync.specs.Steps.{running_sync}

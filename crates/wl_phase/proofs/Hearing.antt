@@ -3,7 +3,7 @@ use Rattle.std.proofs.Common.{◌≡◌, inl, inr, sym, ap, subst, ℕ, zero, su
 use Rattle.std.proofs.lemmas.Bool.{cases_lt}
 use Rattle.wl_level.specs.declared.Level.TheVariants.{Dominant, Recessive}
 use Rattle.wl_segments.specs.Lengths.{Lengths, sample_at, bit_quanta}
-use Rattle.wl_sync.specs.Edges.{Seen}
+use Rattle.wl_sync.specs.declared.Seen.{Seen}
 use Rattle.wl_phase.specs.Clocks.{Steady, Finds, steady_tick}
 use Rattle.wl_phase.specs.Ways.{ByTheBook, moved_to}
 use Rattle.wl_phase.specs.InStep.{Sender, Listener}

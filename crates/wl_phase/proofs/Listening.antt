@@ -16,7 +16,8 @@ use Rattle.wl_sync.specs.declared.Sync.{Sync}
 use Rattle.wl_sync.specs.declared.Sync.TheVariants.{Hard, Error}
 use Rattle.wl_sync.specs.declared.Beat.{Beat}
 use Rattle.wl_sync.specs.declared.Beat.TheVariants.{Plain, Sample, Start}
-use Rattle.wl_sync.specs.Edges.{Seen, is_hard_edge, looks, counts_at, phase_error}
+use Rattle.wl_sync.specs.declared.Seen.{Seen}
+use Rattle.wl_sync.specs.Edges.{is_hard_edge, looks, counts_at, phase_error}
 use Rattle.wl_sync.specs.Bits.{beat_of, sync_of}
 use Rattle.wl_sync.specs.Running.{Running, clock_after}
 use Rattle.wl_sync.specs.Steps.{running_sync}
@@ -113,10 +114,8 @@ module _ (s : Sender) (j : Listener) (seen : ℕ → Seen) (found : ℕ) (is : G
       let sample = is.near.sample in
       record {
         bit = refl;
-        long = b.low;
         sample = omega arith;
         early = b.ps2_low;
-        jump = b.sjw_high;
         tick = omega arith;
         slow = omega arith;
         fast = omega arith;

@@ -2,7 +2,7 @@
 use Rattle.std.proofs.Common.{◌≡◌, refl, ap, ℕ, suc, ◌+◌, ◌-◌, ◌*◌, ◌<◌, ◌≤◌, arith}
 use Rattle.std.proofs.Math.Nat.{lt_of_mul-lt-mul_left}
 use Rattle.wl_segments.specs.Lengths.{sample_at, bit_quanta}
-use Rattle.wl_sync.specs.Edges.{Seen}
+use Rattle.wl_sync.specs.declared.Seen.{Seen}
 use Rattle.wl_phase.specs.Clocks.{steady_tick, instant}
 use Rattle.wl_phase.specs.InStep.{Sender, Listener, SamplesBit, bit_parts, quantum_parts, tick_parts, bit_instant}
 use Rattle.wl_phase.specs.Answer.{ComesAfterSample, EndsBeforeSample, answer_begin, answer_end, longer_parts}

@@ -8,7 +8,8 @@ use Rattle.wl_level.proofs.Callers.{none_first}
 use Rattle.wl_segments.specs.declared.SyncRules.{SyncRules}
 use Rattle.wl_segments.specs.declared.SyncRules.TheVariants.{Book}
 use Rattle.wl_segments.specs.Lengths.{Lengths, bit_quanta}
-use Rattle.wl_sync.specs.Edges.{Seen, edge_counts, longer_by, shorter_by}
+use Rattle.wl_sync.specs.declared.Seen.{Seen}
+use Rattle.wl_sync.specs.Edges.{edge_counts, longer_by, shorter_by}
 use Rattle.wl_sync.specs.Bits.{Bit, unseen, seen_at_place, previous_level, sample_before, is_edge, sync_place, sample_place, last_level, last_sample, first_quanta, beat_of, sync_of}
 use Rattle.wl_sync.specs.Running.{Running, running, clock_after}
 use Rattle.wl_sync.specs.Steps.{running_after, running_answer, running_beat, running_edge, running_sync}

@@ -1,10 +1,9 @@
 -- Two listeners that have sampled one bit: the same edge was the last one to either, and their bits since then are as many.
-use Rattle.std.proofs.Common.{◌≡◌, ◌∙◌, sym, ap, subst, inl, inr, ℕ, suc, ◌+◌, ◌-◌, ◌*◌, ◌<◌, ◌≤◌, arith}
+use Rattle.std.proofs.Common.{◌≡◌, sym, subst, inl, inr, ℕ, suc, ◌+◌, ◌-◌, ◌*◌, ◌<◌, ◌≤◌, arith}
 use Rattle.std.proofs.lemmas.Bool.{cases_order}
 use Rattle.std.proofs.Math.Nat.{mul-le-mul_left, mul-le-mul_right}
 use Rattle.wl_segments.specs.Lengths.{sample_at, bit_quanta}
-use Rattle.wl_sync.specs.Edges.{Seen}
-use Rattle.wl_frame.specs.Laws.{IsEdge}
+use Rattle.wl_sync.specs.declared.Seen.{Seen}
 use Rattle.wl_phase.specs.Clocks.{steady_tick}
 use Rattle.wl_phase.specs.InStep.{Sender, Listener, SamplesBit, bit_parts, quantum_parts, tick_parts, bit_instant, quantum_instant}
 use Rattle.wl_phase.proofs.Instants.{quantum_low, quantum_high, quantum_more}

@@ -5,7 +5,8 @@ use Rattle.wl_level.specs.declared.Level.TheVariants.{Recessive}
 use Rattle.wl_segments.specs.declared.SyncRules.{SyncRules}
 use Rattle.wl_segments.specs.declared.SyncRules.TheVariants.{After, Book}
 use Rattle.wl_segments.specs.Lengths.{Lengths}
-use Rattle.wl_sync.specs.Edges.{Seen, is_hard_edge}
+use Rattle.wl_sync.specs.declared.Seen.{Seen}
+use Rattle.wl_sync.specs.Edges.{is_hard_edge}
 use Rattle.wl_sync.specs.Running.{Running, clock_after}
 use Rattle.wl_phase.specs.Ways.{ByTheBook, sample_way}
 use Rattle.wl_phase.specs.InStep.{FindsTheFirst, SyncsHard, seen_before}

@@ -1,10 +1,12 @@
 -- One quantum of a bit clock by the rules of the book, and what it does to the way to the next sample.
-use Rattle.std.proofs.Common.{◌≡◌, ◌≢◌, ℕ, suc, ◌+◌, ◌-◌, ◌<◌, ◌≤◌, ◌∙◌, inl, inr, true, false, cond, ◌&&◌, refl, sym, ap, subst, arith, min}
-use Rattle.std.specs.Prelude.{◌==◌}
-use Rattle.std.proofs.lemmas.Bool.{eqb-true, eqb-false, eq-eqb, ne_eqb, le-leb, lt-leb, and_parts, not-true, cond_both, cases_lt, cases_eq}
-use Rattle.wl_segments.specs.declared.SyncRules.TheVariants.{Book}
+use Rattle.std.proofs.Common.{◌≡◌, ◌≢◌, ℕ, suc, ◌+◌, ◌-◌, ◌<◌, ◌≤◌, ◌∙◌, inl, inr, Bool, true, false, cond, not, ◌&&◌, ◌||◌, refl, sym, ap, subst, arith, min}
+use Rattle.std.specs.Prelude.{◌==◌, nat_lt, nat_le}
+use Rattle.std.proofs.lemmas.Bool.{eqb-true, eqb-false, eq-eqb, ne_eqb, le-leb, lt-leb, and_left, and_parts, and_right, or_parts, cond_both, cases_lt, cases_eq}
+use Rattle.wl_segments.specs.declared.SyncRules.{SyncRules}
+use Rattle.wl_segments.specs.declared.SyncRules.TheVariants.{After, Book}
 use Rattle.wl_segments.specs.Lengths.{Lengths, sample_at, bit_quanta, found_by, found_at}
-use Rattle.wl_sync.specs.Edges.{Seen, is_hard_edge, edge_restarts}
+use Rattle.wl_sync.specs.declared.Seen.{Seen}
+use Rattle.wl_sync.specs.Edges.{again_by, is_hard_edge, edge_restarts}
 use Rattle.wl_sync.specs.Running.{Running}
 use Rattle.wl_sync.specs.Steps.{end_of, running_edge, running_edge_by, running_sync, running_restart, running_moved, running_over, running_first, running_on, running_placed, running_after}
 use Rattle.wl_sync.specs.Skips.{moved_place, quanta_before_sample}
@@ -188,9 +190,36 @@ none_passes r x h f =
     subst (Passes r x) (sym (none_is r x h.lengths.book f))
     (cond_both (r.quanta == end_of r) _ _ (Passes r x) (λ e. first_passes r x h (eqb-true r.quanta (end_of r) e)) (λ e. on_passes r x h))
 
--- an edge counts in a bit that has not synchronised, so that nothing moved it
-pub sync_fresh : (r : Running) (x : Seen) → running_sync r x ≡ true → r.synced ≡ false
-sync_fresh r x e = not-true r.synced (and_parts _ _ e).1
+-- a node that doesn't synchronise hard synchronises a bit once
+soft_once : (s : SyncRules) (hard integrates : Bool) → hard ≡ false → again_by s hard integrates ≡ false
+soft_once After hard integrates e = refl
+soft_once Book hard integrates e = and_left _ _ e
+
+fresh_by : (synced again : Bool) → (not synced || again) ≡ true → again ≡ false → synced ≡ false
+fresh_by true again e f = cc
+fresh_by false again e f = refl
+
+-- so its edge counts in a bit that has not synchronised, and that nothing moved
+pub sync_fresh : (r : Running) (x : Seen) → running_sync r x ≡ true → is_hard_edge r.lengths.sync x ≡ false → r.synced ≡ false
+sync_fresh r x e f =
+    fresh_by r.synced (again_by r.lengths.sync (is_hard_edge r.lengths.sync x) x.integrates) (and_parts _ _ e).1
+    (soft_once r.lengths.sync (is_hard_edge r.lengths.sync x) x.integrates f)
+
+-- nor does one whose edge begins no bit again
+going_by : (counts hard near : Bool) → counts ≡ true → (counts && (hard || near)) ≡ false → hard ≡ false
+going_by true hard near e f = (or_parts hard near f).0
+going_by false hard near e f = cc
+
+pub going_soft : (r : Running) (x : Seen) → running_sync r x ≡ true → running_restart r x ≡ false → is_hard_edge r.lengths.sync x ≡ false
+going_soft r x e f =
+    going_by (running_sync r x) (is_hard_edge r.lengths.sync x)
+    (nat_lt (sample_at r.lengths) r.quanta && nat_le (found_at r.lengths + bit_quanta r.lengths - r.quanta) r.lengths.sjw) e f
+
+pub synced_not : (r : Running) (x : Seen) → r.synced ≡ true → is_hard_edge r.lengths.sync x ≡ false → running_sync r x ≡ false
+synced_not r x e f =
+    and_right _ _
+    (ap (λ b. not b || again_by r.lengths.sync (is_hard_edge r.lengths.sync x) x.integrates) e
+    ∙ soft_once r.lengths.sync (is_hard_edge r.lengths.sync x) x.integrates f)
 
 -- a bit begins anew
 pub restart_leaves : (r : Running) (x : Seen) → IsValid r → Leaves r x (sample_at r.lengths - 2) (restarted r x)

@@ -4,13 +4,13 @@ use Rattle.wl_level.specs.declared.Level.{Level}
 use Rattle.wl_level.specs.declared.Level.TheVariants.{Dominant, Recessive}
 use Rattle.wl_segments.specs.Lengths.{Lengths, sample_at, bit_quanta}
 use Rattle.wl_sync.specs.declared.Beat.TheVariants.{Sample}
-use Rattle.wl_sync.specs.Edges.{Seen}
+use Rattle.wl_sync.specs.declared.Seen.{Seen}
 use Rattle.wl_sync.specs.Bits.{beat_of}
 use Rattle.wl_sync.specs.Running.{clock_after}
 use Rattle.wl_sync.specs.Skips.{steady_clock}
 use Rattle.wl_phase.specs.Clocks.{Finds, Steady, steady_tick}
 use Rattle.wl_phase.specs.Ways.{moved_to}
-use Rattle.wl_phase.specs.InStep.{Sender, Listener, bit_parts, quantum_parts, tick_parts, slower_parts, faster_parts, samples_from, seen_before}
+use Rattle.wl_phase.specs.InStep.{Sender, Listener, bit_parts, quantum_parts, tick_parts, faster_parts, samples_from, seen_before}
 
 -- the tick at which the listener's next bit begins to reach the sender, where nothing moves that bit after the sample of the one before by quantum k: it
 -- begins PHASE_SEG2 later, and takes its quanta; `back` is the delay back
@@ -32,7 +32,7 @@ own_sample s own b = s.from + b * s.bit_quanta + sample_at own
 pub record IsInTime (own : Lengths) (bit own_quantum : ℕ) (l : Lengths) (quantum tick there_and_back : ℕ) : Type 0 where
   pub late : there_and_back * tick + 10 * (bit_quanta l * quantum - bit) ≤ sample_at own * own_quantum
   pub early : quantum + 2 * tick + 10 * (bit - bit_quanta l * quantum) ≤ own.ps2 * own_quantum + there_and_back * tick
-  pub jump : bit ≤ bit_quanta l * quantum + own.sjw * own_quantum
+  pub jump : 10 * bit ≤ 10 * (bit_quanta l * quantum) + own.sjw * own_quantum
 
 -- a quantum of the sender, in the parts of a tick that both clocks have
 abbrev pub own_parts : Sender → Listener → ℕ

@@ -6,7 +6,7 @@ use Rattle.wl_segments.specs.Lengths.{Lengths, AreLengths, sample_at, bit_quanta
 use Rattle.wl_sync.specs.declared.Sync.{Sync}
 use Rattle.wl_sync.specs.declared.Sync.TheVariants.{Hard, Error}
 use Rattle.wl_sync.specs.declared.Beat.TheVariants.{Sample}
-use Rattle.wl_sync.specs.Edges.{Seen}
+use Rattle.wl_sync.specs.declared.Seen.{Seen}
 use Rattle.wl_sync.specs.Bits.{beat_of, sync_of}
 use Rattle.wl_sync.specs.Running.{clock_after}
 use Rattle.wl_sync.specs.Skips.{quanta_before_sample}

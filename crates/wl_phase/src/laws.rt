@@ -5,7 +5,7 @@ ghost use Rattle.wl_level.specs.declared.Level.{Level};
 ghost use Rattle.wl_level.specs.declared.Level.TheVariants.{Dominant, Recessive};
 ghost use Rattle.wl_phase.specs.Answer.{ComesAfterSample, ComesInTime, EndsAfterMove, EndsBeforeSample, EndsInTime, FindsDominant, FindsEarly, FindsItsEnd, FitsBit, HearsAnswer, IsAnswered, SamplesNext, answer_begin, answer_end, moved_sample, own_sample};
 ghost use Rattle.wl_segments.specs.Lengths.{Lengths, bit_quanta, sample_at};
-ghost use Rattle.wl_sync.specs.Edges.{Seen};
+ghost use Rattle.wl_sync.specs.declared.Seen.{Seen};
 ghost use Rattle.wl_frame.specs.Laws.{up_to_ack};
 ghost use Rattle.wl_frame.specs.Stuffing.{Stuffs};
 ghost use Rattle.wl_phase.specs.Clocks.{Finds, Steady, IsSteady, instant, steady_tick};

@@ -20,7 +20,7 @@ use wl_sync::Sync;
 ///
 /// With the rules of the book that is what the bit clock does, whatever the edge: the way is what
 /// [`BitClock::free_quanta`](wl_sync::BitClock::free_quanta) answers with `starts` and the line's level.
-pub fn way_after(segments: &Segments, way: u8, sync: Option<Sync>) -> u64
+pub fn way_after(segments: &Segments, way: u16, sync: Option<Sync>) -> u64
     ensures { result ≡ ways.way_after segments.now way sync }
 {
     let way = way as u64;
@@ -67,11 +67,11 @@ pub fn are_near(
     10 * bit <= ten + jump && ten <= 10 * bit + jump && ten + tick <= 10 * bit + rest
 }
 
-/// Returns the parts of a tick that this many quanta take, 25 at most, of `num` parts by another denominator each.
+/// Returns the parts of a tick that this many quanta take, 385 at most, of `num` parts by another denominator each.
 pub fn parts(den: u32, quanta: u64, num: u64) -> u128
-    requires { quanta ≤ 25 }
+    requires { quanta ≤ 385 }
     ensures parts { result ≡ den * (quanta * num) }
-    ensures small { result < 2 ^ 102 }
+    ensures small { result < 2 ^ 106 }
 {
     den as u128 * (quanta as u128 * num as u128)
 }

@@ -1,10 +1,9 @@
 -- What comes to a node comes soon or never.
-use Rattle.std.proofs.Common.{ℕ, ◌≡◌, ◌+◌, ◌<◌, ◌≤◌, ◌==◌, Bool, true, false, length, if◌then◌else◌, Option, Some, None, refl, arith}
-use Rattle.wl_topology.specs.Delays.{Cable, IsTopology, place_at, local_delay, propagation_of}
+use Rattle.std.proofs.Common.{ℕ, ◌≡◌, ◌<◌, ◌≤◌, ◌==◌, Bool, true, false, length, Option, Some, None, refl, arith}
+use Rattle.wl_topology.specs.Delays.{Cable, IsTopology, place_at, local_delay}
 use Rattle.wl_topology.specs.Limits.{never}
-use Rattle.wl_plan.specs.declared.plan.Disturbance.{Disturbance}
 use Rattle.wl_plan.specs.declared.plan.Plan.{Plan}
-use Rattle.wl_plan.specs.PlanLine.{delay_to, delay_from}
+use Rattle.wl_plan.specs.PlanLine.{delay_from}
 use Rattle.wl_plan.specs.Checked.{IsNear}
 
 local_near : (cable : Cable) (n j : ℕ) → IsTopology cable → j < length cable.places → (b : Bool) → (n == j) ≡ b → local_delay cable n j ≤ never

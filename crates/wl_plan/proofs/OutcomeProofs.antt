@@ -1,5 +1,5 @@
 -- The records of an outcome are true.
-use Rattle.std.proofs.Common.{◌≡◌, ℕ, zero, suc, ◌<◌, List, [], ◌∷◌, length, arith, Some, slice_get}
+use Rattle.std.proofs.Common.{arith}
 use Rattle.std.proofs.lemmas.Option.{slice_get_within}
 use Rattle.wl_plan.specs.Simulation.{changes}
 use Rattle.wl_plan.specs.SimulationLaws.{SimulationLaws, OutcomeIsTrue}

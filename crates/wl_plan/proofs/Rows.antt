@@ -5,6 +5,8 @@ use Rattle.wl_level.specs.declared.Level.TheVariants.{Dominant, Recessive}
 use Rattle.wl_level.specs.Levels.{is_dominant}
 use Rattle.wl_record_core.specs.Limits.{most_nodes-is, most_edges, most_edges-is, tick_end-is}
 use Rattle.wl_plan.specs.Limits.{latest_end, most_quanta, most_quanta-is, most_quiet, most_quiet-is, most_queued, most_disturbances}
+use Rattle.wl_limits.specs.declared.Limits.TheVariants.{Wide}
+use Rattle.wl_limits.specs.Limits.{end_limit, quanta_limit, queue_limit, disturbance_limit}
 use Rattle.wl_plan.specs.Groupings.{most_groups}
 use Rattle.wl_plan.specs.Sound.{IsSound}
 use Rattle.wl_plan.specs.Line.{Line, reach}
@@ -110,10 +112,10 @@ small_is_sound = record {
 }
 
 -- the limits, in numbers
-end_is : latest_end ≡ 68719476736
+end_is : latest_end ≡ end_limit Wide
 end_is = refl
 
-quanta_are : most_quanta ≡ 1048576
+quanta_are : most_quanta ≡ quanta_limit Wide
 unfolding most_quanta
 quanta_are = refl
 
@@ -121,10 +123,10 @@ quiet_is : most_quiet ≡ 65536
 unfolding most_quiet
 quiet_is = refl
 
-queued_are : most_queued ≡ 4096
+queued_are : most_queued ≡ queue_limit Wide
 queued_are = refl
 
-disturbances_are : most_disturbances ≡ 64
+disturbances_are : most_disturbances ≡ disturbance_limit Wide
 disturbances_are = refl
 
 groups_are : most_groups ≡ 16

@@ -1,26 +1,26 @@
 -- The line of a checked plan is sound.
-use Rattle.std.proofs.Common.{◌≡◌, ℕ, zero, suc, ◌+◌, ◌*◌, ◌/◌, ◌<◌, ◌≤◌, List, [], ◌++◌, length, take, refl, sym, ◌∙◌, ap, arith, Bool, true, false, cond, not, inl, inr, nat_lt}
+use Rattle.std.proofs.Common.{◌≡◌, ℕ, zero, suc, ◌+◌, ◌*◌, ◌/◌, ◌<◌, ◌≤◌, List, [], ◌++◌, length, refl, ap, arith, Bool, true, false, cond, inl, inr, nat_lt}
 use Rattle.std.proofs.Math.Nat.{div-mul-le_self, mul-le-mul_left}
-use Rattle.std.proofs.Math.Seq.{take-append_seam}
 use Rattle.wl_level.specs.declared.Level.{Level}
-use Rattle.wl_level.specs.declared.Level.TheVariants.{Dominant, Recessive}
-use Rattle.wl_level.specs.Levels.{is_dominant, same}
-use Rattle.wl_level.specs.Places.{count_places, PlaceLaws}
+use Rattle.wl_level.specs.Levels.{is_dominant}
+use Rattle.wl_level.specs.Places.{PlaceLaws}
 use Rattle.wl_segments.specs.declared.SyncRules.{SyncRules}
 use Rattle.wl_segments.specs.declared.SyncRules.TheVariants.{After, Book}
 use Rattle.wl_segments.specs.Lengths.{Lengths, least_way, found_by}
 use Rattle.std.proofs.lemmas.Bool.{ltb-false}
 use Rattle.wl_topology.proofs.Callers.{delay_positive}
-use Rattle.wl_clock.specs.Timing.{Timing, IsTiming, tick_of, slowest_rate, largest_offset}
+use Rattle.wl_clock.specs.Timing.{Timing, IsTiming, tick_of, slowest_rate}
+use Rattle.wl_limits.specs.declared.Limits.TheVariants.{Wide}
+use Rattle.wl_limits.specs.Limits.{offset_limit}
 use Rattle.wl_record_core.specs.Limits.{most_nodes-is, most_edges, most_edges-is, tick_end, tick_end-is}
 use Rattle.wl_node.specs.declared.setup.NodeSetup.{NodeSetup}
 use Rattle.wl_node.specs.History.{history_of}
-use Rattle.wl_node.specs.Quiet.{quiet_of, drive_at, changes_of}
+use Rattle.wl_node.specs.Quiet.{quiet_of, changes_of}
 use Rattle.wl_node.specs.declared.limits.TheConstants.{MOST_QUIET}
 use Rattle.wl_plan.specs.declared.plan.Plan.{Plan}
 use Rattle.wl_plan.specs.Limits.{latest_end, most_quanta, most_quanta-is, most_short_quanta, most_short_quanta-is, most_quiet, most_quiet-is}
 use Rattle.wl_plan.specs.PlanLine.{line_of, setup_at, no_setup, table_of}
-use Rattle.wl_plan.specs.Simulation.{seen, differs, ran, AreInside}
+use Rattle.wl_plan.specs.Simulation.{ran, AreInside}
 use Rattle.wl_plan.specs.SimulationLaws.{SimulationLaws}
 use Rattle.wl_plan.specs.Sound.{IsCausal, IsSound}
 use Rattle.wl_plan.specs.Checked.{IsChecked, CheckedIsSound, most_quanta_of}
@@ -112,7 +112,7 @@ module _ (places : PlaceLaws) (clocks : ClockLaws) (drives : QuietLaws) (laws : 
       let near : tick_of t (0 + most_quiet) ≤ tick_of t 0 + most_quiet * slowest_rate = clocks.high t timing 0 most_quiet in
       far (tick_of t most_quiet) (tick_of t (0 + most_quiet)) (tick_of t 0) t.offset (ap (tick_of t) (omega arith)) start near timing.near
     where
-      far : (a b c d : ℕ) → a ≡ b → c ≡ d → b ≤ c + most_quiet * slowest_rate → d ≤ largest_offset → a < tick_end
+      far : (a b c d : ℕ) → a ≡ b → c ≡ d → b ≤ c + most_quiet * slowest_rate → d ≤ offset_limit Wide → a < tick_end
       far a b c d e f g l = (let m : most_quiet * slowest_rate ≡ MOST_QUIET * slowest_rate = ap (λ n. n * slowest_rate) most_quiet-is in let r = tick_end-is in omega arith)
 
   next_near : (t : Timing) → IsTiming t → (k : ℕ) → tick_of t k < plan.end → tick_of t (suc k + most_quiet) < tick_end

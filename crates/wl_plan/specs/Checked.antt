@@ -11,7 +11,10 @@ use Rattle.wl_plan.specs.declared.check.PlanFault.{PlanFault}
 use Rattle.wl_plan.specs.declared.check.PlanFault.TheVariants as faults
 use Rattle.wl_plan.specs.declared.plan.Disturbance.{Disturbance}
 use Rattle.wl_plan.specs.declared.plan.Plan.{Plan}
-use Rattle.wl_plan.specs.Limits.{latest_end, most_quanta, most_short_quanta, most_queued, most_disturbances}
+use Rattle.wl_limits.specs.declared.Limits.{Limits}
+use Rattle.wl_limits.specs.declared.Limits.TheVariants.{Narrow}
+use Rattle.wl_limits.specs.Limits.{node_limit, end_limit, quanta_limit, short_quanta_limit, queue_limit, disturbance_limit}
+use Rattle.wl_plan.specs.Limits.{latest_end, most_quanta, most_short_quanta, most_queued, few_queued, most_disturbances}
 use Rattle.wl_plan.specs.PlanLine.{line_of}
 use Rattle.wl_plan.specs.Sound.{IsSound}
 
@@ -19,9 +22,16 @@ use Rattle.wl_plan.specs.Sound.{IsSound}
 abbrev pub most_quanta_of : Lengths → ℕ
 most_quanta_of l = if nat_lt (least_way l) 3 then most_short_quanta else most_quanta
 
+-- the same by these limits
+abbrev pub quanta_limit_of : Limits → Lengths → ℕ
+quanta_limit_of limits l = if nat_lt (least_way l) 3 then short_quanta_limit limits else quanta_limit limits
+
 -- few quanta of a node begin before the end; quanta count from 0
 abbrev pub HasFewQuanta : ℕ → NodeSetup → Type 0
 HasFewQuanta end node = (k : ℕ) → tick_of node.clock k < end → k < most_quanta_of node.segments
+
+abbrev pub HasFewQuantaBy : Limits → ℕ → NodeSetup → Type 0
+HasFewQuantaBy limits end node = (k : ℕ) → tick_of node.clock k < end → k < quanta_limit_of limits node.segments
 
 -- what is at a place on the cable comes to each node soon; what is at one node is at one that is there
 abbrev pub IsNear : Plan → Option ℕ → ℕ → Type 0
@@ -49,13 +59,13 @@ pub record IsChecked (plan : Plan) : Type 0 where
   pub disturbances : All (IsDisturbance plan) plan.disturbances
 
 -- no node, too many, or not as many as places
-abbrev pub has_wrong_nodes : Plan → Bool
-has_wrong_nodes plan =
-    (length plan.nodes == 0) || (nat_lt most_places (length plan.nodes) || not (length plan.nodes == length plan.topology.places))
+abbrev pub has_wrong_nodes : Limits → Plan → Bool
+has_wrong_nodes limits plan =
+    (length plan.nodes == 0) || (nat_lt (node_limit limits) (length plan.nodes) || not (length plan.nodes == length plan.topology.places))
 
 -- one quantum more than allowed begins before the end
-abbrev pub has_many_quanta : ℕ → NodeSetup → Bool
-has_many_quanta end node = nat_lt (tick_of node.clock (most_quanta_of node.segments)) end
+abbrev pub has_many_quanta : Limits → ℕ → NodeSetup → Bool
+has_many_quanta limits end node = nat_lt (tick_of node.clock (quanta_limit_of limits node.segments)) end
 
 -- more frames wait at it than so many
 abbrev pub has_long_queue : ℕ → NodeSetup → Bool
@@ -74,8 +84,8 @@ abbrev pub is_far : Plan → Disturbance → Bool
 is_far plan d = is_far_by plan d.node d.x
 
 -- what is wrong with a disturbance and its number, which counts from 0: it takes no tick, ends too late, is one too many, or is far
-abbrev pub is_refused : Plan → ℕ × Disturbance → Bool
-is_refused plan (n, d) = nat_le d.to d.from || (nat_lt latest_end d.to || (nat_le most_disturbances n || is_far plan d))
+abbrev pub is_refused : Limits → Plan → ℕ × Disturbance → Bool
+is_refused limits plan (n, d) = nat_le d.to d.from || (nat_lt (end_limit limits) d.to || (nat_le (disturbance_limit limits) n || is_far plan d))
 
 -- The first fault in their order: wrong nodes, a late end, the first node with many quanta, the first with a long queue, the
 -- first disturbance that is refused.
@@ -87,24 +97,33 @@ first_fault false false None (Some i) refused = Some (faults.Queue i)
 first_fault false false None None (Some n) = Some (faults.Disturbance n)
 first_fault false false None None None = None
 
--- if at most so many frames may wait at a node
-abbrev pub fault_within : ℕ → Plan → Option PlanFault
-fault_within queued plan =
-    first_fault (has_wrong_nodes plan) (nat_lt latest_end plan.end) (position (has_many_quanta plan.end) plan.nodes)
-    (position (has_long_queue queued) plan.nodes) (position (is_refused plan) (enumerate_from 0 plan.disturbances))
+-- by these limits, if at most so many frames may wait at a node
+abbrev pub fault_within : Limits → ℕ → Plan → Option PlanFault
+fault_within limits queued plan =
+    first_fault (has_wrong_nodes limits plan) (nat_lt (end_limit limits) plan.end) (position (has_many_quanta limits plan.end) plan.nodes)
+    (position (has_long_queue queued) plan.nodes) (position (is_refused limits plan) (enumerate_from 0 plan.disturbances))
 
 abbrev pub fault_of : Plan → Option PlanFault
-fault_of plan = fault_within most_queued plan
+fault_of plan = fault_within Narrow few_queued plan
 
 -- at most so many frames wait at each node
 abbrev pub HasShortQueues : ℕ → Plan → Type 0
 HasShortQueues queued plan = All (λ node. length node.queue ≤ queued) plan.nodes
 
--- a plan of clocks, segments and a cable has no fault exactly if it can be run, and few enough frames wait
+-- A plan is within these limits, and at most so many frames wait at each node.
+pub record IsPlanWithin (limits : Limits) (queued : ℕ) (plan : Plan) : Type 0 where
+  pub nodes : length plan.nodes ≤ node_limit limits
+  pub ends : plan.end ≤ end_limit limits
+  pub quanta : All (HasFewQuantaBy limits plan.end) plan.nodes
+  pub queues : HasShortQueues queued plan
+  pub few_disturbances : length plan.disturbances ≤ disturbance_limit limits
+  pub disturbances : All (λ d. d.to ≤ end_limit limits) plan.disturbances
+
+-- a plan of clocks, segments and a cable has no fault exactly if it can be run, and is within the limits
 abbrev pub FaultlessIsChecked : Type 0
-FaultlessIsChecked = (plan : Plan) (queued : ℕ) → queued ≤ most_queued → All (λ node. IsTiming node.clock) plan.nodes
+FaultlessIsChecked = (limits : Limits) (plan : Plan) (queued : ℕ) → queued ≤ queue_limit limits → All (λ node. IsTiming node.clock) plan.nodes
     → All (λ node. AreLengths node.segments) plan.nodes → IsTopology plan.topology
-    → (fault_within queued plan ≡ None) ↔ (IsChecked plan × HasShortQueues queued plan)
+    → (fault_within limits queued plan ≡ None) ↔ (IsChecked plan × IsPlanWithin limits queued plan)
 
 -- what a plan that can be run means keeps all on which its simulation rests
 abbrev pub CheckedIsSound : Type 0

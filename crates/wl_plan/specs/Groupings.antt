@@ -1,5 +1,5 @@
 -- Which group each node of a plan is in, as a list of numbers: the group of node i stands at place i. This project's profile.
-use Rattle.std.specs.Prelude.{◌≡◌, ℕ, suc, ◌<◌, ◌≤◌, ◌==◌, ◌↔◌, max, Bool, true, false, List, [], ◌∷◌, length, Some, All, Contains, filter, slice_get, unwrap_or}
+use Rattle.std.specs.Prelude.{◌≡◌, ℕ, suc, ◌<◌, ◌≤◌, ◌==◌, ◌↔◌, max, Bool, true, false, List, [], ◌∷◌, length, All, Contains, filter, slice_get, unwrap_or}
 use Rattle.std.specs.List.{range_with_len}
 use Rattle.std.specs.List.Sorted.{IsStrictlyIncreasing}
 use Rattle.wl_plan.specs.declared.grouping.TheConstants.{MOST_GROUPS}

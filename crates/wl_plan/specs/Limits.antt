@@ -1,6 +1,6 @@
--- The limits of a plan (this project's profile), each that of the constant of its name.
+-- The wide limits of a plan (this project's profile), each that of the constant of its name.
 use Rattle.std.specs.Prelude.{◌≡◌, ℕ, refl}
-use Rattle.wl_plan.specs.declared.limits.TheConstants.{LATEST_END, MOST_QUANTA, MOST_SHORT_QUANTA, MOST_QUEUED, MOST_DISTURBANCES}
+use Rattle.wl_plan.specs.declared.limits.TheConstants.{LATEST_END, MOST_QUANTA, MOST_SHORT_QUANTA, MOST_QUEUED, FEW_QUEUED, MOST_DISTURBANCES}
 -- the most quanta for which a node is said to keep its drive
 pub use Rattle.wl_node.specs.Limits.{most_quiet-is}
 unfoldable pub use Rattle.wl_node.specs.Limits.{most_quiet}
@@ -20,6 +20,10 @@ most_short_quanta = MOST_SHORT_QUANTA
 -- the most frames that wait at a node
 abbrev pub most_queued : ℕ
 most_queued = MOST_QUEUED
+
+-- the most frames that wait at a node of a plan that is checked without limits
+abbrev pub few_queued : ℕ
+few_queued = FEW_QUEUED
 
 -- the most disturbances of a plan
 abbrev pub most_disturbances : ℕ

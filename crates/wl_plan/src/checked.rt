@@ -2,17 +2,18 @@
 ghost use Rattle.std.specs.Prelude.{◌≡◌, ◌<◌, ◌≤◌, IfOk, length};
 ghost use Rattle.std.specs.Result.{result_err};
 ghost use Rattle.wl_plan.specs.Checked.{IsChecked, fault_of, fault_within};
-ghost use Rattle.wl_plan.specs.Limits.{most_queued};
+ghost use Rattle.wl_limits.specs.Limits.{queue_limit};
 ghost use Rattle.wl_plan.specs.PlanLine.{line_of, setup_at};
 ghost use Rattle.wl_plan.specs.Sound.{IsSound};
 ghost use Rattle.wl_topology.specs.Limits.{most_places};
 
 use crate::check::PlanFault;
 use crate::laws::checked_is_sound;
-use crate::limits::MOST_QUEUED;
+use crate::limits::FEW_QUEUED;
 use crate::plan::Plan;
 use std::marker::Model;
 use std::ops::Deref;
+use wl_limits::Limits;
 use wl_node::NodeSetup;
 
 /// A plan that passed its check, so that it can be run.
@@ -40,17 +41,17 @@ impl CheckedPlan {
         ensures fault { result_err result ≡ fault_of plan }
         ensures ok { IfOk result (λ checked. checked ≡ plan) }
     {
-        CheckedPlan::within(plan, MOST_QUEUED)
+        CheckedPlan::within(plan, Limits::Narrow, FEW_QUEUED)
     }
 
-    /// Returns the plan as a checked one if at most `queued` frames may wait at a node, or its first refusal, as `Plan::check_within` returns
-    /// it. It takes no memory.
-    pub fn within(plan: Plan, queued: usize) -> Result<CheckedPlan, PlanFault>
-        requires { queued ≤ most_queued }
-        ensures fault { result_err result ≡ fault_within queued plan }
+    /// Returns the plan as a checked one by these limits if at most `queued` frames may wait at a node, or its first refusal, as
+    /// `Plan::check_within` returns it. It takes no memory.
+    pub fn within(plan: Plan, limits: Limits, queued: usize) -> Result<CheckedPlan, PlanFault>
+        requires { queued ≤ queue_limit limits }
+        ensures fault { result_err result ≡ fault_within limits queued plan }
         ensures ok { IfOk result (λ checked. checked ≡ plan) }
     {
-        match plan.check_within(queued) {
+        match plan.check_within(limits, queued) {
             Ok(()) => Ok(CheckedPlan { plan }),
             Err(fault) => Err(fault),
         }
@@ -64,7 +65,7 @@ impl CheckedPlan {
         CheckedPlan { plan }
     }
 
-    /// Returns the number of nodes: 1 to 16.
+    /// Returns the number of nodes: 1 to 64.
     pub fn nodes(&self) -> u8
         ensures value { result ≡ length self.now.nodes }
         ensures some { 0 < result }

@@ -17,5 +17,7 @@ pub use laws::{
     a_line_at_rest_stays, changes_are_few, checked_is_sound, faultless_is_checked, grouping_laws,
     outcome_is_true, simulation_laws, test_of_truth,
 };
-pub use limits::{LATEST_END, MOST_DISTURBANCES, MOST_QUANTA, MOST_QUEUED, MOST_SHORT_QUANTA};
+pub use limits::{
+    FEW_QUEUED, LATEST_END, MOST_DISTURBANCES, MOST_QUANTA, MOST_QUEUED, MOST_SHORT_QUANTA,
+};
 pub use plan::{Disturbance, Disturbances, Nodes, Plan};

@@ -7,7 +7,8 @@ use Rattle.wl_topology.specs.Delays.{AcceptedWhereKept, delay_of}
 use Rattle.wl_frame.specs.Grammar.{Content, IsContent, bits_of}
 use Rattle.wl_frame.specs.Stuffing.{Stuffs}
 use Rattle.wl_plan.specs.Checked.{FaultlessIsChecked, fault_within}
-use Rattle.wl_plan.specs.Limits.{most_quanta, most_queued, most_short_quanta}
+use Rattle.wl_limits.specs.declared.Limits.TheVariants.{Narrow}
+use Rattle.wl_plan.specs.Limits.{few_queued}
 use Rattle.wl_plan.specs.PlanLine.{setup_at}
 use Rattle.wl_bound.specs.Families.{member_at}
 use Rattle.wl_bound.specs.Verdicts.{has_frames}
@@ -46,14 +47,12 @@ is_timing offset millionths near low high = record {
 are_lengths : AreLengths lengths
 are_lengths = record {
   prop_low = omega arith;
-  prop_high = omega arith;
   ps1_low = omega arith;
-  ps1_high = omega arith;
   ps2_low = omega arith;
-  ps2_high = omega arith;
   sjw_low = omega arith;
-  sjw_high = omega arith;
   sjw_ps1 = omega arith;
+  sjw_half = omega arith;
+  sjw_ps2 = omega arith;
   low = omega arith;
   high = omega arith;
 }
@@ -61,18 +60,18 @@ are_lengths = record {
 is_content : (id : ℕ) → id ≤ 2047 → IsContent (frame id)
 is_content id less = record { id = less; dlc = omega arith; count = refl; bytes = λ k. omega arith }
 
-no_fault : fault_within most_queued cyclic ≡ None
-unfolding most_quanta most_short_quanta tick_of
+no_fault : fault_within Narrow few_queued cyclic ≡ None
+unfolding tick_of
 no_fault = refl
 
 module _ (topology : AcceptedWhereKept) (checked : FaultlessIsChecked) where
   runs : IsRunnable cyclic
   runs = record {
     checked =
-        ((checked cyclic most_queued (let r : most_queued ≤ most_queued = omega arith in r)
+        ((checked Narrow cyclic few_queued (omega arith)
         (three (λ n. IsTiming n.clock) _ _ _ (is_timing 300 1000060 (omega arith) (omega arith) (omega arith)) (is_timing 900 999920 (omega arith) (omega arith) (omega arith))
         (is_timing 0 1000000 (omega arith) (omega arith) (omega arith)))
-        (three (λ n. AreLengths n.segments) _ _ _ are_lengths are_lengths are_lengths) ((topology cyclic.topology.places 5).0 refl)).0 no_fault).0;
+        (three (λ n. AreLengths n.segments) _ _ _ are_lengths are_lengths are_lengths) ((topology Narrow cyclic.topology.places 5).0 refl).0).0 no_fault).0;
     frames = each_node (λ i. All (λ q. IsContent q.frame) (setup_at cyclic i).queue) (alone (λ q. IsContent q.frame) _ (is_content 240 (omega arith)))
         (alone (λ q. IsContent q.frame) _ (is_content 272 (omega arith))) (alone (λ q. IsContent q.frame) _ (is_content 944 (omega arith)));
   }

@@ -9,11 +9,13 @@ use Rattle.std.proofs.lemmas.Fmt.{decimal_is_IsNumeral, decimal_digit, first_dec
 use Rattle.std.proofs.lemmas.Str.Parse.{numerals_by_value, IsNumeralModel}
 use Rattle.std.proofs.lemmas.Bool.Decides.{eqb_tells}
 use Rattle.std.proofs.lemmas.List.{append-nil}
+use Rattle.wl_limits.specs.declared.Limits.{Limits}
+use Rattle.wl_limits.specs.declared.Limits.TheVariants.{Narrow, Wide}
 use Rattle.wl_record_core.specs.declared.record.Record.{Record}
 use Rattle.wl_record_core.specs.declared.record.Record.TheVariants.{Edge, Clash, Silence}
 use Rattle.wl_record.specs.Limits.{most_line, most_line-is}
-use Rattle.wl_record_core.specs.Limits.{most_nodes, most_nodes-is, most_edges, most_edges-is, tick_end, tick_end-is}
-use Rattle.wl_record_core.specs.Within.{IsWithin}
+use Rattle.wl_record_core.specs.Limits.{record_nodes, record_edges, most_nodes-is, most_edges-is, text_nodes-is, text_edges-is, tick_end, tick_end-is}
+use Rattle.wl_record_core.specs.Within.{IsWithinBy}
 use Rattle.wl_record_core.specs.Text.{words_of, text_of}
 use Rattle.wl_record.specs.Grammar.{IsNumber, Fields, letter_of, numbers_of, Spells, Lines}
 use Rattle.wl_record.specs.Faults.{HasNoNewline}
@@ -130,16 +132,24 @@ words_are_written (Edge a b c) = ap (λ z. 69 ∷ 32 ∷ z) (append_assoc (decim
 words_are_written (Clash a b) = ap (λ z. 67 ∷ 32 ∷ (decimal a ++ (32 ∷ z))) (sym (append-nil (decimal b)))
 words_are_written (Silence a b c) = ap (λ z. 83 ∷ 32 ∷ z) (append_assoc (decimal a) (32 ∷ decimal b) (32 ∷ decimal c) ∙ ap (λ z. decimal a ++ (32 ∷ (decimal b ++ (32 ∷ z)))) (sym (append-nil (decimal c))))
 
-within_small : (r : Record) → IsWithin r → AllSmall (numbers_of r)
-within_small (Edge a b c) h = (omega (arith, h.0, most_nodes-is), (omega (arith, h.1, most_edges-is), (omega (arith, h.2, tick_end-is), tt)))
-within_small (Clash a b) h = (omega (arith, h.0, most_nodes-is), (omega (arith, h.1, most_edges-is), tt))
-within_small (Silence a b c) h = (omega (arith, h.0, most_nodes-is), (omega (arith, h.1, most_edges-is), (omega (arith, h.2, tick_end-is), tt)))
+pub few_nodes : (limits : Limits) → record_nodes limits ≤ 64
+few_nodes Narrow = omega (arith, text_nodes-is)
+few_nodes Wide = omega (arith, most_nodes-is)
 
-pub spelled_is_written : (line : List ℕ) (r : Record) → IsWithin r → Spells line r → line ≡ words_of r
-spelled_is_written line r w h = h.1 ∙ (ap (λ z. letter_of r ∷ z) (fields_are_written h.0 (numbers_of r) (within_small r w) h.2) ∙ sym (words_are_written r))
+pub few_edges : (limits : Limits) → record_edges limits ≤ 268435457
+few_edges Narrow = omega (arith, text_edges-is)
+few_edges Wide = omega (arith, most_edges-is)
 
-pub written_is_spelled : (line : List ℕ) (r : Record) → IsWithin r → line ≡ words_of r → Spells line r
-written_is_spelled line r w e = (written (numbers_of r), e ∙ words_are_written r, written_are_fields (numbers_of r) (within_small r w))
+within_small : (limits : Limits) (r : Record) → IsWithinBy limits r → AllSmall (numbers_of r)
+within_small limits (Edge a b c) h = (omega (arith, h.0, few_nodes limits), (omega (arith, h.1, few_edges limits), (omega (arith, h.2, tick_end-is), tt)))
+within_small limits (Clash a b) h = (omega (arith, h.0, few_nodes limits), (omega (arith, h.1, few_edges limits), tt))
+within_small limits (Silence a b c) h = (omega (arith, h.0, few_nodes limits), (omega (arith, h.1, few_edges limits), (omega (arith, h.2, tick_end-is), tt)))
+
+pub spelled_is_written : (limits : Limits) (line : List ℕ) (r : Record) → IsWithinBy limits r → Spells line r → line ≡ words_of r
+spelled_is_written limits line r w h = h.1 ∙ (ap (λ z. letter_of r ∷ z) (fields_are_written h.0 (numbers_of r) (within_small limits r w) h.2) ∙ sym (words_are_written r))
+
+pub written_is_spelled : (limits : Limits) (line : List ℕ) (r : Record) → IsWithinBy limits r → line ≡ words_of r → Spells line r
+written_is_spelled limits line r w e = (written (numbers_of r), e ∙ words_are_written r, written_are_fields (numbers_of r) (within_small limits r w))
 
 -- ---- a line that is within is short
 length_three : (a b c k l m : ℕ) → length (decimal a) ≤ k → length (decimal b) ≤ l → length (decimal c) ≤ m → length (written (a ∷ b ∷ c ∷ [])) ≤ k + l + m + 3
@@ -148,27 +158,27 @@ length_three a b c k l m ha hb hc = omega (arith, length-append (decimal a) (32 
 length_two : (a b k l : ℕ) → length (decimal a) ≤ k → length (decimal b) ≤ l → length (written (a ∷ b ∷ [])) ≤ k + l + 2
 length_two a b k l ha hb = omega (arith, length-append (decimal a) (32 ∷ (decimal b ++ [])), length-append (decimal b) [])
 
-node_digits : (n : ℕ) → n < most_nodes → length (decimal n) ≤ 2
-node_digits n h = length-decimal-le 2 n (omega arith) (omega (arith, h, most_nodes-is)) (omega (arith, h, most_nodes-is))
+node_digits : (limits : Limits) (n : ℕ) → n < record_nodes limits → length (decimal n) ≤ 2
+node_digits limits n h = length-decimal-le 2 n (omega arith) (omega (arith, h, few_nodes limits)) (omega (arith, h, few_nodes limits))
 
-place_digits : (n : ℕ) → n ≤ most_edges → length (decimal n) ≤ 6
-place_digits n h = length-decimal-le 6 n (omega arith) (omega (arith, h, most_edges-is)) (omega (arith, h, most_edges-is))
+place_digits : (limits : Limits) (n : ℕ) → n ≤ record_edges limits → length (decimal n) ≤ 9
+place_digits limits n h = length-decimal-le 9 n (omega arith) (omega (arith, h, few_edges limits)) (omega (arith, h, few_edges limits))
 
 tick_digits : (n : ℕ) → n < tick_end → length (decimal n) ≤ 15
 tick_digits n h = length-decimal-le 15 n (omega arith) (omega (arith, h, tick_end-is)) (omega (arith, h, tick_end-is))
 
--- ten less than a line may have
-pub words_short : (r : Record) → IsWithin r → length (words_of r) < 28
-words_short (Edge a b c) w = omega (arith, ap length (words_are_written (Edge a b c)), length_three a b c 2 6 15 (node_digits a w.0) (place_digits b (omega (arith, w.1))) (tick_digits c w.2))
-words_short (Clash a b) w = omega (arith, ap length (words_are_written (Clash a b)), length_two a b 2 6 (node_digits a w.0) (place_digits b (omega (arith, w.1))))
-words_short (Silence a b c) w = omega (arith, ap length (words_are_written (Silence a b c)), length_three a b c 2 6 15 (node_digits a w.0) (place_digits b w.1) (tick_digits c w.2))
+-- less than a line may have
+pub words_short : (limits : Limits) (r : Record) → IsWithinBy limits r → length (words_of r) < 31
+words_short limits (Edge a b c) w = omega (arith, ap length (words_are_written (Edge a b c)), length_three a b c 2 9 15 (node_digits limits a w.0) (place_digits limits b (omega (arith, w.1))) (tick_digits c w.2))
+words_short limits (Clash a b) w = omega (arith, ap length (words_are_written (Clash a b)), length_two a b 2 9 (node_digits limits a w.0) (place_digits limits b (omega (arith, w.1))))
+words_short limits (Silence a b c) w = omega (arith, ap length (words_are_written (Silence a b c)), length_three a b c 2 9 15 (node_digits limits a w.0) (place_digits limits b w.1) (tick_digits c w.2))
 
-pub spelled_short : (line : List ℕ) (r : Record) → IsWithin r → Spells line r → length line ≤ most_line
-spelled_short line r w h = omega (arith, ap length (spelled_is_written line r w h), words_short r w, most_line-is)
+pub spelled_short : (limits : Limits) (line : List ℕ) (r : Record) → IsWithinBy limits r → Spells line r → length line ≤ most_line
+spelled_short limits line r w h = omega (arith, ap length (spelled_is_written limits line r w h), words_short limits r w, most_line-is)
 
-pub lines_are_text : (text : List ℕ) (rs : List Record) → Lines text rs → AllByRecursion IsWithin rs → text ≡ text_of rs
-lines_are_text text [] h w = h
-lines_are_text text (r ∷ rs) h w =
-    let line : h.0 ≡ words_of r = spelled_is_written h.0 r w.0 h.2 in
-    let more : h.1 ≡ text_of rs = lines_are_text h.1 rs h.4 w.1 in
+pub lines_are_text : (limits : Limits) (text : List ℕ) (rs : List Record) → Lines text rs → AllByRecursion (IsWithinBy limits) rs → text ≡ text_of rs
+lines_are_text limits text [] h w = h
+lines_are_text limits text (r ∷ rs) h w =
+    let line : h.0 ≡ words_of r = spelled_is_written limits h.0 r w.0 h.2 in
+    let more : h.1 ≡ text_of rs = lines_are_text limits h.1 rs h.4 w.1 in
     h.3 ∙ ((λ i. line i ++ (10 ∷ more i)) ∙ sym (append_assoc (words_of r) (10 ∷ []) (text_of rs)))

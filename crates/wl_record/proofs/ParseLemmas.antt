@@ -2,13 +2,14 @@
 use Rattle.std.specs.Prelude.{◌≡◌, ℕ, ◌+◌, ◌^◌, ◌<◌, List, [], ◌∷◌, ◌++◌, length, refl, Option, Some, None, MatchOption}
 use Rattle.std.specs.Str.Parse.{digits_value}
 use Rattle.std.proofs.Common.{sym, ap, ◌∙◌, subst, arith, append_assoc}
+use Rattle.wl_limits.specs.declared.Limits.{Limits}
 use Rattle.wl_record_core.specs.declared.record.Record.{Record}
 use Rattle.wl_record_core.specs.declared.record.Record.TheVariants.{Edge, Clash, Silence}
 use Rattle.wl_record.specs.Grammar.{Fields, letter_of, numbers_of, Spells}
-use Rattle.wl_record_core.specs.Limits.{most_nodes, most_nodes-is, most_edges, most_edges-is, tick_end, tick_end-is}
-use Rattle.wl_record_core.specs.Within.{IsWithin}
+use Rattle.wl_record_core.specs.Limits.{record_nodes, record_edges, tick_end, tick_end-is}
+use Rattle.wl_record_core.specs.Within.{IsWithinBy}
 use Rattle.wl_record.specs.Parsing.{number_as_read, IsField, FieldsThen, Begins, IsFront}
-use Rattle.wl_record.proofs.GrammarLemmas.{digits_split, fields_stop}
+use Rattle.wl_record.proofs.GrammarLemmas.{digits_split, fields_stop, few_nodes, few_edges}
 
 pub field_once : (bytes : List ℕ) (n m : ℕ) (rest more : List ℕ) → IsField bytes n rest → IsField bytes m more → (n ≡ m) × (rest ≡ more)
 field_once bytes n m rest more h g =
@@ -76,70 +77,70 @@ capped_small n m h small = omega (arith, h, small)
 small_capped : (n m : ℕ) → n < m → m < 2 ^ 59 → number_as_read n ≡ n
 small_capped n m h small = omega (arith, h, small)
 
-node_limit : most_nodes < 2 ^ 59
-node_limit = omega (arith, most_nodes-is)
+node_limit : (limits : Limits) → record_nodes limits < 2 ^ 59
+node_limit limits = omega (arith, few_nodes limits)
 
-edge_limit : most_edges + 1 < 2 ^ 59
-edge_limit = omega (arith, most_edges-is)
+edge_limit : (limits : Limits) → record_edges limits + 1 < 2 ^ 59
+edge_limit limits = omega (arith, few_edges limits)
 
 tick_limit : tick_end < 2 ^ 59
 tick_limit = omega (arith, tick_end-is)
 
 -- ---- a record of each letter
-three_found : (make : ℕ → ℕ → ℕ → Record) (letter : ℕ) → ((a b k : ℕ) → letter_of (make a b k) ≡ letter) → ((a b k : ℕ) → numbers_of (make a b k) ≡ a ∷ b ∷ k ∷ [])
-    → ((a b k : ℕ) → IsWithin (make (number_as_read a) (number_as_read b) (number_as_read k)) → (number_as_read a ≡ a) × (number_as_read b ≡ b) × (number_as_read k ≡ k))
-    → ((a b k : ℕ) → IsWithin (make a b k) → (number_as_read a ≡ a) × (number_as_read b ≡ b) × (number_as_read k ≡ k))
+three_found : (limits : Limits) (make : ℕ → ℕ → ℕ → Record) (letter : ℕ) → ((a b k : ℕ) → letter_of (make a b k) ≡ letter) → ((a b k : ℕ) → numbers_of (make a b k) ≡ a ∷ b ∷ k ∷ [])
+    → ((a b k : ℕ) → IsWithinBy limits (make (number_as_read a) (number_as_read b) (number_as_read k)) → (number_as_read a ≡ a) × (number_as_read b ≡ b) × (number_as_read k ≡ k))
+    → ((a b k : ℕ) → IsWithinBy limits (make a b k) → (number_as_read a ≡ a) × (number_as_read b ≡ b) × (number_as_read k ≡ k))
     → (fields : List ℕ) (rest : List ℕ) (told : Option Record) (x y z : ℕ)
     → ((a b k : ℕ) × FieldsThen fields (a ∷ b ∷ k ∷ []) rest × (x ≡ number_as_read a) × (y ≡ number_as_read b) × (z ≡ number_as_read k))
-    → MatchOption told (¬ (IsWithin (make x y z))) (λ r. (r ≡ make x y z) × IsWithin r) → IsFront letter fields told rest
-three_found make letter is_letter is_numbers below above fields rest None x y z (a, b, k, f, ex, ey, ez) h = (
+    → MatchOption told (¬ (IsWithinBy limits (make x y z))) (λ r. (r ≡ make x y z) × IsWithinBy limits r) → IsFront limits letter fields told rest
+three_found limits make letter is_letter is_numbers below above fields rest None x y z (a, b, k, f, ex, ey, ez) h = (
   make a b k,
   is_letter a b k,
   subst (λ ns. FieldsThen fields ns rest) (sym (is_numbers a b k)) f,
   λ w.
       let same = above a b k w in
       let e : make a b k ≡ make x y z = (λ i. make (sym same.0 i) (sym same.1 i) (sym same.2 i)) ∙ (λ i. make (sym ex i) (sym ey i) (sym ez i)) in
-      h (subst IsWithin e w),
+      h (subst (IsWithinBy limits) e w),
 )
-three_found make letter is_letter is_numbers below above fields rest (Some r) x y z (a, b, k, f, ex, ey, ez) h =
+three_found limits make letter is_letter is_numbers below above fields rest (Some r) x y z (a, b, k, f, ex, ey, ez) h =
     let e : r ≡ make (number_as_read a) (number_as_read b) (number_as_read k) = h.0 ∙ (λ i. make (ex i) (ey i) (ez i)) in
-    let same = below a b k (subst IsWithin e h.1) in
+    let same = below a b k (subst (IsWithinBy limits) e h.1) in
     let is : r ≡ make a b k = e ∙ (λ i. make (same.0 i) (same.1 i) (same.2 i)) in
     (ap letter_of is ∙ is_letter a b k, subst (λ ns. FieldsThen fields ns rest) (sym (ap numbers_of is ∙ is_numbers a b k)) f, h.1)
 
-pub edge_found : (fields rest : List ℕ) (told : Option Record) (x y z : ℕ)
+pub edge_found : (limits : Limits) (fields rest : List ℕ) (told : Option Record) (x y z : ℕ)
     → ((a b k : ℕ) × FieldsThen fields (a ∷ b ∷ k ∷ []) rest × (x ≡ number_as_read a) × (y ≡ number_as_read b) × (z ≡ number_as_read k))
-    → MatchOption told (¬ (IsWithin (Edge x y z))) (λ r. (r ≡ Edge x y z) × IsWithin r) → IsFront 69 fields told rest
-edge_found fields rest told x y z = three_found Edge 69 (λ a b k. refl) (λ a b k. refl)
-    (λ a b k w. (capped_small a most_nodes w.0 node_limit, capped_small b most_edges w.1 (omega (arith, edge_limit)), capped_small k tick_end w.2 tick_limit))
-    (λ a b k w. (small_capped a most_nodes w.0 node_limit, small_capped b most_edges w.1 (omega (arith, edge_limit)), small_capped k tick_end w.2 tick_limit))
+    → MatchOption told (¬ (IsWithinBy limits (Edge x y z))) (λ r. (r ≡ Edge x y z) × IsWithinBy limits r) → IsFront limits 69 fields told rest
+edge_found limits fields rest told x y z = three_found limits Edge 69 (λ a b k. refl) (λ a b k. refl)
+    (λ a b k w. (capped_small a (record_nodes limits) w.0 (node_limit limits), capped_small b (record_edges limits) w.1 (omega (arith, edge_limit limits)), capped_small k tick_end w.2 tick_limit))
+    (λ a b k w. (small_capped a (record_nodes limits) w.0 (node_limit limits), small_capped b (record_edges limits) w.1 (omega (arith, edge_limit limits)), small_capped k tick_end w.2 tick_limit))
     fields rest told x y z
 
-pub silence_found : (fields rest : List ℕ) (told : Option Record) (x y z : ℕ)
+pub silence_found : (limits : Limits) (fields rest : List ℕ) (told : Option Record) (x y z : ℕ)
     → ((a b k : ℕ) × FieldsThen fields (a ∷ b ∷ k ∷ []) rest × (x ≡ number_as_read a) × (y ≡ number_as_read b) × (z ≡ number_as_read k))
-    → MatchOption told (¬ (IsWithin (Silence x y z))) (λ r. (r ≡ Silence x y z) × IsWithin r) → IsFront 83 fields told rest
-silence_found fields rest told x y z = three_found Silence 83 (λ a b k. refl) (λ a b k. refl)
-    (λ a b k w. (capped_small a most_nodes w.0 node_limit, capped_small b (most_edges + 1) (omega (arith, w.1)) edge_limit, capped_small k tick_end w.2 tick_limit))
-    (λ a b k w. (small_capped a most_nodes w.0 node_limit, small_capped b (most_edges + 1) (omega (arith, w.1)) edge_limit, small_capped k tick_end w.2 tick_limit))
+    → MatchOption told (¬ (IsWithinBy limits (Silence x y z))) (λ r. (r ≡ Silence x y z) × IsWithinBy limits r) → IsFront limits 83 fields told rest
+silence_found limits fields rest told x y z = three_found limits Silence 83 (λ a b k. refl) (λ a b k. refl)
+    (λ a b k w. (capped_small a (record_nodes limits) w.0 (node_limit limits), capped_small b (record_edges limits + 1) (omega (arith, w.1)) (edge_limit limits), capped_small k tick_end w.2 tick_limit))
+    (λ a b k w. (small_capped a (record_nodes limits) w.0 (node_limit limits), small_capped b (record_edges limits + 1) (omega (arith, w.1)) (edge_limit limits), small_capped k tick_end w.2 tick_limit))
     fields rest told x y z
 
-pub clash_found : (fields rest : List ℕ) (told : Option Record) (x y : ℕ)
+pub clash_found : (limits : Limits) (fields rest : List ℕ) (told : Option Record) (x y : ℕ)
     → ((a b : ℕ) × FieldsThen fields (a ∷ b ∷ []) rest × (x ≡ number_as_read a) × (y ≡ number_as_read b))
-    → MatchOption told (¬ (IsWithin (Clash x y))) (λ r. (r ≡ Clash x y) × IsWithin r) → IsFront 67 fields told rest
-clash_found fields rest None x y (a, b, f, ex, ey) h = (
+    → MatchOption told (¬ (IsWithinBy limits (Clash x y))) (λ r. (r ≡ Clash x y) × IsWithinBy limits r) → IsFront limits 67 fields told rest
+clash_found limits fields rest None x y (a, b, f, ex, ey) h = (
   Clash a b,
   refl,
   f,
   λ w.
-      let ea : number_as_read a ≡ a = small_capped a most_nodes w.0 node_limit in
-      let eb : number_as_read b ≡ b = small_capped b most_edges w.1 (omega (arith, edge_limit)) in
-      h (subst IsWithin (λ i. Clash ((sym ea ∙ sym ex) i) ((sym eb ∙ sym ey) i)) w),
+      let ea : number_as_read a ≡ a = small_capped a (record_nodes limits) w.0 (node_limit limits) in
+      let eb : number_as_read b ≡ b = small_capped b (record_edges limits) w.1 (omega (arith, edge_limit limits)) in
+      h (subst (IsWithinBy limits) (λ i. Clash ((sym ea ∙ sym ex) i) ((sym eb ∙ sym ey) i)) w),
 )
-clash_found fields rest (Some r) x y (a, b, f, ex, ey) h =
+clash_found limits fields rest (Some r) x y (a, b, f, ex, ey) h =
     let e : r ≡ Clash (number_as_read a) (number_as_read b) = h.0 ∙ (λ i. Clash (ex i) (ey i)) in
-    let w = subst IsWithin e h.1 in
-    let ea : number_as_read a ≡ a = capped_small a most_nodes w.0 node_limit in
-    let eb : number_as_read b ≡ b = capped_small b most_edges w.1 (omega (arith, edge_limit)) in
+    let w = subst (IsWithinBy limits) e h.1 in
+    let ea : number_as_read a ≡ a = capped_small a (record_nodes limits) w.0 (node_limit limits) in
+    let eb : number_as_read b ≡ b = capped_small b (record_edges limits) w.1 (omega (arith, edge_limit limits)) in
     let is : r ≡ Clash a b = e ∙ (λ i. Clash (ea i) (eb i)) in
     (ap letter_of is, subst (λ ns. FieldsThen fields ns rest) (sym (ap numbers_of is)) f, h.1)
 

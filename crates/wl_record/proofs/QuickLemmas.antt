@@ -8,8 +8,9 @@ use Rattle.std.proofs.lemmas.Int.Digits.{digits_value_more, digits_more}
 use Rattle.std.proofs.lemmas.List.{get_or-drop, get_or-take, length-take, length-take-le, drop-drop}
 use Rattle.std.proofs.lemmas.Str.Parse.{digits_value_short}
 use Prim.Native.Nat.{suc}
+use Rattle.wl_limits.specs.declared.Limits.{Limits}
 use Rattle.wl_record_core.specs.declared.record.Record.{Record}
-use Rattle.wl_record_core.specs.Within.{IsWithin}
+use Rattle.wl_record_core.specs.Within.{IsWithinBy}
 use Rattle.wl_record.specs.Grammar.{letter_of, numbers_of}
 use Rattle.wl_record.specs.Parsing.{IsField, FieldsThen, TakesLine, Stops}
 use Rattle.wl_record.proofs.GrammarLemmas.{own}
@@ -63,12 +64,12 @@ field_there bytes space to n is some within digits value plain stop =
     }
 
 -- a line of a letter and three fields
-pub three_there : (bytes : List ℕ) (told : Record) (a b c x y z : ℕ) → 1 < length bytes → letter_of told ≡ get_or bytes 0 0 → numbers_of told ≡ x ∷ y ∷ z ∷ [] → IsWithin told
+pub three_there : (limits : Limits) (bytes : List ℕ) (told : Record) (a b c x y z : ℕ) → 1 < length bytes → letter_of told ≡ get_or bytes 0 0 → numbers_of told ≡ x ∷ y ∷ z ∷ [] → IsWithinBy limits told
     → IsField (drop 1 bytes) x (drop a bytes) → IsField (drop a bytes) y (drop b bytes) → IsField (drop b bytes) z (drop c bytes) → c < length bytes → get_or bytes c 0 ≡ 10
-    → (rest : List ℕ) → rest ≡ drop (c + 1) bytes → TakesLine bytes told rest
-three_there bytes told a b c x y z some letter numbers within first second third room newline rest is =
+    → (rest : List ℕ) → rest ≡ drop (c + 1) bytes → TakesLine limits bytes told rest
+three_there limits bytes told a b c x y z some letter numbers within first second third room newline rest is =
     let one : suc c ≡ c + 1 = omega arith in
-    front_line bytes told (drop c bytes) rest (
+    front_line limits bytes told (drop c bytes) rest (
       drop 1 bytes,
       drop-cons bytes 0 0 (omega arith) ∙ (λ i. sym letter i ∷ drop 1 bytes),
       subst (λ ns. FieldsThen (drop 1 bytes) ns (drop c bytes)) (sym numbers) (drop a bytes, first, (drop b bytes, second, (drop c bytes, third, refl))),

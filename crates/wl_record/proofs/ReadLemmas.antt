@@ -3,17 +3,18 @@ use Rattle.std.specs.Prelude.{◌≡◌, ◌≢◌, ℕ, ◌+◌, ◌<◌, ◌�
 use Rattle.std.proofs.Common.{inl, inr, sym, ap, ◌∙◌, subst, arith, append_assoc, length-append, length-drop, take-append-drop}
 use Rattle.std.proofs.lemmas.List.{drop-take, take-take, length-take, length-take-le, append-nil}
 use Rattle.std.proofs.lemmas.Bool.{ltb-true, ltb-false}
+use Rattle.wl_limits.specs.declared.Limits.{Limits}
 use Rattle.wl_record_core.specs.declared.record.Record.{Record}
 use Rattle.wl_record.specs.declared.fault.TextFault.{TextFault}
 use Rattle.wl_record.specs.declared.fault.TextFault.TheVariants.{Truncated, Read, TooLong}
-use Rattle.wl_record.specs.declared.parse.LineFault.TheVariants.{Grammar, Limits}
+use Rattle.wl_record.specs.declared.parse.LineFault.TheVariants.{Grammar, Beyond}
 use Rattle.wl_record.specs.declared.parse.Stop.{Stop}
 use Rattle.wl_record.specs.declared.parse.Stop.TheVariants.{Open, Long, Refused}
 use Rattle.wl_device.specs.Limits.{most_calls, most_calls-is}
 use Rattle.wl_device.specs.declared.limits.TheConstants.{MOST_CALLS}
 use Rattle.wl_record.specs.declared.limits.TheConstants.{MOST_BYTES}
 use Rattle.wl_record.specs.Limits.{most_record_bytes, most_record_bytes-is, most_line, most_line-is}
-use Rattle.wl_record_core.specs.Within.{IsWithin}
+use Rattle.wl_record_core.specs.Within.{IsWithinBy}
 use Rattle.wl_record.specs.Grammar.{Lines, IsText}
 use Rattle.wl_device.specs.Devices.{Answer, moved, ended, again, failed, moved_bytes}
 use Rattle.wl_device.specs.Readings.{at_end, broken_off, going_on}
@@ -34,10 +35,10 @@ lines_count front [] h = omega arith
 lines_count front (r ∷ rs) h = omega (arith, ap length h.3, length-append h.0 (10 ∷ h.1), lines_count h.1 rs h.4)
 
 -- where reading is after some more bytes
-pub stands_on : (text : List ℕ) (told : List Record) (begun came allowed beyond : List ℕ) (rs : List Record) (rest line tail : List ℕ) → Stands text told begun [] → begun ++ came ≡ allowed ++ beyond
-    → TakesLines allowed rs rest → rest ≡ line ++ tail → HasNoNewline line → length line ≤ most_line → length (text ++ came) ≤ most_record_bytes + length (tail ++ beyond)
-    → Stands (text ++ came) (told ++ rs) line (tail ++ beyond)
-stands_on text told begun came allowed beyond rs rest line tail h cut taken is one short few = record {
+pub stands_on : (limits : Limits) (text : List ℕ) (told : List Record) (begun came allowed beyond : List ℕ) (rs : List Record) (rest line tail : List ℕ) → Stands limits text told begun [] → begun ++ came ≡ allowed ++ beyond
+    → TakesLines limits allowed rs rest → rest ≡ line ++ tail → HasNoNewline line → length line ≤ most_line → length (text ++ came) ≤ most_record_bytes + length (tail ++ beyond)
+    → Stands limits (text ++ came) (told ++ rs) line (tail ++ beyond)
+stands_on limits text told begun came allowed beyond rs rest line tail h cut taken is one short few = record {
   front = h.front ++ taken.front;
   parts =
       ap (λ z. z ++ came) h.parts
@@ -46,15 +47,15 @@ stands_on text told begun came allowed beyond rs rest line tail h cut taken is o
       ∙ (ap (λ z. h.front ++ z) (cut ∙ (ap (λ z. z ++ beyond) (taken.parts ∙ ap (λ z. taken.front ++ z) is) ∙ (append_assoc taken.front (line ++ tail) beyond ∙ ap (λ z. taken.front ++ z) (append_assoc line tail beyond))))
       ∙ sym (append_assoc h.front taken.front (line ++ (tail ++ beyond))))));
   lines = lines_append h.front taken.front told rs h.lines taken.lines;
-  within = all_append IsWithin told rs h.within taken.within;
+  within = all_append (IsWithinBy limits) told rs h.within taken.within;
   one_line = one;
   short_line = short;
   short_text = few;
 }
 
 -- the text is whole where no line has begun
-pub whole_text : (text : List ℕ) (told : List Record) (begun : List ℕ) → Stands text told begun [] → begun ≡ [] → IsText text told
-whole_text text told begun h none = record {
+pub whole_text : (limits : Limits) (text : List ℕ) (told : List Record) (begun : List ℕ) → Stands limits text told begun [] → begun ≡ [] → IsText limits text told
+whole_text limits text told begun h none = record {
   lines = subst (λ z. Lines z told) (sym (h.parts ∙ (ap (λ z. h.front ++ (z ++ [])) none ∙ append-nil h.front))) h.lines;
   within = h.within;
   short = omega (arith, h.short_text);
@@ -69,45 +70,45 @@ within_limit true bytes beyond is full fits = omega (arith, is, full refl)
 within_limit false bytes beyond is full fits = omega (arith, is, fits refl)
 
 -- a stop in a piece is the first fault of the text
-stop_is_fault : (text : List ℕ) (told : List Record) (begun came : List ℕ) (past : Bool) (bytes n : ℕ) (rs : List Record) (stop : Stop) → Stands text told begun [] → StopsAt (begun ++ came) past rs stop
-    → length (text ++ came) ≡ bytes → (past ≡ true → bytes ≡ most_record_bytes + 1) → (past ≡ false → bytes ≤ most_record_bytes) → n ≡ length (told ++ rs) + 1 → IsFirstFault (text ++ came) going_on (stop_fault stop n)
-stop_is_fault text told begun came past bytes n rs Open h at total full fits count =
+stop_is_fault : (limits : Limits) (text : List ℕ) (told : List Record) (begun came : List ℕ) (past : Bool) (bytes n : ℕ) (rs : List Record) (stop : Stop) → Stands limits text told begun [] → StopsAt limits (begun ++ came) past rs stop
+    → length (text ++ came) ≡ bytes → (past ≡ true → bytes ≡ most_record_bytes + 1) → (past ≡ false → bytes ≤ most_record_bytes) → n ≡ length (told ++ rs) + 1 → IsFirstFault limits (text ++ came) going_on (stop_fault stop n)
+stop_is_fault limits text told begun came past bytes n rs Open h at total full fits count =
     let few : bytes ≤ most_record_bytes + length at.beyond = within_limit past bytes at.beyond at.beyond_is full fits in
     let is_past : past ≡ true = at.open_is_past refl in
-    let stands = stands_on text told begun came at.allowed at.beyond rs at.rest at.rest [] h at.parts at.taken (sym (append-nil at.rest)) at.stops.0 at.stops.1 (omega (arith, total, few)) in
+    let stands = stands_on limits text told begun came at.allowed at.beyond rs at.rest at.rest [] h at.parts at.taken (sym (append-nil at.rest)) at.stops.0 at.stops.1 (omega (arith, total, few)) in
     let one : length at.beyond ≡ 1 = at.beyond_is ∙ ap past_len is_past in
     let edge : length (text ++ came) ≡ most_record_bytes + length at.beyond = omega (arith, total, full is_past, one) in
-    elim at.beyond as (λ b. length b ≡ 1 → Stands (text ++ came) (told ++ rs) at.rest b → length (text ++ came) ≡ most_record_bytes + length b → IsFirstFault (text ++ came) going_on (TooLong n)) [
+    elim at.beyond as (λ b. length b ≡ 1 → Stands limits (text ++ came) (told ++ rs) at.rest b → length (text ++ came) ≡ most_record_bytes + length b → IsFirstFault limits (text ++ came) going_on (TooLong n)) [
       | [] ↦ λ o st ed. absurd (omega (arith, o))
       | b ∷ more ↦ λ o st ed. (told ++ rs, at.rest, b ∷ more, st, (count, (b, more, refl, inl ed)))
     ] one stands edge
-stop_is_fault text told begun came past bytes n rs Long h at total full fits count =
+stop_is_fault limits text told begun came past bytes n rs Long h at total full fits count =
     let few : bytes ≤ most_record_bytes + length at.beyond = within_limit past bytes at.beyond at.beyond_is full fits in
     let line = at.stops.0 in
     let next = at.stops.1 in
     let more = at.stops.2 in
-    let stands = stands_on text told begun came at.allowed at.beyond rs at.rest line (next ∷ more) h at.parts at.taken at.stops.3 at.stops.4 (omega (arith, at.stops.5)) (omega (arith, total, few, length-append more at.beyond)) in
+    let stands = stands_on limits text told begun came at.allowed at.beyond rs at.rest line (next ∷ more) h at.parts at.taken at.stops.3 at.stops.4 (omega (arith, at.stops.5)) (omega (arith, total, few, length-append more at.beyond)) in
     (told ++ rs, line, next ∷ (more ++ at.beyond), stands, (count, (next, more ++ at.beyond, refl, inr (at.stops.5, at.stops.6))))
-stop_is_fault text told begun came past bytes n rs (Refused Grammar) h at total full fits count =
+stop_is_fault limits text told begun came past bytes n rs (Refused Grammar) h at total full fits count =
     let few : bytes ≤ most_record_bytes + length at.beyond = within_limit past bytes at.beyond at.beyond_is full fits in
     let line = at.stops.0 in
     let more = at.stops.1 in
-    let stands = stands_on text told begun came at.allowed at.beyond rs at.rest line (10 ∷ more) h at.parts at.taken at.stops.2.parts at.stops.2.one_line at.stops.2.short (omega (arith, total, few, length-append more at.beyond)) in
+    let stands = stands_on limits text told begun came at.allowed at.beyond rs at.rest line (10 ∷ more) h at.parts at.taken at.stops.2.parts at.stops.2.one_line at.stops.2.short (omega (arith, total, few, length-append more at.beyond)) in
     (told ++ rs, line, 10 ∷ (more ++ at.beyond), stands, (count, (more ++ at.beyond, refl, omega (arith, total, few, length-append more at.beyond)), at.stops.3))
-stop_is_fault text told begun came past bytes n rs (Refused Limits) h at total full fits count =
+stop_is_fault limits text told begun came past bytes n rs (Refused Beyond) h at total full fits count =
     let few : bytes ≤ most_record_bytes + length at.beyond = within_limit past bytes at.beyond at.beyond_is full fits in
     let line = at.stops.0 in
     let more = at.stops.1 in
-    let stands = stands_on text told begun came at.allowed at.beyond rs at.rest line (10 ∷ more) h at.parts at.taken at.stops.2.parts at.stops.2.one_line at.stops.2.short (omega (arith, total, few, length-append more at.beyond)) in
+    let stands = stands_on limits text told begun came at.allowed at.beyond rs at.rest line (10 ∷ more) h at.parts at.taken at.stops.2.parts at.stops.2.one_line at.stops.2.short (omega (arith, total, few, length-append more at.beyond)) in
     (told ++ rs, line, 10 ∷ (more ++ at.beyond), stands, (count, (more ++ at.beyond, refl, omega (arith, total, few, length-append more at.beyond)), at.stops.3.0, at.stops.3.1, at.stops.3.2))
 
 -- the fault of a stop is one of the text
-stop_of_text : {S : Type 0} (gives : S → Answer → S → Type 0) (s u : S) (text : List ℕ) (answers : List Answer) (stop : Stop) (n : ℕ) → ReadsBy gives s text going_on u answers
-    → length text ≤ most_record_bytes + 1 → IsFirstFault text going_on (stop_fault stop n) → FaultOf gives s (stop_fault stop n) u
-stop_of_text gives s u text answers Open n h few f = (text, going_on, (answers, h), few, f)
-stop_of_text gives s u text answers Long n h few f = (text, going_on, (answers, h), few, f)
-stop_of_text gives s u text answers (Refused Grammar) n h few f = (text, going_on, (answers, h), few, f)
-stop_of_text gives s u text answers (Refused Limits) n h few f = (text, going_on, (answers, h), few, f)
+stop_of_text : (limits : Limits) {S : Type 0} (gives : S → Answer → S → Type 0) (s u : S) (text : List ℕ) (answers : List Answer) (stop : Stop) (n : ℕ) → ReadsBy gives s text going_on u answers
+    → length text ≤ most_record_bytes + 1 → IsFirstFault limits text going_on (stop_fault stop n) → FaultOf limits gives s (stop_fault stop n) u
+stop_of_text limits gives s u text answers Open n h few f = (text, going_on, (answers, h), few, f)
+stop_of_text limits gives s u text answers Long n h few f = (text, going_on, (answers, h), few, f)
+stop_of_text limits gives s u text answers (Refused Grammar) n h few f = (text, going_on, (answers, h), few, f)
+stop_of_text limits gives s u text answers (Refused Beyond) n h few f = (text, going_on, (answers, h), few, f)
 
 -- at most one byte came past those of a text
 one_past : (past : Bool) (bytes : ℕ) → (past ≡ true → bytes ≡ most_record_bytes + 1) → (past ≡ false → bytes ≤ most_record_bytes) → bytes ≤ most_record_bytes + 1
@@ -129,11 +130,11 @@ module _ {S : Type 0} (gives : S → Answer → S → Type 0) where
       calls = omega (arith, length-append answers (again ∷ []), h.calls);
       bytes = ap length (nothing_moved again refl) ∙ h.bytes;
       lines = ap length (append-nil told) ∙ h.lines;
-      stands = subst (λ z. Stands z (told ++ []) p.begun []) (sym (nothing_moved again refl)) (subst (λ z. Stands (moved_bytes answers) z p.begun []) (sym (append-nil told)) h.stands);
+      stands = subst (λ z. Stands p.limits z (told ++ []) p.begun []) (sym (nothing_moved again refl)) (subst (λ z. Stands p.limits (moved_bytes answers) z p.begun []) (sym (append-nil told)) h.stands);
     }
 
-    pub read_piece : (u : S) (came : List ℕ) (past : Bool) (rs : List Record) (begun : List ℕ) (bytes lines : ℕ) → gives t (moved came) u → TakesPiece (p.begun ++ came) past rs begun
-        → bytes ≡ p.bytes + length came → bytes ≤ most_record_bytes → lines ≡ p.lines + length rs → HasRead gives s (answers ++ moved came ∷ []) (told ++ rs) (record { calls = p.calls + 1; bytes = bytes; lines = lines; begun = begun }) u
+    pub read_piece : (u : S) (came : List ℕ) (past : Bool) (rs : List Record) (begun : List ℕ) (bytes lines : ℕ) → gives t (moved came) u → TakesPiece p.limits (p.begun ++ came) past rs begun
+        → bytes ≡ p.bytes + length came → bytes ≤ most_record_bytes → lines ≡ p.lines + length rs → HasRead gives s (answers ++ moved came ∷ []) (told ++ rs) (record { limits = p.limits; calls = p.calls + 1; bytes = bytes; lines = lines; begun = begun }) u
     read_piece u came past rs begun bytes lines g piece eb fits el =
         let total : length (moved_bytes answers ++ came) ≡ bytes = omega (arith, length-append (moved_bytes answers) came, h.bytes, eb) in
         record {
@@ -142,12 +143,12 @@ module _ {S : Type 0} (gives : S → Answer → S → Type 0) where
           calls = omega (arith, length-append answers (moved came ∷ []), h.calls);
           bytes = ap length (came_moved came) ∙ total;
           lines = omega (arith, length-append told rs, h.lines, el);
-          stands = subst (λ z. Stands z (told ++ rs) begun []) (sym (came_moved came))
-              (stands_on (moved_bytes answers) told p.begun came (p.begun ++ came) [] rs begun begun [] h.stands (sym (append-nil (p.begun ++ came))) piece.taken (sym (append-nil begun)) piece.one_line piece.short (omega (arith, total, fits)));
+          stands = subst (λ z. Stands p.limits z (told ++ rs) begun []) (sym (came_moved came))
+              (stands_on p.limits (moved_bytes answers) told p.begun came (p.begun ++ came) [] rs begun begun [] h.stands (sym (append-nil (p.begun ++ came))) piece.taken (sym (append-nil begun)) piece.one_line piece.short (omega (arith, total, fits)));
         }
 
     module _ (few : p.calls < most_calls) where
-      pub read_all : (u : S) → gives t ended u → p.begun ≡ [] → RecordsOf gives s told u
+      pub read_all : (u : S) → gives t ended u → p.begun ≡ [] → RecordsOf p.limits gives s told u
       read_all u g none = (
         moved_bytes answers,
         (
@@ -159,10 +160,10 @@ module _ {S : Type 0} (gives : S → Answer → S → Type 0) where
             few = omega (arith, length-append answers (ended ∷ []), h.calls);
           },
         ),
-        whole_text (moved_bytes answers) told p.begun h.stands none,
+        whole_text p.limits (moved_bytes answers) told p.begun h.stands none,
       )
 
-      pub read_truncated : (u : S) → gives t ended u → p.begun ≢ [] → FaultOf gives s Truncated u
+      pub read_truncated : (u : S) → gives t ended u → p.begun ≢ [] → FaultOf p.limits gives s Truncated u
       read_truncated u g some = (
         moved_bytes answers,
         at_end,
@@ -179,7 +180,7 @@ module _ {S : Type 0} (gives : S → Answer → S → Type 0) where
         (told, p.begun, [], h.stands, (refl, some, refl)),
       )
 
-      pub read_failed : (u : S) → gives t failed u → FaultOf gives s Read u
+      pub read_failed : (u : S) → gives t failed u → FaultOf p.limits gives s Read u
       read_failed u g = (
         moved_bytes answers,
         broken_off,
@@ -196,8 +197,8 @@ module _ {S : Type 0} (gives : S → Answer → S → Type 0) where
         (told, p.begun, [], h.stands, (refl, refl)),
       )
 
-      pub read_fault : (u : S) (came : List ℕ) (past : Bool) (bytes : ℕ) (fault : TextFault) → gives t (moved came) u → IsPieceFault (p.begun ++ came) past p.lines fault
-          → bytes ≡ p.bytes + length came → (past ≡ true → bytes ≡ most_record_bytes + 1) → (past ≡ false → bytes ≤ most_record_bytes) → FaultOf gives s fault u
+      pub read_fault : (u : S) (came : List ℕ) (past : Bool) (bytes : ℕ) (fault : TextFault) → gives t (moved came) u → IsPieceFault p.limits (p.begun ++ came) past p.lines fault
+          → bytes ≡ p.bytes + length came → (past ≡ true → bytes ≡ most_record_bytes + 1) → (past ≡ false → bytes ≤ most_record_bytes) → FaultOf p.limits gives s fault u
       read_fault u came past bytes fault g is eb full fits =
           let read : ReadsBy gives s (moved_bytes answers ++ came) going_on u (answers ++ moved came ∷ []) = record {
             run = run_more gives s answers t (moved came) u h.run g;
@@ -208,13 +209,13 @@ module _ {S : Type 0} (gives : S → Answer → S → Type 0) where
           let total : length (moved_bytes answers ++ came) ≡ bytes = omega (arith, length-append (moved_bytes answers) came, h.bytes, eb) in
           let few : length (moved_bytes answers ++ came) ≤ most_record_bytes + 1 = omega (arith, total, one_past past bytes full fits) in
           elim is [
-            | inl e ↦ subst (λ f. FaultOf gives s f u) (sym e) (moved_bytes answers ++ came, (_, read), few)
-            | inr (rs, stop, at, e) ↦ subst (λ f. FaultOf gives s f u) (sym e)
-                (stop_of_text gives s u (moved_bytes answers ++ came) _ stop _ read few
-                (stop_is_fault (moved_bytes answers) told p.begun came past bytes _ rs stop h.stands at total full fits (omega (arith, length-append told rs, h.lines))))
+            | inl e ↦ subst (λ f. FaultOf p.limits gives s f u) (sym e) (moved_bytes answers ++ came, (_, read), few)
+            | inr (rs, stop, at, e) ↦ subst (λ f. FaultOf p.limits gives s f u) (sym e)
+                (stop_of_text p.limits gives s u (moved_bytes answers ++ came) _ stop _ read few
+                (stop_is_fault p.limits (moved_bytes answers) told p.begun came past bytes _ rs stop h.stands at total full fits (omega (arith, length-append told rs, h.lines))))
           ]
 
-    pub read_out : p.calls ≡ most_calls → FaultOf gives s Read t
+    pub read_out : p.calls ≡ most_calls → FaultOf p.limits gives s Read t
     read_out out = (
       moved_bytes answers,
       broken_off,
@@ -248,8 +249,8 @@ kept_spent begun size same calls bytes lines k e = (k.0, omega (arith, k.1, e), 
 pub kept_piece : (begun size same calls bytes lines left n more : ℕ) → Kept begun size calls bytes lines → calls < MOST_CALLS → same ≡ size → left ≤ most_line → bytes + n ≤ most_record_bytes → more + left ≤ bytes + n → Kept left same (calls + 1) (bytes + n) more
 kept_piece begun size same calls bytes lines left n more k few e short fits count = (short, omega (arith, k.1, e), omega (arith, k.2, e), omega (arith, few, most_calls-is), fits, count)
 
-pub piece_count : (bytes : List ℕ) (past : Bool) (rs : List Record) (begun : List ℕ) → TakesPiece bytes past rs begun → length rs + length begun ≤ length bytes
-piece_count bytes past rs begun h = omega (arith, ap length h.taken.parts, length-append h.taken.front begun, lines_count h.taken.front rs h.taken.lines)
+pub piece_count : (limits : Limits) (bytes : List ℕ) (past : Bool) (rs : List Record) (begun : List ℕ) → TakesPiece limits bytes past rs begun → length rs + length begun ≤ length bytes
+piece_count limits bytes past rs begun h = omega (arith, ap length h.taken.parts, length-append h.taken.front begun, lines_count h.taken.front rs h.taken.lines)
 
 -- the bytes that came lie after those that there were
 pub piece_bytes : (old new : List ℕ) (have n most : ℕ) → have ≤ length old → length new ≡ length old → take have new ≡ take have old → n ≤ length (take most (drop have new))
@@ -264,8 +265,8 @@ pub past_means : (bytes : ℕ) (past : Bool) → past ≡ nat_lt MOST_BYTES byte
 past_means bytes past is few = ((λ set. omega (arith, few, most_record_bytes-is, ltb-true MOST_BYTES bytes (sym is ∙ set))), (λ unset. omega (arith, most_record_bytes-is, ltb-false MOST_BYTES bytes (sym is ∙ unset))))
 
 -- before the first call nothing has been read
-pub nothing_read : {S : Type 0} (gives : S → Answer → S → Type 0) (s : S) → HasRead gives s [] [] beginning s
-nothing_read gives s = record {
+pub nothing_read : {S : Type 0} (limits : Limits) (gives : S → Answer → S → Type 0) (s : S) → HasRead gives s [] [] (beginning limits) s
+nothing_read limits gives s = record {
   run = refl;
   goes = tt;
   calls = refl;

@@ -3,9 +3,7 @@ use Rattle.std.specs.Prelude.{◌≡◌, ℕ, ◌^◌, [], ◌∷◌, ◌++◌, 
 use Rattle.std.specs.Fmt.{digits}
 use Rattle.std.proofs.Common.{arith}
 use Rattle.wl_record_core.specs.declared.record.Record.TheVariants.{Edge, Clash, Silence}
-use Rattle.wl_device.specs.Limits.{most_calls}
 use Rattle.wl_record.specs.Limits.{most_line, most_record_bytes}
-use Rattle.wl_record_core.specs.Limits.{most_nodes, most_edges, tick_end}
 use Rattle.wl_record_core.specs.Text.{text_of, words_of}
 use Rattle.wl_record.specs.Grammar.{IsNumber, Spells}
 
@@ -17,6 +15,11 @@ longest = refl
 -- and their length
 longest_length : length (codes "E 15 262144 281474976710655") ≡ 27
 longest_length = refl
+
+-- and those of an edge that is within the wide limits alone
+longest_wide : words_of (Edge 63 268435456 281474976710655) ≡ codes "E 63 268435456 281474976710655"
+unfolding digits
+longest_wide = refl
 
 two_lines : text_of (Clash 0 0 ∷ Silence 1 0 9 ∷ []) ≡ codes "C 0 0" ++ 10 ∷ codes "S 1 0 9" ++ 10 ∷ []
 unfolding digits

@@ -2,10 +2,11 @@
 use Rattle.std.specs.Prelude.{◌≡◌, ℕ, ◌≤◌, List, [], ◌∷◌, ◌++◌, length, slice_index}
 use Rattle.std.specs.List.{AllByRecursion}
 use Rattle.std.specs.Str.Parse.{IsNumeral, digits_value}
+use Rattle.wl_limits.specs.declared.Limits.{Limits}
 use Rattle.wl_record_core.specs.declared.record.Record.{Record}
 use Rattle.wl_record_core.specs.declared.record.Record.TheVariants.{Edge, Clash, Silence}
 use Rattle.wl_record.specs.Limits.{most_record_bytes}
-use Rattle.wl_record_core.specs.Within.{IsWithin}
+use Rattle.wl_record_core.specs.Within.{IsWithinBy}
 
 -- decimal digits without a leading zero; 0 alone is zero
 pub record IsNumber (text : List ℕ) (n : ℕ) : Type 0 where
@@ -39,8 +40,9 @@ abbrev pub Lines : List ℕ → List Record → Type 0
 Lines text [] = text ≡ []
 Lines text (r ∷ rs) = (line more : List ℕ) × Spells line r × (text ≡ line ++ 10 ∷ more) × Lines more rs
 
--- the text is that of these records
-pub record IsText (text : List ℕ) (rs : List Record) : Type 0 where
+-- The text is that of these records, which are within the limits. A narrow text is one that a stranger may give; a wide one has the
+-- records of a plan by the wide limits.
+pub record IsText (limits : Limits) (text : List ℕ) (rs : List Record) : Type 0 where
   pub lines : Lines text rs
-  pub within : AllByRecursion IsWithin rs
+  pub within : AllByRecursion (IsWithinBy limits) rs
   pub short : length text ≤ most_record_bytes

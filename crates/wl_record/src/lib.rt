@@ -12,7 +12,7 @@ mod write;
 pub use fault::TextFault;
 pub use laws::{fault_stays_law, nothing_read_law, one_answer_law, spelling_law, text_law};
 pub use limits::{MOST_BYTES, MOST_LINE};
-pub use read::{Came, RecordReader, read_records};
+pub use read::{Came, RecordReader, read_records, read_records_within};
 pub use wl_device::{
     Ended, Got, Host, MOST_CALLS, Put, ScriptedReader, ScriptedWriter, Sink, Source, Then,
     WriteFault, host_laws, read_up_to, send, write_all,

@@ -5,15 +5,16 @@ ghost use Rattle.std.specs.Char.{digit_value};
 use crate::limits::MOST_LINE;
 use crate::quick::quick_line;
 use std::alloc::AllocError;
-use wl_record_core::{MOST_EDGES, MOST_NODES, Record, TICK_END};
+use wl_limits::Limits;
+use wl_record_core::{Record, TICK_END, record_edges, record_nodes};
 
 /// Why a line is refused.
 #[derive(Clone, Copy, Debug, PartialEq, Eq)]
 pub enum LineFault {
     /// It spells no record.
     Grammar,
-    /// It spells a record that isn't within.
-    Limits,
+    /// It spells a record that isn't within the limits.
+    Beyond,
 }
 
 /// Why no record is taken from the front of some bytes.
@@ -104,16 +105,19 @@ ghost use Rattle.wl_record_core.specs.declared.record.Record.{Record};
 ghost use Rattle.wl_record_core.specs.declared.record.Record.TheVariants.{Edge, Clash, Silence};
 ghost use Rattle.wl_record.specs.Grammar.{letter_of, numbers_of, Spells};
 ghost use Rattle.wl_record.specs.Limits.{most_line};
-ghost use Rattle.wl_record_core.specs.Within.{IsWithin};
+ghost use Rattle.wl_record_core.specs.Within.{IsWithinBy};
 ghost use Rattle.wl_record.specs.Faults.{HasNoNewline};
 ghost use Rattle.wl_record.specs.Parsing.{IsFront, IsOnlyWithin, IsRecordFront, Begins, IsLineFault, TakesLine, IsStop};
 
 /// Returns the edge with these numbers, if it is within.
-#[tactic(auto, unfolding(wl_record_core::specs::Limits::most_nodes, wl_record_core::specs::Limits::most_edges, wl_record_core::specs::Limits::tick_end))]
-pub fn edge(node: u64, seq: u64, tick: u64) -> Option<Record>
-    ensures { IsOnlyWithin (Edge node seq tick) result }
+#[tactic(auto, unfolding(wl_record_core::specs::Limits::tick_end))]
+pub fn edge(limits: Limits, node: u64, seq: u64, tick: u64) -> Option<Record>
+    ensures { IsOnlyWithin limits (Edge node seq tick) result }
 {
-    if node < u64::from(MOST_NODES) && seq < u64::from(MOST_EDGES) && tick < TICK_END {
+    if node < u64::from(record_nodes(limits))
+        && seq < u64::from(record_edges(limits))
+        && tick < TICK_END
+    {
         let (node, seq) = (node as u8, seq as u32);
         Some(Record::Edge { node, seq, tick })
     } else {
@@ -122,11 +126,11 @@ pub fn edge(node: u64, seq: u64, tick: u64) -> Option<Record>
 }
 
 /// Returns the clash with these numbers, if it is within.
-#[tactic(auto, unfolding(wl_record_core::specs::Limits::most_nodes, wl_record_core::specs::Limits::most_edges, wl_record_core::specs::Limits::tick_end))]
-fn clash(node: u64, seq: u64) -> Option<Record>
-    ensures { IsOnlyWithin (Clash node seq) result }
+#[tactic(auto, unfolding(wl_record_core::specs::Limits::tick_end))]
+fn clash(limits: Limits, node: u64, seq: u64) -> Option<Record>
+    ensures { IsOnlyWithin limits (Clash node seq) result }
 {
-    if node < u64::from(MOST_NODES) && seq < u64::from(MOST_EDGES) {
+    if node < u64::from(record_nodes(limits)) && seq < u64::from(record_edges(limits)) {
         let (node, seq) = (node as u8, seq as u32);
         Some(Record::Clash { node, seq })
     } else {
@@ -135,11 +139,14 @@ fn clash(node: u64, seq: u64) -> Option<Record>
 }
 
 /// Returns the silence with these numbers, if it is within.
-#[tactic(auto, unfolding(wl_record_core::specs::Limits::most_nodes, wl_record_core::specs::Limits::most_edges, wl_record_core::specs::Limits::tick_end))]
-pub fn silence(node: u64, count: u64, until: u64) -> Option<Record>
-    ensures { IsOnlyWithin (Silence node count until) result }
+#[tactic(auto, unfolding(wl_record_core::specs::Limits::tick_end))]
+pub fn silence(limits: Limits, node: u64, count: u64, until: u64) -> Option<Record>
+    ensures { IsOnlyWithin limits (Silence node count until) result }
 {
-    if node < u64::from(MOST_NODES) && count <= u64::from(MOST_EDGES) && until < TICK_END {
+    if node < u64::from(record_nodes(limits))
+        && count <= u64::from(record_edges(limits))
+        && until < TICK_END
+    {
         let (node, count) = (node as u8, count as u32);
         Some(Record::Silence { node, count, until })
     } else {
@@ -148,60 +155,60 @@ pub fn silence(node: u64, count: u64, until: u64) -> Option<Record>
 }
 
 /// Returns the edge of the fields at the front, if it is within, and what follows them.
-fn edge_front(fields: &[u8]) -> Option<(Option<Record>, &[u8])>
-    ensures found { IfSome result (λ f. IsFront 69 fields.now f.0 f.1.now) }
+fn edge_front(limits: Limits, fields: &[u8]) -> Option<(Option<Record>, &[u8])>
+    ensures found { IfSome result (λ f. IsFront limits 69 fields.now f.0 f.1.now) }
     ensures none { IfNone result ((r : Record) (rest : List ℕ)
         → letter_of r ≡ 69 → ¬ (FieldsThen fields.now (numbers_of r) rest)) }
 {
     let Some((node, seq, tick, rest)) = three_fields(fields) else {
         return None;
     };
-    Some((edge(node, seq, tick), rest))
+    Some((edge(limits, node, seq, tick), rest))
 }
 
 /// Returns the clash of the fields at the front, likewise.
-fn clash_front(fields: &[u8]) -> Option<(Option<Record>, &[u8])>
-    ensures found { IfSome result (λ f. IsFront 67 fields.now f.0 f.1.now) }
+fn clash_front(limits: Limits, fields: &[u8]) -> Option<(Option<Record>, &[u8])>
+    ensures found { IfSome result (λ f. IsFront limits 67 fields.now f.0 f.1.now) }
     ensures none { IfNone result ((r : Record) (rest : List ℕ)
         → letter_of r ≡ 67 → ¬ (FieldsThen fields.now (numbers_of r) rest)) }
 {
     let Some((node, seq, rest)) = two_fields(fields) else {
         return None;
     };
-    Some((clash(node, seq), rest))
+    Some((clash(limits, node, seq), rest))
 }
 
 /// Returns the silence of the fields at the front, likewise.
-fn silence_front(fields: &[u8]) -> Option<(Option<Record>, &[u8])>
-    ensures found { IfSome result (λ f. IsFront 83 fields.now f.0 f.1.now) }
+fn silence_front(limits: Limits, fields: &[u8]) -> Option<(Option<Record>, &[u8])>
+    ensures found { IfSome result (λ f. IsFront limits 83 fields.now f.0 f.1.now) }
     ensures none { IfNone result ((r : Record) (rest : List ℕ)
         → letter_of r ≡ 83 → ¬ (FieldsThen fields.now (numbers_of r) rest)) }
 {
     let Some((node, count, until, rest)) = three_fields(fields) else {
         return None;
     };
-    Some((silence(node, count, until), rest))
+    Some((silence(limits, node, count, until), rest))
 }
 
 /// Returns the record of the letter and the fields at the front, if it is within, and what follows them.
-fn record_front(bytes: &[u8]) -> Option<(Option<Record>, &[u8])>
-    ensures found { IfSome result (λ f. IsRecordFront bytes.now f.0 f.1.now) }
+fn record_front(limits: Limits, bytes: &[u8]) -> Option<(Option<Record>, &[u8])>
+    ensures found { IfSome result (λ f. IsRecordFront limits bytes.now f.0 f.1.now) }
     ensures none { IfNone result ((r : Record) (rest : List ℕ) → ¬ (Begins bytes.now r rest)) }
 {
     match bytes {
-        [b'E', fields @ ..] => edge_front(fields),
-        [b'C', fields @ ..] => clash_front(fields),
-        [b'S', fields @ ..] => silence_front(fields),
+        [b'E', fields @ ..] => edge_front(limits, fields),
+        [b'C', fields @ ..] => clash_front(limits, fields),
+        [b'S', fields @ ..] => silence_front(limits, fields),
         _ => None,
     }
 }
 
 /// Returns the record of a line, or why the line is refused.
-fn parse_line(line: &[u8]) -> Result<Record, LineFault>
-    ensures told { IfOk result (λ r. Spells line.now r × IsWithin r) }
-    ensures fault { IfErr result (λ fault. IsLineFault line.now fault) }
+fn parse_line(limits: Limits, line: &[u8]) -> Result<Record, LineFault>
+    ensures told { IfOk result (λ r. Spells line.now r × IsWithinBy limits r) }
+    ensures fault { IfErr result (λ fault. IsLineFault limits line.now fault) }
 {
-    let Some((told, rest)) = record_front(line) else {
+    let Some((told, rest)) = record_front(limits, line) else {
         return Err(LineFault::Grammar);
     };
     if !rest.is_empty() {
@@ -209,7 +216,7 @@ fn parse_line(line: &[u8]) -> Result<Record, LineFault>
     }
     match told {
         Some(told) => Ok(told),
-        None => Err(LineFault::Limits),
+        None => Err(LineFault::Beyond),
     }
 }
 
@@ -230,9 +237,9 @@ fn newline_at(bytes: &[u8]) -> Option<usize>
 /// Returns the record whose line is at the front, and what follows its newline; or why there is none.
 #[cold]
 #[inline(never)]
-fn slow_line(bytes: &[u8]) -> Result<(Record, &[u8]), Stop>
-    ensures told { IfOk result (λ t. TakesLine bytes.now t.0 t.1.now) }
-    ensures stop { IfErr result (λ stop. IsStop bytes.now stop) }
+fn slow_line(limits: Limits, bytes: &[u8]) -> Result<(Record, &[u8]), Stop>
+    ensures told { IfOk result (λ t. TakesLine limits bytes.now t.0 t.1.now) }
+    ensures stop { IfErr result (λ stop. IsStop limits bytes.now stop) }
 {
     let Some(at) = newline_at(bytes) else {
         return Err(if bytes.len() > MOST_LINE {
@@ -241,7 +248,7 @@ fn slow_line(bytes: &[u8]) -> Result<(Record, &[u8]), Stop>
             Stop::Open
         });
     };
-    match parse_line(&bytes[..at]) {
+    match parse_line(limits, &bytes[..at]) {
         Ok(told) => Ok((told, &bytes[at + 1..])),
         Err(fault) => Err(Stop::Refused(fault)),
     }
@@ -249,27 +256,27 @@ fn slow_line(bytes: &[u8]) -> Result<(Record, &[u8]), Stop>
 
 /// Returns the same, without a look for the newline first.
 #[inline(never)]
-fn plain_line(bytes: &[u8]) -> Result<(Record, &[u8]), Stop>
-    ensures told { IfOk result (λ t. TakesLine bytes.now t.0 t.1.now) }
-    ensures stop { IfErr result (λ stop. IsStop bytes.now stop) }
+fn plain_line(limits: Limits, bytes: &[u8]) -> Result<(Record, &[u8]), Stop>
+    ensures told { IfOk result (λ t. TakesLine limits bytes.now t.0 t.1.now) }
+    ensures stop { IfErr result (λ stop. IsStop limits bytes.now stop) }
 {
-    if let Some((Some(told), more)) = record_front(bytes) {
+    if let Some((Some(told), more)) = record_front(limits, bytes) {
         if let [b'\n', rest @ ..] = more {
             return Ok((told, rest));
         }
     }
-    slow_line(bytes)
+    slow_line(limits, bytes)
 }
 
 /// Returns the same, by the quick line if that answers.
 #[inline(always)]
-fn take_line(bytes: &[u8]) -> Result<(Record, &[u8]), Stop>
-    ensures told { IfOk result (λ t. TakesLine bytes.now t.0 t.1.now) }
-    ensures stop { IfErr result (λ stop. IsStop bytes.now stop) }
+fn take_line(limits: Limits, bytes: &[u8]) -> Result<(Record, &[u8]), Stop>
+    ensures told { IfOk result (λ t. TakesLine limits bytes.now t.0 t.1.now) }
+    ensures stop { IfErr result (λ stop. IsStop limits bytes.now stop) }
 {
-    match quick_line(bytes) {
+    match quick_line(limits, bytes) {
         Some(taken) => Ok(taken),
-        None => plain_line(bytes),
+        None => plain_line(limits, bytes),
     }
 }
 
@@ -277,17 +284,18 @@ ghost use Rattle.wl_record.specs.Parsing.{TakesLines, Appends};
 
 /// Appends the records of the whole lines at the front. Returns what follows them, and why there is no line.
 pub fn take_lines<'a>(
+    limits: Limits,
     bytes: &'a [u8],
     records: &mut Vec<Record>,
 ) -> Result<(&'a [u8], Stop), AllocError>
-    ensures told { IfOk result (λ t. (rs : List Record) × TakesLines bytes.now rs t.0.now
+    ensures told { IfOk result (λ t. (rs : List Record) × TakesLines limits bytes.now rs t.0.now
         × (records.new.items ≡ records.old.items ++ rs)) }
-    ensures stop { IfOk result (λ t. IsStop t.0.now t.1) }
-    ensures grows { IfErr result (λ _. Appends records.old.items records.new.items) }
+    ensures stop { IfOk result (λ t. IsStop limits t.0.now t.1) }
+    ensures grows { IfErr result (λ _. Appends limits records.old.items records.new.items) }
 {
     let mut rest = bytes;
     loop {
-        match take_line(rest) {
+        match take_line(limits, rest) {
             Ok((told, others)) => {
                 records.push(told)?;
                 rest = others;

@@ -4,19 +4,20 @@ ghost use Rattle.std.specs.Char.{digit_value};
 ghost use Rattle.std.specs.Str.Parse.{AllDigits, digits_value};
 
 use crate::parse::{edge, is_digit, silence};
+use wl_limits::Limits;
 use wl_record_core::Record;
 
-/// The most digits of a node's number that is within.
+/// The most digits of a node's number that is within, by the wide limits.
 const NODE_DIGITS: usize = 2;
 
-/// The most digits of a change's number that is within, or of a count of changes.
-const PLACE_DIGITS: usize = 6;
+/// The most digits of a change's number that is within, or of a count of changes, by the wide limits.
+const PLACE_DIGITS: usize = 9;
 
 /// The most digits of a tick that is within.
 const TICK_DIGITS: usize = 15;
 
-/// The most bytes of a line of an edge or a silence that is within, with its newline.
-const QUICK_ROOM: usize = 28;
+/// The most bytes of a line of an edge or a silence that is within, with its newline, by the wide limits.
+const QUICK_ROOM: usize = 31;
 
 /// Returns the digits from a place on, at most this many: their value, and the place after them.
 #[inline(always)]
@@ -59,20 +60,20 @@ fn field_at(bytes: &[u8], space: usize, most: usize, end: u8) -> Option<(u64, us
     Some((value, at))
 }
 
-ghost use Rattle.wl_record_core.specs.Within.{IsWithin};
+ghost use Rattle.wl_record_core.specs.Within.{IsWithinBy};
 ghost use Rattle.wl_record.specs.Grammar.{letter_of, numbers_of};
 ghost use Rattle.wl_record.specs.Parsing.{TakesLine};
 
 /// Returns the edge or the silence with this letter and these numbers, if it is within.
 #[inline(always)]
-fn told_by(letter: u8, node: u64, place: u64, tick: u64) -> Option<Record>
+fn told_by(limits: Limits, letter: u8, node: u64, place: u64, tick: u64) -> Option<Record>
     ensures letter { IfSome result (λ r. letter_of r ≡ letter) }
     ensures numbers { IfSome result (λ r. numbers_of r ≡ node ∷ place ∷ tick ∷ []) }
-    ensures within { IfSome result (λ r. IsWithin r) }
+    ensures within { IfSome result (λ r. IsWithinBy limits r) }
 {
     match letter {
-        b'E' => edge(node, place, tick),
-        b'S' => silence(node, place, tick),
+        b'E' => edge(limits, node, place, tick),
+        b'S' => silence(limits, node, place, tick),
         _ => None,
     }
 }
@@ -80,8 +81,8 @@ fn told_by(letter: u8, node: u64, place: u64, tick: u64) -> Option<Record>
 /// Returns the record whose line is at the front, and what follows its newline, if it is an edge or a silence. The bytes are at least those
 /// of the longest such line. `None` says nothing of the line.
 #[inline(always)]
-pub fn quick_line(bytes: &[u8]) -> Option<(Record, &[u8])>
-    ensures { IfSome result (λ t. TakesLine bytes.now t.0 t.1.now) }
+pub fn quick_line(limits: Limits, bytes: &[u8]) -> Option<(Record, &[u8])>
+    ensures { IfSome result (λ t. TakesLine limits bytes.now t.0 t.1.now) }
 {
     if bytes.len() < QUICK_ROOM || bytes[1] != b' ' {
         return None;
@@ -89,6 +90,6 @@ pub fn quick_line(bytes: &[u8]) -> Option<(Record, &[u8])>
     let (node, at) = field_at(bytes, 1, NODE_DIGITS, b' ')?;
     let (place, at) = field_at(bytes, at, PLACE_DIGITS, b' ')?;
     let (tick, at) = field_at(bytes, at, TICK_DIGITS, b'\n')?;
-    let told = told_by(bytes[0], node, place, tick)?;
+    let told = told_by(limits, bytes[0], node, place, tick)?;
     Some((told, &bytes[at + 1..]))
 }

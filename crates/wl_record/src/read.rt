@@ -8,6 +8,7 @@ use std::alloc::{AllocError, Global};
 use std::marker::Model;
 use std::vec;
 use wl_device::{Got, MOST_CALLS, Source};
+use wl_limits::Limits;
 use wl_record_core::Record;
 
 /// How many bytes are asked for in one call.
@@ -48,13 +49,14 @@ fn fault_of(stop: Stop, line: u64) -> TextFault
     match stop {
         Stop::Open | Stop::Long => TextFault::TooLong(line),
         Stop::Refused(LineFault::Grammar) => TextFault::Line(line),
-        Stop::Refused(LineFault::Limits) => TextFault::Range(line),
+        Stop::Refused(LineFault::Beyond) => TextFault::Range(line),
     }
 }
 
 /// Takes the whole lines of the first `filled` bytes, which come after `lines` others, and moves what is left to the front. If `past`, the
 /// last of these bytes is one that a text doesn't have. Returns how many are left, and how many lines there are now.
 fn take_piece(
+    limits: Limits,
     buffer: &mut Vec<u8>,
     filled: usize,
     past: bool,
@@ -65,16 +67,16 @@ fn take_piece(
     requires some { 0 < filled }
     requires few { lines < 2 ^ 63 - length buffer.old.items }
     ensures ok { IfOk result (λ r. (rs : List Record)
-        × TakesPiece (take filled buffer.old.items) past rs (take r.0 buffer.new.items)
+        × TakesPiece limits (take filled buffer.old.items) past rs (take r.0 buffer.new.items)
         × (r.0 ≡ length (take r.0 buffer.new.items)) × (r.1 ≡ lines + length rs)
         × (records.new.items ≡ records.old.items ++ rs)) }
-    ensures fault { IfErr result (λ fault. IsPieceFault (take filled buffer.old.items) past lines fault) }
-    ensures grows { IfErr result (λ _. Appends records.old.items records.new.items) }
+    ensures fault { IfErr result (λ fault. IsPieceFault limits (take filled buffer.old.items) past lines fault) }
+    ensures grows { IfErr result (λ _. Appends limits records.old.items records.new.items) }
     ensures len { length buffer.new.items ≡ length buffer.old.items }
 {
     let before = records.len();
     let allowed = if past { filled - 1 } else { filled };
-    let Ok((rest, stop)) = take_lines(&buffer[..allowed], records) else {
+    let Ok((rest, stop)) = take_lines(limits, &buffer[..allowed], records) else {
         return Err(TextFault::Memory);
     };
     let left = rest.len();
@@ -98,6 +100,7 @@ pub enum Came {
 /// Reads a record text piece by piece. It holds one piece, whatever the text's length.
 #[derive(Drop)]
 pub struct RecordReader {
+    limits: Limits,
     buffer: Vec<u8>,
     begun: usize,
     calls: u32,
@@ -114,6 +117,7 @@ impl Model for RecordReader {
     ghost Value = { ReadProgress };
 
     ghost view = { λ r. record {
+      limits = r.limits;
       calls = r.calls;
       bytes = r.bytes;
       lines = r.lines;
@@ -128,12 +132,21 @@ impl Model for RecordReader {
 impl RecordReader {
     ghost use Rattle.wl_record.specs.Reading.{beginning, GoesOnWith, FaultsWith, CountsCalls, IsSpent};
     ghost use Rattle.wl_record.specs.declared.fault.TextFault.TheVariants.{Read};
+    ghost use Rattle.wl_limits.specs.declared.Limits.TheVariants.{Narrow};
 
-    /// Returns a reading that has made no call yet. Takes memory for one piece, and is refused only when out of memory.
+    /// Returns a reading of a narrow text that has made no call yet. Takes memory for one piece, and is refused only when out of memory.
     pub fn new(alloc: Global) -> Result<RecordReader, AllocError>
-        ensures { IfOk result (λ r. r ≡ beginning) }
+        ensures { IfOk result (λ r. r ≡ beginning Narrow) }
+    {
+        RecordReader::within(alloc, Limits::Narrow)
+    }
+
+    /// Returns a reading of a text whose records are within these limits, as `new` does.
+    pub fn within(alloc: Global, limits: Limits) -> Result<RecordReader, AllocError>
+        ensures { IfOk result (λ r. r ≡ beginning limits) }
     {
         Ok(RecordReader {
+            limits,
             buffer: vec![in alloc; 0u8; PIECE]?,
             begun: 0,
             calls: 0,
@@ -153,7 +166,8 @@ impl RecordReader {
             × GoesOnWith R.gives self.old reader.old came rs self.new reader.new) }
         ensures steps { IfOk result (λ came. CountsCalls came self.old self.new) }
         ensures fault { IfErr result (λ fault. FaultsWith R.gives self.old reader.old fault reader.new) }
-        ensures grows { IfErr result (λ _. Appends records.old.items records.new.items) }
+        ensures grows { IfErr result (λ _. Appends self.old.limits records.old.items records.new.items) }
+        ensures limits { self.new.limits ≡ self.old.limits }
         ensures spent { IfErr result (λ _. IsSpent self.new) }
         ensures over { IsSpent self.old → (result ≡ Err Read) × (self.new ≡ self.old) × (reader.new ≡ reader.old)
             × (records.new.items ≡ records.old.items) }
@@ -184,7 +198,14 @@ impl RecordReader {
             Got::Bytes(n) => {
                 let bytes = self.bytes + n;
                 let past = bytes > MOST_BYTES;
-                let taken = take_piece(&mut self.buffer, self.begun + n, past, self.lines, records);
+                let taken = take_piece(
+                    self.limits,
+                    &mut self.buffer,
+                    self.begun + n,
+                    past,
+                    self.lines,
+                    records,
+                );
                 let (left, lines) = match taken {
                     Ok(taken) => taken,
                     Err(fault) => return Err(fault),
@@ -199,14 +220,27 @@ impl RecordReader {
     }
 }
 
+ghost use Rattle.wl_limits.specs.declared.Limits.TheVariants.{Narrow};
 ghost use Rattle.wl_record.specs.Reading.{RecordsOf, FaultOf};
 
-/// Returns the records of all that the reader gives up to its end, or the first fault of it.
+/// Returns the records of the narrow text that the reader gives up to its end, or the first fault of it.
 pub fn read_records<R: Source>(alloc: Global, reader: &mut R) -> Result<Vec<Record>, TextFault>
-    ensures ok { IfOk result (λ records. RecordsOf R.gives reader.old records.items reader.new) }
-    ensures fault { IfErr result (λ fault. FaultOf R.gives reader.old fault reader.new) }
+    ensures ok { IfOk result (λ records. RecordsOf Narrow R.gives reader.old records.items reader.new) }
+    ensures fault { IfErr result (λ fault. FaultOf Narrow R.gives reader.old fault reader.new) }
 {
-    let Ok(mut text) = RecordReader::new(alloc) else {
+    read_records_within(alloc, reader, Limits::Narrow)
+}
+
+/// Returns the records of a text whose records are within these limits, as `read_records` does.
+pub fn read_records_within<R: Source>(
+    alloc: Global,
+    reader: &mut R,
+    limits: Limits,
+) -> Result<Vec<Record>, TextFault>
+    ensures ok { IfOk result (λ records. RecordsOf limits R.gives reader.old records.items reader.new) }
+    ensures fault { IfErr result (λ fault. FaultOf limits R.gives reader.old fault reader.new) }
+{
+    let Ok(mut text) = RecordReader::within(alloc, limits) else {
         return Err(TextFault::Memory);
     };
     let mut records = Vec::new(alloc);

@@ -1,4 +1,5 @@
 mod TableProofs
+mod WithinProofs
 mod TruthProofs
 mod Rows
 pub mod Callers

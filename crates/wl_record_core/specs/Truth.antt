@@ -6,7 +6,7 @@ use Rattle.std.specs.List.{AllByRecursion}
 use Rattle.wl_record_core.specs.declared.record.Record.{Record}
 use Rattle.wl_record_core.specs.declared.record.Record.TheVariants.{Edge, Clash, Silence}
 use Rattle.wl_record_core.specs.Limits.{most_nodes, most_edges, tick_end}
-use Rattle.wl_record_core.specs.Within.{IsWithin}
+use Rattle.wl_record_core.specs.Within.{IsWide}
 
 -- how many of some ticks lie below t
 abbrev pub count_below : ℕ → List ℕ → ℕ
@@ -30,8 +30,8 @@ IsIncreasing (t ∷ ts) = AllAbove t ts × IsIncreasing ts
 -- An edge says which change is at a tick, a silence how many changes lie before one; a clash is never true.
 -- What is true names a node that there is, and keeps the limits of records.
 abbrev pub IsTrueOf : ℕ → (ℕ → List ℕ) → Record → Type 0
-IsTrueOf nodes table (Edge i s t) = (i < nodes) × (slice_get (table i) s ≡ Some t) × IsWithin (Edge i s t)
-IsTrueOf nodes table (Silence i n u) = (i < nodes) × (count_below u (table i) ≡ n) × IsWithin (Silence i n u)
+IsTrueOf nodes table (Edge i s t) = (i < nodes) × (slice_get (table i) s ≡ Some t) × IsWide (Edge i s t)
+IsTrueOf nodes table (Silence i n u) = (i < nodes) × (count_below u (table i) ≡ n) × IsWide (Silence i n u)
 IsTrueOf nodes table (Clash i s) = ⊥
 
 -- each record of a list is
@@ -45,12 +45,12 @@ abbrev pub is_just : Option ℕ → ℕ → Bool
 is_just None t = false
 is_just (Some u) t = u == t
 
-abbrev pub is_within : Record → Bool
-is_within (Edge i s t) = nat_lt i most_nodes && (nat_lt s most_edges && nat_lt t tick_end)
-is_within (Clash i s) = nat_lt i most_nodes && nat_lt s most_edges
-is_within (Silence i n u) = nat_lt i most_nodes && (nat_le n most_edges && nat_lt u tick_end)
+abbrev pub is_wide : Record → Bool
+is_wide (Edge i s t) = nat_lt i most_nodes && (nat_lt s most_edges && nat_lt t tick_end)
+is_wide (Clash i s) = nat_lt i most_nodes && nat_lt s most_edges
+is_wide (Silence i n u) = nat_lt i most_nodes && (nat_le n most_edges && nat_lt u tick_end)
 
 abbrev pub is_true_of : ℕ → (ℕ → List ℕ) → Record → Bool
-is_true_of nodes table (Edge i s t) = nat_lt i nodes && (is_just (slice_get (table i) s) t && is_within (Edge i s t))
-is_true_of nodes table (Silence i n u) = nat_lt i nodes && ((count_below u (table i) == n) && is_within (Silence i n u))
+is_true_of nodes table (Edge i s t) = nat_lt i nodes && (is_just (slice_get (table i) s) t && is_wide (Edge i s t))
+is_true_of nodes table (Silence i n u) = nat_lt i nodes && ((count_below u (table i) == n) && is_wide (Silence i n u))
 is_true_of nodes table (Clash i s) = false

@@ -1,8 +1,9 @@
 //! What is known of one node, record by record.
 ghost use Rattle.std.specs.Prelude.{◌≡◌, ◌↔◌, IsTrue, Some};
 
-use crate::limits::{MOST_EDGES, MOST_NODES, TICK_END};
+use crate::limits::{TICK_END, record_edges, record_nodes};
 use std::fmt;
+use wl_limits::Limits;
 
 /// What is known of one node. Changes are counted from 0, and the first is to dominant.
 #[derive(Clone, Copy, Debug, PartialEq, Eq)]
@@ -25,21 +26,37 @@ pub enum Slot {
 }
 
 impl Record {
-    ghost use Rattle.wl_record_core.specs.Within.{IsWithin};
+    ghost use Rattle.wl_record_core.specs.Within.{IsWide, IsWithin, IsWithinBy};
 
-    /// True if the numbers are within their limits, which are this project's profile: a node below 16, a change's number below 262,145, a
-    /// count at most 262,145, a tick below 2^48.
-    #[tactic(auto, unfolding(crate::specs::Limits::most_nodes, crate::specs::Limits::most_edges, crate::specs::Limits::tick_end))]
+    /// True if the numbers are within the limits of record texts, which are this project's profile: a node below 16, a change's number
+    /// below 262,145, a count at most 262,145, a tick below 2^48.
     pub fn within(&self) -> bool
         ensures { IsTrue result ↔ IsWithin self.now }
     {
+        self.is_within(Limits::Narrow)
+    }
+
+    /// True if the numbers are within the wide limits, which are this project's profile: a node below 64, a change's number below
+    /// 268,435,457, a count at most 268,435,457, a tick below 2^48.
+    pub fn is_wide(&self) -> bool
+        ensures { IsTrue result ↔ IsWide self.now }
+    {
+        self.is_within(Limits::Wide)
+    }
+
+    /// True if the numbers are within these limits.
+    #[tactic(auto, unfolding(crate::specs::Limits::tick_end))]
+    pub fn is_within(&self, limits: Limits) -> bool
+        ensures { IsTrue result ↔ IsWithinBy limits self.now }
+    {
         match *self {
-            Record::Edge { node, seq, tick } => node < MOST_NODES
-                && seq < MOST_EDGES
+            Record::Edge { node, seq, tick } => node < record_nodes(limits)
+                && seq < record_edges(limits)
                 && tick < TICK_END,
-            Record::Clash { node, seq } => node < MOST_NODES && seq < MOST_EDGES,
-            Record::Silence { node, count, until } => node < MOST_NODES
-                && count <= MOST_EDGES
+            Record::Clash { node, seq } => node < record_nodes(limits)
+                && seq < record_edges(limits),
+            Record::Silence { node, count, until } => node < record_nodes(limits)
+                && count <= record_edges(limits)
                 && until < TICK_END,
         }
     }

@@ -9,11 +9,11 @@ impl Record {
     /// True if the record is true of `nodes` nodes and of these changes of the node that it names:
     /// strictly increasing ticks, the first one to dominant.
     ///
-    /// A clash is never true, nor is a record that is not within.
+    /// A clash is never true, nor is a record that is not within the wide limits.
     pub fn is_true_of(&self, nodes: u8, changes: &[u64]) -> bool
         ensures { IsTrue result ↔ IsTrueOf nodes (λ i. changes.now) self.now }
     {
-        self.within()
+        self.is_wide()
             && match *self {
                 Record::Edge { node, seq, tick } => {
                     node < nodes && changes.get(seq as usize) == Some(&tick)

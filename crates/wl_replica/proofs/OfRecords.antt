@@ -98,7 +98,7 @@ module _ (nodes : ℕ) (edges silences : List (List ℕ)) (h : AreRows nodes edg
   canonical_fits =
       All-same (Fits nodes) (canonical kept) _
       (sym (canonical_of_entries nodes (rows_entries number_word 0 edges) (rows_entries max_word 0 silences) (rows_sorted number_word 0 edges) (rows_sorted max_word 0 silences)))
-      (nodes_fit nodes (rows_entries number_word 0 edges) (rows_entries max_word 0 silences) edges_have silences_have (range_with_len 0 nodes))
+      (nodes_fit (Fits nodes) (λ i s t h. (h.0, (h.1.0, h.1.1))) (rows_entries number_word 0 edges) (rows_entries max_word 0 silences) edges_have silences_have (range_with_len 0 nodes))
 
   pub of_records : (s : State) → ◌≡◌ {A = State} kept s → IsOfRecords s
   of_records s is = subst IsOfRecords is (canonical kept, canonical_fits, sym kept_again)

@@ -12,7 +12,7 @@ use Rattle.wl_record_core.specs.declared.record.Record.{Record}
 use Rattle.wl_record_core.specs.declared.record.Record.TheVariants.{Edge, Clash, Silence}
 use Rattle.wl_record_core.specs.Slots.{node_of}
 use Rattle.wl_record_core.specs.Limits.{most_edges, tick_end}
-use Rattle.wl_record_core.specs.Within.{IsWithin}
+use Rattle.wl_record_core.specs.Within.{IsWide}
 use Rattle.wl_replica.specs.declared.known_run.KnownRun.{KnownRun}
 use Rattle.wl_replica.specs.Dense.{edges_of_row, HasTicksWithin}
 use Rattle.wl_replica.specs.Slots.{Contents, slots_joined, slots_only}
@@ -280,7 +280,7 @@ told_silence : (b : Bool) (u top : ℕ) → u ≤ top → (if b then u else 0) �
 told_silence true u top le = le
 told_silence false u top le = omega arith
 
-limits_of : (r : Record) → IsWithin r → AreInLimits (slots_only r)
+limits_of : (r : Record) → IsWide r → AreInLimits (slots_only r)
 limits_of (Edge i n t) fits = record {
   edges = λ j m u is. (let same = told_edge (j == i && (m == n)) (flat.Value t) u is in let less = fits.2 in subst (λ k. k < tick_end) (ap tick_in same) less);
   silences = λ j m. omega arith;
@@ -332,11 +332,11 @@ module _ (w : Contents) where
   other_silences_stay (Silence k n u) i m apart = ap (max (w.silence i m)) (other_silence_node i k n m u apart) ∙ no_further (w.silence i m)
 
   -- it stays within limits
-  limits_after : (r : Record) → AreInLimits w → IsWithin r → AreInLimits (after r)
+  limits_after : (r : Record) → AreInLimits w → IsWide r → AreInLimits (after r)
   limits_after r h fits = limits_joined w (slots_only r) h (limits_of r fits)
 
   -- the runs of all nodes, once that of its node was brought up to date
-  pub runs_after : (r : Record) (nodes : ℕ) (runs new : List KnownRun) (e : ℕ → FlatWord) (s : ℕ → ℕ) → AreRuns nodes w runs → IsWithin r → length new ≡ length runs
+  pub runs_after : (r : Record) (nodes : ℕ) (runs new : List KnownRun) (e : ℕ → FlatWord) (s : ℕ → ℕ) → AreRuns nodes w runs → IsWide r → length new ≡ length runs
       → e ≡ (after r).edge (node_of r) → s ≡ (after r).silence (node_of r)
       → ((d : KnownRun) → IsRunOf e s (slice_index_or new (node_of r) d))
       → ((i : ℕ) (d : KnownRun) → ¬ (i ≡ node_of r) → slice_index_or new i d ≡ slice_index_or runs i d) → AreRuns nodes (after r) new

@@ -15,7 +15,8 @@ use Rattle.wl_record_core.specs.declared.record.Record.TheVariants.{Edge, Clash,
 use Rattle.wl_record_core.specs.Text.{text_line, text_of}
 use Rattle.wl_replica.proofs.SmallFacts.{max_cases, none_below, below_next, not_same}
 use Rattle.wl_replica.specs.Keys.{Key}
-use Rattle.wl_replica.specs.State.{edge_word, silence_word, state_of, Fits, FitsEdge, FitsSilence}
+use Rattle.wl_record_core.specs.Within.{IsWithinBy}
+use Rattle.wl_replica.specs.State.{edge_word, silence_word, state_of, Fits, EdgeHas, SilenceHas}
 use Rattle.wl_replica.specs.Canonical.{edge_record, silence_record, of_node, records_of_node, canonical}
 use Rattle.wl_replica.specs.Laws.{CanonicalStaysAText}
 use Rattle.wl_replica.proofs.KeyLaws.{key_cmp_total, exact_keys}
@@ -165,77 +166,81 @@ text_is_short nodes rs =
       words_weigh rs,
     )
 
--- ---- the records fit
-module _ (nodes : ℕ) where
-  pub edge_fits : (k : Key) (v w : FlatWord) → FitsEdge nodes (k, v) → FitsEdge nodes (k, w) → FitsEdge nodes (k, joined_flat v w)
+-- ---- what holds of the records holds of the canonical list, if it holds of a clash where it holds of an edge
+module _ (P : Record → Type 0) (as_clash : (i s t : ℕ) → P (Edge i s t) → P (Clash i s)) where
+  pub edge_fits : (k : Key) (v w : FlatWord) → EdgeHas P (k, v) → EdgeHas P (k, w) → EdgeHas P (k, joined_flat v w)
   edge_fits k flat.Nothing w p q = q
   edge_fits k (flat.Value x) flat.Nothing p q = p
   edge_fits k (flat.Value x) (flat.Value y) p q =
-      elim (x == y) as (λ b. FitsEdge nodes (k, if b then flat.Value x else flat.Clash)) [ true ↦ p | false ↦ (p.0, (p.1.0, p.1.1)) ]
+      elim (x == y) as (λ b. EdgeHas P (k, if b then flat.Value x else flat.Clash)) [ true ↦ p | false ↦ as_clash k.0 k.1 x p ]
   edge_fits k (flat.Value x) flat.Clash p q = q
   edge_fits k flat.Clash w p q = p
 
-  pub silence_fits : (k : Key) (v w : MaxWord) → FitsSilence nodes (k, v) → FitsSilence nodes (k, w) → FitsSilence nodes (k, joined_max v w)
+  pub silence_fits : (k : Key) (v w : MaxWord) → SilenceHas P (k, v) → SilenceHas P (k, w) → SilenceHas P (k, joined_max v w)
   silence_fits k v w p q = elim (max_cases v.word w.word) [
-    | inl e ↦ subst (λ n. 0 < n → Fits nodes (Silence k.0 k.1 n)) (sym e) p
-    | inr e ↦ subst (λ n. 0 < n → Fits nodes (Silence k.0 k.1 n)) (sym e) q
+    | inl e ↦ subst (λ n. 0 < n → P (Silence k.0 k.1 n)) (sym e) p
+    | inr e ↦ subst (λ n. 0 < n → P (Silence k.0 k.1 n)) (sym e) q
   ]
 
-  pub edge_words_fit : (rs : List Record) → AllByRecursion (Fits nodes) rs → AllByRecursion (FitsEdge nodes) (filter_map edge_word rs)
+  pub edge_words_fit : (rs : List Record) → AllByRecursion P rs → AllByRecursion (EdgeHas P) (filter_map edge_word rs)
   edge_words_fit [] h = tt
   edge_words_fit (Edge i s t ∷ rs) h = (h.0, edge_words_fit rs h.1)
   edge_words_fit (Clash i s ∷ rs) h = (h.0, edge_words_fit rs h.1)
   edge_words_fit (Silence i c u ∷ rs) h = edge_words_fit rs h.1
 
-  pub silence_words_fit : (rs : List Record) → AllByRecursion (Fits nodes) rs → AllByRecursion (FitsSilence nodes) (filter_map silence_word rs)
+  pub silence_words_fit : (rs : List Record) → AllByRecursion P rs → AllByRecursion (SilenceHas P) (filter_map silence_word rs)
   silence_words_fit [] h = tt
   silence_words_fit (Edge i s t ∷ rs) h = silence_words_fit rs h.1
   silence_words_fit (Clash i s ∷ rs) h = silence_words_fit rs h.1
   silence_words_fit (Silence i c u ∷ rs) h =
       let rest = silence_words_fit rs h.1 in
-      elim (u == 0) as (λ b. AllByRecursion (FitsSilence nodes) (cons_option (if b then None else Some ((i, c), max_word u)) (filter_map silence_word rs))) [ true ↦ rest | false ↦ (λ p. h.0, rest) ]
+      elim (u == 0) as (λ b. AllByRecursion (SilenceHas P) (cons_option (if b then None else Some ((i, c), max_word u)) (filter_map silence_word rs))) [ true ↦ rest | false ↦ (λ p. h.0, rest) ]
 
-  edges_of_node_fit : (node : ℕ) (es : List (Key × FlatWord)) → AllByRecursion (FitsEdge nodes) es → All (Fits nodes) (filter_map edge_record (of_node node es))
-  edges_of_node_fit node es h = All-from_recursion (Fits nodes) (filter_map edge_record (of_node node es)) (each es h) where
-    told : (e : Key × FlatWord) (rs : List Record) → FitsEdge nodes e → AllByRecursion (Fits nodes) rs → AllByRecursion (Fits nodes) (cons_option (edge_record e) rs)
+  edges_of_node_fit : (node : ℕ) (es : List (Key × FlatWord)) → AllByRecursion (EdgeHas P) es → All P (filter_map edge_record (of_node node es))
+  edges_of_node_fit node es h = All-from_recursion P (filter_map edge_record (of_node node es)) (each es h) where
+    told : (e : Key × FlatWord) (rs : List Record) → EdgeHas P e → AllByRecursion P rs → AllByRecursion P (cons_option (edge_record e) rs)
     told (k, flat.Nothing) rs p q = q
     told (k, flat.Value t) rs p q = (p, q)
     told (k, flat.Clash) rs p q = (p, q)
 
-    each : (es : List (Key × FlatWord)) → AllByRecursion (FitsEdge nodes) es → AllByRecursion (Fits nodes) (filter_map edge_record (of_node node es))
+    each : (es : List (Key × FlatWord)) → AllByRecursion (EdgeHas P) es → AllByRecursion P (filter_map edge_record (of_node node es))
     each [] h = tt
     each (e ∷ es) h = let rest = each es h.1 in
-        elim (e.0.0 == node) as (λ b. AllByRecursion (Fits nodes) (filter_map edge_record (cond b (e ∷ of_node node es) (of_node node es)))) [ true ↦ told e (filter_map edge_record (of_node node es)) h.0 rest | false ↦ rest ]
+        elim (e.0.0 == node) as (λ b. AllByRecursion P (filter_map edge_record (cond b (e ∷ of_node node es) (of_node node es)))) [ true ↦ told e (filter_map edge_record (of_node node es)) h.0 rest | false ↦ rest ]
 
-  silences_of_node_fit : (node : ℕ) (ss : List (Key × MaxWord)) → AllByRecursion (FitsSilence nodes) ss → All (Fits nodes) (filter_map silence_record (of_node node ss))
-  silences_of_node_fit node ss h = All-from_recursion (Fits nodes) (filter_map silence_record (of_node node ss)) (each ss h) where
+  silences_of_node_fit : (node : ℕ) (ss : List (Key × MaxWord)) → AllByRecursion (SilenceHas P) ss → All P (filter_map silence_record (of_node node ss))
+  silences_of_node_fit node ss h = All-from_recursion P (filter_map silence_record (of_node node ss)) (each ss h) where
     above : (n : ℕ) → (n == 0) ≡ false → 0 < n
     above n h = grind (arith, nat_tests)
 
-    told : (e : Key × MaxWord) (rs : List Record) → FitsSilence nodes e → AllByRecursion (Fits nodes) rs → AllByRecursion (Fits nodes) (cons_option (silence_record e) rs)
-    told (k, w) rs p q = elim (w.word == 0) as (λ b. (w.word == 0) ≡ b → AllByRecursion (Fits nodes) (cons_option (if b then None else Some (Silence k.0 k.1 w.word)) rs)) [
+    told : (e : Key × MaxWord) (rs : List Record) → SilenceHas P e → AllByRecursion P rs → AllByRecursion P (cons_option (silence_record e) rs)
+    told (k, w) rs p q = elim (w.word == 0) as (λ b. (w.word == 0) ≡ b → AllByRecursion P (cons_option (if b then None else Some (Silence k.0 k.1 w.word)) rs)) [
       | true ↦ λ is. q
       | false ↦ λ is. (p (above w.word is), q)
     ] refl
 
-    each : (ss : List (Key × MaxWord)) → AllByRecursion (FitsSilence nodes) ss → AllByRecursion (Fits nodes) (filter_map silence_record (of_node node ss))
+    each : (ss : List (Key × MaxWord)) → AllByRecursion (SilenceHas P) ss → AllByRecursion P (filter_map silence_record (of_node node ss))
     each [] h = tt
     each (e ∷ ss) h = let rest = each ss h.1 in
-        elim (e.0.0 == node) as (λ b. AllByRecursion (Fits nodes) (filter_map silence_record (cond b (e ∷ of_node node ss) (of_node node ss)))) [ true ↦ told e (filter_map silence_record (of_node node ss)) h.0 rest | false ↦ rest ]
+        elim (e.0.0 == node) as (λ b. AllByRecursion P (filter_map silence_record (cond b (e ∷ of_node node ss) (of_node node ss)))) [ true ↦ told e (filter_map silence_record (of_node node ss)) h.0 rest | false ↦ rest ]
 
-  pub nodes_fit : (es : List (Key × FlatWord)) (ss : List (Key × MaxWord)) → AllByRecursion (FitsEdge nodes) es → AllByRecursion (FitsSilence nodes) ss → (ks : List ℕ) → All (Fits nodes) (flat_map (records_of_node es ss) ks)
-  nodes_fit es ss h k [] = All-nil (Fits nodes)
+  pub nodes_fit : (es : List (Key × FlatWord)) (ss : List (Key × MaxWord)) → AllByRecursion (EdgeHas P) es → AllByRecursion (SilenceHas P) ss → (ks : List ℕ) → All P (flat_map (records_of_node es ss) ks)
+  nodes_fit es ss h k [] = All-nil P
   nodes_fit es ss h k (node ∷ ks) =
-      All-append (Fits nodes) (records_of_node es ss node) (flat_map (records_of_node es ss) ks)
-      (All-append (Fits nodes) (filter_map edge_record (of_node node es)) (filter_map silence_record (of_node node ss)) (edges_of_node_fit node es h) (silences_of_node_fit node ss k)) (nodes_fit es ss h k ks)
+      All-append P (records_of_node es ss node) (flat_map (records_of_node es ss) ks)
+      (All-append P (filter_map edge_record (of_node node es)) (filter_map silence_record (of_node node ss)) (edges_of_node_fit node es h) (silences_of_node_fit node ss k)) (nodes_fit es ss h k ks)
 
-  pub canonical_fits : (rs : List Record) → All (Fits nodes) rs → All (Fits nodes) (canonical (state_of nodes rs))
-  canonical_fits rs h =
+  pub canonical_has : (nodes : ℕ) (rs : List Record) → All P rs → All P (canonical (state_of nodes rs))
+  canonical_has nodes rs h =
       let s = state_of nodes rs in
-      let each = recursion_from_All (Fits nodes) rs h in
+      let each = recursion_from_All P rs h in
       nodes_fit (entries s.edges) (entries s.silences)
-      (All-entries key_cmp_total exact_keys joined_flat (FitsEdge nodes) edge_fits (filter_map edge_word rs) (edge_words_fit rs each))
-      (All-entries key_cmp_total exact_keys joined_max (FitsSilence nodes) silence_fits (filter_map silence_word rs) (silence_words_fit rs each)) (range_with_len 0 nodes)
+      (All-entries key_cmp_total exact_keys joined_flat (EdgeHas P) edge_fits (filter_map edge_word rs) (edge_words_fit rs each))
+      (All-entries key_cmp_total exact_keys joined_max (SilenceHas P) silence_fits (filter_map silence_word rs) (silence_words_fit rs each)) (range_with_len 0 nodes)
 
 pub stays_a_text : CanonicalStaysAText
-stays_a_text = record { fits = canonical_fits; short = text_is_short }
+stays_a_text = record {
+  fits = λ nodes. canonical_has (Fits nodes) (λ i s t h. (h.0, (h.1.0, h.1.1))) nodes;
+  within = λ limits. canonical_has (IsWithinBy limits) (λ i s t h. (h.0, h.1));
+  short = text_is_short;
+}

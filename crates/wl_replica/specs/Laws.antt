@@ -4,10 +4,12 @@ use Rattle.std.specs.Prelude.{◌≡◌, ℕ, ◌<◌, ◌≤◌, max, List, [],
 use Rattle.wl_lattice.specs.Words.{joined_flat}
 use Rattle.wl_lattice.specs.declared.FlatWord.TheVariants as flat
 use Rattle.wl_lattice.specs.Maps.{SameMembers}
+use Rattle.wl_limits.specs.declared.Limits.{Limits}
 use Rattle.wl_record_core.specs.declared.record.Record.{Record}
 use Rattle.wl_record_core.specs.Slots.{node_of}
 use Rattle.wl_record_core.specs.Text.{text_of}
 use Rattle.wl_replica.specs.Keys.{Key}
+use Rattle.wl_record_core.specs.Within.{IsWithinBy}
 use Rattle.wl_replica.specs.State.{State, state_of, states_joined, state_with_records, edge_at, silence_at, Fits}
 use Rattle.wl_replica.specs.Canonical.{canonical}
 
@@ -48,7 +50,8 @@ abbrev pub MergingIsAppending : Type 0
 MergingIsAppending = (nodes : ℕ) (xs ys : List Record) → All (λ r. node_of r < nodes) xs
     → canonical (state_of nodes (canonical (state_of nodes xs) ++ ys)) ≡ canonical (state_of nodes (xs ++ ys))
 
--- the canonical list of records that fit has records that fit, and its text is not longer than theirs
+-- the canonical list of records that fit has records that fit, that of records within some limits has such records, and its text is not longer than theirs
 pub record CanonicalStaysAText : Type 0 where
   pub fits : (nodes : ℕ) (rs : List Record) → All (Fits nodes) rs → All (Fits nodes) (canonical (state_of nodes rs))
+  pub within : (limits : Limits) (nodes : ℕ) (rs : List Record) → All (IsWithinBy limits) rs → All (IsWithinBy limits) (canonical (state_of nodes rs))
   pub short : (nodes : ℕ) (rs : List Record) → length (text_of (canonical (state_of nodes rs))) ≤ length (text_of rs)

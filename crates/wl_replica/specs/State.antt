@@ -10,7 +10,7 @@ use Rattle.wl_lattice.specs.Maps.{joined_maps, map_of}
 use Rattle.wl_record_core.specs.declared.record.Record.{Record}
 use Rattle.wl_record_core.specs.declared.record.Record.TheVariants.{Edge, Clash, Silence}
 use Rattle.wl_record_core.specs.Slots.{node_of}
-use Rattle.wl_record_core.specs.Within.{IsWithin}
+use Rattle.wl_record_core.specs.Within.{IsWide}
 use Rattle.wl_replica.specs.Keys.{Key, key_cmp}
 use Rattle.wl_replica.specs.Slots.{Contents}
 
@@ -66,21 +66,27 @@ state_with_record s r = state_with_records s (r ∷ [])
 
 -- the record is within, and its node is below the number of nodes
 abbrev pub Fits : ℕ → Record → Type 0
-Fits nodes r = (node_of r < nodes) × IsWithin r
+Fits nodes r = (node_of r < nodes) × IsWide r
 
 -- the state of some records that fit
 abbrev pub IsOfRecords : State → Type 0
 IsOfRecords s = (rs : List Record) × All (Fits s.nodes) rs × (s ≡ state_of s.nodes rs)
 
--- the record that an edge's word makes, if it makes one, fits
-abbrev pub FitsEdge : ℕ → Key × FlatWord → Type 0
-FitsEdge nodes (k, flat.Nothing) = Unit {0}
-FitsEdge nodes (k, flat.Value tick) = Fits nodes (Edge k.0 k.1 tick)
-FitsEdge nodes (k, flat.Clash) = Fits nodes (Clash k.0 k.1)
+-- if a slot has a word, this holds of its record
+abbrev pub EdgeHas : (Record → Type 0) → Key × FlatWord → Type 0
+EdgeHas P (k, flat.Nothing) = Unit {0}
+EdgeHas P (k, flat.Value tick) = P (Edge k.0 k.1 tick)
+EdgeHas P (k, flat.Clash) = P (Clash k.0 k.1)
 
--- the record that a silence's word makes, if it makes one, fits
+abbrev pub SilenceHas : (Record → Type 0) → Key × MaxWord → Type 0
+SilenceHas P (k, word) = 0 < word.word → P (Silence k.0 k.1 word.word)
+
+-- and it fits
+abbrev pub FitsEdge : ℕ → Key × FlatWord → Type 0
+FitsEdge nodes = EdgeHas (Fits nodes)
+
 abbrev pub FitsSilence : ℕ → Key × MaxWord → Type 0
-FitsSilence nodes (k, word) = 0 < word.word → Fits nodes (Silence k.0 k.1 word.word)
+FitsSilence nodes = SilenceHas (Fits nodes)
 
 -- the slots of a state, as functions of node and number
 abbrev pub slots_of : State → Contents

@@ -222,8 +222,8 @@ impl Slots for SilenceRows {
 
 /// What is known of some nodes, as [`Replica`](crate::Replica) knows it, without a run that is kept up to date.
 ///
-/// It has a place of 8 bytes for each slot of a node up to the greatest that was named. So it takes records in any order at the same cost,
-/// and 2 MiB for a record of the last change of a node.
+/// It has a place of 8 bytes for each slot of a node up to the greatest that was named. So it takes records in any order at the same cost.
+/// A record of the last change of a node makes it take 2 MiB by the limits of record texts, 2 GiB by the wide ones.
 #[derive(Drop)]
 pub struct Rows {
     nodes: u8,

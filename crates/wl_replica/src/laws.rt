@@ -35,8 +35,8 @@ pub fn merging_is_appending()
     ensures { MergingIsAppending }
 {}
 
-/// Law: the canonical list of records that fit has records that fit, and its text is not longer than
-/// theirs.
+/// Law: the canonical list of records that fit has records that fit, that of records within some limits has such records, and its text
+/// is not longer than theirs.
 pub fn canonical_stays_a_text()
     ensures { CanonicalStaysAText }
 {}

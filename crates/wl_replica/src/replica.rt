@@ -31,7 +31,8 @@ pub enum Word {
 /// nor how often.
 ///
 /// It has a place of 8 bytes for each slot of a node up to the greatest that was named. If records are true of a plan, these are no more
-/// than its changes. A stranger's record of the last change of a node takes 2 MiB.
+/// than its changes. A stranger's record of the last change of a node takes 2 MiB by the limits of record texts, and 2 GiB by the wide
+/// ones.
 #[derive(Drop)]
 pub struct Replica {
     rows: Rows,
@@ -94,12 +95,12 @@ impl Replica {
         self.rows.nodes()
     }
 
-    /// True if the replica can take a record: its node is one of the replica's, and its numbers are within their limits.
+    /// True if the replica can take a record: its node is one of the replica's, and its numbers are within the wide limits.
     pub fn fits(&self, told: &Record) -> bool
         ensures { IsTrue result ↔ Fits self.now.nodes told.now }
     {
         let node = told.node();
-        node < self.rows.nodes() && told.within()
+        node < self.rows.nodes() && told.is_wide()
     }
 
     /// Takes a record that fits: joins what it says into its slot. Refused when out of memory;

@@ -4,7 +4,7 @@ use std::fmt;
 
 /// A phase error as a word: with `-` before it if it is negative, and `-` alone if there is none.
 #[derive(Clone, Copy)]
-pub(crate) struct ErrorWord(pub(crate) Option<i8>);
+pub(crate) struct ErrorWord(pub(crate) Option<i16>);
 
 impl fmt::Display for ErrorWord {
     ghost use Rattle.std.specs.Prelude.{Some};

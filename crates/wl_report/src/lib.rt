@@ -11,5 +11,5 @@ mod verdict;
 pub use frames::{push_content, push_id};
 pub use laws::clean_is_clean;
 pub use nodes::mode_word;
-pub use text::report;
+pub use text::{report, report_of_totals};
 pub use verdict::{all_errors, all_unsent};

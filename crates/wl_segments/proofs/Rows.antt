@@ -1,8 +1,8 @@
 -- Worked segments: which are accepted, where they are sampled, and the greatest deviation that is tolerated.
 use Rattle.std.proofs.Common.{◌≡◌, ℕ, Ok, Err, refl, arith}
-use Rattle.wl_segments.specs.declared.SegmentsFault.TheVariants.{Prop, Jump, Length}
+use Rattle.wl_segments.specs.declared.SegmentsFault.TheVariants.{Prop, Phase1, Phase2, Jump, Length}
 use Rattle.wl_segments.specs.declared.SyncRules.TheVariants.{After, Book}
-use Rattle.wl_segments.specs.Lengths.{Lengths, IsTolerated, bit_quanta, sample_at, least_way, segments_of}
+use Rattle.wl_segments.specs.Lengths.{Lengths, IsTolerated, bit_quanta, sample_at, least_way, segments_of, controller_segments_of}
 
 abbrev lengths : ℕ → ℕ → ℕ → ℕ → Lengths
 lengths prop ps1 ps2 sjw = record { prop = prop; ps1 = ps1; ps2 = ps2; sjw = sjw; sync = After }
@@ -34,6 +34,37 @@ jump_above_phase1 = refl
 
 five_quanta : segments_of 1 1 2 1 ≡ Err Length
 five_quanta = refl
+
+-- 160 quanta a bit, as of a controller at 80 MHz on a bus of 500 kbit/s, with the sample at 80 %
+controller : controller_segments_of 127 32 16 ≡ Ok (lengths 95 32 32 16)
+controller = refl
+
+controller_quanta : bit_quanta (lengths 95 32 32 16) ≡ 160
+controller_quanta = refl
+
+controller_sample : sample_at (lengths 95 32 32 16) ≡ 128
+controller_sample = refl
+
+longest : controller_segments_of 256 128 128 ≡ Ok (lengths 128 128 128 128)
+longest = refl
+
+shortest : controller_segments_of 2 5 1 ≡ Ok (lengths 1 1 5 1)
+shortest = refl
+
+tseg1_alone : controller_segments_of 257 128 1 ≡ Err Phase1
+tseg1_alone = refl
+
+tseg2_of_one : controller_segments_of 10 1 1 ≡ Err Phase2
+tseg2_of_one = refl
+
+jump_above_tseg2 : controller_segments_of 10 2 3 ≡ Err Jump
+jump_above_tseg2 = refl
+
+jump_of_tseg1 : controller_segments_of 4 8 4 ≡ Err Jump
+jump_of_tseg1 = refl
+
+seven_quanta : controller_segments_of 4 2 1 ≡ Err Length
+seven_quanta = refl
 
 -- ten bits decide here: 20 * ppm * 10 is at most 2,000,000
 tolerated_10000 : IsTolerated (lengths 3 3 3 2) 10000

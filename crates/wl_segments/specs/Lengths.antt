@@ -37,20 +37,17 @@ found_at l = min (found_by l.sync) (l.prop + l.ps1)
 abbrev pub least_way : Lengths → ℕ
 least_way l = sample_at l - found_at l
 
--- what holds of all segments: each length is in its range (Bosch CAN 2.0 part B, section 10; PHASE_SEG2 from 2 to 8,
--- whatever PHASE_SEG1 is: this project's profile)
+-- what holds of all segments, those of the book and those of controllers with longer ones (Bosch CAN 2.0 part B, section 10; ISO 11898-1)
 pub record AreLengths (l : Lengths) : Type 0 where
   pub prop_low : 1 ≤ l.prop
-  pub prop_high : l.prop ≤ 8
   pub ps1_low : 1 ≤ l.ps1
-  pub ps1_high : l.ps1 ≤ 8
   pub ps2_low : 2 ≤ l.ps2
-  pub ps2_high : l.ps2 ≤ 8
   pub sjw_low : 1 ≤ l.sjw
-  pub sjw_high : l.sjw ≤ 4
   pub sjw_ps1 : l.sjw ≤ l.ps1
+  pub sjw_half : 2 * l.sjw ≤ bit_quanta l
+  pub sjw_ps2 : l.sjw ≤ 10 * (l.ps2 - 1)
   pub low : 8 ≤ bit_quanta l
-  pub high : bit_quanta l ≤ 25
+  pub high : bit_quanta l ≤ 385
 
 -- the segments of these lengths, or the first refusal that applies (the ranges of Bosch CAN 2.0 part B, section 10;
 -- the order, and the rules of synchronisation, are this project's profile)
@@ -62,6 +59,16 @@ segments_of prop ps1 ps2 sjw =
     else if nat_lt sjw 1 || nat_lt (min 4 ps1) sjw then Err Jump
     else if nat_lt (1 + prop + ps1 + ps2) 8 || nat_lt 25 (1 + prop + ps1 + ps2) then Err Length
     else Ok (record { prop = prop; ps1 = ps1; ps2 = ps2; sjw = sjw; sync = After })
+
+-- The segments of a controller that has PROP_SEG and PHASE_SEG1 as one length, TSEG1, or the first refusal that applies (ISO 11898-1, bit timing: ranges of
+-- classical bits in controllers with CAN FD; TSEG2 of 2 at least and PROP_SEG as what PHASE_SEG2 leaves of TSEG1 are this project's profile).
+abbrev pub controller_segments_of : (tseg1 tseg2 sjw : ℕ) → Result Lengths SegmentsFault
+controller_segments_of tseg1 tseg2 sjw =
+    if nat_lt tseg1 2 || nat_lt 256 tseg1 then Err Phase1
+    else if nat_lt tseg2 2 || nat_lt 128 tseg2 then Err Phase2
+    else if nat_lt sjw 1 || nat_lt (min (tseg1 - 1) tseg2) sjw then Err Jump
+    else if nat_lt (1 + tseg1 + tseg2) 8 then Err Length
+    else Ok (record { prop = tseg1 - min (tseg1 - 1) tseg2; ps1 = min (tseg1 - 1) tseg2; ps2 = tseg2; sjw = sjw; sync = After })
 
 -- Two oscillators that each deviate by so many parts per million stay in step over 13 bits but for PHASE_SEG2, as
 -- after an error flag, and over the 10 bits between two resynchronisations (this project's profile)

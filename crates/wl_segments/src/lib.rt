@@ -6,7 +6,7 @@
 #![tactic(auto)]
 
 ghost use Rattle.std.specs.Prelude.{◌≡◌, ℕ, ◌≤◌, ◌↔◌, IsTrue};
-ghost use Rattle.wl_segments.specs.Lengths.{Lengths, AreLengths, IsTolerated, segments_of, sample_at, bit_quanta, found_at, least_way};
+ghost use Rattle.wl_segments.specs.Lengths.{Lengths, AreLengths, IsTolerated, segments_of, controller_segments_of, sample_at, bit_quanta, found_at, least_way};
 
 use std::marker::Model;
 use thiserror::Error;
@@ -17,16 +17,16 @@ pub enum SegmentsFault {
     /// PROP_SEG isn't 1 to 8 quanta.
     #[error("Prop")]
     Prop,
-    /// PHASE_SEG1 isn't 1 to 8 quanta.
+    /// PHASE_SEG1 isn't 1 to 8 quanta, or TSEG1 isn't 2 to 256.
     #[error("Phase1")]
     Phase1,
-    /// PHASE_SEG2 isn't 2 to 8 quanta.
+    /// PHASE_SEG2 isn't 2 to 8 quanta, or TSEG2 isn't 2 to 128.
     #[error("Phase2")]
     Phase2,
-    /// The jump width isn't 1 to 4 quanta, or is above PHASE_SEG1.
+    /// The jump width isn't 1 to 4 quanta, or is above PHASE_SEG1. With TSEG1 and TSEG2 it isn't 1 up to the lesser of TSEG1 - 1 and TSEG2.
     #[error("Jump")]
     Jump,
-    /// The bit isn't 8 to 25 quanta long.
+    /// The bit isn't 8 to 25 quanta long. With TSEG1 and TSEG2 it is below 8 quanta.
     #[error("Length")]
     Length,
 }
@@ -44,10 +44,10 @@ pub enum SyncRules {
 /// The segments of a bit and the resynchronisation jump width, in quanta, and the rules by which edges synchronise it.
 #[derive(Clone, Copy, Debug, PartialEq, Eq)]
 pub struct Segments {
-    prop: u8,
-    ps1: u8,
-    ps2: u8,
-    sjw: u8,
+    prop: u16,
+    ps1: u16,
+    ps2: u16,
+    sjw: u16,
     sync: SyncRules,
 }
 
@@ -92,10 +92,43 @@ impl Segments {
             return Err(SegmentsFault::Length);
         }
         Ok(Segments {
-            prop: prop as u8,
-            ps1: ps1 as u8,
-            ps2: ps2 as u8,
-            sjw: sjw as u8,
+            prop: prop as u16,
+            ps1: ps1 as u16,
+            ps2: ps2 as u16,
+            sjw: sjw as u16,
+            sync: SyncRules::After,
+        })
+    }
+
+    /// Returns the segments of a controller with TSEG1 (PROP_SEG and PHASE_SEG1 together), TSEG2 (PHASE_SEG2) and the jump width of these
+    /// quanta. Their rules are `After`.
+    ///
+    /// TSEG1 has no PROP_SEG of its own. PHASE_SEG1 is the lesser of `tseg1 - 1` and `tseg2`, since a longer one than PHASE_SEG2 has no use,
+    /// and PROP_SEG is the rest. Only [`tolerance_ok`](Self::tolerance_ok) reads the two apart.
+    ///
+    /// Refused as `Phase1` (`tseg1` isn't 2 to 256), `Phase2` (`tseg2` isn't 2 to 128), `Jump` (`sjw` isn't 1 up to the lesser of
+    /// `tseg1 - 1` and `tseg2`) or `Length`: the bit is below 8 quanta. If several apply, it is the first of them in this order.
+    pub fn of_controller(tseg1: u64, tseg2: u64, sjw: u64) -> Result<Segments, SegmentsFault>
+        ensures { result ≡ controller_segments_of tseg1 tseg2 sjw }
+    {
+        if tseg1 < 2 || tseg1 > 256 {
+            return Err(SegmentsFault::Phase1);
+        }
+        if tseg2 < 2 || tseg2 > 128 {
+            return Err(SegmentsFault::Phase2);
+        }
+        let ps1 = (tseg1 - 1).min(tseg2);
+        if sjw < 1 || sjw > ps1 {
+            return Err(SegmentsFault::Jump);
+        }
+        if 1 + tseg1 + tseg2 < 8 {
+            return Err(SegmentsFault::Length);
+        }
+        Ok(Segments {
+            prop: (tseg1 - ps1) as u16,
+            ps1: ps1 as u16,
+            ps2: tseg2 as u16,
+            sjw: sjw as u16,
             sync: SyncRules::After,
         })
     }
@@ -124,7 +157,7 @@ impl Segments {
         }
     }
 
-    /// Returns the least quanta from the start of a bit up to and including its sample: 2 to 17.
+    /// Returns the least quanta from the start of a bit up to and including its sample: 2 to 257.
     pub fn least_way(&self) -> u64
         ensures way { result ≡ least_way self.now }
         ensures lengths { AreLengths self.now }
@@ -132,7 +165,7 @@ impl Segments {
         self.sample_at() - self.found_at()
     }
 
-    /// Returns PROP_SEG: 1 to 8 quanta.
+    /// Returns PROP_SEG: 1 to 255 quanta.
     pub fn prop(&self) -> u64
         ensures prop { result ≡ self.now.prop }
         ensures lengths { AreLengths self.now }
@@ -140,7 +173,7 @@ impl Segments {
         self.prop as u64
     }
 
-    /// Returns PHASE_SEG1: 1 to 8 quanta.
+    /// Returns PHASE_SEG1: 1 to 128 quanta.
     pub fn ps1(&self) -> u64
         ensures ps1 { result ≡ self.now.ps1 }
         ensures lengths { AreLengths self.now }
@@ -148,7 +181,7 @@ impl Segments {
         self.ps1 as u64
     }
 
-    /// Returns PHASE_SEG2: 2 to 8 quanta.
+    /// Returns PHASE_SEG2: 2 to 128 quanta.
     pub fn ps2(&self) -> u64
         ensures ps2 { result ≡ self.now.ps2 }
         ensures lengths { AreLengths self.now }
@@ -156,7 +189,7 @@ impl Segments {
         self.ps2 as u64
     }
 
-    /// Returns the resynchronisation jump width: 1 to 4 quanta, and at most PHASE_SEG1.
+    /// Returns the resynchronisation jump width: 1 to 128 quanta, and at most PHASE_SEG1.
     pub fn sjw(&self) -> u64
         ensures sjw { result ≡ self.now.sjw }
         ensures lengths { AreLengths self.now }
@@ -172,7 +205,7 @@ impl Segments {
         1 + self.prop() + self.ps1()
     }
 
-    /// Returns the quanta of a bit that nothing moved: 8 to 25.
+    /// Returns the quanta of a bit that nothing moved: 8 to 385.
     pub fn bit_quanta(&self) -> u64
         ensures quanta { result ≡ bit_quanta self.now }
         ensures lengths { AreLengths self.now }

@@ -1,8 +1,8 @@
 -- What is kept of each node at a place, and how many of them drive dominant.
 use Rattle.std.proofs.Common.{◌≡◌, ℕ, zero, suc, ◌+◌, ◌^◌, ◌<◌, ◌≤◌, ◌≢◌, Bool, true, false, ◌||◌, inl, inr, List, length, replicate, get_or, refl, sym, ◌∙◌, ap, subst, arith, nat_lt}
 use Rattle.std.proofs.Math.ListN.{set, length-set}
-use Rattle.std.proofs.lemmas.Bool.{cases_lt, cases_eq, lt-ltb, le-ltb, true≢false}
-use Rattle.std.proofs.lemmas.List.{get_or_default, get_or-set_same, get_or-set_other}
+use Rattle.std.proofs.lemmas.Bool.{cases_lt, cases_eq, lt-ltb, le-ltb}
+use Rattle.std.proofs.lemmas.List.{get_or_default, get_or-replicate, get_or-set_same, get_or-set_other, length-replicate}
 use Rattle.std.specs.Int.{from_bool}
 use Rattle.wl_topology.specs.Delays.{delay_of}
 use Rattle.wl_topology.specs.Driven.{any_below}
@@ -151,6 +151,16 @@ none_passing p (suc n) none = (let f = none_passing p n none in let e = ap from_
 pub none_drives : (n : ℕ) → 0 ≡ passing (λ i. get_or (replicate most_places false) i false) n
 none_drives n = sym (none_passing (λ i. get_or (replicate most_places false) i false) n (silent most_places))
 
+-- at first nothing comes from any number
+pub nothing_comes : (n v : ℕ) → n ≡ most_places → 2 ^ 63 ≤ v
+    → (length (replicate n v) ≡ most_places) × ((k : ℕ) → k < 0 → get_or (replicate n v) k 0 ≡ 0)
+    × ((k : ℕ) → 0 ≤ k → k < most_places → 2 ^ 63 ≤ get_or (replicate n v) k 0)
+nothing_comes n v all late = (
+  length-replicate n v ∙ all,
+  (λ k none. absurd (omega (arith, none))),
+  (λ k least inside. subst (λ x. 2 ^ 63 ≤ x) (sym (get_or-replicate n k v 0 (omega (arith, inside, all)))) late),
+)
+
 -- only from a node a change comes
 pub is_node : (n i t : ℕ) (s : Sources) → AreTallied n s → i < most_places → t < 2 ^ 63 → get_or s.nexts i 0 ≤ t → i < n
 is_node n i t s kept inside early comes = elim (cases_lt i n) [
@@ -174,10 +184,11 @@ with_one one until s others here k b = elim (cases_eq k one) [
   | inr other ↦ others k other b
 ]
 
--- from none of the first n nodes a change comes by that tick, and so from no place
-pub none_by : (n t : ℕ) (s : Sources) → AreTallied n s → t < 2 ^ 63 → ((k : ℕ) → k < n → t < get_or s.nexts k 0) → (k : ℕ) → k < most_places → t < get_or s.nexts k 0
-none_by n t s kept early each k b = elim (cases_lt k n) [
-  | inl node ↦ each k node
+-- from no other node of the first n a change comes before that tick, and so from no other place
+pub none_before : (n j until : ℕ) (s : Sources) → AreTallied n s → until ≤ 2 ^ 63 → ((k : ℕ) → k ≢ j → k < n → until ≤ get_or s.nexts k 0)
+    → (k : ℕ) → k ≢ j → k < most_places → until ≤ get_or s.nexts k 0
+none_before n j until s kept early each k other b = elim (cases_lt k n) [
+  | inl node ↦ each k other node
   | inr past ↦ (let f = kept.beyond k past b in omega (arith, f, early))
 ]
 
@@ -191,10 +202,3 @@ ahead_taken i t old new ahead few one others same later = record {
     | inr other ↦ (let f = ahead.others k (λ x. apart (x ∙ sym one)) b in let e = same k other in omega (arith, f, e, others))
   ];
 }
-
--- a place that drives dominant is a node's
-pub driving_node : (n u : ℕ) (s : Sources) → AreTallied n s → IsDriving most_places u s → IsDriving n u s
-driving_node n u s kept w = elim (cases_lt w.0 n) [
-  | inl node ↦ (w.0, node, w.2, w.3)
-  | inr past ↦ absurd (true≢false (sym w.2 ∙ kept.quiet w.0 past w.1))
-]

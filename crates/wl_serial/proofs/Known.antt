@@ -1,8 +1,8 @@
 -- The ticks below which the drives of the nodes are known, side by side.
-use Rattle.std.proofs.Common.{◌≡◌, ℕ, ◌+◌, ◌<◌, ◌≤◌, ◌≢◌, inl, inr, List, [], ◌∷◌, length, get_or, sym, ◌∙◌, ap, subst, arith}
+use Rattle.std.proofs.Common.{◌≡◌, ℕ, ◌+◌, ◌<◌, ◌≤◌, ◌≢◌, inl, inr, List, [], ◌∷◌, length, replicate, get_or, sym, ◌∙◌, ap, subst, arith}
 use Rattle.std.proofs.Math.ListN.{set, length-set}
 use Rattle.std.proofs.lemmas.Bool.{cases_lt, cases_eq}
-use Rattle.std.proofs.lemmas.List.{get_or-set_same, get_or-set_other, get_or_default}
+use Rattle.std.proofs.lemmas.List.{get_or-set_same, get_or-set_other, get_or_default, get_or-replicate, length-replicate}
 use Rattle.wl_topology.specs.Delays.{delay_of}
 use Rattle.wl_topology.specs.Limits.{most_places}
 use Rattle.wl_plan.specs.declared.plan.Plan.{Plan}
@@ -16,6 +16,14 @@ KnownSoFar end rs known i =
     (length known ≡ most_places)
     × ((k d : ℕ) (r : Running) → k < i → get_or known k d ≡ (get_or rs k r).known)
     × ((k d : ℕ) → i ≤ k → k < length known → end ≤ get_or known k d)
+
+-- at first none is there
+pub none_known : (end n v : ℕ) (rs : List Running) → n ≡ most_places → end ≤ v → KnownSoFar end rs (replicate n v) 0
+none_known end n v rs all late = (
+  length-replicate n v ∙ all,
+  (λ k d r none. absurd (omega (arith, none))),
+  (λ k d least inside. subst (λ x. end ≤ x) (sym (get_or-replicate n k v d (subst (λ m. k < m) (length-replicate n v) inside))) late),
+)
 
 pub known_more : (end : ℕ) (rs : List Running) (known : List ℕ) (i v : ℕ) → i < length known → KnownSoFar end rs known i → ((r : Running) → v ≡ (get_or rs i r).known)
     → KnownSoFar end rs (set known i v) (i + 1)
@@ -83,24 +91,18 @@ least_stays known i node least v b is so_far more = ((let c = so_far.0 in omega 
 
 -- it is a node, and the others are known as far
 pub least_is_next : (plan : Plan) (rs : List Running) (known : List ℕ) (node least : ℕ) → AreRunning plan rs → AreKnown plan.end rs known
-    → IsLeast known (length known) node least → least < plan.end → IsNext plan.end rs node
+    → IsLeast known (length rs) node least → least < plan.end → IsNext plan.end rs node
 least_is_next plan rs known node least running are is before =
-    let there : node < length rs = elim (cases_lt node (length rs)) [
-      | inl inside ↦ inside
-      | inr outside ↦ (let late = are.beyond node 0 outside is.0 in let e = is.1 0 in absurd (omega (arith, late, e, before)))
-    ] in
+    let there = is.0 in
     record {
       is_node = there;
       before = λ d. let p = (running.each node d there).1.promised in let e = is.1 0 in let f = are.each node 0 d there in omega (arith, p, e, f, before);
-      first = λ d k e b. let p = (running.each node d there).1.promised in let same = is.1 0 in let f = is.2 k 0 (inside k b) in let own = are.each node 0 d there in
+      first = λ d k e b. let p = (running.each node d there).1.promised in let same = is.1 0 in let f = is.2 k 0 b in let own = are.each node 0 d there in
           let other = are.each k 0 e b in omega (arith, p, same, f, own, other);
     }
-  where
-    inside : (k : ℕ) → k < length rs → k < length known
-    inside k b = (let few = are.few in let all = are.all in omega (arith, few, all, b))
 
-pub all_known : (plan : Plan) (rs : List Running) (known : List ℕ) (node least : ℕ) → AreKnown plan.end rs known → IsLeast known (length known) node least → plan.end ≤ least → AllKnown plan.end rs
-all_known plan rs known node least are is late k d b = (let few = are.few in let all = are.all in let f = is.2 k 0 (omega (arith, b, few, all)) in let e = are.each k 0 d b in omega (arith, f, e, late))
+pub all_known : (plan : Plan) (rs : List Running) (known : List ℕ) (node least : ℕ) → AreKnown plan.end rs known → IsLeast known (length rs) node least → plan.end ≤ least → AllKnown plan.end rs
+all_known plan rs known node least are is late k d b = (let f = is.2 k 0 b in let e = are.each k 0 d b in omega (arith, f, e, late))
 
 -- the delays of the first i nodes are there
 abbrev pub OthersSoFar : Plan → ℕ → List ℕ → ℕ → Type 0
@@ -108,6 +110,13 @@ OthersSoFar plan j others i =
     (length others ≡ most_places)
     × ((k d : ℕ) → k < i → k ≢ j → get_or others k d ≡ delay_of plan.topology k j)
     × ((k d : ℕ) → k < length others → 1 ≤ get_or others k d)
+
+pub no_others : (plan : Plan) (j n v : ℕ) → n ≡ most_places → 1 ≤ v → OthersSoFar plan j (replicate n v) 0
+no_others plan j n v all some = (
+  length-replicate n v ∙ all,
+  (λ k d none other. absurd (omega (arith, none))),
+  (λ k d inside. subst (λ x. 1 ≤ x) (sym (get_or-replicate n k v d (subst (λ m. k < m) (length-replicate n v) inside))) some),
+)
 
 pub others_more : (plan : Plan) (j : ℕ) (others : List ℕ) (i v : ℕ) → i < length others → OthersSoFar plan j others i → v ≡ delay_of plan.topology i j → 1 ≤ v
     → OthersSoFar plan j (set others i v) (i + 1)
@@ -177,11 +186,9 @@ horizon_one_more plan j rs known others i horizon next s v w are some b c is_kno
 
 -- and so of all nodes
 pub knows_others : (plan : Plan) (j : ℕ) (rs : List Running) (known others : List ℕ) (horizon : ℕ) → AreKnown plan.end rs known → AreOthers plan j others → length rs ≡ length plan.nodes
-    → IsHorizon plan.end rs known others (length known) horizon → KnowsOthers plan j horizon rs
+    → IsHorizon plan.end rs known others (length rs) horizon → KnowsOthers plan j horizon rs
 knows_others plan j rs known others horizon are some all is i d b other =
-    let few = are.few in
-    let long = are.all in
-    let h = is.0 i 0 0 (omega (arith, b, few, long)) in
+    let h = is.0 i 0 0 b in
     let e = are.each i 0 d b in
     let f = some.each i 0 (omega (arith, b, all)) other in
     omega (arith, h, e, f)

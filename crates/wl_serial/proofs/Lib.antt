@@ -19,4 +19,5 @@ mod Slices
 mod Steps
 mod Stretches
 mod Told
+mod WithinLimits
 pub mod Callers

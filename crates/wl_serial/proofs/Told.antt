@@ -8,7 +8,7 @@ use Rattle.std.proofs.lemmas.List.FromFn.{length-range_with_len, length-map-rang
 use Rattle.wl_record_core.specs.declared.record.Record.{Record}
 use Rattle.wl_record_core.specs.declared.record.Record.TheVariants.{Edge, Silence}
 use Rattle.wl_record_core.specs.Limits.{most_edges}
-use Rattle.wl_record_core.specs.Within.{IsWithin}
+use Rattle.wl_record_core.specs.Within.{IsWide}
 use Rattle.wl_plan.specs.PlanLine.{line_of, table_of, IsTrueOfPlan}
 use Rattle.wl_plan.specs.Checked.{CheckedIsSound}
 use Rattle.wl_plan.specs.SimulationLaws.{OutcomeIsTrue}
@@ -53,12 +53,12 @@ all_nodes P end f a (suc n) each =
 
 pub records_are_true : CheckedIsSound → OutcomeIsTrue → RecordsAreTrue
 records_are_true sounds truth plan checked =
-    all_nodes (λ told. IsTrueOfPlan plan told × IsWithin told) plan.end (node_outcome_of plan) 0 (length plan.nodes)
+    all_nodes (λ told. IsTrueOfPlan plan told × IsWide told) plan.end (node_outcome_of plan) 0 (length plan.nodes)
     (λ i b. let t = truth (line_of plan) (sounds plan checked) i (omega arith) in
-    All-append (λ told. IsTrueOfPlan plan told × IsWithin told) (edges_from i 0 (table_of plan i)) (Silence i (length (table_of plan i)) plan.end ∷ [])
-    (all_edges (λ told. IsTrueOfPlan plan told × IsWithin told) i 0 (table_of plan i)
-    (λ k u h. subst (λ n. IsTrueOfPlan plan (Edge i n u) × IsWithin (Edge i n u)) (sym (zero-add k)) (t.0 k u h, (t.0 k u h).2)))
-    (All-cons (λ told. IsTrueOfPlan plan told × IsWithin told) (Silence i (length (table_of plan i)) plan.end) [] (t.1, t.1.2) (none (λ told. IsTrueOfPlan plan told × IsWithin told))))
+    All-append (λ told. IsTrueOfPlan plan told × IsWide told) (edges_from i 0 (table_of plan i)) (Silence i (length (table_of plan i)) plan.end ∷ [])
+    (all_edges (λ told. IsTrueOfPlan plan told × IsWide told) i 0 (table_of plan i)
+    (λ k u h. subst (λ n. IsTrueOfPlan plan (Edge i n u) × IsWide (Edge i n u)) (sym (zero-add k)) (t.0 k u h, (t.0 k u h).2)))
+    (All-cons (λ told. IsTrueOfPlan plan told × IsWide told) (Silence i (length (table_of plan i)) plan.end) [] (t.1, t.1.2) (none (λ told. IsTrueOfPlan plan told × IsWide told))))
 
 -- one edge more, after the others
 edges_behind : (i s t : ℕ) (ts : List ℕ) → edges_from i s (ts ++ t ∷ []) ≡ edges_from i s ts ++ Edge i (s + length ts) t ∷ []

@@ -5,10 +5,11 @@ use Rattle.std.specs.List.{flat_map, enumerate_from}
 use Rattle.wl_record_core.specs.declared.record.Record.{Record}
 use Rattle.wl_record_core.specs.declared.record.Record.TheVariants.{Edge, Silence}
 use Rattle.wl_record_core.specs.Limits.{most_nodes, most_edges, tick_end}
-use Rattle.wl_record_core.specs.Within.{IsWithin}
+use Rattle.wl_limits.specs.declared.Limits.{Limits}
+use Rattle.wl_record_core.specs.Within.{IsWide, IsWithinBy}
 use Rattle.wl_plan.specs.declared.plan.Plan.{Plan}
 use Rattle.wl_plan.specs.PlanLine.{IsTrueOfPlan}
-use Rattle.wl_plan.specs.Checked.{IsChecked}
+use Rattle.wl_plan.specs.Checked.{IsChecked, IsPlanWithin}
 use Rattle.wl_serial.specs.declared.outcome.Outcome.{Outcome}
 use Rattle.wl_serial.specs.Outcome.{outcome_of}
 
@@ -37,4 +38,9 @@ OutcomeIsRecordable = (plan : Plan) → IsChecked plan → IsRecordable (outcome
 
 -- and each of these records is true of the plan, and within the limits
 abbrev pub RecordsAreTrue : Type 0
-RecordsAreTrue = (plan : Plan) → IsChecked plan → All (λ told. IsTrueOfPlan plan told × IsWithin told) (outcome_records (outcome_of plan))
+RecordsAreTrue = (plan : Plan) → IsChecked plan → All (λ told. IsTrueOfPlan plan told × IsWide told) (outcome_records (outcome_of plan))
+
+-- the records of a plan that is within some limits are within them
+abbrev pub RecordsAreWithin : Type 0
+RecordsAreWithin = (limits : Limits) (queued : ℕ) (plan : Plan) → IsChecked plan → IsPlanWithin limits queued plan
+    → All (λ told. IsWithinBy limits told) (outcome_records (outcome_of plan))

@@ -37,7 +37,7 @@ impl<'p> Checked<'p> {
         Checked { plan }
     }
 
-    /// Returns the number of nodes: 1 to 16.
+    /// Returns the number of nodes: 1 to 64.
     pub(crate) fn nodes(&self) -> usize
         ensures value { result ≡ length self.now.nodes }
         ensures some { 0 < result }

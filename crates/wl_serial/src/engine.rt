@@ -207,7 +207,7 @@ fn least_known(plan: &Checked, running: &[Running], known: &Ticks) -> Option<usi
 {
     let mut node = 0;
     let mut least = known[0];
-    for i in 1..MOST_NODES {
+    for i in 1..plan.nodes() {
         if known[i] < least {
             least = known[i];
             node = i;

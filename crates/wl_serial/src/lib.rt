@@ -16,7 +16,7 @@ mod sources;
 mod turn;
 
 pub use engine::{run_serial, run_totals};
-pub use laws::{outcome_is_recordable, outcome_node_by_node, records_are_true};
+pub use laws::{outcome_is_recordable, outcome_node_by_node, records_are_true, records_are_within};
 pub use outcome::{
     Changes, Frames, NodeOutcome, NodeOutcomes, NodeTotals, Outcome, Phases, Totals,
 };

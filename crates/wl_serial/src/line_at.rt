@@ -65,7 +65,7 @@ impl LineAt {
     {
         plan.laws();
         let mut horizon = plan.end();
-        for i in 0..MOST_NODES {
+        for i in 0..plan.nodes() {
             horizon = horizon.min(known[i].saturating_add(self.others[i]));
         }
         horizon
@@ -130,7 +130,9 @@ impl LineAt {
         if self.disturbance.dominant {
             return 0;
         }
-        self.sources.alone_until(j).min(self.disturbance.until)
+        self.sources
+            .alone_until(plan, j)
+            .min(self.disturbance.until)
     }
 
     /// Asks what arrives from the nodes, if the last answer doesn't say it for tick `t`, at which node `j` has its next quantum.

@@ -14,7 +14,7 @@ pub type Changes = Listed<u64>;
 pub type Frames = Listed<Passed>;
 
 /// Quanta of a node, each with the phase error of the edge that it synchronised on, in quanta.
-pub type Phases = Listed<(u64, i8)>;
+pub type Phases = Listed<(u64, i16)>;
 
 /// What one node did before the end.
 #[derive(Debug, Drop)]

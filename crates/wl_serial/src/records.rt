@@ -8,7 +8,7 @@ use std::alloc::{AllocError, Global};
 use wl_record_core::{MOST_EDGES, MOST_NODES, Record, TICK_END};
 
 impl Outcome {
-    /// True if records can say all of it: there are at most 16 nodes and at most 262,145 changes of each, and the end is below 2^48.
+    /// True if records can say all of it: there are at most 64 nodes and at most 268,435,457 changes of each, and the end is below 2^48.
     ///
     /// The outcome of a plan that passed its check is recordable.
     #[tactic(auto, unfolding(wl_record_core::specs::Limits::most_nodes, wl_record_core::specs::Limits::tick_end))]
@@ -21,7 +21,7 @@ impl Outcome {
     }
 }
 
-/// True if each of the nodes has at most 262,145 changes.
+/// True if each of the nodes has at most 268,435,457 changes.
 #[tactic(auto, unfolding(wl_record_core::specs::Limits::most_edges))]
 fn have_few_changes(nodes: &[NodeOutcome]) -> bool
     ensures { IsTrue result ↔ All (λ node. length node.changes ≤ most_edges) nodes.now }

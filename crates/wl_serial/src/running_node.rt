@@ -4,6 +4,7 @@ ghost use Rattle.wl_clock.specs.Timing.{tick_of};
 ghost use Rattle.wl_level.specs.Levels.{same};
 ghost use Rattle.wl_plan.specs.Checked.{IsChecked};
 ghost use Rattle.wl_plan.specs.declared.plan.Plan.{Plan as GivenPlan};
+ghost use Rattle.wl_node.specs.Limits.{most_run_quanta};
 ghost use Rattle.wl_node.specs.Marks.{HasPassed};
 ghost use Rattle.wl_node.specs.Reached.{IsNode, keeps_lists, node_setup, quanta_of};
 ghost use Rattle.wl_plan.specs.Limits.{most_quanta};
@@ -335,7 +336,7 @@ fn keep_change(
     before: Level,
     after: Level,
 ) -> Result<Option<u64>, AllocError>
-    requires { quantum ≤ 2 ^ 21 }
+    requires { quantum ≤ most_run_quanta }
     ensures kept { OnOk result (changes.new
         ≡ (if same after before then changes.old else changes.old ++ tick_of clock.now quantum ∷ [])) }
     ensures told { IfOk result (λ change. changes.new ≡ one_more changes.old change) }

@@ -11,6 +11,9 @@ use crate::running_node::{Running, Ticks};
 use wl_pulse::{Pulse, pulse_of};
 use wl_topology::MOST_NODES;
 
+/// A tick after each that is kept of a node, and no later than what is kept of a number that is no node: 2^63.
+const NO_TICK: u64 = 9_223_372_036_854_775_808;
+
 /// What is cached of the nodes at a place. Of each node it is how many changes were counted when it was last asked, and the tick at which the
 /// next one arrives. That tick may be past: then the node is to be asked again. It is also whether the node is dominant up to that tick, and
 /// how many nodes are kept so. And it is one node, with a tick before which no change of another one arrives.
@@ -112,7 +115,7 @@ impl Sources {
         ensures told { IsPulseTold plan.now running.now j result }
     {
         plan.laws();
-        let until = self.dominant_until();
+        let until = self.dominant_until(plan);
         if t < until {
             return dominant_pulse(t, until);
         }
@@ -121,7 +124,7 @@ impl Sources {
         if t < until {
             return dominant_pulse(t, until);
         }
-        self.others = self.others_until(self.one);
+        self.others = self.others_until(plan, self.one);
         Pulse {
             from: t,
             until: self.others.min(self.nexts[self.one]),
@@ -131,11 +134,11 @@ impl Sources {
 
     /// Returns the latest tick up to which a node drives dominant, by what is kept; 0 if none is kept as dominant. It may be past.
     #[inline(always)]
-    fn dominant_until(&self) -> u64
-        ensures { (n u : ℕ) → AreTallied n self.now → u < result → IsDriving n u self.now }
+    fn dominant_until(&self, plan: &Checked) -> u64
+        ensures { (u : ℕ) → u < result → IsDriving (length plan.now.nodes) u self.now }
     {
         let mut until = 0;
-        for i in 0..MOST_NODES {
+        for i in 0..plan.nodes() {
             until = until.max(if self.drives[i] { self.nexts[i] } else { 0 });
         }
         until
@@ -144,16 +147,13 @@ impl Sources {
     /// Returns the nodes whose next change is kept as one that arrives by tick `t`, in their order, and how many they are. No branch of the
     /// loop depends on a node.
     #[inline(always)]
-    fn due_by(&self, plan: &Checked, t: u64) -> ([usize; MOST_NODES], usize)
-        requires early { t < 2 ^ 63 }
-        requires kept { AreTallied (length plan.now.nodes) self.now }
+    fn due_by(&self, plan: &Checked, t: u64) -> ([u8; MOST_NODES], usize)
         ensures { IsDue (length plan.now.nodes) t self.now result.0 result.1 }
     {
-        plan.laws();
         let mut due = [0; MOST_NODES];
         let mut count = 0;
-        for i in 0..MOST_NODES {
-            due[count] = i;
+        for i in 0..plan.nodes() {
+            due[count] = i as u8;
             if self.nexts[i] <= t {
                 count += 1;
             }
@@ -171,7 +171,7 @@ impl Sources {
         delays: &Ticks,
         j: usize,
         t: u64,
-        due: &[usize; MOST_NODES],
+        due: &[u8; MOST_NODES],
         count: usize,
     ) -> u64
         requires somewhere { AreSomewhere plan.now running.now }
@@ -193,7 +193,7 @@ impl Sources {
         plan.laws();
         let mut last = 0;
         for k in 0..count {
-            let i = due[k];
+            let i = due[k] as usize;
             self.take(plan, running[i].changes.as_slice(), delays[i], i, t);
             if self.drives[i] {
                 return self.nexts[i];
@@ -206,25 +206,28 @@ impl Sources {
 
     /// Returns the tick before which no change of another node than node `j` is to be taken up, if all others are kept as recessive; else 0. It
     /// may be past.
-    pub(crate) fn alone_until(&self, j: usize) -> u64
-        requires { j < most_places }
-        ensures { (n : ℕ) → j < n → n ≤ most_places → AreTallied n self.now → IsAlone n j result self.now }
+    pub(crate) fn alone_until(&self, plan: &Checked, j: usize) -> u64
+        requires node { j < length plan.now.nodes }
+        requires kept { AreTallied (length plan.now.nodes) self.now }
+        ensures { IsAlone (length plan.now.nodes) j result self.now }
     {
+        plan.laws();
         if usize::from(self.drives[j]) < self.driving {
             return 0;
         }
-        self.others_until(j)
+        self.others_until(plan, j)
     }
 
     /// Returns the tick before which no change of another node than node `j` is to be taken up. It may be past.
-    fn others_until(&self, j: usize) -> u64
+    fn others_until(&self, plan: &Checked, j: usize) -> u64
+        requires { AreTallied (length plan.now.nodes) self.now }
         ensures few { (k : ℕ) → k ≢ j → k < most_places → result ≤ slice_index_or self.now.nexts k 0 }
         ensures later { (t : ℕ) → t < 2 ^ 63
-            → ((k : ℕ) → k < most_places → t < slice_index_or self.now.nexts k 0) → t < result }
+            → ((k : ℕ) → k < length plan.now.nodes → t < slice_index_or self.now.nexts k 0) → t < result }
     {
-        let mut until = u64::MAX;
-        for k in 0..MOST_NODES {
-            until = until.min(if k == j { u64::MAX } else { self.nexts[k] });
+        let mut until = NO_TICK;
+        for k in 0..plan.nodes() {
+            until = until.min(if k == j { NO_TICK } else { self.nexts[k] });
         }
         until
     }

@@ -5,8 +5,7 @@ use Rattle.std.specs.Str.{bytes_eq}
 use Rattle.toml.specs.Data.{Data, Members, get_member, as_str, as_table}
 use Rattle.wl_bound.specs.declared.condition.Senders.{Senders}
 use Rattle.wl_bound.specs.declared.condition.Senders.TheVariants.{Any, One}
-use Rattle.wl_setup.specs.Kinds.{has_kind, number_within}
-use Rattle.wl_setup.specs.Quick.{elements_said, name_said}
+use Rattle.wl_setup.specs.Kinds.{elements_said, has_kind, name_said, number_within}
 use Rattle.wl_settings.specs.declared.keys.Key.{Key}
 use Rattle.wl_settings.specs.declared.keys.ValueKind.{ValueKind}
 use Rattle.wl_settings.specs.declared.keys.ValueKind.TheVariants as kind

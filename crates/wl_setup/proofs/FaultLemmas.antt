@@ -11,7 +11,8 @@ use Rattle.wl_setup.specs.declared.tables.Wrong.TheVariants as wrong
 use Rattle.wl_setup.specs.declared.plan_text.PlanText.{PlanText}
 use Rattle.wl_setup.specs.Keys.{TableKeys, top_keys}
 use Rattle.wl_setup.specs.Kinds.{number_at, tables_at}
-use Rattle.wl_setup.specs.Faults.{first_some, required_fault, setup_fault, table_fault, node_keys, rate_keys, frame_keys, disturbance_keys, is_known_version, version_fault}
+use Rattle.wl_setup.specs.Faults.{first_some, required_fault, setup_fault, table_fault, node_keys, rate_keys, frame_keys, disturbance_keys, version_fault}
+use Rattle.wl_setup.specs.Version.{is_known_version}
 use Rattle.wl_setup.specs.Names.{first_repeat, has_repeat, names_of, same_name_fault}
 use Rattle.wl_setup.specs.declared.table_path.PlacedFault.{PlacedFault}
 use Rattle.wl_setup.specs.declared.table_path.TablePath.{TablePath}

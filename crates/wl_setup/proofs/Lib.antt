@@ -1,8 +1,6 @@
 mod Loops
 mod TableLemmas
 mod ValueLemmas
-mod QuickLemmas
-mod FrameLemmas
 mod UnknownLemmas
 mod NameLemmas
 mod ReadLemmas

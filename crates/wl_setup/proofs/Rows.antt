@@ -9,7 +9,9 @@ use Rattle.wl_clock.specs.Timing.{Timing, tick_of}
 use Rattle.wl_frame.specs.Grammar.{Content}
 use Rattle.wl_frame.specs.declared.frame.FrameFault.TheVariants.{Id, Dlc, ExtendedId}
 use Rattle.wl_topology.specs.Delays.{Cable}
-use Rattle.wl_topology.specs.declared.TopologyFault.TheVariants.{ZeroDelay}
+use Rattle.wl_topology.specs.declared.TopologyFault.TheVariants.{ZeroDelay, TooManyNodes}
+use Rattle.wl_clock.specs.declared.ClockFault.TheVariants.{BigOffset}
+use Rattle.wl_segments.specs.declared.SegmentsFault.TheVariants.{Phase1, Phase2, Jump, Length}
 use Rattle.wl_plan.specs.Limits.{most_quanta, most_queued}
 use Rattle.wl_plan.specs.declared.check.PlanFault.TheVariants as refusal
 use Rattle.wl_node.specs.declared.setup.Queued.{Queued}
@@ -24,15 +26,17 @@ use Rattle.wl_setup.specs.declared.plan_text.NodeText.{NodeText}
 use Rattle.wl_setup.specs.declared.plan_text.FrameText.{FrameText}
 use Rattle.wl_setup.specs.declared.plan_text.DisturbanceText.{DisturbanceText}
 use Rattle.wl_setup.specs.declared.plan_text.ClockText.TheVariants.{Rate}
+use Rattle.wl_setup.specs.declared.plan_text.SegmentsText.TheVariants.{Each, Controller}
 use Rattle.wl_segments.specs.declared.SyncRules.TheVariants.{After}
-use Rattle.wl_setup.specs.Limits.{most_bytes, largest_number, largest_small, largest_ppm, largest_tolerance, largest_byte, longest_name, first_version, version_of_rates, version_of_traffic, few_queued}
+use Rattle.wl_setup.specs.Limits.{most_bytes, largest_number, largest_small, largest_ppm, largest_tolerance, largest_byte, longest_name, first_version, version_of_rates, version_of_traffic, version_of_controllers}
 use Rattle.wl_setup.specs.declared.table_path.TablePath.TheVariants as path
-use Rattle.wl_setup.specs.Faults.{frame_fault, disturbance_fault}
+use Rattle.wl_setup.specs.Version.{queued_in}
+use Rattle.wl_setup.specs.Faults.{frame_fault, disturbance_fault, version_fault}
 use Rattle.wl_setup.specs.Names.{first_repeat}
 use Rattle.wl_setup.specs.TablePaths.{node_fault_at, placed}
 use Rattle.wl_setup.specs.Document.{fault_path, first_fault}
 use Rattle.wl_setup.specs.Texts.{frame_of, disturbance_of, node_text_of}
-use Rattle.wl_setup.specs.Plans.{plan_of_text, queued_of, instances_of, queue_in, queue_of, place_of, disturbance_in}
+use Rattle.wl_setup.specs.Plans.{plan_of_text, segments_of_node, queued_of, instances_of, queue_in, queue_of, cable_of, place_of, disturbance_in}
 
 abbrev frame_text : ℕ → FrameText
 frame_text id = record { id = id; dlc = 0; remote = false; bytes = []; ready = 0; extended = false; every = None; count = None }
@@ -42,9 +46,7 @@ node_text name x in_delay frames = record {
   name = name;
   offset = 0;
   rates = record { from = 0; clock = Rate 100 1 } ∷ [];
-  prop = 3;
-  ps1 = 3;
-  ps2 = 3;
+  segments = Each 3 3 3;
   sjw = 2;
   x = x;
   out_delay = 0;
@@ -152,11 +154,20 @@ version_of_rates_is = refl
 version_of_traffic_is : version_of_traffic ≡ 3
 version_of_traffic_is = refl
 
-few_are : few_queued ≡ 64
+version_of_controllers_is : version_of_controllers ≡ 4
+version_of_controllers_is = refl
+
+few_are : queued_in 2 ≡ 64
 few_are = refl
 
-most_are : most_queued ≡ 4096
+more_are : queued_in 3 ≡ 4096
+more_are = refl
+
+most_are : queued_in 4 ≡ 65536
 most_are = refl
+
+most_of_all : most_queued ≡ queued_in 4
+most_of_all = refl
 
 -- tables of version 3, and what the versions before say of them
 abbrev numbers : List (List ℕ × ℕ) → Members → Members
@@ -257,6 +268,63 @@ node-listen_2 : node_fault_at 2 4 (listener no_rates) ≡ Some (placed (path.Nod
 unfolding largest_number largest_small
 node-listen_2 = refl
 
+-- version 4 is known, and version 5 is not
+version-4 : version_fault (numbers ((codes "version", 4) ∷ []) no_members) ≡ None
+unfolding largest_number
+version-4 = refl
+
+version-5 : version_fault (numbers ((codes "version", 5) ∷ []) no_members) ≡ Some fault.Version
+unfolding largest_number
+version-5 = refl
+
+-- nodes with the segments of controllers, and what version 3 says of them
+abbrev controller_with : List (List ℕ × ℕ) → Members
+controller_with segments =
+    member (codes "name") (string (codes "a")) (numbers ((codes "offset", 0) ∷ (codes "sjw", 2) ∷ (codes "x", 0) ∷ (codes "out", 0) ∷ (codes "in", 1) ∷ segments) fraction)
+
+abbrev controller : Members
+controller = controller_with ((codes "tseg1", 6) ∷ (codes "tseg2", 3) ∷ [])
+
+node-controller : node_fault_at 4 0 controller ≡ None
+unfolding largest_number largest_small
+node-controller = refl
+
+node-controller_says : (node_text_of 4 controller).segments ≡ Controller 6 3
+unfolding largest_number
+node-controller_says = refl
+
+node-each : node_fault_at 4 0 (listener fraction) ≡ None
+unfolding largest_number largest_small
+node-each = refl
+
+node-each_says : (node_text_of 4 (listener fraction)).segments ≡ Each 3 3 3
+unfolding largest_number
+node-each_says = refl
+
+node-controller_3 : node_fault_at 3 4 controller ≡ Some (placed (path.Node 4) (fault.Missing (codes "prop")))
+unfolding largest_number largest_small
+node-controller_3 = refl
+
+-- either key is enough, and the other is missing then, whatever else is there
+node-tseg1_alone : node_fault_at 4 4 (controller_with ((codes "tseg1", 6) ∷ [])) ≡ Some (placed (path.Node 4) (fault.Missing (codes "tseg2")))
+unfolding largest_number largest_small
+node-tseg1_alone = refl
+
+node-tseg2_beside : node_fault_at 4 4 (controller_with ((codes "tseg2", 3) ∷ (codes "prop", 3) ∷ (codes "ps1", 3) ∷ (codes "ps2", 3) ∷ []))
+    ≡ Some (placed (path.Node 4) (fault.Missing (codes "tseg1")))
+unfolding largest_number largest_small
+node-tseg2_beside = refl
+
+node-both_ways : node_fault_at 4 4 (controller_with ((codes "tseg1", 6) ∷ (codes "tseg2", 3) ∷ (codes "ps2", 3) ∷ []))
+    ≡ Some (placed (path.Node 4) (fault.Unknown (codes "ps2")))
+unfolding largest_number largest_small
+node-both_ways = refl
+
+node-tseg1_kind : node_fault_at 4 4 (controller_with ((codes "tseg1", 281474976710656) ∷ (codes "tseg2", 3) ∷ []))
+    ≡ Some (placed (path.Node 4) (fault.Kind (codes "tseg1")))
+unfolding largest_number largest_small
+node-tseg1_kind = refl
+
 -- the first fault and its place: of the second node, of a rate and a frame, of the second of two nodes of one name
 abbrev plan_with : List Data → Members
 plan_with nodes = numbers ((codes "version", 3) ∷ (codes "end", 9) ∷ (codes "per", 1) ∷ []) (member (codes "node") (array (items_of nodes)) no_members)
@@ -285,7 +353,7 @@ first-name : first_fault (plan_with (node_alone fraction ∷ node_alone fraction
 unfolding largest_number largest_small
 first-name = refl
 
-first-top : fault_path (numbers ((codes "version", 4) ∷ []) no_members) ≡ path.Top
+first-top : fault_path (numbers ((codes "version", 5) ∷ []) no_members) ≡ path.Top
 unfolding largest_number
 first-top = refl
 
@@ -376,6 +444,69 @@ plan-at_node = refl
 plan-at_nobody : plan_of_text (versioned 3 [] (disturbed_at (codes "c") ∷ [])) ≡ Err (fault.Plan (refusal.Disturbance 0))
 unfolding most_quanta tick_of
 plan-at_nobody = refl
+
+-- segments of controllers: at 80 MHz and 500 kbit/s, the least and the longest bit, and the bounds
+abbrev node_by : (tseg1 tseg2 sjw : ℕ) → NodeText
+node_by tseg1 tseg2 sjw = record (node_text (codes "a") 0 1 []) { segments = Controller tseg1 tseg2; sjw = sjw }
+
+segments-long : segments_of_node After (node_by 127 32 16) ≡ Ok (record { prop = 95; ps1 = 32; ps2 = 32; sjw = 16; sync = After })
+segments-long = refl
+
+segments-longest : segments_of_node After (node_by 256 128 128) ≡ Ok (record { prop = 128; ps1 = 128; ps2 = 128; sjw = 128; sync = After })
+segments-longest = refl
+
+segments-least : segments_of_node After (node_by 5 2 2) ≡ Ok (record { prop = 3; ps1 = 2; ps2 = 2; sjw = 2; sync = After })
+segments-least = refl
+
+segments-phase1 : segments_of_node After (node_by 257 1 0) ≡ Err Phase1
+segments-phase1 = refl
+
+segments-phase2 : segments_of_node After (node_by 6 1 0) ≡ Err Phase2
+segments-phase2 = refl
+
+segments-jump : segments_of_node After (node_by 3 3 3) ≡ Err Jump
+segments-jump = refl
+
+segments-length : segments_of_node After (node_by 4 2 2) ≡ Err Length
+segments-length = refl
+
+-- limits go by the version
+abbrev ending : ℕ → ℕ → PlanText
+ending version end = record (text_with 0 1 end) { version = version }
+
+abbrev starting : ℕ → ℕ → PlanText
+starting version offset =
+    record (text_with 0 1 1000) { version = version; node = record (node_text (codes "a") 0 1 []) { offset = offset } ∷ [] }
+
+plan-late_wide : result_err (plan_of_text (ending 4 68719476737)) ≡ None
+unfolding most_quanta tick_of
+plan-late_wide = refl
+
+plan-latest_wide : plan_of_text (ending 4 1099511627777) ≡ Err (fault.Plan refusal.End)
+plan-latest_wide = refl
+
+plan-quanta_wide : plan_of_text (ending 4 107374182401) ≡ Err (fault.Plan (refusal.Quanta 0))
+unfolding most_quanta tick_of
+plan-quanta_wide = refl
+
+plan-offset : plan_of_text (starting 3 1048577) ≡ Err (fault.NodeClock 0 BigOffset)
+plan-offset = refl
+
+plan-offset_wide : result_err (plan_of_text (starting 4 17179869184)) ≡ None
+unfolding most_quanta tick_of
+plan-offset_wide = refl
+
+plan-offset_above : plan_of_text (starting 4 17179869185) ≡ Err (fault.NodeClock 0 BigOffset)
+plan-offset_above = refl
+
+abbrev seventeen : ℕ → PlanText
+seventeen version = record (text_with 0 1 1000) { version = version; node = map (λ i. node_text (codes "a") i 1 []) (range_with_len 0 17) }
+
+cable-many : cable_of (seventeen 3) ≡ Err (fault.Topology TooManyNodes)
+cable-many = refl
+
+cable-many_wide : result_err (cable_of (seventeen 4)) ≡ None
+cable-many_wide = refl
 
 -- control characters, separators of lines and marks of direction are shown by TOML's escapes, and no other character is
 shown_escape : shown_character 27 ≡ codes "\\u001B"

@@ -7,7 +7,7 @@ use Rattle.toml.specs.View.{view, items_of, items_view}
 use Rattle.toml.specs.declared.value.Value.{Value}
 use Rattle.wl_setup.specs.Kinds.{list_of, elements_of, holds}
 
-pub list_of-items_of : (ds : List Data) → list_of (items_of ds) ≡ ds
+list_of-items_of : (ds : List Data) → list_of (items_of ds) ≡ ds
 list_of-items_of [] = refl
 list_of-items_of (d ∷ ds) = ap (λ l. d ∷ l) (list_of-items_of ds)
 

@@ -14,7 +14,8 @@ use Rattle.wl_setup.specs.declared.tables.Wrong.{Wrong}
 use Rattle.wl_setup.specs.declared.tables.Wrong.TheVariants as wrong
 use Rattle.wl_setup.specs.Keys.{key_text, kind_of, TableKeys, required_by_rate, required_by_ppm, required_by_rates, node_optional, rate_keys_by_fraction, rate_keys_by_ppm, frame_required, frame_optional, disturbance_required}
 use Rattle.wl_setup.specs.Kinds.{has_kind, value_at, number_at}
-use Rattle.wl_setup.specs.Limits.{first_version, version_of_rates, version_of_traffic}
+use Rattle.wl_setup.specs.Limits.{version_of_rates}
+use Rattle.wl_setup.specs.Version.{has_controllers, has_traffic, is_known_version}
 
 -- the first of those that are there
 abbrev pub first_some : {A : Type 0} → List (Option A) → Option A
@@ -82,37 +83,28 @@ setup_fault (wrong.Missing, key) = Missing key
 setup_fault (wrong.Kind, key) = Kind key
 setup_fault (wrong.Unknown, key) = Unknown key
 
--- of a key of a plan that has to be there, and of one that may be absent
-abbrev pub required_fault_of : Key → Option Data → Option SetupFault
-required_fault_of k value = option_map setup_fault (fault_of_key key_text is_value_of true k value)
-
-abbrev pub optional_fault_of : Key → Option Data → Option SetupFault
-optional_fault_of k value = option_map setup_fault (fault_of_key key_text is_value_of false k value)
-
+-- of a key of a plan that has to be there
 abbrev pub required_fault : Members → Key → Option SetupFault
-required_fault table k = required_fault_of k (value_at k table)
-
-abbrev pub is_known : TableKeys → List ℕ → Bool
-is_known keys text = is_of_table key_text keys.required keys.optional text
+required_fault table k = option_map setup_fault (fault_at_key key_text is_value_of true table k)
 
 -- the first fault of one table of a plan
 abbrev pub table_fault : TableKeys → Members → Option SetupFault
 table_fault keys table = option_map setup_fault (fault_of_keys key_text is_value_of keys.required keys.optional table)
 
--- a version in which frames come again, nodes only listen and disturbances are at one node
-abbrev pub has_traffic : ℕ → Bool
-has_traffic version = version == version_of_traffic
-
 -- a node's rates are tables of their own: in the version of rates always, later on if the key is there
 abbrev pub has_rates : ℕ → Members → Bool
 has_rates version table = (version == version_of_rates) || (has_traffic version && is_some (value_at key.Rates table))
 
--- the keys of a node go by the version, and by whether `rates` or `quantum` is there
+-- a node's segments are a controller's: one of their keys is there
+abbrev pub has_tseg : ℕ → Members → Bool
+has_tseg version table = has_controllers version && (is_some (value_at key.Tseg1 table) || is_some (value_at key.Tseg2 table))
+
+-- the keys of a node go by the version, by whether `rates` or `quantum` is there, and by whether `tseg1` or `tseg2` is
 abbrev pub node_required : ℕ → Members → List Key
 node_required version table =
-    if has_rates version table then required_by_rates
-    else if is_some (value_at key.Quantum table) then required_by_ppm
-    else required_by_rate
+    if has_rates version table then required_by_rates (has_tseg version table)
+    else if is_some (value_at key.Quantum table) then required_by_ppm (has_tseg version table)
+    else required_by_rate (has_tseg version table)
 
 abbrev pub node_keys : ℕ → Members → TableKeys
 node_keys version table = record { required = node_required version table; optional = node_optional (has_traffic version) }
@@ -143,10 +135,6 @@ rate_keys table = if is_some (value_at key.Quantum table) then rate_keys_by_ppm 
 
 abbrev pub rate_fault : Members → Option SetupFault
 rate_fault table = table_fault (rate_keys table) table
-
--- whether a version is known
-abbrev pub is_known_version : ℕ → Bool
-is_known_version version = (version == first_version) || (version == version_of_rates) || (version == version_of_traffic)
 
 -- a version that is missing, of another kind, or not known
 abbrev pub version_fault : Members → Option SetupFault

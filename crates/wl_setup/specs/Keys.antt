@@ -1,7 +1,7 @@
 -- The keys of a plan's tables (this project's profile).
 use Rattle.std.specs.Prelude.{ℕ, Bool, true, false, List, [], ◌∷◌, codes}
 use Rattle.wl_setup.specs.declared.keys.Key.{Key}
-use Rattle.wl_setup.specs.declared.keys.Key.TheVariants.{Version, End, Per, Node, Disturbance, Sync, Name, Offset, Num, Den, Quantum, Ppm, Rates, Prop, Ps1, Ps2, Sjw, X, Out, In, Frame, Id, Dlc, Remote, Bytes, Ready, Extended, From, To, Tolerance, Every, Count, Listen, AtNode}
+use Rattle.wl_setup.specs.declared.keys.Key.TheVariants.{Version, End, Per, Node, Disturbance, Sync, Name, Offset, Num, Den, Quantum, Ppm, Rates, Prop, Ps1, Ps2, Tseg1, Tseg2, Sjw, X, Out, In, Frame, Id, Dlc, Remote, Bytes, Ready, Extended, From, To, Tolerance, Every, Count, Listen, AtNode}
 use Rattle.wl_setup.specs.declared.keys.Kind.{Kind}
 use Rattle.wl_setup.specs.declared.keys.Kind.TheVariants as kind
 
@@ -23,6 +23,8 @@ key_text Rates = codes "rates"
 key_text Prop = codes "prop"
 key_text Ps1 = codes "ps1"
 key_text Ps2 = codes "ps2"
+key_text Tseg1 = codes "tseg1"
+key_text Tseg2 = codes "tseg2"
 key_text Sjw = codes "sjw"
 key_text X = codes "x"
 key_text Out = codes "out"
@@ -72,17 +74,22 @@ pub record TableKeys : Type 0 where
 abbrev pub top_keys : TableKeys
 top_keys = record { required = Version ∷ End ∷ Per ∷ Node ∷ []; optional = Disturbance ∷ Sync ∷ [] }
 
+-- the required keys of a node after those of its clock: of its segments, each by itself or a controller's, and of its place
+abbrev pub required_after_clock : Bool → List Key
+required_after_clock false = Prop ∷ Ps1 ∷ Ps2 ∷ Sjw ∷ X ∷ Out ∷ In ∷ []
+required_after_clock true = Tseg1 ∷ Tseg2 ∷ Sjw ∷ X ∷ Out ∷ In ∷ []
+
 -- the required keys of a node whose rate is written as a fraction
-abbrev pub required_by_rate : List Key
-required_by_rate = Name ∷ Offset ∷ Num ∷ Den ∷ Prop ∷ Ps1 ∷ Ps2 ∷ Sjw ∷ X ∷ Out ∷ In ∷ []
+abbrev pub required_by_rate : Bool → List Key
+required_by_rate tseg = Name ∷ Offset ∷ Num ∷ Den ∷ required_after_clock tseg
 
 -- of one whose rate is written as a whole number of ticks and an error in parts per million
-abbrev pub required_by_ppm : List Key
-required_by_ppm = Name ∷ Offset ∷ Quantum ∷ Ppm ∷ Prop ∷ Ps1 ∷ Ps2 ∷ Sjw ∷ X ∷ Out ∷ In ∷ []
+abbrev pub required_by_ppm : Bool → List Key
+required_by_ppm tseg = Name ∷ Offset ∷ Quantum ∷ Ppm ∷ required_after_clock tseg
 
 -- of one whose rates are tables of their own
-abbrev pub required_by_rates : List Key
-required_by_rates = Name ∷ Offset ∷ Rates ∷ Prop ∷ Ps1 ∷ Ps2 ∷ Sjw ∷ X ∷ Out ∷ In ∷ []
+abbrev pub required_by_rates : Bool → List Key
+required_by_rates tseg = Name ∷ Offset ∷ Rates ∷ required_after_clock tseg
 
 -- the optional keys of a node; from the version of traffic on it may only listen
 abbrev pub node_optional : Bool → List Key

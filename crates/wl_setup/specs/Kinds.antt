@@ -106,11 +106,18 @@ positive_at key table = option_and_then positive_in (value_at key table)
 abbrev pub some_name_at : Key → Members → Option (List ℕ)
 some_name_at key table = option_and_then as_str (value_at key table)
 
+-- a text, and the elements of an array, of any table's key
+abbrev pub name_said : Option Data → List ℕ
+name_said value = unwrap_or (option_and_then as_str value) []
+
+abbrev pub elements_said : Option Data → List Data
+elements_said value = unwrap_or (option_and_then elements_of value) []
+
 abbrev pub name_at : Key → Members → List ℕ
-name_at key table = unwrap_or (option_and_then as_str (value_at key table)) []
+name_at key table = name_said (value_at key table)
 
 abbrev pub elements_at : Key → Members → List Data
-elements_at key table = unwrap_or (option_and_then elements_of (value_at key table)) []
+elements_at key table = elements_said (value_at key table)
 
 abbrev pub bytes_at : Key → Members → List ℕ
 bytes_at key table = filter_map byte_in (elements_at key table)

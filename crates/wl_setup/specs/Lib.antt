@@ -1,4 +1,5 @@
 pub mod Limits
+pub mod Version
 pub mod Keys
 pub mod Kinds
 pub mod Texts
@@ -7,8 +8,6 @@ pub mod Faults
 pub mod TablePaths
 pub mod Names
 pub mod Document
-pub mod Quick
-pub mod QuickFrame
 pub mod Reading
 pub mod Plans
 pub mod Buses

@@ -1,6 +1,6 @@
 -- The limits of a plan's text (this project's profile), each that of the constant of its name.
 use Rattle.std.specs.Prelude.{◌≡◌, ℕ, refl}
-use Rattle.wl_setup.specs.declared.limits.TheConstants.{MOST_BYTES, LARGEST_NUMBER, LARGEST_SMALL, LARGEST_PPM, LARGEST_TOLERANCE, LARGEST_BYTE, LONGEST_NAME, FIRST_VERSION, VERSION_OF_RATES, VERSION_OF_TRAFFIC, FEW_QUEUED}
+use Rattle.wl_setup.specs.declared.limits.TheConstants.{MOST_BYTES, LARGEST_NUMBER, LARGEST_SMALL, LARGEST_PPM, LARGEST_TOLERANCE, LARGEST_BYTE, LONGEST_NAME, FIRST_VERSION, VERSION_OF_RATES, VERSION_OF_TRAFFIC, VERSION_OF_CONTROLLERS}
 
 -- the most bytes of a plan's text
 unfoldable pub most_bytes : ℕ
@@ -38,13 +38,13 @@ first_version = FIRST_VERSION
 abbrev pub version_of_rates : ℕ
 version_of_rates = VERSION_OF_RATES
 
--- and the last that is known, in which frames come again, nodes only listen and disturbances are at one node
+-- the one in which frames come again, nodes only listen and disturbances are at one node
 abbrev pub version_of_traffic : ℕ
 version_of_traffic = VERSION_OF_TRAFFIC
 
--- the most frames that wait at a node in the versions before
-abbrev pub few_queued : ℕ
-few_queued = FEW_QUEUED
+-- and the last that is known, in which limits are wide and nodes have the segments of controllers
+abbrev pub version_of_controllers : ℕ
+version_of_controllers = VERSION_OF_CONTROLLERS
 
 -- what each large name stands for, for proofs
 pub most_bytes-is : most_bytes ≡ MOST_BYTES

@@ -4,15 +4,16 @@ use Rattle.std.specs.List.{enumerate_from, position_or_len}
 use Rattle.std.specs.Str.{bytes_eq}
 use Rattle.wl_level.specs.ByTick.{by_tick}
 use Rattle.wl_device.specs.Devices.{Answer}
-use Rattle.wl_clock.specs.Timing.{Timing, tick_of, timing_of_rates, rate_of_ppm}
+use Rattle.wl_limits.specs.declared.Limits.{Limits}
+use Rattle.wl_clock.specs.Timing.{Timing, tick_of, timing_within, rate_of_ppm}
 use Rattle.wl_clock.specs.declared.Rate.{Rate}
 use Rattle.wl_clock.specs.declared.ClockFault.{ClockFault}
-use Rattle.wl_segments.specs.Lengths.{Lengths, segments_of}
+use Rattle.wl_segments.specs.Lengths.{Lengths, segments_of, controller_segments_of}
 use Rattle.wl_segments.specs.declared.SegmentsFault.{SegmentsFault}
 use Rattle.wl_segments.specs.declared.SyncRules.{SyncRules}
 use Rattle.wl_frame.specs.Grammar.{Content, frame_of_numbers}
 use Rattle.wl_topology.specs.declared.Place.{Place}
-use Rattle.wl_topology.specs.Delays.{Cable, topology_of}
+use Rattle.wl_topology.specs.Delays.{Cable, topology_within}
 use Rattle.wl_node.specs.declared.setup.Queued.{Queued}
 use Rattle.wl_node.specs.declared.setup.NodeSetup.{NodeSetup}
 use Rattle.wl_plan.specs.declared.plan.Disturbance.{Disturbance}
@@ -29,8 +30,9 @@ use Rattle.wl_setup.specs.declared.plan_text.DisturbanceText.{DisturbanceText}
 use Rattle.wl_setup.specs.declared.plan_text.ClockText.{ClockText}
 use Rattle.wl_setup.specs.declared.plan_text.ClockText.TheVariants as text
 use Rattle.wl_setup.specs.declared.plan_text.RateText.{RateText}
-use Rattle.wl_setup.specs.Limits.{few_queued}
-use Rattle.wl_setup.specs.Faults.{has_traffic}
+use Rattle.wl_setup.specs.declared.plan_text.SegmentsText.{SegmentsText}
+use Rattle.wl_setup.specs.declared.plan_text.SegmentsText.TheVariants.{Each, Controller}
+use Rattle.wl_setup.specs.Version.{has_traffic, limits_in, queued_in}
 use Rattle.wl_setup.specs.Names.{names_of}
 use Rattle.wl_setup.specs.Reading.{ReadsPlan}
 
@@ -58,18 +60,23 @@ rate_from from (text.Ppm quantum ppm) = rate_of_ppm from quantum ppm
 abbrev pub rate_in : ℕ → RateText → Result Rate SetupFault
 rate_in i text = with_fault (fault.NodeClock i) (rate_from text.from text.clock)
 
--- the clock of node i: each of its rates in order, then all of them together with the offset
-abbrev pub clock_in : ℕ → NodeText → Result Timing SetupFault
-clock_in i node = after (each (rate_in i) node.rates) (λ rates. with_fault (fault.NodeClock i) (timing_of_rates node.offset rates))
+-- the clock of node i by these limits: each of its rates in order, then all of them together with the offset
+abbrev pub clock_in : Limits → ℕ → NodeText → Result Timing SetupFault
+clock_in limits i node =
+    after (each (rate_in i) node.rates) (λ rates. with_fault (fault.NodeClock i) (timing_within limits node.offset rates))
 
 -- segments with SYNC_SEG there in a bit that an edge begins
 abbrev pub with_sync : SyncRules → Result Lengths SegmentsFault → Result Lengths SegmentsFault
 with_sync sync (Ok lengths) = Ok (record lengths { sync = sync })
 with_sync sync (Err e) = Err e
 
--- the bit segments that they make, or their fault
+-- the bit segments with this jump width, or their fault
+abbrev pub segments_in : SegmentsText → ℕ → Result Lengths SegmentsFault
+segments_in (Each prop ps1 ps2) sjw = segments_of prop ps1 ps2 sjw
+segments_in (Controller tseg1 tseg2) sjw = controller_segments_of tseg1 tseg2 sjw
+
 abbrev pub segments_of_node : SyncRules → NodeText → Result Lengths SegmentsFault
-segments_of_node sync node = with_sync sync (segments_of node.prop node.ps1 node.ps2 node.sjw)
+segments_of_node sync node = with_sync sync (segments_in node.segments node.sjw)
 
 -- a numbered frame of node i: a frame that waits from its quantum `ready` on
 abbrev pub queued_of : ℕ → ℕ × FrameText → Result Queued SetupFault
@@ -89,7 +96,7 @@ abbrev pub instances_by : Timing → ℕ → Option ℕ → ℕ → Queued → L
 instances_by clock end None most q = (q.ready, q.frame) ∷ []
 instances_by clock end (Some every) most q = repeated clock end every most q.ready q.frame
 
--- as many as it says, and one more than may wait at a node is enough
+-- as many as it says, and one more than may wait at a node of any version is enough
 abbrev pub instances_of : Timing → ℕ → FrameText → Queued → List (ℕ × Content)
 instances_of clock end text q = instances_by clock end text.every (min (unwrap_or text.count (suc most_queued)) (suc most_queued)) q
 
@@ -124,7 +131,7 @@ queue_in true clock end texts qs = queue_of clock end texts qs
 -- a numbered node: its clock, then its segments, then its frames in order
 abbrev pub setup_of : PlanText → ℕ × NodeText → Result NodeSetup SetupFault
 setup_of text (i, node) =
-    after (clock_in i node)
+    after (clock_in (limits_in text.version) i node)
     (λ clock. after (with_fault (fault.NodeSegments i) (segments_of_node text.sync node))
     (λ segments. after (each (queued_of i) (enumerate_from 0 node.frame))
     (λ queue. Ok (record { clock = clock; segments = segments; queue = queue_in (has_traffic text.version) clock (min text.end latest_end) node.frame queue }))))
@@ -134,7 +141,7 @@ abbrev pub place_of : NodeText → Place
 place_of node = record { x = node.x; out_delay = node.out_delay; in_delay = node.in_delay; listens = node.listens }
 
 abbrev pub cable_of : PlanText → Result Cable SetupFault
-cable_of text = with_fault fault.Topology (topology_of (map place_of text.node) text.per)
+cable_of text = with_fault fault.Topology (topology_within (limits_in text.version) (map place_of text.node) text.per)
 
 -- the number of the node with this name, and where none has it the number of no node
 abbrev pub node_named : List (List ℕ) → List ℕ → ℕ
@@ -148,12 +155,9 @@ abbrev pub unless_refused : Plan → Option PlanFault → Result Plan SetupFault
 unless_refused plan None = Ok plan
 unless_refused plan (Some refusal) = Err (fault.Plan refusal)
 
--- how many frames may wait at a node goes by the version
-abbrev pub queued_in : ℕ → ℕ
-queued_in version = if has_traffic version then most_queued else few_queued
-
+-- its limits, and how many frames may wait at a node, go by the version
 abbrev pub runnable : ℕ → Plan → Result Plan SetupFault
-runnable version plan = unless_refused plan (fault_within (queued_in version) plan)
+runnable version plan = unless_refused plan (fault_within (limits_in version) (queued_in version) plan)
 
 -- the plan of a text, or its first fault: of the nodes in order, of the topology, of the whole plan
 abbrev pub plan_of_text : PlanText → Result Plan SetupFault

@@ -9,7 +9,9 @@ use Rattle.wl_setup.specs.declared.plan_text.DisturbanceText.{DisturbanceText}
 use Rattle.wl_setup.specs.declared.plan_text.RateText.{RateText}
 use Rattle.wl_setup.specs.declared.plan_text.ClockText.{ClockText}
 use Rattle.wl_setup.specs.declared.plan_text.ClockText.TheVariants.{Rate, Ppm}
-use Rattle.wl_setup.specs.Faults.{has_rates}
+use Rattle.wl_setup.specs.declared.plan_text.SegmentsText.{SegmentsText}
+use Rattle.wl_setup.specs.declared.plan_text.SegmentsText.TheVariants.{Each, Controller}
+use Rattle.wl_setup.specs.Faults.{has_rates, has_tseg}
 use Rattle.wl_setup.specs.Kinds.{value_at, number_at, small_at, tolerance_at, positive_at, some_name_at, ppm_at, truth_at, name_at, bytes_at, tables_at, sync_choice_at}
 
 abbrev pub frame_of : Members → FrameText
@@ -47,14 +49,18 @@ rates_of version table =
     if has_rates version table then map rate_of (tables_at key.Rates table)
     else record { from = 0; clock = clock_of table } ∷ []
 
+-- the segments of a bit, each by itself or a controller's
+abbrev pub segments_text_of : ℕ → Members → SegmentsText
+segments_text_of version table =
+    if has_tseg version table then Controller (number_at key.Tseg1 table) (number_at key.Tseg2 table)
+    else Each (number_at key.Prop table) (number_at key.Ps1 table) (number_at key.Ps2 table)
+
 abbrev pub node_text_of : ℕ → Members → NodeText
 node_text_of version table = record {
   name = name_at key.Name table;
   offset = number_at key.Offset table;
   rates = rates_of version table;
-  prop = number_at key.Prop table;
-  ps1 = number_at key.Ps1 table;
-  ps2 = number_at key.Ps2 table;
+  segments = segments_text_of version table;
   sjw = number_at key.Sjw table;
   x = small_at key.X table;
   out_delay = number_at key.Out table;

@@ -1,25 +1,26 @@
 //! The plan text of a parsed document.
-ghost use Rattle.std.specs.Prelude.{◌≡◌, map, None, IfSome};
+ghost use Rattle.std.specs.Prelude.{◌≡◌, map};
 ghost use Rattle.toml.specs.View.{view, table_view};
 ghost use Rattle.wl_setup.specs.declared.keys.Key.TheVariants as key;
 ghost use Rattle.wl_setup.specs.Kinds.{tables_at};
 ghost use Rattle.wl_setup.specs.Faults.{version_fault};
 ghost use Rattle.wl_setup.specs.TablePaths.{disturbance_fault_at, first_in, frame_fault_at, node_fault_at, rate_fault_at};
-ghost use Rattle.wl_setup.specs.Texts.{frame_of, disturbance_of, clock_of, rate_of, rates_of, node_text_of};
-ghost use Rattle.wl_setup.specs.Quick.{value_data, elements_said, tables_said};
+ghost use Rattle.wl_setup.specs.Texts.{frame_of, disturbance_of, clock_of, rate_of, rates_of, segments_text_of, node_text_of};
 ghost use Rattle.wl_setup.specs.Document.{AnswersAt, AnswersEach, Passes, first_fault, named_text_of};
 
 use crate::fault::SetupFault;
 use crate::keys::{self, Key};
-use crate::limits::{FIRST_VERSION, VERSION_OF_RATES, VERSION_OF_TRAFFIC};
 use crate::names::Names;
-use crate::plan_text::{ClockText, DisturbanceText, FrameText, NodeText, PlanText, RateText};
+use crate::plan_text::{
+    ClockText, DisturbanceText, FrameText, NodeText, PlanText, RateText, SegmentsText,
+};
 use crate::table_path::{PlacedFault, TablePath};
 use crate::tables::{check_required, check_table};
 use crate::values::{
-    bytes_at, elements_at, elements_in, name_at, number_at, positive_at, ppm_at, small_at,
+    bytes_at, elements_at, name_at, number_at, positive_at, ppm_at, small_at,
     some_name_at, sync_choice_at, tolerance_at, truth_at, value_at,
 };
+use crate::version::is_known_version;
 use std::alloc::Global;
 use toml::{Table, Value};
 use wl_level::Listed;
@@ -28,9 +29,10 @@ fn check_version(alloc: Global, top: &Table) -> Result<(), SetupFault>
     ensures { Passes (version_fault (table_view top.now)) result }
 {
     check_required(alloc, top, Key::Version)?;
-    match number_at(top, Key::Version) {
-        FIRST_VERSION | VERSION_OF_RATES | VERSION_OF_TRAFFIC => Ok(()),
-        _ => Err(SetupFault::Version),
+    if is_known_version(number_at(top, Key::Version)) {
+        Ok(())
+    } else {
+        Err(SetupFault::Version)
     }
 }
 
@@ -74,21 +76,6 @@ fn rows<T: TableText>(
         }
     }
     Ok(rows)
-}
-
-/// Returns the tables in the array that a value is. Returns nothing if one has a fault, or if memory was refused.
-pub(crate) fn tables_in_line<T: TableText>(
-    alloc: Global,
-    version: u64,
-    value: Option<&Value>,
-) -> Option<Listed<T>>
-    ensures fault { IfSome result (λ _. first_in (T.fault version 0) (tables_said (value_data value.entry)) ≡ None) }
-    ensures tables { IfSome result (λ ts. ts ≡ map (T.make version) (tables_said (value_data value.entry))) }
-{
-    match rows(alloc, version, 0, elements_in(value)) {
-        Ok(tables) => Some(tables),
-        Err(_) => None,
-    }
 }
 
 impl TableText for FrameText {
@@ -201,6 +188,24 @@ fn rates(
     Ok(rates)
 }
 
+/// Returns the segments of a node whose table has the keys that it should have.
+fn segments(version: u64, table: &Table) -> SegmentsText
+    ensures { result ≡ segments_text_of version (table_view table.now) }
+{
+    if keys::has_tseg(version, table) {
+        SegmentsText::Controller {
+            tseg1: number_at(table, Key::Tseg1),
+            tseg2: number_at(table, Key::Tseg2),
+        }
+    } else {
+        SegmentsText::Each {
+            prop: number_at(table, Key::Prop),
+            ps1: number_at(table, Key::Ps1),
+            ps2: number_at(table, Key::Ps2),
+        }
+    }
+}
+
 impl TableText for NodeText {
     ghost fault = { λ version _. node_fault_at version };
 
@@ -221,9 +226,7 @@ impl TableText for NodeText {
             name: name_at(alloc, table, Key::Name)?,
             offset: number_at(table, Key::Offset),
             rates,
-            prop: number_at(table, Key::Prop),
-            ps1: number_at(table, Key::Ps1),
-            ps2: number_at(table, Key::Ps2),
+            segments: segments(version, table),
             sjw: number_at(table, Key::Sjw),
             x: small_at(table, Key::X),
             out_delay: number_at(table, Key::Out),

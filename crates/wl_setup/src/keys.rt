@@ -2,11 +2,12 @@
 ghost use Rattle.std.specs.Prelude.{◌≡◌};
 ghost use Rattle.toml.specs.View.{table_view};
 ghost use Rattle.wl_setup.specs.Keys.{key_text, kind_of, top_keys, required_by_rate, required_by_ppm, required_by_rates, node_optional, frame_required, frame_optional, disturbance_required};
-ghost use Rattle.wl_setup.specs.Faults.{has_rates, has_traffic, node_required, node_keys, rate_keys, frame_keys, disturbance_keys};
+ghost use Rattle.wl_setup.specs.Faults.{has_rates, has_tseg, node_required, node_keys, rate_keys, frame_keys, disturbance_keys};
 
-use crate::limits::{VERSION_OF_RATES, VERSION_OF_TRAFFIC};
+use crate::limits::VERSION_OF_RATES;
 use crate::tables::TableKey;
 use crate::values::{has_kind, value_at};
+use crate::version::{has_controllers, has_traffic};
 use toml::{Table, Value};
 
 /// What the value of a key has to be.
@@ -53,6 +54,8 @@ pub enum Key {
     Prop,
     Ps1,
     Ps2,
+    Tseg1,
+    Tseg2,
     Sjw,
     X,
     Out,
@@ -96,6 +99,8 @@ impl Key {
             Key::Prop => "prop",
             Key::Ps1 => "ps1",
             Key::Ps2 => "ps2",
+            Key::Tseg1 => "tseg1",
+            Key::Tseg2 => "tseg2",
             Key::Sjw => "sjw",
             Key::X => "x",
             Key::Out => "out",
@@ -171,13 +176,6 @@ pub(crate) fn top_keys() -> Keys
     }
 }
 
-/// True if frames come again, nodes only listen and disturbances are at one node, in this version.
-pub(crate) fn has_traffic(version: u64) -> bool
-    ensures { result ≡ has_traffic version }
-{
-    version == VERSION_OF_TRAFFIC
-}
-
 /// True if a node's rates are tables of their own.
 pub(crate) fn has_rates(version: u64, table: &Table) -> bool
     ensures { result ≡ has_rates version (table_view table.now) }
@@ -185,79 +183,132 @@ pub(crate) fn has_rates(version: u64, table: &Table) -> bool
     version == VERSION_OF_RATES || has_traffic(version) && value_at(table, Key::Rates).is_some()
 }
 
-/// Returns the required keys of a node whose rate is written as a fraction.
-pub(crate) fn required_by_rate() -> &'static [Key]
-    ensures { result.now ≡ required_by_rate }
+/// True if a node's segments are a controller's: one of their keys is there, in a version that has them.
+pub(crate) fn has_tseg(version: u64, table: &Table) -> bool
+    ensures { result ≡ has_tseg version (table_view table.now) }
 {
-    &[
-        Key::Name,
-        Key::Offset,
-        Key::Num,
-        Key::Den,
-        Key::Prop,
-        Key::Ps1,
-        Key::Ps2,
-        Key::Sjw,
-        Key::X,
-        Key::Out,
-        Key::In,
-    ]
+    has_controllers(version)
+        && (value_at(table, Key::Tseg1).is_some() || value_at(table, Key::Tseg2).is_some())
+}
+
+/// Returns the required keys of a node whose rate is written as a fraction, and whose segments are a controller's or not.
+fn required_by_rate(tseg: bool) -> &'static [Key]
+    ensures { result.now ≡ required_by_rate tseg }
+{
+    if tseg {
+        &[
+            Key::Name,
+            Key::Offset,
+            Key::Num,
+            Key::Den,
+            Key::Tseg1,
+            Key::Tseg2,
+            Key::Sjw,
+            Key::X,
+            Key::Out,
+            Key::In,
+        ]
+    } else {
+        &[
+            Key::Name,
+            Key::Offset,
+            Key::Num,
+            Key::Den,
+            Key::Prop,
+            Key::Ps1,
+            Key::Ps2,
+            Key::Sjw,
+            Key::X,
+            Key::Out,
+            Key::In,
+        ]
+    }
 }
 
 /// Returns the required keys of a node whose rate is written as a whole number of ticks and an
-/// error in ppm.
-pub(crate) fn required_by_ppm() -> &'static [Key]
-    ensures { result.now ≡ required_by_ppm }
+/// error in ppm, and whose segments are a controller's or not.
+fn required_by_ppm(tseg: bool) -> &'static [Key]
+    ensures { result.now ≡ required_by_ppm tseg }
 {
-    &[
-        Key::Name,
-        Key::Offset,
-        Key::Quantum,
-        Key::Ppm,
-        Key::Prop,
-        Key::Ps1,
-        Key::Ps2,
-        Key::Sjw,
-        Key::X,
-        Key::Out,
-        Key::In,
-    ]
+    if tseg {
+        &[
+            Key::Name,
+            Key::Offset,
+            Key::Quantum,
+            Key::Ppm,
+            Key::Tseg1,
+            Key::Tseg2,
+            Key::Sjw,
+            Key::X,
+            Key::Out,
+            Key::In,
+        ]
+    } else {
+        &[
+            Key::Name,
+            Key::Offset,
+            Key::Quantum,
+            Key::Ppm,
+            Key::Prop,
+            Key::Ps1,
+            Key::Ps2,
+            Key::Sjw,
+            Key::X,
+            Key::Out,
+            Key::In,
+        ]
+    }
 }
 
-/// Returns the required keys of a node whose rates are tables of their own.
-pub(crate) fn required_by_rates() -> &'static [Key]
-    ensures { result.now ≡ required_by_rates }
+/// Returns the required keys of a node whose rates are tables of their own, and whose segments are a controller's or not.
+fn required_by_rates(tseg: bool) -> &'static [Key]
+    ensures { result.now ≡ required_by_rates tseg }
 {
-    &[
-        Key::Name,
-        Key::Offset,
-        Key::Rates,
-        Key::Prop,
-        Key::Ps1,
-        Key::Ps2,
-        Key::Sjw,
-        Key::X,
-        Key::Out,
-        Key::In,
-    ]
+    if tseg {
+        &[
+            Key::Name,
+            Key::Offset,
+            Key::Rates,
+            Key::Tseg1,
+            Key::Tseg2,
+            Key::Sjw,
+            Key::X,
+            Key::Out,
+            Key::In,
+        ]
+    } else {
+        &[
+            Key::Name,
+            Key::Offset,
+            Key::Rates,
+            Key::Prop,
+            Key::Ps1,
+            Key::Ps2,
+            Key::Sjw,
+            Key::X,
+            Key::Out,
+            Key::In,
+        ]
+    }
 }
 
-/// Returns the required keys of a node: they go by the version, and by whether `rates` or `quantum`
-/// is there.
+/// Returns the required keys of a node: they go by the version, by whether `rates` or `quantum` is there, and by whether `tseg1` or
+/// `tseg2` is.
 fn node_required(version: u64, table: &Table) -> &'static [Key]
     ensures { result.now ≡ node_required version (table_view table.now) }
 {
+    let tseg = has_tseg(version, table);
     if has_rates(version, table) {
-        required_by_rates()
+        required_by_rates(tseg)
     } else if value_at(table, Key::Quantum).is_some() {
-        required_by_ppm()
+        required_by_ppm(tseg)
     } else {
-        required_by_rate()
+        required_by_rate(tseg)
     }
 }
 
 /// Returns the optional keys of a node, which may only listen or not.
-pub(crate) fn node_optional(traffic: bool) -> &'static [Key]
+fn node_optional(traffic: bool) -> &'static [Key]
     ensures { result.now ≡ node_optional traffic }
 {
     if traffic {
@@ -297,7 +348,7 @@ pub(crate) fn rate_keys(table: &Table) -> Keys
 }
 
 /// Returns the required keys of a frame, which has a count or not.
-pub(crate) fn frame_required(counted: bool) -> &'static [Key]
+fn frame_required(counted: bool) -> &'static [Key]
     ensures { result.now ≡ frame_required counted }
 {
     if counted {
@@ -308,7 +359,7 @@ pub(crate) fn frame_required(counted: bool) -> &'static [Key]
 }
 
 /// Returns the optional keys of a frame, which may come again or not.
-pub(crate) fn frame_optional(traffic: bool) -> &'static [Key]
+fn frame_optional(traffic: bool) -> &'static [Key]
     ensures { result.now ≡ frame_optional traffic }
 {
     if traffic {
@@ -338,7 +389,7 @@ pub(crate) fn frame_keys(version: u64, table: &Table) -> Keys
 }
 
 /// Returns the required keys of a disturbance, at a node or at a place on the cable.
-pub(crate) fn disturbance_required(at_node: bool) -> &'static [Key]
+fn disturbance_required(at_node: bool) -> &'static [Key]
     ensures { result.now ≡ disturbance_required at_node }
 {
     if at_node {

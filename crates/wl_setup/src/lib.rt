@@ -11,14 +11,13 @@ mod limits;
 mod names;
 mod plan;
 mod plan_text;
-mod quick;
-mod quick_frame;
 mod read;
 mod table_path;
 mod tables;
 mod text;
 mod traffic;
 mod values;
+mod version;
 
 pub use bus::{Bus, Deviation, bus_of_bytes, bus_of_document, read_bus};
 pub use check::check_plan;
@@ -28,7 +27,9 @@ pub use laws::{buses_of_plans, faults_of_texts};
 pub use limits::{LARGEST_NUMBER, LARGEST_PPM, LARGEST_SMALL, LARGEST_TOLERANCE};
 pub use names::Names;
 pub use plan::{read_checked, read_plan};
-pub use plan_text::{ClockText, DisturbanceText, FrameText, NodeText, PlanText, RateText};
+pub use plan_text::{
+    ClockText, DisturbanceText, FrameText, NodeText, PlanText, RateText, SegmentsText,
+};
 pub use read::{NoDocument, document_or_place, read_bytes, read_text};
 pub use table_path::{PlacedFault, TablePath, table_at};
 pub use tables::{KeyFault, TableKey, Wrong, fault_of_keys};

@@ -27,8 +27,8 @@ pub const FIRST_VERSION: u64 = 1;
 /// The version in which a node has a list of rates.
 pub const VERSION_OF_RATES: u64 = 2;
 
-/// The version in which frames come again, nodes only listen and disturbances are at one node. It is the last that is known.
+/// The version in which frames come again, nodes only listen and disturbances are at one node.
 pub const VERSION_OF_TRAFFIC: u64 = 3;
 
-/// The most frames that wait at a node in the versions before.
-pub const FEW_QUEUED: usize = 64;
+/// The version in which limits are wide, and nodes have the segments of controllers. It is the last that is known.
+pub const VERSION_OF_CONTROLLERS: u64 = 4;

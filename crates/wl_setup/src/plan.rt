@@ -2,40 +2,30 @@
 ghost use Rattle.std.specs.Prelude.{◌≡◌, ◌≢◌, ◌≤◌, Err, map, min, length, IfOk};
 ghost use Rattle.std.specs.List.{enumerate_from};
 ghost use Rattle.wl_plan.specs.Checked.{IsChecked};
-ghost use Rattle.wl_plan.specs.Limits.{latest_end, most_queued};
+ghost use Rattle.wl_plan.specs.Limits.{latest_end};
 ghost use Rattle.wl_topology.specs.Limits.{most_places};
-ghost use Rattle.wl_setup.specs.Faults.{has_traffic};
 ghost use Rattle.wl_setup.specs.Names.{names_of};
-ghost use Rattle.wl_setup.specs.Plans.{with_fault, each, rate_from, rate_in, clock_in, segments_of_node, queued_of, setup_of, queue_in, queued_in, place_of, cable_of, node_named, disturbance_in, plan_of_text, named_plan_of, GivesPlan, IsAnswer};
+ghost use Rattle.wl_setup.specs.Plans.{with_fault, each, rate_from, rate_in, clock_in, segments_in, segments_of_node, queued_of, setup_of, queue_in, place_of, cable_of, node_named, disturbance_in, plan_of_text, named_plan_of, GivesPlan, IsAnswer};
+ghost use Rattle.wl_setup.specs.Version.{has_traffic};
 
 use crate::fault::SetupFault;
-use crate::keys::has_traffic;
-use crate::limits::FEW_QUEUED;
 use crate::names::Names;
-use crate::plan_text::{ClockText, DisturbanceText, FrameText, NodeText, PlanText, RateText};
+use crate::plan_text::{
+    ClockText, DisturbanceText, FrameText, NodeText, PlanText, RateText, SegmentsText,
+};
 use crate::read::read_named;
 use crate::traffic::in_order;
+use crate::version::{has_traffic, limits_in, queued_in};
 use std::alloc::{AllocError, Global};
 use wl_clock::{Clock, ClockFault, Rate};
 use wl_device::Source;
 use wl_frame::frame::Frame;
 use wl_level::Listed;
+use wl_limits::Limits;
 use wl_node::{NodeSetup, Queue, Queued};
-use wl_plan::{CheckedPlan, Disturbance, Disturbances, LATEST_END, MOST_QUEUED, Nodes, Plan};
+use wl_plan::{CheckedPlan, Disturbance, Disturbances, LATEST_END, Nodes, Plan};
 use wl_segments::{Segments, SegmentsFault, SyncRules};
 use wl_topology::{Place, Topology};
-
-/// Returns how many frames may wait at a node.
-fn queued_in(version: u64) -> usize
-    ensures most { result ≡ queued_in version }
-    ensures few { result ≤ most_queued }
-{
-    if has_traffic(version) {
-        MOST_QUEUED
-    } else {
-        FEW_QUEUED
-    }
-}
 
 impl FrameText {
     /// Returns the frame, as it waits: the `n`th of node `i`.
@@ -100,24 +90,36 @@ pub(crate) fn rates(alloc: Global, i: u64, texts: &[RateText]) -> Result<Listed<
     Ok(rates)
 }
 
+impl SegmentsText {
+    /// Returns the bit segments that the keys make with this jump width.
+    fn segments(self, sjw: u64) -> Result<Segments, SegmentsFault>
+        ensures { result ≡ segments_in self sjw }
+    {
+        match self {
+            SegmentsText::Each { prop, ps1, ps2 } => Segments::new(prop, ps1, ps2, sjw),
+            SegmentsText::Controller { tseg1, tseg2 } => Segments::of_controller(tseg1, tseg2, sjw),
+        }
+    }
+}
+
 impl NodeText {
-    /// Returns the clock of node `i` that the keys `offset` and `rates`, or `offset` and the clock keys, make: the first rate that is none,
-    /// or what refuses all of them together.
-    fn make_clock(&self, alloc: Global, i: u64) -> Result<Clock, SetupFault>
-        ensures { IsAnswer (clock_in i self.now) result }
+    /// Returns the clock of node `i` that the keys `offset` and `rates`, or `offset` and the clock keys, make by these limits: the first rate
+    /// that is none, or what refuses all of them together.
+    fn make_clock(&self, alloc: Global, limits: Limits, i: u64) -> Result<Clock, SetupFault>
+        ensures { IsAnswer (clock_in limits i self.now) result }
     {
         let rates = rates(alloc, i, self.rates.as_slice())?;
-        match Clock::with_rates(self.offset, rates.as_slice()) {
+        match Clock::within(limits, self.offset, rates.as_slice()) {
             Ok(clock) => Ok(clock),
             Err(fault) => Err(SetupFault::NodeClock(i, fault)),
         }
     }
 
-    /// Returns the bit segments that the keys `prop`, `ps1`, `ps2` and `sjw` make, with SYNC_SEG there in a bit that an edge begins.
+    /// Returns the bit segments that the keys of the segments and `sjw` make, with SYNC_SEG there in a bit that an edge begins.
     fn make_segments(&self, sync: SyncRules) -> Result<Segments, SegmentsFault>
         ensures { result ≡ segments_of_node sync self.now }
     {
-        match Segments::new(self.prop, self.ps1, self.ps2, self.sjw) {
+        match self.segments.segments(self.sjw) {
             Ok(segments) => Ok(segments.with_sync(sync)),
             Err(fault) => Err(fault),
         }
@@ -127,7 +129,7 @@ impl NodeText {
     fn setup(&self, alloc: Global, i: u64, plan: &PlanText) -> Result<NodeSetup, SetupFault>
         ensures { IsAnswer (setup_of plan.now (i, self.now)) result }
     {
-        let clock = self.make_clock(alloc, i)?;
+        let clock = self.make_clock(alloc, limits_in(plan.version), i)?;
         let segments = match self.make_segments(plan.sync) {
             Ok(segments) => segments,
             Err(fault) => return Err(SetupFault::NodeSegments(i, fault)),
@@ -253,7 +255,7 @@ impl PlanText {
             disturbances: disturbances(alloc, self)?,
             end: self.end,
         };
-        match CheckedPlan::within(plan, queued_in(self.version)) {
+        match CheckedPlan::within(plan, limits_in(self.version), queued_in(self.version)) {
             Ok(checked) => Ok(checked),
             Err(fault) => Err(SetupFault::Plan(fault)),
         }
@@ -274,7 +276,7 @@ impl PlanText {
         ensures { IsAnswer (cable_of self.now) result }
     {
         let places = places(alloc, self.node.as_slice())?;
-        match Topology::new(places.as_slice(), self.per) {
+        match Topology::within(limits_in(self.version), places.as_slice(), self.per) {
             Ok(topology) => Ok(topology),
             Err(fault) => Err(SetupFault::Topology(fault)),
         }

@@ -8,7 +8,7 @@ use wl_segments::SyncRules;
 /// Nothing is known of the numbers but the bounds of their keys: whole numbers are below 2^48.
 #[derive(Debug, Drop)]
 pub struct PlanText {
-    /// The version of the text: 1 to 3.
+    /// The version of the text: 1 to 4.
     pub version: u64,
     /// The tick at which the plan ends.
     pub end: u64,
@@ -40,22 +40,27 @@ pub struct RateText {
     pub clock: ClockText,
 }
 
-/// A node as it is written: one field for each key, and in version 1 one for its two clock keys.
+/// The segments of a bit as they are written, but for the resynchronisation jump width.
+#[derive(Clone, Copy, Debug, PartialEq, Eq)]
+pub enum SegmentsText {
+    /// Each by itself: the keys `prop`, `ps1` and `ps2`, quanta of PROP_SEG, PHASE_SEG1 and PHASE_SEG2.
+    Each { prop: u64, ps1: u64, ps2: u64 },
+    /// A controller's: the keys `tseg1`, quanta of PROP_SEG and PHASE_SEG1 together, and `tseg2`, quanta of PHASE_SEG2.
+    Controller { tseg1: u64, tseg2: u64 },
+}
+
+/// A node as it is written: one field for each key, one for those of its segments, and one for two clock keys of its own.
 #[derive(Debug, Drop)]
 pub struct NodeText {
     /// 1 to 32 ASCII letters, digits, `_` or `-`.
     pub name: Text,
     /// The tick at which quantum 0 begins.
     pub offset: u64,
-    /// The rates of the clock, in the order of their tables; in version 1 the one, from quantum 0 on, that the keys
+    /// The rates of the clock, in the order of their tables; without tables the one, from quantum 0 on, that the keys
     /// `num` and `den`, or `quantum` and `ppm`, say.
     pub rates: Listed<RateText>,
-    /// Quanta of PROP_SEG.
-    pub prop: u64,
-    /// Quanta of PHASE_SEG1.
-    pub ps1: u64,
-    /// Quanta of PHASE_SEG2.
-    pub ps2: u64,
+    /// The segments of a bit.
+    pub segments: SegmentsText,
     /// Quanta of the resynchronisation jump width.
     pub sjw: u64,
     /// The place on the cable, in units of length, below 2^31.

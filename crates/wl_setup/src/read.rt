@@ -11,7 +11,6 @@ use crate::fault::SetupFault;
 use crate::limits::MOST_BYTES;
 use crate::names::Names;
 use crate::plan_text::PlanText;
-use crate::quick::quick_plan;
 use std::alloc::{AllocError, Global};
 use toml::Table;
 use wl_device::{Ended, Source, read_up_to};
@@ -71,18 +70,10 @@ pub(crate) fn parse(alloc: Global, text: &[u8]) -> Result<(PlanText, Names), Set
     ensures ok { IfOk result (λ r. (text_answer text.now ≡ Ok r.0) × (r.1 ≡ names_of r.0)) }
     ensures fault { IfErr result (λ e. e ≢ SetupFault.Memory → text_answer text.now ≡ Err e) }
 {
-    match quick_plan(alloc, text) {
-        Some(plan) => {
-            let names = plan.names(alloc)?;
-            Ok((plan, names))
-        }
-        None => {
-            let top = document(alloc, text)?;
-            match plan_text(alloc, &top) {
-                Ok(read) => Ok(read),
-                Err(placed) => Err(placed.fault),
-            }
-        }
+    let top = document(alloc, text)?;
+    match plan_text(alloc, &top) {
+        Ok(read) => Ok(read),
+        Err(placed) => Err(placed.fault),
     }
 }
 

@@ -80,7 +80,7 @@ fn first_at_keys<K: TableKey>(table: &Table, keys: &[K], needed: bool) -> Option
     None
 }
 
-pub(crate) fn is_among<K: TableKey>(keys: &[K], text: &str) -> bool
+fn is_among<K: TableKey>(keys: &[K], text: &str) -> bool
     ensures { result ≡ is_among K.word keys.now text.now }
 {
     keys.iter().any(|key| key.word() == text)

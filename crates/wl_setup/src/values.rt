@@ -3,8 +3,7 @@ ghost use Rattle.std.specs.Prelude.{◌≡◌, ◌≤◌, ◌^◌, ◌<◌, Some
 ghost use Rattle.std.specs.List.{list_all};
 ghost use Rattle.toml.specs.Data.{as_table, get_member};
 ghost use Rattle.toml.specs.View.{view, table_view, items_view};
-ghost use Rattle.wl_setup.specs.Kinds.{number_within, number_in, positive_in, positive_at, some_name_at, byte_in, is_name, is_name_letter, is_ppm, has_kind, number_at, small_at, tolerance_at, ppm_at, truth_at, elements_of, bytes_at, sync_named, sync_in, sync_choice_at};
-ghost use Rattle.wl_setup.specs.Quick.{value_data, number_said, small_said, ppm_said, tolerance_said, truth_said, sync_said, name_said, elements_said, bytes_said};
+ghost use Rattle.wl_setup.specs.Kinds.{number_within, number_in, positive_in, positive_at, some_name_at, byte_in, is_name, is_name_letter, is_ppm, has_kind, number_at, small_at, tolerance_at, ppm_at, truth_at, name_said, elements_of, elements_said, bytes_at, sync_named, sync_in, sync_choice_at};
 
 use crate::keys::{Key, Kind};
 use crate::limits::{
@@ -155,30 +154,23 @@ pub fn has_kind(kind: Kind, value: &Value) -> bool
     }
 }
 
-/// Returns the number that a value is, 0 if there is none.
+/// Returns the number at a key, 0 if it has none.
 #[tactic(auto, unfolding(crate::specs::Limits::largest_number))]
-pub(crate) fn number_of(value: Option<&Value>) -> u64
-    ensures { result ≡ number_said (value_data value.entry) }
+pub(crate) fn number_at(table: &Table, key: Key) -> u64
+    ensures { result ≡ number_at key (table_view table.now) }
 {
-    match value {
+    match value_at(table, key) {
         Some(value) => number_in(LARGEST_NUMBER, value).unwrap_or(0),
         None => 0,
     }
 }
 
-/// Returns the number at a key, 0 if it has none.
-pub(crate) fn number_at(table: &Table, key: Key) -> u64
-    ensures { result ≡ number_at key (table_view table.now) }
-{
-    number_of(value_at(table, key))
-}
-
-/// Returns the small number that a value is, 0 if there is none.
+/// Returns the small number at a key, 0 if it has none.
 #[tactic(auto, unfolding(crate::specs::Limits::largest_small))]
-pub(crate) fn small_of(value: Option<&Value>) -> u32
-    ensures { result ≡ small_said (value_data value.entry) }
+pub(crate) fn small_at(table: &Table, key: Key) -> u32
+    ensures { result ≡ small_at key (table_view table.now) }
 {
-    match value {
+    match value_at(table, key) {
         Some(value) => match number_in(LARGEST_SMALL, value) {
             Some(n) => n as u32,
             None => 0,
@@ -187,37 +179,13 @@ pub(crate) fn small_of(value: Option<&Value>) -> u32
     }
 }
 
-/// Returns the small number at a key, 0 if it has none.
-pub(crate) fn small_at(table: &Table, key: Key) -> u32
-    ensures { result ≡ small_at key (table_view table.now) }
-{
-    small_of(value_at(table, key))
-}
-
-/// Returns the whole number that a value is, 0 if there is none.
-pub(crate) fn ppm_of(value: Option<&Value>) -> i64
-    ensures { result ≡ ppm_said (value_data value.entry) }
-{
-    match value {
-        Some(value) => value.as_integer().unwrap_or(0),
-        None => 0,
-    }
-}
-
 /// Returns the whole number at a key, 0 if it has none.
 pub(crate) fn ppm_at(table: &Table, key: Key) -> i64
     ensures { result ≡ ppm_at key (table_view table.now) }
 {
-    ppm_of(value_at(table, key))
-}
-
-/// Returns the tolerance that a value is in parts per million, if it is one.
-pub(crate) fn tolerance_of(value: Option<&Value>) -> Option<u32>
-    ensures { result ≡ tolerance_said (value_data value.entry) }
-{
-    match number_in(LARGEST_TOLERANCE, value?) {
-        Some(ppm) => Some(ppm as u32),
-        None => None,
+    match value_at(table, key) {
+        Some(value) => value.as_integer().unwrap_or(0),
+        None => 0,
     }
 }
 
@@ -225,16 +193,9 @@ pub(crate) fn tolerance_of(value: Option<&Value>) -> Option<u32>
 pub(crate) fn tolerance_at(table: &Table, key: Key) -> Option<u32>
     ensures { result ≡ tolerance_at key (table_view table.now) }
 {
-    tolerance_of(value_at(table, key))
-}
-
-/// Returns the truth value that a value is, false if there is none.
-pub(crate) fn truth_of(value: Option<&Value>) -> bool
-    ensures { result ≡ truth_said (value_data value.entry) }
-{
-    match value {
-        Some(value) => value.as_bool().unwrap_or(false),
-        None => false,
+    match number_in(LARGEST_TOLERANCE, value_at(table, key)?) {
+        Some(ppm) => Some(ppm as u32),
+        None => None,
     }
 }
 
@@ -249,16 +210,9 @@ pub(crate) fn positive_at(table: &Table, key: Key) -> Option<u64>
 pub(crate) fn truth_at(table: &Table, key: Key) -> bool
     ensures { result ≡ truth_at key (table_view table.now) }
 {
-    truth_of(value_at(table, key))
-}
-
-/// Returns where SYNC_SEG lies, as a value says it; after an edge if there is none.
-pub(crate) fn sync_choice_of(value: Option<&Value>) -> SyncRules
-    ensures { result ≡ sync_said (value_data value.entry) }
-{
-    match value {
-        Some(value) => sync_in(value).unwrap_or(SyncRules::After),
-        None => SyncRules::After,
+    match value_at(table, key) {
+        Some(value) => value.as_bool().unwrap_or(false),
+        None => false,
     }
 }
 
@@ -266,16 +220,9 @@ pub(crate) fn sync_choice_of(value: Option<&Value>) -> SyncRules
 pub(crate) fn sync_choice_at(table: &Table, key: Key) -> SyncRules
     ensures { result ≡ sync_choice_at key (table_view table.now) }
 {
-    sync_choice_of(value_at(table, key))
-}
-
-/// Returns the text that a value is, empty if there is none.
-pub(crate) fn name_of(alloc: Global, value: Option<&Value>) -> Result<Text, AllocError>
-    ensures { IfOk result (λ t. t ≡ name_said (value_data value.entry)) }
-{
-    match value {
-        Some(value) => Text::new(alloc, value.as_str().unwrap_or("")),
-        None => Text::new(alloc, ""),
+    match value_at(table, key) {
+        Some(value) => sync_in(value).unwrap_or(SyncRules::After),
+        None => SyncRules::After,
     }
 }
 
@@ -283,16 +230,9 @@ pub(crate) fn name_of(alloc: Global, value: Option<&Value>) -> Result<Text, Allo
 pub fn name_at<K: TableKey>(alloc: Global, table: &Table, key: K) -> Result<Text, AllocError>
     ensures { IfOk result (λ t. t ≡ name_said (get_member (K.word key) (table_view table.now))) }
 {
-    name_of(alloc, value_at(table, key))
-}
-
-/// Returns the elements of the array that a value is, none if it is none.
-pub(crate) fn elements_in(value: Option<&Value>) -> &[Value]
-    ensures { map view result.now ≡ elements_said (value_data value.entry) }
-{
-    match value {
-        Some(value) => elements_of(value).unwrap_or(&[]),
-        None => &[],
+    match value_at(table, key) {
+        Some(value) => Text::new(alloc, value.as_str().unwrap_or("")),
+        None => Text::new(alloc, ""),
     }
 }
 
@@ -317,25 +257,21 @@ pub(crate) fn some_name_at(
 pub fn elements_at<K: TableKey>(table: &Table, key: K) -> &[Value]
     ensures { map view result.now ≡ elements_said (get_member (K.word key) (table_view table.now)) }
 {
-    elements_in(value_at(table, key))
-}
-
-/// Returns the bytes in the array that a value is.
-pub(crate) fn bytes_of(alloc: Global, value: Option<&Value>) -> Result<Listed<u8>, AllocError>
-    ensures { IfOk result (λ bytes. bytes ≡ bytes_said (value_data value.entry)) }
-{
-    let mut bytes = Listed::new(alloc);
-    for value in elements_in(value) {
-        if let Some(byte) = number_in(LARGEST_BYTE, value) {
-            bytes.push(byte as u8)?;
-        }
+    match value_at(table, key) {
+        Some(value) => elements_of(value).unwrap_or(&[]),
+        None => &[],
     }
-    Ok(bytes)
 }
 
 /// Returns the bytes in the array at a key.
 pub(crate) fn bytes_at(alloc: Global, table: &Table, key: Key) -> Result<Listed<u8>, AllocError>
     ensures { IfOk result (λ bytes. bytes ≡ bytes_at key (table_view table.now)) }
 {
-    bytes_of(alloc, value_at(table, key))
+    let mut bytes = Listed::new(alloc);
+    for value in elements_at(table, key) {
+        if let Some(byte) = number_in(LARGEST_BYTE, value) {
+            bytes.push(byte as u8)?;
+        }
+    }
+    Ok(bytes)
 }

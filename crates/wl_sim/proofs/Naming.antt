@@ -38,10 +38,9 @@ module _ (given : Option Values) (w : Text) (t : Task) where
 
   plain_named : plain_task w ≡ Some t → NamedTask (Some w) given t
   plain_named =
-      chosen w (codes "merge") _ _ t (is_named Merge tt) (chosen w (codes "horizon") _ _ t (is_named Horizon tt)
-      (chosen w (codes "check") _ _ t (is_named Check tt) (chosen w (codes "records") _ _ t (is_named Records tt)
+      chosen w (codes "check") _ _ t (is_named Check tt) (chosen w (codes "records") _ _ t (is_named Records tt)
       (chosen w (codes "explain") _ _ t (is_named Explain tt) (chosen w (codes "trace") _ _ t (is_named Trace tt)
-      (λ (no : None ≡ Some t). cc))))))
+      (λ (no : None ≡ Some t). cc))))
 
 module _ (v : Values) (w : Text) (t : Task) where
   timed_named : (tick : Tick) → v.tick ≡ Some tick → timed_task w v tick ≡ Some t → NamedTask (Some w) (Some v) t
@@ -76,7 +75,8 @@ module _ (v : Values) (w : Text) (t : Task) where
 
   valued_named : valued_task w v ≡ Some t → NamedTask (Some w) (Some v) t
   valued_named =
-      chosen w (codes "run") _ _ t run_named (chosen w (codes "candump") _ _ t candump_named (chosen w (codes "sweep") _ _ t sweep_named other_named))
+      chosen w (codes "merge") _ _ t (is_named (Some v) w t (Merge v.limits) refl) (chosen w (codes "horizon") _ _ t (is_named (Some v) w t (Horizon v.limits) refl)
+      (chosen w (codes "run") _ _ t run_named (chosen w (codes "candump") _ _ t candump_named (chosen w (codes "sweep") _ _ t sweep_named other_named))))
 
 of_values : (w : Text) (t : Task) (given : Option Values) → option_and_then (valued_task w) given ≡ Some t → NamedTask (Some w) given t
 of_values w t (Some v) is = valued_named v w t is
@@ -93,12 +93,12 @@ of_found None given t is = let no : None ≡ Some t = is in cc
 of_found (Some w) given t is = of_either w t given (plain_task w) refl is
 
 found_by_word : (given : Option Values) (t : Task) → HasValues given t → task_named (Some (task_word t)) given ≡ Some t
-found_by_word given Merge h = refl
-found_by_word given Horizon h = refl
 found_by_word given Check h = refl
 found_by_word given Records h = refl
 found_by_word given Explain h = refl
 found_by_word given Trace h = refl
+found_by_word (Some v) (Merge limits) h = ap (option_map (λ limits. Merge limits)) h
+found_by_word (Some v) (Horizon limits) h = ap (option_map (λ limits. Horizon limits)) h
 found_by_word (Some v) (Run workers link) h =
     ap₂ (λ o p. option_and_then (λ workers. option_map (λ link. Run workers link) p) o) h.0 h.1
 found_by_word (Some v) (Candump tick from) h =
@@ -109,6 +109,8 @@ found_by_word (Some v) (Page tick) h = ap (option_map (λ tick. Page tick)) h
 found_by_word (Some v) (Margin tick all) h = ap₂ (λ o p. option_map (λ tick. Margin tick (unwrap_or p all)) o) h.0 h.1
 found_by_word (Some v) (Traffic tick strict) h = ap₂ (λ o p. option_map (λ tick. Traffic tick (unwrap_or p strict)) o) h.0 h.1
 found_by_word (Some v) (Settings tick shown) h = ap₂ (λ o p. option_map (λ tick. Settings tick (unwrap_or p shown)) o) h.0 h.1
+found_by_word None (Merge limits) h = let no : None ≡ Some limits = h in cc
+found_by_word None (Horizon limits) h = let no : None ≡ Some limits = h in cc
 found_by_word None (Run workers link) h = let no : None ≡ Some workers = h.0 in cc
 found_by_word None (Candump tick from) h = let no : None ≡ Some tick = h.0 in cc
 found_by_word None (Sweep swept) h = let no : None ≡ Some swept = h in cc

@@ -39,8 +39,8 @@ use Rattle.wl_sim.specs.declared.sweep.Swept.{Swept}
 -- the word of a task enters its subcommand, without a fault
 word_enters : (t : Task) (name : Text) → HasValues (Some plain_values) t → Enters t (name ∷ task_word t ∷ [])
 unfolding clap_on_literals
-word_enters Merge name h = ((refl, tt), refl, refl)
-word_enters Horizon name h = ((refl, tt), refl, refl)
+word_enters (Merge limits) name h = ((refl, h), refl, refl)
+word_enters (Horizon limits) name h = ((refl, h), refl, refl)
 word_enters Check name h = ((refl, tt), refl, refl)
 word_enters Records name h = ((refl, tt), refl, refl)
 word_enters (Run workers kind) name h = ((refl, h), refl, refl)
@@ -61,8 +61,8 @@ NamesNothing words =
 
 word_names_none : (t : Task) (name : Text) → NamesNothing (name ∷ task_word t ∷ [])
 unfolding clap_on_literals
-word_names_none Merge name = (refl, refl, refl)
-word_names_none Horizon name = (refl, refl, refl)
+word_names_none (Merge limits) name = (refl, refl, refl)
+word_names_none (Horizon limits) name = (refl, refl, refl)
 word_names_none Check name = (refl, refl, refl)
 word_names_none Records name = (refl, refl, refl)
 word_names_none (Run workers kind) name = (refl, refl, refl)
@@ -79,8 +79,8 @@ word_names_none (Sweep swept) name = (refl, refl, refl)
 -- and no format
 word_format : (t : Task) (name : Text) → format_in (entered (name ∷ task_word t ∷ [])) ≡ Some None
 unfolding clap_on_literals
-word_format Merge name = refl
-word_format Horizon name = refl
+word_format (Merge limits) name = refl
+word_format (Horizon limits) name = refl
 word_format Check name = refl
 word_format Records name = refl
 word_format (Run workers kind) name = refl
@@ -187,8 +187,8 @@ module _ {S T : Type 0} (gives : S → Answer → S → Type 0) (takes : T → A
   sweeps_nothing s s' t t' swept (Some n) page h = (Err sweep.Memory, h, refl)
 
   does_nothing : (s s' : S) (t t' : T) (task : Task) → t' ≡ t → Does gives takes s s' t t' task [] (Err (fault.Run run.Memory))
-  does_nothing s s' t t' Merge h = (Err run.Memory, h, refl)
-  does_nothing s s' t t' Horizon h = (Err run.Memory, h, refl)
+  does_nothing s s' t t' (Merge limits) h = (Err run.Memory, h, refl)
+  does_nothing s s' t t' (Horizon limits) h = (Err run.Memory, h, refl)
   does_nothing s s' t t' Check h = (Err run.Memory, h, refl)
   does_nothing s s' t t' Records h = (Err run.Memory, h, refl)
   does_nothing s s' t t' (Run workers kind) h = (Err run.Memory, both_same (workers == 1) h, refl)

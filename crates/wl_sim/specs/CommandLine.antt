@@ -19,6 +19,8 @@ use Rattle.wl_settings.specs.declared.said.Shown.{Shown}
 use Rattle.wl_settings.specs.declared.said.Shown.TheVariants.{Best, Plan}
 use Rattle.wl_worker.specs.declared.by_links.LinkKind.{LinkKind}
 use Rattle.wl_worker.specs.declared.by_links.LinkKind.TheVariants.{Hub, Mail}
+use Rattle.wl_limits.specs.declared.Limits.{Limits}
+use Rattle.wl_limits.specs.declared.Limits.TheVariants.{Narrow, Wide}
 use Rattle.wl_sim.specs.declared.command.Task.{Task}
 use Rattle.wl_sim.specs.declared.command.Task.TheVariants.{Merge, Horizon, Check, Records, Run, Explain, Trace, Candump, Vcd, Page, Margin, Traffic, Settings, Sweep}
 use Rattle.wl_sim.specs.declared.sweep.Swept.{Swept}
@@ -29,8 +31,8 @@ use Rattle.wl_views.specs.Ticks.{read_tick}
 
 -- the word of a task
 abbrev pub task_word : Task → Text
-task_word Merge = codes "merge"
-task_word Horizon = codes "horizon"
+task_word (Merge limits) = codes "merge"
+task_word (Horizon limits) = codes "horizon"
 task_word Check = codes "check"
 task_word Records = codes "records"
 task_word (Run workers kind) = codes "run"
@@ -85,6 +87,10 @@ from_rule =
 -- a subcommand with the options of `candump`
 abbrev pub candump_app : App → App
 candump_app app = with_rule (timed_app app) from_rule
+
+-- of `merge` and `horizon`
+abbrev pub wide_app : App → App
+wide_app app = with_rule app (flag_rule (codes "wide"))
 
 -- of `margin`
 abbrev pub margin_app : App → App
@@ -153,12 +159,13 @@ sweep_app app = formatted_app (swept_app app)
 -- a subcommand with the options that its word has beside those of each
 abbrev pub optioned_app : Text → App → App
 optioned_app word app =
-    if bytes_eq word (codes "check") then formatted_app app else (if bytes_eq word (codes "explain") then formatted_app app else
+    if bytes_eq word (codes "merge") then wide_app app else (if bytes_eq word (codes "horizon") then wide_app app else
+    (if bytes_eq word (codes "check") then formatted_app app else (if bytes_eq word (codes "explain") then formatted_app app else
     (if bytes_eq word (codes "trace") then formatted_app app else (if bytes_eq word (codes "run") then run_app app else
     (if bytes_eq word (codes "vcd") then timed_app app else (if bytes_eq word (codes "page") then timed_app app else
     (if bytes_eq word (codes "candump") then candump_app app else (if bytes_eq word (codes "margin") then margin_app app else
     (if bytes_eq word (codes "traffic") then traffic_app app else (if bytes_eq word (codes "settings") then settings_app app else
-    (if bytes_eq word (codes "sweep") then sweep_app app else app))))))))))
+    (if bytes_eq word (codes "sweep") then sweep_app app else app))))))))))))
 
 -- the subcommand of a word
 abbrev pub subcommand_app : Text → App
@@ -305,6 +312,10 @@ swept_among rows =
 abbrev pub shown_among : List Row → Shown
 shown_among rows = if is_flagged (codes "plan") rows then Plan else Best (number_among 32 (codes "best") rows)
 
+-- by which limits a record text is refused
+abbrev pub limits_among : List Row → Limits
+limits_among rows = if is_flagged (codes "wide") rows then Wide else Narrow
+
 -- what the options say that only some tasks have
 abbrev pub values_among : List Row → Values
 values_among rows = record {
@@ -315,6 +326,7 @@ values_among rows = record {
   shown = shown_among rows;
   strict = is_flagged (codes "strict") rows;
   all_send = is_flagged (codes "all-send") rows;
+  limits = limits_among rows;
   from = number_among 32 (codes "from") rows;
 }
 
@@ -328,8 +340,8 @@ HasValues given (Traffic tick strict) = (option_and_then (λ v. v.tick) given �
 HasValues given (Settings tick shown) = (option_and_then (λ v. v.tick) given ≡ Some tick) × (option_map (λ v. v.shown) given ≡ Some shown)
 HasValues given (Run workers kind) = (option_and_then (λ v. v.workers) given ≡ Some workers) × (option_and_then (λ v. v.link) given ≡ Some kind)
 HasValues given (Sweep swept) = option_and_then (λ v. v.swept) given ≡ Some swept
-HasValues given Merge = Unit {0}
-HasValues given Horizon = Unit {0}
+HasValues given (Merge limits) = option_map (λ v. v.limits) given ≡ Some limits
+HasValues given (Horizon limits) = option_map (λ v. v.limits) given ≡ Some limits
 HasValues given Check = Unit {0}
 HasValues given Records = Unit {0}
 HasValues given Explain = Unit {0}
@@ -342,13 +354,11 @@ NamedTask word given t = (word ≡ Some (task_word t)) × HasValues given t
 -- the task that a word names by itself
 abbrev pub plain_task : Text → Option Task
 plain_task word =
-    if bytes_eq word (codes "merge") then Some Merge
-    else (if bytes_eq word (codes "horizon") then Some Horizon
-    else (if bytes_eq word (codes "check") then Some Check
+    if bytes_eq word (codes "check") then Some Check
     else (if bytes_eq word (codes "records") then Some Records
     else (if bytes_eq word (codes "explain") then Some Explain
     else (if bytes_eq word (codes "trace") then Some Trace
-    else None)))))
+    else None)))
 
 -- the tasks with values of options that may be missing
 abbrev pub run_task : Values → Option Task
@@ -373,10 +383,12 @@ timed_task word values tick =
 -- the task that a word names with values of options
 abbrev pub valued_task : Text → Values → Option Task
 valued_task word values =
-    if bytes_eq word (codes "run") then run_task values
+    if bytes_eq word (codes "merge") then Some (Merge values.limits)
+    else (if bytes_eq word (codes "horizon") then Some (Horizon values.limits)
+    else (if bytes_eq word (codes "run") then run_task values
     else (if bytes_eq word (codes "candump") then candump_task values
     else (if bytes_eq word (codes "sweep") then sweep_task values
-    else option_and_then (timed_task word values) values.tick))
+    else option_and_then (timed_task word values) values.tick))))
 
 -- the first of two
 abbrev pub or_task : Option Task → Option Task → Option Task
@@ -415,6 +427,7 @@ plain_values = record {
   swept = Some plainly_swept;
   strict = false;
   all_send = false;
+  limits = Narrow;
   shown = Best None;
   from = Some 0;
 }

@@ -119,8 +119,8 @@ IsCount None count = (1 ≤ count) × (count ≤ 8)
 
 -- the command of a task, if its output has other formats; a member of a sweep is a plan, and its map a page
 abbrev pub subject_of : Task → Option Subject
-subject_of Merge = None
-subject_of Horizon = None
+subject_of (Merge limits) = None
+subject_of (Horizon limits) = None
 subject_of Check = Some subject.Check
 subject_of Records = None
 subject_of (Run workers kind) = Some subject.Run
@@ -156,8 +156,8 @@ module _ {S T : Type 0} (gives : S → Answer → S → Type 0) (takes : T → A
 
   -- what was done for a task, over the ranges of a sweep
   abbrev pub Does : Task → List Text → Result Done Fault → Type 0
-  Does Merge ranges r = Plainly (Merges gives takes s s' t t') r
-  Does Horizon ranges r = Plainly (TellsHorizons gives takes s s' t t') r
+  Does (Merge limits) ranges r = Plainly (Merges limits gives takes s s' t t') r
+  Does (Horizon limits) ranges r = Plainly (TellsHorizons limits gives takes s s' t t') r
   Does Check ranges r = Plainly (RunsPlan gives takes IsPlanCheck s s' t t') r
   Does Records ranges r = Plainly (RunsPlan gives takes IsRecordsOutput s s' t t') r
   Does (Run workers kind) ranges r =

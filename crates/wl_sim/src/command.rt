@@ -18,6 +18,7 @@ use std::io;
 use std::rt::Env;
 use wl_engines::LinkKind;
 use wl_formats::Format;
+use wl_limits::Limits;
 use wl_settings::Shown;
 use wl_setup::Text;
 use wl_views::Tick;
@@ -25,10 +26,10 @@ use wl_views::Tick;
 /// What the program is asked to do.
 #[derive(Clone, Copy)]
 pub enum Task {
-    /// Returns the canonical text of a record text.
-    Merge,
-    /// What a record text says of each node, and up to which tick.
-    Horizon,
+    /// The canonical text of a record text within these limits.
+    Merge(Limits),
+    /// What a record text within these limits says of each node, and up to which tick.
+    Horizon(Limits),
     /// The settings of a plan's nodes, and the delays between them.
     Check,
     /// The records of a plan's simulation.
@@ -91,8 +92,6 @@ fn plain_task(word: &str) -> Option<Task>
     ensures { result ≡ plain_task word.now }
 {
     match word {
-        "merge" => Some(Task::Merge),
-        "horizon" => Some(Task::Horizon),
         "check" => Some(Task::Check),
         "records" => Some(Task::Records),
         "explain" => Some(Task::Explain),
@@ -141,6 +140,8 @@ fn valued_task(word: &str, values: &Values) -> Option<Task>
     ensures { result ≡ valued_task word.now values.now }
 {
     match word {
+        "merge" => Some(Task::Merge(values.limits)),
+        "horizon" => Some(Task::Horizon(values.limits)),
         "run" => run_task(values),
         "candump" => candump_task(values),
         "sweep" => sweep_task(values),

@@ -29,8 +29,8 @@ pub(crate) fn subject_of(task: Task) -> Option<Subject>
                 Some(Subject::Sweep)
             }
         }
-        Task::Merge
-        | Task::Horizon
+        Task::Merge(_)
+        | Task::Horizon(_)
         | Task::Records
         | Task::Candump(_, _)
         | Task::Vcd(_)

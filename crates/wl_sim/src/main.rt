@@ -54,9 +54,9 @@ pub use answer::{Done, Fault};
 pub use command::{Order, Refusal, Task};
 pub use sweep::Swept;
 pub use wl_engines::{
-    LinkKind, RunFault, candump_run, check_run, explain_run, horizon_run, margin_run, merge_run,
-    merges_as_one, page_run, plan_run, records_run, trace_run, traffic_run, vcd_run, workers_run,
-    workers_run_by,
+    LinkKind, RunFault, candump_run, check_run, explain_run, horizon_run, horizon_run_within,
+    margin_run, merge_run, merge_run_within, merges_as_one, page_run, plan_run, records_run,
+    trace_run, traffic_run, vcd_run, workers_run, workers_run_by,
 };
 
 /// The statuses that the program ends with beside 0.
@@ -351,8 +351,8 @@ fn run<H: Threads + Wait + Sync + Eprint + Clock, R: Source, W: Sink>(
         work.entry.task (map string_bytes work.entry.ranges.now) result }
 {
     match work.task {
-        Task::Merge => plainly(merge_run(alloc, reader, writer)),
-        Task::Horizon => plainly(horizon_run(alloc, reader, writer)),
+        Task::Merge(limits) => plainly(merge_run_within(alloc, limits, reader, writer)),
+        Task::Horizon(limits) => plainly(horizon_run_within(alloc, limits, reader, writer)),
         Task::Check => plainly(check_run(alloc, reader, writer)),
         Task::Records => plainly(records_run(alloc, reader, writer)),
         Task::Run(1, _) => plainly(plan_run(alloc, reader, writer)),

@@ -24,6 +24,9 @@ const PROGRESS: &str = "Says each second how long the run has taken, or of a swe
 /// What the help says of `--strict`.
 const STRICT: &str = "Ends with status 1 if the verdict is another than works";
 
+/// What the help says of `--wide`.
+const WIDE: &str = "Takes records of plans of version 4: 64 nodes, 268435457 changes of each";
+
 /// What the help says of `--all-send`.
 const ALL_SEND: &str = "Asks about all nodes that don't only listen, as if each had frames";
 
@@ -280,6 +283,8 @@ fn optioned<'a>(alloc: Global, word: &str, sub: Command<'a>) -> Result<Command<'
     ensures local { IfOk result (λ all. (out-Command all).has_globals ≡ false) }
 {
     match word {
+        "merge" => with(sub, flag_option(alloc, "wide", WIDE)),
+        "horizon" => with(sub, flag_option(alloc, "wide", WIDE)),
         "check" => formatted(alloc, sub),
         "explain" => formatted(alloc, sub),
         "trace" => formatted(alloc, sub),

@@ -2,7 +2,7 @@
 ghost use Rattle.std.specs.Prelude.{◌≡◌, map, string_bytes, IfOk, false, option_and_then, option_map};
 ghost use Rattle.std.specs.Option.{option_map_or};
 ghost use Rattle.clap.specs.Words.{found_of, rows_of, subcommand_rows_of};
-ghost use Rattle.wl_sim.specs.CommandLine.{file_among, file_named, is_flagged, is_set, link_among, number_among, ranges_among, ranges_in};
+ghost use Rattle.wl_sim.specs.CommandLine.{limits_among, file_among, file_named, is_flagged, is_set, link_among, number_among, ranges_among, ranges_in};
 ghost use Rattle.wl_sim.specs.CommandLine.{format_among, format_in, read_format, read_link, shown_among, swept_among, swept_by, tick_among, values_among, workers_among};
 
 use crate::sweep::Swept;
@@ -10,6 +10,7 @@ use clap::ArgMatches;
 use std::alloc::{AllocError, Global};
 use wl_engines::LinkKind;
 use wl_formats::Format;
+use wl_limits::Limits;
 use wl_settings::Shown;
 use wl_setup::Text;
 use wl_sweep_engine::{Asked, Options};
@@ -32,6 +33,8 @@ pub(crate) struct Values {
     pub(crate) strict: bool,
     /// Whether all nodes send that don't only listen.
     pub(crate) all_send: bool,
+    /// By which limits a record text is refused.
+    pub(crate) limits: Limits,
     /// The second of tick 0.
     pub(crate) from: Option<u32>,
 }
@@ -235,6 +238,17 @@ fn shown_in(matches: &ArgMatches) -> Shown
     }
 }
 
+/// Returns the limits of a record text that the options of a subcommand say: with `--wide` those of plans of version 4.
+fn limits_in(matches: &ArgMatches) -> Limits
+    ensures { result ≡ limits_among (rows_of (found_of matches.now)) }
+{
+    if flag_in(matches, "wide") {
+        Limits::Wide
+    } else {
+        Limits::Narrow
+    }
+}
+
 /// Returns what the options of a subcommand say.
 fn values_in(matches: &ArgMatches) -> Values
     ensures { result ≡ values_among (rows_of (found_of matches.now)) }
@@ -247,6 +261,7 @@ fn values_in(matches: &ArgMatches) -> Values
         shown: shown_in(matches),
         strict: flag_in(matches, "strict"),
         all_send: flag_in(matches, "all-send"),
+        limits: limits_in(matches),
         from: small_number_in(matches, "from"),
     }
 }

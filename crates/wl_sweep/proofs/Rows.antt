@@ -11,6 +11,7 @@ use Rattle.wl_setup.specs.declared.fault.SetupFault.TheVariants as fault
 use Rattle.wl_setup.specs.declared.plan_text.NodeText.{NodeText}
 use Rattle.wl_setup.specs.declared.plan_text.ClockText.{ClockText}
 use Rattle.wl_setup.specs.declared.plan_text.ClockText.TheVariants as text
+use Rattle.wl_setup.specs.declared.plan_text.SegmentsText.TheVariants as segments
 use Rattle.wl_sweep.specs.declared.change.SweptKey.TheVariants as key
 use Rattle.wl_sweep.specs.declared.change.Side.TheVariants.{Own, Slow, Fast}
 use Rattle.wl_sweep.specs.declared.digit_source.DigitSource.TheVariants.{Number, Words}
@@ -34,9 +35,7 @@ node name clock = record {
   name = name;
   offset = 1000;
   rates = (record { from = 0; clock = clock }) ∷ [];
-  prop = 8;
-  ps1 = 4;
-  ps2 = 3;
+  segments = segments.Each 8 4 3;
   sjw = 3;
   x = 0;
   out_delay = 120;

@@ -8,6 +8,8 @@ use Rattle.wl_setup.specs.declared.plan_text.RateText.{RateText}
 use Rattle.wl_setup.specs.declared.plan_text.FrameText.{FrameText}
 use Rattle.wl_setup.specs.declared.plan_text.ClockText.{ClockText}
 use Rattle.wl_setup.specs.declared.plan_text.ClockText.TheVariants as text
+use Rattle.wl_setup.specs.declared.plan_text.SegmentsText.{SegmentsText}
+use Rattle.wl_setup.specs.declared.plan_text.SegmentsText.TheVariants as segments
 use Rattle.wl_sweep.specs.declared.change.SweptKey.{SweptKey}
 use Rattle.wl_sweep.specs.declared.change.SweptKey.TheVariants as key
 use Rattle.wl_sweep.specs.declared.change.Side.{Side}
@@ -39,12 +41,23 @@ frame_with k value frame = frame
 abbrev pub narrowed : ℕ → ℕ
 narrowed size = min size (2 ^ 32 - 1)
 
+-- segments with another value of a key, if they have that key
+abbrev pub segments_with : SweptKey → ℤ → SegmentsText → SegmentsText
+segments_with key.Prop value (segments.Each prop ps1 ps2) = segments.Each (unsigned_abs value) ps1 ps2
+segments_with key.Ps1 value (segments.Each prop ps1 ps2) = segments.Each prop (unsigned_abs value) ps2
+segments_with key.Ps2 value (segments.Each prop ps1 ps2) = segments.Each prop ps1 (unsigned_abs value)
+segments_with key.Tseg1 value (segments.Controller tseg1 tseg2) = segments.Controller (unsigned_abs value) tseg2
+segments_with key.Tseg2 value (segments.Controller tseg1 tseg2) = segments.Controller tseg1 (unsigned_abs value)
+segments_with k value s = s
+
 -- a node with another value of a key that is no clock's and no frame's
 abbrev pub node_with : SweptKey → ℤ → NodeText → NodeText
 node_with key.Offset value node = record node { offset = unsigned_abs value }
-node_with key.Prop value node = record node { prop = unsigned_abs value }
-node_with key.Ps1 value node = record node { ps1 = unsigned_abs value }
-node_with key.Ps2 value node = record node { ps2 = unsigned_abs value }
+node_with key.Prop value node = record node { segments = segments_with key.Prop value node.segments }
+node_with key.Ps1 value node = record node { segments = segments_with key.Ps1 value node.segments }
+node_with key.Ps2 value node = record node { segments = segments_with key.Ps2 value node.segments }
+node_with key.Tseg1 value node = record node { segments = segments_with key.Tseg1 value node.segments }
+node_with key.Tseg2 value node = record node { segments = segments_with key.Tseg2 value node.segments }
 node_with key.Sjw value node = record node { sjw = unsigned_abs value }
 node_with key.X value node = record node { x = narrowed (unsigned_abs value) }
 node_with key.Out value node = record node { out_delay = unsigned_abs value }

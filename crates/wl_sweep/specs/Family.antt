@@ -8,6 +8,8 @@ use Rattle.wl_setup.specs.declared.plan_text.NodeText.{NodeText}
 use Rattle.wl_setup.specs.declared.plan_text.RateText.{RateText}
 use Rattle.wl_setup.specs.declared.plan_text.ClockText.{ClockText}
 use Rattle.wl_setup.specs.declared.plan_text.ClockText.TheVariants as text
+use Rattle.wl_setup.specs.declared.plan_text.SegmentsText.{SegmentsText}
+use Rattle.wl_setup.specs.declared.plan_text.SegmentsText.TheVariants as segments
 use Rattle.wl_setup.specs.Plans.{plan_of_text}
 use Rattle.wl_sweep.specs.declared.options.Options.{Options}
 use Rattle.wl_sweep.specs.declared.digit_source.DigitSource.{DigitSource}
@@ -39,9 +41,14 @@ quantum_of_rate (Some rate) = quantum_at rate.clock
 abbrev pub quantum_in : NodeText → ℕ
 quantum_in node = quantum_of_rate (slice_get node.rates 0)
 
+-- the quanta of a bit
+abbrev pub quanta_in : SegmentsText → ℕ
+quanta_in (segments.Each prop ps1 ps2) = 1 + prop + ps1 + ps2
+quanta_in (segments.Controller tseg1 tseg2) = 1 + tseg1 + tseg2
+
 -- the ticks of a node's bit, at most 2^48
 abbrev pub bit_in : NodeText → ℕ
-bit_in node = min (quantum_in node * (1 + node.prop + node.ps1 + node.ps2)) (2 ^ 48)
+bit_in node = min (quantum_in node * quanta_in node.segments) (2 ^ 48)
 
 -- the shortest quantum
 abbrev pub least_quantum : List NodeText → ℕ

@@ -11,6 +11,8 @@ use Rattle.wl_setup.specs.declared.plan_text.RateText.{RateText}
 use Rattle.wl_setup.specs.declared.plan_text.FrameText.{FrameText}
 use Rattle.wl_setup.specs.declared.plan_text.ClockText.{ClockText}
 use Rattle.wl_setup.specs.declared.plan_text.ClockText.TheVariants as text
+use Rattle.wl_setup.specs.declared.plan_text.SegmentsText.{SegmentsText}
+use Rattle.wl_setup.specs.declared.plan_text.SegmentsText.TheVariants as segments
 use Rattle.wl_sweep.specs.declared.change.SweptKey.{SweptKey}
 use Rattle.wl_sweep.specs.declared.change.SweptKey.TheVariants as key
 use Rattle.wl_sweep.specs.declared.range.SweptRange.{SweptRange}
@@ -82,6 +84,7 @@ key_of name =
     else if bytes_eq name (codes "den") then Some key.Den else if bytes_eq name (codes "quantum") then Some key.Quantum
     else if bytes_eq name (codes "ppm") then Some key.Ppm else if bytes_eq name (codes "prop") then Some key.Prop
     else if bytes_eq name (codes "ps1") then Some key.Ps1 else if bytes_eq name (codes "ps2") then Some key.Ps2
+    else if bytes_eq name (codes "tseg1") then Some key.Tseg1 else if bytes_eq name (codes "tseg2") then Some key.Tseg2
     else if bytes_eq name (codes "sjw") then Some key.Sjw else if bytes_eq name (codes "x") then Some key.X
     else if bytes_eq name (codes "out") then Some key.Out else if bytes_eq name (codes "in") then Some key.In
     else if bytes_eq name (codes "tolerance") then Some key.Tolerance else if bytes_eq name (codes "every") then Some key.Every
@@ -122,11 +125,29 @@ is_frame key.Every = true
 is_frame key.Count = true
 is_frame k = false
 
--- a node has a key: one of a clock if one of its rates has it, one of a frame if one of its frames has it
+-- segments have a key; they have none that isn't one of segments
+abbrev pub segments_have : SweptKey → SegmentsText → Bool
+segments_have key.Prop (segments.Each prop ps1 ps2) = true
+segments_have key.Ps1 (segments.Each prop ps1 ps2) = true
+segments_have key.Ps2 (segments.Each prop ps1 ps2) = true
+segments_have key.Tseg1 (segments.Controller tseg1 tseg2) = true
+segments_have key.Tseg2 (segments.Controller tseg1 tseg2) = true
+segments_have k s = false
+
+abbrev pub is_segment : SweptKey → Bool
+is_segment key.Prop = true
+is_segment key.Ps1 = true
+is_segment key.Ps2 = true
+is_segment key.Tseg1 = true
+is_segment key.Tseg2 = true
+is_segment k = false
+
+-- a node has a key: one of a clock if one of its rates has it, one of a frame if one of its frames has it, one of segments if its own have it
 abbrev pub has_key : SweptKey → NodeText → Bool
 has_key k node =
     if is_clock k then list_any (rate_has k) node.rates
     else if is_frame k then list_any (frame_has k) node.frame
+    else if is_segment k then segments_have k node.segments
     else true
 
 -- a number as that of a node

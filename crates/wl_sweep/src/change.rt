@@ -1,11 +1,13 @@
 //! A plan text with other values.
 ghost use Rattle.std.specs.Prelude.{◌≡◌, ◌<◌, ◌^◌, IfOk, map};
 ghost use Rattle.std.specs.List.{enumerate_from};
-ghost use Rattle.wl_sweep.specs.Changes.{clock_on, clock_with, frame_with, is_of, moved_node, narrowed, node_set, node_with, num_on, ppm_on, rate_on, rate_with, refined, refinement, replaced, set_at, text_with, tolerance_on, top_with};
+ghost use Rattle.wl_sweep.specs.Changes.{clock_on, clock_with, frame_with, is_of, moved_node, narrowed, node_set, node_with, num_on, ppm_on, rate_on, rate_with, refined, refinement, replaced, segments_with, set_at, text_with, tolerance_on, top_with};
 
 use std::alloc::{AllocError, Global};
 use wl_level::Listed;
-use wl_setup::{ClockText, DisturbanceText, FrameText, NodeText, PlanText, RateText, Text};
+use wl_setup::{
+    ClockText, DisturbanceText, FrameText, NodeText, PlanText, RateText, SegmentsText, Text,
+};
 
 /// A key of a plan text that a sweep gives other values.
 #[derive(Clone, Copy, Debug, PartialEq, Eq)]
@@ -30,6 +32,10 @@ pub enum SweptKey {
     Ps1,
     /// `ps2`
     Ps2,
+    /// `tseg1`
+    Tseg1,
+    /// `tseg2`
+    Tseg2,
     /// `sjw`
     Sjw,
     /// `x`
@@ -108,6 +114,38 @@ fn narrowed(size: u64) -> u32
     size.min(u64::from(u32::MAX)) as u32
 }
 
+/// Returns segments with another value of a key, if they have that key.
+fn segments_with(segments: SegmentsText, key: SweptKey, value: i64) -> SegmentsText
+    ensures { result ≡ segments_with key value segments }
+{
+    let size = value.unsigned_abs();
+    match segments {
+        SegmentsText::Each { prop, ps1, ps2 } => match key {
+            SweptKey::Prop => SegmentsText::Each {
+                prop: size,
+                ps1,
+                ps2,
+            },
+            SweptKey::Ps1 => SegmentsText::Each {
+                prop,
+                ps1: size,
+                ps2,
+            },
+            SweptKey::Ps2 => SegmentsText::Each {
+                prop,
+                ps1,
+                ps2: size,
+            },
+            _ => segments,
+        },
+        SegmentsText::Controller { tseg1, tseg2 } => match key {
+            SweptKey::Tseg1 => SegmentsText::Controller { tseg1: size, tseg2 },
+            SweptKey::Tseg2 => SegmentsText::Controller { tseg1, tseg2: size },
+            _ => segments,
+        },
+    }
+}
+
 /// Returns a node with another value of a key that is no clock's and no frame's.
 fn node_with(node: NodeText, key: SweptKey, value: i64) -> NodeText
     ensures { result ≡ node_with key value node }
@@ -118,9 +156,14 @@ fn node_with(node: NodeText, key: SweptKey, value: i64) -> NodeText
             offset: size,
             ..node
         },
-        SweptKey::Prop => NodeText { prop: size, ..node },
-        SweptKey::Ps1 => NodeText { ps1: size, ..node },
-        SweptKey::Ps2 => NodeText { ps2: size, ..node },
+        SweptKey::Prop
+        | SweptKey::Ps1
+        | SweptKey::Ps2
+        | SweptKey::Tseg1
+        | SweptKey::Tseg2 => NodeText {
+            segments: segments_with(node.segments, key, value),
+            ..node
+        },
         SweptKey::Sjw => NodeText { sjw: size, ..node },
         SweptKey::X => NodeText {
             x: narrowed(size),
@@ -226,9 +269,7 @@ fn node_made(
         name: Text::new(alloc, node.name.as_str())?,
         offset,
         rates,
-        prop: node.prop,
-        ps1: node.ps1,
-        ps2: node.ps2,
+        segments: node.segments,
         sjw: node.sjw,
         x: node.x,
         out_delay: node.out_delay,

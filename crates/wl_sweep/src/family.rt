@@ -2,7 +2,7 @@
 ghost use Rattle.std.specs.Prelude.{◌≡◌, IfOk, is_ok};
 ghost use Rattle.std.specs.List.{enumerate_from};
 ghost use Rattle.wl_setup.specs.Plans.{plan_of_text};
-ghost use Rattle.wl_sweep.specs.Family.{bit_in, choice_count, chosen, draws_of, kept, least_quantum, member_count, member_of, member_nodes, offset_count, offset_step, quantum_at, quantum_in, run_count, side_of, sign_count, varied};
+ghost use Rattle.wl_sweep.specs.Family.{bit_in, choice_count, chosen, draws_of, kept, least_quantum, member_count, member_of, member_nodes, offset_count, offset_step, quanta_in, quantum_at, quantum_in, run_count, side_of, sign_count, varied};
 
 use crate::change::{Side, moved_node, text_again};
 use crate::digit_source::DigitSource;
@@ -11,7 +11,7 @@ use rand_core::SeedableRng;
 use rand_xoshiro::SplitMix64;
 use std::alloc::{AllocError, Global};
 use wl_level::Listed;
-use wl_setup::{ClockText, NodeText, PlanText, SetupFault};
+use wl_setup::{ClockText, NodeText, PlanText, SegmentsText, SetupFault};
 
 /// The most ticks of a bit over which offsets go.
 const LONGEST_BIT: u128 = 1 << 48;
@@ -36,13 +36,23 @@ fn quantum_in(node: &NodeText) -> u64
     }
 }
 
+/// Returns the quanta of a bit.
+fn quanta_in(segments: SegmentsText) -> u128
+    ensures { result ≡ quanta_in segments }
+{
+    match segments {
+        SegmentsText::Each { prop, ps1, ps2 } => {
+            1 + u128::from(prop) + u128::from(ps1) + u128::from(ps2)
+        }
+        SegmentsText::Controller { tseg1, tseg2 } => 1 + u128::from(tseg1) + u128::from(tseg2),
+    }
+}
+
 /// Returns the ticks of a node's bit at its first rate, at most 2^48.
 pub fn bit_in(node: &NodeText) -> u64
     ensures { result ≡ bit_in node.now }
 {
-    let (prop, ps1, ps2) = (node.prop, node.ps1, node.ps2);
-    let quanta = 1 + u128::from(prop) + u128::from(ps1) + u128::from(ps2);
-    let ticks = u128::from(quantum_in(node)).saturating_mul(quanta);
+    let ticks = u128::from(quantum_in(node)).saturating_mul(quanta_in(node.segments));
     ticks.min(LONGEST_BIT) as u64
 }
 

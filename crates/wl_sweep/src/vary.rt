@@ -2,7 +2,7 @@
 ghost use Rattle.std.specs.Prelude.{◌≡◌, ◌*◌, ◌^◌, ◌<◌, ◌+ℤ◌, pos, unsigned_abs, slice_get, neg_ℤ, option_map, None, IfOk, if◌then◌else◌};
 ghost use Rattle.std.specs.List.{list_any, position_from};
 ghost use Rattle.std.specs.Str.{bytes_eq};
-ghost use Rattle.wl_sweep.specs.Vary.{after_byte, clock_has, ends_of, ends_with_step, farthest, few_values, first_step, frame_has, greatest_x, has_key, is_clock, is_frame, is_top, key_of, node_of, number_of, numbered, owned, parted, rate_has, size_of, range_of, step_of, swept_in, swept_of, takes, target_of, values_from, values_of, IsRead};
+ghost use Rattle.wl_sweep.specs.Vary.{after_byte, clock_has, ends_of, ends_with_step, farthest, few_values, first_step, frame_has, greatest_x, has_key, is_clock, is_frame, is_segment, is_top, key_of, node_of, number_of, numbered, owned, parted, rate_has, segments_have, size_of, range_of, step_of, swept_in, swept_of, takes, target_of, values_from, values_of, IsRead};
 
 use crate::change::SweptKey;
 use crate::range::SweptRange;
@@ -12,7 +12,7 @@ use thiserror::Error;
 use wl_level::Listed;
 use wl_setup::{
     ClockText, FrameText, LARGEST_NUMBER, LARGEST_PPM, LARGEST_SMALL, LARGEST_TOLERANCE, NodeText,
-    PlanText, RateText, Text,
+    PlanText, RateText, SegmentsText, Text,
 };
 
 /// The steps of a range that names none. The first of them is taken that makes fewer than twenty rows more.
@@ -38,7 +38,7 @@ pub enum RangeFault {
     /// No node has this name or number, or the key is one of the top table.
     #[error("Node")]
     Node,
-    /// The nodes have no such key: one of a clock in another form, or of frames that don't come again.
+    /// The nodes have no such key: one of a clock or of segments in another form, or of frames that don't come again.
     #[error("Absent")]
     Absent,
     /// A value that no plan text may have at the key.
@@ -181,6 +181,8 @@ fn key_of(name: &str) -> Option<SweptKey>
         "prop" => Some(SweptKey::Prop),
         "ps1" => Some(SweptKey::Ps1),
         "ps2" => Some(SweptKey::Ps2),
+        "tseg1" => Some(SweptKey::Tseg1),
+        "tseg2" => Some(SweptKey::Tseg2),
         "sjw" => Some(SweptKey::Sjw),
         "x" => Some(SweptKey::X),
         "out" => Some(SweptKey::Out),
@@ -219,6 +221,36 @@ fn is_frame(key: SweptKey) -> bool
     match key {
         SweptKey::Every | SweptKey::Count => true,
         _ => false,
+    }
+}
+
+/// True if a key is one of segments.
+fn is_segment(key: SweptKey) -> bool
+    ensures { result ≡ is_segment key }
+{
+    match key {
+        SweptKey::Prop
+        | SweptKey::Ps1
+        | SweptKey::Ps2
+        | SweptKey::Tseg1
+        | SweptKey::Tseg2 => true,
+        _ => false,
+    }
+}
+
+/// True if segments have a key.
+fn segments_have(key: SweptKey, segments: SegmentsText) -> bool
+    ensures { result ≡ segments_have key segments }
+{
+    match segments {
+        SegmentsText::Each { .. } => match key {
+            SweptKey::Prop | SweptKey::Ps1 | SweptKey::Ps2 => true,
+            _ => false,
+        },
+        SegmentsText::Controller { .. } => match key {
+            SweptKey::Tseg1 | SweptKey::Tseg2 => true,
+            _ => false,
+        },
     }
 }
 
@@ -281,6 +313,8 @@ fn has_key(key: SweptKey, node: &NodeText) -> bool
         rates_have(key, node.rates.as_slice())
     } else if is_frame(key) {
         frames_have(key, node.frame.as_slice())
+    } else if is_segment(key) {
+        segments_have(key, node.segments)
     } else {
         true
     }

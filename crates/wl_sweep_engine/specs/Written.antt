@@ -11,6 +11,8 @@ use Rattle.wl_setup.specs.declared.plan_text.FrameText.{FrameText}
 use Rattle.wl_setup.specs.declared.plan_text.DisturbanceText.{DisturbanceText}
 use Rattle.wl_setup.specs.declared.plan_text.ClockText.{ClockText}
 use Rattle.wl_setup.specs.declared.plan_text.ClockText.TheVariants as text
+use Rattle.wl_setup.specs.declared.plan_text.SegmentsText.{SegmentsText}
+use Rattle.wl_setup.specs.declared.plan_text.SegmentsText.TheVariants as segments
 
 abbrev pub sync_word : SyncRules → List ℕ
 sync_word sync.After = codes "after"
@@ -45,9 +47,9 @@ abbrev pub is_one : List RateText → Bool
 is_one (rate ∷ []) = rate.from == 0
 is_one rates = false
 
--- the clock keys of a node are its own in version 1, and in version 3 if it has one rate, from quantum 0 on; else those of tables
+-- the clock keys of a node are its own in version 1, and in versions 3 and 4 if it has one rate, from quantum 0 on; else those of tables
 abbrev pub is_own : ℕ → List RateText → Bool
-is_own version rates = (version == 1) || ((version == 3) && is_one rates)
+is_own version rates = (version == 1) || (((version == 3) || (version == 4)) && is_one rates)
 
 abbrev pub own_clock_lines : ℕ → List RateText → List ℕ
 own_clock_lines version rates = if is_own version rates then flat_map rate_clock_lines rates else []
@@ -55,10 +57,16 @@ own_clock_lines version rates = if is_own version rates then flat_map rate_clock
 abbrev pub rate_tables : ℕ → List RateText → List ℕ
 rate_tables version rates = if is_own version rates then [] else flat_map rate_lines rates
 
+-- the keys of segments and of the jump width
+abbrev pub lines_of_segments : SegmentsText → ℕ → List ℕ
+lines_of_segments (segments.Each prop ps1 ps2) sjw =
+    codes "prop = " ++ decimal prop ++ codes "\nps1 = " ++ decimal ps1 ++ codes "\nps2 = " ++ decimal ps2
+    ++ codes "\nsjw = " ++ decimal sjw ++ codes "\n"
+lines_of_segments (segments.Controller tseg1 tseg2) sjw =
+    codes "tseg1 = " ++ decimal tseg1 ++ codes "\ntseg2 = " ++ decimal tseg2 ++ codes "\nsjw = " ++ decimal sjw ++ codes "\n"
+
 unfoldable pub segment_lines : NodeText → List ℕ
-segment_lines n =
-    codes "prop = " ++ decimal n.prop ++ codes "\nps1 = " ++ decimal n.ps1 ++ codes "\nps2 = " ++ decimal n.ps2
-    ++ codes "\nsjw = " ++ decimal n.sjw ++ codes "\n"
+segment_lines n = lines_of_segments n.segments n.sjw
 
 unfoldable pub place_lines : NodeText → List ℕ
 place_lines n =

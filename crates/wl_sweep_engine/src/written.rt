@@ -6,7 +6,9 @@ ghost use Rattle.wl_sweep_engine.specs.Written.{byte_words, clock_lines, data_li
 
 use std::alloc::AllocError;
 use wl_segments::SyncRules;
-use wl_setup::{ClockText, DisturbanceText, FrameText, NodeText, PlanText, RateText, Text};
+use wl_setup::{
+    ClockText, DisturbanceText, FrameText, NodeText, PlanText, RateText, SegmentsText, Text,
+};
 
 /// Returns the word of a choice of rules.
 fn sync_word(sync: SyncRules) -> &'static str
@@ -92,11 +94,16 @@ fn push_clocks(text: &mut String, rates: &[RateText]) -> Result<(), AllocError>
 fn push_segments(text: &mut String, node: &NodeText) -> Result<(), AllocError>
     ensures { OnOk result (GrowsBy text.old text.new (segment_lines node.now)) }
 {
-    let (prop, ps1, ps2, sjw) = (node.prop, node.ps1, node.ps2, node.sjw);
-    write!(
-        text,
-        "prop = {prop}\nps1 = {ps1}\nps2 = {ps2}\nsjw = {sjw}\n"
-    )
+    let sjw = node.sjw;
+    match node.segments {
+        SegmentsText::Each { prop, ps1, ps2 } => write!(
+            text,
+            "prop = {prop}\nps1 = {ps1}\nps2 = {ps2}\nsjw = {sjw}\n"
+        ),
+        SegmentsText::Controller { tseg1, tseg2 } => {
+            write!(text, "tseg1 = {tseg1}\ntseg2 = {tseg2}\nsjw = {sjw}\n")
+        }
+    }
 }
 
 /// Adds the keys of a node's place.
@@ -226,11 +233,11 @@ fn is_one(rates: &[RateText]) -> bool
     }
 }
 
-/// True if the clock keys of a node are its own: in version 1, and in version 3 if it has one rate, from quantum 0 on.
+/// True if the clock keys of a node are its own: in version 1, and in versions 3 and 4 if it has one rate, from quantum 0 on.
 fn is_own(version: u64, rates: &[RateText]) -> bool
     ensures { result ≡ is_own version rates.now }
 {
-    version == 1 || (version == 3 && is_one(rates))
+    version == 1 || ((version == 3 || version == 4) && is_one(rates))
 }
 
 /// Adds the clock keys of a node, if they are its own.

@@ -12,12 +12,13 @@ use Rattle.wl_level.proofs.Callers.{first_cong, first_not, none_first, or_at_her
 use Rattle.wl_segments.specs.declared.SyncRules.{SyncRules}
 use Rattle.wl_segments.specs.declared.SyncRules.TheVariants.{After, Book}
 use Rattle.wl_segments.specs.Lengths.{Lengths, sample_at, bit_quanta, found_at}
-use Rattle.wl_sync.specs.Edges.{Seen, is_hard_edge, looks, edge_counts, edge_restarts, phase_error, longer_by, shorter_by}
-use Rattle.wl_sync.specs.Bits.{Bit, unseen, seen_at_place, previous_level, sample_before, is_edge, sync_place, sample_place, end_place, last_level, last_sample, opened, begun_bit, due_bit, edge_bit, edge_bit_by, longer, is_sync, is_restart, going_on, placed, bit_after, first_quanta, bit_of, beat_at, sync_at, beat_of, sync_of}
+use Rattle.wl_sync.specs.Edges.{Seen, is_hard_edge, syncs_again, looks, edge_counts, edge_restarts, phase_error, longer_by, shorter_by}
+use Rattle.wl_sync.specs.Bits.{Bit, unseen, seen_at_place, previous_level, sample_before, is_edge, sync_place, sample_place, end_place, last_level, last_sample, opened, begun_bit, due_bit, edge_bit, edge_bit_by, longer, is_first_sync, is_sync_again, is_sync, is_restart, going_on, placed, bit_after, first_quanta, bit_of, beat_at, sync_at, beat_of, sync_of}
 use Rattle.wl_sync.specs.Running.{Running, running, clock_after}
 use Rattle.wl_sync.specs.Steps.{end_of, running_due, running_edge, running_edge_by, running_sync, running_restart, running_moved, running_first, running_over, running_placed, running_after, running_beat, running_answer}
 use Rattle.wl_sync.specs.declared.Sync.TheVariants.{Hard, Error}
 use Rattle.wl_sync.specs.declared.Beat.TheVariants.{Plain, Sample, Start}
+use Rattle.wl_sync.proofs.Fresh.{either_sync, sync_once}
 use Rattle.std.proofs.lemmas.List.Sums.{fold_push}
 
 cond_else : {A : Type 0} (b : Bool) (x y z : A) → (b ≡ false → y ≡ z) → cond b x y ≡ cond b x z
@@ -122,22 +123,25 @@ module _ (l : Lengths) (bit : Bit) (x : Seen) where
   edge_is (Some k) e = and_right _ _ refl ∙ sym (and_right _ _ refl)
   edge_is None e = ap (λ b. b && true) (edge_new ∙ ap (λ s. edge_counts l x (last_level bit) s (length bit.seen)) (sym (sample_none e)))
 
-  -- a bit synchronises once
-  sync_once : bit.opening.synced ≡ true → running_sync (running l bit) x ≡ false
-  sync_once e = and_right _ _ (ap (λ o. not (is_some o)) (sync_true l bit e))
+  -- the edge that x finds counts, and is the first of the bit
+  abbrev first_sync : Bool
+  first_sync = edge_counts l x (last_level bit) (last_sample l bit) (length bit.seen) && not (is_some (sync_place l bit))
+
+  first_once : bit.opening.synced ≡ true → first_sync ≡ false
+  first_once e = and_right _ _ (ap (λ o. not (is_some o)) (sync_true l bit e))
 
   place_is : (b : Bool) → bit.opening.synced ≡ b
-      → sync_place l (longer bit x) ≡ cond (running_sync (running l bit) x) (Some (length bit.seen)) (sync_place l bit)
+      → sync_place l (longer bit x) ≡ cond (first_sync) (Some (length bit.seen)) (sync_place l bit)
   place_is true e =
       sync_true l (longer bit x) e
-      ∙ sym (ap (λ b. cond b (Some (length bit.seen)) (sync_place l bit)) (sync_once e) ∙ sync_true l bit e)
+      ∙ sym (ap (λ b. cond b (Some (length bit.seen)) (sync_place l bit)) (first_once e) ∙ sync_true l bit e)
   place_is false e =
       place_free e ∙ or_at_cond _ _ _
       ∙ ap (λ b. cond b (Some (length bit.seen)) (sync_place l bit)) (edge_is (sync_place l bit) refl)
 
-  sync_is : (b : Bool) → bit.opening.synced ≡ b → is_sync l bit x ≡ running_sync (running l bit) x
-  sync_is true e = ap (λ b. not b && is_found_at (sync_place l (longer bit x)) (length bit.seen)) e ∙ sym (sync_once e)
-  sync_is false e =
+  first_is_sync : (b : Bool) → bit.opening.synced ≡ b → is_first_sync l bit x ≡ first_sync
+  first_is_sync true e = ap (λ b. not b && is_found_at (sync_place l (longer bit x)) (length bit.seen)) e ∙ sym (first_once e)
+  first_is_sync false e =
       ap (λ b. not b && is_found_at (sync_place l (longer bit x)) (length bit.seen)) e
       ∙ ap (λ o. is_found_at o (length bit.seen)) (place_free e)
       ∙ or_at_here (sync_place l bit) _ (length bit.seen)
@@ -145,7 +149,9 @@ module _ (l : Lengths) (bit : Bit) (x : Seen) where
       ∙ edge_is (sync_place l bit) refl
 
   is_sync_is : is_sync l bit x ≡ running_sync (running l bit) x
-  is_sync_is = sync_is bit.opening.synced refl
+  is_sync_is =
+      ap (λ b. b || is_sync_again l bit x) (first_is_sync bit.opening.synced refl)
+      ∙ either_sync (edge_counts l x (last_level bit) (last_sample l bit) (length bit.seen)) (not (is_some (sync_place l bit))) (syncs_again l.sync x)
 
   restart_is : is_restart l bit x ≡ running_restart (running l bit) x
   restart_is = ap (λ b. b && edge_restarts l x (length bit.seen)) is_sync_is
@@ -171,11 +177,11 @@ module _ (l : Lengths) (bit : Bit) (x : Seen) where
   ]
 
   -- an edge counts where none did before
-  sync_fresh : running_sync (running l bit) x ≡ true → sync_place l bit ≡ None
+  sync_fresh : first_sync ≡ true → sync_place l bit ≡ None
   sync_fresh h = none_from (sync_place l bit) (and_parts _ _ h).1
 
   -- an edge moves the place of the sample where neither the old nor the new one is over
-  sample_step : (b : Bool) → running_sync (running l bit) x ≡ b
+  sample_step : (b : Bool) → first_sync ≡ b
       → cond (nat_lt (sample_at l + longer_by l (cond b (Some (length bit.seen)) (sync_place l bit))) (length bit.seen))
       (seen_at_place bit (sample_at l + longer_by l (cond b (Some (length bit.seen)) (sync_place l bit)))).level bit.opening.sample
       ≡ last_sample l bit
@@ -192,15 +198,16 @@ module _ (l : Lengths) (bit : Bit) (x : Seen) where
   stepped : running_restart (running l bit) x ≡ false → running l (longer bit x) ≡ running_moved (running l bit) (running_sync (running l bit) x) false x.level
   stepped f =
       same_running l (quanta_more ∙ sym (add-one (length bit.seen)))
-      (ap (longer_by l) (place_is bit.opening.synced refl) ∙ longer_cond l (running_sync (running l bit) x) (length bit.seen) (sync_place l bit))
-      (ap (shorter_by l) (place_is bit.opening.synced refl) ∙ shorter_cond l (running_sync (running l bit) x) (length bit.seen) (sync_place l bit))
-      (ap is_some (place_is bit.opening.synced refl) ∙ some_cond (running_sync (running l bit) x) (length bit.seen) (sync_place l bit))
+      (ap (longer_by l) (place_is bit.opening.synced refl) ∙ longer_cond l (first_sync) (length bit.seen) (sync_place l bit))
+      (ap (shorter_by l) (place_is bit.opening.synced refl) ∙ shorter_cond l (first_sync) (length bit.seen) (sync_place l bit))
+      (ap is_some (place_is bit.opening.synced refl) ∙ some_cond (first_sync) (length bit.seen) (sync_place l bit))
       level_new
       (ap (λ n. cond (nat_lt (sample_place l (longer bit x)) n) (seen_at_place (longer bit x) (sample_place l (longer bit x))).level bit.opening.sample) quanta_more
       ∙ ap (λ o. cond (nat_lt (sample_at l + longer_by l o) (suc (length bit.seen))) (seen_at_place (longer bit x) (sample_at l + longer_by l o)).level bit.opening.sample) (place_is bit.opening.synced refl)
-      ∙ sample_new (sample_at l + longer_by l (cond (running_sync (running l bit) x) (Some (length bit.seen)) (sync_place l bit)))
-      ∙ ap (λ v. cond (length bit.seen == sample_at l + longer_by l (cond (running_sync (running l bit) x) (Some (length bit.seen)) (sync_place l bit))) x.level v) (sample_step (running_sync (running l bit) x) refl)
-      ∙ ap (λ n. cond (length bit.seen == sample_at l + n) x.level (last_sample l bit)) (longer_cond l (running_sync (running l bit) x) (length bit.seen) (sync_place l bit)))
+      ∙ sample_new (sample_at l + longer_by l (cond (first_sync) (Some (length bit.seen)) (sync_place l bit)))
+      ∙ ap (λ v. cond (length bit.seen == sample_at l + longer_by l (cond (first_sync) (Some (length bit.seen)) (sync_place l bit))) x.level v) (sample_step (first_sync) refl)
+      ∙ ap (λ n. cond (length bit.seen == sample_at l + n) x.level (last_sample l bit)) (longer_cond l (first_sync) (length bit.seen) (sync_place l bit)))
+      ∙ ap (λ b. running_moved (running l bit) b false x.level) (sym (sync_once (running l bit) x f))
 
 -- the quanta of a bit that an edge begins
 begun_length : (l : Lengths) (bit : Bit) (x : Seen) → length (longer (begun_bit l bit) x).seen ≡ suc (found_at l)

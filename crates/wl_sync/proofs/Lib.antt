@@ -7,4 +7,5 @@ mod Starts
 mod Ways
 mod AsBefore
 mod Cuts
+mod Fresh
 mod Remembered

@@ -99,9 +99,9 @@ next : (s : SyncRules) (r : Running) → (r.quanta == end_of r) ≡ false → Is
 next After r e = record { lengths = rw e refl; quanta = rw e refl; longer = rw e refl; shorter = rw e refl }
 next Book r e = record { lengths = rw e refl; quanta = rw e refl; longer = rw e refl; shorter = rw e refl }
 
-module _ (r : Running) (idle awaits driving : Bool) where
+module _ (r : Running) (idle awaits integrates driving : Bool) where
   abbrev after : Running
-  after = running_after r (seen_as Recessive idle awaits driving)
+  after = running_after r (seen_as Recessive idle awaits integrates driving)
 
   after_is : after ≡ passed r.lengths.sync r
   after_is =
@@ -146,9 +146,9 @@ near_next r s is =
       ])
     ]
 
-module _ (places : PlaceLaws) (l : Lengths) (past : List Seen) (idle awaits driving : Bool) where
+module _ (places : PlaceLaws) (l : Lengths) (past : List Seen) (idle awaits integrates driving : Bool) where
   abbrev x : Seen
-  x = seen_as Recessive idle awaits driving
+  x = seen_as Recessive idle awaits integrates driving
 
   abbrev clock : Running
   clock = clock_after l past
@@ -159,7 +159,7 @@ module _ (places : PlaceLaws) (l : Lengths) (past : List Seen) (idle awaits driv
   near : recessive_way l past ≤ suc (recessive_way l (past ++ x ∷ []))
   near =
       subst (λ s. suc (quanta_before_sample clock) ≤ suc (suc (quanta_before_sample s))) (sym next_clock)
-      (elim (either clock idle awaits driving) [
+      (elim (either clock idle awaits integrates driving) [
         | inl over ↦ (let e = near_first clock (running_after clock x) (whole places l past) over.0 over.1 in omega arith)
         | inr on ↦ (let e = near_next clock (running_after clock x) on in omega arith)
       ])
@@ -167,7 +167,7 @@ module _ (places : PlaceLaws) (l : Lengths) (past : List Seen) (idle awaits driv
   module _ (level : Level) (is : beat_of l past x ≡ Sample level) where
     -- the sample begins no bit
     goes : IsNext clock (running_after clock x)
-    goes = elim (either clock idle awaits driving) [
+    goes = elim (either clock idle awaits integrates driving) [
       | inl over ↦
           (let none = (sampled_now l past x level is).0 in
           absurd (eqb-false (running_after clock x).quanta 1 (or_parts (running_restart (running_edge clock) x) _ none).1 over.1.quanta))

@@ -9,7 +9,7 @@ use Rattle.wl_sync.specs.declared.Sync.{Sync}
 use Rattle.wl_sync.specs.declared.Sync.TheVariants.{Hard, Error}
 use Rattle.wl_sync.specs.declared.Beat.{Beat}
 use Rattle.wl_sync.specs.declared.Beat.TheVariants.{Plain, Sample, Start}
-use Rattle.wl_sync.specs.Edges.{Seen}
+use Rattle.wl_sync.specs.Edges.{Seen, phase_error}
 use Rattle.wl_sync.specs.Bits.{beat_of, sync_of}
 use Rattle.wl_sync.specs.Running.{Running}
 use Rattle.wl_sync.specs.Skips.{quanta_before_sample, sampled_bits}
@@ -18,7 +18,7 @@ abbrev l : ℕ → Lengths
 l jump = record { prop = 3; ps1 = 3; ps2 = 3; sjw = jump; sync = After }
 
 abbrev seen : Bool → Level → Seen
-seen driving level = record { level = level; idle = false; awaits = false; driving = driving }
+seen driving level = record { level = level; idle = false; awaits = false; integrates = false; driving = driving }
 
 -- recessive, and dominant from a quantum on
 abbrev line : Bool → ℕ → ℕ → List Seen
@@ -211,7 +211,7 @@ driven_late = refl
 
 -- a node that awaits a start of frame synchronises hard in any quantum, the sample's too
 abbrev of_idle : Level → Seen
-of_idle level = record { level = level; idle = true; awaits = true; driving = false }
+of_idle level = record { level = level; idle = true; awaits = true; integrates = false; driving = false }
 
 abbrev idle_at : ℕ → ℕ → Answer
 idle_at from k = answered 2 (replicate from (of_idle Recessive) ++ replicate 40 (of_idle Dominant)) k (of_idle (if nat_lt k from then Recessive else Dominant))
@@ -245,7 +245,7 @@ idle_ten_sample = refl
 
 -- also one that isn't idle, up to its own start of frame, of which the edge has an error of 0
 abbrev of_decided : Bool → Level → Seen
-of_decided driving level = record { level = level; idle = false; awaits = true; driving = driving }
+of_decided driving level = record { level = level; idle = false; awaits = true; integrates = false; driving = driving }
 
 abbrev decided_at : Bool → ℕ → ℕ → Answer
 decided_at driving from k = answered 2 (replicate 40 (of_decided driving Recessive)) k (of_decided driving (if nat_lt k from then Recessive else Dominant))
@@ -289,6 +289,47 @@ twice_ended = refl
 
 twice_late : twice 8 10 10 Dominant ≡ (Plain, Some (Error (pos 1)))
 twice_late = refl
+
+-- A node that integrates synchronises hard by each edge, and one that awaits a start of frame else by the first in a bit: dominant at quantum 2, recessive at 3 and
+-- 4, dominant from 5.
+abbrev of_waiting : Bool → Level → Seen
+of_waiting integrates level = record { level = level; idle = false; awaits = true; integrates = integrates; driving = false }
+
+abbrev pulsed_level : ℕ → Level
+pulsed_level k = if nat_lt k 2 then Recessive else if nat_lt k 3 then Dominant else if nat_lt k 5 then Recessive else Dominant
+
+abbrev pulsed_line : Bool → List Seen
+pulsed_line integrates =
+    ((replicate 2 (of_waiting integrates Recessive) ++ replicate 1 (of_waiting integrates Dominant)) ++ replicate 2 (of_waiting integrates Recessive))
+    ++ replicate 40 (of_waiting integrates Dominant)
+
+abbrev pulsed : Bool → ℕ → Answer
+pulsed integrates k = answered 2 (pulsed_line integrates) k (of_waiting integrates (pulsed_level k))
+
+pulsed_first : pulsed true 2 ≡ (Start, Some Hard)
+pulsed_first = refl
+
+pulsed_again : pulsed true 5 ≡ (Start, Some Hard)
+pulsed_again = refl
+
+pulsed_sample : pulsed true 11 ≡ (Sample Dominant, None)
+pulsed_sample = refl
+
+pulsed_once : pulsed false 5 ≡ (Plain, None)
+pulsed_once = refl
+
+pulsed_once_sample : pulsed false 8 ≡ (Sample Dominant, None)
+pulsed_once_sample = refl
+
+-- a bit of 385 quanta has phase errors from -127 to 256
+abbrev longest : Lengths
+longest = record { prop = 128; ps1 = 128; ps2 = 128; sjw = 128; sync = After }
+
+latest_error : phase_error longest 256 ≡ pos 256
+latest_error = refl
+
+earliest_error : phase_error longest 258 ≡ negsuc 126
+earliest_error = refl
 
 -- what a clock keeps, three quanta into a bit and after an edge that made it two longer
 abbrev moved : ℕ → Running

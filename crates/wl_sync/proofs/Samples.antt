@@ -164,7 +164,7 @@ next_after r level is ahead = record {
     there l past e x f = subst (λ s. IsSampleAhead s x.level) e (subst (IsSampleAhead r) (sym f) ahead)
 
 -- right behind a sample of that level, in a bit that isn't shorter: the next one comes a bit later
-module _ (s : Running) (level : Level) (are : AreLengths s.lengths) (behind : s.quanta ≡ suc (moved_place s)) (longer : s.longer ≤ 4) (shorter : s.shorter ≡ 0) (synced : s.synced ≡ false → s.longer ≡ 0) (last : s.level ≡ level) where
+module _ (s : Running) (level : Level) (are : AreLengths s.lengths) (behind : s.quanta ≡ suc (moved_place s)) (longer : s.longer ≤ s.lengths.sjw) (shorter : s.shorter ≡ 0) (synced : s.synced ≡ false → s.longer ≡ 0) (last : s.level ≡ level) where
   is_clock : IsBitClock s
   is_clock = (let low = are.ps2_low in record {
     lengths = are;
@@ -183,7 +183,7 @@ module _ (s : Running) (level : Level) (are : AreLengths s.lengths) (behind : s.
   })
 
   way : quanta_before_sample s ≡ bit_quanta s.lengths - 1
-  way = way_new s (seen_as level false false false) is_clock is_ahead (omega arith) ∙ (let low = are.ps2_low in omega arith)
+  way = way_new s (seen_as level false false false false) is_clock is_ahead (omega arith) ∙ (let low = are.ps2_low in omega arith)
 
   free_after : free_quanta true s level ≡ bit_quanta s.lengths - 1
   free_after = rw is_ahead.no_edge way
@@ -191,7 +191,7 @@ module _ (s : Running) (level : Level) (are : AreLengths s.lengths) (behind : s.
   bit_after : SamplesAfter s level (bit_quanta s.lengths - 1) (sampled_new s level)
   bit_after =
       subst (λ n. SamplesAfter s level n (sampled_new s level)) way
-      (subst (SamplesAfter s level (quanta_before_sample s)) (clock_new s (seen_as level false false false) is_clock is_ahead (omega arith))
+      (subst (SamplesAfter s level (quanta_before_sample s)) (clock_new s (seen_as level false false false false) is_clock is_ahead (omega arith))
       (next_after s level is_clock is_ahead))
 
 -- behind the next sample of such a bit, and bit after bit
@@ -209,15 +209,15 @@ module _ (t : Running) (level : Level) (is : IsBitClock t) (ahead : IsSampleAhea
 
   pub free_bits : (k : ℕ) → free_quanta true (sampled_bits t level k) level ≡ bit_quanta t.lengths - 1
   free_bits zero = elim (cases_lt (moved_place t) t.quanta) [
-    | inl over ↦ ap (λ u. free_quanta true u level) (clock_new t (seen_as level false false false) is ahead over) ∙ free_next
-    | inr still ↦ ap (λ u. free_quanta true u level) (clock_on t (seen_as level false false false) is ahead still)
+    | inl over ↦ ap (λ u. free_quanta true u level) (clock_new t (seen_as level false false false false) is ahead over) ∙ free_next
+    | inr still ↦ ap (λ u. free_quanta true u level) (clock_on t (seen_as level false false false false) is ahead still)
         ∙ free_after (sampled_on t level) level is.lengths refl is.longer (ahead.whole still) is.longer_synced refl
   ]
   free_bits (suc k) = free_next
 
   pub bits_after : (k : ℕ) → SamplesAfter (sampled_bits t level k) level (bit_quanta t.lengths - 1) (sampled_bits t level (suc k))
   bits_after zero = elim (cases_lt (moved_place t) t.quanta) [
-    | inl over ↦ subst (λ u. SamplesAfter u level (bit_quanta t.lengths - 1) (sampled_new t level)) (sym (clock_new t (seen_as level false false false) is ahead over)) in_next
-    | inr still ↦ subst (λ u. SamplesAfter u level (bit_quanta t.lengths - 1) (sampled_new t level)) (sym (clock_on t (seen_as level false false false) is ahead still)) (in_this still)
+    | inl over ↦ subst (λ u. SamplesAfter u level (bit_quanta t.lengths - 1) (sampled_new t level)) (sym (clock_new t (seen_as level false false false false) is ahead over)) in_next
+    | inr still ↦ subst (λ u. SamplesAfter u level (bit_quanta t.lengths - 1) (sampled_new t level)) (sym (clock_on t (seen_as level false false false false) is ahead still)) (in_this still)
   ]
   bits_after (suc k) = in_next

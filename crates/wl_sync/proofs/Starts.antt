@@ -34,7 +34,7 @@ module _ (r : Running) (x : Seen) (is : MeetsStart r x.level x.idle) where
 
   counts : running_sync begun x ≡ true
   counts =
-      ap (λ h. running_counts begun x.level h x.driving) hard_is
+      ap (λ h. running_counts begun x h) hard_is
       ∙ rw (is.dominant, is.last, is.sample, looks_is, le-ltb (found_at l) 0 (omega arith)) refl
 
   restarts_is : edge_restarts l x 0 ≡ false

@@ -1,7 +1,7 @@
 -- The way to the sample, by what a bit clock keeps.
 use Rattle.std.proofs.Common.{◌≡◌, ◌≢◌, ℕ, suc, ◌+◌, ◌-◌, ◌<◌, ◌≤◌, ◌∙◌, List, [], ◌∷◌, ◌++◌, Bool, true, false, cond, ◌&&◌, Option, Some, None, refl, sym, ap, subst, arith, min, ◌||◌, not}
 use Rattle.std.specs.Prelude.{fold, ◌==◌, nat_lt, nat_le}
-use Rattle.std.proofs.lemmas.Bool.{ltb-true, leb-true, leb-false, eqb-true, eqb-false, le-leb, lt-leb, lt-ltb, and_parts, not-true, or_parts, cond_both}
+use Rattle.std.proofs.lemmas.Bool.{ltb-true, leb-true, leb-false, eqb-true, eqb-false, le-leb, lt-leb, lt-ltb, and_parts, or_parts, cond_both}
 use Rattle.wl_level.specs.declared.Level.{Level}
 use Rattle.wl_segments.specs.declared.SyncRules.{SyncRules}
 use Rattle.wl_segments.specs.declared.SyncRules.TheVariants.{After, Book}
@@ -12,6 +12,7 @@ use Rattle.wl_sync.specs.Bits.{quanta_up_to, bit_after, beat_of, first_bit}
 use Rattle.wl_sync.specs.Running.{Running, running, clock_after}
 use Rattle.wl_sync.specs.Steps.{running_due, running_edge, running_edge_by, running_sync, running_restart, running_moved, running_over, running_placed, running_after, samples, end_of}
 use Rattle.wl_sync.specs.SampleLaws.{quanta_to_sample}
+use Rattle.wl_sync.proofs.Fresh.{sync_fresh}
 use Rattle.wl_sync.proofs.Cuts.{clock_next, beat_next, bit_next, running_at_first, first_is}
 
 fold_keeps : {A B : Type 0} (f : B → A → B) (P : B → Type 0) → ((b : B) (a : A) → P b → P (f b a)) → (xs : List A) (b : B) → P b → P (fold f b xs)
@@ -167,7 +168,8 @@ one_start l r p e =
     some_left r.quanta (sample_at l + r.longer) (omega arith) (omega arith) ∙ ap Some (let g : suc (sample_at l + r.longer) - r.quanta ≡ sample_at l = omega arith in g))
 
 -- and of one that goes on in its bit, where the place of the sample is farther by some quanta
-module _ (l : Lengths) (r : Running) (x : Seen) (p : IsPlaced l r) (goes : running_placed r x ≡ running_moved r (running_sync r x) false x.level) (some : r.quanta ≢ 0) where
+module _ (l : Lengths) (r : Running) (x : Seen) (p : IsPlaced l r) (goes : running_placed r x ≡ running_moved r (running_sync r x) false x.level)
+    (fresh : running_sync r x ≡ true → r.synced ≡ false) (some : r.quanta ≢ 0) where
   goes_quanta : (running_placed r x).quanta ≡ r.quanta + 1
   goes_quanta = ap (λ n. n.quanta) goes
 
@@ -181,9 +183,9 @@ module _ (l : Lengths) (r : Running) (x : Seen) (p : IsPlaced l r) (goes : runni
       → cond s (cond b (min (r.quanta - found_at r.lengths) r.lengths.sjw) 0) r.longer ≡ r.longer)
       × (sample_at l + r.longer < r.quanta → cond s (cond b (min (r.quanta - found_at r.lengths) r.lengths.sjw) 0) r.longer ≡ r.longer)
   moves false e b f = (omega arith, λ h. refl, λ h. refl)
-  moves true e false f = (let g : r.longer ≡ 0 = p.fresh (not-true r.synced (and_parts _ _ e).1) in (omega arith, λ h. sym g, λ h. sym g))
+  moves true e false f = (let g : r.longer ≡ 0 = p.fresh (fresh e) in (omega arith, λ h. sym g, λ h. sym g))
   moves true e true f =
-      let g : r.longer ≡ 0 = p.fresh (not-true r.synced (and_parts _ _ e).1) in
+      let g : r.longer ≡ 0 = p.fresh (fresh e) in
       let k = leb-true r.quanta (sample_at r.lengths) f in
       let a : sample_at r.lengths ≡ sample_at l = ap sample_at p.lengths in
       (omega arith, λ h. omega arith, λ h. omega arith)
@@ -256,6 +258,9 @@ module _ (l : Lengths) (past : List Seen) (x : Seen) where
   on_goes : BeginsNone → running_placed r x ≡ running_moved r (running_sync r x) false x.level
   on_goes h = goes_on r x (on_restart h) (on_first h)
 
+  on_fresh : BeginsNone → running_sync r x ≡ true → r.synced ≡ false
+  on_fresh h e = sync_fresh r x e (on_restart h)
+
   on_some : BeginsNone → r.quanta ≢ 0
   on_some h = first_not r x (on_restart h) (on_first h)
 
@@ -269,14 +274,14 @@ module _ (l : Lengths) (past : List Seen) (x : Seen) where
   way_sampled level e =
       let f = sampled_now level e in
       let g = f.1 in
-      let stays = (moved l r x (bit_placed l past) (on_goes f.0) (on_some f.0)).1 (omega arith) in
+      let stays = (moved l r x (bit_placed l past) (on_goes f.0) (on_fresh f.0) (on_some f.0)).1 (omega arith) in
       some_left r.quanta (sample_at l + r.longer) (omega arith) (omega arith) ∙ ap Some (let h : suc (sample_at l + r.longer) - r.quanta ≡ 1 = omega arith in h)
 
   pub way_sample : (level : Level) → beat_of l past x ≡ Sample level → quanta_to_sample l (past ++ x ∷ []) ≡ None
   way_sample level e =
       let f = sampled_now level e in
       let g = f.1 in
-      way_next ∙ ap (λ q. way_of l (running_placed q x)) (on_due f.0) ∙ stays_behind l r x (bit_placed l past) (on_goes f.0) (on_some f.0) (omega arith)
+      way_next ∙ ap (λ q. way_of l (running_placed q x)) (on_due f.0) ∙ stays_behind l r x (bit_placed l past) (on_goes f.0) (on_fresh f.0) (on_some f.0) (omega arith)
 
   plain_now : beat_of l past x ≡ Plain → BeginsNone × (r.quanta ≢ sample_at l + (running_placed r x).longer)
   plain_now e =
@@ -288,13 +293,13 @@ module _ (l : Lengths) (past : List Seen) (x : Seen) where
       let f = plain_now e in
       let some = on_some f.0 in
       let past_it = left_not r.quanta (sample_at l + r.longer) (omega arith) none in
-      let stays = (moved l r x (bit_placed l past) (on_goes f.0) (on_some f.0)).2 past_it in
-      way_next ∙ ap (λ q. way_of l (running_placed q x)) (on_due f.0) ∙ stays_behind l r x (bit_placed l past) (on_goes f.0) some (omega arith)
+      let stays = (moved l r x (bit_placed l past) (on_goes f.0) (on_fresh f.0) (on_some f.0)).2 past_it in
+      way_next ∙ ap (λ q. way_of l (running_placed q x)) (on_due f.0) ∙ stays_behind l r x (bit_placed l past) (on_goes f.0) (on_fresh f.0) some (omega arith)
 
   pub way_near : (n : ℕ) → beat_of l past x ≡ Plain → quanta_to_sample l past ≡ Some n → (m : ℕ) × ((quanta_to_sample l (past ++ x ∷ []) ≡ Some m) × (n ≤ suc m))
   way_near n e some =
       let f = plain_now e in
-      let near = comes_near l r x (bit_placed l past) (on_goes f.0) (on_some f.0) n f.1 some in
+      let near = comes_near l r x (bit_placed l past) (on_goes f.0) (on_fresh f.0) (on_some f.0) n f.1 some in
       (near.0, (way_next ∙ ap (λ q. way_of l (running_placed q x)) (on_due f.0) ∙ near.1.0, near.1.1))
 
 found_near : (s : SyncRules) → found_by s ≤ 1

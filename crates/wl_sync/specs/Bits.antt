@@ -12,7 +12,7 @@ use Rattle.wl_sync.specs.declared.Sync.TheVariants.{Hard, Error}
 use Rattle.wl_sync.specs.declared.Beat.{Beat}
 use Rattle.wl_sync.specs.declared.Beat.TheVariants.{Plain, Sample, Start}
 pub use Rattle.wl_sync.specs.Edges.{Seen}
-use Rattle.wl_sync.specs.Edges.{is_hard_edge, edge_counts, edge_restarts, phase_error, longer_by, shorter_by}
+use Rattle.wl_sync.specs.Edges.{is_hard_edge, syncs_again, edge_counts, edge_restarts, phase_error, longer_by, shorter_by}
 
 -- how a bit begins: by a synchronisation or not, and the last sample and the last level before it
 pub record Opening : Type 0 where
@@ -27,7 +27,7 @@ pub record Bit : Type 0 where
 
 -- what a list shows where nothing was seen: a silent line
 abbrev pub unseen : Seen
-unseen = record { level = Recessive; idle = false; awaits = false; driving = false }
+unseen = record { level = Recessive; idle = false; awaits = false; integrates = false; driving = false }
 
 -- what was seen at place k of a bit
 abbrev pub seen_at_place : Bit → ℕ → Seen
@@ -49,7 +49,8 @@ sample_before l bit k = if nat_lt (sample_at l) k then (seen_at_place bit (sampl
 abbrev pub is_edge : Lengths → Bit → ℕ → Bool
 is_edge l bit k = edge_counts l (seen_at_place bit k) (previous_level bit k) (sample_before l bit k) k
 
--- the place at which a bit synchronised, of the quantum that found the edge: one at most in a bit (Bosch CAN 2.0 part B, section 10, synchronization rule 1)
+-- The place at which a bit first synchronised, of the quantum that found the edge (Bosch CAN 2.0 part B, section 10, synchronization rule 1). A later edge of the
+-- bit may only begin another one.
 abbrev pub sync_place : Lengths → Bit → Option ℕ
 sync_place l bit = if bit.opening.synced then Some 0 else first_place (is_edge l bit) (length bit.seen)
 
@@ -108,9 +109,16 @@ edge_bit l bit = edge_bit_by l.sync l bit
 abbrev pub longer : Bit → Seen → Bit
 longer bit x = record { opening = bit.opening; seen = bit.seen ++ x ∷ [] }
 
--- the edge that the quantum x finds lies in this bit, and synchronises it
+-- the edge that the quantum x finds lies in this bit, and is the first that synchronises it
+abbrev pub is_first_sync : Lengths → Bit → Seen → Bool
+is_first_sync l bit x = not bit.opening.synced && is_found_at (sync_place l (longer bit x)) (length bit.seen)
+
+-- or synchronises it whether it has synchronised or not
+abbrev pub is_sync_again : Lengths → Bit → Seen → Bool
+is_sync_again l bit x = edge_counts l x (last_level bit) (last_sample l bit) (length bit.seen) && syncs_again l.sync x
+
 abbrev pub is_sync : Lengths → Bit → Seen → Bool
-is_sync l bit x = not bit.opening.synced && is_found_at (sync_place l (longer bit x)) (length bit.seen)
+is_sync l bit x = is_first_sync l bit x || is_sync_again l bit x
 
 -- and by that begins a bit anew
 abbrev pub is_restart : Lengths → Bit → Seen → Bool

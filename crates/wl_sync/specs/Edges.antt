@@ -1,20 +1,18 @@
 -- Which edge synchronises a bit, and what it does to it.
-use Rattle.std.specs.Prelude.{ℕ, ℤ, ◌-ℤ◌, ◌+◌, ◌==◌, ◌&&◌, ◌||◌, pos, nat_lt, nat_le, min, not, Bool, Option, Some, None, if◌then◌else◌, ◌-◌}
+use Rattle.std.specs.Prelude.{ℕ, ℤ, ◌-ℤ◌, ◌+◌, ◌==◌, ◌&&◌, ◌||◌, pos, nat_lt, nat_le, min, not, Bool, false, Option, Some, None, if◌then◌else◌, ◌-◌}
 use Rattle.wl_level.specs.declared.Level.{Level}
 use Rattle.wl_level.specs.Levels.{is_dominant}
 use Rattle.wl_segments.specs.declared.SyncRules.{SyncRules}
 use Rattle.wl_segments.specs.declared.SyncRules.TheVariants.{After, Book}
 use Rattle.wl_segments.specs.Lengths.{Lengths, sample_at, bit_quanta, found_at}
+pub use Rattle.wl_sync.specs.declared.Seen.{Seen}
 
--- what a node sees at one quantum, whether the bus is idle to it then, whether it awaits a start of frame, and whether it drives dominant
-pub record Seen : Type 0 where
-  pub level : Level
-  pub idle : Bool
-  pub awaits : Bool
-  pub driving : Bool
+abbrev pub seen_as : Level → (idle awaits integrates driving : Bool) → Seen
+seen_as level idle awaits integrates driving = record { level = level; idle = idle; awaits = awaits; integrates = integrates; driving = driving }
 
-abbrev pub seen_as : Level → (idle awaits driving : Bool) → Seen
-seen_as level idle awaits driving = record { level = level; idle = idle; awaits = awaits; driving = driving }
+-- by a node that awaits a start of frame only on an idle bus, and doesn't integrate
+abbrev pub promised_seen : Level → (idle driving : Bool) → Seen
+promised_seen level idle driving = seen_as level idle idle false driving
 
 -- The node synchronises hard. By the book it does wherever the next edge may be a start of frame, up to its own: all stations synchronise to that of the
 -- one that began first (Bosch CAN 2.0 part B, sections 3.2.1 and 10, synchronization rule 3; ISO 11898-1, hard synchronisation also while integrating and in
@@ -22,6 +20,15 @@ seen_as level idle awaits driving = record { level = level; idle = idle; awaits 
 abbrev pub is_hard_edge : SyncRules → Seen → Bool
 is_hard_edge After x = x.idle
 is_hard_edge Book x = x.awaits && not x.driving
+
+-- An edge synchronises also a bit that has synchronised. By the book it does, and hard, at a node that integrates: the edges of others begin its bits until it is in
+-- step with them (ISO 11898-1, hard synchronisation while integrating). Else a bit synchronises once (Bosch CAN 2.0 part B, section 10, synchronization rule 1).
+abbrev pub again_by : SyncRules → (hard integrates : Bool) → Bool
+again_by After hard integrates = false
+again_by Book hard integrates = hard && integrates
+
+abbrev pub syncs_again : SyncRules → Seen → Bool
+syncs_again s x = again_by s (is_hard_edge s x) x.integrates
 
 -- Whether the quantum at place k looks for an edge, where the sample is at this place. Where an edge lies in the quantum that finds it, each does
 -- but the sample's (this project's profile). Where it lies in the quantum before, that quantum is of the same bit, so place 0 doesn't: the bit

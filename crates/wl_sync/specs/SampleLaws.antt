@@ -45,14 +45,14 @@ recessive_rest l past = rest_of_bit (clock_after l past)
 -- On a recessive line no edge moves a sample, or the end of a bit.
 pub record RecessiveLaws : Type 0 where
   -- a quantum takes one off that way at most
-  pub near : (l : Lengths) (past : List Seen) (idle awaits driving : Bool) → recessive_way l past ≤ suc (recessive_way l (past ++ seen_as Recessive idle awaits driving ∷ []))
+  pub near : (l : Lengths) (past : List Seen) (idle awaits integrates driving : Bool) → recessive_way l past ≤ suc (recessive_way l (past ++ seen_as Recessive idle awaits integrates driving ∷ []))
   -- a sample comes at its end, and the next one no sooner than a whole bit later
-  pub last : (l : Lengths) (past : List Seen) (idle awaits driving : Bool) (level : Level) → beat_of l past (seen_as Recessive idle awaits driving) ≡ Sample level → recessive_way l past ≡ 1
-  pub next : (l : Lengths) (past : List Seen) (idle awaits driving : Bool) (level : Level) → beat_of l past (seen_as Recessive idle awaits driving) ≡ Sample level
-      → bit_quanta l ≤ recessive_way l (past ++ seen_as Recessive idle awaits driving ∷ [])
+  pub last : (l : Lengths) (past : List Seen) (idle awaits integrates driving : Bool) (level : Level) → beat_of l past (seen_as Recessive idle awaits integrates driving) ≡ Sample level → recessive_way l past ≡ 1
+  pub next : (l : Lengths) (past : List Seen) (idle awaits integrates driving : Bool) (level : Level) → beat_of l past (seen_as Recessive idle awaits integrates driving) ≡ Sample level
+      → bit_quanta l ≤ recessive_way l (past ++ seen_as Recessive idle awaits integrates driving ∷ [])
   -- the bit goes on for the rest of PHASE_SEG2, and no quantum of it begins one
-  pub behind : (l : Lengths) (past : List Seen) (idle awaits driving : Bool) (level : Level) → beat_of l past (seen_as Recessive idle awaits driving) ≡ Sample level
-      → l.ps2 ≤ suc (recessive_rest l (past ++ seen_as Recessive idle awaits driving ∷ []))
-  pub plain : (l : Lengths) (past : List Seen) (idle awaits driving : Bool) → 0 < recessive_rest l past → beat_of l past (seen_as Recessive idle awaits driving) ≡ Plain
-  pub rest : (l : Lengths) (past : List Seen) (idle awaits driving : Bool) → 0 < recessive_rest l past
-      → recessive_rest l past ≤ suc (recessive_rest l (past ++ seen_as Recessive idle awaits driving ∷ []))
+  pub behind : (l : Lengths) (past : List Seen) (idle awaits integrates driving : Bool) (level : Level) → beat_of l past (seen_as Recessive idle awaits integrates driving) ≡ Sample level
+      → l.ps2 ≤ suc (recessive_rest l (past ++ seen_as Recessive idle awaits integrates driving ∷ []))
+  pub plain : (l : Lengths) (past : List Seen) (idle awaits integrates driving : Bool) → 0 < recessive_rest l past → beat_of l past (seen_as Recessive idle awaits integrates driving) ≡ Plain
+  pub rest : (l : Lengths) (past : List Seen) (idle awaits integrates driving : Bool) → 0 < recessive_rest l past
+      → recessive_rest l past ≤ suc (recessive_rest l (past ++ seen_as Recessive idle awaits integrates driving ∷ []))

@@ -9,13 +9,13 @@ use Rattle.wl_sync.specs.declared.Sync.{Sync}
 use Rattle.wl_sync.specs.declared.Sync.TheVariants.{Hard, Error}
 use Rattle.wl_sync.specs.declared.Beat.{Beat}
 use Rattle.wl_sync.specs.declared.Beat.TheVariants.{Plain, Sample, Start}
-use Rattle.wl_sync.specs.Edges.{Seen, is_hard_edge, counts_at, edge_restarts, phase_error, longer_by, shorter_by}
+use Rattle.wl_sync.specs.Edges.{Seen, again_by, is_hard_edge, counts_at, edge_restarts, phase_error, longer_by, shorter_by}
 use Rattle.wl_sync.specs.Running.{Running}
 
 -- what holds of every bit clock
 pub record IsBitClock (r : Running) : Type 0 where
   pub lengths : AreLengths r.lengths
-  pub longer : r.longer ≤ 4
+  pub longer : r.longer ≤ r.lengths.sjw
   pub shorter : r.shorter ≤ r.lengths.ps2
   pub longer_synced : r.synced ≡ false → r.longer ≡ 0
   pub shorter_synced : r.synced ≡ false → r.shorter ≡ 0
@@ -40,12 +40,13 @@ running_edge_by Book r = r
 abbrev pub running_edge : Running → Running
 running_edge r = running_edge_by r.lengths.sync r
 
--- an edge that a quantum of this level finds counts, where the node synchronises hard or not and drives dominant or not
-abbrev pub running_counts : Running → Level → (hard driving : Bool) → Bool
-running_counts r level hard driving = counts_at r.lengths level hard driving r.level r.sample r.quanta && not r.synced
+-- an edge that the quantum x finds counts, if the node synchronises hard or not
+abbrev pub running_counts : Running → Seen → (hard : Bool) → Bool
+running_counts r x hard =
+    counts_at r.lengths x.level hard x.driving r.level r.sample r.quanta && (not r.synced || again_by r.lengths.sync hard x.integrates)
 
 abbrev pub running_sync : Running → Seen → Bool
-running_sync r x = running_counts r x.level (is_hard_edge r.lengths.sync x) x.driving
+running_sync r x = running_counts r x (is_hard_edge r.lengths.sync x)
 
 -- and begins a bit anew
 abbrev pub running_restart : Running → Seen → Bool

@@ -34,16 +34,32 @@ pub enum Sync {
     /// Hard synchronisation: the edge may be a start of frame, and the bit begins again with the quantum in which the edge lies.
     Hard,
     /// Resynchronisation at a phase error, in quanta: 0 at the start of the bit, positive before the sample, negative after it.
-    Error(i8),
+    Error(i16),
+}
+
+/// What a node sees at one quantum, and what it does then.
+#[derive(Clone, Copy)]
+pub struct Seen {
+    /// The line's level at the quantum.
+    pub level: Level,
+    /// True if the bus is idle to the node: it is idle or in suspend transmission.
+    pub idle: bool,
+    /// True if the next edge may be a start of frame to the node. So it is idle, suspended or integrating, or has decided to send, or is
+    /// between the samples of the first and the third bit of an intermission.
+    pub awaits: bool,
+    /// True if the node integrates: it waits for eleven recessive bits in a row.
+    pub integrates: bool,
+    /// True if the node drove dominant up to this quantum.
+    pub driving: bool,
 }
 
 /// The bit clock of a node: its segments, and what it keeps of the running bit.
 #[derive(Clone, Copy, Debug, PartialEq, Eq)]
 pub struct BitClock {
     segments: Segments,
-    quanta: u8,
-    longer: u8,
-    shorter: u8,
+    quanta: u16,
+    longer: u16,
+    shorter: u16,
     synced: bool,
     level: Level,
     sample: Level,
@@ -87,7 +103,7 @@ impl Model for BitClock {
 }
 
 impl BitClock {
-    ghost use Rattle.wl_sync.specs.Edges.{Seen, seen_as, is_hard_edge, longer_by, looks, phase_error, restarts_at, shorter_by};
+    ghost use Rattle.wl_sync.specs.Edges.{again_by, promised_seen, is_hard_edge, longer_by, looks, phase_error, restarts_at, shorter_by};
     ghost use Rattle.wl_sync.specs.Bits.{beat_of, sync_of, before_sample, bit_of};
     ghost use Rattle.wl_sync.specs.Running.{clock_after, Follows};
     ghost use Rattle.wl_sync.specs.Skips.{finds_edge, free_quanta, moved_place, quanta_before_sample, sampled_bits, sampled_new, sampled_on, steady_clock, IsPlain, IsRestingBit, IsSampleAhead, IsSampledAfter, IsUnmoved, IsUnsampled, SamplesAfter};
@@ -100,7 +116,7 @@ impl BitClock {
     {
         let quanta = match segments.sync() {
             SyncRules::After => 0,
-            SyncRules::Book => segments.bit_quanta() as u8,
+            SyncRules::Book => segments.bit_quanta() as u16,
         };
         let _ = segments.sample_at();
         BitClock {
@@ -114,44 +130,49 @@ impl BitClock {
         }
     }
 
-    /// Runs one quantum, and returns what it is in its bit, and how it synchronises the bit, if it does.
+    /// Runs one quantum, at which the node sees this, and returns what the quantum is in its bit, and how it synchronises the bit, if it does.
     ///
-    /// `level` is the line's level at the quantum. `idle`: the bus is idle to the node, so it is idle or in suspend transmission. `awaits`:
-    /// the next edge may be a start of frame to it. So it is idle, suspended or integrating, or has decided to send, or is between the
-    /// samples of the first and the third bit of an intermission. `driving`: it drove dominant up to this quantum.
-    ///
-    /// The profile's rules synchronise hard with `idle`, those of the book with `awaits` and without `driving`. After any list of quanta
-    /// both answers, and what the clock keeps, are those of that list.
+    /// The profile's rules synchronise hard with `idle`, those of the book with `awaits` and without `driving`. A bit synchronises once, but
+    /// for a node that integrates: by the book it synchronises hard by each edge. After any list of quanta both answers, and what the clock
+    /// keeps, are those of that list.
     #[inline(always)]
-    pub fn step(
-        &mut self,
-        level: Level,
-        idle: bool,
-        awaits: bool,
-        driving: bool,
-    ) -> (Beat, Option<Sync>)
-        ensures clock { Follows self.old (λ l past.
-            self.new ≡ clock_after l (past ++ seen_as level idle awaits driving ∷ [])) }
-        ensures beat { Follows self.old (λ l past. result.0 ≡ beat_of l past (seen_as level idle awaits driving)) }
-        ensures sync { Follows self.old (λ l past. result.1 ≡ sync_of l past (seen_as level idle awaits driving)) }
+    pub fn see(&mut self, seen: Seen) -> (Beat, Option<Sync>)
+        ensures clock { Follows self.old (λ l past. self.new ≡ clock_after l (past ++ seen ∷ [])) }
+        ensures beat { Follows self.old (λ l past. result.0 ≡ beat_of l past seen) }
+        ensures sync { Follows self.old (λ l past. result.1 ≡ sync_of l past seen) }
     {
-        if self.goes_on(level) {
-            let beat = self.go_on(level);
+        if self.goes_on(seen.level) {
+            let beat = self.go_on(seen.level);
             return (beat, None);
         }
-        if self.meets_start(level, idle) {
-            self.start(level);
+        if self.meets_start(seen.level, seen.idle) {
+            self.start(seen.level);
             return (Beat::Start, Some(Sync::Error(0)));
         }
-        self.look(level, idle, awaits, driving)
+        self.look(seen)
     }
 
-    /// Returns the number of quanta up to and including the sample of the current bit: from 1 to 21. `None` before quantum 0, and from the
+    /// Does the same of a node that awaits a start of frame only on an idle bus, and doesn't integrate.
+    pub fn step(&mut self, level: Level, idle: bool, driving: bool) -> (Beat, Option<Sync>)
+        ensures clock { Follows self.old (λ l past. self.new ≡ clock_after l (past ++ promised_seen level idle driving ∷ [])) }
+        ensures beat { Follows self.old (λ l past. result.0 ≡ beat_of l past (promised_seen level idle driving)) }
+        ensures sync { Follows self.old (λ l past. result.1 ≡ sync_of l past (promised_seen level idle driving)) }
+    {
+        self.see(Seen {
+            level,
+            idle,
+            awaits: idle,
+            integrates: false,
+            driving,
+        })
+    }
+
+    /// Returns the number of quanta up to and including the sample of the current bit: from 1 to 385. `None` before quantum 0, and from the
     /// sample up to the next bit's start.
     ///
     /// It goes from the last quantum's place in its bit to the place of the sample, as edges have moved that so far. An edge that comes
     /// later makes it longer.
-    pub fn before_sample(&self) -> Option<u8>
+    pub fn before_sample(&self) -> Option<u16>
         ensures { Follows self.now (λ l past. result ≡ before_sample l (bit_of l past)) }
     {
         let place = self.sample_at() + self.longer;
@@ -163,8 +184,8 @@ impl BitClock {
     }
 
     /// Returns how many quanta of this level come before the next that samples or begins a bit; with `starts`, before the next that samples
-    /// one. 0 if the first of them finds an edge from recessive to dominant. From 0 to 24.
-    pub fn free_quanta(&self, level: Level, starts: bool) -> u8
+    /// one. 0 if the first of them finds an edge from recessive to dominant. From 0 to 384.
+    pub fn free_quanta(&self, level: Level, starts: bool) -> u16
         ensures { result ≡ free_quanta starts self.now level }
     {
         if level.is_dominant() && !self.level.is_dominant() {
@@ -185,10 +206,10 @@ impl BitClock {
         }
     }
 
-    /// Returns how many quanta of this level come before the next that samples a bit: from 0 to 24. `None` if the first of them, or that
+    /// Returns how many quanta of this level come before the next that samples a bit: from 0 to 384. `None` if the first of them, or that
     /// sample itself, finds an edge from recessive to dominant.
     #[inline(always)]
-    pub fn until_sample(&self, level: Level) -> Option<u8>
+    pub fn until_sample(&self, level: Level) -> Option<u16>
         ensures ahead { (n : ℕ) → result ≡ Some n → IsSampleAhead self.now level }
         ensures value { (n : ℕ) → result ≡ Some n → n ≡ quanta_before_sample self.now }
     {
@@ -272,7 +293,7 @@ impl BitClock {
 
     /// Returns the quanta of a bit, if that number of recessive ones would leave what the clock keeps as it is: the last of them samples
     /// the bit, and nothing else happens. So it is right after the recessive sample of a bit that nothing moved; `None` elsewhere.
-    pub fn resting_bit(&self) -> Option<u8>
+    pub fn resting_bit(&self) -> Option<u16>
         ensures steady { MatchOption result (self.now ≢ steady_clock self.now.lengths)
             (λ n. (self.now ≡ steady_clock self.now.lengths) × (n ≡ bit_quanta self.now.lengths)) }
         ensures some { (n : ℕ) → result ≡ Some n → 0 < n }
@@ -302,7 +323,7 @@ impl BitClock {
     /// a sample, and no edge synchronises. What the clock keeps is what it keeps after the same number of steps. If there are no more than
     /// [`BitClock::free_quanta`] says without `starts`, none begins a bit.
     #[inline(always)]
-    pub fn skip(&mut self, level: Level, quanta: u8)
+    pub fn skip(&mut self, level: Level, quanta: u16)
         requires some { 0 < quanta }
         requires few { quanta ≤ free_quanta true self.old level }
         ensures clock { Follows self.old (λ l past. (x : Seen) → x.level ≡ level
@@ -325,7 +346,7 @@ impl BitClock {
 
     /// Returns the quanta of the bit as it was moved.
     #[inline(always)]
-    fn end_at(&self) -> u8
+    fn end_at(&self) -> u16
         ensures end { result ≡ end_of self.now }
         ensures clock { IsBitClock self.now }
     {
@@ -334,37 +355,37 @@ impl BitClock {
 
     /// Returns the place of the sample in a bit that nothing moved.
     #[inline(always)]
-    fn sample_at(&self) -> u8
+    fn sample_at(&self) -> u16
         ensures place { result ≡ sample_at self.now.lengths }
         ensures lengths { AreLengths self.now.lengths }
     {
-        self.segments.sample_at() as u8
+        self.segments.sample_at() as u16
     }
 
     /// Returns the quanta of a bit that nothing moved.
     #[inline(always)]
-    pub fn bit_quanta(&self) -> u8
+    pub fn bit_quanta(&self) -> u16
         ensures quanta { result ≡ bit_quanta self.now.lengths }
         ensures lengths { AreLengths self.now.lengths }
     {
-        self.segments.bit_quanta() as u8
+        self.segments.bit_quanta() as u16
     }
 
     /// Returns the jump width.
     #[inline(always)]
-    fn jump(&self) -> u8
+    fn jump(&self) -> u16
         ensures jump { result ≡ self.now.lengths.sjw }
         ensures lengths { AreLengths self.now.lengths }
     {
-        self.segments.sjw() as u8
+        self.segments.sjw() as u16
     }
 
     /// Returns the place, in the bit that an edge begins, of the quantum that finds the edge.
     #[inline(always)]
-    fn found_at(&self) -> u8
+    fn found_at(&self) -> u16
         ensures { result ≡ found_at self.now.lengths }
     {
-        self.segments.found_at() as u8
+        self.segments.found_at() as u16
     }
 
     /// True if the quantum finds no edge, and comes in the running bit, which has begun.
@@ -423,24 +444,17 @@ impl BitClock {
 
     /// Runs one quantum that may find an edge, or begin a bit.
     #[inline(always)]
-    fn look(
-        &mut self,
-        level: Level,
-        idle: bool,
-        awaits: bool,
-        driving: bool,
-    ) -> (Beat, Option<Sync>)
-        ensures clock { Follows self.old (λ l past.
-            self.new ≡ clock_after l (past ++ seen_as level idle awaits driving ∷ [])) }
-        ensures beat { Follows self.old (λ l past. result.0 ≡ beat_of l past (seen_as level idle awaits driving)) }
-        ensures sync { Follows self.old (λ l past. result.1 ≡ sync_of l past (seen_as level idle awaits driving)) }
+    fn look(&mut self, seen: Seen) -> (Beat, Option<Sync>)
+        ensures clock { Follows self.old (λ l past. self.new ≡ clock_after l (past ++ seen ∷ [])) }
+        ensures beat { Follows self.old (λ l past. result.0 ≡ beat_of l past seen) }
+        ensures sync { Follows self.old (λ l past. result.1 ≡ sync_of l past seen) }
     {
         self.reach_edge();
-        let hard = self.is_hard_edge(idle, awaits, driving);
-        let counts = self.is_sync(level, hard, driving);
+        let hard = self.is_hard_edge(seen);
+        let counts = self.is_sync(seen, hard);
         let sync = if counts { Some(self.sync(hard)) } else { None };
         let restarts = self.is_restart(counts, hard);
-        let beat = self.place(level, counts, restarts);
+        let beat = self.place(seen.level, counts, restarts);
         (beat, sync)
     }
 
@@ -473,12 +487,23 @@ impl BitClock {
 
     /// True if the node synchronises hard: on an idle bus, or by the book wherever the next edge may be a start of frame, up to its own.
     #[inline(always)]
-    fn is_hard_edge(&self, idle: bool, awaits: bool, driving: bool) -> bool
-        ensures { (level : Level) → result ≡ is_hard_edge self.now.lengths.sync (seen_as level idle awaits driving) }
+    fn is_hard_edge(&self, seen: Seen) -> bool
+        ensures { result ≡ is_hard_edge self.now.lengths.sync seen }
     {
         match self.segments.sync() {
-            SyncRules::After => idle,
-            SyncRules::Book => awaits && !driving,
+            SyncRules::After => seen.idle,
+            SyncRules::Book => seen.awaits && !seen.driving,
+        }
+    }
+
+    /// True if an edge synchronises also a bit that has synchronised: by the book it does so hard at a node that integrates.
+    #[inline(always)]
+    fn syncs_again(&self, hard: bool, integrates: bool) -> bool
+        ensures { result ≡ again_by self.now.lengths.sync hard integrates }
+    {
+        match self.segments.sync() {
+            SyncRules::After => false,
+            SyncRules::Book => hard && integrates,
         }
     }
 
@@ -495,16 +520,16 @@ impl BitClock {
 
     /// True if the edge that is seen now counts.
     #[inline(always)]
-    fn is_sync(&self, level: Level, hard: bool, driving: bool) -> bool
-        ensures { result ≡ running_counts self.now level hard driving }
+    fn is_sync(&self, seen: Seen, hard: bool) -> bool
+        ensures { result ≡ running_counts self.now seen hard }
     {
         let is_late = self.found_at() < self.quanta && self.quanta <= self.sample_at();
-        level.is_dominant()
+        seen.level.is_dominant()
             && !self.level.is_dominant()
             && !self.sample.is_dominant()
             && self.looks()
-            && !(is_late && driving && !hard)
-            && !self.synced
+            && !(is_late && seen.driving && !hard)
+            && (!self.synced || self.syncs_again(hard, seen.integrates))
     }
 
     /// Returns how an edge that counts synchronises the bit.
@@ -516,9 +541,9 @@ impl BitClock {
         }
         let found_at = self.found_at();
         if self.quanta > self.sample_at() {
-            Sync::Error(self.quanta as i8 - (found_at + self.bit_quanta()) as i8)
+            Sync::Error(self.quanta as i16 - (found_at + self.bit_quanta()) as i16)
         } else {
-            Sync::Error(self.quanta.saturating_sub(found_at) as i8)
+            Sync::Error(self.quanta.saturating_sub(found_at) as i16)
         }
     }
 
@@ -539,7 +564,7 @@ impl BitClock {
     fn place(&mut self, level: Level, counts: bool, restarts: bool) -> Beat
         requires room { self.old.lengths.sync ≡ SyncRules.After
             → self.old.quanta + self.old.shorter < bit_quanta self.old.lengths + self.old.longer }
-        requires fresh { counts ≡ true → self.old.synced ≡ false }
+        requires fresh { counts ≡ true → restarts ≡ false → self.old.synced ≡ false }
         requires stays { counts ≡ true → restarts ≡ false → sample_at self.old.lengths < self.old.quanta
             → self.old.lengths.sjw < found_at self.old.lengths + bit_quanta self.old.lengths - self.old.quanta }
         ensures clock { self.new ≡ running_passed self.old counts restarts level }

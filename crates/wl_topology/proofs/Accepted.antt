@@ -3,8 +3,11 @@ use Rattle.std.proofs.Common.{◌≡◌, ℕ, ◌≤◌, ◌==◌, ◌∙◌, le
 use Rattle.std.proofs.lemmas.Bool.{eqb-false, ltb-false, ne_eqb, le-ltb, cond-false}
 use Rattle.std.proofs.Math.Nat.{pos_of_ne-zero}
 use Rattle.wl_topology.specs.declared.TopologyFault.TheVariants.{NoNodes, TooManyNodes}
+use Rattle.wl_limits.specs.declared.Limits.{Limits}
+use Rattle.wl_limits.specs.declared.Limits.TheVariants.{Narrow, Wide}
+use Rattle.wl_limits.specs.Limits.{node_limit}
 use Rattle.wl_topology.specs.Limits.{most_places}
-use Rattle.wl_topology.specs.Delays.{Cable, IsTopology, topology_of, unless_zero, unless_long, is_zero, is_long, pairs, AcceptedWhereKept}
+use Rattle.wl_topology.specs.Delays.{Cable, IsTopology, topology_within, unless_zero, unless_long, is_zero, is_long, pairs, AcceptedWhereKept}
 use Rattle.wl_topology.proofs.Pairs.{topology_from, no_zeros, no_longs}
 
 -- what is found decides
@@ -20,33 +23,46 @@ kept cable (Some p) longs z l some few ok = refused ok
     refused : IsOk (unless_zero cable (Some p)) → IsTopology cable
     refused h = cc
 
-kept_few : (cable : Cable) (many : Bool) → nat_lt most_places (length cable.places) ≡ many → 1 ≤ length cable.places
-    → IsOk (cond many (Err TooManyNodes) (unless_zero cable (find (is_zero cable) (pairs cable)))) → IsTopology cable
-kept_few cable true e some ok = refused ok
-  where
-    refused : IsOk (cond true (Err TooManyNodes) (unless_zero cable (find (is_zero cable) (pairs cable)))) → IsTopology cable
-    refused h = cc
-kept_few cable false e some ok = kept cable _ _ refl refl some (ltb-false _ _ e) ok
+-- no limit is above the wide one
+few_wide : (limits : Limits) → node_limit limits ≤ most_places
+few_wide Narrow = omega arith
+few_wide Wide = omega arith
 
-kept_some : (cable : Cable) (none : Bool) → (length cable.places == 0) ≡ none
-    → IsOk (cond none (Err NoNodes) (cond (nat_lt most_places (length cable.places)) (Err TooManyNodes) (unless_zero cable (find (is_zero cable) (pairs cable)))))
-    → IsTopology cable
-kept_some cable true e ok = refused ok
+-- what is accepted by these limits
+abbrev Within : Limits → Cable → Type 0
+Within limits cable = IsTopology cable × (length cable.places ≤ node_limit limits)
+
+kept_few : (limits : Limits) (cable : Cable) (many : Bool) → nat_lt (node_limit limits) (length cable.places) ≡ many → 1 ≤ length cable.places
+    → IsOk (cond many (Err TooManyNodes) (unless_zero cable (find (is_zero cable) (pairs cable)))) → Within limits cable
+kept_few limits cable true e some ok = refused ok
   where
-    refused : IsOk {T = Cable} (Err NoNodes) → IsTopology cable
+    refused : IsOk (cond true (Err TooManyNodes) (unless_zero cable (find (is_zero cable) (pairs cable)))) → Within limits cable
     refused h = cc
-kept_some cable false e ok = kept_few cable _ refl (pos_of_ne-zero (eqb-false (length cable.places) 0 e)) ok
+kept_few limits cable false e some ok =
+    let few : length cable.places ≤ node_limit limits = ltb-false _ _ e in
+    let wide = few_wide limits in
+    (kept cable _ _ refl refl some (omega arith) ok, few)
+
+kept_some : (limits : Limits) (cable : Cable) (none : Bool) → (length cable.places == 0) ≡ none
+    → IsOk (cond none (Err NoNodes) (cond (nat_lt (node_limit limits) (length cable.places)) (Err TooManyNodes) (unless_zero cable (find (is_zero cable) (pairs cable)))))
+    → Within limits cable
+kept_some limits cable true e ok = refused ok
+  where
+    refused : IsOk {T = Cable} (Err NoNodes) → Within limits cable
+    refused h = cc
+kept_some limits cable false e ok = kept_few limits cable _ refl (pos_of_ne-zero (eqb-false (length cable.places) 0 e)) ok
 
 -- and what is kept finds nothing
-pub topology_of-kept : (cable : Cable) → IsTopology cable → topology_of cable.places cable.per ≡ Ok cable
-topology_of-kept cable h =
+pub topology_within-kept : (limits : Limits) (cable : Cable) → IsTopology cable → length cable.places ≤ node_limit limits
+    → topology_within limits cable.places cable.per ≡ Ok cable
+topology_within-kept limits cable h few =
     cond-false _ _ _ (ne_eqb (length cable.places) 0 (λ e. omega (arith, h.some_node)))
-    ∙ cond-false _ _ _ (le-ltb most_places (length cable.places) h.few_nodes)
+    ∙ cond-false _ _ _ (le-ltb (node_limit limits) (length cable.places) few)
     ∙ ap (unless_zero cable) (no_zeros cable h)
     ∙ ap (unless_long cable) (no_longs cable h)
 
 pub accepted : AcceptedWhereKept
-accepted places per = (
-  (λ ok. kept_some (record { places = places; per = per }) _ refl ok),
-  (λ h. ap is_ok (topology_of-kept (record { places = places; per = per }) h)),
+accepted limits places per = (
+  (λ ok. kept_some limits (record { places = places; per = per }) _ refl ok),
+  (λ h. ap is_ok (topology_within-kept limits (record { places = places; per = per }) h.0 h.1)),
 )

@@ -4,6 +4,9 @@ use Rattle.std.specs.Int.{abs_diff}
 use Rattle.wl_topology.specs.declared.Place.{Place}
 use Rattle.wl_topology.specs.declared.TopologyFault.{TopologyFault}
 use Rattle.wl_topology.specs.declared.TopologyFault.TheVariants.{NoNodes, TooManyNodes, ZeroDelay, TooLong}
+use Rattle.wl_limits.specs.declared.Limits.{Limits}
+use Rattle.wl_limits.specs.declared.Limits.TheVariants.{Narrow}
+use Rattle.wl_limits.specs.Limits.{node_limit}
 use Rattle.wl_topology.specs.Limits.{most_places, longest_delay, never}
 
 -- the places of the nodes, in order, and how many ticks a level takes along one unit of length
@@ -89,13 +92,19 @@ abbrev pub unless_zero : Cable → Option (ℕ × ℕ) → Result Cable Topology
 unless_zero cable None = unless_long cable (find (is_long cable) (pairs cable))
 unless_zero cable (Some p) = Err (ZeroDelay p.0 p.1)
 
--- the cable of these places, or the first refusal that applies
-abbrev pub topology_of : List Place → ℕ → Result Cable TopologyFault
-topology_of places per =
+-- the cable of these places by these limits, or the first refusal that applies
+abbrev pub topology_within : Limits → List Place → ℕ → Result Cable TopologyFault
+topology_within limits places per =
     if length places == 0 then Err NoNodes
-    else if nat_lt most_places (length places) then Err TooManyNodes
+    else if nat_lt (node_limit limits) (length places) then Err TooManyNodes
     else unless_zero (record { places = places; per = per }) (find (is_zero (record { places = places; per = per })) (pairs (record { places = places; per = per })))
 
--- A cable is accepted exactly where it keeps what each cable keeps.
+-- the same by the limits of plan texts of versions 1 to 3
+abbrev pub topology_of : List Place → ℕ → Result Cable TopologyFault
+topology_of places per = topology_within Narrow places per
+
+-- A cable is accepted exactly where it keeps what each cable keeps, and its nodes are within the limits.
 abbrev pub AcceptedWhereKept : Type 0
-AcceptedWhereKept = (places : List Place) (per : ℕ) → IsOk (topology_of places per) ↔ IsTopology (record { places = places; per = per })
+AcceptedWhereKept =
+    (limits : Limits) (places : List Place) (per : ℕ)
+    → IsOk (topology_within limits places per) ↔ (IsTopology (record { places = places; per = per }) × (length places ≤ node_limit limits))

@@ -1,8 +1,11 @@
 -- The limits of a cable: this project's profile.
 use Rattle.std.specs.Prelude.{ℕ}
+use Rattle.wl_limits.specs.declared.Limits.TheVariants.{Wide}
+use Rattle.wl_limits.specs.Limits.{node_limit}
 
+-- of any cable, by the wide limits
 abbrev pub most_places : ℕ
-most_places = 16
+most_places = node_limit Wide
 
 -- in ticks
 abbrev pub longest_delay : ℕ
@@ -10,4 +13,4 @@ longest_delay = 1048576
 
 -- the delay of what comes to no node: longer than any plan lasts
 abbrev pub never : ℕ
-never = 137438953472
+never = 2199023255552

@@ -1,4 +1,4 @@
--- How a cable lies in an array of sixteen places: those after its last are nowhere.
+-- How a cable lies in an array of as many places as a bus has at most: those after its last are nowhere.
 use Rattle.std.specs.Prelude.{◌≡◌, ℕ, ◌-◌, ◌≤◌, List, ◌++◌, length, take, drop, replicate}
 use Rattle.wl_topology.specs.declared.Place.{Place}
 use Rattle.wl_topology.specs.Limits.{most_places}

@@ -7,7 +7,7 @@ pub fn driven_laws()
     ensures { DrivenLaws }
 {}
 
-/// Law: places make a topology exactly if there are 1 to 16 and each delay is 1 to 1,048,576 ticks.
+/// Law: places make a topology exactly if there are some, no more than the limits allow, and each delay is 1 to 1,048,576 ticks.
 pub fn topology_law()
     ensures { AcceptedWhereKept }
 {}

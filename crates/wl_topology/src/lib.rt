@@ -8,13 +8,14 @@ mod laws;
 ghost use Rattle.std.specs.Prelude.{◌≡◌, ◌<◌, ◌≤◌, length, IfSome};
 ghost use Rattle.std.specs.Option.{option_map};
 ghost use Rattle.wl_topology.specs.Limits.{most_places, longest_delay, never};
-ghost use Rattle.wl_topology.specs.Delays.{IsTopology, IsLeastFrom, IsLeastDelay, delay_between, propagation_of, delay_of, disturbance_delay, local_delay, topology_of, row, pairs};
+ghost use Rattle.wl_topology.specs.Delays.{IsTopology, IsLeastFrom, IsLeastDelay, delay_between, propagation_of, delay_of, disturbance_delay, local_delay, topology_of, topology_within, row, pairs};
 ghost use Rattle.wl_topology.specs.Search.{is_flawed, first_flaw};
 ghost use Rattle.wl_topology.specs.Stored.{padded_places};
 
 pub use laws::{driven_laws, topology_law};
 use std::marker::Model;
 use thiserror::Error;
+use wl_limits::Limits;
 
 /// Where a node sits.
 #[derive(Clone, Copy, Debug, Default, PartialEq, Eq)]
@@ -35,7 +36,7 @@ pub enum TopologyFault {
     /// There is no place.
     #[error("NoNodes")]
     NoNodes,
-    /// There are more than 16 places.
+    /// There are more than 16 places, by the wide limits more than 64.
     #[error("TooManyNodes")]
     TooManyNodes,
     /// A level would take no tick from the first node to the second.
@@ -46,14 +47,14 @@ pub enum TopologyFault {
     TooLong(u8, u8),
 }
 
-/// The most nodes of a bus: this project's profile.
-pub const MOST_NODES: usize = 16;
+/// The most nodes of a bus by the wide limits: this project's profile.
+pub const MOST_NODES: usize = 64;
 
 /// The longest propagation delay between two nodes, in ticks: this project's profile.
 pub const LONGEST_DELAY: u64 = 1_048_576;
 
-/// The delay, in ticks, of what arrives at no node: longer than any plan lasts. It is 2^37.
-pub const NEVER: u64 = 137_438_953_472;
+/// The delay, in ticks, of what arrives at no node: longer than any plan lasts. It is 2^41.
+pub const NEVER: u64 = 2_199_023_255_552;
 
 /// The places of the nodes of a bus, and the ticks that a level takes along one unit of length.
 #[derive(Clone, Copy, Debug)]
@@ -141,10 +142,18 @@ impl Topology {
     pub fn new(places: &[Place], per: u64) -> Result<Topology, TopologyFault>
         ensures { result ≡ topology_of places.now per }
     {
+        Topology::within(Limits::Narrow, places, per)
+    }
+
+    /// Does the same by these limits: `TooManyNodes` comes by them.
+    pub fn within(limits: Limits, places: &[Place], per: u64) -> Result<Topology, TopologyFault>
+        ensures { result ≡ topology_within limits places.now per }
+    {
+        wl_limits::wide_limits_hold();
         if places.is_empty() {
             return Err(TopologyFault::NoNodes);
         }
-        if places.len() > MOST_NODES {
+        if places.len() > limits.node_limit() {
             return Err(TopologyFault::TooManyNodes);
         }
         if let Some((i, j)) = first_pair(places, per, Flaw::Zero) {
@@ -160,7 +169,7 @@ impl Topology {
         })
     }
 
-    /// Returns how many nodes there are: 1 to 16.
+    /// Returns how many nodes there are: 1 to 64.
     pub fn nodes(&self) -> u8
         ensures count { result ≡ length self.now.places }
         ensures topology { IsTopology self.now }

@@ -4,7 +4,8 @@ use Rattle.wl_level.specs.declared.Level.{Level}
 use Rattle.wl_level.proofs.Callers.{snoc}
 use Rattle.wl_sync.specs.declared.Beat.{Beat}
 use Rattle.wl_sync.specs.declared.Beat.TheVariants.{Plain}
-use Rattle.wl_sync.specs.Bits.{Seen, beat_of}
+use Rattle.wl_sync.specs.declared.Seen.{Seen}
+use Rattle.wl_sync.specs.Bits.{beat_of}
 use Rattle.wl_sync.specs.Skips.{IsPlain}
 use Rattle.wl_machine.specs.Judged.{stretch_of}
 use Rattle.wl_node.specs.declared.setup.NodeSetup.{NodeSetup}

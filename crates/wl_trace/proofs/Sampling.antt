@@ -6,7 +6,8 @@ use Rattle.wl_level.proofs.Callers.{snoc}
 use Rattle.wl_sync.specs.declared.Beat.{Beat}
 use Rattle.wl_sync.specs.declared.Beat.TheVariants.{Sample}
 use Rattle.wl_sync.specs.declared.Sync.{Sync}
-use Rattle.wl_sync.specs.Bits.{Seen, beat_of, sync_of}
+use Rattle.wl_sync.specs.declared.Seen.{Seen}
+use Rattle.wl_sync.specs.Bits.{beat_of, sync_of}
 use Rattle.wl_sync.specs.Skips.{IsSampledAfter}
 use Rattle.wl_node.specs.declared.setup.NodeSetup.{NodeSetup}
 use Rattle.wl_node.specs.History.{History, by_beat, history_of, history_after, history_after_sample, seen_next}

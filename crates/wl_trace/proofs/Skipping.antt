@@ -6,10 +6,11 @@ use Rattle.wl_level.proofs.Callers.{snoc}
 use Rattle.wl_sync.specs.declared.Beat.{Beat}
 use Rattle.wl_sync.specs.declared.Beat.TheVariants.{Plain, Sample, Start}
 use Rattle.wl_sync.specs.declared.Sync.{Sync}
-use Rattle.wl_sync.specs.Bits.{Seen, beat_of, sync_of}
+use Rattle.wl_sync.specs.declared.Seen.{Seen}
+use Rattle.wl_sync.specs.Bits.{beat_of, sync_of}
 use Rattle.wl_sync.specs.Skips.{IsPlain, IsUnmoved, IsUnsampled}
 use Rattle.wl_node.specs.declared.setup.NodeSetup.{NodeSetup}
-use Rattle.wl_node.specs.History.{History, history_of, history_after, by_beat, seen_next}
+use Rattle.wl_node.specs.History.{History, history_of, history_after, by_beat, is_integration, seen_next}
 use Rattle.wl_node.specs.Quiet.{pending_of}
 use Rattle.wl_trace.specs.Events.{noted}
 use Rattle.wl_trace.specs.Synced.{sync_event, syncs_of, with_next}
@@ -28,6 +29,7 @@ seen_same g h level p d i = record {
   level = level;
   idle = ap (λ (q : SampledPast). is_idle_sort (stretch_of q.inputs).sort) p i;
   awaits = ap (λ (q : SampledPast). awaits_start (stretch_of q.inputs)) p i;
+  integrates = ap (λ (q : SampledPast). is_integration (stretch_of q.inputs).sort) p i;
   driving = ap is_dominant d i;
 }
 

@@ -86,7 +86,7 @@ pub enum NodeEvent {
     /// An edge synchronised the node hard (Bosch CAN 2.0 part B, section 10).
     HardSynchronised,
     /// An edge with this phase error, in quanta, resynchronised the node, error 0 too (section 10).
-    Resynchronised(i8),
+    Resynchronised(i16),
 }
 
 /// An event with its quantum.

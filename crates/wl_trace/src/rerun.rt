@@ -13,9 +13,9 @@ use crate::sampled_node::SampledNode;
 use crate::snapshot::{NodeSnapshot, NodeState};
 use std::alloc::AllocError;
 use wl_level::Level;
-use wl_node::NodeSetup;
+use wl_node::{NodeSetup, integrates};
 use wl_segments::Segments;
-use wl_sync::{Beat, BitClock, Sync};
+use wl_sync::{Beat, BitClock, Seen, Sync};
 
 /// A node that runs again over the levels that it saw, one for each quantum: its bit clock, its machine, counters and queue, and what it drives
 /// (Bosch CAN 2.0 part B, sections 3, 8 and 10). It knows no ticks. No call takes memory or is refused.
@@ -131,9 +131,15 @@ impl Rerun {
         let bit = self.bits;
         let idle = self.sampled_node.machine.idle();
         let awaits = self.sampled_node.machine.awaits_start();
-        let (beat, sync) = self
-            .clock
-            .step(level, idle, awaits, self.drive.is_dominant());
+        let integrates = integrates(&self.sampled_node.machine);
+        let driving = self.drive.is_dominant();
+        let (beat, sync) = self.clock.see(Seen {
+            level,
+            idle,
+            awaits,
+            integrates,
+            driving,
+        });
         self.obey(setup, quantum, level, beat);
         noted_sync(quantum, bit, sync)
     }
@@ -172,7 +178,7 @@ impl Rerun {
     }
 
     /// Goes over quanta of this level that neither sample nor begin a bit, so that nothing shown changes and no edge synchronises: all that
-    /// come, but at most 24, and at most `most`. Returns how many they were; 0 if the next one samples or begins a bit, or finds an edge.
+    /// come, but at most 384, and at most `most`. Returns how many they were; 0 if the next one samples or begins a bit, or finds an edge.
     pub fn pass(&mut self, level: Level, most: u64) -> u64
         ensures quanta { (setup : NodeSetup) (levels : List Level) → IsRerun setup levels self.old
             → result ≡ min most (plain_quanta setup levels level) }
@@ -187,12 +193,12 @@ impl Rerun {
         let free = self.clock.free_quanta(level, false);
         let quanta = most.min(free as u64);
         if 0 < quanta {
-            self.clock.skip(level, quanta as u8);
+            self.clock.skip(level, quanta as u16);
         }
         quanta
     }
 
-    /// Goes over quanta of this level that don't sample and find no edge: all that come, but at most 24, and at most `most`. It stops before a
+    /// Goes over quanta of this level that don't sample and find no edge: all that come, but at most 384, and at most `most`. It stops before a
     /// bit's start that changes what it drives. The mark of starts isn't kept. Returns how many they were.
     fn skip(&mut self, level: Level, most: u64) -> u64
         ensures running { (setup : NodeSetup) (levels : List Level) → RunsAgain setup levels self.old
@@ -205,7 +211,7 @@ impl Rerun {
         let free = self.clock.free_quanta(level, settled);
         let quanta = most.min(free as u64);
         if 0 < quanta {
-            self.clock.skip(level, quanta as u8);
+            self.clock.skip(level, quanta as u16);
         }
         quanta
     }

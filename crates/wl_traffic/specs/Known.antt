@@ -1,7 +1,11 @@
 -- Quanta that clocks know.
-use Rattle.std.specs.Prelude.{ℕ, ◌<◌, ◌≤◌, ◌^◌, length, Option, Some, None}
+use Rattle.std.specs.Prelude.{ℕ, ◌<◌, ◌≤◌, length, Option, Some, None}
 use Rattle.std.specs.List.{All}
+use Rattle.wl_clock.specs.Timing.{Timing, tick_of}
+use Rattle.wl_node.specs.Limits.{most_run_quanta}
 use Rattle.wl_plan.specs.declared.plan.Plan.{Plan}
+use Rattle.wl_plan.specs.Limits.{latest_end}
+use Rattle.wl_plan.specs.PlanLine.{setup_at}
 use Rattle.wl_serial.specs.declared.outcome.NodeOutcome.{NodeOutcome}
 use Rattle.wl_serial.specs.Outcome.{node_outcome_of}
 use Rattle.wl_traffic.specs.declared.entries.Entry.{Entry}
@@ -10,22 +14,33 @@ use Rattle.wl_traffic.specs.declared.queues.NodeQueue.{NodeQueue}
 -- a clock knows the quantum, if there is one
 abbrev pub IsKnownQuantum : Option ℕ → Type 0
 IsKnownQuantum None = Unit {0}
-IsKnownQuantum (Some quantum) = quantum ≤ 2 ^ 21
+IsKnownQuantum (Some quantum) = quantum ≤ most_run_quanta
 
 -- and so that at which a frame was sent
 abbrev pub IsKnown : Entry → Type 0
 IsKnown e = IsKnownQuantum e.sent
 
--- and so those at which a node sampled, and at which it completed frames
-pub record AreKnown (node : NodeOutcome) : Type 0 where
-  pub samples : All (λ s. s.0 ≤ 2 ^ 21) node.samples
-  pub frames : All (λ p. p.quantum ≤ 2 ^ 21) node.frames
+-- the quantum begins before any plan ends, if there is one
+abbrev pub IsSoonQuantum : Timing → Option ℕ → Type 0
+IsSoonQuantum clock None = Unit {0}
+IsSoonQuantum clock (Some quantum) = tick_of clock quantum < latest_end
+
+-- and so that at which a frame was sent
+abbrev pub IsSoon : Timing → Entry → Type 0
+IsSoon clock e = IsSoonQuantum clock e.sent
+
+-- A clock knows the quanta at which a node with it sampled, and at which it completed frames; those of frames begin before any plan ends.
+pub record AreKnown (clock : Timing) (node : NodeOutcome) : Type 0 where
+  pub samples : All (λ s. s.0 ≤ most_run_quanta) node.samples
+  pub frames : All (λ p. p.quantum ≤ most_run_quanta) node.frames
+  pub soon : All (λ p. tick_of clock p.quantum < latest_end) node.frames
 
 -- of each node of a plan
 abbrev pub QuantaAreKnown : Plan → Type 0
-QuantaAreKnown plan = (i : ℕ) → i < length plan.nodes → AreKnown (node_outcome_of plan i)
+QuantaAreKnown plan = (i : ℕ) → i < length plan.nodes → AreKnown (setup_at plan i).clock (node_outcome_of plan i)
 
--- a clock knows the quanta of a node's frames that were sent, and of its last sample
+-- A clock knows the quanta of a node's frames that were sent, and of its last sample; those of frames begin before any plan ends.
 pub record IsKnownQueue (q : NodeQueue) : Type 0 where
   pub last : IsKnownQuantum q.last
   pub entries : All IsKnown q.entries
+  pub soon : All (IsSoon q.clock) q.entries

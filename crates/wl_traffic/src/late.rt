@@ -1,6 +1,7 @@
 //! The messages that wait for longer than they may.
-ghost use Rattle.std.specs.Prelude.{◌≡◌, ◌<◌, ◌≤◌, ◌^◌, ◌++◌, ℕ, length, OnOk, IfOk};
+ghost use Rattle.std.specs.Prelude.{◌≡◌, ◌<◌, ◌≤◌, ◌++◌, ℕ, length, OnOk, IfOk};
 ghost use Rattle.std.specs.List.{All, filter, list_all, list_any};
+ghost use Rattle.wl_node.specs.Limits.{most_run_quanta};
 ghost use Rattle.wl_traffic.specs.Known.{IsKnown, IsKnownQuantum, IsKnownQueue};
 ghost use Rattle.wl_traffic.specs.Late.{allowed_by, are_in_step, distance_of, entry_at, in_time, is_beaten, is_first, is_in_step, is_late, late_at, late_by, late_in, late_messages, longest_period_in, longest_period, longest_wait, period_at, period_of, quantum_or, ticks_waited, timely_at};
 ghost use Rattle.wl_traffic.specs.Messages.{is_left_entry};
@@ -69,7 +70,7 @@ fn are_in_step(timely: &[Entry]) -> bool
 
 /// Returns the period of a message in ticks, by its frames that became ready in time, or 0 if it has none.
 fn period_of(queue: &NodeQueue, timely: &[Entry]) -> u64
-    requires { All (λ e. e.ready ≤ 2 ^ 21) timely.now }
+    requires { All (λ e. e.ready ≤ most_run_quanta) timely.now }
     ensures { result ≡ period_of queue.now timely.now }
 {
     if !are_in_step(timely) {
@@ -176,7 +177,7 @@ fn push_late(
     timely: &[Entry],
 ) -> Result<(), AllocError>
     requires queue { IsKnownQueue queue.now }
-    requires ready { All (λ e. e.ready ≤ 2 ^ 21) timely.now }
+    requires ready { All (λ e. e.ready ≤ most_run_quanta) timely.now }
     requires sent { All IsKnown timely.now }
     ensures { OnOk result (all.new.items ≡ all.old.items ++ late_by longest queue.now timely.now) }
 {
@@ -209,7 +210,7 @@ fn timely_at(alloc: Global, queue: &NodeQueue, k: usize) -> Result<Vec<Entry>, A
     requires queue { IsKnownQueue queue.now }
     requires within { k < length queue.now.entries }
     ensures frames { IfOk result (λ timely. timely.items ≡ timely_at queue.now k) }
-    ensures ready { IfOk result (λ timely. All (λ e. e.ready ≤ 2 ^ 21) timely.items) }
+    ensures ready { IfOk result (λ timely. All (λ e. e.ready ≤ most_run_quanta) timely.items) }
     ensures sent { IfOk result (λ timely. All IsKnown timely.items) }
 {
     let entries = queue.entries.as_slice();

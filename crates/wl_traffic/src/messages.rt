@@ -1,10 +1,11 @@
 //! The lines of messages.
 ghost use Rattle.std.specs.Prelude.{◌≡◌, ◌<◌, length, count_by, slice_index_or, OnOk, IfOk};
 ghost use Rattle.std.specs.List.{All, list_any, sum_by};
+ghost use Rattle.wl_plan.specs.PlanLine.{setup_at};
 ghost use Rattle.wl_report.specs.Lines.{GrowsBy};
 ghost use Rattle.wl_serial.specs.Outcome.{node_outcome_of};
 ghost use Rattle.wl_traffic.specs.Attempts.{node_queue, node_queues};
-ghost use Rattle.wl_traffic.specs.Known.{IsKnown};
+ghost use Rattle.wl_traffic.specs.Known.{IsKnown, IsSoon};
 ghost use Rattle.wl_traffic.specs.Messages.{all_messages, message_counts, has_id_of, is_left_entry, is_sent_entry, line_at, lines_of, message_line, message_words, node_lines, wait_words, with_id_of};
 ghost use Rattle.wl_traffic.specs.Waits.{final_sample};
 
@@ -137,7 +138,8 @@ fn push_waits(
     clock: &Clock,
     mine: &[Entry],
 ) -> Result<(), AllocError>
-    requires { All IsKnown mine.now }
+    requires known { All IsKnown mine.now }
+    requires soon { All (IsSoon clock.now) mine.now }
     ensures { OnOk result (GrowsBy text.old text.new (wait_words tick clock.now mine.now)) }
 {
     let quanta = quanta_waited(alloc, mine)?;
@@ -164,6 +166,7 @@ fn push_message(
     requires node { i < length plan.now.nodes }
     requires last { last ≡ final_sample (node_outcome_of plan.now i).samples }
     requires known { All IsKnown mine.now }
+    requires soon { All (IsSoon (setup_at plan.now i).clock) mine.now }
     ensures { OnOk result (GrowsBy text.old text.new (message_line tick plan.now names.now i frame.now mine.now)) }
 {
     let clock = &setup_of(plan, i).clock;
@@ -187,6 +190,7 @@ fn push_line_at(
     requires node { i < length plan.now.nodes }
     requires last { last ≡ final_sample (node_outcome_of plan.now i).samples }
     requires known { All IsKnown entries.now }
+    requires soon { All (IsSoon (setup_at plan.now i).clock) entries.now }
     requires entry { k < length entries.now }
     ensures { (d : Entry) → OnOk result (GrowsBy text.old text.new
         (line_at tick plan.now names.now i entries.now (k, slice_index_or entries.now k d))) }

@@ -1,6 +1,7 @@
 //! What a node does from sample to sample, and from when to when.
-ghost use Rattle.std.specs.Prelude.{◌≡◌, ◌≤◌, ◌^◌, IfOk};
+ghost use Rattle.std.specs.Prelude.{◌≡◌, ◌≤◌, IfOk};
 ghost use Rattle.std.specs.List.{All};
+ghost use Rattle.wl_node.specs.Limits.{most_run_quanta};
 ghost use Rattle.wl_traffic.specs.States.{sample_tick, spans_of};
 
 use std::alloc::{AllocError, Global};
@@ -22,7 +23,7 @@ pub struct Span {
 
 /// Returns the tick of a sample, or the end if there is no such sample.
 fn sample_tick(setup: &NodeSetup, end: u64, samples: &[(u64, Level)], k: usize) -> u64
-    requires { All (λ s. s.0 ≤ 2 ^ 21) samples.now }
+    requires { All (λ s. s.0 ≤ most_run_quanta) samples.now }
     ensures { result ≡ sample_tick setup.now end samples.now k }
 {
     if k < samples.len() {
@@ -39,7 +40,7 @@ pub(crate) fn spans(
     end: u64,
     samples: &[(u64, Level)],
 ) -> Result<Vec<Span>, AllocError>
-    requires { All (λ s. s.0 ≤ 2 ^ 21) samples.now }
+    requires { All (λ s. s.0 ≤ most_run_quanta) samples.now }
     ensures { IfOk result (λ spans. spans.items ≡ spans_of setup.now end samples.now) }
 {
     let mut kept = SampledNode::new();

@@ -1,9 +1,12 @@
 //! How long frames waited, and how many at once.
 ghost use Rattle.std.specs.Prelude.{◌≡◌, ◌≤◌, ◌<◌, ◌^◌, ◌∷◌, [], Some, IfOk, count_by};
 ghost use Rattle.std.specs.List.{All};
+ghost use Rattle.wl_clock.specs.Timing.{tick_of};
+ghost use Rattle.wl_node.specs.Limits.{most_run_quanta};
+ghost use Rattle.wl_plan.specs.Limits.{latest_end};
 ghost use Rattle.wl_views.specs.Ticks.{microseconds};
 ghost use Rattle.wl_traffic.specs.Waits.{is_in_time, final_sample, more_waiting, most_waiting, quanta_waited, time_by, time_waited, waits_at};
-ghost use Rattle.wl_traffic.specs.Known.{IsKnown};
+ghost use Rattle.wl_traffic.specs.Known.{IsKnown, IsSoon};
 
 use crate::entries::Entry;
 use std::alloc::{AllocError, Global};
@@ -34,7 +37,8 @@ fn microseconds(tick: Tick, ticks: u64) -> u64
 
 /// Returns how many whole microseconds a frame waited that was sent at this quantum.
 fn time_waited_by(tick: Tick, clock: &Clock, ready: u64, sent: u64) -> u64
-    requires { sent ≤ 2 ^ 21 }
+    requires known { sent ≤ most_run_quanta }
+    requires soon { tick_of clock.now sent < latest_end }
     ensures { time_by tick clock.now ready (Some sent) ≡ result ∷ [] }
 {
     let ticks = clock.at(sent).saturating_sub(clock.at(ready.min(sent)));
@@ -48,7 +52,8 @@ pub(crate) fn time_waited(
     clock: &Clock,
     mine: &[Entry],
 ) -> Result<Vec<u64>, AllocError>
-    requires { All IsKnown mine.now }
+    requires known { All IsKnown mine.now }
+    requires soon { All (IsSoon clock.now) mine.now }
     ensures { IfOk result (λ waits. waits.items ≡ time_waited tick clock.now mine.now) }
 {
     let mut waits = Vec::new(alloc);

@@ -6,12 +6,12 @@ use Rattle.std.proofs.lemmas.List.{get_or-replicate, length-replicate}
 use Rattle.wl_views.specs.Calendar.{IsTreeBut, date_at}
 
 -- the root has none greater
-pub root_least : (tree : List ℕ) → IsTreeBut 0 tree → (n p : ℕ) → 1 ≤ p → p ≤ n → p < 32 → date_at tree 1 ≤ date_at tree p
-root_least tree is zero p some below inside = absurd (omega arith)
-root_least tree is (suc n) p some below inside = elim (cases_lt p 2) [
+pub root_least : (leaves : ℕ) (tree : List ℕ) → IsTreeBut leaves 0 tree → (n p : ℕ) → 1 ≤ p → p ≤ n → p < 2 * leaves → date_at tree 1 ≤ date_at tree p
+root_least leaves tree is zero p some below inside = absurd (omega arith)
+root_least leaves tree is (suc n) p some below inside = elim (cases_lt p 2) [
   | inl one ↦ (let e : p ≡ 1 = omega arith in subst (λ (k : ℕ). date_at tree 1 ≤ date_at tree k) (sym e) (omega arith))
   | inr more ↦
-      (let up : date_at tree 1 ≤ date_at tree (p / 2) = root_least tree is n (p / 2) (omega arith) (omega arith) (omega arith) in
+      (let up : date_at tree 1 ≤ date_at tree (p / 2) = root_least leaves tree is n (p / 2) (omega arith) (omega arith) (omega arith) in
       let here = is.each (p / 2) (omega arith) (omega arith) (omega arith) in
       elim (cases_eq (2 * (p / 2)) p) [
         | inl left ↦ (let e = ap (date_at tree) left in omega arith)
@@ -20,28 +20,29 @@ root_least tree is (suc n) p some below inside = elim (cases_lt p 2) [
 ]
 
 -- the number of each place is that of a leaf
-pub some_leaf : (tree : List ℕ) → IsTreeBut 0 tree → (n k : ℕ) → 1 ≤ k → k < 32 → 32 ≤ k + n → (i : ℕ) × (i < 16) × (date_at tree (16 + i) ≡ date_at tree k)
-some_leaf tree is zero k some inside far = absurd (omega arith)
-some_leaf tree is (suc n) k some inside far = elim (cases_lt k 16) [
-  | inr leaf ↦ (k - 16, omega arith, ap (date_at tree) (omega arith))
+pub some_leaf : (leaves : ℕ) (tree : List ℕ) → IsTreeBut leaves 0 tree → (n k : ℕ) → 1 ≤ k → k < 2 * leaves → 2 * leaves ≤ k + n
+    → (i : ℕ) × (i < leaves) × (date_at tree (leaves + i) ≡ date_at tree k)
+some_leaf leaves tree is zero k some inside far = absurd (omega arith)
+some_leaf leaves tree is (suc n) k some inside far = elim (cases_lt k leaves) [
+  | inr leaf ↦ (k - leaves, omega arith, ap (date_at tree) (omega arith))
   | inl inner ↦
       (let here = is.each k some inner (omega arith) in
       elim (cases_lt (date_at tree (2 * k + 1)) (date_at tree (2 * k))) [
         | inl right ↦
-            (let found = some_leaf tree is n (2 * k + 1) (omega arith) (omega arith) (omega arith) in
+            (let found = some_leaf leaves tree is n (2 * k + 1) (omega arith) (omega arith) (omega arith) in
             (found.0, found.1, (let e = found.2 in omega arith)))
         | inr left ↦
-            (let found = some_leaf tree is n (2 * k) (omega arith) (omega arith) (omega arith) in
+            (let found = some_leaf leaves tree is n (2 * k) (omega arith) (omega arith) (omega arith) in
             (found.0, found.1, (let e = found.2 in omega arith)))
       ])
 ]
 
 -- a tree of equal numbers
-pub all_equal : (n : ℕ) → IsTreeBut 0 (replicate 32 n)
-all_equal n =
-    let here : (k : ℕ) → k < 32 → date_at (replicate 32 n) k ≡ n = λ k b. get_or-replicate 32 k n 0 b in
+pub all_equal : (leaves n : ℕ) → leaves ≤ 64 → IsTreeBut leaves 0 (replicate 128 n)
+all_equal leaves n few =
+    let here : (k : ℕ) → k < 128 → date_at (replicate 128 n) k ≡ n = λ k b. get_or-replicate 128 k n 0 b in
     record {
-      all = length-replicate 32 n;
+      all = length-replicate 128 n;
       each = λ k some inner ne.
           let a = here k (omega arith) in
           let b = here (2 * k) (omega arith) in
@@ -50,8 +51,9 @@ all_equal n =
     }
 
 -- one number more that is in order
-pub settled : (tree : List ℕ) (at n : ℕ) → 1 ≤ at → at < 16 → IsTreeBut at tree → n ≡ min (date_at tree (2 * at)) (date_at tree (2 * at + 1)) → IsTreeBut (at / 2) (set tree at n)
-settled tree at n some inner is least =
+pub settled : (leaves : ℕ) (tree : List ℕ) (at n : ℕ) → leaves ≤ 64 → 1 ≤ at → at < leaves → IsTreeBut leaves at tree
+    → n ≡ min (date_at tree (2 * at)) (date_at tree (2 * at + 1)) → IsTreeBut leaves (at / 2) (set tree at n)
+settled leaves tree at n few some inner is least =
     let long = is.all in
     let other : (k : ℕ) → k ≢ at → date_at (set tree at n) k ≡ date_at tree k = λ k ne. get_or-set_other tree at k n 0 ne in
     record {
@@ -71,8 +73,8 @@ settled tree at n some inner is least =
     }
 
 -- the place above one whose number is another
-pub moved : (tree : List ℕ) (at n : ℕ) → 16 ≤ at → at < 32 → IsTreeBut 0 tree → IsTreeBut (at / 2) (set tree at n)
-moved tree at n leaf inside is =
+pub moved : (leaves : ℕ) (tree : List ℕ) (at n : ℕ) → leaves ≤ at → at < 2 * leaves → IsTreeBut leaves 0 tree → IsTreeBut leaves (at / 2) (set tree at n)
+moved leaves tree at n leaf inside is =
     let other : (k : ℕ) → k ≢ at → date_at (set tree at n) k ≡ date_at tree k = λ k ne. get_or-set_other tree at k n 0 ne in
     record {
       all = length-set tree at n ∙ is.all;

@@ -1,5 +1,5 @@
 -- A node that runs again beside the line: which quanta begin up to a tick, and what they saw.
-use Rattle.std.proofs.Common.{◌≡◌, ◌∙◌, sym, ap, arith, inl, inr, cond, ℕ, zero, suc, ◌+◌, ◌-◌, ◌<◌, ◌≤◌, Bool, List, [], ◌∷◌, ◌++◌, length, replicate, append-nil, append_assoc, get_or, ◌^◌}
+use Rattle.std.proofs.Common.{◌≡◌, ◌∙◌, sym, ap, arith, inl, inr, cond, ℕ, zero, suc, ◌+◌, ◌-◌, ◌<◌, ◌≤◌, Bool, List, [], ◌∷◌, ◌++◌, length, replicate, append-nil, append_assoc, get_or}
 use Rattle.std.proofs.lemmas.Bool.{cases_lt, lt-ltb, le-ltb}
 use Rattle.std.proofs.lemmas.List.{get_or_default, replicate_more}
 use Rattle.wl_level.specs.declared.Level.{Level}
@@ -7,6 +7,7 @@ use Rattle.wl_level.specs.Levels.{level_of}
 use Rattle.wl_clock.specs.Timing.{tick_of}
 use Rattle.wl_record_core.specs.Limits.{tick_end-is}
 use Rattle.wl_node.specs.declared.setup.NodeSetup.{NodeSetup}
+use Rattle.wl_node.specs.Limits.{most_run_quanta}
 use Rattle.wl_plan.specs.declared.plan.Plan.{Plan}
 use Rattle.wl_plan.specs.Limits.{latest_end}
 use Rattle.wl_plan.specs.Line.{found}
@@ -87,7 +88,7 @@ module _ (laws : SimulationLaws) (plan : Plan) (sound : IsSound (line_of plan)) 
   ]
 
   -- few quanta begin before the end
-  pub few_inside : (k : ℕ) → AreInside (line_of plan) i k → k ≤ 2 ^ 21
+  pub few_inside : (k : ℕ) → AreInside (line_of plan) i k → k ≤ most_run_quanta
   few_inside zero inside = omega arith
   few_inside (suc k) inside = let m = few_more laws plan sound i b k (inside k (omega arith)) in omega arith
 

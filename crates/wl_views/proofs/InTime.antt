@@ -1,5 +1,5 @@
 -- The frames of a history were completed at quanta that have run, and those of an outcome below the end.
-use Rattle.std.proofs.Common.{◌≡◌, sym, subst, arith, ℕ, zero, suc, ◌+◌, ◌^◌, ◌<◌, ◌≤◌, List, [], ◌∷◌, length, map, fold, zero-add, add-zero, get_or}
+use Rattle.std.proofs.Common.{◌≡◌, sym, subst, arith, ℕ, zero, suc, ◌+◌, ◌<◌, ◌≤◌, List, [], ◌∷◌, length, map, fold, zero-add, add-zero, get_or}
 use Rattle.std.specs.List.{All, filter, flat_map, range_with_len, enumerate_from}
 use Rattle.std.proofs.lemmas.List.Elements.{All-append, All-cons, All-nil, All-map, All-filter}
 use Rattle.std.proofs.lemmas.List.FromFn.{length-map-range_with_len}
@@ -15,6 +15,7 @@ use Rattle.wl_machine.specs.Judged.{judged, stretch_of}
 use Rattle.wl_node.specs.declared.setup.NodeSetup.{NodeSetup}
 use Rattle.wl_node.specs.declared.setup.Passed.{Passed}
 use Rattle.wl_node.specs.History.{History, history_of, history_after, no_history, by_beat, passed_frames, sampled_next, seen_next, is_sent}
+use Rattle.wl_node.specs.Limits.{most_run_quanta}
 use Rattle.wl_serial.proofs.Callers.{all_below}
 use Rattle.wl_plan.specs.declared.plan.Plan.{Plan}
 use Rattle.wl_plan.specs.PlanLine.{line_of, setup_at}
@@ -76,7 +77,7 @@ all_entries P F f a zero each = All-nil P
 all_entries P F f a (suc n) each =
     All-append P (F a (f a)) _ (each a (omega arith)) (all_entries P F f (a + 1) n (λ i b. each i (omega arith)))
 
-pub few : most_quanta ≤ 2 ^ 21
+pub few : most_quanta ≤ most_run_quanta
 few = omega (arith, most_quanta-is)
 
 pub within : (q : ℕ) {m n : ℕ} → q < m → m ≤ n → q ≤ n
@@ -87,10 +88,11 @@ module _ (laws : SimulationLaws) (plan : Plan) (sound : IsSound (line_of plan)) 
   pub inside : (i q : ℕ) → i < length plan.nodes → q < ran (line_of plan) i plan.end → tick_of (setup_at plan i).clock q < plan.end
   inside i q b h = laws.ran_inside (line_of plan) i plan.end sound.causal b q h
 
-  frames_ran : (i : ℕ) → Before (ran (line_of plan) i plan.end) (node_outcome_of plan i).frames
+  -- and so each frame of its was completed at such a quantum
+  pub frames_ran : (i : ℕ) → Before (ran (line_of plan) i plan.end) (node_outcome_of plan i).frames
   frames_ran i = frames_before (setup_at plan i) ((history (line_of plan) plan.end).seen i)
 
-  known : (i : ℕ) → i < length plan.nodes → All (λ p. p.quantum ≤ 2 ^ 21) (node_outcome_of plan i).frames
+  known : (i : ℕ) → i < length plan.nodes → All (λ p. p.quantum ≤ most_run_quanta) (node_outcome_of plan i).frames
   known i b = λ k d c.
       let q = (get_or (node_outcome_of plan i).frames k d).quantum in
       let less : q < most_quanta = sound.few_quanta i q b (inside i q b (frames_ran i k d c)) in
@@ -107,8 +109,8 @@ module _ (laws : SimulationLaws) (plan : Plan) (sound : IsSound (line_of plan)) 
   in_time = record {
     nodes = length-map-range_with_len (node_outcome_of plan) 0 (length plan.nodes);
     quanta =
-        All-map (λ node. All (λ p. p.quantum ≤ 2 ^ 21) node.frames) (node_outcome_of plan) (range_with_len 0 (length plan.nodes))
-        (all_below (λ i. All (λ p. p.quantum ≤ 2 ^ 21) (node_outcome_of plan i).frames) (length plan.nodes) known);
+        All-map (λ node. All (λ p. p.quantum ≤ most_run_quanta) node.frames) (node_outcome_of plan) (range_with_len 0 (length plan.nodes))
+        (all_below (λ i. All (λ p. p.quantum ≤ most_run_quanta) (node_outcome_of plan i).frames) (length plan.nodes) known);
     ended = all_entries (λ s. s.0 < plan.end) (λ i node. sent_by (setup_at plan i).clock node.frames) (node_outcome_of plan) 0 (length plan.nodes)
         (λ i b. sent_inside i (let c : i < length plan.nodes = omega arith in c));
   }

@@ -1,8 +1,9 @@
 -- What a node saw, one quantum more at a time, up to the end.
-use Rattle.std.proofs.Common.{◌≡◌, ◌∙◌, sym, ap, subst, arith, inl, inr, add-one, ℕ, ◌+◌, ◌^◌, ◌<◌, ◌≤◌, [], ◌∷◌, ◌++◌, length}
+use Rattle.std.proofs.Common.{◌≡◌, ◌∙◌, sym, ap, subst, arith, inl, inr, add-one, ℕ, ◌+◌, ◌<◌, ◌≤◌, [], ◌∷◌, ◌++◌, length}
 use Rattle.std.proofs.lemmas.Bool.{cases_lt}
 use Rattle.wl_level.specs.Levels.{level_of}
 use Rattle.wl_clock.specs.Timing.{tick_of}
+use Rattle.wl_node.specs.Limits.{most_run_quanta}
 use Rattle.wl_plan.specs.declared.plan.Plan.{Plan}
 use Rattle.wl_plan.specs.Line.{found}
 use Rattle.wl_plan.specs.PlanLine.{line_of, setup_at}
@@ -30,7 +31,7 @@ module _ (laws : SimulationLaws) (plan : Plan) (sound : IsSound (line_of plan)) 
       sym (laws.history_seen (line_of plan) j plan.end sound.causal b
       ∙ ap (seen (line_of plan) j) (laws.ran_at_end (line_of plan) j k sound.causal b h past))
 
-  pub few_more : (k : ℕ) → at_quantum k < plan.end → k + 1 ≤ 2 ^ 21
+  pub few_more : (k : ℕ) → at_quantum k < plan.end → k + 1 ≤ most_run_quanta
   few_more k below = let less = sound.few_quanta j k b below in let all = few in omega arith
 
   pub later : (k : ℕ) → at_quantum k < at_quantum (k + 1)

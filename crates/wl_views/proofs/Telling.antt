@@ -1,9 +1,10 @@
 -- The events of a simulation are at quanta that clocks know, and below the end.
-use Rattle.std.proofs.Common.{◌≡◌, ◌∙◌, ap, arith, ℕ, zero, suc, ◌+◌, ◌^◌, ◌<◌, ◌≤◌, List, [], ◌∷◌, ◌++◌, length, get_or, append-nil, zero-add}
+use Rattle.std.proofs.Common.{◌≡◌, ◌∙◌, ap, arith, ℕ, zero, suc, ◌+◌, ◌<◌, ◌≤◌, List, [], ◌∷◌, ◌++◌, length, get_or, append-nil, zero-add}
 use Rattle.std.specs.List.{All, flat_map, range_with_len}
 use Rattle.std.proofs.lemmas.List.Concat.{flat_map-append}
 use Rattle.std.proofs.lemmas.List.Elements.{All-append, All-nil, All-map}
 use Rattle.wl_clock.specs.Timing.{tick_of}
+use Rattle.wl_node.specs.Limits.{most_run_quanta}
 use Rattle.wl_plan.specs.declared.plan.Plan.{Plan}
 use Rattle.wl_plan.specs.PlanLine.{line_of, setup_at}
 use Rattle.wl_plan.specs.Limits.{most_quanta}
@@ -36,7 +37,7 @@ module _ (laws : SimulationLaws) (tells : TraceLaws) (plan : Plan) (sound : IsSo
   below : (i : ℕ) (es : List Noted) → i < length plan.nodes → Ran i es → All (λ n. tick_of (setup_at plan i).clock n.quantum < plan.end) es
   below i es b h = λ k d c. inside laws plan sound i (get_or es k d).quantum b (h k d c)
 
-  known : (i : ℕ) (es : List Noted) → i < length plan.nodes → Ran i es → All (λ n. n.quantum ≤ 2 ^ 21) es
+  known : (i : ℕ) (es : List Noted) → i < length plan.nodes → Ran i es → All (λ n. n.quantum ≤ most_run_quanta) es
   known i es b h = λ k d c.
       let q = (get_or es k d).quantum in
       let less : q < most_quanta = sound.few_quanta i q b (below i es b h k d c) in
@@ -48,10 +49,10 @@ module _ (laws : SimulationLaws) (tells : TraceLaws) (plan : Plan) (sound : IsSo
   events_ran : (i : ℕ) → Ran i (events_at_end plan i)
   events_ran i = tells.quanta (setup_at plan i) ((history (line_of plan) plan.end).seen i)
 
-  pub syncs_known : (i : ℕ) → i < length plan.nodes → All (λ n. n.quantum ≤ 2 ^ 21) (syncs_at_end plan i)
+  pub syncs_known : (i : ℕ) → i < length plan.nodes → All (λ n. n.quantum ≤ most_run_quanta) (syncs_at_end plan i)
   syncs_known i b = known i (syncs_at_end plan i) b (syncs_ran i)
 
-  pub events_known : (i : ℕ) → i < length plan.nodes → All (λ n. n.quantum ≤ 2 ^ 21) (events_at_end plan i)
+  pub events_known : (i : ℕ) → i < length plan.nodes → All (λ n. n.quantum ≤ most_run_quanta) (events_at_end plan i)
   events_known i b = known i (events_at_end plan i) b (events_ran i)
 
   abbrev Below : ℕ × (ℕ × Noted) → Type 0

@@ -74,7 +74,7 @@ pub record AllWatched (plan : Plan) (t : ℕ) (all : List Probe) : Type 0 where
   pub nodes : length all ≡ length plan.nodes
   pub each : (i : ℕ) (d : Probe) → i < length plan.nodes → Watches plan i t (slice_index_or all i d)
 
--- the turn of each node is when that runs out, or at the end; there are no others
+-- the turn of each node is when that runs out, or at the end
 pub record IsCalendarOf (end : ℕ) (all : List Probe) (calendar : Calendar) : Type 0 where
-  pub each : (i : ℕ) (d : Probe) → i < length all → date_at calendar.tree (16 + i) ≡ min (slice_index_or all i d).until end * 16 + i
-  pub none : (i : ℕ) → length all ≤ i → i < 16 → date_at calendar.tree (16 + i) ≡ no_tick
+  pub nodes : calendar.nodes ≡ length all
+  pub each : (i : ℕ) (d : Probe) → i < length all → date_at calendar.tree (calendar.nodes + i) ≡ min (slice_index_or all i d).until end * 64 + i

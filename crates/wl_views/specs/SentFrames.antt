@@ -1,10 +1,11 @@
 -- The frames that were sent, each with the tick of its completion.
-use Rattle.std.specs.Prelude.{◌≡◌, ℕ, ◌^◌, ◌<◌, ◌≤◌, List, map, length}
+use Rattle.std.specs.Prelude.{◌≡◌, ℕ, ◌<◌, ◌≤◌, List, map, length}
 use Rattle.std.specs.List.{filter, flat_map, enumerate_from, All}
 use Rattle.wl_clock.specs.Timing.{Timing, tick_of}
 use Rattle.wl_frame.specs.Grammar.{Content}
 use Rattle.wl_node.specs.declared.setup.Passed.{Passed}
 use Rattle.wl_node.specs.History.{is_sent}
+use Rattle.wl_node.specs.Limits.{most_run_quanta}
 use Rattle.wl_plan.specs.declared.plan.Plan.{Plan}
 use Rattle.wl_plan.specs.PlanLine.{setup_at}
 use Rattle.wl_plan.specs.Checked.{IsChecked}
@@ -23,7 +24,7 @@ all_sent plan outcome = flat_map (λ n. sent_by (setup_at plan n.0).clock n.1.fr
 -- Each node has its clock, each frame was completed at a quantum that clocks know, and below the end.
 pub record AreInTime (plan : Plan) (outcome : Outcome) : Type 0 where
   pub nodes : length outcome.nodes ≡ length plan.nodes
-  pub quanta : All (λ node. All (λ p. p.quantum ≤ 2 ^ 21) node.frames) outcome.nodes
+  pub quanta : All (λ node. All (λ p. p.quantum ≤ most_run_quanta) node.frames) outcome.nodes
   pub ended : All (λ s. s.0 < outcome.end) (all_sent plan outcome)
 
 -- the outcome of a plan that can be run is so

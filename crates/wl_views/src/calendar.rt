@@ -5,50 +5,61 @@ ghost use Rattle.wl_views.specs.Calendar.{IsFirst, IsTreeBut, date_at};
 /// The number of a node that has no date.
 const NO_DATE: u64 = u64::MAX;
 
-/// Which node's date comes first, of up to 16: a tree of numbers, each a tick and a node.
+/// Which node's date comes first, of up to 64: a tree of numbers, each a tick and a node. It has a leaf for each node, so few nodes make it
+/// low.
 #[derive(Drop)]
 pub(crate) struct Calendar {
-    pub(crate) tree: [u64; 32],
-    ghost ordered: { IsTreeBut 0 tree },
+    pub(crate) tree: [u64; 128],
+    pub(crate) nodes: usize,
+    ghost some: { 1 ≤ nodes },
+    ghost few: { nodes ≤ 64 },
+    ghost ordered: { IsTreeBut nodes 0 tree },
 }
 
 impl Calendar {
-    /// Returns the calendar of no node.
-    pub(crate) fn new() -> Calendar
-        ensures { (i : ℕ) → i < 16 → date_at result.tree (16 + i) ≡ 2 ^ 64 - 1 }
+    /// Returns the calendar of these many nodes, before any has a date.
+    pub(crate) fn new(nodes: usize) -> Calendar
+        requires some { 1 ≤ nodes }
+        requires few { nodes ≤ 64 }
+        ensures { result.nodes ≡ nodes }
     {
         Calendar {
-            tree: [NO_DATE; 32],
+            tree: [NO_DATE; 128],
+            nodes,
         }
     }
 
     /// Puts the date of node `i` at this tick.
     pub(crate) fn put(&mut self, i: usize, tick: u64)
-        requires node { i < 16 }
-        requires early { tick < 2 ^ 60 - 1 }
-        ensures here { date_at self.new.tree (16 + i) ≡ tick * 16 + i }
-        ensures others { (k : ℕ) → k < 16 → k ≢ i → date_at self.new.tree (16 + k) ≡ date_at self.old.tree (16 + k) }
+        requires node { i < self.old.nodes }
+        requires early { tick < 2 ^ 58 - 1 }
+        ensures nodes { self.new.nodes ≡ self.old.nodes }
+        ensures here { date_at self.new.tree (self.old.nodes + i) ≡ tick * 64 + i }
+        ensures others { (k : ℕ) → k < self.old.nodes → k ≢ i
+            → date_at self.new.tree (self.old.nodes + k) ≡ date_at self.old.tree (self.old.nodes + k) }
     {
-        self.tree[16 + i] = tick * 16 + i as u64;
-        settle(&mut self.tree, 16 + i);
+        let at = self.nodes + i;
+        self.tree[at] = tick * 64 + i as u64;
+        settle(&mut self.tree, self.nodes, at);
     }
 
     /// Returns the least tick, and the first node whose date it is.
     pub(crate) fn first(&self) -> (u64, usize)
-        ensures { IsFirst self.now.tree result }
+        ensures { IsFirst self.now.nodes self.now.tree result }
     {
         let least = self.tree[1];
-        (least / 16, (least % 16) as usize)
+        (least / 64, (least % 64) as usize)
     }
 }
 
-/// Orders a tree again whose number at this place is another than before.
-fn settle(tree: &mut [u64; 32], from: usize)
+/// Orders a tree of these many leaves again whose number at this place is another than before.
+fn settle(tree: &mut [u64; 128], nodes: usize, from: usize)
     requires some { 1 ≤ from }
-    requires inside { from < 32 }
-    requires tree { IsTreeBut (from / 2) tree.old }
-    ensures tree { IsTreeBut 0 tree.new }
-    ensures leaves { (k : ℕ) → 16 ≤ k → date_at tree.new k ≡ date_at tree.old k }
+    requires inside { from < 2 * nodes }
+    requires few { nodes ≤ 64 }
+    requires tree { IsTreeBut nodes (from / 2) tree.old }
+    ensures tree { IsTreeBut nodes 0 tree.new }
+    ensures leaves { (k : ℕ) → nodes ≤ k → date_at tree.new k ≡ date_at tree.old k }
 {
     let mut at = from;
     while 1 < at {

@@ -1,9 +1,10 @@
 //! A probe of a node: the node runs again beside the line at its place, and takes no memory.
-ghost use Rattle.std.specs.Prelude.{◌≡◌, ℕ, ◌||◌, ◌+◌, ◌-◌, ◌<◌, ◌≤◌, ◌^◌, List, length};
+ghost use Rattle.std.specs.Prelude.{◌≡◌, ℕ, ◌||◌, ◌+◌, ◌-◌, ◌<◌, ◌≤◌, List, length};
 ghost use Rattle.wl_level.specs.declared.Level.{Level};
 ghost use Rattle.wl_level.specs.Levels.{level_of};
 ghost use Rattle.wl_topology.specs.Limits.{longest_delay};
 ghost use Rattle.wl_node.specs.declared.setup.NodeSetup.{NodeSetup};
+ghost use Rattle.wl_node.specs.Limits.{most_run_quanta};
 ghost use Rattle.wl_plan.specs.declared.plan.Plan.{Plan};
 ghost use Rattle.wl_plan.specs.Limits.{latest_end};
 ghost use Rattle.wl_plan.specs.Line.{found};
@@ -55,7 +56,7 @@ pub(crate) fn level_of(dominant: bool) -> Level
 
 /// Returns the tick of this quantum if it is before the end, and else the last of all ticks.
 fn next_tick(clock: &Clock, end: u64, quantum: u64) -> u64
-    requires { quantum ≤ 2 ^ 21 }
+    requires { quantum ≤ most_run_quanta }
     ensures { result ≡ next_of clock.now end quantum }
 {
     let next = clock.at(quantum);

@@ -1,7 +1,8 @@
 //! The frames that were sent, each with the tick of its completion.
-ghost use Rattle.std.specs.Prelude.{◌≡◌, ◌≤◌, ◌^◌, ◌++◌, OnOk, IfOk};
+ghost use Rattle.std.specs.Prelude.{◌≡◌, ◌≤◌, ◌++◌, OnOk, IfOk};
 ghost use Rattle.std.specs.List.{All};
 ghost use Rattle.wl_level.specs.ByTick.{by_tick};
+ghost use Rattle.wl_node.specs.Limits.{most_run_quanta};
 ghost use Rattle.wl_views.specs.SentFrames.{AreInTime, all_sent, sent_by};
 
 use std::alloc::{AllocError, Global};
@@ -17,7 +18,7 @@ fn push_sent(
     clock: &Clock,
     frames: &[Passed],
 ) -> Result<(), AllocError>
-    requires { All (λ p. p.quantum ≤ 2 ^ 21) frames.now }
+    requires { All (λ p. p.quantum ≤ most_run_quanta) frames.now }
     ensures { OnOk result (sent.new.items ≡ sent.old.items ++ sent_by clock.now frames.now) }
 {
     for passed in frames {

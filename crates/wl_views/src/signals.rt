@@ -152,7 +152,7 @@ pub(crate) fn calendar_of(plan: &CheckedPlan, probes: &[Probe]) -> Calendar
     ensures { IsCalendarOf plan.now.end probes.now result }
 {
     plan.laws();
-    let mut calendar = Calendar::new();
+    let mut calendar = Calendar::new(probes.len());
     for i in 0..probes.len() {
         calendar.put(i, probes[i].until.min(plan.end));
     }

@@ -1,8 +1,9 @@
 //! The trace of a run: what happened to each node, a line for each event.
-ghost use Rattle.std.specs.Prelude.{◌≡◌, ◌+◌, ◌-◌, ◌<◌, ◌≤◌, ◌^◌, ◌++◌, OnOk, IfOk, length, string_bytes};
+ghost use Rattle.std.specs.Prelude.{◌≡◌, ◌+◌, ◌-◌, ◌<◌, ◌≤◌, ◌++◌, OnOk, IfOk, length, string_bytes};
 ghost use Rattle.std.specs.List.{All};
 ghost use Rattle.std.specs.Fmt.{decimal};
 ghost use Rattle.arrayvec.specs.ArrayString.{array_string_len};
+ghost use Rattle.wl_node.specs.Limits.{most_run_quanta};
 ghost use Rattle.wl_report.specs.Lines.{GrowsBy};
 ghost use Rattle.wl_serial.specs.Outcome.{outcome_of};
 ghost use Rattle.wl_level.specs.ByTick.{by_tick};
@@ -203,7 +204,7 @@ fn push_told(
     i: usize,
     events: &[Noted],
 ) -> Result<(), AllocError>
-    requires { All (λ n. n.quantum ≤ 2 ^ 21) events.now }
+    requires { All (λ n. n.quantum ≤ most_run_quanta) events.now }
     ensures { OnOk result (told.new.items ≡ told.old.items ++ told_by clock.now i events.now) }
 {
     for noted in events {

@@ -11,6 +11,7 @@ use Rattle.wl_record_core.specs.Truth.{count_below}
 use Rattle.wl_record_core.specs.TableLaws.{TableLaws}
 use Rattle.wl_node.specs.declared.setup.NodeSetup.{NodeSetup}
 use Rattle.wl_plan.specs.declared.plan.Plan.{Plan}
+use Rattle.wl_plan.specs.declared.limits.TheConstants.{MOST_QUANTA}
 use Rattle.wl_plan.specs.Limits.{most_quanta, most_quanta-is}
 use Rattle.wl_plan.specs.Line.{Line}
 use Rattle.wl_plan.specs.Sound.{IsCausal, IsSound}
@@ -37,7 +38,7 @@ quotient_small n k =
     omega arith
 
 -- few quanta of a node begin before the end
-pub few_quanta : (plan : Plan) → IsSound (line_of plan) → (i q : ℕ) (x : NodeSetup) → x ≡ setup_at plan i → i < length plan.nodes → ((k : ℕ) → k < q → tick_of x.clock k < plan.end) → q ≤ 1048576
+pub few_quanta : (plan : Plan) → IsSound (line_of plan) → (i q : ℕ) (x : NodeSetup) → x ≡ setup_at plan i → i < length plan.nodes → ((k : ℕ) → k < q → tick_of x.clock k < plan.end) → q ≤ MOST_QUANTA
 few_quanta plan sound i q x e b before =
     let f = few_at plan sound i q b (λ k low. subst (λ (s : NodeSetup). tick_of s.clock k < plan.end) e (before k low)) in omega (arith, most_quanta-is)
 

@@ -11,6 +11,7 @@ use Rattle.wl_record_core.specs.declared.record.Slot.TheVariants.{EdgeAt, Silenc
 use Rattle.wl_replica.specs.Keys.{Key}
 use Rattle.wl_replica.specs.State.{edge_at, silence_at, state_of}
 use Rattle.wl_replica.specs.Laws.{JoinsSlotBySlot}
+use Rattle.wl_plan.specs.declared.limits.TheConstants.{MOST_QUANTA}
 use Rattle.wl_plan.specs.declared.plan.Plan.{Plan}
 use Rattle.wl_plan.specs.PlanLine.{setup_at}
 use Rattle.wl_plan.specs.Checked.{IsChecked, CheckedIsSound}
@@ -122,10 +123,23 @@ module _ (laws : JoinsSlotBySlot) (hub : Hub PlanName) (before after : Pass Plan
   pub others_left : ((j : ℕ) → i ≤ j → slice_index handed j ≡ slice_index was j) → (j : ℕ) → i + 1 ≤ j → slice_index (slice_set handed i m) j ≡ slice_index was j
   others_left left j high = let ne : j ≢ i = omega arith in get_or-set_other handed i j m 0 ne ∙ left j (omega arith)
 
+-- of a number that is no node the hub has no word
+pub no_node_handed : JoinsSlotBySlot → (hub : Hub PlanName) (before after : Pass PlanName) (plan : Plan) → IsOfPlan hub before plan → (old new : GroupValue) → Took old new
+    → (was handed : List ℕ) (i : ℕ) → length plan.nodes ≤ i → slice_index handed i ≡ slice_index was i → IsHanded hub after was handed old new i
+no_node_handed laws hub before after plan of old new t was handed i high same out had = record {
+  changes = changes_stay laws old new t i (slice_index handed i) (subst (HasChanges old i) (sym same) had);
+  no_more = λ word.
+      let none = get_or_past (map (λ (w : ℕ × ℕ). w.0) (shape_of hub)) i 0 (let e = of.words.all in let l = length-map (shape_of hub) (λ (w : ℕ × ℕ). w.0) in omega arith) in
+      absurd (omega arith);
+  silence = λ word.
+      let none = get_or_past (map (λ (w : ℕ × ℕ). w.1) (shape_of hub)) i 0 (let e = of.words.all in let l = length-map (shape_of hub) (λ (w : ℕ × ℕ). w.1) in omega arith) in
+      absurd (omega arith);
+}
+
 -- ---- the words of a plan's hub
 
 width_small : CheckedIsSound → (plan : Plan) (shape : List (ℕ × ℕ)) → IsChecked plan → IsShapeOf plan shape → (i : ℕ) → i < length plan.nodes
-    → (slice_index_or shape i (0, 0)).0 ≤ 1048577
+    → (slice_index_or shape i (0, 0)).0 ≤ MOST_QUANTA + 1
 width_small sounds plan shape is words i low =
     let w = words.each i low in
     let few = few_quanta plan (sounds plan is) i w.quanta (setup_at plan i) refl low w.least in

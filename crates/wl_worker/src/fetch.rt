@@ -211,7 +211,8 @@ pub(crate) fn learn_all(
     taking_laws();
     states_join_slot_by_slot();
     let mut came = false;
-    for node in 0..MOST_NODES as u8 {
+    let nodes = group.plan().nodes();
+    for node in 0..nodes {
         let taken = learn_node(hub, pass, group, node, &mut handed[node as usize])?;
         came = either(came, taken);
     }

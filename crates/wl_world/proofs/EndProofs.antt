@@ -5,6 +5,7 @@ use Rattle.std.proofs.lemmas.Bool.{cases_lt, cond-true, eq-eqb, eqb-true, false�
 use Rattle.std.proofs.lemmas.Option.{slice_get_within}
 use Rattle.wl_plan.specs.Limits.{most_quanta, most_quanta-is}
 use Rattle.wl_plan.specs.declared.limits.TheConstants.{MOST_QUANTA}
+use Rattle.wl_record_core.specs.declared.limits.TheConstants.{MOST_NODES}
 use Rattle.wl_record_core.specs.Limits.{most_nodes-is}
 use Rattle.wl_plan.specs.Line.{Line}
 use Rattle.wl_plan.specs.Simulation.{ran}
@@ -100,10 +101,10 @@ module _ (laws : GroupingLaws) (sims : SimulationLaws) where
       let f = few_run (line_of v.plan) s n (omega arith) in
       grind arith)
 
-  pub left_few : (v : WorldValue) → IsSound (line_of v.plan) → quanta_left_of v < 2 ^ 32
+  pub left_few : (v : WorldValue) → IsSound (line_of v.plan) → quanta_left_of v < 2 ^ 37
   left_few v s =
       let all : quanta_left_of v ≤ length v.plan.nodes * MOST_QUANTA = subst (λ n. quanta_left_of v ≤ length v.plan.nodes * n) most_quanta-is (few_left v s (length v.plan.nodes) (omega arith)) in
-      let nodes : length v.plan.nodes ≤ 16 = subst (λ n. length v.plan.nodes ≤ n) most_nodes-is s.few_nodes in
+      let nodes : length v.plan.nodes ≤ MOST_NODES = subst (λ n. length v.plan.nodes ≤ n) most_nodes-is s.few_nodes in
       omega arith
 
   -- the end is that of the scene

@@ -12,7 +12,7 @@ use Rattle.wl_clock.specs.Timing.{IsRate, IsTiming}
 use Rattle.wl_topology.specs.Delays.{Cable, place_at, propagation_of}
 use Rattle.wl_topology.specs.Driven.{any_below}
 use Rattle.wl_topology.proofs.Callers.{any_from}
-use Rattle.wl_sync.specs.Edges.{Seen}
+use Rattle.wl_sync.specs.declared.Seen.{Seen}
 use Rattle.wl_sync.specs.Running.{Running}
 use Rattle.wl_sync.specs.Steps.{running_sync}
 use Rattle.wl_plan.specs.declared.plan.Plan.{Plan}

@@ -251,7 +251,7 @@ module _ (m : MachineLaws) (s : Stations) (are : AreStations s) (room : HaveRoom
         (let up = samples_up a n i inside below in
         let l = (are.line.book i inside).lengths in
         let long = l.low in
-        let jump = l.sjw_high in
+        let jump = l.sjw_half in
         let one = place_up m.steps m.errors m.winner m.stuffed m.six m.ten m.driven s are room o is end valid n i in
         omega arith)
   ]
@@ -260,7 +260,7 @@ module _ (m : MachineLaws) (s : Stations) (are : AreStations s) (room : HaveRoom
   sample_more n i inside =
       let l = (are.line.book i inside).lengths in
       let long = l.low in
-      let jump = l.sjw_high in
+      let jump = l.sjw_half in
       let one = place_up m.steps m.errors m.winner m.stuffed m.six m.ten m.driven s are room o is end valid n i in
       omega arith
 

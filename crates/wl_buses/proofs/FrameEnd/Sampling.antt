@@ -8,7 +8,7 @@ use Rattle.wl_confine.specs.declared.Happened.{Happened}
 use Rattle.wl_confine.specs.declared.Mode.TheVariants.{Active}
 use Rattle.wl_confine.specs.Counts.{counts_after, counts_of, mode_of, no_counts}
 use Rattle.wl_sync.specs.declared.Beat.TheVariants.{Sample}
-use Rattle.wl_sync.specs.Edges.{Seen}
+use Rattle.wl_sync.specs.declared.Seen.{Seen}
 use Rattle.wl_sync.specs.Bits.{beat_of}
 use Rattle.wl_sync.specs.Running.{clock_after}
 use Rattle.wl_machine.specs.Stretch.{Judgement, Sampled, Stretch}
@@ -16,7 +16,7 @@ use Rattle.wl_machine.specs.Stretch.Input.{Sample as Given}
 use Rattle.wl_machine.specs.Judged.{awaits_start, is_idle_sort, judged, stretch_after, stretch_of}
 use Rattle.wl_machine.proofs.Callers.{stretch_next}
 use Rattle.wl_node.specs.declared.setup.NodeSetup.{NodeSetup}
-use Rattle.wl_node.specs.History.{History, by_beat, passed_frames, sampled_next, switched_off}
+use Rattle.wl_node.specs.History.{is_integration, History, by_beat, passed_frames, sampled_next, switched_off}
 use Rattle.wl_phase.specs.InStep.{seen_before}
 use Rattle.wl_wire.specs.InStep.{is_fine}
 use Rattle.wl_wire.proofs.Callers.{fine_counts}
@@ -67,7 +67,7 @@ module _ (setup : NodeSetup) (levels : ℕ → Level) (node : ℕ → History) (
   pub after_start : (q : ℕ) → F < q → v q ≡ wants s o (suc n) i
   after_start q more = ap (λ b. cond b (wants s o n i) (wants s o (suc n) i)) (lt-leb q F more)
 
-  pub new_there : (q : ℕ) → S < q → sees q ≡ record { level = levels q; idle = is_idle_sort X.sort; awaits = awaits_start X; driving = v q }
+  pub new_there : (q : ℕ) → S < q → sees q ≡ record { level = levels q; idle = is_idle_sort X.sort; awaits = awaits_start X; integrates = is_integration X.sort; driving = v q }
   new_there = expected_new setup levels node run (s.lengths i) segments S S' X v at.stretch first
 
   -- between its samples of a bit and of the next one nothing is sampled
@@ -115,8 +115,9 @@ module _ (setup : NodeSetup) (levels : ℕ → Level) (node : ℕ → History) (
             let stretch : X ≡ stretch_of (node S').inputs = stretch_at in
             let idle : is_idle_sort X.sort ≡ is_idle_sort (stretch_of (node S').inputs).sort = ap (λ y. is_idle_sort y.sort) stretch in
             let awaits : awaits_start X ≡ awaits_start (stretch_of (node S').inputs) = ap awaits_start stretch in
+            let integrates : is_integration X.sort ≡ is_integration (stretch_of (node S').inputs).sort = ap (λ y. is_integration y.sort) stretch in
             let driving : v S' ≡ is_dominant (node S').drive = sym (ap is_dominant last.drive ∙ level_back (v S')) in
-            new_there S' longer ∙ (λ j. record { level = levels S'; idle = idle j; awaits = awaits j; driving = driving j })
+            new_there S' longer ∙ (λ j. record { level = levels S'; idle = idle j; awaits = awaits j; integrates = integrates j; driving = driving j })
 
     beat : beat_of setup.segments (seen_before (clock_sees levels node) S') (clock_sees levels node S') ≡ Sample lv
     beat =

@@ -6,7 +6,7 @@ use Rattle.wl_level.specs.declared.Level.TheVariants.{Dominant, Recessive}
 use Rattle.wl_level.specs.Levels.{level_of}
 use Rattle.wl_segments.specs.Lengths.{Lengths, bit_quanta, sample_at}
 use Rattle.wl_sync.specs.declared.Beat.TheVariants.{Sample}
-use Rattle.wl_sync.specs.Edges.{Seen}
+use Rattle.wl_sync.specs.declared.Seen.{Seen}
 use Rattle.wl_sync.specs.Running.{clock_after}
 use Rattle.wl_sync.specs.Skips.{steady_clock}
 use Rattle.wl_topology.specs.Driven.{driven}
@@ -73,7 +73,7 @@ module _ (m : MachineLaws) (s : Stations) (are : AreStations s) (room : HaveRoom
   sample_later : S n < S (suc n)
   sample_later =
       let long = book.lengths.low in
-      let jump = book.lengths.sjw_high in
+      let jump = book.lengths.sjw_half in
       let up = place_up m.steps m.errors m.winner m.stuffed m.six m.ten m.driven s are room o is end valid n i in
       omega arith
 

@@ -1,7 +1,7 @@
 -- Where a bit clock begins the bit that it samples next.
 use Rattle.std.proofs.Common.{◌≡◌, ◌∙◌, ◌⊎◌, ap, sym, subst, inl, inr, refl, ℕ, zero, suc, ◌+◌, ◌-◌, ◌<◌, ◌≤◌, ◌&&◌, ◌||◌, max, Bool, true, false, cond, Some, None, Option, arith}
 use Rattle.std.specs.Prelude.{ℤ, ◌==◌}
-use Rattle.std.proofs.lemmas.Bool.{and_parts, and_right, cases_Bool, cases_eq, cases_lt, eq-eqb, le-ltb, lt-leb, lt-ltb, ne_eqb, not-true}
+use Rattle.std.proofs.lemmas.Bool.{and_right, cases_Bool, cases_eq, cases_lt, eq-eqb, le-ltb, lt-leb, lt-ltb, ne_eqb}
 use Rattle.wl_level.specs.declared.Level.{Level}
 use Rattle.wl_segments.specs.declared.SyncRules.{SyncRules}
 use Rattle.wl_segments.specs.declared.SyncRules.TheVariants.{After, Book}
@@ -10,14 +10,15 @@ use Rattle.wl_sync.specs.declared.Sync.{Sync}
 use Rattle.wl_sync.specs.declared.Sync.TheVariants.{Error, Hard}
 use Rattle.wl_sync.specs.declared.Beat.{Beat}
 use Rattle.wl_sync.specs.declared.Beat.TheVariants.{Plain, Sample, Start}
-use Rattle.wl_sync.specs.Edges.{Seen, edge_restarts, is_hard_edge, phase_error}
+use Rattle.wl_sync.specs.declared.Seen.{Seen}
+use Rattle.wl_sync.specs.Edges.{edge_restarts, is_hard_edge, phase_error}
 use Rattle.wl_sync.specs.Bits.{beat_of, sync_of}
 use Rattle.wl_sync.specs.Running.{Running, clock_after}
 use Rattle.wl_sync.specs.Skips.{moved_place, quanta_before_sample}
 use Rattle.wl_sync.specs.Steps.{beat_between, end_of, running_after, running_answer, running_first, running_moved, running_on, running_over, running_passed, running_placed, running_restart, running_sync, samples}
 use Rattle.wl_phase.specs.Ways.{ByTheBook, WayLaws, moved_to}
 use Rattle.wl_phase.specs.InStep.{SyncsHard, seen_before}
-use Rattle.wl_phase.proofs.Callers.{Goes, IsValid, answer_not, beat_is, edge_is, late, late_is, late_over, moved_is, none_is, sync_is, zero_is, found_one, way_before, way_past, valid_at}
+use Rattle.wl_phase.proofs.Callers.{Goes, IsValid, answer_not, beat_is, edge_is, late, late_is, late_over, moved_is, none_is, sync_is, zero_is, found_one, way_before, way_past, valid_at, going_soft, sync_fresh}
 use Rattle.wl_buses.specs.OneFrame.Clocked.{BitStartLaws, NoneSyncs, SamplesBy, StartsOnce}
 use Rattle.wl_buses.proofs.OneFrame.Clocked.{after_sample, hard_way, later, none_before, none_of, sample_there, unsampled_at, way, way_is, way_alone}
 
@@ -110,7 +111,7 @@ module _ (r : Running) (x : Seen) (h : IsValid r) where
 
   synced_by : IsPast r → running_sync r x ≡ true → running_restart r x ≡ false → Either new beat
   synced_by past f g =
-      let fresh : r.synced ≡ false = not-true r.synced (and_parts _ _ f).1 in
+      let fresh : r.synced ≡ false = sync_fresh r x f (going_soft r x f g) in
       let none = h.fresh_longer fresh in
       subst (λ q. Either q (beat_between (running_restart r x) r q x.level)) (sym (moved_is r x h.lengths.book f g))
       (subst (λ b. Either (running_over Book r (running_moved r true false x.level) false x.level) (beat_between b r (running_over Book r (running_moved r true false x.level) false x.level) x.level)) (sym g)
@@ -148,7 +149,7 @@ module _ (r : Running) (x : Seen) (h : IsValid r) where
   pub begun_step : r.quanta ≤ moved_place r → running_restart r x ≡ false → beat ≡ Start → ⊥
   begun_step before g start = elim (cases_Bool (running_sync r x)) [
     | inl f ↦
-        (let fresh : r.synced ≡ false = not-true r.synced (and_parts _ _ f).1 in
+        (let fresh : r.synced ≡ false = sync_fresh r x f (going_soft r x f g) in
         let none = h.fresh_longer fresh in
         let small : r.quanta ≤ sample_at r.lengths = omega arith in
         let e : new ≡ late r x = moved_is r x h.lengths.book f g ∙ ap (λ q. running_over Book r q false x.level) (late_is r x h small) ∙ late_over r x h small in
@@ -275,7 +276,8 @@ module _ (goes : Goes) (ways : WayLaws) (l : Lengths) (book : ByTheBook l) (seen
       ap (λ b. b && edge_restarts l (seen i) (clock i).quanta) (answer_not (clock i) (seen i) (valid i) (sym (answer_there i) ∙ none))
   soft_on i before (inr soft) = elim (cases_Bool (running_sync (clock i) (seen i))) [
     | inl f ↦
-        (let fresh : (clock i).synced ≡ false = not-true (clock i).synced (and_parts _ _ f).1 in
+        (let soft_edge = soft_hard (clock i) (seen i) soft.0 (sym (answer_there i) ∙ soft.1) in
+        let fresh : (clock i).synced ≡ false = sync_fresh (clock i) (seen i) f soft_edge in
         let none = (valid i).fresh_longer fresh in
         and_right (running_sync (clock i) (seen i)) (edge_restarts l (seen i) (clock i).quanta)
         (late_on (clock i) (seen i) (soft_hard (clock i) (seen i) soft.0 (sym (answer_there i) ∙ soft.1)) (omega arith)))

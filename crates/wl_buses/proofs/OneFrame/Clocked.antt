@@ -5,7 +5,7 @@ use Rattle.std.proofs.lemmas.Bool.{cases_lt, eq-eqb, ne_eqb}
 use Rattle.wl_level.specs.declared.Level.{Level}
 use Rattle.wl_segments.specs.Lengths.{Lengths, sample_at, bit_quanta}
 use Rattle.wl_sync.specs.declared.Sync.TheVariants.{Error}
-use Rattle.wl_sync.specs.Edges.{Seen}
+use Rattle.wl_sync.specs.declared.Seen.{Seen}
 use Rattle.wl_sync.specs.Bits.{beat_of, sync_of}
 use Rattle.wl_sync.specs.Running.{clock_after}
 use Rattle.wl_sync.specs.Skips.{quanta_before_sample}
@@ -151,7 +151,7 @@ module _ (ways : WayLaws) (l : Lengths) (book : ByTheBook l) (seen : ℕ → See
     pub sample_there : suc found + way (suc found) ≡ new + sample_at l
     sample_there =
         let long = book.lengths.low in
-        let jump = book.lengths.sjw_high in
+        let jump = book.lengths.sjw_half in
         let a = book.lengths.prop_low in
         let b = book.lengths.ps1_low in
         let c = book.lengths.sjw_low in

@@ -8,7 +8,8 @@ use Rattle.wl_segments.specs.Lengths.{Lengths, bit_quanta, sample_at}
 use Rattle.wl_sync.specs.declared.Sync.{Sync}
 use Rattle.wl_sync.specs.declared.Sync.TheVariants.{Error, Hard}
 use Rattle.wl_sync.specs.declared.Beat.TheVariants.{Plain}
-use Rattle.wl_sync.specs.Edges.{Seen, is_hard_edge, phase_error}
+use Rattle.wl_sync.specs.declared.Seen.{Seen}
+use Rattle.wl_sync.specs.Edges.{is_hard_edge, phase_error}
 use Rattle.wl_sync.specs.Bits.{beat_of, sync_of}
 use Rattle.wl_sync.specs.Running.{Running, clock_after}
 use Rattle.wl_sync.specs.Skips.{moved_place, quanta_before_sample, steady_clock}

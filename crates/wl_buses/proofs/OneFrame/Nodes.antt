@@ -13,7 +13,7 @@ use Rattle.wl_confine.specs.Counts.{counts_after, counts_of, mode_of, no_counts}
 use Rattle.wl_segments.specs.Lengths.{Lengths}
 use Rattle.wl_sync.specs.declared.Beat.{Beat}
 use Rattle.wl_sync.specs.declared.Beat.TheVariants.{Plain, Sample, Start}
-use Rattle.wl_sync.specs.Edges.{Seen}
+use Rattle.wl_sync.specs.declared.Seen.{Seen}
 use Rattle.wl_sync.specs.Bits.{beat_of}
 use Rattle.wl_sync.specs.Running.{clock_after}
 use Rattle.wl_topology.specs.Driven.{driven}
@@ -30,7 +30,7 @@ use Rattle.wl_machine.specs.Judged.{awaits_start, drive_of, is_idle_sort, judged
 use Rattle.wl_machine.specs.States.{stretch_by}
 use Rattle.wl_machine.proofs.Callers.{stretch_next}
 use Rattle.wl_node.specs.declared.setup.NodeSetup.{NodeSetup}
-use Rattle.wl_node.specs.History.{History, by_beat, sampled_next, switched_off}
+use Rattle.wl_node.specs.History.{History, by_beat, sampled_next, switched_off, is_integration}
 use Rattle.wl_phase.specs.Clocks.{steady_tick}
 use Rattle.wl_phase.specs.InStep.{seen_before}
 use Rattle.wl_wire.specs.InStep.{is_fine}
@@ -123,7 +123,7 @@ module _ (setup : NodeSetup) (levels : ℕ → Level) (node : ℕ → History) (
   module _ (l : Lengths) (segments : setup.segments ≡ l) (R S' : ℕ) (X : Stretch) (drives : ℕ → Bool)
       (stretch_first : stretch_of (node (suc R)).inputs ≡ X) (drive_first : (node (suc R)).drive ≡ level_of (drives (suc R))) where
     abbrev later : ℕ → Seen
-    later q = record { level = levels q; idle = is_idle_sort X.sort; awaits = awaits_start X; driving = drives q }
+    later q = record { level = levels q; idle = is_idle_sort X.sort; awaits = awaits_start X; integrates = is_integration X.sort; driving = drives q }
 
     -- what it is expected to see
     pub expected : ℕ → Seen
@@ -160,8 +160,9 @@ module _ (setup : NodeSetup) (levels : ℕ → Level) (node : ℕ → History) (
           let stretch : X ≡ stretch_of (node q).inputs = sym (ap stretch_of x.inputs ∙ stretch_first) in
           let idle : is_idle_sort X.sort ≡ is_idle_sort (stretch_of (node q).inputs).sort = ap (λ y. is_idle_sort y.sort) stretch in
           let awaits : awaits_start X ≡ awaits_start (stretch_of (node q).inputs) = ap awaits_start stretch in
+          let integrates : is_integration X.sort ≡ is_integration (stretch_of (node q).inputs).sort = ap (λ y. is_integration y.sort) stretch in
           let driving : drives q ≡ is_dominant (node q).drive = sym (ap is_dominant x.drive ∙ level_back (drives q)) in
-          expected_new q more ∙ (λ j. record { level = levels q; idle = idle j; awaits = awaits j; driving = driving j })
+          expected_new q more ∙ (λ j. record { level = levels q; idle = idle j; awaits = awaits j; integrates = integrates j; driving = driving j })
 
       beat_there : (q : ℕ) (b : Beat) → R < q → Same q → beat_at q ≡ b → beat_of setup.segments (seen_before sees q) (sees q) ≡ b
       beat_there q b more x e =
@@ -283,7 +284,7 @@ module _ (setup : NodeSetup) (levels : ℕ → Level) (node : ℕ → History) (
   abbrev pub sees_in : ℕ → Seen
   sees_in = expected setup levels node run (s.lengths i) segments S S' X drives at.stretch drive_first
 
-  abbrev new_in : (q : ℕ) → S < q → sees_in q ≡ record { level = levels q; idle = is_idle_sort X.sort; awaits = awaits_start X; driving = drives q }
+  abbrev new_in : (q : ℕ) → S < q → sees_in q ≡ record { level = levels q; idle = is_idle_sort X.sort; awaits = awaits_start X; integrates = is_integration X.sort; driving = drives q }
   new_in = expected_new setup levels node run (s.lengths i) segments S S' X drives at.stretch drive_first
 
   pub sees_expected : awaits_start X ≡ false → (length : ℕ)

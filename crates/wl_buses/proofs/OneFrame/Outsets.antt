@@ -10,7 +10,7 @@ use Rattle.wl_confine.specs.declared.Happened.TheVariants as happens
 use Rattle.wl_segments.specs.Lengths.{Lengths, bit_quanta, sample_at}
 use Rattle.wl_sync.specs.declared.Beat.{Beat}
 use Rattle.wl_sync.specs.declared.Beat.TheVariants.{Plain, Sample, Start}
-use Rattle.wl_sync.specs.Edges.{Seen}
+use Rattle.wl_sync.specs.declared.Seen.{Seen}
 use Rattle.wl_sync.specs.Bits.{beat_of}
 use Rattle.wl_sync.specs.Running.{clock_after}
 use Rattle.wl_sync.specs.Skips.{steady_clock}
@@ -26,7 +26,7 @@ use Rattle.wl_machine.specs.Judged.{awaits_by, awaits_start, is_idle_sort, judge
 use Rattle.wl_machine.specs.States.{stretch_by}
 use Rattle.wl_machine.proofs.Callers.{stretch_next}
 use Rattle.wl_node.specs.declared.setup.NodeSetup.{NodeSetup}
-use Rattle.wl_node.specs.History.{History}
+use Rattle.wl_node.specs.History.{is_integration, History}
 use Rattle.wl_phase.specs.Clocks.{steady_tick}
 use Rattle.wl_phase.specs.Ways.{ByTheBook, WayLaws}
 use Rattle.wl_phase.specs.InStep.{seen_before}
@@ -184,7 +184,7 @@ module _ (steps : StayInStep) (errors : FindNoErrors) (winner : LeastWins) (stuf
     abbrev Later : ℕ → Type 0
     Later = Passes setup levels node run l segments R last X drives r.stretch drive_first
 
-    new_in : (q : ℕ) → R < q → exp q ≡ record { level = levels q; idle = is_idle_sort X.sort; awaits = awaits_start X; driving = drives q }
+    new_in : (q : ℕ) → R < q → exp q ≡ record { level = levels q; idle = is_idle_sort X.sort; awaits = awaits_start X; integrates = is_integration X.sort; driving = drives q }
     new_in = expected_new setup levels node run l segments R last X drives r.stretch drive_first
 
     old_in : (k : ℕ) → k ≤ suc R → seen_before exp k ≡ seen_before (clock_sees levels node) k
@@ -357,7 +357,7 @@ module _ (steps : StayInStep) (errors : FindNoErrors) (winner : LeastWins) (stuf
     abbrev exp_hard : ℕ → Seen
     exp_hard = exp rests_hard from_last_hard
 
-    new_hard : (q : ℕ) → R < q → exp_hard q ≡ record { level = levels q; idle = is_idle_sort X.sort; awaits = awaits_start X; driving = drives q }
+    new_hard : (q : ℕ) → R < q → exp_hard q ≡ record { level = levels q; idle = is_idle_sort X.sort; awaits = awaits_start X; integrates = is_integration X.sort; driving = drives q }
     new_hard = new_in rests_hard from_last_hard
 
     silent_seen : (q : ℕ) → R < q → q < h.found → (exp_hard q).level ≡ Recessive

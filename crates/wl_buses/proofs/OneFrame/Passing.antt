@@ -238,7 +238,7 @@ module _ (s : Stations) (are : AreStations s) (room : HaveRoom s) (bits : â„• â†
     place_up i inside (inr soft) =
         let l = (are.line.book i inside).lengths in
         let long = l.low in
-        let jump = l.sjw_high in
+        let jump = l.sjw_half in
         let up = moves_up (soft.found - 1) (s.lengths i).sjw ((bits (suc n)).due i) ((bits n).place i) (bit_quanta (s.lengths i)) (is.due n i inside) (omega arith) in
         let e = soft.place in
         omega arith

@@ -7,7 +7,7 @@ use Rattle.wl_level.specs.declared.Level.TheVariants.{Dominant, Recessive}
 use Rattle.wl_level.specs.Levels.{level_of}
 use Rattle.wl_segments.specs.Lengths.{Lengths, bit_quanta, sample_at}
 use Rattle.wl_sync.specs.declared.Beat.TheVariants.{Sample}
-use Rattle.wl_sync.specs.Edges.{Seen}
+use Rattle.wl_sync.specs.declared.Seen.{Seen}
 use Rattle.wl_sync.specs.Running.{clock_after}
 use Rattle.wl_sync.specs.Skips.{steady_clock}
 use Rattle.wl_topology.specs.Driven.{DrivenLaws, driven}
@@ -114,7 +114,7 @@ module _ (steps : StayInStep) (errors : FindNoErrors) (winner : LeastWins) (stuf
   place_later m (suc n) i inside less =
       (let l = (are.line.book i inside).lengths in
       let long = l.low in
-      let jump = l.sjw_high in
+      let jump = l.sjw_half in
       let up = place_up n i in
       elim (cases_lt (suc m) n) [
         | inl more ↦ (let before = place_later m n i inside more in omega arith)
@@ -256,7 +256,7 @@ module _ (steps : StayInStep) (errors : FindNoErrors) (winner : LeastWins) (stuf
     sample_later : S n i < S (suc n) i
     sample_later =
         let long = book.lengths.low in
-        let jump = book.lengths.sjw_high in
+        let jump = book.lengths.sjw_half in
         let up = place_up n i in
         omega arith
 

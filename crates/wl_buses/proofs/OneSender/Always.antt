@@ -422,7 +422,7 @@ module _ (laws : Laws) (stay : StayLaws) (b : SenderBus) (stuffed : ℕ → List
           let soon = from_soon in
           let high = at_slot.high in
           let d = ep.due in
-          let jump = (is.book a is.sender).lengths.sjw_high in
+          let jump = (is.book a is.sender).lengths.sjw_half in
           let many = (is.book a is.sender).lengths.low in
           let few = (is.book a is.sender).lengths.ps2_low in
           let bits : suc (length (stuffed n)) * B a ≡ length (stuffed n) * B a + B a = omega arith in

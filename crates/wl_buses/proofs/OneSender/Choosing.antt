@@ -5,7 +5,7 @@ use Rattle.std.proofs.lemmas.Bool.{cases_lt, cases_eq, eq-eqb, ne_eqb}
 use Rattle.wl_level.specs.declared.Level.{Level}
 use Rattle.wl_level.specs.declared.Level.TheVariants.{Recessive}
 use Rattle.wl_segments.specs.Lengths.{Lengths, sample_at, bit_quanta}
-use Rattle.wl_sync.specs.Edges.{Seen}
+use Rattle.wl_sync.specs.declared.Seen.{Seen}
 use Rattle.wl_frame.specs.Grammar.{Content}
 use Rattle.wl_phase.specs.Clocks.{Finds, Steady, IsSteady, steady_tick}
 use Rattle.wl_phase.specs.Ways.{ByTheBook}

@@ -67,16 +67,16 @@ module _ (u ad an jd jn la ha lj hj : ℕ) (some : 0 < u) (a_low : la * ad ≤ u
       let done = le_of_mul-le-mul_left all some in
       omega arith
 
-  pub jump_fits : (A B w : ℕ) → w ≤ A → A * ha ≤ B * lj + w * ha → jd * (A * an) ≤ B * (ad * jn) + w * (jd * an)
+  pub jump_fits : (A B w : ℕ) → w ≤ 10 * A → 10 * (A * ha) ≤ 10 * (B * lj) + w * ha → 10 * (jd * (A * an)) ≤ 10 * (B * (ad * jn)) + w * (jd * an)
   jump_fits A B w few h =
-      let e : A - w + w ≡ A = omega arith in
-      let x = bit_high (A - w) in
-      let y = quanta_low B in
-      let all_bits : (A - w + w) * (jd * an) ≡ A * (jd * an) = ap (λ n. n * (jd * an)) e in
-      let all_long : (A - w + w) * ha ≡ A * ha = ap (λ n. n * ha) e in
-      let less : (A - w) * ha ≤ B * lj = omega arith in
-      let g : ad * jd * ((A - w) * ha) ≤ ad * jd * (B * lj) = mul-le-mul_left (ad * jd) less in
-      let all : u * ((A - w) * (jd * an)) ≤ u * (B * (ad * jn)) = omega arith in
+      let e : 10 * A - w + w ≡ 10 * A = omega arith in
+      let x = bit_high (10 * A - w) in
+      let y = quanta_low (10 * B) in
+      let all_bits : (10 * A - w + w) * (jd * an) ≡ 10 * A * (jd * an) = ap (λ n. n * (jd * an)) e in
+      let all_long : (10 * A - w + w) * ha ≡ 10 * A * ha = ap (λ n. n * ha) e in
+      let less : (10 * A - w) * ha ≤ 10 * B * lj = omega arith in
+      let g : ad * jd * ((10 * A - w) * ha) ≤ ad * jd * (10 * B * lj) = mul-le-mul_left (ad * jd) less in
+      let all : u * ((10 * A - w) * (jd * an)) ≤ u * (10 * B * (ad * jn)) = omega arith in
       let done = le_of_mul-le-mul_left all some in
       omega arith
 
@@ -223,7 +223,8 @@ module _ (t : Tolerance) (b : SenderBus) (is : IsBus b) (within : IsWithinTolera
         rest_fits t.units (den a) (num a) (den j) (num j) (t.shortest a) (t.longest a) (t.shortest j) (t.longest j) within.some
         (within.fastest a is.sender) (within.slowest a is.sender) (within.fastest j p.0) (within.slowest j p.0)
 
-    jump_at : (A B w : ℕ) → w ≤ A → A * t.longest a ≤ B * t.shortest j + w * t.longest a → den j * (A * num a) ≤ B * (den a * num j) + w * (den j * num a)
+    jump_at : (A B w : ℕ) → w ≤ 10 * A → 10 * (A * t.longest a) ≤ 10 * (B * t.shortest j) + w * t.longest a
+        → 10 * (den j * (A * num a)) ≤ 10 * (B * (den a * num j)) + w * (den j * num a)
     jump_at =
         jump_fits t.units (den a) (num a) (den j) (num j) (t.shortest a) (t.longest a) (t.shortest j) (t.longest j) within.some
         (within.fastest a is.sender) (within.slowest a is.sender) (within.fastest j p.0) (within.slowest j p.0)
@@ -393,14 +394,13 @@ module _ (t : Tolerance) (b : SenderBus) (is : IsBus b) (within : IsWithinTolera
     near = λ j p. record {
       slow = slow_at j p (bit_quanta (lengths_of b b.sender)) (bit_quanta (lengths_of b j)) (lengths_of b j).sjw (fit.slow j p);
       fast =
-          (let low = (is.book j p.0).lengths.sjw_high in
+          (let low = (is.book j p.0).lengths.sjw_half in
           let many = (is.book j p.0).lengths.low in
           let f = fit.fast j p in
           let h = rest_at j p (bit_quanta (lengths_of b b.sender)) (bit_quanta (lengths_of b j)) (lengths_of b j).sjw 0 (omega arith) (omega arith) in
           omega arith);
       sample =
-          (let low = (is.book j p.0).lengths.ps2_high in
-          let many = (is.book j p.0).lengths.low in
+          (let many = (is.book j p.0).lengths.low in
           let f = fit.sample j p in
           let h = rest_at j p (bit_quanta (lengths_of b b.sender)) (bit_quanta (lengths_of b j)) (lengths_of b j).ps2 1 (omega arith) (omega arith) in
           omega arith);
@@ -409,7 +409,7 @@ module _ (t : Tolerance) (b : SenderBus) (is : IsBus b) (within : IsWithinTolera
       late = (let e = ends_at j p (bit_quanta (lengths_of b b.sender)) (bit_quanta (lengths_of b j)) (sample_at (lengths_of b b.sender)) (b.line.delay b.sender j + b.line.delay j b.sender) 11 (fit.ends_there j p) in omega arith);
       early = early_at (bit_quanta (lengths_of b b.sender)) (bit_quanta (lengths_of b j)) (lengths_of b b.sender).ps2 (b.line.delay b.sender j + b.line.delay j b.sender) j p (fit.after_sample j p);
       jump =
-          (let low = (is.book a is.sender).lengths.sjw_high in
+          (let low = (is.book a is.sender).lengths.sjw_half in
           let many = (is.book a is.sender).lengths.low in
           jump_at j p (bit_quanta (lengths_of b b.sender)) (bit_quanta (lengths_of b j)) (lengths_of b b.sender).sjw (omega arith) (fit.jump j p));
     };

@@ -1,5 +1,5 @@
 -- A bit clock that no edge moves, one quantum later.
-use Rattle.std.proofs.Common.{◌≡◌, ◌≢◌, ◌∙◌, ◌⊎◌, inl, inr, refl, sym, ap, subst, ℕ, suc, ◌+◌, ◌-◌, ◌<◌, ◌≤◌, Bool, true, false, cond, not, ◌&&◌, Some, arith, min}
+use Rattle.std.proofs.Common.{◌≡◌, ◌≢◌, ◌∙◌, ◌⊎◌, inl, inr, refl, sym, ap, subst, ℕ, suc, ◌+◌, ◌-◌, ◌<◌, ◌≤◌, Bool, true, false, cond, not, ◌&&◌, Some, arith, min, ◌||◌}
 use Rattle.std.proofs.lemmas.Bool.{both_ways, eq-eqb, ne_eqb, le-ltb, cases_eq, cases_Bool, and_from, and_left, and_right}
 use Rattle.wl_level.specs.declared.Level.TheVariants.{Dominant, Recessive}
 use Rattle.wl_level.specs.Levels.{is_dominant}
@@ -7,7 +7,8 @@ use Rattle.wl_segments.specs.declared.SyncRules.TheVariants.{Book}
 use Rattle.wl_segments.specs.Lengths.{sample_at, bit_quanta}
 use Rattle.wl_sync.specs.declared.Beat.TheVariants.{Plain, Sample, Start}
 use Rattle.wl_sync.specs.declared.Sync.TheVariants.{Hard}
-use Rattle.wl_sync.specs.Edges.{Seen, edge_restarts}
+use Rattle.wl_sync.specs.declared.Seen.{Seen}
+use Rattle.wl_sync.specs.Edges.{again_by, edge_restarts, is_hard_edge}
 use Rattle.wl_sync.specs.Running.{Running}
 use Rattle.wl_sync.specs.Steps.{end_of, running_edge, running_sync, running_restart, running_over, running_first, running_on, running_after, running_answer, running_beat, beat_between}
 use Rattle.wl_phase.specs.Ways.{ByTheBook}
@@ -193,5 +194,5 @@ syncs_hard r x book begun now awaits driving was sampled fresh =
     let counts : running_sync r x ≡ true =
     and_from _ _ (and_from _ _ (and_from _ _ (and_from _ _ (and_from _ _ (ap is_dominant now) (ap (λ v. not (is_dominant v)) was)) (ap (λ v. not (is_dominant v)) sampled))
     (looks_from r.lengths.sync (sample_at r.lengths) r.quanta book begun))
-    (ap not (and_left _ _ (and_right _ _ driving)))) (ap not fresh) in
+    (ap not (and_left _ _ (and_right _ _ driving)))) (ap (λ b. not b || again_by r.lengths.sync (is_hard_edge r.lengths.sync x) x.integrates) fresh) in
     rw (counts, hard) refl

@@ -9,7 +9,7 @@ use Rattle.wl_level.specs.Levels.{is_dominant, level_of}
 use Rattle.wl_level.specs.Places.{at}
 use Rattle.wl_topology.specs.Driven.{driven, DrivenLaws}
 use Rattle.wl_segments.specs.Lengths.{Lengths, sample_at, bit_quanta}
-use Rattle.wl_sync.specs.Edges.{Seen}
+use Rattle.wl_sync.specs.declared.Seen.{Seen}
 use Rattle.wl_frame.specs.Grammar.{Content}
 use Rattle.wl_frame.specs.Laws.{up_to_ack}
 use Rattle.wl_machine.specs.Stretch.{Stretch}

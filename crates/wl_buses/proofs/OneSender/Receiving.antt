@@ -13,7 +13,7 @@ use Rattle.wl_level.proofs.Callers.{at_front, length_more}
 use Rattle.wl_segments.specs.Lengths.{sample_at, bit_quanta}
 use Rattle.wl_sync.specs.declared.Beat.{Beat}
 use Rattle.wl_sync.specs.declared.Beat.TheVariants.{Plain, Sample, Start}
-use Rattle.wl_sync.specs.Edges.{Seen}
+use Rattle.wl_sync.specs.declared.Seen.{Seen}
 use Rattle.wl_sync.specs.Bits.{beat_of, sync_of}
 use Rattle.wl_sync.specs.Skips.{moved_place}
 use Rattle.wl_sync.specs.Steps.{end_of, running_first, running_on, running_sync}
@@ -173,11 +173,12 @@ module _ (clocks : ClockGoes) (goes : FrameGoes) (setup : NodeSetup) (book : ByT
     long_bit : quantum_parts s j + tick_parts s j ≤ bit_parts s j
     long_bit =
         let a = hears.near.sample in
-        let b = book.lengths.low in
-        let d = book.lengths.ps2_high in
+        let b = book.lengths.prop_low in
+        let d = book.lengths.ps1_low in
         let few : sender_clock.den * clock.den ≤ sender_clock.den * clock.num = mul-le-mul_left sender_clock.den hears.listener.not_fast in
-        let many : 8 * quantum_parts s j ≤ B * quantum_parts s j = mul-le-mul_right (quantum_parts s j) b in
-        let early : setup.segments.ps2 * quantum_parts s j ≤ 8 * quantum_parts s j = mul-le-mul_right (quantum_parts s j) d in
+        let all : B * quantum_parts s j ≡ sample_at setup.segments * quantum_parts s j + setup.segments.ps2 * quantum_parts s j = omega arith in
+        let many : 3 * quantum_parts s j ≤ sample_at setup.segments * quantum_parts s j = mul-le-mul_right (quantum_parts s j) (omega arith) in
+        let early : 2 * quantum_parts s j ≤ setup.segments.ps2 * quantum_parts s j = mul-le-mul_right (quantum_parts s j) book.lengths.ps2_low in
         let ten : 10 * B * quantum_parts s j ≡ 10 * (B * quantum_parts s j) = omega arith in
         omega arith
 

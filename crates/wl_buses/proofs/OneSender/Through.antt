@@ -9,7 +9,7 @@ use Rattle.wl_level.specs.declared.Level.TheVariants.{Dominant, Recessive}
 use Rattle.wl_level.specs.Levels.{is_dominant}
 use Rattle.wl_segments.specs.Lengths.{sample_at, bit_quanta}
 use Rattle.wl_sync.specs.declared.Beat.TheVariants.{Sample}
-use Rattle.wl_sync.specs.Edges.{Seen}
+use Rattle.wl_sync.specs.declared.Seen.{Seen}
 use Rattle.wl_sync.specs.Bits.{beat_of}
 use Rattle.wl_sync.specs.Running.{clock_after}
 use Rattle.wl_frame.specs.Grammar.{Content}
@@ -318,7 +318,7 @@ module _ (laws : Laws) (stay : StayLaws) (b : SenderBus) (is : IsBus b) (meets :
       -- it samples that after that of the CRC delimiter
       pub q_late : delimiter < q
       q_late =
-          let jump = (is.book a is.sender).lengths.sjw_high in
+          let jump = (is.book a is.sender).lengths.sjw_half in
           let many = (is.book a is.sender).lengths.low in
           let near = at_slot.near in
           let here = next_slot in

@@ -8,7 +8,7 @@ use Rattle.wl_level.specs.declared.Level.TheVariants.{Dominant, Recessive}
 use Rattle.wl_level.specs.Levels.{is_dominant, level_of}
 use Rattle.wl_segments.specs.Lengths.{sample_at, bit_quanta}
 use Rattle.wl_machine.specs.Stretch.Sort.{Framing}
-use Rattle.wl_sync.specs.Edges.{Seen}
+use Rattle.wl_sync.specs.declared.Seen.{Seen}
 use Rattle.wl_sync.specs.Running.{clock_after}
 use Rattle.wl_frame.specs.Laws.{up_to_ack}
 use Rattle.wl_machine.specs.Judged.{awaits_start, stretch_of}

@@ -8,7 +8,7 @@ use Rattle.wl_level.specs.Levels.{is_dominant}
 use Rattle.wl_level.proofs.Callers.{length_more}
 use Rattle.wl_segments.specs.Lengths.{Lengths, sample_at, bit_quanta}
 use Rattle.wl_sync.specs.declared.Beat.TheVariants.{Sample}
-use Rattle.wl_sync.specs.Edges.{Seen}
+use Rattle.wl_sync.specs.declared.Seen.{Seen}
 use Rattle.wl_sync.specs.Bits.{beat_of}
 use Rattle.wl_sync.specs.Running.{clock_after}
 use Rattle.wl_sync.specs.Skips.{steady_clock}

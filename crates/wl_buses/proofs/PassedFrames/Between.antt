@@ -1,11 +1,11 @@
 -- A node takes no sample between those of a bit and of the next one, if what it is expected to see makes its bit clock go so.
 use Rattle.std.proofs.Common.{◌≡◌, ◌∙◌, sym, ℕ, suc, ◌<◌, ◌≤◌, Bool, arith}
 use Rattle.wl_level.specs.declared.Level.{Level}
-use Rattle.wl_sync.specs.Edges.{Seen}
 use Rattle.wl_machine.specs.Stretch.{Stretch}
 use Rattle.wl_machine.specs.Judged.{awaits_start, is_idle_sort, stretch_of}
 use Rattle.wl_node.specs.declared.setup.NodeSetup.{NodeSetup}
-use Rattle.wl_node.specs.History.{History}
+use Rattle.wl_node.specs.History.{History, is_integration}
+use Rattle.wl_sync.specs.declared.Seen.{Seen}
 use Rattle.wl_buses.specs.OneFrame.Clocked.{BitIs}
 use Rattle.wl_buses.specs.OneFrame.Expected.{Outset, expected_bits, expected_sample, past_at}
 use Rattle.wl_buses.specs.OneFrame.Nodes.{IsInBit, IsRun, clock_sees}
@@ -34,7 +34,7 @@ module _ (setup : NodeSetup) (levels : ℕ → Level) (node : ℕ → History) (
   abbrev pub expects : ℕ → Seen
   expects = sees_in setup levels node run s o i n segments at begins_after
 
-  pub expects_there : (q : ℕ) → S < q → expects q ≡ record { level = levels q; idle = is_idle_sort X.sort; awaits = awaits_start X; driving = v q }
+  pub expects_there : (q : ℕ) → S < q → expects q ≡ record { level = levels q; idle = is_idle_sort X.sort; awaits = awaits_start X; integrates = is_integration X.sort; driving = v q }
   expects_there = sampling.new_there setup levels node run s o i n segments at begins_after
 
   module _ (level : Level) (bit : BitIs (s.lengths i) expects S ((expected_bits s o (suc n)).place i) F level) (longer : S < S') where

@@ -6,7 +6,7 @@ use Rattle.wl_level.specs.declared.Level.TheVariants.{Recessive}
 use Rattle.wl_segments.specs.Lengths.{Lengths, bit_quanta, sample_at}
 use Rattle.wl_sync.specs.declared.Sync.{Sync}
 use Rattle.wl_sync.specs.declared.Sync.TheVariants.{Error, Hard}
-use Rattle.wl_sync.specs.Edges.{Seen}
+use Rattle.wl_sync.specs.declared.Seen.{Seen}
 use Rattle.wl_sync.specs.Bits.{sync_of}
 use Rattle.wl_phase.specs.Ways.{ByTheBook, WayLaws, sample_way, way_after}
 use Rattle.wl_phase.specs.InStep.{seen_before}

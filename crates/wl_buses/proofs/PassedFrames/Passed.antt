@@ -7,7 +7,7 @@ use Rattle.wl_level.specs.Levels.{level_of}
 use Rattle.wl_confine.specs.declared.Happened.{Happened}
 use Rattle.wl_confine.specs.Counts.{is_error}
 use Rattle.wl_segments.specs.Lengths.{sample_at}
-use Rattle.wl_sync.specs.Edges.{Seen}
+use Rattle.wl_sync.specs.declared.Seen.{Seen}
 use Rattle.wl_topology.specs.Driven.{driven}
 use Rattle.wl_frame.specs.Grammar.{Content}
 use Rattle.wl_machine.specs.Stretch.{Sampled, Stretch}

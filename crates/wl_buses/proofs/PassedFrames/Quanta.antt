@@ -10,7 +10,7 @@ use Rattle.wl_confine.specs.declared.Happened.TheVariants as happens
 use Rattle.wl_confine.specs.Counts.{counts_after, counts_of, is_error, no_counts}
 use Rattle.wl_sync.specs.declared.Beat.{Beat}
 use Rattle.wl_sync.specs.declared.Beat.TheVariants.{Plain, Sample, Start}
-use Rattle.wl_sync.specs.Edges.{Seen}
+use Rattle.wl_sync.specs.declared.Seen.{Seen}
 use Rattle.wl_sync.specs.Bits.{beat_of}
 use Rattle.wl_machine.specs.Judged.{judged, stretch_of}
 use Rattle.wl_node.specs.declared.setup.NodeSetup.{NodeSetup}

@@ -8,7 +8,7 @@ use Rattle.wl_confine.specs.Counts.{counts_of, mode_of, no_counts}
 use Rattle.wl_segments.specs.Lengths.{Lengths}
 use Rattle.wl_sync.specs.declared.Beat.{Beat}
 use Rattle.wl_sync.specs.declared.Beat.TheVariants.{Plain, Sample, Start}
-use Rattle.wl_sync.specs.Edges.{Seen}
+use Rattle.wl_sync.specs.declared.Seen.{Seen}
 use Rattle.wl_sync.specs.Bits.{beat_of}
 use Rattle.wl_machine.specs.Stretch.{Judgement, Sampled, Stretch}
 use Rattle.wl_machine.specs.Stretch.Ended.{NoFrame}

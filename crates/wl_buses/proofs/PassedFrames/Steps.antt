@@ -7,7 +7,7 @@ use Rattle.wl_level.specs.declared.Level.TheVariants.{Recessive}
 use Rattle.wl_level.specs.Levels.{level_of}
 use Rattle.wl_confine.specs.declared.Happened.{Happened}
 use Rattle.wl_confine.specs.Counts.{counts_of, no_counts}
-use Rattle.wl_sync.specs.Edges.{Seen}
+use Rattle.wl_sync.specs.declared.Seen.{Seen}
 use Rattle.wl_topology.specs.Driven.{driven}
 use Rattle.wl_topology.proofs.Callers.{any_same}
 use Rattle.wl_frame.specs.Grammar.{Content}

@@ -1,7 +1,7 @@
 -- What a bit clock sees at the end of a frame.
 use Rattle.std.specs.Prelude.{◌≡◌, ℕ, suc, ◌+◌, ◌<◌, ◌≤◌, false}
 use Rattle.wl_level.specs.Levels.{level_of}
-use Rattle.wl_sync.specs.Edges.{Seen}
+use Rattle.wl_sync.specs.declared.Seen.{Seen}
 use Rattle.wl_topology.specs.Driven.{driven}
 use Rattle.wl_phase.specs.Clocks.{steady_tick}
 use Rattle.wl_buses.specs.OneFrame.Stations.{Stations}

@@ -3,7 +3,7 @@ use Rattle.std.specs.Prelude.{◌≡◌, ℕ, zero, suc, ◌+◌, ◌-◌, ◌<�
 use Rattle.wl_level.specs.Levels.{is_dominant, level_of}
 use Rattle.wl_level.specs.Places.{first_place}
 use Rattle.wl_segments.specs.Lengths.{bit_quanta, sample_at}
-use Rattle.wl_sync.specs.Edges.{Seen}
+use Rattle.wl_sync.specs.declared.Seen.{Seen}
 use Rattle.wl_sync.specs.Running.{clock_after}
 use Rattle.wl_sync.specs.Skips.{steady_clock}
 use Rattle.wl_topology.specs.Driven.{any_below, driven}

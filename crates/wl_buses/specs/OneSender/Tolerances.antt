@@ -33,11 +33,11 @@ way_over t b i j k = (b.line.delay i j + b.line.delay j k) * t.units
 -- The inequalities, of listeners i and j, the sender, and any node w. No clock is named in them: drift within the jump widths, and the way there and back (Bosch CAN 2.0
 -- part B, section 10).
 pub record FitClocks (t : Tolerance) (b : SenderBus) : Type 0 where
-  -- ten bits of either are within the jump width of the other, and its next bit comes after the sample
+  -- ten bits of either are within the jump width of the other, and of the sender's own, and its next bit comes after the sample
   pub slow : (j : ℕ) → IsListener b j → 10 * slowest_bit t b b.sender ≤ 10 * fastest_bit t b j + (lengths_of b j).sjw * t.shortest j
   pub fast : (j : ℕ) → IsListener b j → 10 * slowest_bit t b j ≤ 10 * fastest_bit t b b.sender + (lengths_of b j).sjw * t.longest j
   pub sample : (j : ℕ) → IsListener b j → 10 * slowest_bit t b j + t.units ≤ 10 * fastest_bit t b b.sender + (lengths_of b j).ps2 * t.longest j
-  pub jump : (j : ℕ) → IsListener b j → slowest_bit t b b.sender ≤ fastest_bit t b j + (lengths_of b b.sender).sjw * t.longest b.sender
+  pub jump : (j : ℕ) → IsListener b j → 10 * slowest_bit t b b.sender ≤ 10 * fastest_bit t b j + (lengths_of b b.sender).sjw * t.longest b.sender
   -- what a node drives comes back to it by its sample
   pub loops : (j : ℕ) → IsListener b j → b.line.delay j j * t.units ≤ sample_at (lengths_of b j) * t.shortest j
   -- an acknowledgement comes after the sender's sample of the CRC delimiter, and after that of each other listener

@@ -13,7 +13,7 @@ ghost use Rattle.wl_buses.specs.OneFrame.Stations.{AreOnALine, AreStations, Have
 ghost use Rattle.wl_buses.specs.OneFrame.Machines.{HasWon, MayBeginTogether};
 ghost use Rattle.wl_buses.specs.OneFrame.Acknowledged.{IsAcknowledgedByAll, IsAnsweredByAll, chased_way};
 ghost use Rattle.wl_buses.specs.OneFrame.Expected.{HasSampled, IsOutset, Outset, expected_bits, expected_drove, expected_sample};
-ghost use Rattle.wl_sync.specs.Edges.{Seen};
+ghost use Rattle.wl_sync.specs.declared.Seen.{Seen};
 ghost use Rattle.wl_buses.specs.OneFrame.Clocked.{BitIs};
 ghost use Rattle.wl_buses.specs.OneFrame.Course.{bus_bit};
 ghost use Rattle.wl_topology.specs.Driven.{driven};

@@ -16,7 +16,7 @@ ghost use Rattle.wl_machine.specs.Frames.{stuffed_end};
 ghost use Rattle.wl_machine.specs.Stretch.{Input};
 ghost use Rattle.wl_wire.specs.InStep.{AreSoundFrames};
 ghost use Rattle.wl_segments.specs.Lengths.{Lengths, bit_quanta, sample_at};
-ghost use Rattle.wl_sync.specs.Edges.{Seen};
+ghost use Rattle.wl_sync.specs.declared.Seen.{Seen};
 ghost use Rattle.wl_phase.specs.Answer.{FindsDominant, SamplesNext};
 ghost use Rattle.wl_phase.specs.Clocks.{steady_tick};
 ghost use Rattle.wl_phase.specs.Ways.{ByTheBook, moved_to};

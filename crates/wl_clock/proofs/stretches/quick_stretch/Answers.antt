@@ -1,6 +1,6 @@
-use Rattle.std.proofs.Common.{arith}
+use Rattle.std.proofs.Common.{rules}
 use Rattle.wl_clock.proofs.Runs.{stretch_near}
 use Rattle.wl_clock.proofs.stretches.quick_stretch.Goals as goal
 
-pub returns-clause-high : goal.returns-clause-high
-returns-clause-high c = (let near = stretch_near c.args.rate.now c.requires.rate c.args.k in omega (arith, near, c.quotient.ensures))
+pub returns-in-Some-clause-high : goal.returns-in-Some-clause-high
+returns-in-Some-clause-high c = (let near = stretch_near c.args.rate.now c.requires.rate c.args.k in let product = c.checked_mul.ensures in search rules)

@@ -1,4 +1,4 @@
-use Rattle.std.proofs.Common.{◌≡◌, ◌+◌, ◌≤◌, suc, subst, arith}
+use Rattle.std.proofs.Common.{◌≡◌, ◌+◌, suc, arith}
 use Rattle.wl_segments.specs.Lengths.{bit_quanta}
 use Rattle.wl_phase.specs.Answer.{own_sample}
 use Rattle.wl_phase.proofs.Early.{finds_early, over}

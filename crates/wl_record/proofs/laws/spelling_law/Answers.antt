@@ -2,4 +2,4 @@ use Rattle.wl_record.proofs.GrammarLemmas.{spelled_is_written, written_is_spelle
 use Rattle.wl_record.proofs.laws.spelling_law.Goals as goal
 
 pub returns : goal.returns
-returns c = λ line r w. (spelled_is_written line r w, written_is_spelled line r w)
+returns c = λ limits line r w. (spelled_is_written limits line r w, written_is_spelled limits line r w)

@@ -5,4 +5,4 @@ pub returns-in_default-clause-none : goal.returns-in_default-clause-none
 returns-in_default-clause-none c = edge_none _ c.in_default.ensures.none
 
 pub returns-clause-found : goal.returns-clause-found
-returns-clause-found c = edge_found _ _ _ c.in-Some.node c.in-Some.seq c.in-Some.tick c.in-Some.ensures.found c.edge.ensures
+returns-clause-found c = edge_found c.args.limits _ _ _ c.in-Some.node c.in-Some.seq c.in-Some.tick c.in-Some.ensures.found c.edge.ensures

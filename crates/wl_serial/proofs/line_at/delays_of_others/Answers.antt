@@ -1,8 +1,12 @@
 -- The delay from each other node stands at its number.
-use Rattle.std.proofs.Common.{◌<◌, length, arith}
-use Rattle.wl_serial.proofs.Known.{others_more, own_left_out}
+use Rattle.std.proofs.Common.{◌<◌, ◌^◌, ◌-◌, length, refl, arith}
+use Rattle.wl_topology.specs.Limits.{most_places}
+use Rattle.wl_serial.proofs.Known.{no_others, others_more, own_left_out}
 use Rattle.wl_serial.proofs.line_at.delays_of_others.Goals as goal
 use Rattle.wl_serial.proofs.line_at.delays_of_others.Goals.{then-i-j, else-i-j}
+
+pub loop-i-init : goal.loop-i-init
+loop-i-init c = no_others c.args.plan.now c.args.j most_places (2 ^ 64 - 1) refl (omega arith)
 
 pub loop-i-preserved : goal.loop-i-preserved
 loop-i-preserved c =

@@ -14,6 +14,10 @@ use Rattle.wl_setup.proofs.traffic.in_order.Goals as goal
 abbrev some_frame : Content
 some_frame = record { extended = false; id = 0; remote = false; dlc = 0; bytes = [] }
 
+pub loop-n-init : goal.loop-n-init
+loop-n-init c =
+    ap (λ xs. take (suc most_queued) (xs ++ all_instances c.args.clock.now c.args.end c.args.texts.now c.args.queue.now)) c.new-all.ensures.items
+
 pub loop-n-preserved : goal.loop-n-preserved
 loop-n-preserved c =
     let clock = c.args.clock.now in

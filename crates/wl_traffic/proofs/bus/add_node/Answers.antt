@@ -1,8 +1,9 @@
-use Rattle.std.proofs.Common.{◌∙◌, ◌≤◌, ◌^◌, ℕ, List, length, ap, sym, subst, arith}
+use Rattle.std.proofs.Common.{◌∙◌, ◌≤◌, ℕ, List, length, ap, sym, subst, arith}
 use Rattle.std.specs.List.{All, range_with_len}
 use Rattle.std.proofs.lemmas.List.Elements.{All-map}
 use Rattle.wl_level.specs.declared.Level.{Level}
 use Rattle.wl_node.specs.declared.setup.NodeSetup.{NodeSetup}
+use Rattle.wl_node.specs.Limits.{most_run_quanta}
 use Rattle.wl_serial.specs.declared.outcome.NodeOutcome.{NodeOutcome}
 use Rattle.wl_traffic.specs.declared.spans.Span.{Span}
 use Rattle.wl_traffic.specs.States.{span_at, spans_of}
@@ -15,7 +16,7 @@ go_on setup end samples =
 
 pub spans-requires : goal.spans-requires
 spans-requires c =
-    subst (All (λ (s : ℕ × Level). s.0 ≤ 2 ^ 21)) (sym (c.as_slice.ensures ∙ c.in_ok-samples.ensures ∙ ap (λ (n : NodeOutcome). n.samples) c.node_at.ensures.outcome))
+    subst (All (λ (s : ℕ × Level). s.0 ≤ most_run_quanta)) (sym (c.as_slice.ensures ∙ c.in_ok-samples.ensures ∙ ap (λ (n : NodeOutcome). n.samples) c.node_at.ensures.outcome))
     (c.quanta_are_known.ensures c.args.i c.requires.node).samples
 
 pub busy_ticks-requires : goal.busy_ticks-requires

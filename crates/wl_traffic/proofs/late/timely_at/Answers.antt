@@ -1,8 +1,9 @@
-use Rattle.std.proofs.Common.{◌≡◌, ◌∙◌, ◌≤◌, ◌^◌, sym, subst, arith, ℕ, true, List, [], ◌∷◌, Option, Some, None}
+use Rattle.std.proofs.Common.{◌≡◌, ◌∙◌, ◌≤◌, sym, subst, arith, ℕ, true, List, [], ◌∷◌, Option, Some, None}
 use Rattle.std.specs.List.{All}
 use Rattle.std.proofs.lemmas.Bool.{cond_both, leb-true}
 use Rattle.std.proofs.lemmas.List.Elements.{All-cons, All-filter, All-nil}
 use Rattle.std.proofs.lemmas.Result.{IfOk-weaker}
+use Rattle.wl_node.specs.Limits.{most_run_quanta}
 use Rattle.wl_traffic.specs.declared.entries.Entry.{Entry}
 use Rattle.wl_traffic.specs.Known.{IsKnown, IsKnownQuantum}
 use Rattle.wl_traffic.specs.Late.{in_time}
@@ -11,9 +12,9 @@ use Rattle.wl_traffic.proofs.late.timely_at.Goals as goal
 
 -- what is ready in time is ready at a quantum that a clock knows
 abbrev IsReady : Entry → Type 0
-IsReady e = e.ready ≤ 2 ^ 21
+IsReady e = e.ready ≤ most_run_quanta
 
-low : (last : Option ℕ) → IsKnownQuantum last → (ready : ℕ) → is_in_time last ready ≡ true → ready ≤ 2 ^ 21
+low : (last : Option ℕ) → IsKnownQuantum last → (ready : ℕ) → is_in_time last ready ≡ true → ready ≤ most_run_quanta
 low None k ready h = cc
 low (Some last) k ready h = let le : ready ≤ last = leb-true ready last h in omega (arith, k)
 

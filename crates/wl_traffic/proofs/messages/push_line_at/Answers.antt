@@ -3,8 +3,10 @@ use Rattle.std.specs.List.{All, list_any}
 use Rattle.std.proofs.lemmas.List.{get_or_default}
 use Rattle.std.proofs.lemmas.List.Elements.{All-filter}
 use Rattle.std.proofs.lemmas.Result.{on_ok_weaker}
+use Rattle.wl_clock.specs.Timing.{Timing}
+use Rattle.wl_plan.specs.PlanLine.{setup_at}
 use Rattle.wl_traffic.specs.declared.entries.Entry.{Entry}
-use Rattle.wl_traffic.specs.Known.{IsKnown}
+use Rattle.wl_traffic.specs.Known.{IsKnown, IsSoon}
 use Rattle.wl_traffic.specs.Messages.{has_id_of, line_at, message_line, with_id_of}
 use Rattle.wl_traffic.proofs.Lines.{line_first, line_later}
 use Rattle.wl_traffic.proofs.messages.push_line_at.Goals as goal
@@ -25,6 +27,13 @@ push_message-requires-clause-known c =
     let entries : List Entry = c.args.entries.now in
     let e : Entry = get_or entries c.args.k c.index-entries-k.result in
     subst (All IsKnown) (sym (c.deref.ensures.value ∙ c.in_ok-mine.ensures)) (All-filter (has_id_of e.frame) IsKnown entries c.requires.known)
+
+pub push_message-requires-clause-soon : goal.push_message-requires-clause-soon
+push_message-requires-clause-soon c =
+    let entries : List Entry = c.args.entries.now in
+    let e : Entry = get_or entries c.args.k c.index-entries-k.result in
+    let clock : Timing = (setup_at c.args.plan.now c.args.i).clock in
+    subst (All (IsSoon clock)) (sym (c.deref.ensures.value ∙ c.in_ok-mine.ensures)) (All-filter (has_id_of e.frame) (IsSoon clock) entries c.requires.soon)
 
 pub returns : goal.returns
 returns c d =

@@ -1,11 +1,16 @@
-use Rattle.std.proofs.Common.{◌≡◌, ◌∙◌, ◌++◌, ap, string_bytes, ℕ, Option}
+use Rattle.std.proofs.Common.{◌≡◌, ◌∙◌, ◌++◌, ap, sym, subst, string_bytes, ℕ, Option}
+use Rattle.std.specs.List.{All}
 use Rattle.std.proofs.lemmas.Result.{on_ok_weaker}
 use Rattle.wl_clock.specs.Timing.{Timing}
 use Rattle.wl_margin.proofs.Callers.{grown_twice}
 use Rattle.wl_node.specs.declared.setup.NodeSetup.{NodeSetup}
 use Rattle.wl_plan.specs.PlanLine.{setup_at}
+use Rattle.wl_traffic.specs.Known.{IsSoon}
 use Rattle.wl_traffic.specs.Messages.{message_counts, wait_words}
 use Rattle.wl_traffic.proofs.messages.push_message.Goals as goal
+
+pub push_waits-requires-clause-soon : goal.push_waits-requires-clause-soon
+push_waits-requires-clause-soon c = subst (λ (s : NodeSetup). All (IsSoon s.clock) c.args.mine.now) (sym c.setup_of.ensures) c.requires.soon
 
 pub returns : goal.returns
 returns c =

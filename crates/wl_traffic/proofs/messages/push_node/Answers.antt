@@ -1,10 +1,11 @@
 use Rattle.std.proofs.Common.{◌∙◌, ◌++◌, ◌<◌, ◌≤◌, ap, sym, subst, arith, string_bytes, ℕ, List, length}
 use Rattle.std.specs.List.{All, enumerate_from, flat_map}
 use Rattle.std.proofs.lemmas.List.{take_all}
+use Rattle.wl_plan.specs.PlanLine.{setup_at}
 use Rattle.wl_report.proofs.Callers.{piece_more}
 use Rattle.wl_traffic.specs.declared.entries.Entry.{Entry}
 use Rattle.wl_traffic.specs.declared.queues.NodeQueue.{NodeQueue}
-use Rattle.wl_traffic.specs.Known.{IsKnown}
+use Rattle.wl_traffic.specs.Known.{IsKnown, IsSoon}
 use Rattle.wl_traffic.specs.Late.{no_entry}
 use Rattle.wl_traffic.specs.Messages.{line_at, lines_of}
 use Rattle.wl_traffic.proofs.messages.push_node.Goals as goal
@@ -16,6 +17,11 @@ pub push_line_at-requires-clause-known : goal.push_line_at-requires-clause-known
 push_line_at-requires-clause-known c =
     subst (All IsKnown) (sym (c.as_slice-entries.ensures ∙ ap (λ (q : NodeQueue). q.entries) c.requires.queue))
     (c.queues_are_known.ensures.each c.args.i c.requires.node).entries
+
+pub push_line_at-requires-clause-soon : goal.push_line_at-requires-clause-soon
+push_line_at-requires-clause-soon c =
+    subst (All (IsSoon (setup_at c.args.plan.now c.args.i).clock)) (sym (c.as_slice-entries.ensures ∙ ap (λ (q : NodeQueue). q.entries) c.requires.queue))
+    (c.queues_are_known.ensures.each c.args.i c.requires.node).soon
 
 pub loop-k-preserved : goal.loop-k-preserved
 loop-k-preserved c =

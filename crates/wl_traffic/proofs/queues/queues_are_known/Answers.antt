@@ -8,7 +8,7 @@ use Rattle.wl_serial.specs.Outcome.{node_outcome_of}
 use Rattle.wl_traffic.specs.Attempts.{attempts_of, node_queue, node_queues, sent_quanta}
 use Rattle.wl_traffic.specs.Known.{IsKnownQueue, QuantaAreKnown}
 use Rattle.wl_views.specs.TraceText.{events_at_end}
-use Rattle.wl_traffic.proofs.Growing.{entries_known, last_known}
+use Rattle.wl_traffic.proofs.Growing.{entries_known, entries_soon, last_known}
 use Rattle.wl_traffic.proofs.queues.queues_are_known.Goals as goal
 
 module _ (plan : Plan) (known : QuantaAreKnown plan) where
@@ -18,6 +18,7 @@ module _ (plan : Plan) (known : QuantaAreKnown plan) where
       record {
         last = last_known (node_outcome_of plan i).samples None tt (known i b).samples;
         entries = entries_known (setup_at plan i).queue frames (attempts_of (sent_quanta frames) (events_at_end plan i)) (known i b).frames;
+        soon = entries_soon (setup_at plan i).clock (setup_at plan i).queue frames (attempts_of (sent_quanta frames) (events_at_end plan i)) (known i b).soon;
       }
 
   all_known : All IsKnownQueue (node_queues plan)

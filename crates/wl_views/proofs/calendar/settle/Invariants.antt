@@ -1,4 +1,4 @@
-use Rattle.std.proofs.Common.{◌≡◌, ℕ, ◌/◌, ◌<◌, ◌≤◌}
+use Rattle.std.proofs.Common.{◌≡◌, ℕ, ◌*◌, ◌/◌, ◌<◌, ◌≤◌}
 use Rattle.wl_views.specs.Calendar.{IsTreeBut, date_at}
 use Rattle.wl_views.proofs.calendar.settle.Given as goal
 
@@ -6,9 +6,9 @@ use Rattle.wl_views.proofs.calendar.settle.Given as goal
 abbrev pub invariant-loop-at : goal.invariant-loop-at
 invariant-loop-at l = record {
   some : 1 ≤ l.at;
-  inside : l.at < 32;
-  tree : IsTreeBut (l.at / 2) l.tree;
-  leaves : (k : ℕ) → 16 ≤ k → date_at l.tree k ≡ date_at l.fn.tree k;
+  inside : l.at < 2 * l.nodes;
+  tree : IsTreeBut l.nodes (l.at / 2) l.tree;
+  leaves : (k : ℕ) → l.nodes ≤ k → date_at l.tree k ≡ date_at l.fn.tree k;
 }
 
 abbrev pub decreases-loop-at : goal.decreases-loop-at

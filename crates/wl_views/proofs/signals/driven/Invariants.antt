@@ -9,5 +9,5 @@ invariant-loop-i l = record {
   later : l.t < l.until;
   silent : (k u : ℕ) → k < l.i → l.t ≤ u → u < l.until → comes l.plan k l.j u ≡ false;
   sources : Comes l.plan l.j l.t l.sources;
-  room : length l.sources ≡ 16;
+  room : length l.sources ≡ 64;
 }

@@ -4,7 +4,6 @@ use Rattle.std.specs.Prelude.{min}
 use Rattle.std.proofs.lemmas.Bool.{cases_lt}
 use Rattle.std.proofs.lemmas.List.{take_all}
 use Rattle.wl_plan.specs.declared.plan.Plan.{Plan}
-use Rattle.wl_plan.specs.Limits.{latest_end}
 use Rattle.wl_plan.specs.PlanLine.{line_of}
 use Rattle.wl_plan.specs.SimulationLaws.{SimulationLaws}
 use Rattle.wl_plan.specs.Sound.{IsSound}
@@ -23,13 +22,12 @@ use Rattle.wl_views.proofs.signals.push_changes.Goals.{then-loop-next-test+else-
 record LooksAt (plan : Plan) (t next : ℕ) (all : List Probe) (calendar : Calendar) (first : ℕ × ℕ) : Type 0 where
   some : 0 < t
   early : t < plan.end
-  ends : plan.end ≤ latest_end
-  few : length plan.nodes ≤ 16
+  few : length plan.nodes ≤ 64
   long : length all ≡ length plan.nodes
   known : (k : ℕ) (d : Probe) → k < next → Watches plan k t (get_or all k d)
   others : (k : ℕ) (d : Probe) → next ≤ k → k < length plan.nodes → Watches plan k (t - 1) (get_or all k d)
   is : IsCalendarOf plan.end all calendar
-  dated : IsFirst calendar.tree first
+  dated : IsFirst calendar.nodes calendar.tree first
 
 module _ (laws : SimulationLaws) (plan : Plan) (sound : IsSound (line_of plan)) (t next : ℕ) (all : List Probe) (calendar : Calendar) (first : ℕ × ℕ)
     (h : LooksAt plan t next all calendar first) (d : Probe) where
@@ -40,12 +38,12 @@ module _ (laws : SimulationLaws) (plan : Plan) (sound : IsSound (line_of plan)) 
     | inr high ↦ (let m = lasts_on plan k (t - 1) (get_or all k d) (h.others k d high b) in let s = h.some in omega arith)
   ]
 
-  before_first : (k : ℕ) → k < length plan.nodes → first.0 * 16 + first.1 ≤ min (get_or all k d).until plan.end * 16 + k
-  before_first k b = none_before plan.end t all calendar h.is first h.dated h.early h.ends (let f = h.few in let l = h.long in omega arith) k d (let l = h.long in omega arith)
+  before_first : (k : ℕ) → k < length plan.nodes → first.0 * 64 + first.1 ≤ min (get_or all k d).until plan.end * 64 + k
+  before_first k b = none_before plan.end t all calendar h.is first h.dated h.early (let f = h.few in let l = h.long in omega arith) k d (let l = h.long in omega arith)
 
   module _ (come : first.0 ≤ t) where
     found : (first.1 < length all) × ((get_or all first.1 d).until ≡ first.0)
-    found = first_known plan.end t all calendar h.is first h.dated h.early h.ends (let f = h.few in let l = h.long in omega arith) d come
+    found = first_known plan.end t all calendar h.is first h.dated h.early (let f = h.few in let l = h.long in omega arith) d come
 
     node_there : first.1 < length plan.nodes
     node_there = (let f = found.0 in let l = h.long in omega arith)
@@ -124,7 +122,7 @@ module _ (laws : SimulationLaws) (plan : Plan) (sound : IsSound (line_of plan)) 
     first_later =
         let l = h.long in
         let f = h.few in
-        later_first plan.end t all calendar h.is first h.dated h.early h.ends (omega arith) d (λ k b. later_all k (omega arith))
+        later_first plan.end t all calendar h.is first h.dated h.early (omega arith) d (λ k b. later_all k (omega arith))
 
     until_first : (k : ℕ) → k < length plan.nodes → min first.0 plan.end ≤ (get_or all k d).until
     until_first k b =
@@ -146,7 +144,6 @@ bounds-probes-i c =
     (record {
       some = c.requires.some;
       early = c.requires.early;
-      ends = c.laws.ensures.checked.ends;
       few = c.laws.ensures.checked.few_nodes;
       long = inv.long;
       known = inv.known;
@@ -163,7 +160,6 @@ push_node-requires-clause-node c =
     (record {
       some = c.requires.some;
       early = c.requires.early;
-      ends = c.laws.ensures.checked.ends;
       few = c.laws.ensures.checked.few_nodes;
       long = inv.long;
       known = inv.known;
@@ -179,7 +175,6 @@ push_node-requires-clause-was c =
     (record {
       some = c.requires.some;
       early = c.requires.early;
-      ends = c.laws.ensures.checked.ends;
       few = c.laws.ensures.checked.few_nodes;
       long = inv.long;
       known = inv.known;
@@ -195,7 +190,6 @@ push_node-requires-clause-past c =
     (record {
       some = c.requires.some;
       early = c.requires.early;
-      ends = c.laws.ensures.checked.ends;
       few = c.laws.ensures.checked.few_nodes;
       long = inv.long;
       known = inv.known;
@@ -214,7 +208,6 @@ bounds-probes-i-then-first-t c =
     (record {
       some = c.requires.some;
       early = c.requires.early;
-      ends = c.laws.ensures.checked.ends;
       few = c.laws.ensures.checked.few_nodes;
       long = inv.long;
       known = inv.known;
@@ -235,7 +228,6 @@ bounds-probes-i-then-first-t-2 c =
     (record {
       some = c.requires.some;
       early = c.requires.early;
-      ends = c.laws.ensures.checked.ends;
       few = c.laws.ensures.checked.few_nodes;
       long = inv.long;
       known = inv.known;
@@ -247,13 +239,32 @@ bounds-probes-i-then-first-t-2 c =
     let inside : i < length (set all i c.push_node.new.probe) = omega arith in
     inside
 
+pub put-requires-clause-node : goal.put-requires-clause-node
+put-requires-clause-node c =
+    let inv = c.loop-next.invariant in
+    let i : ℕ = c.loop-next.first.1 in
+    let all : List Probe = c.loop-next.probes in
+    let there : i < length all = (found c.simulation_laws.ensures c.args.plan.now c.laws.ensures.sound c.args.t c.loop-next.next all c.loop-next.calendar c.loop-next.first
+    (record {
+      some = c.requires.some;
+      early = c.requires.early;
+      few = c.laws.ensures.checked.few_nodes;
+      long = inv.long;
+      known = inv.known;
+      others = inv.others;
+      is = inv.calendar;
+      dated = inv.first;
+    }) c.index-probes-i.result c.if-first-t.true).0 in
+    let count : c.loop-next.calendar.nodes ≡ length all = inv.calendar.nodes in
+    let inside : i < c.loop-next.calendar.nodes = omega arith in
+    inside
+
 pub loop-next-smaller : goal.loop-next-smaller
 loop-next-smaller c =
     let inv = c.loop-next.invariant in
     let h : LooksAt c.args.plan.now c.args.t c.loop-next.next c.loop-next.probes c.loop-next.calendar c.loop-next.first = record {
       some = c.requires.some;
       early = c.requires.early;
-      ends = c.laws.ensures.checked.ends;
       few = c.laws.ensures.checked.few_nodes;
       long = inv.long;
       known = inv.known;
@@ -280,7 +291,6 @@ loop-next-preserved c =
     let h : LooksAt plan t next all c.loop-next.calendar c.loop-next.first = record {
       some = c.requires.some;
       early = c.requires.early;
-      ends = c.laws.ensures.checked.ends;
       few = c.laws.ensures.checked.few_nodes;
       long = inv.long;
       known = inv.known;
@@ -309,7 +319,7 @@ loop-next-preserved c =
       known = known_more (λ k v. Watches plan k t v) all i w room
           (λ k v low. known_before laws plan sound t next all c.loop-next.calendar c.loop-next.first h v c.if-first-t.true k low) c.push_node.ensures.watches;
       others = others_stay (λ k v. Watches plan k (t - 1) v) all i (length plan.nodes) w (λ k v from inside. inv.others k v (omega arith) inside);
-      calendar = put_date plan.end i all c.loop-next.calendar c.put.new.self w room (omega arith) inv.calendar (omega (arith, c.put.ensures.here, c.min.ensures)) c.put.ensures.others;
+      calendar = put_date plan.end i all c.loop-next.calendar c.put.new.self w room inv.calendar c.put.ensures.nodes (omega (arith, c.put.ensures.here, c.min.ensures)) c.put.ensures.others;
       first = c.first-first-in-loop-next.ensures;
     }
 
@@ -325,7 +335,6 @@ looked c =
     record {
       some = c.requires.some;
       early = c.requires.early;
-      ends = c.laws.ensures.checked.ends;
       few = c.laws.ensures.checked.few_nodes;
       long = inv.long;
       known = inv.known;

@@ -18,7 +18,7 @@ invariant-loop-next l = record {
   known : (k : ℕ) (d : Probe) → k < l.next → Watches l.plan k l.t (get_or l.probes k d);
   others : (k : ℕ) (d : Probe) → l.next ≤ k → k < length l.plan.nodes → Watches l.plan k (l.t - 1) (get_or l.probes k d);
   calendar : IsCalendarOf l.plan.end l.probes l.calendar;
-  first : IsFirst l.calendar.tree l.first;
+  first : IsFirst l.calendar.nodes l.calendar.tree l.first;
 }
 
 abbrev pub decreases-loop-next : goal.decreases-loop-next

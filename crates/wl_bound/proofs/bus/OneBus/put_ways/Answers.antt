@@ -1,6 +1,7 @@
 use Rattle.std.proofs.Common.{◌≡◌, ◌∙◌, ◌+◌, ◌*◌, inl, inr, slice_index_or, subst, arith}
 use Rattle.std.proofs.lemmas.Bool.{cases_lt}
 use Rattle.std.proofs.lemmas.List.{length-set}
+use Rattle.wl_topology.specs.Limits.{most_places}
 use Rattle.wl_bound.specs.Evaluated.{IsWay}
 use Rattle.wl_bound.proofs.WayRows.{put_next, put_apart}
 use Rattle.wl_bound.specs.OneBuses.{the_bus}
@@ -15,7 +16,7 @@ loop-j-preserved c =
         all = length-set c.loop-j.ways c.place.result c.way.result ∙ old.all;
         each = put_apart is c.loop-j.ways c.args.i c.loop-j.j _ c.place.result c.way.result old.nodes c.place.ensures old.each;
       },
-      put_next (is c.args.i) c.loop-j.ways c.args.i c.loop-j.j c.place.result c.way.result old.all (omega arith) (omega arith) c.place.ensures
+      put_next (is c.args.i) c.loop-j.ways c.args.i c.loop-j.j _ c.place.result c.way.result old.all old.nodes c.requires.node (omega arith) c.place.ensures
           (c.way.ensures.value, c.way.ensures.most) c.loop-j.invariant.1,
     )
 
@@ -29,7 +30,7 @@ returns c =
         | inl before ↦ old.each a k d before below
         | inr now ↦
             (let e : c.args.i ≡ a = omega arith in
-            subst (λ m. IsWay (the_bus c.args.self.now) m k (slice_index_or c.loop-j.ways (16 * m + k) d)) e
+            subst (λ m. IsWay (the_bus c.args.self.now) m k (slice_index_or c.loop-j.ways (most_places * m + k) d)) e
             (c.loop-j.invariant.1 k d (omega arith)))
       ];
     }

@@ -19,5 +19,5 @@ invariant_of-family c = record {
 pub invariant_of-family-2 : goal.invariant_of-family-2
 invariant_of-family-2 c = record {
   family = has_place _ c.self.inside.members c.self.inside.cable (search rules) c.self.invariant.family;
-  rows = c.plain_rows-rows.ensures.some;
+  rows = c.in_ok-rows.ensures;
 }

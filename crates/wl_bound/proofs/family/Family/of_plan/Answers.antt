@@ -21,5 +21,5 @@ invariant_of-family c = record {
 pub invariant_of-family-2 : goal.invariant_of-family-2
 invariant_of-family-2 c = record {
   family = has_place _ c.args.plan.now _ c.args.oscillators.now (search rules) c.requires.one_each c.deref.ensures.1.placed c.deref-2.ensures.0;
-  rows = c.plain_rows-rows.ensures.some;
+  rows = c.in_ok-rows.ensures;
 }

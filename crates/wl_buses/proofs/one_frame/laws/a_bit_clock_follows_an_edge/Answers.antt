@@ -10,7 +10,7 @@ same_sample : (l : Lengths) (place found : ℕ) → ByTheBook l → place + samp
     → moved_sample l (place + sample_at l) found ≡ moved_to (found - 1) l.sjw (place + bit_quanta l) + sample_at l
 same_sample l place found book later inside =
     let long = book.lengths.low in
-    let jump = book.lengths.sjw_high in
+    let jump = book.lengths.sjw_half in
     let a = book.lengths.prop_low in
     let b = book.lengths.ps1_low in
     let order : place + sample_at l + bit_quanta l ≡ place + bit_quanta l + sample_at l = omega arith in

@@ -4,14 +4,15 @@ use Rattle.std.proofs.lemmas.Bool.{cases_lt}
 use Rattle.wl_level.specs.declared.Level.{Level}
 use Rattle.wl_sync.specs.declared.Beat.TheVariants.{Sample}
 use Rattle.wl_sync.specs.declared.Sync.{Sync}
-use Rattle.wl_sync.specs.Bits.{Seen, beat_of, sync_of}
+use Rattle.wl_sync.specs.declared.Seen.{Seen}
+use Rattle.wl_sync.specs.Bits.{beat_of, sync_of}
 use Rattle.wl_sync.specs.Running.{clock_after}
 use Rattle.wl_node.specs.declared.setup.NodeSetup.{NodeSetup}
 use Rattle.wl_node.specs.declared.progress.NodeProgress.{NodeProgress}
 use Rattle.wl_node.specs.History.{History, history_of, seen_next, syncs_at}
 use Rattle.wl_node.specs.Kept.{AreSyncs, FitsHistory, IsProgress}
 use Rattle.wl_node.proofs.Listening.{quantum_alone}
-use Rattle.wl_node.proofs.Turns.{history_next, seen_is}
+use Rattle.wl_node.proofs.Turns.{history_next}
 use Rattle.wl_node.proofs.progress.NodeProgress.pass_edge.Goals as goal
 
 module _ (c : goal.After-self-1) (setup : NodeSetup) (levels : List Level) (old : IsProgress setup c.args.self.now levels) where
@@ -21,18 +22,14 @@ module _ (c : goal.After-self-1) (setup : NodeSetup) (levels : List Level) (old 
   abbrev x : Seen
   x = seen_next h c.args.level
 
-  abbrev told : Seen
-  told = record { level = c.args.level; idle = c.idle-idle.result; awaits = c.awaits_start-awaits.result; driving = c.is_dominant.result }
-
-  seen : told ≡ x
-  seen = seen_is h c.args.level c.args.self.now.drive c.idle-idle.result c.awaits_start-awaits.result c.is_dominant.result (c.idle-idle.ensures h.inputs old.place.traffic.machine)
-      (c.awaits_start-awaits.ensures h.inputs old.place.traffic.machine) c.is_dominant.ensures old.place.drive
+  seen : c.sees-seen.result ≡ x
+  seen = c.sees-seen.ensures setup h old.place
 
   unsampled : (v : Level) → beat_of setup.segments h.seen x ≢ Sample v
-  unsampled v is = c.in_default.not-Sample v (c.step-beat.ensures.beat setup.segments h.seen old.place.clock ∙ ap (beat_of setup.segments h.seen) seen ∙ is)
+  unsampled v is = c.in_default.not-Sample v (c.see-beat.ensures.beat setup.segments h.seen old.place.clock ∙ ap (beat_of setup.segments h.seen) seen ∙ is)
 
-  sync : c.step-beat.result.1 ≡ sync_of setup.segments h.seen x
-  sync = c.step-beat.ensures.sync setup.segments h.seen old.place.clock ∙ ap (sync_of setup.segments h.seen) seen
+  sync : c.see-beat.result.1 ≡ sync_of setup.segments h.seen x
+  sync = c.see-beat.ensures.sync setup.segments h.seen old.place.clock ∙ ap (sync_of setup.segments h.seen) seen
 
   abbrev after : History
   after = record h { seen = h.seen ++ x ∷ []; syncs = h.syncs ++ syncs_at (length h.seen) (sync_of setup.segments h.seen x) }
@@ -49,7 +46,7 @@ module _ (c : goal.After-self-1) (setup : NodeSetup) (levels : List Level) (old 
 
   abbrev now : NodeProgress
   now = record {
-    clock = c.step-beat.new.self;
+    clock = c.see-beat.new.self;
     drive = c.args.self.now.drive;
     quanta = c.args.self.now.quanta + 1;
     syncs = c.note.new.self;
@@ -58,7 +55,7 @@ module _ (c : goal.After-self-1) (setup : NodeSetup) (levels : List Level) (old 
 
   fits : FitsHistory setup now after
   fits = record {
-    clock = c.step-beat.ensures.clock setup.segments h.seen old.place.clock ∙ ap (λ (y : Seen). clock_after setup.segments (h.seen ++ y ∷ [])) seen;
+    clock = c.see-beat.ensures.clock setup.segments h.seen old.place.clock ∙ ap (λ (y : Seen). clock_after setup.segments (h.seen ++ y ∷ [])) seen;
     drive = old.place.drive;
     quanta = ap (λ (n : ℕ). n + 1) old.place.quanta ∙ sym (length-append h.seen (x ∷ []));
     syncs = syncs;

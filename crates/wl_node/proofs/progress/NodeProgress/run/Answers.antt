@@ -1,13 +1,14 @@
 use Rattle.std.proofs.Common.{◌≡◌, ◌∙◌, ◌+◌, [], ◌∷◌, ◌++◌, ℕ, length, Option, sym, ap, subst, length-append}
 use Rattle.wl_sync.specs.declared.Sync.{Sync}
 use Rattle.wl_sync.specs.declared.Beat.{Beat}
-use Rattle.wl_sync.specs.Bits.{Seen, beat_of, sync_of}
+use Rattle.wl_sync.specs.declared.Seen.{Seen}
+use Rattle.wl_sync.specs.Bits.{beat_of, sync_of}
 use Rattle.wl_sync.specs.Running.{clock_after}
 use Rattle.wl_node.specs.declared.setup.NodeSetup.{NodeSetup}
 use Rattle.wl_node.specs.declared.progress.NodeProgress.{NodeProgress}
 use Rattle.wl_node.specs.History.{History, history_of, history_after, seen_next, by_beat, syncs_at}
 use Rattle.wl_node.specs.Kept.{IsTraffic, AreSyncs, FitsHistory}
-use Rattle.wl_node.proofs.Turns.{history_next, seen_is}
+use Rattle.wl_node.proofs.Turns.{history_next}
 use Rattle.wl_node.proofs.progress.NodeProgress.run.Goals as goal
 
 pub returns-clause-place : goal.returns-clause-place
@@ -15,26 +16,24 @@ returns-clause-place c levels old =
     let setup : NodeSetup = c.args.setup.now in
     let h : History = history_of setup levels in
     let now : NodeProgress = record {
-      clock = c.step-beat.new.self;
+      clock = c.see-beat.new.self;
       drive = c.obey.new.drive;
       quanta = c.args.self.now.quanta + 1;
       syncs = c.note.new.self;
       traffic = c.obey.new.traffic;
     } in
     let p : FitsHistory setup c.args.self.now h = old.place in
-    let told : Seen = record { level = c.args.level; idle = c.idle-idle.result; awaits = c.awaits_start-awaits.result; driving = c.is_dominant.result } in
     let x : Seen = seen_next h c.args.level in
-    let e : told ≡ x = seen_is h c.args.level c.args.self.now.drive c.idle-idle.result c.awaits_start-awaits.result c.is_dominant.result (c.idle-idle.ensures h.inputs p.traffic.machine)
-    (c.awaits_start-awaits.ensures h.inputs p.traffic.machine) c.is_dominant.ensures p.drive in
-    let beat : c.step-beat.result.0 ≡ beat_of setup.segments h.seen x = c.step-beat.ensures.beat setup.segments h.seen p.clock ∙ ap (beat_of setup.segments h.seen) e in
-    let sync : c.step-beat.result.1 ≡ sync_of setup.segments h.seen x = c.step-beat.ensures.sync setup.segments h.seen p.clock ∙ ap (sync_of setup.segments h.seen) e in
+    let e : c.sees-seen.result ≡ x = c.sees-seen.ensures setup h p in
+    let beat : c.see-beat.result.0 ≡ beat_of setup.segments h.seen x = c.see-beat.ensures.beat setup.segments h.seen p.clock ∙ ap (beat_of setup.segments h.seen) e in
+    let sync : c.see-beat.result.1 ≡ sync_of setup.segments h.seen x = c.see-beat.ensures.sync setup.segments h.seen p.clock ∙ ap (sync_of setup.segments h.seen) e in
     let traffic : IsTraffic setup c.obey.new.traffic (by_beat setup h c.args.level (beat_of setup.segments h.seen x)) =
     subst (λ (b : Beat). IsTraffic setup c.obey.new.traffic (by_beat setup h c.args.level b)) beat (c.obey.ensures.traffic h (sym p.quanta) p.traffic) in
     let syncs : AreSyncs c.note.new.self (h.syncs ++ syncs_at (length h.seen) (sync_of setup.segments h.seen x)) =
     subst (λ (k : ℕ). AreSyncs c.note.new.self (h.syncs ++ syncs_at k (sync_of setup.segments h.seen x))) p.quanta
     (subst (λ (s : Option Sync). AreSyncs c.note.new.self (h.syncs ++ syncs_at c.args.self.now.quanta s)) sync (c.note.ensures.syncs h.syncs p.syncs)) in
     let place : FitsHistory setup now (history_after setup h c.args.level) = record {
-      clock = c.step-beat.ensures.clock setup.segments h.seen p.clock ∙ ap (λ (y : Seen). clock_after setup.segments (h.seen ++ y ∷ [])) e;
+      clock = c.see-beat.ensures.clock setup.segments h.seen p.clock ∙ ap (λ (y : Seen). clock_after setup.segments (h.seen ++ y ∷ [])) e;
       drive = c.obey.ensures.drive h p.drive p.traffic ∙ ap (λ (b : Beat). (by_beat setup h c.args.level b).drive) beat;
       quanta = ap (λ (n : ℕ). n + 1) p.quanta ∙ sym (length-append h.seen (x ∷ []));
       syncs = syncs;

@@ -2,7 +2,7 @@ use Rattle.std.proofs.Common.{◌≡◌, ◌∙◌, ◌+◌, ◌++◌, ℕ, true
 use Rattle.std.proofs.lemmas.List.{length-replicate}
 use Rattle.wl_level.specs.Levels.{same}
 use Rattle.wl_level.proofs.Callers.{same_equal}
-use Rattle.wl_sync.specs.Bits.{Seen}
+use Rattle.wl_sync.specs.declared.Seen.{Seen}
 use Rattle.wl_sync.specs.Skips.{free_quanta, IsPlain}
 use Rattle.wl_node.specs.declared.setup.NodeSetup.{NodeSetup}
 use Rattle.wl_node.specs.declared.progress.NodeProgress.{NodeProgress}

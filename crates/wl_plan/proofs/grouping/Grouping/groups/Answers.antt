@@ -1,8 +1,8 @@
 -- One number more, and all of them.
-use Rattle.std.proofs.Common.{◌≡◌, ℕ, ◌+◌, ◌≤◌, suc, max, ap, sym, ◌∙◌, arith, add-one, get_or, take, length}
+use Rattle.std.proofs.Common.{◌≡◌, ℕ, max, ap, sym, ◌∙◌, arith, add-one, get_or, take, length}
 use Rattle.std.proofs.lemmas.List.{take_more}
 use Rattle.std.proofs.Math.Seq.{take-length}
-use Rattle.wl_plan.specs.Groupings.{groups_of, most_groups}
+use Rattle.wl_plan.specs.Groupings.{groups_of}
 use Rattle.wl_plan.proofs.GroupingProofs.{groups_more, few_groups}
 use Rattle.wl_plan.proofs.grouping.Grouping.groups.Goals as goal
 

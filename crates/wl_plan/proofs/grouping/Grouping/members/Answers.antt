@@ -1,5 +1,5 @@
 -- One node more.
-use Rattle.std.proofs.Common.{◌≡◌, ℕ, ◌+◌, ◌++◌, ◌==◌, [], ◌∷◌, cond, Bool, true, false, filter, ap, sym, ◌∙◌, arith, add-one, get_or, append-nil}
+use Rattle.std.proofs.Common.{◌≡◌, ℕ, ◌++◌, ◌==◌, [], ◌∷◌, cond, true, false, filter, ap, sym, ◌∙◌, add-one, get_or, append-nil}
 use Rattle.std.specs.List.{range_with_len}
 use Rattle.std.proofs.lemmas.Bool.{eq-eqb, ne_eqb}
 use Rattle.wl_plan.specs.Groupings.{is_in_group}

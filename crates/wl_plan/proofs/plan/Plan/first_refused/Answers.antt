@@ -9,11 +9,11 @@ pub returns-then-is_refused : goal.returns-then-is_refused
 returns-then-is_refused c =
     let same = c.as_slice-d-items.ensures in
     let inside : c.loop-n.n < length c.args.self.now.disturbances = omega (arith, ap length same) in
-    let here : is_refused c.args.self.now (c.loop-n.n, get_or c.args.self.now.disturbances c.loop-n.n no_disturbance) ≡ true =
-    ap (λ (items : List Disturbance). is_refused c.args.self.now (c.loop-n.n, get_or items c.loop-n.n no_disturbance)) (sym same) ∙ (sym c.is_refused.ensures ∙ c.if-is_refused.true) in
-    sym (refused_is c.args.self.now c.loop-n.n no_disturbance inside here (λ k b. c.loop-n.invariant k no_disturbance b))
+    let here : is_refused c.args.limits c.args.self.now (c.loop-n.n, get_or c.args.self.now.disturbances c.loop-n.n no_disturbance) ≡ true =
+    ap (λ (items : List Disturbance). is_refused c.args.limits c.args.self.now (c.loop-n.n, get_or items c.loop-n.n no_disturbance)) (sym same) ∙ (sym c.is_refused.ensures ∙ c.if-is_refused.true) in
+    sym (refused_is c.args.limits c.args.self.now c.loop-n.n no_disturbance inside here (λ k b. c.loop-n.invariant k no_disturbance b))
 
 pub returns : goal.returns
 returns c =
     let same = c.as_slice-d-items.ensures in
-    sym (refused_none c.args.self.now no_disturbance (λ k b. c.loop-n.invariant k no_disturbance (omega (arith, ap length same))))
+    sym (refused_none c.args.limits c.args.self.now no_disturbance (λ k b. c.loop-n.invariant k no_disturbance (omega (arith, ap length same))))

@@ -8,8 +8,9 @@ pub loop-i-preserved : goal.loop-i-preserved
 loop-i-preserved c =
     let known = c.args.known.now in
     let others = c.args.self.now.others in
-    let b : c.loop-i.i < length known = omega (arith, c.loop-i-test.true, c.told-known) in
-    let o : c.loop-i.i < length others = omega (arith, c.loop-i-test.true, c.requires.line.others.all) in
+    let few = c.nodes-i-end.ensures.few in
+    let b : c.loop-i.i < length known = omega (arith, c.loop-i-test.true, few, c.told-known) in
+    let o : c.loop-i.i < length others = omega (arith, c.loop-i-test.true, few, c.requires.line.others.all) in
     let sum = c.saturating_add.ensures in
     let least = c.min-horizon.ensures in
     let ends = c.laws.ensures.checked.ends in
@@ -19,6 +20,6 @@ loop-i-preserved c =
 
 pub returns-clause-known : goal.returns-clause-known
 returns-clause-known c =
-    let all : c.loop-i.i ≡ length c.args.known.now = omega (arith, c.told-known, c.loop-i-test.false, c.loop-i.auto.i-end) in
+    let all : c.loop-i.i ≡ length c.args.running.now = omega (arith, c.loop-i-test.false, c.loop-i.auto.i-end, c.nodes-i-end.ensures.value, c.requires.running.all) in
     knows_others c.args.plan.now c.args.j c.args.running.now c.args.known.now c.args.self.now.others c.loop-i.horizon c.requires.known c.requires.line.others c.requires.running.all
     (subst (λ n. IsHorizon c.args.plan.now.end c.args.running.now c.args.known.now c.args.self.now.others n c.loop-i.horizon) all c.loop-i.invariant)

@@ -10,8 +10,8 @@ overflow_add-last c =
     let few = quanta_below c.args.plan.now c.args.i c.quanta.result c.args.self.now c.laws.ensures.sound c.requires.node c.requires.somewhere c.quanta.ensures.value
     (omega (arith, c.if-end-self.false, c.end.ensures)) in
     let long = c.bit_quanta.ensures.lengths.high in
-    let short : c.bit_quanta.result ≤ 25 = omega (arith, long, c.bit_quanta.ensures.quanta) in
-    let most : c.min-bits.result * c.bit_quanta.result ≤ c.min-bits.result * 25 = mul-le-mul_left c.min-bits.result short in
+    let short : c.bit_quanta.result ≤ 385 = omega (arith, long, c.bit_quanta.ensures.quanta) in
+    let most : c.min-bits.result * c.bit_quanta.result ≤ c.min-bits.result * 385 = mul-le-mul_left c.min-bits.result short in
     omega (arith, few, most, c.min-bits.ensures, most_quanta-is)
 
 pub at-requires : goal.at-requires
@@ -19,6 +19,6 @@ at-requires c =
     let few = quanta_below c.args.plan.now c.args.i c.quanta.result c.args.self.now c.laws.ensures.sound c.requires.node c.requires.somewhere c.quanta.ensures.value
     (omega (arith, c.if-end-self.false, c.end.ensures)) in
     let long = c.bit_quanta.ensures.lengths.high in
-    let short : c.bit_quanta.result ≤ 25 = omega (arith, long, c.bit_quanta.ensures.quanta) in
-    let most : c.min-bits.result * c.bit_quanta.result ≤ c.min-bits.result * 25 = mul-le-mul_left c.min-bits.result short in
+    let short : c.bit_quanta.result ≤ 385 = omega (arith, long, c.bit_quanta.ensures.quanta) in
+    let most : c.min-bits.result * c.bit_quanta.result ≤ c.min-bits.result * 385 = mul-le-mul_left c.min-bits.result short in
     omega (arith, few, most, c.min-bits.ensures, most_quanta-is)

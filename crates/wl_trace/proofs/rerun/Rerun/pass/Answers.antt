@@ -1,7 +1,7 @@
 -- Quanta passed over are plain ones.
 use Rattle.std.proofs.Common.{◌≡◌, ◌∙◌, ◌≤◌, ◌++◌, refl, sym, ap, subst, arith, ℕ, false, List, length, replicate, append-nil, length-append}
 use Rattle.wl_level.specs.declared.Level.{Level}
-use Rattle.wl_sync.specs.Bits.{Seen}
+use Rattle.wl_sync.specs.declared.Seen.{Seen}
 use Rattle.wl_sync.specs.Running.{clock_after}
 use Rattle.wl_sync.specs.Skips.{IsPlain, free_quanta}
 use Rattle.wl_node.specs.History.{History, history_of, seen_next}

@@ -5,7 +5,8 @@ use Rattle.wl_sync.specs.declared.Beat.{Beat}
 use Rattle.wl_sync.specs.declared.Beat.TheVariants as beats
 use Rattle.std.specs.Prelude.{option_map}
 use Rattle.wl_sync.specs.declared.Sync.{Sync}
-use Rattle.wl_sync.specs.Bits.{Seen, beat_of, sync_of}
+use Rattle.wl_sync.specs.declared.Seen.{Seen}
+use Rattle.wl_sync.specs.Bits.{beat_of, sync_of}
 use Rattle.wl_sync.specs.Running.{clock_after}
 use Rattle.wl_node.specs.declared.setup.NodeSetup.{NodeSetup}
 use Rattle.wl_node.specs.History.{History, by_beat, history_after, history_of, seen_next}
@@ -30,16 +31,16 @@ returns-clause-running c levels n r =
     let level : Level = c.args.level in
     let h : History = history_of setup levels in
     let x : Seen = seen_next h level in
-    let told : Seen = record { level = level; idle = c.idle-idle.result; awaits = c.awaits_start-awaits.result; driving = c.is_dominant.result } in
-    let e : told ≡ x = seen_is h level c.args.self.now.drive c.idle-idle.result c.awaits_start-awaits.result c.is_dominant.result (c.idle-idle.ensures h.inputs r.run.sampled_node.machine)
-    (c.awaits_start-awaits.ensures h.inputs r.run.sampled_node.machine) c.is_dominant.ensures r.run.drive in
-    let beat : c.step-beat.result.0 ≡ beat_of setup.segments h.seen x = c.step-beat.ensures.beat setup.segments h.seen r.clock ∙ ap (beat_of setup.segments h.seen) e in
+    let told : Seen = record { level = level; idle = c.idle-idle.result; awaits = c.awaits_start-awaits.result; integrates = c.integrates-integrates.result; driving = c.is_dominant-driving.result } in
+    let e : told ≡ x = seen_is h level c.args.self.now.drive c.idle-idle.result c.awaits_start-awaits.result c.integrates-integrates.result c.is_dominant-driving.result (c.idle-idle.ensures h.inputs r.run.sampled_node.machine)
+    (c.awaits_start-awaits.ensures h.inputs r.run.sampled_node.machine) (c.integrates-integrates.ensures h.inputs r.run.sampled_node.machine) c.is_dominant-driving.ensures r.run.drive in
+    let beat : c.see-beat.result.0 ≡ beat_of setup.segments h.seen x = c.see-beat.ensures.beat setup.segments h.seen r.clock ∙ ap (beat_of setup.segments h.seen) e in
     let long : length levels ≡ length h.seen = sym (all_seen setup levels) in
     let bound = r.few in
     let bits = r.fewer in
     let few = c.requires.few in
     let size = length-append levels (level ∷ []) in
-    let ran : RunsTo c.obey.new.self (by_beat setup h level c.step-beat.result.0) (starts_with c.step-beat.result.0 r.starts) =
+    let ran : RunsTo c.obey.new.self (by_beat setup h level c.see-beat.result.0) (starts_with c.see-beat.result.0 r.starts) =
     c.obey.ensures.run h r.starts (sym n ∙ long) (omega arith) (omega arith) (record { sampled_node = r.run.sampled_node; drive = r.run.drive; bits = r.run.bits; sampled = r.run.sampled; started = r.run.started }) in
     let so = subst (λ (b : Beat). RunsTo c.obey.new.self (by_beat setup h level b) (starts_with b r.starts)) beat ran in
     let after : RunsTo c.obey.new.self (history_after setup h level) (starts_with (beat_of setup.segments h.seen x) r.starts) =
@@ -47,7 +48,7 @@ returns-clause-running c levels n r =
     record {
       starts = starts_with (beat_of setup.segments h.seen x) r.starts;
       clock =
-          c.obey.ensures.clock ∙ c.step-beat.ensures.clock setup.segments h.seen r.clock
+          c.obey.ensures.clock ∙ c.see-beat.ensures.clock setup.segments h.seen r.clock
           ∙ ap (λ (y : Seen). clock_after setup.segments (h.seen ++ y ∷ [])) e
           ∙ ap (λ (g : History). clock_after setup.segments g.seen) (sym (history_more setup levels level));
       run = subst (λ (g : History). RunsTo c.obey.new.self g (starts_with (beat_of setup.segments h.seen x) r.starts)) (sym (history_more setup levels level)) after;
@@ -79,10 +80,10 @@ returns-clause-sync c levels n r =
     let level : Level = c.args.level in
     let h : History = history_of setup levels in
     let x : Seen = seen_next h level in
-    let told : Seen = record { level = level; idle = c.idle-idle.result; awaits = c.awaits_start-awaits.result; driving = c.is_dominant.result } in
-    let e : told ≡ x = seen_is h level c.args.self.now.drive c.idle-idle.result c.awaits_start-awaits.result c.is_dominant.result (c.idle-idle.ensures h.inputs r.run.sampled_node.machine)
-    (c.awaits_start-awaits.ensures h.inputs r.run.sampled_node.machine) c.is_dominant.ensures r.run.drive in
-    let sync : c.step-beat.result.1 ≡ sync_of setup.segments h.seen x = c.step-beat.ensures.sync setup.segments h.seen r.clock ∙ ap (sync_of setup.segments h.seen) e in
+    let told : Seen = record { level = level; idle = c.idle-idle.result; awaits = c.awaits_start-awaits.result; integrates = c.integrates-integrates.result; driving = c.is_dominant-driving.result } in
+    let e : told ≡ x = seen_is h level c.args.self.now.drive c.idle-idle.result c.awaits_start-awaits.result c.integrates-integrates.result c.is_dominant-driving.result (c.idle-idle.ensures h.inputs r.run.sampled_node.machine)
+    (c.awaits_start-awaits.ensures h.inputs r.run.sampled_node.machine) (c.integrates-integrates.ensures h.inputs r.run.sampled_node.machine) c.is_dominant-driving.ensures r.run.drive in
+    let sync : c.see-beat.result.1 ≡ sync_of setup.segments h.seen x = c.see-beat.ensures.sync setup.segments h.seen r.clock ∙ ap (sync_of setup.segments h.seen) e in
     c.noted_sync.ensures
     ∙ ap (λ (o : Option Sync). option_map (λ s. noted c.args.quantum c.args.self.now.bits (sync_event s)) o) sync
     ∙ ap₂ (λ (q b : ℕ). option_map (λ s. noted q b (sync_event s)) (sync_of setup.segments h.seen x)) (sym n ∙ sym (all_seen setup levels)) r.run.bits

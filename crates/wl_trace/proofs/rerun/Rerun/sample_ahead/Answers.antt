@@ -2,7 +2,7 @@
 use Rattle.std.proofs.Common.{◌≡◌, ◌∙◌, ◌+◌, ◌++◌, refl, sym, ap, subst, arith, ℕ, suc, List, length, replicate}
 use Rattle.wl_level.specs.declared.Level.{Level}
 use Rattle.wl_level.proofs.Callers.{same_equal}
-use Rattle.wl_sync.specs.Bits.{Seen}
+use Rattle.wl_sync.specs.declared.Seen.{Seen}
 use Rattle.wl_sync.specs.Running.{clock_after}
 use Rattle.wl_sync.specs.Skips.{IsSampledAfter, quanta_before_sample}
 use Rattle.wl_node.specs.declared.setup.NodeSetup.{NodeSetup}

@@ -1,0 +1,8 @@
+use Rattle.std.proofs.Common.{arith}
+use Rattle.wl_bound.proofs.evaluated.EvaluatedBus.edges.Goals as goal
+
+pub bounds-rows-i : goal.bounds-rows-i
+bounds-rows-i c =
+    let rows = c.args.self.now.some _ c.in-Some.is in
+    let few = rows.ways.nodes in
+    omega (arith, c.requires, few)

@@ -1,0 +1,21 @@
+//! Whether a node integrates.
+
+ghost use Rattle.std.specs.Prelude.{◌≡◌, List};
+ghost use Rattle.wl_machine.specs.Stretch.{Input};
+ghost use Rattle.wl_machine.specs.Judged.{stretch_of};
+ghost use Rattle.wl_machine.specs.Reached.{IsMachine};
+ghost use Rattle.wl_node.specs.History.{is_integration};
+
+use wl_machine::{Doing, Machine};
+
+/// True if the node of this machine integrates: it takes no part in the traffic until it has sampled eleven recessive bits in a row (ISO
+/// 11898-1, bus integration).
+#[inline(always)]
+pub fn integrates(machine: &Machine) -> bool
+    ensures { (past : List Input) → IsMachine machine.now past → result ≡ is_integration (stretch_of past).sort }
+{
+    match machine.doing() {
+        Doing::Integrating => true,
+        _ => false,
+    }
+}
