@@ -475,7 +475,12 @@ pub fn explain_fault(
 {
     let about = subject(alloc, top, path, fault)?;
     let form = form_of(top, fault);
-    lines(alloc, about.as_str(), cause_in(form, fault), remedy_in(form, fault))
+    lines(
+        alloc,
+        about.as_str(),
+        cause_in(form, fault),
+        remedy_in(form, fault),
+    )
 }
 
 fn is_newline(byte: u8) -> bool

@@ -17,8 +17,8 @@ use crate::plan_text::{
 use crate::table_path::{PlacedFault, TablePath};
 use crate::tables::{check_required, check_table};
 use crate::values::{
-    bytes_at, elements_at, name_at, number_at, positive_at, ppm_at, small_at,
-    some_name_at, sync_choice_at, tolerance_at, truth_at, value_at,
+    bytes_at, elements_at, name_at, number_at, positive_at, ppm_at, small_at, some_name_at,
+    sync_choice_at, tolerance_at, truth_at, value_at,
 };
 use crate::version::is_known_version;
 use std::alloc::Global;

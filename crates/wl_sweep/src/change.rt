@@ -156,14 +156,11 @@ fn node_with(node: NodeText, key: SweptKey, value: i64) -> NodeText
             offset: size,
             ..node
         },
-        SweptKey::Prop
-        | SweptKey::Ps1
-        | SweptKey::Ps2
-        | SweptKey::Tseg1
-        | SweptKey::Tseg2 => NodeText {
-            segments: segments_with(node.segments, key, value),
-            ..node
-        },
+        SweptKey::Prop | SweptKey::Ps1 | SweptKey::Ps2 | SweptKey::Tseg1 | SweptKey::Tseg2 =>
+            NodeText {
+                segments: segments_with(node.segments, key, value),
+                ..node
+            },
         SweptKey::Sjw => NodeText { sjw: size, ..node },
         SweptKey::X => NodeText {
             x: narrowed(size),

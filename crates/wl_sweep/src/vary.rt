@@ -229,11 +229,7 @@ fn is_segment(key: SweptKey) -> bool
     ensures { result ≡ is_segment key }
 {
     match key {
-        SweptKey::Prop
-        | SweptKey::Ps1
-        | SweptKey::Ps2
-        | SweptKey::Tseg1
-        | SweptKey::Tseg2 => true,
+        SweptKey::Prop | SweptKey::Ps1 | SweptKey::Ps2 | SweptKey::Tseg1 | SweptKey::Tseg2 => true,
         _ => false,
     }
 }

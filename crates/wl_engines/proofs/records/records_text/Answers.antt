@@ -8,6 +8,6 @@ pub returns : goal.returns
 returns c names =
     let checked : IsChecked c.args.plan.now = (search rules) in
     ok_so c.text_of.result (λ text is.
-      let whole : text.items ≡ records_text c.args.plan.now = (search rules) in
-      (whole, c.records_are_true.ensures c.args.plan.now checked, λ limits queued within. c.records_are_within.ensures limits queued c.args.plan.now checked within))
+    let whole : text.items ≡ records_text c.args.plan.now = (search rules) in
+    (whole, c.records_are_true.ensures c.args.plan.now checked, λ limits queued within. c.records_are_within.ensures limits queued c.args.plan.now checked within))
     c.text_of.ensures
