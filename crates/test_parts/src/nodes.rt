@@ -14,7 +14,7 @@ use wl_clock::Clock;
 use wl_confine::Mode;
 use wl_frame::frame::Frame;
 use wl_level::{Level, Listed};
-use wl_node::{Node, NodeSetup, Queue, Queued};
+use wl_node::{Node, NodeSetup, Queue, Queued, Samples};
 use wl_segments::Segments;
 
 /// More than any row runs.
@@ -87,7 +87,7 @@ impl Line {
         match word {
             "changes" => self.changes = true,
             "modes" => self.modes = true,
-            "readers" | "phases" | "frames" | "samples" | "quiet" => self.ask(alloc, word, answer),
+            "readers" | "phases" | "frames" | "samples" | "quiet" => self.ask(word, answer),
             _ => self.act(alloc, word, answer),
         }
     }
@@ -105,9 +105,9 @@ impl Line {
         }
     }
 
-    fn ask(&self, alloc: Global, word: &str, answer: &mut Answer) {
+    fn ask(&self, word: &str, answer: &mut Answer) {
         for node in &self.nodes {
-            ask(alloc, node, word, answer);
+            ask(node, word, answer);
         }
     }
 
@@ -182,13 +182,13 @@ fn show_mode(number: usize, mode: Mode, quantum: u64, answer: &mut Answer) {
 }
 
 /// Writes what a node answers.
-fn ask(alloc: Global, node: &Node, word: &str, answer: &mut Answer) {
+fn ask(node: &Node, word: &str, answer: &mut Answer) {
     match word {
         "readers" => show_readers(node, answer),
         "phases" => show_phases(node, answer),
         "frames" => show_frames(node, answer),
         "quiet" => answer.put(&node.quiet()),
-        _ => show_samples(alloc, node, answer),
+        _ => show_samples(node.samples(), answer),
     }
     answer.say("; ");
 }
@@ -201,14 +201,12 @@ fn show_phases(node: &Node, answer: &mut Answer) {
     }
 }
 
-fn show_samples(alloc: Global, node: &Node, answer: &mut Answer) {
-    if let Some(samples) = answer.kept(node.samples(alloc)) {
-        if let Some(list) = answer.kept(samples.list(alloc)) {
-            for (quantum, level) in list.as_slice() {
-                answer.say(bit(*level));
-                answer.say("@");
-                answer.show(quantum);
-            }
+fn show_samples(samples: &Samples, answer: &mut Answer) {
+    for k in 0..samples.len() {
+        if let Some((quantum, level)) = samples.get(k) {
+            answer.say(bit(level));
+            answer.say("@");
+            answer.show(&quantum);
         }
     }
 }

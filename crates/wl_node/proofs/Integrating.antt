@@ -1,7 +1,6 @@
 -- A node integrates exactly if it does so by what its machine says.
-use Rattle.std.proofs.Common.{◌≡◌, ◌≢◌, Bool, true, false, List, refl}
+use Rattle.std.proofs.Common.{◌≡◌, ◌≢◌, true, false, List, refl}
 use Rattle.wl_level.specs.declared.Level.{Level}
-use Rattle.wl_machine.specs.declared.doing.Doing.{Doing}
 use Rattle.wl_machine.specs.declared.doing.Doing.TheVariants as doings
 use Rattle.wl_machine.specs.declared.state.Role.{Role}
 use Rattle.wl_machine.specs.declared.state.Role.TheVariants.{Tx, Rx}

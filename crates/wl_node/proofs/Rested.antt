@@ -18,7 +18,7 @@ use Rattle.wl_machine.specs.Reached.{IsMachine}
 use Rattle.wl_machine.specs.States.{sample_of}
 use Rattle.wl_machine.proofs.Callers.{free_sort, stretch_next}
 use Rattle.wl_node.specs.declared.setup.NodeSetup.{NodeSetup}
-use Rattle.wl_node.specs.declared.samples.SampleRuns.{SampleRuns}
+use Rattle.wl_node.specs.declared.samples.Samples.{Samples}
 use Rattle.wl_node.specs.declared.traffic.Traffic.{Traffic}
 use Rattle.wl_frame.specs.Grammar.{Content}
 use Rattle.wl_node.specs.History.{History, error_count, is_sent, sampled_next, history_after_judgement, history_after_sample, switched_off, unsent_of, ready_head}
@@ -71,7 +71,7 @@ whole setup kept h is samples sampled = record {
 }
 
 -- one sample more
-pub record IsOneMore (old new : SampleRuns) (quantum : ℕ) (level : Level) : Type 0 where
+pub record IsOneMore (old new : Samples) (quantum : ℕ) (level : Level) : Type 0 where
   pub keeps : new.keeps ≡ old.keeps
   pub samples : old.keeps ≡ true → samples_by new.runs.items ≡ samples_by old.runs.items ++ (quantum, level) ∷ []
   pub count : new.count ≡ old.count + 1

@@ -1,9 +1,14 @@
 -- Samples by runs: one more, one run more, and the first ones.
-use Rattle.std.proofs.Common.{◌≡◌, ◌∙◌, ℕ, zero, suc, ◌+◌, ◌*◌, ◌≤◌, ◌<◌, inl, inr, List, [], ◌∷◌, ◌++◌, length, take, get_or, slice_set, refl, sym, ap, arith, add-one, length-append, append-nil, append_assoc}
-use Rattle.std.proofs.Math.Seq.{take-append-add, take-suc}
+use Rattle.std.proofs.Common.{◌≡◌, ◌∙◌, ℕ, zero, suc, ◌+◌, ◌*◌, ◌≤◌, ◌<◌, inl, inr, List, [], ◌∷◌, ◌++◌, length, take, drop, get_or, slice_set, refl, sym, ap, arith, add-one, length-append, append-nil, append_assoc}
+use Rattle.std.proofs.Math.Seq.{get_or-append_seam, take-append-add, take-suc}
+use Rattle.std.specs.List.{slice_get}
+use Rattle.std.specs.Prelude.{Some, None}
 use Rattle.std.proofs.lemmas.Bool.{cases_lt}
-use Rattle.std.proofs.lemmas.List.{flat_map_more, take-append-le, take_all}
+use Rattle.std.proofs.lemmas.Grind.{flat_map-append}
+use Rattle.std.proofs.lemmas.List.{flat_map_more, get_or_append_left, get_or-append-add, take-append-drop, take-append-le, take_all}
+use Rattle.std.proofs.lemmas.Option.{slice_get-get_or, slice_get_past}
 use Rattle.wl_level.specs.declared.Level.{Level}
+use Rattle.wl_level.specs.declared.Level.TheVariants.{Dominant}
 use Rattle.wl_node.specs.declared.samples.Run.{Run}
 use Rattle.wl_node.specs.Runs.{samples_from, run_samples, samples_by}
 
@@ -81,6 +86,62 @@ module _ (from step : ℕ) (level : Level) where
         let l : length (samples_from from step level (suc n)) ≤ m = omega (arith, length_from (suc n)) in
         take_all m (samples_from from step level (suc n)) l ∙ ap (samples_from from step level) (sym e))
   ]
+
+  get_from : (k n : ℕ) (d : ℕ × Level) → k < n → get_or (samples_from from step level n) k d ≡ (from + k * step, level)
+  get_from k zero d less = absurd (omega arith)
+  get_from k (suc n) d less =
+      let xs : List (ℕ × Level) = samples_from from step level n in
+      let one : ℕ × Level = (from + n * step, level) in
+      ap (λ (l : List (ℕ × Level)). get_or l k d) (from_suc n)
+      ∙ elim (cases_lt k n) [
+        | inl before ↦ get_or_append_left xs (one ∷ []) d k (omega (arith, before, length_from n)) ∙ get_from k n d before
+        | inr last ↦
+            (let e : k ≡ length xs = omega (arith, last, less, length_from n) in
+            let same : n ≡ k = omega (arith, last, less) in
+            ap (λ (j : ℕ). get_or (xs ++ one ∷ []) j d) e ∙ get_or-append_seam xs one [] d ∙ ap (λ (j : ℕ). (from + j * step, level)) same)
+      ]
+
+-- one run among others
+module _ (runs : List Run) (i : ℕ) (d : Run) (less : i < length runs) where
+  abbrev run_at : Run
+  run_at = get_or runs i d
+
+  split_by : (xs ys : List Run) → samples_by (xs ++ ys) ≡ samples_by xs ++ samples_by ys
+  unfolding samples_by
+  split_by xs ys = flat_map-append run_samples xs ys
+
+  split_at : samples_by runs ≡ samples_by (take i runs) ++ (run_samples run_at ++ samples_by (drop (i + 1) runs))
+  split_at =
+      ap samples_by (sym (take-append-drop (i + 1) runs))
+      ∙ split_by (take (i + 1) runs) (drop (i + 1) runs)
+      ∙ ap (λ xs. xs ++ samples_by (drop (i + 1) runs)) (take_by runs i d less)
+      ∙ append_assoc (samples_by (take i runs)) (run_samples run_at) (samples_by (drop (i + 1) runs))
+
+  pub length_next : length (samples_by (take (i + 1) runs)) ≡ length (samples_by (take i runs)) + run_at.count
+  length_next =
+      ap length (take_by runs i d less) ∙ length-append (samples_by (take i runs)) (run_samples run_at)
+      ∙ ap (λ n. length (samples_by (take i runs)) + n) (ap length (run_is run_at) ∙ length_from run_at.from run_at.step run_at.level run_at.count)
+
+  pub sample_in : (k place : ℕ) → k ≡ length (samples_by (take i runs)) + place → place < run_at.count
+      → slice_get (samples_by runs) k ≡ Some (run_at.from + place * run_at.step, run_at.level)
+  sample_in k place e few =
+      let front : List (ℕ × Level) = samples_by (take i runs) in
+      let mid : List (ℕ × Level) = run_samples run_at in
+      let back : List (ℕ × Level) = samples_by (drop (i + 1) runs) in
+      let none : ℕ × Level = (0, Dominant) in
+      let wide : length mid ≡ run_at.count = ap length (run_is run_at) ∙ length_from run_at.from run_at.step run_at.level run_at.count in
+      let all : length (samples_by runs) ≡ length front + (length mid + length back) =
+      ap length split_at ∙ length-append front (mid ++ back) ∙ ap (λ n. length front + n) (length-append mid back) in
+      slice_get-get_or (samples_by runs) k none (omega (arith, all, wide, few, e))
+      ∙ ap Some (ap (λ (l : List (ℕ × Level)). get_or l k none) split_at
+      ∙ ap (λ (j : ℕ). get_or (front ++ (mid ++ back)) j none) e
+      ∙ get_or-append-add front (mid ++ back) place none
+      ∙ get_or_append_left mid back none place (omega (arith, wide, few))
+      ∙ ap (λ (l : List (ℕ × Level)). get_or l place none) (run_is run_at)
+      ∙ get_from run_at.from run_at.step run_at.level place run_at.count none few)
+
+pub past_all : (runs : List Run) (i k : ℕ) → length runs ≤ i → length (samples_by (take i runs)) ≤ k → slice_get (samples_by runs) k ≡ None
+past_all runs i k all past = slice_get_past (samples_by runs) k (let e = ap (λ rs. length (samples_by rs)) (take_all i runs all) in omega (arith, e, past))
 
 module _ (runs : List Run) (run : Run) where
   pub length_more : length (samples_by (runs ++ run ∷ [])) ≡ length (samples_by runs) + run.count

@@ -1,5 +1,5 @@
 -- Where its history puts what a node keeps.
-use Rattle.std.specs.Prelude.{◌≡◌, ℕ, ◌+◌, ◌<◌, true, List, [], ◌∷◌, ◌++◌, length, replicate, count_by, Option, Some, None, vec_len, vec_capacity}
+use Rattle.std.specs.Prelude.{◌≡◌, ℕ, ◌+◌, ◌<◌, ◌≤◌, true, List, [], ◌∷◌, ◌++◌, length, replicate, count_by, Option, Some, None, vec_len, vec_capacity}
 use Rattle.std.specs.List.{flat_map}
 use Rattle.wl_level.specs.declared.Level.{Level}
 use Rattle.wl_segments.specs.Lengths.{Lengths}
@@ -80,6 +80,18 @@ abbrev pub KeepsDrive : NodeSetup → Level → ℕ → NodeProgress → Type 0
 KeepsDrive setup level n kept =
     (m : ℕ) → m < n → (levels : List Level) → IsProgress setup kept levels
     → (history_of setup (levels ++ replicate m level)).drive ≡ (history_of setup levels).drive
+
+-- what is counted fits the quanta that ran: at most a synchronisation, an error and a sample each
+pub record FitsQuanta (kept : NodeProgress) : Type 0 where
+  pub syncs : sync_count kept.syncs ≤ kept.quanta
+  pub errors : kept.traffic.errors ≤ kept.quanta
+  pub samples : kept.traffic.samples.count ≤ kept.quanta
+
+-- so many quanta more are counted, what is counted fits them, and lists are kept or not as before
+pub record KeepsCounts (n : ℕ) (old new : NodeProgress) : Type 0 where
+  pub quanta : new.quanta ≡ old.quanta + n
+  pub fits : FitsQuanta new
+  pub lists : new.traffic.samples.keeps ≡ old.traffic.samples.keeps
 
 -- there is room for what one more quantum stores
 pub record IsRoomy (kept : NodeProgress) : Type 0 where

@@ -11,4 +11,5 @@ pub mod Reached
 pub mod IdleBits
 pub mod Runs
 pub mod Same
+pub mod Samples
 pub mod Stays

@@ -3,12 +3,9 @@
 
 mod ahead;
 mod go;
-mod hear;
-mod idle_bits;
 mod integration;
 mod laws;
 mod limits;
-mod listen;
 mod mark;
 mod node;
 mod phase_totals;
@@ -27,6 +24,6 @@ pub use limits::MOST_QUIET;
 pub use mark::Mark;
 pub use node::{Node, NodeLists};
 pub use phase_totals::PhaseTotals;
-pub use samples::Samples;
+pub use samples::{SampleList, Samples};
 pub use setup::{NodeSetup, Passed, Queue, Queued};
 pub use wl_limits::MOST_RUN_QUANTA;

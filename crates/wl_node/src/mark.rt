@@ -95,7 +95,7 @@ impl crate::progress::NodeProgress {
     ghost use Rattle.std.specs.Prelude.{◌≡◌, ◌+◌, ◌++◌, ◌≤◌, List, false, vec_len};
     ghost use Rattle.wl_level.specs.declared.Level.{Level};
     ghost use Rattle.wl_node.specs.declared.setup.NodeSetup.{NodeSetup};
-    ghost use Rattle.wl_node.specs.Kept.{IsProgress, sync_count};
+    ghost use Rattle.wl_node.specs.Kept.{FitsQuanta, IsProgress};
     ghost use Rattle.wl_node.specs.Marks.{IsMark};
 
     /// Puts a node's progress back to a mark.
@@ -103,9 +103,7 @@ impl crate::progress::NodeProgress {
         ensures place { (setup : NodeSetup) (levels more : List Level) → IsMark setup levels mark.now
             → IsProgress setup self.old (levels ++ more) → IsProgress setup self.new levels }
         ensures quanta { self.new.quanta ≡ mark.now.quanta }
-        ensures syncs { sync_count self.new.syncs ≡ mark.now.hards + mark.now.totals.count }
-        ensures errors { self.new.traffic.errors ≡ mark.now.errors }
-        ensures samples { self.new.traffic.samples.count ≤ mark.now.samples }
+        ensures fits { FitsQuanta self.new }
         ensures keeps { self.new.traffic.samples.keeps ≡ self.old.traffic.samples.keeps }
     {
         self.clock = mark.clock;
@@ -130,9 +128,7 @@ impl crate::progress::NodeProgress {
         ensures place { (setup : NodeSetup) (levels more : List Level) → IsMark setup (levels ++ more) mark.now
             → IsProgress setup self.old levels → IsProgress setup self.new (levels ++ more) }
         ensures quanta { self.new.quanta ≡ mark.now.quanta }
-        ensures syncs { sync_count self.new.syncs ≡ mark.now.hards + mark.now.totals.count }
-        ensures errors { self.new.traffic.errors ≡ mark.now.errors }
-        ensures samples { self.new.traffic.samples.count ≡ mark.now.samples }
+        ensures fits { FitsQuanta self.new }
         ensures keeps { self.new.traffic.samples.keeps ≡ self.old.traffic.samples.keeps }
     {
         self.clock = mark.clock;

@@ -1,12 +1,12 @@
 //! A node, quantum by quantum.
 
-ghost use Rattle.std.specs.Prelude.{◌≤◌, List, ℕ};
+ghost use Rattle.std.specs.Prelude.{List};
 ghost use Rattle.wl_level.specs.declared.Level.{Level};
-ghost use Rattle.wl_node.specs.Kept.{IsProgress, sync_count};
+ghost use Rattle.wl_node.specs.Kept.{FitsQuanta, IsProgress};
 
 use crate::phase_totals::PhaseTotals;
 use crate::progress::NodeProgress;
-use crate::samples::Samples;
+use crate::samples::{SampleList, Samples};
 use crate::setup::{NodeSetup, Passed};
 use std::alloc::{AllocError, Global};
 use wl_confine::Counters;
@@ -21,9 +21,7 @@ use wl_level::{Level, Listed};
 pub struct Node {
     pub(crate) setup: NodeSetup,
     pub(crate) progress: NodeProgress,
-    ghost few_syncs: { sync_count progress.syncs ≤ progress.quanta },
-    ghost few_errors: { progress.traffic.errors ≤ progress.quanta },
-    ghost few_samples: { progress.traffic.samples.count ≤ progress.quanta },
+    ghost fits: { FitsQuanta progress },
     ghost reached: { ∥ ((levels : List Level) × IsProgress setup progress levels) ∥₁ },
 }
 
@@ -31,7 +29,7 @@ pub struct Node {
 #[derive(Drop)]
 pub struct NodeLists {
     /// Returns the samples, each with its quantum.
-    pub samples: Samples,
+    pub samples: SampleList,
     /// The frames that it sent and received, in the order in which they were completed.
     pub frames: Listed<Passed>,
     /// Returns the resynchronising edges: quantum and phase error, in quanta, error 0 too.
@@ -39,12 +37,13 @@ pub struct NodeLists {
 }
 
 impl Node {
-    ghost use Rattle.std.specs.Prelude.{◌≡◌, ◌+◌, ◌<◌, [], true, false, length, OnOk, OnErr, IfOk};
+    ghost use Rattle.std.specs.Prelude.{◌≡◌, ◌≤◌, ℕ, ◌+◌, ◌<◌, [], true, false, length, OnOk, OnErr, IfOk};
     ghost use Rattle.wl_node.specs.Extremes.{phase_totals};
     ghost use Rattle.wl_node.specs.History.{counters_of, phases_of, hards_of, error_count, unsent_count};
     ghost use Rattle.wl_node.specs.Limits.{most_quiet, most_run_quanta};
     ghost use Rattle.wl_node.specs.Quiet.{quiet_of};
     ghost use Rattle.wl_node.specs.Reached.{keeps_lists, node_setup, quanta_of, IsNode, HasRoom, Shows, HasSeen, IsSameNode, StandsFor};
+    ghost use Rattle.wl_node.specs.Samples.{samples_of};
     ghost use Rattle.wl_node.specs.Stays.{free_stay, stay_at};
 
     /// Returns a node of this setup that has run no quantum: it drives recessive. Refused only if memory runs out.
@@ -186,12 +185,11 @@ impl Node {
         self.progress.quanta
     }
 
-    /// Returns the samples so far, each with its quantum. A counting node gives none. Refused only if memory runs out.
-    pub fn samples(&self, alloc: Global) -> Result<Samples, AllocError>
-        ensures { IfOk result (λ samples. keeps_lists self.now ≡ true
-            → Shows self.now (λ h. samples ≡ h.samples)) }
+    /// Returns the samples so far, each with its quantum. The node lends them, which takes no memory. A counting node gives none.
+    pub fn samples(&self) -> &Samples
+        ensures { keeps_lists self.now ≡ true → Shows self.now (λ h. samples_of result.now ≡ h.samples) }
     {
-        self.progress.traffic.samples.so_far(alloc)
+        &self.progress.traffic.samples
     }
 
     /// Returns the number of samples, whether the node lists them or only counts them.
@@ -260,7 +258,7 @@ impl Node {
         ensures phases { keeps_lists self ≡ true → Shows self (λ h. result.phases ≡ phases_of h) }
     {
         NodeLists {
-            samples: self.progress.traffic.samples.into_samples(),
+            samples: self.progress.traffic.samples.into_list(),
             frames: Listed::from_vec(self.progress.traffic.frames),
             phases: Listed::from_vec(self.progress.syncs.phases),
         }

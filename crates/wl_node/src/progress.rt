@@ -1,16 +1,14 @@
 //! One quantum of a node.
 
-ghost use Rattle.std.specs.Prelude.{◌≡◌, suc, ◌+◌, ◌<◌, ◌≤◌, length, OnOk, IfOk, vec_len, vec_capacity};
-ghost use Rattle.wl_level.specs.Levels.{same};
-ghost use Rattle.wl_sync.specs.Skips.{free_quanta};
+ghost use Rattle.std.specs.Prelude.{◌≡◌, ◌+◌, ◌<◌, ◌≤◌, length, OnOk, IfOk, vec_len, vec_capacity};
 ghost use Rattle.wl_node.specs.declared.setup.NodeSetup.{NodeSetup};
 ghost use Rattle.wl_node.specs.History.{History, by_beat, seen_next};
-ghost use Rattle.wl_node.specs.Kept.{FitsHistory, IsTraffic, IsRoomy, HasSeenNothing, IsSameProgress, HasProgressed, HasProgressedBy, KeepsDrive, sync_count};
+ghost use Rattle.wl_node.specs.Kept.{FitsHistory, FitsQuanta, IsTraffic, IsRoomy, HasSeenNothing, IsSameProgress, HasProgressed, KeepsCounts};
 ghost use Rattle.wl_node.specs.Limits.{most_run_quanta};
 
 use crate::integration::integrates;
 use crate::phase_totals::PhaseTotals;
-use crate::samples::SampleRuns;
+use crate::samples::Samples;
 use crate::setup::NodeSetup;
 use crate::syncs::Syncs;
 use crate::traffic::Traffic;
@@ -39,8 +37,7 @@ impl NodeProgress {
     /// otherwise only keeps what a report says of them.
     pub fn new(alloc: Global, segments: Segments, keeps: bool) -> Result<NodeProgress, AllocError>
         ensures place { IfOk result (HasSeenNothing segments) }
-        ensures none { IfOk result (λ kept. (sync_count kept.syncs ≡ 0) × (kept.traffic.errors ≡ 0)) }
-        ensures no_samples { IfOk result (λ kept. kept.traffic.samples.count ≡ 0) }
+        ensures fits { IfOk result FitsQuanta }
         ensures keeps { IfOk result (λ kept. kept.traffic.samples.keeps ≡ keeps) }
     {
         Ok(NodeProgress {
@@ -59,7 +56,7 @@ impl NodeProgress {
                 pending: Level::Recessive,
                 sent: 0,
                 errors: 0,
-                samples: SampleRuns::new(
+                samples: Samples::new(
                     alloc,
                     segments.bit_quanta() as u16,
                     first_room(keeps),
@@ -72,13 +69,10 @@ impl NodeProgress {
 
     /// Makes room for what the next quantum stores.
     pub fn prepare(&mut self) -> Result<(), AllocError>
+        requires fits { FitsQuanta self.old }
         ensures room { OnOk result (IsRoomy self.new) }
         ensures same { IsSameProgress self.old self.new }
-        ensures quanta { self.new.quanta ≡ self.old.quanta }
-        ensures syncs { sync_count self.new.syncs ≡ sync_count self.old.syncs }
-        ensures errors { self.new.traffic.errors ≡ self.old.traffic.errors }
-        ensures samples { self.new.traffic.samples.count ≡ self.old.traffic.samples.count }
-        ensures keeps { self.new.traffic.samples.keeps ≡ self.old.traffic.samples.keeps }
+        ensures keeps { KeepsCounts 0 self.old self.new }
     {
         self.syncs.prepare()?;
         self.traffic.prepare()
@@ -86,12 +80,9 @@ impl NodeProgress {
 
     /// Makes room for this many runs of samples and resynchronising edges more.
     pub fn reserve(&mut self, runs: usize, edges: usize) -> Result<(), AllocError>
+        requires fits { FitsQuanta self.old }
         ensures same { IsSameProgress self.old self.new }
-        ensures quanta { self.new.quanta ≡ self.old.quanta }
-        ensures syncs { sync_count self.new.syncs ≡ sync_count self.old.syncs }
-        ensures errors { self.new.traffic.errors ≡ self.old.traffic.errors }
-        ensures samples { self.new.traffic.samples.count ≡ self.old.traffic.samples.count }
-        ensures keeps { self.new.traffic.samples.keeps ≡ self.old.traffic.samples.keeps }
+        ensures keeps { KeepsCounts 0 self.old self.new }
     {
         self.syncs.reserve(edges)?;
         self.traffic.reserve(runs)
@@ -101,15 +92,9 @@ impl NodeProgress {
     pub fn run(&mut self, setup: &NodeSetup, level: Level)
         requires room { IsRoomy self.old }
         requires short { self.old.quanta < most_run_quanta }
-        requires syncs { sync_count self.old.syncs ≤ self.old.quanta }
-        requires errors { self.old.traffic.errors ≤ self.old.quanta }
-        requires samples { self.old.traffic.samples.count ≤ self.old.quanta }
+        requires fits { FitsQuanta self.old }
         ensures place { HasProgressed setup.now level self.old self.new }
-        ensures quanta { self.new.quanta ≡ self.old.quanta + 1 }
-        ensures syncs { sync_count self.new.syncs ≤ sync_count self.old.syncs + 1 }
-        ensures errors { self.new.traffic.errors ≤ self.old.traffic.errors + 1 }
-        ensures samples { self.new.traffic.samples.count ≤ self.old.traffic.samples.count + 1 }
-        ensures keeps { self.new.traffic.samples.keeps ≡ self.old.traffic.samples.keeps }
+        ensures keeps { KeepsCounts 1 self.old self.new }
     {
         let seen = self.sees(level);
         let (beat, sync) = self.clock.see(seen);
@@ -137,46 +122,6 @@ impl NodeProgress {
             integrates: integrates(&self.traffic.machine),
             driving: self.drive.is_dominant(),
         }
-    }
-
-    /// Skips quanta of this level, at most `most`, in which nothing happens. None is a sample, none finds an edge, and a bit starts only if
-    /// the node drives what its machine wants. Returns how many.
-    pub fn pass(&mut self, level: Level, most: u64) -> u64
-        requires short { self.old.quanta + most ≤ most_run_quanta }
-        ensures place { (setup : NodeSetup) → HasProgressedBy setup level result self.old self.new }
-        ensures drive { (setup : NodeSetup) → KeepsDrive setup level (suc result) self.old }
-        ensures few { result ≤ most }
-        ensures quanta { self.new.quanta ≡ self.old.quanta + result }
-        ensures room { IsRoomy self.old → IsRoomy self.new }
-        ensures syncs { sync_count self.new.syncs ≡ sync_count self.old.syncs }
-        ensures errors { self.new.traffic.errors ≡ self.old.traffic.errors }
-        ensures samples { self.new.traffic.samples.count ≡ self.old.traffic.samples.count }
-        ensures keeps { self.new.traffic.samples.keeps ≡ self.old.traffic.samples.keeps }
-    {
-        let settled = self.drive.is(self.traffic.pending);
-        let free = (self.clock.free_quanta(level, settled) as u64).min(most);
-        if 0 < free {
-            self.skip(level, free as u16);
-        }
-        free
-    }
-
-    /// Skips this many of them at once.
-    pub fn skip(&mut self, level: Level, quanta: u16)
-        requires some { 0 < quanta }
-        requires few { quanta ≤ free_quanta (same self.old.drive self.old.traffic.pending) self.old.clock level }
-        requires short { self.old.quanta + quanta ≤ most_run_quanta }
-        ensures place { (setup : NodeSetup) → HasProgressedBy setup level quanta self.old self.new }
-        ensures drive { (setup : NodeSetup) → KeepsDrive setup level (suc quanta) self.old }
-        ensures room { IsRoomy self.old → IsRoomy self.new }
-        ensures quanta { self.new.quanta ≡ self.old.quanta + quanta }
-        ensures syncs { sync_count self.new.syncs ≡ sync_count self.old.syncs }
-        ensures errors { self.new.traffic.errors ≡ self.old.traffic.errors }
-        ensures samples { self.new.traffic.samples.count ≡ self.old.traffic.samples.count }
-        ensures keeps { self.new.traffic.samples.keeps ≡ self.old.traffic.samples.keeps }
-    {
-        self.clock.skip(level, quanta);
-        self.quanta += quanta as u64;
     }
 }
 

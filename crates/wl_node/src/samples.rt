@@ -1,7 +1,7 @@
 //! Samples, kept by runs: samples of one level that are a bit apart. A line at rest is a run for each 255 bits, and the equal bits of a
 //! frame that a node takes at once are one. A node that only counts its samples lists no run.
 
-ghost use Rattle.std.specs.Prelude.{◌≡◌, ◌*◌, ◌+◌, ◌<◌, ◌≤◌, ◌++◌, ℕ, [], ◌∷◌, true, false, length, take, min, IfOk, OnOk, vec_len, vec_capacity};
+ghost use Rattle.std.specs.Prelude.{◌≡◌, ◌*◌, ◌+◌, ◌<◌, ◌≤◌, ◌++◌, ℕ, [], ◌∷◌, true, false, length, take, min, slice_get, IfOk, OnOk, vec_len, vec_capacity};
 ghost use Rattle.wl_node.specs.Limits.{most_run_quanta};
 ghost use Rattle.wl_node.specs.Runs.{run_samples, samples_by, samples_from};
 
@@ -19,14 +19,14 @@ pub(crate) struct Run {
     pub(crate) level: Level,
 }
 
-/// The samples of a node, each with its quantum. Contracts see them as their list.
+/// The samples that a node lists, each with its quantum, given up by it or copied. Contracts see them as their list.
 #[derive(Debug, Drop)]
-pub struct Samples {
+pub struct SampleList {
     runs: Vec<Run>,
     count: u64,
 }
 
-impl Model for Samples {
+impl Model for SampleList {
     ghost use Rattle.std.specs.Prelude.{◌≡◌, List, ℕ, length};
     ghost use Rattle.wl_level.specs.declared.Level.{Level};
     ghost use Rattle.wl_node.specs.Runs.{samples_by};
@@ -38,7 +38,7 @@ impl Model for Samples {
     ghost invariant = { λ s. s.count ≡ length (samples_by s.runs.items) };
 }
 
-impl Samples {
+impl SampleList {
     /// Returns the number of samples.
     pub fn len(&self) -> usize
         ensures { result ≡ length self.now }
@@ -65,6 +65,23 @@ fn unrolled(alloc: Global, runs: &[Run]) -> Result<Vec<(u64, Level)>, AllocError
     Ok(list)
 }
 
+/// Returns sample `k` of these runs, if they have more than `k`.
+fn sample_at(runs: &[Run], k: usize) -> Option<(u64, Level)>
+    ensures { result ≡ slice_get (samples_by runs.now) k }
+{
+    let mut before = 0;
+    for i in 0..runs.len() {
+        let run = runs[i];
+        let count = run.count as usize;
+        if k - before < count {
+            let quantum = run.from as u64 + (k - before) as u64 * run.step as u64;
+            return Some((quantum, run.level));
+        }
+        before += count;
+    }
+    None
+}
+
 /// Adds the samples of a run.
 fn unroll(list: &mut Vec<(u64, Level)>, run: Run) -> Result<(), AllocError>
     ensures { OnOk result (list.new.items ≡ list.old.items ++ run_samples run) }
@@ -76,9 +93,11 @@ fn unroll(list: &mut Vec<(u64, Level)>, run: Run) -> Result<(), AllocError>
     Ok(())
 }
 
-/// The samples of a node that goes on, with the quanta of a bit that nothing moves.
+/// The samples that a node keeps, each with its quantum. The node lends them ([`Node::samples`](crate::Node::samples)). Contracts see their
+/// list by `samples_of`, and the room for more of them.
 #[derive(Drop)]
-pub(crate) struct SampleRuns {
+pub struct Samples {
+    /// How many quanta a bit has that nothing moves.
     pub(crate) step: u16,
     /// True if the samples are listed, false if they are only counted.
     pub(crate) keeps: bool,
@@ -88,7 +107,9 @@ pub(crate) struct SampleRuns {
     ghost none: { keeps ≡ false → samples_by runs.items ≡ [] },
 }
 
-impl SampleRuns {
+impl Samples {
+    ghost use Rattle.wl_node.specs.Samples.{samples_of};
+
     /// Returns no samples of a node whose bits have this many quanta, with room for some runs. If `keeps` is true, samples are listed, and
     /// otherwise they are only counted.
     pub(crate) fn new(
@@ -96,12 +117,12 @@ impl SampleRuns {
         step: u16,
         room: usize,
         keeps: bool,
-    ) -> Result<SampleRuns, AllocError>
+    ) -> Result<Samples, AllocError>
         ensures samples { IfOk result (λ kept. samples_by kept.runs.items ≡ []) }
         ensures none { IfOk result (λ kept. kept.count ≡ 0) }
         ensures keeps { IfOk result (λ kept. kept.keeps ≡ keeps) }
     {
-        Ok(SampleRuns {
+        Ok(Samples {
             step,
             keeps,
             runs: Vec::with_capacity(alloc, room)?,
@@ -200,20 +221,42 @@ impl SampleRuns {
     }
 
     /// Returns the samples that are listed, and leaves nothing.
-    pub(crate) fn into_samples(self) -> Samples
+    pub(crate) fn into_list(self) -> SampleList
         ensures { result ≡ samples_by self.runs.items }
     {
-        Samples {
+        SampleList {
             count: self.listed(),
             runs: self.runs,
         }
     }
 
-    /// Returns the samples that are listed so far. Refused only when out of memory.
-    pub(crate) fn so_far(&self, alloc: Global) -> Result<Samples, AllocError>
-        ensures { IfOk result (λ samples. samples ≡ samples_by self.now.runs.items) }
+    /// Returns the number of samples that are listed.
+    pub fn len(&self) -> usize
+        ensures { result ≡ length (samples_of self.now) }
     {
-        Ok(Samples {
+        self.listed() as usize
+    }
+
+    /// Returns sample `k` of those that are listed, and nothing if there are no more than `k`. It takes no memory. It looks at the runs up to
+    /// the sample, so [`Samples::list`] is quicker for all of them.
+    pub fn get(&self, k: usize) -> Option<(u64, Level)>
+        ensures { result ≡ slice_get (samples_of self.now) k }
+    {
+        sample_at(&self.runs, k)
+    }
+
+    /// Returns the samples that are listed one by one. Refused only when out of memory.
+    pub fn list(&self, alloc: Global) -> Result<Listed<(u64, Level)>, AllocError>
+        ensures { IfOk result (λ list. list ≡ samples_of self.now) }
+    {
+        Ok(Listed::from_vec(unrolled(alloc, &self.runs)?))
+    }
+
+    /// Returns a copy of the samples that are listed. Refused only when out of memory.
+    pub fn copy(&self, alloc: Global) -> Result<SampleList, AllocError>
+        ensures { IfOk result (λ copy. copy ≡ samples_of self.now) }
+    {
+        Ok(SampleList {
             runs: Vec::from_slice(alloc, &self.runs)?,
             count: self.listed(),
         })

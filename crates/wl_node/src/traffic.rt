@@ -16,7 +16,7 @@ ghost use Rattle.wl_node.specs.KeptBits.{HasKept};
 ghost use Rattle.wl_node.specs.Limits.{most_run_quanta};
 ghost use Rattle.wl_node.specs.Runs.{samples_by, samples_from};
 
-use crate::samples::SampleRuns;
+use crate::samples::Samples;
 use crate::setup::{NodeSetup, Passed, Queued};
 use std::alloc::AllocError;
 use wl_confine::{Counters, Happened, Mode};
@@ -35,7 +35,7 @@ pub struct Traffic {
     /// How many frames of the queue were sent.
     pub sent: usize,
     pub errors: u64,
-    pub samples: SampleRuns,
+    pub samples: Samples,
     pub frames: Vec<Passed>,
 }
 

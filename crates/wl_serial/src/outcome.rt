@@ -5,7 +5,7 @@ ghost use Rattle.wl_serial.specs.Outcome.{node_totals, totals_of};
 use std::alloc::{AllocError, Global};
 use wl_confine::Counters;
 use wl_level::Listed;
-use wl_node::{Passed, PhaseTotals, Samples};
+use wl_node::{Passed, PhaseTotals, SampleList};
 
 /// Ticks, in order. At the first one the drive becomes dominant.
 pub type Changes = Listed<u64>;
@@ -22,7 +22,7 @@ pub struct NodeOutcome {
     /// The ticks before the end at which its drive changed. The first change is to dominant.
     pub changes: Changes,
     /// Its samples: quantum and level.
-    pub samples: Samples,
+    pub samples: SampleList,
     /// The frames that it sent or received, each with the quantum of the sample that completed it.
     pub frames: Frames,
     /// Its error counters at the end.

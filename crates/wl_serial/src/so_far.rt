@@ -18,7 +18,7 @@ pub fn node_outcome(alloc: Global, node: &Node, changes: Changes) -> Result<Node
 {
     Ok(NodeOutcome {
         changes,
-        samples: node.samples(alloc)?,
+        samples: node.samples().copy(alloc)?,
         frames: Listed::from_vec(Vec::from_slice(alloc, node.frames())?),
         counters: node.counters(),
         phases: Listed::from_vec(Vec::from_slice(alloc, node.phases())?),

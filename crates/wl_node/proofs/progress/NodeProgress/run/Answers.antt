@@ -1,4 +1,4 @@
-use Rattle.std.proofs.Common.{◌≡◌, ◌∙◌, ◌+◌, [], ◌∷◌, ◌++◌, ℕ, length, Option, sym, ap, subst, length-append}
+use Rattle.std.proofs.Common.{◌≡◌, ◌∙◌, ◌+◌, [], ◌∷◌, ◌++◌, ℕ, length, Option, refl, sym, ap, subst, arith, length-append}
 use Rattle.wl_sync.specs.declared.Sync.{Sync}
 use Rattle.wl_sync.specs.declared.Beat.{Beat}
 use Rattle.wl_sync.specs.declared.Seen.{Seen}
@@ -54,3 +54,14 @@ returns-clause-place c levels old =
       counted = ap (λ (k : History). length k.seen) (history_next setup levels c.args.level) ∙ (length-append h.seen (x ∷ []) ∙ (ap (λ (n : ℕ). n + 1) old.counted ∙ sym (length-append levels (c.args.level ∷ []))));
       place = subst (FitsHistory setup now) (sym (history_next setup levels c.args.level)) place;
     }
+
+pub returns-clause-keeps : goal.returns-clause-keeps
+returns-clause-keeps c = record {
+  quanta = refl;
+  fits = record {
+    syncs = omega (arith, c.note.ensures.few, c.requires.fits.syncs);
+    errors = omega (arith, c.obey.ensures.errors, c.requires.fits.errors);
+    samples = omega (arith, c.obey.ensures.count, c.requires.fits.samples);
+  };
+  lists = c.obey.ensures.keeps;
+}

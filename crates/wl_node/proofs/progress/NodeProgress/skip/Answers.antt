@@ -9,6 +9,7 @@ use Rattle.wl_node.specs.declared.progress.NodeProgress.{NodeProgress}
 use Rattle.wl_node.specs.History.{History, history_of, seen_next}
 use Rattle.wl_node.specs.Kept.{FitsHistory}
 use Rattle.wl_node.specs.Quiet.{pending_of}
+use Rattle.wl_node.proofs.Listening.{kept_same}
 use Rattle.wl_node.proofs.Skipped.{seen_more, IsIdleFor, history_skipped, no_starts}
 use Rattle.wl_node.proofs.progress.NodeProgress.skip.Goals as goal
 
@@ -68,3 +69,6 @@ returns-clause-place c setup levels old =
 pub returns-clause-drive : goal.returns-clause-drive
 returns-clause-drive c setup m less levels old =
     ap (λ (h : History). h.drive) (history_skipped setup levels c.args.level c.args.quanta m (omega arith) (idle_for c setup (history_of setup levels) old.place))
+
+pub returns-clause-keeps : goal.returns-clause-keeps
+returns-clause-keeps c = kept_same c.requires.fits refl refl refl refl refl
