@@ -2,3 +2,4 @@ pub mod Silence
 pub mod Costs
 pub mod Joining
 pub mod Healing
+pub mod Disturbed

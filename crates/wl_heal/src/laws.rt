@@ -1,14 +1,18 @@
 //! Laws of a disturbed bus, each proved as the contract of a function that does nothing.
 
-ghost use Rattle.std.specs.Prelude.{◌≡◌, ◌≢◌, ◌<◌, ◌≤◌, ◌+◌, ◌/◌, ℕ, true, false, List, length};
+ghost use Rattle.std.specs.Prelude.{◌≡◌, ◌≢◌, ◌↔◌, ◌<◌, ◌≤◌, ◌+◌, ◌/◌, ℕ, true, false, List, length};
+ghost use Rattle.wl_frame.specs.Grammar.{Content};
 ghost use Rattle.wl_confine.specs.declared.Mode.TheVariants.{Off};
 ghost use Rattle.wl_confine.specs.Counts.{Counts, mode_of};
 ghost use Rattle.wl_machine.specs.Stretch.{Sampled, Input};
+ghost use Rattle.wl_level.specs.declared.Level.{Level};
+ghost use Rattle.wl_machine.specs.Stretch.Ended.{Received, Sent};
 ghost use Rattle.wl_machine.specs.Judged.{stretch_of};
 ghost use Rattle.wl_wire.specs.Heads.{OwnHeads};
 ghost use Rattle.wl_wire.specs.InStep.{AreSoundFrames, AreInStep, FindsNoError};
 ghost use Rattle.wl_wire.specs.Wire.{Event, Wire, Handed, is_between, stretch_at, wire_after};
 ghost use Rattle.wl_heal.specs.Costs.{FindsItsDominant, counts_on};
+ghost use Rattle.wl_heal.specs.Disturbed.{Course, TakesPart, IsSentClear, AreActiveIn, AreAtEnd, NobodyHit, judged_at};
 ghost use Rattle.wl_heal.specs.Healing.{AreActive, AllTakePart, IsDominantFor, HealWithin};
 ghost use Rattle.wl_heal.specs.Healing.{StayWithoutError, bits_after, healing_bits};
 ghost use Rattle.wl_heal.specs.Joining.{Change, AreThosePresent, AreInStepBeside, FindNoFault, wire_with};
@@ -82,4 +86,29 @@ pub fn active_machines_heal()
         → AreActive handed → AllTakePart w → (n : ℕ) × (n ≤ healing_bits) × StayWithoutError (bits_after w handed n) }
 {
     wl_wire::laws::machines_that_are_in_step_stay_so();
+}
+
+/// Law: a frame that is sent is received. Let one machine have sent a frame, and let both it and another one be error active. Let no
+/// disturbance reach these two in the ten bits before the start of frame, or up to the end of the stuffed part. Then the other one has
+/// received that frame with the bit before. So it is whatever all did before, and whatever is disturbed besides and after that part.
+pub fn a_sent_frame_is_received()
+    ensures { (w : Wire) (c : Course) (s j n : ℕ) (frame : Content) → AreSoundFrames w.count w.frames → OwnHeads w
+        → s ≢ j → TakesPart w c s → TakesPart w c j → IsSentClear w c s j n frame
+        → (judged_at w c n j).ended ≡ Received frame }
+{
+    wl_machine::laws::a_sent_frame_is_the_head_that_began_its_stretch();
+}
+
+/// Law: who has a frame at its end. Let all be error active, in one frame and before the last but one bit of its end. A receiver has received
+/// the frame with that bit exactly if it isn't hit. The sender has sent it with the last bit exactly if nobody was hit there, and it isn't
+/// hit in the last one. So a receiver has a frame that its sender sends again exactly if it isn't hit there, and another one or the sender is.
+pub fn who_has_a_frame_at_its_end()
+    ensures received { (w : Wire) (c : Course) (own : List Level) (s k : ℕ) (frame : Content) → AreSoundFrames w.count w.frames
+        → OwnHeads w → AreActiveIn c → AreAtEnd w own s frame → k < w.count → k ≢ s
+        → ((judged_at w c 0 k).ended ≡ Received frame) ↔ (c.hit 0 k ≡ false) }
+    ensures sent { (w : Wire) (c : Course) (own : List Level) (s : ℕ) (frame : Content) → AreSoundFrames w.count w.frames
+        → OwnHeads w → AreActiveIn c → AreAtEnd w own s frame
+        → ((judged_at w c 1 s).ended ≡ Sent frame) ↔ (NobodyHit w c 0 × (c.hit 1 s ≡ false)) }
+{
+    wl_machine::laws::a_sent_frame_is_the_head_that_began_its_stretch();
 }
