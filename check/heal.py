@@ -149,6 +149,34 @@ def frames(lengths=48, low=1):
     return shortest
 
 
+def sent_alone(bus, joint, hits, told=()):
+    """True if a frame is sent that somebody else hasn't received with the bit before."""
+    count = 0
+    while count < len(hits) or not bus.is_over(joint):
+        before, (joint, told) = told, bus.move(joint, hits[count] if count < len(hits) else 0)
+        count += 1
+        for k, _, e in told:
+            if e and e[0] == "sent" and any((j, ("received", e[1])) not in {(i, g) for i, _, g in before} for j in range(bus.count) if j != k): return True
+        if count > 2000: return True
+    return False
+
+
+def intervals(lengths=48, low=1):
+    """How many disturbances there are with which a frame is sent that somebody hasn't received with the bit before; by the length."""
+    tried, broken = 0, Counter()
+    for queues in small(8):
+        bus = Bus([list(q) for q in queues])
+        told = ()
+        for joint, _ in plain_run(bus, bus.start()):
+            for who in range(1, 8):
+                for length in range(low, lengths + 1):
+                    tried += 1
+                    if sent_alone(bus, joint, [who] * length, told): broken[length] += 1
+            told = bus.move(joint)[1]
+    print(f"intervals: {tried} disturbances of {low} to {lengths} bits, a frame is sent that somebody hasn't received with the bit before: {dict(broken) or 0}")
+    return broken
+
+
 def tails():
     """Counts the cases in which the table is wrong: a receiver has a frame with the last but one bit of the end of frame if it isn't hit, and the frame is sent
     if nobody is hit there and the sender isn't hit in the last one. So it is taken twice if a receiver isn't hit in the last but one and it isn't sent."""
@@ -356,7 +384,7 @@ def counts(lengths=48):
 
 def main():
     word, numbers = sys.argv[1], [int(n) for n in sys.argv[2:]]
-    {"frames": frames, "received": received, "tails": tails, "states": states, "passive": passive, "counts": counts}[word](*numbers)
+    {"frames": frames, "received": received, "tails": tails, "states": states, "passive": passive, "counts": counts, "intervals": intervals}[word](*numbers)
 
 
 if __name__ == "__main__": main()

@@ -1,5 +1,5 @@
 -- Machines on one wire, some of which a disturbance reaches: they find a bit dominant, whatever the bus has.
-use Rattle.std.specs.Prelude.{◌≡◌, ◌<◌, ℕ, zero, suc, ◌+◌, Bool, false, List, [], ◌∷◌, ◌++◌, length, Some, if◌then◌else◌}
+use Rattle.std.specs.Prelude.{◌≡◌, ◌<◌, ◌≤◌, ℕ, zero, suc, ◌+◌, Bool, false, List, [], ◌∷◌, ◌++◌, length, Some, if◌then◌else◌}
 use Rattle.wl_level.specs.declared.Level.{Level}
 use Rattle.wl_level.specs.declared.Level.TheVariants.{Dominant}
 use Rattle.wl_confine.specs.declared.Mode.TheVariants.{Active}
@@ -50,13 +50,17 @@ pub record TakesPart (w : Wire) (c : Course) (k : ℕ) : Type 0 where
   pub part : is_apart (stretch_at w k) ≡ false
   pub active : (i : ℕ) → (c.handed i k).mode ≡ Active
 
--- Machine s sends a frame, with bit n + 1 as its last bit. Its start of frame is bit 10, and its last nine bits before that one are CRC delimiter,
--- ACK slot, ACK delimiter and end of frame. Up to them no disturbance reaches s or j; Bosch CAN 2.0 part B, sections 3.2.1 and 5
-pub record IsSentClear (w : Wire) (c : Course) (s j n : ℕ) (frame : Content) : Type 0 where
+-- Machine s sends a frame, from its start of frame to bit n + 1, which is the last one. It has ten bits before it; Bosch CAN 2.0 part B, section 5
+pub record IsSentFrom (w : Wire) (c : Course) (s start n : ℕ) (frame : Content) : Type 0 where
   pub sends : (judged_at w c (suc n) s).ended ≡ Sent frame
-  pub whole : 9 + length (stretch_before w c (suc n) s).own ≡ n
-  pub clear_s : (i : ℕ) → i + 8 < n → c.hit i s ≡ false
-  pub clear_j : (i : ℕ) → i + 8 < n → c.hit i j ≡ false
+  pub whole : start + length (stretch_before w c (suc n) s).own ≡ suc n
+  pub room : 10 ≤ start
+
+-- No disturbance reaches s or j in the ten bits before the start of frame and up to the end of the stuffed part. After it come CRC delimiter,
+-- ACK slot, ACK delimiter and end of frame; Bosch CAN 2.0 part B, section 3.2.1
+pub record IsClear (c : Course) (s j start n : ℕ) : Type 0 where
+  pub clear_s : (i : ℕ) → start ≤ i + 10 → i + 8 < n → c.hit i s ≡ false
+  pub clear_j : (i : ℕ) → start ≤ i + 10 → i + 8 < n → c.hit i j ≡ false
 
 -- all are error active, and nobody is hit at bit i
 abbrev pub AreActiveIn : Course → Type 0

@@ -12,7 +12,7 @@ ghost use Rattle.wl_wire.specs.Heads.{OwnHeads};
 ghost use Rattle.wl_wire.specs.InStep.{AreSoundFrames, AreInStep, FindsNoError};
 ghost use Rattle.wl_wire.specs.Wire.{Event, Wire, Handed, is_between, stretch_at, wire_after};
 ghost use Rattle.wl_heal.specs.Costs.{FindsItsDominant, counts_on};
-ghost use Rattle.wl_heal.specs.Disturbed.{Course, TakesPart, IsSentClear, AreActiveIn, AreAtEnd, NobodyHit, judged_at};
+ghost use Rattle.wl_heal.specs.Disturbed.{Course, TakesPart, IsSentFrom, IsClear, AreActiveIn, AreAtEnd, NobodyHit, judged_at};
 ghost use Rattle.wl_heal.specs.Healing.{AreActive, AllTakePart, IsDominantFor, HealWithin};
 ghost use Rattle.wl_heal.specs.Healing.{StayWithoutError, bits_after, healing_bits};
 ghost use Rattle.wl_heal.specs.Joining.{Change, AreThosePresent, AreInStepBeside, FindNoFault, wire_with};
@@ -90,10 +90,10 @@ pub fn active_machines_heal()
 
 /// Law: a frame that is sent is received. Let one machine have sent a frame, and let both it and another one be error active. Let no
 /// disturbance reach these two in the ten bits before the start of frame, or up to the end of the stuffed part. Then the other one has
-/// received that frame with the bit before. So it is whatever all did before, and whatever is disturbed besides and after that part.
+/// received that frame with the bit before. So it is whatever all did before, and whatever is disturbed besides, before and after that part.
 pub fn a_sent_frame_is_received()
-    ensures { (w : Wire) (c : Course) (s j n : ℕ) (frame : Content) → AreSoundFrames w.count w.frames → OwnHeads w
-        → s ≢ j → TakesPart w c s → TakesPart w c j → IsSentClear w c s j n frame
+    ensures { (w : Wire) (c : Course) (s j start n : ℕ) (frame : Content) → AreSoundFrames w.count w.frames → OwnHeads w
+        → s ≢ j → TakesPart w c s → TakesPart w c j → IsSentFrom w c s start n frame → IsClear c s j start n
         → (judged_at w c n j).ended ≡ Received frame }
 {
     wl_machine::laws::a_sent_frame_is_the_head_that_began_its_stretch();
