@@ -7,7 +7,7 @@ usage: heal.py frames [LENGTHS]          one disturbance: every place, every set
        heal.py states                    every three stretches: a silence, six dominant bits, and when they are in step
        heal.py counts [LENGTHS]          one disturbance as above: what the counters reach, with all that follows it
        heal.py passive [COUNT [SEED]]    error passive machines that let so many idle bits pass before each frame
-       heal.py wrong [COUNT [SEED]]      each condition of a law turned: what happens
+       heal.py wrong [COUNT [SEED [ROW]]]   each condition of a law turned: what happens; from that row on
        heal.py all                       all of them
 
 A disturbance makes some machines find a bit dominant, whatever the bus has. All else is a bit of the bus. A machine that is free is handed the
@@ -173,7 +173,7 @@ def intervals(lengths=48, low=1):
                     tried += 1
                     if sent_alone(bus, joint, [who] * length, told): broken[length] += 1
             told = bus.move(joint)[1]
-    print(f"intervals: {tried} disturbances of {low} to {lengths} bits, a frame is sent that somebody hasn't received with the bit before: {dict(broken) or 0}")
+    if low == 1 and lengths > 5: print(f"intervals: {tried} disturbances of 1 to {lengths} bits, a frame is sent that somebody hasn't received with the bit before: {dict(broken) or 0}")
     return broken
 
 
@@ -239,8 +239,8 @@ def received(count=20000, seed=1, before=10, within=False, modes=None, start=Non
                     if j == k or begin < before or any(hits[i] >> k & 1 or hits[i] >> j & 1 for i in window): continue
                     checked += 1
                     broken += done[-2].get(j) != ("received", e[1])
-    print(f"{word}: {count} runs, {checked} frames checked, {broken} broken")
-    return broken
+    if word: print(f"{word}: {count} runs, {checked} frames checked, {broken} broken")
+    return broken if word else f"{broken} of {checked} frames"
 
 
 # ---- Every three stretches
@@ -382,9 +382,133 @@ def counts(lengths=48):
     return most
 
 
+# ---- Each condition turned
+
+def silence(bits, head=None, dominant=None, off=False):
+    """How many stretches aren't between frames after so many recessive samples, of which one may be dominant; of those that drive recessive all along, if no
+    head is handed."""
+    count = 0
+    stretches = {str(s): s for h in SMALL for p in (False, True) for s in all_stretches(h, 1, p) + wrong_crc()}.values()
+    for first in [("off", "", None)] if off else stretches:
+        for mode in ("active", "passive"):
+            stretch, heard = first, True
+            for n in range(bits):
+                heard &= wire.drive(stretch, RULES) == "r"
+                stretch = stretch if off else wire.after(stretch, "d" if n == dominant else "r", head, mode, RULES)[2]
+            count += not is_between(stretch) and (heard or head is not None or dominant is not None)
+    return count
+
+
+def two_spikes(count, seed):
+    """Of so many pairs of spikes at one receiver, one in the stuffed part and one in the end of frame: those that hide the frame."""
+    random.seed(seed)
+    missed = 0
+    for n in range(count):
+        frame = base(random.randrange(2048), *random.choice(((), (0x55,), (0xF8, 0x07))), remote=False)
+        frame = random.choice((frame, base(frame.id, remote=True, dlc=random.randrange(9))))
+        bus = Bus([[frame], [], []])
+        way = plain_run(bus, bus.start())
+        own = next(len(TABLE.stretches[j[0][0]][1]) for j, _ in reversed(way) if TABLE.stretches[j[0][0]][0] == "frame") + 1
+        first = next(k for k, (j, _) in enumerate(way) if TABLE.stretches[j[0][0]][0] == "frame")
+        hits = [0] * (first + own + 1)
+        hits[first + random.randrange(1, own - 10)] = 2
+        hits[first + own - random.randrange(3, 8)] = 2
+        missed += sent_alone(bus, way[0][0], hits)
+    return missed
+
+
+def out_of_step(bits):
+    """How many frames are hidden by a disturbance of so many bits at a receiver that is in the wait after a flag when it begins, beside a sender."""
+    missed = 0
+    for queues in small(8):
+        bus = Bus([list(q) for q in queues])
+        for joint, _ in plain_run(bus, bus.start()):
+            wait = TABLE.number(("wait", "d", (("active", "Rx"), "dddddd")))
+            missed += sent_alone(bus, ((joint[0][0], wait, joint[0][2]), joint[1], joint[2]), [2] * bits)
+    return missed
+
+
+def most_counts(count, seed, finds=True):
+    """The most that a TEC has reached beyond the number of samples, and the fewest samples to bus off from 0, over random samples of one machine; `finds`: it
+    finds each dominant bit that it drives."""
+    random.seed(seed)
+    beyond, off = 0, None
+    for n in range(count):
+        head = random.choice(SMALL)
+        pool = all_stretches(head, 3)
+        stretch, tec = random.choice(pool), 0
+        for k in range(1, 260):
+            driven = wire.drive(stretch, RULES)
+            options = "d" if driven == "d" and finds else "dr"
+            steps = [(counted(0, 0, wire.after(stretch, l, head, "active", RULES)[0])[0], random.random(), l) for l in options]
+            level = max(steps)[2] if random.random() < .9 else random.choice(options)
+            happened, _, stretch = wire.after(stretch, level, head, "active", RULES)
+            tec = counted(tec, 0, happened)[0]
+            beyond = max(beyond, tec - k)
+            if tec >= 256:
+                off = min(off or k, k)
+                break
+    return beyond, off
+
+
+def errors_with(queues, start, count=400):
+    """Errors on a bus that nobody disturbs."""
+    bus, joint, errors = Bus(queues), None, 0
+    joint = bus.start(*start)
+    for _ in range(count):
+        joint, told = bus.move(joint)
+        errors += sum("Error" in h or h == "TxFree" for _, h, _ in told)
+    return errors
+
+
+INTEGRATES, OFF, SPIKE = ("integration", "", None), ("off", "", None), (1,)
+
+
+def wrong(count=1500, seed=1, first=0):
+    """Prints what happens with each condition turned, from row `first` on."""
+    same = ((base(0x123),), (base(0x123),), ())
+    rows = [
+        ("an error passive receiver", lambda: received(count, seed, modes=("active", "passive", "active"), word="")),
+        ("error passive receivers alone", lambda: received(count, seed, modes=("active", "passive", "passive"), word="")),
+        ("a receiver that integrates at first", lambda: received(count, seed, start=[FREE, INTEGRATES, FREE], word="")),
+        ("a receiver in the wait after a flag, and hit all along: a disturbance of 48 bits", lambda: out_of_step(48)),
+        ("the same with 30 bits", lambda: out_of_step(30)),
+        ("another sender of the same frame", lambda: received(count, seed, queues=same, word="")),
+        ("bits disturbed to recessive", lambda: received(count, seed, to_recessive=True, word="")),
+        ("two spikes at one receiver, in the stuffed part and in the end of frame", lambda: two_spikes(count * 2, seed)),
+        ("a disturbance in the stuffed part, too", lambda: received(count, seed, within=True, word="")),
+        ("one bit as well as six: intervals of 1 to 5 bits", lambda: sum(intervals(5).values())),
+        ("one disturbance of 54 bits", lambda: sum(intervals(54, 54).values())),
+        ("one disturbance of 55 bits", lambda: sum(intervals(55, 55).values())),
+        ("one disturbance of 60 bits", lambda: sum(intervals(60, 60).values())),
+        ("a silence of 22 bits", lambda: silence(22)),
+        ("a silence of 23 bits", lambda: silence(23)),
+        ("23 bits with a head at hand", lambda: silence(23, head=SMALL[0])),
+        ("23 bits, the 12th dominant", lambda: silence(23, dominant=12)),
+        ("23 bits, the last dominant", lambda: silence(23, dominant=22)),
+        ("five dominant bits in place of six: the most bits", lambda: triples(ACTIVE, 0, 14, 5)[2]),
+        ("six dominant bits: the most bits", lambda: triples(ACTIVE, 0, 14, 6)[2]),
+        ("six dominant bits, one passive: never in step", lambda: triples(("passive", "active", "active"), 0, 14, 6)[1]),
+        ("one passive, no idle bit: never in step", lambda: triples(("passive", "active", "active"), 0, 14)[1]),
+        ("one passive, two idle bits: never in step", lambda: triples(("passive", "active", "active"), 2, 14)[1]),
+        ("two passive, four idle bits: never in step", lambda: triples(("passive", "passive", "active"), 4, 14)[1]),
+        ("two passive, five idle bits: never in step", lambda: triples(("passive", "passive", "active"), 5, 14)[1]),
+        ("all passive, four idle bits: never in step", lambda: triples(("passive",) * 3, 4, 14)[1]),
+        ("all passive, five idle bits: never in step", lambda: triples(("passive",) * 3, 5, 14)[1]),
+        ("TEC beyond n, and samples to bus off", lambda: most_counts(count, seed)),
+        ("the same if a driven dominant bit may be found recessive", lambda: most_counts(count, seed, finds=False)),
+        ("one machine takes part alone: errors", lambda: errors_with([[base(0x123)]], [FREE])),
+        ("two in step with one identifier: errors", lambda: errors_with([[base(0x123, 1)] * 3, [base(0x123, 2)] * 3], [FREE, FREE])),
+        ("two in step with other identifiers: errors", lambda: errors_with([[base(0x123, 1)] * 3, [base(0x124, 2)] * 3], [FREE, FREE])),
+        ("one takes part at once, in the other's frame: errors", lambda: errors_with([[base(0x123, 1)] * 3, [base(0x124, 2)] * 3, []], [("frame", "drrr", base(0x7FF)), FREE, FREE])),
+    ]
+    for name, row in rows[first:]: print(f"wrong: {name}: {row()}", flush=True)
+
+
 def main():
     word, numbers = sys.argv[1], [int(n) for n in sys.argv[2:]]
-    {"frames": frames, "received": received, "tails": tails, "states": states, "passive": passive, "counts": counts, "intervals": intervals}[word](*numbers)
+    parts = {"frames": frames, "intervals": intervals, "tails": tails, "received": received, "states": states, "counts": counts, "passive": passive, "wrong": wrong}
+    for part in parts.values() if word == "all" else [parts[word]]: part(*numbers)
 
 
 if __name__ == "__main__": main()

@@ -1,6 +1,7 @@
 -- One bit of a disturbed wire: what its machines find of it, and what they are sending.
-use Rattle.std.proofs.Common.{◌≡◌, ◌∙◌, ℕ, zero, suc, ◌<◌, [], ◌∷◌, ◌++◌, Bool, true, false, cond, Option, Some, None, refl, sym, ap, subst, inl, inr}
+use Rattle.std.proofs.Common.{◌≡◌, ◌∙◌, ℕ, zero, suc, ◌+◌, ◌<◌, ◌≤◌, arith, [], ◌∷◌, ◌++◌, Bool, true, false, cond, Option, Some, None, refl, sym, ap, subst, inl, inr}
 use Rattle.std.specs.Prelude.{slice_get}
+use Rattle.std.proofs.lemmas.Bool.{cases_eq}
 use Rattle.std.proofs.lemmas.Option.{none-some}
 use Rattle.wl_level.specs.declared.Level.{Level}
 use Rattle.wl_level.specs.declared.Level.TheVariants.{Dominant, Recessive}
@@ -20,6 +21,8 @@ use Rattle.wl_heal.specs.Disturbed.{Course, found_by, sample_found, wire_at, str
 use Rattle.wl_heal.proofs.Apart.{apart_test}
 use Rattle.wl_heal.proofs.Heal.{dominant_bus}
 use Rattle.wl_heal.proofs.Inside.{inside_next}
+use Rattle.wl_heal.proofs.Rested.{rested_of, rested_next, most_after}
+use Rattle.wl_heal.proofs.Six.{down_of, down_next, down_most}
 use Rattle.wl_heal.proofs.Wires.{bus_recessive}
 
 not_hit : (hit : Bool) (l : Level) → cond hit Dominant l ≡ Recessive → l ≡ Recessive
@@ -72,6 +75,40 @@ module _ (w : Wire) (c : Course) where
 
     pub next_active : (i : ℕ) → stretch_before w c (suc i) k ≡ stretch_after (stretch_before w c i k) (Sample (sample_of (level_at i k) (head_at i k) Active))
     next_active i = next_stretch i k ∙ ap (λ m. stretch_after (stretch_before w c i k) (Sample (sample_of (level_at i k) (head_at i k) m))) (t.active i)
+
+    -- recessive samples in a row
+    pub rest_at : (i m : ℕ) → m < i → i ≤ m + rested_of (stretch_before w c i k) → level_at m k ≡ Recessive
+    rest_at zero m lt le = absurd (omega (arith, lt))
+    rest_at (suc i) m lt le = by (rest_at i m) (level_at i k) refl
+      where
+        step : rested_of (stretch_before w c (suc i) k) ≤ most_after (level_at i k) (rested_of (stretch_before w c i k))
+        step =
+            subst (λ t. rested_of t ≤ most_after (level_at i k) (rested_of (stretch_before w c i k))) (sym (next_stretch i k))
+            (rested_next (sample_found (wire_at w c i) (c.hit i) (c.handed i) k) (stretch_before w c i k).sort (stretch_before w c i k).own (part_at i))
+
+        by : (m < i → i ≤ m + rested_of (stretch_before w c i k) → level_at m k ≡ Recessive) → (l : Level) → level_at i k ≡ l → level_at m k ≡ Recessive
+        by old Dominant e =
+            let none : rested_of (stretch_before w c (suc i) k) ≤ 0 = subst (λ l. rested_of (stretch_before w c (suc i) k) ≤ most_after l (rested_of (stretch_before w c i k))) e step in
+            absurd (omega arith)
+        by old Recessive e =
+            let up : rested_of (stretch_before w c (suc i) k) ≤ suc (rested_of (stretch_before w c i k)) =
+            subst (λ l. rested_of (stretch_before w c (suc i) k) ≤ most_after l (rested_of (stretch_before w c i k))) e step in
+            elim (cases_eq m i) [
+              | inl same ↦ ap (λ i. level_at i k) same ∙ e
+              | inr ne ↦ old (omega (arith, ne)) (omega arith)
+            ]
+
+    -- six dominant samples
+    downs : (a d i : ℕ) → ((m : ℕ) → a ≤ m → m < a + 6 → level_at m k ≡ Dominant) → a ≤ i → i + d ≡ a + 6 → down_of (stretch_before w c i k) ≤ d
+        → down_of (stretch_before w c (a + 6) k) ≤ 0
+    downs a zero i run le e h = subst (λ m. down_of (stretch_before w c m k) ≤ 0) (let there : i ≡ a + 6 = omega arith in there) h
+    downs a (suc d) i run le e h =
+        downs a d (suc i) run (omega arith) (omega arith)
+        (subst (λ t. down_of t ≤ d) (sym (next_active i ∙ ap (λ l. stretch_after (stretch_before w c i k) (Sample (sample_of l (head_at i k) Active))) (run i le (omega arith))))
+        (down_next (head_at i k) d (stretch_before w c i k).sort (stretch_before w c i k).own (part_at i) h))
+
+    pub downs_at : (a : ℕ) → ((m : ℕ) → a ≤ m → m < a + 6 → level_at m k ≡ Dominant) → down_of (stretch_before w c (a + 6) k) ≤ 0
+    downs_at a run = downs a 6 a run (omega arith) refl (down_most (stretch_before w c a k).sort (stretch_before w c a k).own)
 
 -- frames that are sent stay the machine's own
 own_by : (frames : ℕ → Option Content) (laws : HeadLaws) (s : Stretch) (f : Content) (x : Sampled) (which : ℕ) → x.head ≡ frames which

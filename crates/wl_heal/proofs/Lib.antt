@@ -24,3 +24,6 @@ mod Rested
 mod Sent
 mod Received
 mod Tails
+mod Late
+mod LongHits
+mod Bursts

@@ -24,30 +24,30 @@ use Rattle.wl_wire.specs.Heads.{OwnHeads}
 use Rattle.wl_wire.specs.InStep.{AreSoundFrames, Has}
 use Rattle.wl_wire.proofs.Callers.{role_cases, not_both_roles}
 use Rattle.wl_heal.specs.Disturbed.{Course, sample_found, wire_at, stretch_before, judged_at, TakesPart, IsSentFrom, IsClear}
-use Rattle.wl_heal.proofs.Disturbance.{level_at, head_at, next_stretch, silent, heard, both_quiet, both_find, part_at, next_active, heads_at, has_at}
+use Rattle.wl_heal.proofs.Disturbance.{rest_at, downs_at, level_at, head_at, next_stretch, silent, heard, both_quiet, both_find, part_at, next_active, heads_at, has_at}
 use Rattle.wl_heal.proofs.Heal.{IsDominantFlag, IsNewFlag, new_flag}
 use Rattle.wl_heal.proofs.Possible.{possible, IsPossible, HasTail}
-use Rattle.wl_heal.proofs.Rested.{rested_of, rested_next, most_after, From, sends_from}
+use Rattle.wl_heal.proofs.Rested.{rested_of, From, sends_from}
 use Rattle.wl_heal.proofs.Rested.From.{goes, decided, third}
 use Rattle.wl_heal.proofs.Samples.{longer}
 use Rattle.wl_heal.proofs.Sent.{read_back, IsLast, last_is, found_next, found_more, end_back, got_there}
 use Rattle.wl_heal.proofs.Settle.{is_new_flag, Settles, settle_most, settles_next, near_breaks, tail_breaks, IsEarly, early_on, TailOn, late_on}
 use Rattle.wl_heal.proofs.Settle.TailOn.{on, over}
 use Rattle.wl_heal.proofs.Silent.{two_levels, first_dominant}
-use Rattle.wl_heal.proofs.Six.{down_of, down_next, down_most, is_down, is_down_by, IsDown}
+use Rattle.wl_heal.proofs.Six.{down_of, is_down, is_down_by, IsDown}
 use Rattle.wl_heal.proofs.Steps.{begun}
 use Rattle.wl_heal.proofs.Wires.{level_cases}
 
-flag_no_frame : (st : Stretch) (frame : Option Content) (own : List Level) → is_new_flag st ≡ true → st ≡ stretch_by (Framing frame) own → ⊥
+pub flag_no_frame : (st : Stretch) (frame : Option Content) (own : List Level) → is_new_flag st ≡ true → st ≡ stretch_by (Framing frame) own → ⊥
 flag_no_frame st frame own b e = both_ways (is_new_flag st) (ap is_new_flag e) b
 
 tail_of : (st : Stretch) (f : Content) (ls : List Level) → st ≡ stretch_by (Framing (Some f)) ls → IsPossible st → HasTail ls
 tail_of st f ls e p = subst IsPossible e p
 
-abbrev flag_off : Bool → Type 0
+abbrev pub flag_off : Bool → Type 0
 flag_off b = (b ≡ true → ⊥) → b ≡ false
 
-no_flag_is : (b : Bool) → flag_off b
+pub no_flag_is : (b : Bool) → flag_off b
 no_flag_is true n = absurd (n refl)
 no_flag_is false n = refl
 
@@ -208,26 +208,8 @@ module _ (laws : HeadLaws) (w : Wire) (c : Course) (s j n : ℕ) (f : Content) (
       no_end : stuffed_end (Dominant ∷ []) ≡ Some end → ⊥
       no_end e = cc
 
-  pub rest_by : (i m : ℕ) → m < i → i ≤ m + rested_of (S i) → x m ≡ Recessive
-  rest_by zero m lt le = absurd (omega (arith, lt))
-  rest_by (suc i) m lt le = by (rest_by i m) (x i) refl
-    where
-      step : rested_of (S (suc i)) ≤ most_after (x i) (rested_of (S i))
-      step =
-          subst (λ t. rested_of t ≤ most_after (x i) (rested_of (S i))) (sym (next_stretch w c i s))
-          (rested_next (sample_found (wire_at w c i) (c.hit i) (c.handed i) s) (S i).sort (own i) (part_at w c s ts i))
-
-      by : (m < i → i ≤ m + rested_of (S i) → x m ≡ Recessive) → (l : Level) → x i ≡ l → x m ≡ Recessive
-      by old Dominant e = let none : rested_of (S (suc i)) ≤ 0 = subst (λ l. rested_of (S (suc i)) ≤ most_after l (rested_of (S i))) e step in absurd (omega arith)
-      by old Recessive e =
-          let up : rested_of (S (suc i)) ≤ suc (rested_of (S i)) = subst (λ l. rested_of (S (suc i)) ≤ most_after l (rested_of (S i))) e step in
-          elim (cases_eq m i) [
-            | inl same ↦ ap x same ∙ e
-            | inr ne ↦ old (omega (arith, ne)) (omega arith)
-          ]
-
   pub quiet_before : (m : ℕ) → m < start → start ≤ m + 10 → x m ≡ Recessive
-  quiet_before m lt ten = rest_by start m lt (let r : 10 ≤ rested_of (S start) = first.rest in omega arith)
+  quiet_before m lt ten = rest_at w c s ts start m lt (let r : 10 ≤ rested_of (S start) = first.rest in omega arith)
 
   -- the other machine begins no flag
   flag_runs : (left i m : ℕ) (flag : Flag) → IsDominantFlag flag → (role : Role) (flags : List Level) → J i ≡ stretch_by (Flagging flag role) flags → length flags + left ≡ 6
@@ -246,13 +228,6 @@ module _ (laws : HeadLaws) (w : Wire) (c : Course) (s j n : ℕ) (f : Content) (
     ]
   ]
 
-  pub downs : (a d i : ℕ) → ((m : ℕ) → a ≤ m → m < a + 6 → x m ≡ Dominant) → a ≤ i → i + d ≡ a + 6 → down_of (S i) ≤ d → down_of (S (a + 6)) ≤ 0
-  downs a zero i run le e h = subst (λ k. down_of (S k) ≤ 0) (let there : i ≡ a + 6 = omega arith in there) h
-  downs a (suc d) i run le e h =
-      downs a d (suc i) run (omega arith) (omega arith)
-      (subst (λ t. down_of t ≤ d) (sym (next_active w c s ts i ∙ ap (λ l. stretch_after (S i) (Sample (sample_of l (head_at w c i s) Active))) (run i le (omega arith))))
-      (down_next (head_at w c i s) d (S i).sort (own i) (part_at w c s ts i) h))
-
   pub framed_not_down : (a : ℕ) → start < a → a ≤ suc n → down_of (S a) ≤ 0 → ⊥
   framed_not_down a le most h =
       let d : IsDown 6 (S a) = is_down (S a).sort (own a) (possible ((wire_at w c a).past s)) h in
@@ -270,7 +245,7 @@ module _ (laws : HeadLaws) (w : Wire) (c : Course) (s j n : ℕ) (f : Content) (
   no_flag a ten most = no_flag_is (is_new_flag (J a)) (λ b. elim (cases_lt a start) [
     | inl early ↦ recessive_there a b (quiet_before a early ten)
     | inr late ↦ elim (cases_lt (suc n) (a + 6)) [
-      | inr far ↦ framed_not_down (a + 6) (omega arith) far (downs a 6 a (flag_dominant a b) (omega arith) refl (down_most (S a).sort (own a)))
+      | inr far ↦ framed_not_down (a + 6) (omega arith) far (downs_at w c s ts a (flag_dominant a b))
       | inl near ↦ elim (cases_eq a (suc n)) [
         | inl same ↦ recessive_there a b (ap x same ∙ is_last.level)
         | inr ne ↦
@@ -280,6 +255,15 @@ module _ (laws : HeadLaws) (w : Wire) (c : Course) (s j n : ℕ) (f : Content) (
       ]
     ]
   ])
+
+  -- the sender is its transmitter all along
+  pub sender_by : (d i : ℕ) → i + d ≡ suc n → start < i → frame_role (Some f) (own i) ≡ Tx
+  sender_by zero i e le = subst (λ m. frame_role (Some f) (own m) ≡ Tx) (let back : suc n ≡ i = omega arith in back) is_last.role
+  sender_by (suc d) i e le = elim (role_cases (frame_role (Some f) (own i))) [
+    | inl t ↦ t
+    | inr r ↦ absurd (not_both_roles (frame_role (Some f) (own (suc i))) (sender_by d (suc i) (omega arith) (omega arith))
+        (ap (frame_role (Some f)) (more i le (omega arith)) ∙ role_receives (Some f) (own i) (x i) r))
+  ]
 
   module _ (clear : IsClear c s j start n) where
     -- it is between frames at the start of frame, and in the same frame after it
@@ -430,15 +414,6 @@ module _ (laws : HeadLaws) (w : Wire) (c : Course) (s j n : ℕ) (f : Content) (
           let one = some_bits in
           let a : start + length (own start_tail) ≡ start_tail = (at_bit start_tail (omega arith) (omega arith)).long in
           kept_is_all g (own start_tail) end content (over_at start_tail (omega arith) (omega arith) (omega arith)) found_end
-
-    -- the sender is its transmitter all along
-    sender_by : (d i : ℕ) → i + d ≡ suc n → start < i → frame_role (Some f) (own i) ≡ Tx
-    sender_by zero i e le = subst (λ m. frame_role (Some f) (own m) ≡ Tx) (let back : suc n ≡ i = omega arith in back) is_last.role
-    sender_by (suc d) i e le = elim (role_cases (frame_role (Some f) (own i))) [
-      | inl t ↦ t
-      | inr r ↦ absurd (not_both_roles (frame_role (Some f) (own (suc i))) (sender_by d (suc i) (omega arith) (omega arith))
-          (ap (frame_role (Some f)) (more i le (omega arith)) ∙ role_receives (Some f) (own i) (x i) r))
-    ]
 
     module _ (sound : AreSoundFrames w.count w.frames) (heads : OwnHeads w) (ne : s ≢ j) where
       has : (k : ℕ) (g : Content) → stretch_before w c start_tail k ≡ stretch_by (Framing (Some g)) (own start_tail) → Has w.frames k g

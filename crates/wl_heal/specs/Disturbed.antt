@@ -1,5 +1,5 @@
 -- Machines on one wire, some of which a disturbance reaches: they find a bit dominant, whatever the bus has.
-use Rattle.std.specs.Prelude.{◌≡◌, ◌<◌, ◌≤◌, ℕ, zero, suc, ◌+◌, Bool, false, List, [], ◌∷◌, ◌++◌, length, Some, if◌then◌else◌}
+use Rattle.std.specs.Prelude.{◌≡◌, ◌⊎◌, ◌<◌, ◌≤◌, ℕ, zero, suc, ◌+◌, ◌&&◌, nat_le, Bool, false, List, [], ◌∷◌, ◌++◌, length, Some, if◌then◌else◌}
 use Rattle.wl_level.specs.declared.Level.{Level}
 use Rattle.wl_level.specs.declared.Level.TheVariants.{Dominant}
 use Rattle.wl_confine.specs.declared.Mode.TheVariants.{Active}
@@ -61,6 +61,10 @@ pub record IsSentFrom (w : Wire) (c : Course) (s start n : ℕ) (frame : Content
 pub record IsClear (c : Course) (s j start n : ℕ) : Type 0 where
   pub clear_s : (i : ℕ) → start ≤ i + 10 → i + 8 < n → c.hit i s ≡ false
   pub clear_j : (i : ℕ) → start ≤ i + 10 → i + 8 < n → c.hit i j ≡ false
+
+-- A machine is hit at each bit of one disturbance, which is so many bits long, and at no other; or at none. This project's profile
+abbrev pub IsHitIn : Course → ℕ → ℕ → ℕ → Type 0
+IsHitIn c from many k = ((i : ℕ) → c.hit i k ≡ (nat_le from i && nat_le (suc i) (from + many))) ⊎ ((i : ℕ) → c.hit i k ≡ false)
 
 -- all are error active, and nobody is hit at bit i
 abbrev pub AreActiveIn : Course → Type 0

@@ -3,3 +3,4 @@ pub mod Costs
 pub mod Joining
 pub mod Healing
 pub mod Disturbed
+pub mod Bursts
