@@ -322,7 +322,7 @@ def states(step=6):
     return never, worst, flagged, silent
 
 
-def passive(step=10):
+def passive(step=14):
     """Triples of stretches with so many idle bits before each frame: those that never are in step, and the most bits of the others."""
     for modes in (("passive", "active", "active"), ("passive", "passive", "active"), ("passive",) * 3):
         for pause in (0, 2, 4, 5):
@@ -331,13 +331,13 @@ def passive(step=10):
 
 
 def wrong_crc():
-    """A receiver whose frame has a wrong CRC sequence, at each place."""
-    own = "d"
-    while read(own)[1] is None: own += wire.sent(SMALL[0], own)
-    for k in reversed(range(20, len(own))):
-        changed = own[:k] + ("d" if own[k] == "r" else "r") + own[k + 1:]
-        if all(changed[n:n + 6] not in ("dddddd", "rrrrrr") for n in range(len(changed))) and read(changed)[1] == len(changed): own = changed; break
-    return [("frame", (own + "rdr")[:n], None) for n in range(1, len(own) + 3)]
+    """Receivers near the end of the stuffed part of many frames: if recessive bits follow, most have a wrong CRC sequence."""
+    places = []
+    for id in range(0, 2048, 5):
+        own = "d"
+        while read(own)[1] is None: own += wire.sent(base(id), own)
+        places += [("frame", own[:n], None) for n in range(len(own) - 8, len(own))]
+    return places
 
 
 def silent_bits(stretch, mode):
@@ -384,17 +384,17 @@ def counts(lengths=48):
 
 # ---- Each condition turned
 
-def silence(bits, head=None, dominant=None, off=False):
+def silence(bits, head=None, dominant=None):
     """How many stretches aren't between frames after so many recessive samples, of which one may be dominant; of those that drive recessive all along, if no
     head is handed."""
     count = 0
     stretches = {str(s): s for h in SMALL for p in (False, True) for s in all_stretches(h, 1, p) + wrong_crc()}.values()
-    for first in [("off", "", None)] if off else stretches:
+    for first in stretches:
         for mode in ("active", "passive"):
             stretch, heard = first, True
             for n in range(bits):
                 heard &= wire.drive(stretch, RULES) == "r"
-                stretch = stretch if off else wire.after(stretch, "d" if n == dominant else "r", head, mode, RULES)[2]
+                stretch = wire.after(stretch, "d" if n == dominant else "r", head, mode, RULES)[2]
             count += not is_between(stretch) and (heard or head is not None or dominant is not None)
     return count
 
@@ -461,7 +461,7 @@ def errors_with(queues, start, count=400):
     return errors
 
 
-INTEGRATES, OFF, SPIKE = ("integration", "", None), ("off", "", None), (1,)
+INTEGRATES = "integration", "", None
 
 
 def wrong(count=1500, seed=1, first=0):

@@ -17,7 +17,7 @@ use Rattle.wl_wire.specs.Wire.{Wire, bus}
 use Rattle.wl_wire.specs.Heads.{OwnHeads}
 use Rattle.wl_wire.specs.InStep.{Has}
 use Rattle.wl_heal.specs.Joining.{is_apart, is_apart_by}
-use Rattle.wl_heal.specs.Disturbed.{Course, found_by, sample_found, wire_at, stretch_before, TakesPart}
+use Rattle.wl_heal.specs.Disturbed.{Course, level_found, sample_found, wire_at, stretch_before, TakesPart}
 use Rattle.wl_heal.proofs.Apart.{apart_test}
 use Rattle.wl_heal.proofs.Heal.{dominant_bus}
 use Rattle.wl_heal.proofs.Inside.{inside_next}
@@ -43,7 +43,7 @@ module _ (w : Wire) (c : Course) where
   frames_at (suc i) = frames_at i
 
   abbrev pub level_at : ℕ → ℕ → Level
-  level_at i k = found_by (wire_at w c i) (c.hit i) k
+  level_at i k = level_found (wire_at w c i) (c.hit i) k
 
   abbrev pub head_at : ℕ → ℕ → Option Content
   head_at i k = slice_get ((wire_at w c i).frames k) (c.handed i k).which

@@ -275,7 +275,7 @@ slots (suc n) w handed active part b lt frame own end e found_end low place = lo
     (goes w handed active part b lt frame own e (subst (λ o. IsEarly o own) (sym found_end) (omega arith)) none)
     (end_stays own (bus w) end found_end) (let m = longer own (bus w) in omega arith) (let m = longer own (bus w) in omega arith))))
 
-ends_now : (own : List Level) (l : Level) (end : ℕ) → stuffed_end own ≡ None → stuffed_end (own ++ l ∷ []) ≡ Some end → end ≡ length (own ++ l ∷ [])
+pub ends_now : (own : List Level) (l : Level) (end : ℕ) → stuffed_end own ≡ None → stuffed_end (own ++ l ∷ []) ≡ Some end → end ≡ length (own ++ l ∷ [])
 ends_now own l end e g =
     by (ends_at (own ++ l ∷ []) (length (own ++ l ∷ [])))
     (sym (end_more own l ∙ ap (λ o. or_at o (ends_at (own ++ l ∷ []) (length (own ++ l ∷ []))) (length (own ++ l ∷ []))) e) ∙ g)

@@ -2,6 +2,7 @@
 use Rattle.std.proofs.Common.{◌≡◌, ◌≢◌, ◌∙◌, ℕ, zero, suc, ◌+◌, ◌-◌, ◌<◌, ◌≤◌, List, [], ◌∷◌, length, length-append, true, false, not, cond, Option, Some, None, inl, inr, refl, sym, ap, subst, arith}
 use Rattle.std.specs.Prelude.{nat_le}
 use Rattle.std.proofs.lemmas.Bool.{cases_lt, cases_Bool, both_ways, and_parts, leb-true, le-leb, and_from}
+use Rattle.std.proofs.lemmas.Option.{none-some}
 use Rattle.wl_level.specs.declared.Level.{Level}
 use Rattle.wl_level.specs.declared.Level.TheVariants.{Dominant, Recessive}
 use Rattle.wl_level.specs.Places.{IsFirstPlace, at}
@@ -26,7 +27,7 @@ use Rattle.wl_wire.specs.InStep.{AreSoundFrames, AreInStep}
 use Rattle.wl_heal.specs.Disturbed.{Course, wire_at, stretch_before, judged_at, TakesPart, IsSentFrom, IsHitIn}
 use Rattle.wl_heal.proofs.Disturbance.{count_at, level_at, head_at, silent, both_quiet, both_find, part_at, next_active, rest_at, downs_at}
 use Rattle.wl_heal.proofs.Late.{is_raised_by, down_raised, between_not_raised, raised_next, is_late_by, IsLate, down_late, late_dominant, late_recessive, late_next}
-use Rattle.wl_heal.proofs.Possible.{possible}
+use Rattle.wl_heal.proofs.Possible.{possible, some_same}
 use Rattle.wl_heal.proofs.Received.{flag_no_frame, no_flag_is, at_bit, stretch_is, over_at, none_at, quiet_tail, first, quiet_before, some_bits, no_flag, end, eighteen, framed_not_down, flag_dominant, sender_by, received}
 use Rattle.wl_heal.proofs.Rested.{rested_of}
 use Rattle.wl_heal.proofs.Samples.{going, either}
@@ -192,17 +193,11 @@ module _ (laws : HeadLaws) (w : Wire) (c : Course) (s j n : ℕ) (f : Content) (
           let z = size in
           let g : start + length (S (a + 6)).own ≡ a + 6 = long (a + 6) (omega arith) (omega arith) in
           elim (cases_lt (length (S (a + 6)).own) stuffed) [
-            | inl less ↦ none_some k (sym (none_at laws w c s j n f start ts tj sent (a + 6) (omega arith) (omega arith) less) ∙ e)
+            | inl less ↦ none-some k (sym (none_at laws w c s j n f start ts tj sent (a + 6) (omega arith) (omega arith) less) ∙ e)
             | inr same ↦
                 (let there : stuffed ≡ k = some_same stuffed k (sym (over_at laws w c s j n f start ts tj sent (a + 6) (omega arith) (omega arith) same) ∙ e) in
                 omega (arith, h))
           ]
-        where
-          none_some : (k : ℕ) → None ≡ Some k → ⊥
-          none_some k e = cc
-
-          some_same : (a b : ℕ) → Some a ≡ Some b → a ≡ b
-          some_same a b e = cc
 
       by : Settles 10 (stretch_by (Framing (Some f)) (S (a + 6)).own) → ⊥
       by (inl b) =

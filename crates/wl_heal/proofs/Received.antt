@@ -26,7 +26,7 @@ use Rattle.wl_wire.proofs.Callers.{role_cases, not_both_roles}
 use Rattle.wl_heal.specs.Disturbed.{Course, sample_found, wire_at, stretch_before, judged_at, TakesPart, IsSentFrom, IsClear}
 use Rattle.wl_heal.proofs.Disturbance.{rest_at, downs_at, level_at, head_at, next_stretch, silent, heard, both_quiet, both_find, part_at, next_active, heads_at, has_at}
 use Rattle.wl_heal.proofs.Heal.{IsDominantFlag, IsNewFlag, new_flag}
-use Rattle.wl_heal.proofs.Possible.{possible, IsPossible, HasTail}
+use Rattle.wl_heal.proofs.Possible.{possible, some_same, IsPossible, HasTail}
 use Rattle.wl_heal.proofs.Rested.{rested_of, From, sends_from}
 use Rattle.wl_heal.proofs.Rested.From.{goes, decided, third}
 use Rattle.wl_heal.proofs.Samples.{longer}
@@ -138,9 +138,6 @@ module _ (laws : HeadLaws) (w : Wire) (c : Course) (s j n : ℕ) (f : Content) (
   still_by : (d i k : ℕ) → i + d ≡ suc n → start < i → stuffed_end (own i) ≡ Some k → stuffed_end (own (suc n)) ≡ Some k
   still_by zero i k e le h = subst (λ m. stuffed_end (own m) ≡ Some k) (let there : i ≡ suc n = omega arith in there) h
   still_by (suc d) i k e le h = still_by d (suc i) k (omega arith) (omega arith) (ap stuffed_end (more i le (omega arith)) ∙ end_stays (own i) (x i) k h)
-
-  some_same : (a b : ℕ) → Some a ≡ Some b → a ≡ b
-  some_same a b e = cc
 
   pub none_at : (i : ℕ) → start < i → i ≤ suc n → length (own i) < end → stuffed_end (own i) ≡ None
   none_at i le most few = by (stuffed_end (own i)) refl

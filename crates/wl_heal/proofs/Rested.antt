@@ -1,11 +1,12 @@
 -- How many recessive samples came last at least, by the running stretch, and how a frame that is sent has begun.
 use Rattle.std.proofs.Common.{◌≡◌, ◌∙◌, ℕ, suc, ◌+◌, ◌-◌, ◌≤◌, List, [], ◌∷◌, ◌++◌, length, Bool, true, false, not, cond, Option, Some, None, refl, sym, ap, subst, arith}
 use Rattle.std.specs.Prelude.{◌==◌}
-use Rattle.std.proofs.lemmas.Bool.{cond_both, eqb-true}
+use Rattle.std.proofs.lemmas.Bool.{cond_both, eqb-true, not-true}
 use Rattle.wl_level.specs.declared.Level.{Level}
 use Rattle.wl_level.specs.declared.Level.TheVariants.{Dominant, Recessive}
 use Rattle.wl_level.specs.Levels.{is_dominant}
 use Rattle.wl_level.specs.Places.{or_at, run_at_end}
+use Rattle.wl_level.proofs.Callers.{recessive_from, dominant_from}
 use Rattle.wl_frame.specs.Stuffing.{destuffed_bits}
 use Rattle.wl_frame.specs.Grammar.{Content}
 use Rattle.wl_confine.specs.declared.Mode.{Mode}
@@ -65,10 +66,6 @@ module _ (x : Sampled) where
   up : (l : Level) (n : ℕ) → is_dominant l ≡ false → most_after l n ≡ suc n
   up Dominant n e = cc
   up Recessive n e = refl
-
-  recessive : (l : Level) → is_dominant l ≡ false → l ≡ Recessive
-  recessive Dominant e = cc
-  recessive Recessive e = refl
 
   longer_none : (own : List Level) (l : Level) → rested_in_frame None (own ++ l ∷ []) ≡ 0
   longer_none [] l = refl
@@ -135,9 +132,9 @@ module _ (x : Sampled) where
 
   after : (role : Role) (mode : Mode) (head : Option Content) (n : ℕ) → 10 ≤ n → is_dominant x.level ≡ false → rested (after_intermission role mode head) [] ≤ most_after x.level n
   after Tx Passive head n le r = subst (λ m. 11 ≤ m) (sym (up x.level n r)) (omega arith)
-  after Tx Active head n le r = freed x.level n le (recessive x.level r) head
-  after Tx Off head n le r = freed x.level n le (recessive x.level r) head
-  after Rx mode head n le r = freed x.level n le (recessive x.level r) head
+  after Tx Active head n le r = freed x.level n le (recessive_from x.level r) head
+  after Tx Off head n le r = freed x.level n le (recessive_from x.level r) head
+  after Rx mode head n le r = freed x.level n le (recessive_from x.level r) head
 
   flags_on : (flag : Flag) (role : Role) (own : List Level) (b : Bool) (h : Happened) (flags : List Level) → G (Flagging flag role) own (cond b (begins h (Waiting flag role flags) []) (continues h))
   flags_on flag role own b h flags = either (G (Flagging flag role) own) b (begins h (Waiting flag role flags) []) (continues h) (omega arith) (omega arith)
@@ -153,26 +150,18 @@ module _ (x : Sampled) where
   rested_next (Flagging (PassiveFlag unacknowledged) role) own a = flags_on (PassiveFlag unacknowledged) role own (run_at_end x.level (own ++ x.level ∷ []) == 6) _ (own ++ x.level ∷ [])
   rested_next (Waiting flag role flags) own a =
       cond_both (not (is_dominant x.level)) (begins happens.Nothing (Delimiting role) (x.level ∷ [])) (waiting_on flag role flags own x) (G (Waiting flag role flags) own)
-      (λ r. subst (λ n. 1 ≤ n) (sym (up x.level 0 (turned (is_dominant x.level) r))) (omega arith))
+      (λ r. subst (λ n. 1 ≤ n) (sym (up x.level 0 (not-true (is_dominant x.level) r))) (omega arith))
       (λ d. either (G (Waiting flag role flags) own) (is_after_flag flag role own) (continues happens.RxAfterFlag)
       (cond (is_each_eighth (long_from flag) (dominant_run flag flags (own ++ x.level ∷ []))) (continues (long_of role)) (continues happens.Nothing)) (omega arith)
       (either (G (Waiting flag role flags) own) (is_each_eighth (long_from flag) (dominant_run flag flags (own ++ x.level ∷ []))) (continues (long_of role)) (continues happens.Nothing) (omega arith) (omega arith)))
-    where
-      turned : (b : Bool) → not b ≡ true → b ≡ false
-      turned true e = cc
-      turned false e = refl
   rested_next (Delimiting role) own a =
       let long = longer own x.level in
       cond_both (not (is_dominant x.level)) (cond (length own == 7) (begins happens.Nothing (Intermission role) []) (continues happens.Nothing))
       (cond (length own == 7) (begins happens.Nothing (Flagging OverloadFlag role) []) (fails role x.mode (delimiter_error role))) (G (Delimiting role) own)
-      (λ r. let more : most_after x.level (length own) ≡ suc (length own) = up x.level (length own) (turned (is_dominant x.level) r) in
+      (λ r. let more : most_after x.level (length own) ≡ suc (length own) = up x.level (length own) (not-true (is_dominant x.level) r) in
       cond_both (length own == 7) (begins happens.Nothing (Intermission role) []) (continues happens.Nothing) (G (Delimiting role) own)
       (λ e. let f = eqb-true (length own) 7 e in omega arith) (λ e. omega arith))
       (λ d. either (G (Delimiting role) own) (length own == 7) (begins happens.Nothing (Flagging OverloadFlag role) []) (fails role x.mode (delimiter_error role)) (omega arith) (omega arith))
-    where
-      turned : (b : Bool) → not b ≡ true → b ≡ false
-      turned true e = cc
-      turned false e = refl
   rested_next (Intermission role) own a =
       let long = longer own x.level in
       cond_both (length own == 2)
@@ -186,7 +175,7 @@ module _ (x : Sampled) where
   rested_next Suspension own a =
       cond_both (is_dominant x.level) (begins happens.Nothing (Framing None) (x.level ∷ [])) (cond (length own == 7) (begins happens.Nothing (free x.head) []) (continues happens.Nothing)) (G Suspension own)
       (λ d. none_yet x.level (most_after x.level 11))
-      (λ r. either (G Suspension own) (length own == 7) (begins happens.Nothing (free x.head) []) (continues happens.Nothing) (freed x.level 11 (omega arith) (recessive x.level r) x.head)
+      (λ r. either (G Suspension own) (length own == 7) (begins happens.Nothing (free x.head) []) (continues happens.Nothing) (freed x.level 11 (omega arith) (recessive_from x.level r) x.head)
       (subst (λ n. 11 ≤ n) (sym (up x.level 11 r)) (omega arith)))
 
 -- how a machine came to send a frame: it went on with it, it has just decided to, or the third bit of an intermission was dominant
@@ -246,10 +235,6 @@ module _ (f : Content) (x : Sampled) where
       by None e = cc
       by (Some c) e = decided refl
 
-  dominant : (l : Level) → is_dominant l ≡ true → l ≡ Dominant
-  dominant Dominant e = refl
-  dominant Recessive e = cc
-
   pub sends_from : (sort : Sort) (own : List Level) → is_apart_by sort ≡ false → C sort own (judged_by sort own x)
   sends_from Integration own a = cc
   sends_from OffBus own a = cc
@@ -275,7 +260,7 @@ module _ (f : Content) (x : Sampled) where
       (cond (is_dominant x.level) (begins happens.Nothing (Flagging OverloadFlag role) []) (continues happens.Nothing)) (C (Intermission role) own)
       (λ e. let two = eqb-true (length own) 2 e in
       cond_both (is_dominant x.level) (begins happens.Nothing (Framing (begun_head role x.mode x.head)) (x.level ∷ [])) (begins happens.Nothing (after_intermission role x.mode x.head) []) (C (Intermission role) own)
-      (λ d g. third (omega arith) (dominant x.level d) refl) (λ r. resting (Intermission role) own role x.mode x.head))
+      (λ d g. third (omega arith) (dominant_from x.level d) refl) (λ r. resting (Intermission role) own role x.mode x.head))
       (λ e. either (C (Intermission role) own) (is_dominant x.level) (begins happens.Nothing (Flagging OverloadFlag role) []) (continues happens.Nothing) (λ g. cc) (λ g. cc))
   sends_from Suspension own a =
       either (C Suspension own) (is_dominant x.level) (begins happens.Nothing (Framing None) (x.level ∷ [])) (cond (length own == 7) (begins happens.Nothing (free x.head) []) (continues happens.Nothing)) (λ e. cc)

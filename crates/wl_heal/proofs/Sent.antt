@@ -5,7 +5,7 @@ use Rattle.wl_level.specs.declared.Level.{Level}
 use Rattle.wl_level.specs.declared.Level.TheVariants.{Dominant, Recessive}
 use Rattle.wl_level.specs.Levels.{is_dominant, same}
 use Rattle.wl_level.specs.Places.{at, or_at}
-use Rattle.wl_level.proofs.Callers.{at_new, at_old, same_equal}
+use Rattle.wl_level.proofs.Callers.{at_new, at_old, same_equal, recessive_from}
 use Rattle.wl_frame.specs.Stuffing.{is_stuff, destuffed_bits}
 use Rattle.wl_frame.specs.Header.{sent_free}
 use Rattle.wl_frame.specs.Grammar.{Content, IsContent, IsReadAs, bits_of, content_of, is_arbitration}
@@ -28,15 +28,12 @@ use Rattle.wl_machine.specs.States.{stretch_by}
 use Rattle.wl_machine.proofs.Callers.{end_more, ends_at, role_next}
 use Rattle.wl_wire.proofs.Callers.{not_both_roles, sent_old}
 use Rattle.wl_heal.proofs.Cases.{differing_cases, lost_cases, sending_cases, receiving_cases, sent_tail_cases, acknowledging_cases, received_tail_cases}
+use Rattle.wl_heal.proofs.Heal.{ends_now}
 use Rattle.wl_heal.proofs.Samples.{going, either, longer}
 
 pub read_back : (c : Content) → IsContent c → IsReadAs (bits_of c) c
 unfolding bits_of
 read_back c is = (frame_is_read (bits_of c) c).0 (is, sent_free, refl)
-
-pub recessive : (l : Level) → is_dominant l ≡ false → l ≡ Recessive
-recessive Dominant e = cc
-recessive Recessive e = refl
 
 -- the last bit of a frame that is sent
 pub record IsLast (f : Content) (own : List Level) (x : Sampled) : Type 0 where
@@ -54,7 +51,7 @@ module _ (f g : Content) (own : List Level) (x : Sampled) where
   last_sent None e = sending_cases L x f own (λ s r h. cc) (λ s. differing_cases L x f own (λ r h. cc) (λ r h. cc) (λ r h. cc))
   last_sent (Some end) e =
       sent_tail_cases L x f (length own - end) (λ one d r h. cc) (λ one d. none x.mode) (λ no d r h. cc)
-      (λ nine l r h. record { role = r; end = end; over = e; place = nine; level = recessive x.level l }) (λ no nine l r h. cc)
+      (λ nine l r h. record { role = r; end = end; over = e; place = nine; level = recessive_from x.level l }) (λ no nine l r h. cc)
     where
       none : (mode : Mode) → L (unanswered mode)
       none Active r h = cc
@@ -139,21 +136,14 @@ found_more f own l end old here k lt =
       | inr ne ↦ at_old own l k (omega (arith, lt, ne)) ∙ old k (omega (arith, lt, ne)) ∙ sym (sent_old f own l k (omega (arith, lt, ne)))
     ]
 
-pub found_still : (f : Content) (own : List Level) (l : Level) (end : ℕ) → end ≤ length own → FoundSent f own end → FoundSent f (own ++ l ∷ []) end
-found_still f own l end le old k lt = at_old own l k (omega arith) ∙ old k lt ∙ sym (sent_old f own l k (omega arith))
-
 -- the end of the stuffed part was where it is
 pub end_back : (own : List Level) (l : Level) (end : ℕ) → end ≤ length own → stuffed_end (own ++ l ∷ []) ≡ Some end → stuffed_end own ≡ Some end
 end_back own l end le h = by (stuffed_end own) refl
   where
-    new : (b : Bool) → or_at None b (length (own ++ l ∷ [])) ≡ Some end → end ≡ length (own ++ l ∷ [])
-    new true e = cc
-    new false e = cc
-
     by : (o : Option ℕ) → stuffed_end own ≡ o → o ≡ Some end
     by None e =
         let long = longer own l in
-        let at_end : end ≡ length (own ++ l ∷ []) = new (ends_at (own ++ l ∷ []) (length (own ++ l ∷ []))) (sym (end_more own l ∙ ap (λ o. or_at o (ends_at (own ++ l ∷ []) (length (own ++ l ∷ []))) (length (own ++ l ∷ []))) e) ∙ h) in
+        let at_end : end ≡ length (own ++ l ∷ []) = ends_now own l end e h in
         absurd (omega arith)
     by (Some k) e = sym (end_more own l ∙ ap (λ o. or_at o (ends_at (own ++ l ∷ []) (length (own ++ l ∷ []))) (length (own ++ l ∷ []))) e) ∙ h
 

@@ -21,7 +21,7 @@ use Rattle.wl_wire.specs.Wire.{Wire, bus, stretch_at}
 use Rattle.wl_wire.specs.Heads.{OwnHeads}
 use Rattle.wl_wire.specs.InStep.{AreSoundFrames, IsSender, or_all}
 use Rattle.wl_wire.proofs.Callers.{role_cases}
-use Rattle.wl_heal.specs.Disturbed.{Course, sample_found, wire_at, stretch_before, judged_at, AreActiveIn, AreAtEnd, NobodyHit}
+use Rattle.wl_heal.specs.Disturbed.{Course, sample_found, wire_at, stretch_before, judged_at, AreActiveIn, AreNearEnd, NobodyHit}
 use Rattle.wl_heal.proofs.Disturbance.{level_at, head_at, next_stretch, heard}
 use Rattle.wl_heal.proofs.Flagged.{silent}
 use Rattle.wl_heal.proofs.Heal.{IsNewFlag, new_flag}
@@ -62,7 +62,7 @@ eighth_drive Tx bits = refl
 eighth_drive Rx bits = refl
 
 module _ (laws : HeadLaws) (w : Wire) (c : Course) (own : List Level) (s : ℕ) (f : Content) (sound : AreSoundFrames w.count w.frames) (heads : OwnHeads w)
-    (active : AreActiveIn c) (e : AreAtEnd w own s f) where
+    (active : AreActiveIn c) (e : AreNearEnd w own s f) where
   abbrev end : ℕ
   end = e.end
 

@@ -19,11 +19,11 @@ pub record Course : Type 0 where
   pub handed : ℕ → ℕ → Handed
 
 -- a machine finds a bit dominant if it is hit, and else it finds the level of the bus; Bosch CAN 2.0 part A, section 2
-abbrev pub found_by : Wire → (ℕ → Bool) → ℕ → Level
-found_by w hit k = if hit k then Dominant else bus w
+abbrev pub level_found : Wire → (ℕ → Bool) → ℕ → Level
+level_found w hit k = if hit k then Dominant else bus w
 
 abbrev pub sample_found : Wire → (ℕ → Bool) → (ℕ → Handed) → ℕ → Sampled
-sample_found w hit handed k = sampled (found_by w hit k) (w.frames k) (handed k)
+sample_found w hit handed k = sampled (level_found w hit k) (w.frames k) (handed k)
 
 abbrev pub next_disturbed : Wire → (ℕ → Bool) → (ℕ → Handed) → Wire
 next_disturbed w hit handed = record {
@@ -74,7 +74,7 @@ abbrev pub NobodyHit : Wire → Course → ℕ → Type 0
 NobodyHit w c i = (k : ℕ) → k < w.count → c.hit i k ≡ false
 
 -- All are in one frame, before the last but one bit of its end, and machine s sends it; Bosch CAN 2.0 part B, section 3.2.1
-pub record AreAtEnd (w : Wire) (own : List Level) (s : ℕ) (frame : Content) : Type 0 where
+pub record AreNearEnd (w : Wire) (own : List Level) (s : ℕ) (frame : Content) : Type 0 where
   pub step : AreInFrame w own
   pub end : ℕ
   pub over : stuffed_end own ≡ Some end

@@ -13,7 +13,7 @@ ghost use Rattle.wl_wire.specs.InStep.{AreSoundFrames, AreInStep, FindsNoError};
 ghost use Rattle.wl_wire.specs.Wire.{Event, Wire, Handed, is_between, stretch_at, wire_after};
 ghost use Rattle.wl_heal.specs.Bursts.{DifferWithin, burst_bits};
 ghost use Rattle.wl_heal.specs.Costs.{FindsItsDominant, counts_on};
-ghost use Rattle.wl_heal.specs.Disturbed.{Course, TakesPart, IsSentFrom, IsClear, IsHitIn, wire_at, AreActiveIn, AreAtEnd, NobodyHit, judged_at};
+ghost use Rattle.wl_heal.specs.Disturbed.{Course, TakesPart, IsSentFrom, IsClear, IsHitIn, wire_at, AreActiveIn, AreNearEnd, NobodyHit, judged_at};
 ghost use Rattle.wl_heal.specs.Healing.{AreActive, AllTakePart, IsDominantFor, HealWithin};
 ghost use Rattle.wl_heal.specs.Healing.{StayWithoutError, bits_after, healing_bits};
 ghost use Rattle.wl_heal.specs.Joining.{Change, AreThosePresent, AreInStepBeside, FindNoFault, wire_with};
@@ -107,9 +107,11 @@ pub fn a_sent_frame_is_received()
 /// one machine has sent was received by each other one with the bit before. So it is of frames that begin ten bits or more after the first
 /// one of the run. Of two machines only these two are asked: that each is hit at all bits of the disturbance, or at none.
 pub fn a_long_disturbance_hides_no_frame()
-    ensures { (w : Wire) (c : Course) (s j start n from many : ℕ) (frame : Content) → AreSoundFrames w.count w.frames → OwnHeads w
-        → s ≢ j → TakesPart w c s → TakesPart w c j → IsSentFrom w c s start n frame → AreInStep (wire_at w c from)
-        → 6 ≤ many → many ≤ 51 → IsHitIn c from many s → IsHitIn c from many j → (judged_at w c n j).ended ≡ Received frame }
+    ensures { (w : Wire) (c : Course) (s j start n from many : ℕ) (frame : Content)
+        → AreSoundFrames w.count w.frames → OwnHeads w → s ≢ j → TakesPart w c s → TakesPart w c j
+        → IsSentFrom w c s start n frame → AreInStep (wire_at w c from)
+        → 6 ≤ many → many ≤ 51 → IsHitIn c from many s → IsHitIn c from many j
+        → (judged_at w c n j).ended ≡ Received frame }
 {
     wl_machine::laws::a_sent_frame_is_the_head_that_began_its_stretch();
 }
@@ -123,11 +125,11 @@ pub fn a_burst_is_found()
 /// the frame with that bit exactly if it isn't hit. The sender has sent it with the last bit exactly if nobody was hit there, and it isn't
 /// hit in the last one. So a receiver has a frame that its sender sends again exactly if it isn't hit there, and another one or the sender is.
 pub fn who_has_a_frame_at_its_end()
-    ensures received { (w : Wire) (c : Course) (own : List Level) (s k : ℕ) (frame : Content) → AreSoundFrames w.count w.frames
-        → OwnHeads w → AreActiveIn c → AreAtEnd w own s frame → k < w.count → k ≢ s
+    ensures received { (w : Wire) (c : Course) (own : List Level) (s k : ℕ) (frame : Content)
+        → AreSoundFrames w.count w.frames → OwnHeads w → AreActiveIn c → AreNearEnd w own s frame → k < w.count → k ≢ s
         → ((judged_at w c 0 k).ended ≡ Received frame) ↔ (c.hit 0 k ≡ false) }
-    ensures sent { (w : Wire) (c : Course) (own : List Level) (s : ℕ) (frame : Content) → AreSoundFrames w.count w.frames
-        → OwnHeads w → AreActiveIn c → AreAtEnd w own s frame
+    ensures sent { (w : Wire) (c : Course) (own : List Level) (s : ℕ) (frame : Content)
+        → AreSoundFrames w.count w.frames → OwnHeads w → AreActiveIn c → AreNearEnd w own s frame
         → ((judged_at w c 1 s).ended ≡ Sent frame) ↔ (NobodyHit w c 0 × (c.hit 1 s ≡ false)) }
 {
     wl_machine::laws::a_sent_frame_is_the_head_that_began_its_stretch();
