@@ -103,9 +103,9 @@ pub fn a_sent_frame_is_received()
     wl_machine::laws::a_sent_frame_is_the_head_that_began_its_stretch();
 }
 
-/// Law: one disturbance of 6 to 51 bits hides no frame, whoever finds it, if all are error active and in step when it begins. Each frame that
-/// one machine has sent was received by each other one with the bit before. So it is of frames that begin ten bits or more after the first
-/// one of the run. Of two machines only these two are asked: that each is hit at all bits of the disturbance, or at none.
+/// Law: one disturbance of 6 to 51 bits hides no frame, if all are in step when it begins. What one error active machine has sent, another
+/// one has received with the bit before, if each of the two is hit at all bits of the disturbance, or at none. The frame has to have ten bits
+/// of the run before it. Whoever else is there may be disturbed otherwise.
 pub fn a_long_disturbance_hides_no_frame()
     ensures { (w : Wire) (c : Course) (s j start n from many : ℕ) (frame : Content)
         → AreSoundFrames w.count w.frames → OwnHeads w → s ≢ j → TakesPart w c s → TakesPart w c j
