@@ -6,7 +6,7 @@ use Rattle.wl_level.specs.declared.Level.{Level}
 use Rattle.wl_level.specs.Levels.{is_dominant, same}
 use Rattle.wl_level.specs.Places.{before}
 use Rattle.wl_frame.specs.Stuffing.{is_stuff, destuffed_bits}
-use Rattle.wl_frame.specs.Grammar.{Content, bits_of, layout_of, is_crc_right, content_of}
+use Rattle.wl_frame.specs.Grammar.{Content, bits_of, layout_of, is_arbitration, is_crc_right, content_of}
 use Rattle.wl_confine.specs.declared.ErrorKind.TheVariants.{Bit, Stuff, Form, Crc}
 use Rattle.wl_confine.specs.declared.Happened.TheVariants as happens
 use Rattle.wl_machine.specs.declared.state.Role.TheVariants.{Tx, Rx}
@@ -51,6 +51,12 @@ module _ (P : Judgement → Type 0) (x : Sampled) where
 
     pub differing_cases : P (fails Tx x.mode Bit) → P (begins happens.TxFree (Flagging (error_flag x.mode) Tx) []) → P (continues happens.Nothing) → P (differing c own x)
     differing_cases fail free lost = four_ways P _ _ _ _ _ _ _ (λ e. fail) (λ e f. due_cases fail free) (λ e f g. lost) (λ e f g. fail)
+
+    -- the arbitration is lost by a recessive bit of it
+    pub lost_cases : P (fails Tx x.mode Bit) → P (begins happens.TxFree (Flagging (error_flag x.mode) Tx) [])
+        → (is_dominant (sent_at c own (length own)) ≡ false → is_stuff own (length own) ≡ false → is_arbitration (bits_of c) (length (destuffed_bits own (length own))) ≡ true → P (continues happens.Nothing))
+        → P (differing c own x)
+    lost_cases fail free lost = four_ways P _ _ _ _ _ _ _ (λ e. fail) (λ e f. due_cases fail free) (λ e f g. lost e f g) (λ e f g. fail)
 
     -- where a stuff bit is due the arbitration isn't lost
     pub differing_due : is_stuff own (length own) ≡ true → P (fails Tx x.mode Bit) → P (begins happens.TxFree (Flagging (error_flag x.mode) Tx) []) → P (differing c own x)

@@ -37,9 +37,9 @@ use Rattle.wl_heal.proofs.Steps.{rests_on}
 use Rattle.wl_heal.proofs.Wires.{Drives, bus_dominant, bus_recessive, bus_driven, level_cases}
 
 -- a flag of six dominant bits, while it goes on
-record IsDominantFlag (flag : Flag) : Type 0 where
-  drive : (role : Role) (own : List Level) → drive_by (Flagging flag role) own ≡ Dominant
-  goes : (role : Role) (own : List Level) (x : Sampled) → length own < 5 → stretch_after (stretch_by (Flagging flag role) own) (Sample x) ≡ stretch_by (Flagging flag role) (own ++ x.level ∷ [])
+pub record IsDominantFlag (flag : Flag) : Type 0 where
+  pub drive : (role : Role) (own : List Level) → drive_by (Flagging flag role) own ≡ Dominant
+  pub goes : (role : Role) (own : List Level) (x : Sampled) → length own < 5 → stretch_after (stretch_by (Flagging flag role) own) (Sample x) ≡ stretch_by (Flagging flag role) (own ++ x.level ∷ [])
 
 active_dominant : IsDominantFlag ActiveFlag
 active_dominant = record {
@@ -53,13 +53,13 @@ overload_dominant = record {
   goes = λ role own x h. ap (λ b. going (Flagging OverloadFlag role) own x.level (cond b (begins (cond (is_dominant x.level) happens.Nothing (flag_bit_of role)) (Waiting OverloadFlag role (own ++ x.level ∷ [])) []) (continues (cond (is_dominant x.level) happens.Nothing (flag_bit_of role))))) (ne_eqb (length own) 5 (λ e. omega arith));
 }
 
-record IsNewFlag (s : Stretch) : Type 0 where
-  flag : Flag
-  dominant : IsDominantFlag flag
-  role : Role
-  is : s ≡ stretch_by (Flagging flag role) []
+pub record IsNewFlag (s : Stretch) : Type 0 where
+  pub flag : Flag
+  pub dominant : IsDominantFlag flag
+  pub role : Role
+  pub is : s ≡ stretch_by (Flagging flag role) []
 
-new_flag : (sort : Sort) (own : List Level) → is_new_flag_by sort own ≡ true → IsNewFlag (stretch_by sort own)
+pub new_flag : (sort : Sort) (own : List Level) → is_new_flag_by sort own ≡ true → IsNewFlag (stretch_by sort own)
 new_flag (Flagging ActiveFlag role) [] h = record { flag = ActiveFlag; dominant = active_dominant; role = role; is = refl }
 new_flag (Flagging OverloadFlag role) [] h = record { flag = OverloadFlag; dominant = overload_dominant; role = role; is = refl }
 new_flag (Flagging ActiveFlag role) (l ∷ own) h = cc
@@ -74,7 +74,7 @@ new_flag (Intermission role) own h = cc
 new_flag Suspension own h = cc
 new_flag OffBus own h = cc
 
-dominant_bus : (w : Wire) (k : ℕ) → k < w.count → drive_of (stretch_at w k) ≡ Dominant → bus w ≡ Dominant
+pub dominant_bus : (w : Wire) (k : ℕ) → k < w.count → drive_of (stretch_at w k) ≡ Dominant → bus w ≡ Dominant
 dominant_bus w k lt d = elim (level_cases (bus w)) [ inl e ↦ e | inr e ↦ absurd (bus_driven w k lt d e) ]
 
 flag_runs : (n : ℕ) (w : Wire) (handed : ℕ → ℕ → Handed) (k : ℕ) → k < w.count → (flag : Flag) → IsDominantFlag flag → (role : Role) (own : List Level)
@@ -229,7 +229,7 @@ tail_broken : (w : Wire) (handed : ℕ → ℕ → Handed) (active : AreActive h
 tail_broken w handed active part b lt frame own end e found_end far d =
     flag_next w handed active part 29 (omega arith) (breaks w handed active part b lt d
     (ap (λ s. is_new_flag (stretch_after s (Sample (sample_of Dominant (head w handed active part b) Active)))) e
-    ∙ tail_breaks (head w handed active part b) (frame_role frame own) frame own end found_end far))
+    ∙ tail_breaks (head w handed active part b) (frame_role frame own) frame own end found_end (λ one. omega (arith, one, far))))
 
 ending : (n : ℕ) (w : Wire) (handed : ℕ → ℕ → Handed) → AreActive handed → AllTakePart w → (b : ℕ) → b < w.count → (frame : Option Content) (own : List Level) (end : ℕ)
     → stretch_at w b ≡ stretch_by (Framing frame) own → stuffed_end own ≡ Some end → (length own - end) + n ≡ 9 → n ≤ 7
@@ -275,7 +275,7 @@ slots (suc n) w handed active part b lt frame own end e found_end low place = lo
     (goes w handed active part b lt frame own e (subst (λ o. IsEarly o own) (sym found_end) (omega arith)) none)
     (end_stays own (bus w) end found_end) (let m = longer own (bus w) in omega arith) (let m = longer own (bus w) in omega arith))))
 
-ends_now : (own : List Level) (l : Level) (end : ℕ) → stuffed_end own ≡ None → stuffed_end (own ++ l ∷ []) ≡ Some end → end ≡ length (own ++ l ∷ [])
+pub ends_now : (own : List Level) (l : Level) (end : ℕ) → stuffed_end own ≡ None → stuffed_end (own ++ l ∷ []) ≡ Some end → end ≡ length (own ++ l ∷ [])
 ends_now own l end e g =
     by (ends_at (own ++ l ∷ []) (length (own ++ l ∷ [])))
     (sym (end_more own l ∙ ap (λ o. or_at o (ends_at (own ++ l ∷ []) (length (own ++ l ∷ []))) (length (own ++ l ∷ []))) e) ∙ g)

@@ -19,3 +19,11 @@ mod Settle
 mod Errors
 mod Leftover
 mod Heal
+mod Disturbance
+mod Rested
+mod Sent
+mod Received
+mod Tails
+mod Late
+mod LongHits
+mod Bursts

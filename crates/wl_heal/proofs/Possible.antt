@@ -53,7 +53,7 @@ one_ended : (l : Level) → HasTail (l ∷ [])
 one_ended Dominant end e = cc
 one_ended Recessive end e = cc
 
-some_same : (a b : ℕ) → Some a ≡ Some b → a ≡ b
+pub some_same : (a b : ℕ) → Some a ≡ Some b → a ≡ b
 some_same a b e = cc
 
 freed : (head : Option Content) → IsPossible (stretch_by (free head) [])

@@ -232,14 +232,14 @@ module _ (head : Option Content) where
   some_same : (a b : ℕ) → Some a ≡ Some b → a ≡ b
   some_same a b e = cc
 
-  received_breaks : (frame : Option Content) (own : List Level) (end : ℕ) → stuffed_end own ≡ Some end → 2 ≤ length own - end → (o : Option ℕ) → stuffed_end own ≡ o → Breaks (Framing frame) own (framing_received own o d)
+  received_breaks : (frame : Option Content) (own : List Level) (end : ℕ) → stuffed_end own ≡ Some end → (length own - end ≡ 1 → ⊥) → (o : Option ℕ) → stuffed_end own ≡ o → Breaks (Framing frame) own (framing_received own o d)
   received_breaks frame own end e far None f = let wrong : None ≡ Some end = sym f ∙ e in cc
   received_breaks frame own end e far (Some at) f =
       let same_end : at ≡ end = some_same at end (sym f ∙ e) in
       received_tail_cases (Breaks (Framing frame) own) d (destuffed_bits own at) (length own - at)
-      (λ one. absurd (omega arith)) (λ nine. refl) (λ no nine g. refl) (λ two w g. cc) (λ eight g. cc) (λ no nine two g. cc)
+      (λ one. absurd (far (ap (λ e. length own - e) (sym same_end) ∙ one))) (λ nine. refl) (λ no nine g. refl) (λ two w g. cc) (λ eight g. cc) (λ no nine two g. cc)
 
-  pub tail_breaks : (role : Role) (frame : Option Content) (own : List Level) (end : ℕ) → stuffed_end own ≡ Some end → 2 ≤ length own - end → Breaks (Framing frame) own (framing_by role frame own d)
+  pub tail_breaks : (role : Role) (frame : Option Content) (own : List Level) (end : ℕ) → stuffed_end own ≡ Some end → (length own - end ≡ 1 → ⊥) → Breaks (Framing frame) own (framing_by role frame own d)
   tail_breaks Tx None own end e far = received_breaks None own end e far (stuffed_end own) refl
   tail_breaks Tx (Some c) own end e far = sent_breaks (stuffed_end own) refl
     where
@@ -247,7 +247,7 @@ module _ (head : Option Content) where
       sent_breaks None f = let wrong : None ≡ Some end = sym f ∙ e in cc
       sent_breaks (Some at) f =
           let same_end : at ≡ end = some_same at end (sym f ∙ e) in
-          sent_tail_cases (Breaks (Framing (Some c)) own) d c (length own - at) (λ one g. absurd (omega arith)) (λ one g. absurd (omega arith)) (λ no g. refl) (λ nine g. cc) (λ no nine g. cc)
+          sent_tail_cases (Breaks (Framing (Some c)) own) d c (length own - at) (λ one g. absurd (far (ap (λ e. length own - e) (sym same_end) ∙ one))) (λ one g. absurd (far (ap (λ e. length own - e) (sym same_end) ∙ one))) (λ no g. refl) (λ nine g. cc) (λ no nine g. cc)
   tail_breaks Rx frame own end e far = received_breaks frame own end e far (stuffed_end own) refl
 
   pub delimiter_breaks : (role : Role) (own : List Level) → is_new_flag (stretch_after (stretch_by (Delimiting role) own) (Sample d)) ≡ true
@@ -266,7 +266,7 @@ module _ (head : Option Content) where
     where
       by : (o : Option ℕ) → stuffed_end own ≡ o → settle_in_frame o own ≤ 6 → Breaks (Framing frame) own (framing_by (frame_role frame own) frame own d)
       by None e g = absurd (omega arith)
-      by (Some end) e g = tail_breaks (frame_role frame own) frame own end e (omega arith)
+      by (Some end) e g = tail_breaks (frame_role frame own) frame own end e (λ one. omega (arith, one, g))
   near_breaks (Delimiting role) own p a (inr h) not_yet = delimiter_breaks role own
   near_breaks (Intermission role) own p a (inr h) not_yet = intermission_breaks role own not_yet
   near_breaks (Flagging ActiveFlag role) own p a (inr h) not_yet = absurd (omega (arith, h))

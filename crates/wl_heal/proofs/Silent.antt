@@ -25,7 +25,7 @@ use Rattle.wl_machine.specs.Judged.{judged_by, stretch_after, stretch_of, drive_
 use Rattle.wl_machine.specs.States.{sample_of, stretch_by}
 use Rattle.wl_machine.proofs.Callers.{end_more, end_stays, ends_at}
 use Rattle.wl_wire.specs.Wire.{Wire, Handed, Event, Bit, Own, is_between, is_between_by, stretch_at, bus, sampled, next_wire, wire_after}
-use Rattle.wl_heal.specs.Silence.{stretch_on, is_off, is_off_by, silent_bits, IsSilence, bus_bits, StaysRecessive}
+use Rattle.wl_heal.specs.Silence.{stretch_on, is_off, is_off_by, silent_bits, silent_bits_after_a_frame, is_in_frame, is_in_frame_by, IsSilence, bus_bits, StaysRecessive}
 use Rattle.wl_heal.proofs.Cases.{sending_cases, receiving_cases, sent_tail_cases, acknowledging_cases, received_tail_cases}
 use Rattle.wl_heal.proofs.Possible.{HasTail, IsPossible, IsPossibleBy, possible, possible_next}
 use Rattle.wl_heal.proofs.Inside.{inside_next, off_test}
@@ -313,3 +313,22 @@ pub silence_ends_on_wire : (w : Wire) (events : List Event) → silent_bits ≤ 
     → is_between (stretch_at (wire_after w events) k) ≡ true
 silence_ends_on_wire w events long h k lt off =
     near_along w events k lt off (inr (far (stretch_at w k).sort (stretch_at w k).own (bus_bits events) long)) h
+
+-- in no frame
+near_enough : (sort : Sort) (own : List Level) (n : ℕ) → silent_bits_after_a_frame ≤ n → is_in_frame_by sort ≡ false → left_by sort own ≤ n
+near_enough Integration own n h f = omega arith
+near_enough Idle own n h f = omega arith
+near_enough (Framing frame) own n h f = cc
+near_enough (Flagging ActiveFlag role) own n h f = omega arith
+near_enough (Flagging OverloadFlag role) own n h f = omega arith
+near_enough (Flagging (PassiveFlag unacknowledged) role) own n h f = omega arith
+near_enough (Waiting flag role flagged) own n h f = omega arith
+near_enough (Delimiting role) own n h f = omega arith
+near_enough (Intermission role) own n h f = omega arith
+near_enough Suspension own n h f = omega arith
+near_enough OffBus own n h f = omega arith
+
+pub short_silence_ends_on_wire : (w : Wire) (events : List Event) → silent_bits_after_a_frame ≤ bus_bits events → StaysRecessive w events → (k : ℕ) → k < w.count
+    → is_off (stretch_at w k) ≡ false → is_in_frame (stretch_at w k) ≡ false → is_between (stretch_at (wire_after w events) k) ≡ true
+short_silence_ends_on_wire w events long h k lt off f =
+    near_along w events k lt off (inr (near_enough (stretch_at w k).sort (stretch_at w k).own (bus_bits events) long f)) h

@@ -2,7 +2,7 @@
 use Rattle.std.specs.Prelude.{◌≡◌, ◌<◌, ℕ, zero, suc, Bool, true, false, List, [], ◌∷◌}
 use Rattle.wl_level.specs.declared.Level.TheVariants.{Recessive}
 use Rattle.wl_machine.specs.Stretch.{Sort, Stretch, Sampled}
-use Rattle.wl_machine.specs.Stretch.Sort.{OffBus}
+use Rattle.wl_machine.specs.Stretch.Sort.{Framing, OffBus}
 use Rattle.wl_machine.specs.Stretch.Input.{Sample}
 use Rattle.wl_machine.specs.Judged.{stretch_after, drive_of}
 use Rattle.wl_wire.specs.Wire.{Wire, Event, Bit, Own, bus, stretch_at, next_wire}
@@ -28,6 +28,17 @@ AreOnBus w = (k : ℕ) → k < w.count → is_off (stretch_at w k) ≡ false
 -- delimiter, and two of an intermission; Bosch CAN 2.0 part B, sections 3.2.1 and 3.2.3 to 3.2.5
 abbrev pub silent_bits : ℕ
 silent_bits = 23
+
+-- so many if it is in no frame: six bits of a passive flag, eight of a delimiter, and two of an intermission
+abbrev pub silent_bits_after_a_frame : ℕ
+silent_bits_after_a_frame = 16
+
+abbrev pub is_in_frame_by : Sort → Bool
+is_in_frame_by (Framing head) = true
+is_in_frame_by sort = false
+
+abbrev pub is_in_frame : Stretch → Bool
+is_in_frame s = is_in_frame_by s.sort
 
 -- a machine drives recessive at each of these samples, and each is recessive; this project's profile
 abbrev pub IsSilence : Stretch → List Sampled → Type 0

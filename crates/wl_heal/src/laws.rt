@@ -1,22 +1,27 @@
 //! Laws of a disturbed bus, each proved as the contract of a function that does nothing.
 
-ghost use Rattle.std.specs.Prelude.{◌≡◌, ◌≢◌, ◌<◌, ◌≤◌, ◌+◌, ◌/◌, ℕ, true, false, List, length};
+ghost use Rattle.std.specs.Prelude.{◌≡◌, ◌≢◌, ◌↔◌, ◌<◌, ◌≤◌, ◌+◌, ◌/◌, ℕ, true, false, List, length};
+ghost use Rattle.wl_frame.specs.Grammar.{Content, IsFrame};
 ghost use Rattle.wl_confine.specs.declared.Mode.TheVariants.{Off};
 ghost use Rattle.wl_confine.specs.Counts.{Counts, mode_of};
 ghost use Rattle.wl_machine.specs.Stretch.{Sampled, Input};
+ghost use Rattle.wl_level.specs.declared.Level.{Level};
+ghost use Rattle.wl_machine.specs.Stretch.Ended.{Received, Sent};
 ghost use Rattle.wl_machine.specs.Judged.{stretch_of};
 ghost use Rattle.wl_wire.specs.Heads.{OwnHeads};
 ghost use Rattle.wl_wire.specs.InStep.{AreSoundFrames, AreInStep, FindsNoError};
 ghost use Rattle.wl_wire.specs.Wire.{Event, Wire, Handed, is_between, stretch_at, wire_after};
+ghost use Rattle.wl_heal.specs.Bursts.{DifferWithin, burst_bits};
 ghost use Rattle.wl_heal.specs.Costs.{FindsItsDominant, counts_on};
+ghost use Rattle.wl_heal.specs.Disturbed.{Course, TakesPart, IsSentFrom, IsClear, IsHitIn, wire_at, AreActiveIn, AreNearEnd, NobodyHit, judged_at};
 ghost use Rattle.wl_heal.specs.Healing.{AreActive, AllTakePart, IsDominantFor, HealWithin};
 ghost use Rattle.wl_heal.specs.Healing.{StayWithoutError, bits_after, healing_bits};
 ghost use Rattle.wl_heal.specs.Joining.{Change, AreThosePresent, AreInStepBeside, FindNoFault, wire_with};
-ghost use Rattle.wl_heal.specs.Silence.{stretch_on, is_off, AreOnBus, silent_bits, IsSilence, bus_bits, StaysRecessive};
+ghost use Rattle.wl_heal.specs.Silence.{stretch_on, is_off, is_in_frame, AreOnBus, silent_bits, silent_bits_after_a_frame, IsSilence, bus_bits, StaysRecessive};
 
 /// Law: 23 recessive samples bring each machine between frames, whatever reached it before and whatever it is handed meanwhile, in whatever
 /// modes. It has to drive recessive at each of them, and not to be off the bus before them. So if a bus stays recessive for 23 bits, all
-/// its machines are between frames.
+/// its machines are between frames. 16 bits are enough for a machine that is in no frame, as in a passive flag.
 pub fn a_silence_brings_all_between()
     ensures machine { (past : List Input) (xs : List Sampled) → is_off (stretch_of past) ≡ false
         → silent_bits ≤ length xs → IsSilence (stretch_of past) xs
@@ -24,6 +29,9 @@ pub fn a_silence_brings_all_between()
     ensures wire { (w : Wire) (events : List Event) → silent_bits ≤ bus_bits events
         → StaysRecessive w events → (k : ℕ) → k < w.count → is_off (stretch_at w k) ≡ false
         → is_between (stretch_at (wire_after w events) k) ≡ true }
+    ensures flag { (w : Wire) (events : List Event) → silent_bits_after_a_frame ≤ bus_bits events
+        → StaysRecessive w events → (k : ℕ) → k < w.count → is_off (stretch_at w k) ≡ false
+        → is_in_frame (stretch_at w k) ≡ false → is_between (stretch_at (wire_after w events) k) ≡ true }
 {}
 
 /// Law: such a silence heals a bus, whatever its machines did before, if none is off the bus. From then on they are in step, and none finds
@@ -82,4 +90,47 @@ pub fn active_machines_heal()
         → AreActive handed → AllTakePart w → (n : ℕ) × (n ≤ healing_bits) × StayWithoutError (bits_after w handed n) }
 {
     wl_wire::laws::machines_that_are_in_step_stay_so();
+}
+
+/// Law: a frame that is sent is received. Let one machine have sent a frame, and let both it and another one be error active. Let no
+/// disturbance reach these two in the ten bits before the start of frame, or up to the end of the stuffed part. Then the other one has
+/// received that frame with the bit before. So it is whatever all did before, and whatever is disturbed besides, before and after that part.
+pub fn a_sent_frame_is_received()
+    ensures { (w : Wire) (c : Course) (s j start n : ℕ) (frame : Content) → AreSoundFrames w.count w.frames → OwnHeads w
+        → s ≢ j → TakesPart w c s → TakesPart w c j → IsSentFrom w c s start n frame → IsClear c s j start n
+        → (judged_at w c n j).ended ≡ Received frame }
+{
+    wl_machine::laws::a_sent_frame_is_the_head_that_began_its_stretch();
+}
+
+/// Law: one disturbance of 6 to 51 bits hides no frame, if all are in step when it begins. What one error active machine has sent, another
+/// one has received with the bit before, if each of the two is hit at all bits of the disturbance, or at none. The frame has to have ten bits
+/// of the run before it. Whoever else is there may be disturbed otherwise.
+pub fn a_long_disturbance_hides_no_frame()
+    ensures { (w : Wire) (c : Course) (s j start n from many : ℕ) (frame : Content)
+        → AreSoundFrames w.count w.frames → OwnHeads w → s ≢ j → TakesPart w c s → TakesPart w c j
+        → IsSentFrom w c s start n frame → AreInStep (wire_at w c from)
+        → 6 ≤ many → many ≤ 51 → IsHitIn c from many s → IsHitIn c from many j
+        → (judged_at w c n j).ended ≡ Received frame }
+{
+    wl_machine::laws::a_sent_frame_is_the_head_that_began_its_stretch();
+}
+
+/// Law: a CRC sequence finds each burst of 15 bits. Two frames, without their stuff bits, that differ in 15 bits in a row at most are the same.
+pub fn a_burst_is_found()
+    ensures { (a b : List Level) (c d : Content) → IsFrame a c → IsFrame b d → DifferWithin burst_bits a b → a ≡ b }
+{}
+
+/// Law: who has a frame at its end. Let all be error active, in one frame and before the last but one bit of its end. A receiver has received
+/// the frame with that bit exactly if it isn't hit. The sender has sent it with the last bit exactly if nobody was hit there, and it isn't
+/// hit in the last one. So a receiver has a frame that its sender sends again exactly if it isn't hit there, and another one or the sender is.
+pub fn who_has_a_frame_at_its_end()
+    ensures received { (w : Wire) (c : Course) (own : List Level) (s k : ℕ) (frame : Content)
+        → AreSoundFrames w.count w.frames → OwnHeads w → AreActiveIn c → AreNearEnd w own s frame → k < w.count → k ≢ s
+        → ((judged_at w c 0 k).ended ≡ Received frame) ↔ (c.hit 0 k ≡ false) }
+    ensures sent { (w : Wire) (c : Course) (own : List Level) (s : ℕ) (frame : Content)
+        → AreSoundFrames w.count w.frames → OwnHeads w → AreActiveIn c → AreNearEnd w own s frame
+        → ((judged_at w c 1 s).ended ≡ Sent frame) ↔ (NobodyHit w c 0 × (c.hit 1 s ≡ false)) }
+{
+    wl_machine::laws::a_sent_frame_is_the_head_that_began_its_stretch();
 }
