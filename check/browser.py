@@ -6,7 +6,8 @@ import shutil
 import subprocess
 import tempfile
 
-KEYS = {"ArrowLeft": 37, "ArrowUp": 38, "ArrowRight": 39, "ArrowDown": 40, "Home": 36, "End": 35, "Enter": 13}
+KEYS = {"ArrowLeft": 37, "ArrowUp": 38, "ArrowRight": 39, "ArrowDown": 40, "Home": 36, "End": 35, "Enter": 13, "Escape": 27, "Tab": 9}
+SHIFT = 8
 
 
 def is_here():
@@ -87,8 +88,8 @@ class Browser:
         if "exceptionDetails" in answer: raise SystemExit(f"{of}: {answer['exceptionDetails'].get('exception', {}).get('description')}")
         return answer["result"].get("value")
 
-    def press(self, key, times=1):
-        named = {"key": key, "windowsVirtualKeyCode": KEYS.get(key, ord(key[0]) if len(key) == 1 else 0)}
+    def press(self, key, times=1, modifiers=0):
+        named = {"key": key, "modifiers": modifiers, "windowsVirtualKeyCode": KEYS.get(key, ord(key[0]) if len(key) == 1 else 0)}
         if len(key) == 1: named["text"] = key
         for _ in range(times):
             self.ask("Input.dispatchKeyEvent", type="keyDown", **named)
@@ -100,8 +101,8 @@ class Browser:
     def wheel(self, x, y, by, times=1):
         for _ in range(times): self.mouse("mouseWheel", x, y, deltaX=0, deltaY=by)
 
-    def click(self, x, y):
-        for kind in ("mousePressed", "mouseReleased"): self.mouse(kind, x, y, button="left", clickCount=1)
+    def click(self, x, y, modifiers=0):
+        for kind in ("mousePressed", "mouseReleased"): self.mouse(kind, x, y, button="left", clickCount=1, modifiers=modifiers)
 
     def drag(self, x, y, by):
         self.mouse("mousePressed", x, y, button="left", clickCount=1)
@@ -110,6 +111,15 @@ class Browser:
 
     def picture(self, path):
         path.write_bytes(base64.b64decode(self.ask("Page.captureScreenshot", format="png")["data"]))
+
+    def size(self, width, height):
+        self.ask("Emulation.setDeviceMetricsOverride", width=width, height=height, deviceScaleFactor=1, mobile=False)
+
+    def names(self):
+        """The roles and names of all that can have the focus, as a screen reader says them."""
+        nodes = self.ask("Accessibility.getFullAXTree")["nodes"]
+        can = [node for node in nodes if any(one["name"] == "focusable" and one["value"].get("value") for one in node.get("properties", []))]
+        return [(node["role"]["value"], node.get("name", {}).get("value", "")) for node in can]
 
     def media(self, scheme):
         self.ask("Emulation.setEmulatedMedia", features=[{"name": "prefers-color-scheme", "value": scheme}])

@@ -2,7 +2,11 @@
 use Rattle.std.specs.Prelude.{ℕ, List, [], ◌∷◌, ◌++◌, ◌==◌, if◌then◌else◌, codes}
 use Rattle.std.specs.List.{flat_map}
 use Rattle.wl_page.specs.declared.texts.Texts.{Texts}
-use Rattle.wl_page.specs.declared.template.TheConstants.{HEAD, TO_SETTINGS, TO_MARGIN, TO_TRAFFIC, TO_REPORT, TO_PLAN, TO_TRACE, TO_WAVE, SCRIPT}
+use Rattle.wl_page.specs.declared.template.TheConstants.{HEAD, TO_SETTINGS, TO_MARGIN, TO_TRAFFIC, TO_REPORT, TO_PLAN, TO_TRACE, TO_WAVE, TO_SCRIPT}
+use Rattle.wl_page.specs.declared.reading.TheConstants.{READING}
+use Rattle.wl_page.specs.declared.drawing.TheConstants.{DRAWING}
+use Rattle.wl_page.specs.declared.moving.TheConstants.{MOVING}
+use Rattle.wl_page.specs.declared.tables.TheConstants.{TABLES}
 
 -- a byte as text within HTML: `&`, `<`, `>` and a carriage return are references to the character, which a browser shows as the byte
 abbrev pub escaped_byte : ℕ → List ℕ
@@ -19,6 +23,10 @@ escaped bytes = flat_map escaped_byte bytes
 -- a page so far, and a part of the layout and a text after it
 abbrev pub with_part : List ℕ → List ℕ → List ℕ → List ℕ
 with_part page layout text = page ++ (layout ++ escaped text)
+
+-- a page so far, and the script with the end of the page
+abbrev pub with_script : List ℕ → List ℕ
+with_script page = ((((page ++ TO_SCRIPT.now) ++ READING.now) ++ DRAWING.now) ++ MOVING.now) ++ TABLES.now
 
 -- the texts of a run
 pub record PageTexts : Type 0 where
@@ -41,7 +49,7 @@ page_of texts =
     let to_report = with_part to_traffic TO_REPORT.now texts.report in
     let to_plan = with_part to_report TO_PLAN.now texts.plan in
     let to_trace = with_part to_plan TO_TRACE.now texts.trace in
-    with_part to_trace TO_WAVE.now texts.wave ++ SCRIPT.now
+    with_script (with_part to_trace TO_WAVE.now texts.wave)
 
 -- the texts that are handed over
 abbrev pub texts_of : Texts → PageTexts

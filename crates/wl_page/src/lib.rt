@@ -3,7 +3,11 @@
 //! The page has all that it needs: it takes nothing from a network. Its script reads the texts and draws them.
 #![tactic(auto)]
 
+mod drawing;
 mod escape;
+mod moving;
+mod reading;
+mod tables;
 mod template;
 mod texts;
 

@@ -1,10 +1,14 @@
 //! The page of a run.
 ghost use Rattle.std.specs.Prelude.{◌≡◌, IfOk, OnOk};
-ghost use Rattle.wl_page.specs.Page.{page_of, texts_of, with_part};
+ghost use Rattle.wl_page.specs.Page.{page_of, texts_of, with_part, with_script};
 
+use crate::drawing::DRAWING;
 use crate::escape::push_escaped;
+use crate::moving::MOVING;
+use crate::reading::READING;
+use crate::tables::TABLES;
 use crate::template::{
-    HEAD, SCRIPT, TO_MARGIN, TO_PLAN, TO_REPORT, TO_SETTINGS, TO_TRACE, TO_TRAFFIC, TO_WAVE,
+    HEAD, TO_MARGIN, TO_PLAN, TO_REPORT, TO_SCRIPT, TO_SETTINGS, TO_TRACE, TO_TRAFFIC, TO_WAVE,
 };
 use std::alloc::{AllocError, Global};
 
@@ -39,6 +43,19 @@ pub fn push_part(page: &mut Vec<u8>, part: &str, text: &[u8]) -> Result<(), Allo
     push_escaped(page, text)
 }
 
+/// Adds the script to a page, in its parts.
+///
+/// Refused only when out of memory.
+fn push_script(page: &mut Vec<u8>) -> Result<(), AllocError>
+    ensures { OnOk result (page.new.items ≡ with_script page.old.items) }
+{
+    page.extend_from_slice(TO_SCRIPT.as_bytes())?;
+    page.extend_from_slice(READING.as_bytes())?;
+    page.extend_from_slice(DRAWING.as_bytes())?;
+    page.extend_from_slice(MOVING.as_bytes())?;
+    page.extend_from_slice(TABLES.as_bytes())
+}
+
 /// Returns the page of a run: its texts, each once and whole, within the layout and beside the script that draws them.
 ///
 /// Refused only when out of memory.
@@ -54,6 +71,6 @@ pub fn page(alloc: Global, texts: &Texts) -> Result<Vec<u8>, AllocError>
     push_part(&mut page, TO_PLAN, texts.plan)?;
     push_part(&mut page, TO_TRACE, texts.trace)?;
     push_part(&mut page, TO_WAVE, texts.wave)?;
-    page.extend_from_slice(SCRIPT.as_bytes())?;
+    push_script(&mut page)?;
     Ok(page)
 }

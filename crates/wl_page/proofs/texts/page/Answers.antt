@@ -6,7 +6,7 @@ use Rattle.wl_page.proofs.texts.page.Goals as goal
 pub returns : goal.returns
 unfolding page_of
 returns c =
-    rw c.in_ok-extend_from_slice.ensures.items
+    rw c.in_ok-push_script.ensures
     rw c.in_ok-push_part-8.ensures
     rw c.in_ok-push_part-7.ensures
     rw c.in_ok-push_part-6.ensures
@@ -16,5 +16,4 @@ returns c =
     rw c.in_ok-push_part-2.ensures
     rw c.in_ok-push_part.ensures
     rw c.new-page.ensures.items
-    rw c.as_bytes.ensures.value
     refl
