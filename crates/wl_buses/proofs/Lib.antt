@@ -8,4 +8,5 @@ mod PassedFrames
 mod SentFrames
 mod FamilyPlans
 mod CleanPlans
+mod FrameTimes
 pub mod Callers

@@ -8,3 +8,4 @@ pub mod PassedFrames
 pub mod SentFrames
 pub mod FamilyPlans
 pub mod CleanPlans
+pub mod FrameTimes

@@ -8,6 +8,7 @@ pub mod clean_plans;
 pub mod family_plans;
 pub mod first_frame;
 pub mod frame_end;
+pub mod frame_times;
 pub mod next_frames;
 pub mod one_frame;
 pub mod one_sender;

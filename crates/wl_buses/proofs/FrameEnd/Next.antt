@@ -24,7 +24,7 @@ module _ (m : MachineLaws) (s : Stations) (are : AreStations s) (room : HaveRoom
   bits = expected_bits s o
 
   -- each bit after the slot is a bit later
-  place_after : (n i : ℕ) → n ≤ 11 → (bits (suc end + n)).place i ≡ (bits (suc end)).place i + n * bit_quanta (s.lengths i)
+  pub place_after : (n i : ℕ) → n ≤ 11 → (bits (suc end + n)).place i ≡ (bits (suc end)).place i + n * bit_quanta (s.lengths i)
   place_after zero i small = (let e : suc end + 0 ≡ suc end = omega arith in ap (λ k. (bits k).place i) e ∙ (let f : (bits (suc end)).place i ≡ (bits (suc end)).place i + 0 * bit_quanta (s.lengths i) = omega arith in f))
   place_after (suc n) i small =
       (let e : suc end + suc n ≡ suc (suc end + n) = omega arith in
