@@ -6,6 +6,9 @@
                                           many frames were played, bits sampled and starts compared, and how many were refused
     senders.py answer RUNS SEED [LEFT]    the same up to the end of the frame, with its acknowledgement, on buses that have room for one. LEFT is one
                                           of these but loops, which is_there implies; or chase: each station has an edge less to catch up
+    senders.py pace RUNS SEED [LEFT]      how long the same frames last, beside frame_time and tail_time of wl_buses::frame_times. LEFT is a term that is
+                                          left out: shift, lag, jump, slowest (the winner's bits in the place of the longest), thirteen (a bit
+                                          less) or sample. Says of how many frames a station is later, and by how many bits at most
 
 A station is a bit clock of check/phase.py and a list of bits to send, or none. It begins its start of frame at the first bit that begins
 once it is ready, or with the first edge. It sends on as long as it samples what it sends.
@@ -309,11 +312,9 @@ def compare_answer(bus, stations, length, counts, winner, chase):
     return None
 
 
-def answer(runs, seed, left):
-    random.seed(seed)
-    rng = random
-    counts = {"frames": 0, "samples": 0, "starts": 0, "refused": 0}
-    while counts["frames"] < runs:
+def answered_frames(rng, left):
+    """Endless: a bus with room for acknowledgements, stations of which the first wins, its bits up to the CRC sequence, and chases."""
+    while True:
         length = rng.choice([8, 12, 20, 40, 58])
         # else the edges are ten bits apart, and the last one ten bits before the ACK slot
         bits = stuffed(rng) if rng.random() < 0.5 else [True] + [(length - 1 - n) % 10 >= 4 for n in range(1, BITS + 2)]
@@ -335,6 +336,15 @@ def answer(runs, seed, left):
                 sent[at] = at == 0
             ready = 14 * bit_of(bus.lengths[i]) + rng.randint(0, around * bit_of(bus.lengths[i])) if i in wanted else 0
             stations.append(Station(bus, i, ready, sent[:length] if i in wanted else None, length + 1))
+        yield bus, stations, bits[:length], chase
+
+
+def answer(runs, seed, left):
+    random.seed(seed)
+    counts = {"frames": 0, "samples": 0, "starts": 0, "refused": 0}
+    for bus, stations, bits, chase in answered_frames(random, left):
+        if counts["frames"] >= runs: break
+        length, winner = len(bits), 0
         try: play(bus, stations, length + 12)
         except (AssertionError, IndexError) as fault: wrong = str(fault)
         else: wrong = compare_answer(bus, stations, length, counts, winner, chase)
@@ -342,8 +352,47 @@ def answer(runs, seed, left):
         counts["frames"] += 1
         if wrong:
             counts["refused"] += 1
-            if left is None: print(wrong, length, bits[:length], bus.lengths, bus.clocks, bus.delay, [(s.ready, s.bits is not None) for s in stations])
+            if left is None: print(wrong, length, bits, bus.lengths, bus.clocks, bus.delay, [(s.ready, s.bits is not None) for s in stations])
     print(" ".join(f"{name} {count}" for name, count in counts.items()))
+
+
+def times_of(bus, left):
+    """The longest bit, sample and shift in ticks, as specs/Pace/Times.antt has them."""
+    nodes = range(bus.count)
+    time = lambda i, quanta: quanta * quantum(bus.clocks[i])
+    bit = max(time(i, bit_of(bus.lengths[i])) for i in nodes) if left != "slowest" else time(0, bit_of(bus.lengths[0]))
+    sample = max(time(i, sample_of(bus.lengths[i])) for i in nodes) if left != "sample" else 0
+    lags = [way(bus, k, i) - bus.delay[i][k] for k in nodes for i in nodes if bus.may[k] and i != k] if left not in ("lag", "shift") else []
+    jumps = [time(k, bus.lengths[k][3]) for k in nodes if bus.may[k]] if left not in ("jump", "shift") else []
+    return bit, sample, max(lags + jumps, default=0)
+
+
+def late_by(bus, stations, length, times, left):
+    """By how much a station is later than frame_time or tail_time say, in ticks, at most; the first station has won."""
+    bit, sample, shift = times
+    begin = instant(bus.clocks[0], stations[0].place[0])
+    late = []
+    for i, s in enumerate(stations):
+        after, passing = s.place[length + 11] + 2 * bit_of(bus.lengths[i]), s.place[length + (8 if i else 9)] + sample_of(bus.lengths[i])
+        late.append(instant(bus.clocks[i], after) - begin - (length + (12 if left == "thirteen" else 13)) * bit - shift)
+        late.append(instant(bus.clocks[i], passing) - begin - (length + 9) * bit - sample - shift)
+    return max(late)
+
+
+def pace(runs, seed, left):
+    random.seed(seed)
+    frames, later, most = 0, 0, None
+    for bus, stations, bits, chase in answered_frames(random, None):
+        if frames >= runs: break
+        try: play(bus, stations, len(bits) + 12)
+        except (AssertionError, IndexError): continue
+        if compare_answer(bus, stations, len(bits), {"samples": 0, "starts": 0}, 0, chase): continue
+        frames += 1
+        late = late_by(bus, stations, len(bits), times_of(bus, left), left)
+        later += late > 0
+        most = max([late / times_of(bus, None)[0]] + ([] if most is None else [most]))
+        if late > 0 and left is None: print(late, len(bits), bits, bus.lengths, bus.clocks, bus.delay, [(s.ready, s.bits is not None) for s in stations])
+    print(f"frames {frames} later {later} by {float(most):.4f} bits at most")
 
 
 def search(runs, seed, left):
@@ -376,6 +425,8 @@ def search(runs, seed, left):
     print(" ".join(f"{name} {count}" for name, count in counts.items()))
 
 
+MODES = {"search": search, "answer": answer, "pace": pace}
+
 if __name__ == "__main__":
-    if len(sys.argv) < 4 or sys.argv[1] not in ("search", "answer"): sys.exit(__doc__)
-    (search if sys.argv[1] == "search" else answer)(int(sys.argv[2]), int(sys.argv[3]), sys.argv[4] if len(sys.argv) > 4 else None)
+    if len(sys.argv) < 4 or sys.argv[1] not in MODES: sys.exit(__doc__)
+    MODES[sys.argv[1]](int(sys.argv[2]), int(sys.argv[3]), sys.argv[4] if len(sys.argv) > 4 else None)

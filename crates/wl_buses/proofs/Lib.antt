@@ -6,6 +6,9 @@ mod FrameEnd
 mod NextFrames
 mod PassedFrames
 mod SentFrames
+mod TakesPart
 mod FamilyPlans
 mod CleanPlans
+mod FrameTimes
+mod BoundedWaits
 pub mod Callers

@@ -6,5 +6,8 @@ pub mod FrameEnd
 pub mod NextFrames
 pub mod PassedFrames
 pub mod SentFrames
+pub mod TakesPart
 pub mod FamilyPlans
 pub mod CleanPlans
+pub mod FrameTimes
+pub mod BoundedWaits

@@ -4,12 +4,15 @@
 #![tactic(auto)]
 
 pub mod both_proofs;
+pub mod bounded_waits;
 pub mod clean_plans;
 pub mod family_plans;
 pub mod first_frame;
 pub mod frame_end;
+pub mod frame_times;
 pub mod next_frames;
 pub mod one_frame;
 pub mod one_sender;
 pub mod passed_frames;
 pub mod sent_frames;
+pub mod takes_part;

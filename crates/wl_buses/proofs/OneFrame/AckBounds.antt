@@ -16,7 +16,7 @@ use Rattle.wl_buses.specs.OneFrame.Stations.{Stations, AreOnALine, HaveRoom, sha
 use Rattle.wl_buses.proofs.OneFrame.Bounded.{drift_is, fits, follows_by, inside, jump_is, look_high, loop_by, over_by, own_is, own_none, quanta_back, quanta_high, quanta_low, quanta_there, way_is}
 
 -- a difference, in other parts
-less : (u m X Y XX YY : ℕ) → (u * X ≤ m * XX) × (m * YY ≤ u * Y) → u * (X - Y) ≤ m * (XX - YY)
+pub less : (u m X Y XX YY : ℕ) → (u * X ≤ m * XX) × (m * YY ≤ u * Y) → u * (X - Y) ≤ m * (XX - YY)
 less u m X Y XX YY h = elim (cases_lt Y X) [
   | inl more ↦
       (let high = h.0 in
