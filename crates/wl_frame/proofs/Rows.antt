@@ -1,9 +1,11 @@
--- Worked examples of the stuffing and of the CRC sequence, by computation.
+-- Worked examples of the stuffing, of the CRC sequence and of the fields, by computation.
 use Rattle.std.proofs.Common.{◌≡◌, List, [], ◌∷◌, true, false, refl}
 use Rattle.wl_level.specs.declared.Level.{Level}
 use Rattle.wl_level.specs.declared.Level.TheVariants.{Dominant, Recessive}
 use Rattle.wl_frame.specs.Stuffing.{destuffed_list, is_stuff}
 use Rattle.wl_frame.specs.Crc.{crc_of}
+use Rattle.wl_frame.specs.declared.field.FrameField.TheVariants as fields
+use Rattle.wl_frame.specs.Field.{field_of, place_in, tail_field}
 use Rattle.wl_frame.specs.Header.{sent_free}
 use Rattle.wl_frame.specs.Grammar.{Content, bits_of, number_bits, bits_before_crc, with_crc, layout_of, is_whole, is_crc_right, content_of}
 
@@ -144,3 +146,26 @@ free_read = refl
 extended_arbitration : (layout_of (bits_of other_extended)).arbitration ≡ 33
 unfolding bits_of number_bits
 extended_arbitration = refl
+
+-- which field a bit falls on, in a base frame with one byte: the last bit before the RTR bit, that, the last of the code, the byte, the CRC sequence
+base_fields : ((field_of zero_byte_bits 0 ≡ place_in fields.StartOfFrame 0) × (field_of zero_byte_bits 11 ≡ place_in fields.Identifier 10)
+    × (field_of zero_byte_bits 12 ≡ place_in fields.RemoteRequest 0) × (field_of zero_byte_bits 13 ≡ place_in fields.IdentifierExtension 0)
+    × (field_of zero_byte_bits 14 ≡ place_in fields.Reserved0 0) × (field_of zero_byte_bits 18 ≡ place_in fields.DataLengthCode 3)
+    × (field_of zero_byte_bits 19 ≡ place_in fields.Data 0) × (field_of zero_byte_bits 26 ≡ place_in fields.Data 7)
+    × (field_of zero_byte_bits 27 ≡ place_in fields.CrcSequence 0) × (field_of zero_byte_bits 41 ≡ place_in fields.CrcSequence 14))
+base_fields = (refl, refl, refl, refl, refl, refl, refl, refl, refl, refl)
+
+-- the front of an extended frame: the SRR bit, the IDE bit, the rest of the identifier, the RTR bit, the reserved bits, the code
+abbrev extended_front : List Level
+extended_front = d ∷ d ∷ d ∷ d ∷ d ∷ d ∷ d ∷ d ∷ d ∷ d ∷ d ∷ d ∷ r ∷ r ∷ []
+
+extended_fields : ((field_of extended_front 11 ≡ place_in fields.Identifier 10) × (field_of extended_front 12 ≡ place_in fields.SubstituteRemoteRequest 0)
+    × (field_of extended_front 13 ≡ place_in fields.IdentifierExtension 0) × (field_of extended_front 14 ≡ place_in fields.ExtendedIdentifier 0)
+    × (field_of extended_front 31 ≡ place_in fields.ExtendedIdentifier 17) × (field_of extended_front 32 ≡ place_in fields.RemoteRequest 0)
+    × (field_of extended_front 33 ≡ place_in fields.Reserved1 0) × (field_of extended_front 34 ≡ place_in fields.Reserved0 0)
+    × (field_of extended_front 35 ≡ place_in fields.DataLengthCode 0) × (field_of extended_front 38 ≡ place_in fields.DataLengthCode 3))
+extended_fields = (refl, refl, refl, refl, refl, refl, refl, refl, refl, refl)
+
+tail_fields : ((tail_field 0 ≡ place_in fields.CrcDelimiter 0) × (tail_field 1 ≡ place_in fields.AckSlot 0) × (tail_field 2 ≡ place_in fields.AckDelimiter 0)
+    × (tail_field 3 ≡ place_in fields.EndOfFrame 0) × (tail_field 9 ≡ place_in fields.EndOfFrame 6))
+tail_fields = (refl, refl, refl, refl, refl)

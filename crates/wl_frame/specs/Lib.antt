@@ -3,6 +3,7 @@ pub mod Crc
 pub mod Register
 pub mod Header
 pub mod Grammar
+pub mod Field
 pub mod Padded
 pub mod Held
 pub mod Limits

@@ -2,6 +2,7 @@
 #![tactic(auto)]
 
 pub mod checksum;
+pub mod field;
 pub mod frame;
 pub mod laws;
 pub mod limits;

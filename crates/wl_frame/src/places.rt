@@ -12,19 +12,19 @@ use crate::numbers::number;
 use wl_level::Level;
 
 /// The place of an identifier, whose first 11 bits come together.
-const ID: usize = 1;
+pub(crate) const ID: usize = 1;
 
 /// The place of the RTR bit of a base frame, and of the SRR bit of an extended one.
-const RTR: usize = 12;
+pub(crate) const RTR: usize = 12;
 
 /// The place of the IDE bit.
-const IDE: usize = 13;
+pub(crate) const IDE: usize = 13;
 
 /// The place of the last 18 bits of an extended frame's identifier.
-const EXTENDED_ID: usize = 14;
+pub(crate) const EXTENDED_ID: usize = 14;
 
-/// The place of an extended frame's RTR bit.
-const EXTENDED_RTR: usize = 32;
+/// The place of an extended frame's RTR bit, the last at which the sender of any frame may lose the arbitration.
+pub const EXTENDED_RTR: usize = 32;
 
 /// How many bits the header of a base frame has, from its start to its data length code.
 const HEADER: usize = 19;
@@ -144,7 +144,7 @@ pub(crate) fn data_length_code(bits: &[Level]) -> u32
 }
 
 /// Returns how many bits the CRC sequence covers.
-fn places_covered(bits: &[Level]) -> usize
+pub(crate) fn places_covered(bits: &[Level]) -> usize
     requires { (layout_of bits.now).header ≤ length bits.now }
     ensures value { result ≡ covered_length bits.now }
     ensures most { result ≤ most_bits_before_crc }

@@ -2,7 +2,6 @@ mod Told
 mod Runs
 mod Following
 mod Taken
-mod Read
 mod Added
 mod Replayed
 mod InTime

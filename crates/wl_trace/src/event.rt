@@ -1,52 +1,7 @@
 //! What happens to a node: the events of a trace.
 use wl_confine::{Counters, ErrorKind};
+use wl_frame::field::FramePlace;
 use wl_frame::frame::Frame;
-
-/// A field of a frame (Bosch CAN 2.0 part B, section 3.2.1), or the delimiter of a flag (sections 3.2.3 and 3.2.4).
-#[derive(Clone, Copy, Debug, PartialEq, Eq)]
-pub enum FrameField {
-    /// SOF.
-    StartOfFrame,
-    /// The 11 bits of a base frame's identifier, or the first 11 of an extended frame's.
-    Identifier,
-    /// SRR.
-    SubstituteRemoteRequest,
-    /// IDE.
-    IdentifierExtension,
-    /// The last 18 bits of an extended frame's identifier.
-    ExtendedIdentifier,
-    /// RTR.
-    RemoteRequest,
-    /// r1.
-    Reserved1,
-    /// r0.
-    Reserved0,
-    /// DLC.
-    DataLengthCode,
-    /// The bytes.
-    Data,
-    /// The CRC sequence.
-    CrcSequence,
-    /// The CRC delimiter.
-    CrcDelimiter,
-    /// The acknowledgement slot.
-    AckSlot,
-    /// The acknowledgement delimiter.
-    AckDelimiter,
-    /// EOF.
-    EndOfFrame,
-    /// The delimiter of an error or overload flag.
-    FlagDelimiter,
-}
-
-/// A place in a frame: a bit of a field.
-#[derive(Clone, Copy, Debug, PartialEq, Eq)]
-pub struct FramePlace {
-    /// The field.
-    pub field: FrameField,
-    /// Which of its bits, counted from 0 in the order in which they are sent.
-    pub bit: usize,
-}
 
 /// What a flag looks like.
 #[derive(Clone, Copy, Debug, PartialEq, Eq)]

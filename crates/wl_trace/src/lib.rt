@@ -2,7 +2,6 @@
 #![tactic(auto)]
 
 mod event;
-mod fields;
 mod laws;
 mod notes;
 mod replay;
@@ -11,9 +10,10 @@ mod sampled_node;
 mod snapshot;
 mod stretch;
 
-pub use event::{FlagForm, FrameField, FramePlace, NodeEvent, Noted};
+pub use event::{FlagForm, NodeEvent, Noted};
 pub use laws::trace_laws;
 pub use replay::node_events;
 pub use rerun::Rerun;
 pub use sampled_node::SampledNode;
 pub use snapshot::{NodeSnapshot, NodeState};
+pub use wl_frame::field::{FrameField, FramePlace};

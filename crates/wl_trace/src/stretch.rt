@@ -20,12 +20,11 @@ ghost use Rattle.wl_trace.specs.Events.{free_kind, is_transmitter};
 ghost use Rattle.wl_trace.specs.Places.{is_at_stuff, known_bits, next_place, stuffed_place};
 ghost use Rattle.wl_trace.specs.Running.{ComesNext, KeepsSent, KeepsStretch, error_kind, first_samples, way_of};
 
-use crate::event::{FrameField, FramePlace};
-use crate::fields::{frame_place, tail_place};
 use std::alloc::{AllocError, Global};
 use wl_confine::{ErrorKind, Happened, Mode};
+use wl_frame::field::{FrameField, FramePlace, field_of, tail_field};
 use wl_frame::frame::{Frame, FrameBits};
-use wl_frame::places::{is_arbitration, is_whole};
+use wl_frame::places::{EXTENDED_RTR, is_arbitration, is_whole};
 use wl_level::Level;
 
 /// After this many equal bits a stuff bit is due.
@@ -48,9 +47,6 @@ const SUSPENSION_BITS: usize = 8;
 
 /// The last bit of the end of frame, by its place after all that is stuffed.
 const LAST: usize = 9;
-
-/// The last place at which the sender of any frame may lose the arbitration: an extended frame's RTR bit.
-const LAST_ARBITRATION: usize = 32;
 
 /// What a stretch is. `sends`: of a transmitter.
 #[derive(Clone, Copy)]
@@ -442,7 +438,7 @@ fn is_lost(sent: &[Level], own: &[Level], bits: &[Level], level: Level) -> bool
     if !level.is_dominant() {
         return false;
     }
-    if bits.len() > LAST_ARBITRATION {
+    if bits.len() > EXTENDED_RTR {
         return false;
     }
     is_lost_to(sent, own, bits, level)
@@ -542,7 +538,7 @@ impl RunningStretch {
     {
         let count = self.own.len();
         match self.kind {
-            StretchKind::Framing { end: Some(end), .. } => tail_place(count.saturating_sub(end)),
+            StretchKind::Framing { end: Some(end), .. } => tail_field(count.saturating_sub(end)),
             StretchKind::Framing {
                 head,
                 sends,
@@ -571,9 +567,9 @@ impl RunningStretch {
         match head {
             Some(frame) if sends => {
                 let sent = frame.bits();
-                frame_place(&sent, k)
+                field_of(&sent, k)
             }
-            _ => frame_place(&self.bits, k),
+            _ => field_of(&self.bits, k),
         }
     }
 

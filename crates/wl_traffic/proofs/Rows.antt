@@ -8,8 +8,8 @@ use Rattle.wl_machine.specs.declared.doing.Doing.{Doing}
 use Rattle.wl_machine.specs.declared.doing.Doing.TheVariants.{Integrating, Idle, Receiving, Transmitting, Intermission, Suspended, OffBus}
 use Rattle.wl_trace.specs.declared.event.NodeEvent.{NodeEvent}
 use Rattle.wl_trace.specs.declared.event.NodeEvent.TheVariants as events
-use Rattle.wl_trace.specs.declared.event.FrameField.{FrameField}
-use Rattle.wl_trace.specs.declared.event.FrameField.TheVariants.{Identifier, AckSlot, FlagDelimiter}
+use Rattle.wl_frame.specs.declared.field.FrameField.{FrameField}
+use Rattle.wl_frame.specs.declared.field.FrameField.TheVariants.{Identifier, AckSlot, FlagDelimiter}
 use Rattle.wl_trace.specs.declared.event.Noted.{Noted}
 use Rattle.wl_traffic.specs.declared.entries.Entry.{Entry}
 use Rattle.wl_views.specs.declared.tick.Tick.{Tick}

@@ -10,8 +10,8 @@ use Rattle.wl_plan.specs.PlanLine.{setup_at}
 use Rattle.wl_serial.specs.Outcome.{node_outcome_of}
 use Rattle.wl_trace.specs.declared.event.NodeEvent.{NodeEvent}
 use Rattle.wl_trace.specs.declared.event.NodeEvent.TheVariants as events
-use Rattle.wl_trace.specs.declared.event.FrameField.{FrameField}
-use Rattle.wl_trace.specs.declared.event.FrameField.TheVariants.{FlagDelimiter}
+use Rattle.wl_frame.specs.declared.field.FrameField.{FrameField}
+use Rattle.wl_frame.specs.declared.field.FrameField.TheVariants.{FlagDelimiter}
 use Rattle.wl_trace.specs.declared.event.Noted.{Noted}
 use Rattle.wl_views.specs.TraceText.{events_at_end}
 use Rattle.wl_traffic.specs.declared.attempts.Attempt.{Attempt}

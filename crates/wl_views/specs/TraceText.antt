@@ -16,10 +16,10 @@ use Rattle.wl_trace.specs.declared.event.NodeEvent.{NodeEvent}
 use Rattle.wl_trace.specs.declared.event.NodeEvent.TheVariants as events
 use Rattle.wl_trace.specs.declared.event.FlagForm.{FlagForm}
 use Rattle.wl_trace.specs.declared.event.FlagForm.TheVariants.{Active, Passive, Overload}
-use Rattle.wl_trace.specs.declared.event.FrameField.{FrameField}
-use Rattle.wl_trace.specs.declared.event.FrameField.TheVariants as fields
+use Rattle.wl_frame.specs.declared.field.FrameField.{FrameField}
+use Rattle.wl_frame.specs.declared.field.FrameField.TheVariants as fields
 use Rattle.wl_trace.specs.declared.event.Noted.{Noted}
-use Rattle.wl_trace.specs.declared.event.FramePlace.{FramePlace}
+use Rattle.wl_frame.specs.declared.field.FramePlace.{FramePlace}
 use Rattle.wl_trace.specs.Events.{events_of}
 use Rattle.wl_trace.specs.Synced.{syncs_of}
 use Rattle.wl_level.specs.ByTick.{by_tick}
