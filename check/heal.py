@@ -325,7 +325,7 @@ def states(step=6):
 def passive(step=14):
     """Triples of stretches with so many idle bits before each frame: those that never are in step, and the most bits of the others."""
     for modes in (("passive", "active", "active"), ("passive", "passive", "active"), ("passive",) * 3):
-        for pause in (0, 2, 4, 5):
+        for pause in (0, 4, 5):
             tried, never, worst = triples(modes, pause, step)
             print(f"passive: {modes.count('passive')} of 3 passive, {pause} idle bits: {tried} triples, never in step {never}, others within {worst} bits")
 

@@ -104,8 +104,8 @@ pub fn a_sent_frame_is_received()
 }
 
 /// Law: one disturbance of 6 to 51 bits hides no frame, if all are in step when it begins. What one error active machine has sent, another
-/// one has received with the bit before, if each of the two is hit at all bits of the disturbance, or at none. The frame has to have ten bits
-/// of the run before it. Whoever else is there may be disturbed otherwise.
+/// one has received with the bit before. Each of the two has to be hit at all bits of the disturbance, or at none. The frame has to have ten
+/// bits of the run before it. Whoever else is there may be disturbed otherwise.
 pub fn a_long_disturbance_hides_no_frame()
     ensures { (w : Wire) (c : Course) (s j start n from many : ℕ) (frame : Content)
         → AreSoundFrames w.count w.frames → OwnHeads w → s ≢ j → TakesPart w c s → TakesPart w c j
