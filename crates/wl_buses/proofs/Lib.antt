@@ -8,5 +8,6 @@ mod PassedFrames
 mod SentFrames
 mod FamilyPlans
 mod CleanPlans
+mod CleanLines
 mod FrameTimes
 pub mod Callers

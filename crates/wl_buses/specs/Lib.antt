@@ -8,4 +8,5 @@ pub mod PassedFrames
 pub mod SentFrames
 pub mod FamilyPlans
 pub mod CleanPlans
+pub mod CleanLines
 pub mod FrameTimes

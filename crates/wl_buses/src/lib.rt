@@ -4,6 +4,7 @@
 #![tactic(auto)]
 
 pub mod both_proofs;
+pub mod clean_lines;
 pub mod clean_plans;
 pub mod family_plans;
 pub mod first_frame;
