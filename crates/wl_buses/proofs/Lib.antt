@@ -6,8 +6,10 @@ mod FrameEnd
 mod NextFrames
 mod PassedFrames
 mod SentFrames
+mod TakesPart
 mod FamilyPlans
 mod CleanPlans
 mod CleanLines
 mod FrameTimes
+mod BoundedWaits
 pub mod Callers

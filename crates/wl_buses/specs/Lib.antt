@@ -6,7 +6,9 @@ pub mod FrameEnd
 pub mod NextFrames
 pub mod PassedFrames
 pub mod SentFrames
+pub mod TakesPart
 pub mod FamilyPlans
 pub mod CleanPlans
 pub mod CleanLines
 pub mod FrameTimes
+pub mod BoundedWaits

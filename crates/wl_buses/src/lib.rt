@@ -4,6 +4,7 @@
 #![tactic(auto)]
 
 pub mod both_proofs;
+pub mod bounded_waits;
 pub mod clean_lines;
 pub mod clean_plans;
 pub mod family_plans;
@@ -15,3 +16,4 @@ pub mod one_frame;
 pub mod one_sender;
 pub mod passed_frames;
 pub mod sent_frames;
+pub mod takes_part;

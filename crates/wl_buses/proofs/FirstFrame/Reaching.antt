@@ -70,26 +70,26 @@ module _ (w : Silence) (line : AreOnALine w.stations) (are : IsSilence w) where
   up i q r inside h = tick_up (s.clocks i) (line.steady i inside).divides q r h
 
   -- a start of frame that has reached a station, if each begins when it is due
-  record Reaches (i q : ℕ) : Type 0 where
-    by : ℕ
-    has_one : has by ≡ true
-    other : by ≢ i
-    reach : T by + s.delay by i ≤ tick i q
+  pub record Reaches (i q : ℕ) : Type 0 where
+    pub by : ℕ
+    pub has_one : has by ≡ true
+    pub other : by ≢ i
+    pub reach : T by + s.delay by i ≤ tick i q
 
-  reached_by : (i q : ℕ) → reached i q ≡ true → Reaches i q
+  pub reached_by : (i q : ℕ) → reached i q ≡ true → Reaches i q
   reached_by i q e =
       let x = any_one s.count (λ k. has k && (not (k == i) && nat_le (T k + s.delay k i) (tick i q))) e in
       let p = and_parts (has x.0) (not (x.0 == i) && nat_le (T x.0 + s.delay x.0 i) (tick i q)) x.2 in
       let r = and_parts (not (x.0 == i)) (nat_le (T x.0 + s.delay x.0 i) (tick i q)) p.1 in
       record { by = x.0; has_one = p.0; other = distinct x.0 i r.0; reach = leb-true (T x.0 + s.delay x.0 i) (tick i q) r.1 }
 
-  reached_from : (i q k : ℕ) → has k ≡ true → k ≢ i → T k + s.delay k i ≤ tick i q → reached i q ≡ true
+  pub reached_from : (i q k : ℕ) → has k ≡ true → k ≢ i → T k + s.delay k i ≤ tick i q → reached i q ≡ true
   reached_from i q k has_one other h =
       any_from s.count k (λ k. has k && (not (k == i) && nat_le (T k + s.delay k i) (tick i q))) (are.inside k has_one)
       (and_from (has k) (not (k == i) && nat_le (T k + s.delay k i) (tick i q)) has_one
       (and_from (not (k == i)) (nat_le (T k + s.delay k i) (tick i q)) (ap not (ne_eqb k i other)) (le-leb (T k + s.delay k i) (tick i q) h)))
 
-  unreached : (i q k : ℕ) → reached i q ≡ false → has k ≡ true → k ≢ i → tick i q < T k + s.delay k i
+  pub unreached : (i q k : ℕ) → reached i q ≡ false → has k ≡ true → k ≢ i → tick i q < T k + s.delay k i
   unreached i q k e has_one other = elim (cases_lt (tick i q) (T k + s.delay k i)) [
     | inl less ↦ less
     | inr more ↦ (let f = reached_from i q k has_one other more in cc)
@@ -118,10 +118,21 @@ module _ (w : Silence) (line : AreOnALine w.stations) (are : IsSilence w) where
   pub begins_has : (i : ℕ) → begins i ≡ true → has i ≡ true
   begins_has i e = (and_parts (has i) (not (reached i (decision i))) e).0
 
+  -- and no start of frame has reached it by then
+  pub begins_free : (i : ℕ) → begins i ≡ true → reached i (decision i) ≡ false
+  begins_free i e = (let none = (and_parts (has i) (not (reached i (decision i))) e).1 in false_from_ne_true (reached i (decision i)) (λ f. (let g : not (reached i (decision i)) ≡ false = ap not f in cc)))
+
+  -- else one has
+  pub reached_then : (i : ℕ) → has i ≡ true → begins i ≡ false → reached i (decision i) ≡ true
+  reached_then i e none = elim (cases_Bool (reached i (decision i))) [
+    | inl found ↦ found
+    | inr free ↦ (let own = and_from (has i) (not (reached i (decision i))) e (ap not free) in cc)
+  ]
+
   decided_early : (i : ℕ) → i < s.count → decision i < due i
   decided_early i inside = are.early i inside
 
-  begins_from : (i : ℕ) → has i ≡ true → reached i (decision i) ≡ false → begins i ≡ true
+  pub begins_from : (i : ℕ) → has i ≡ true → reached i (decision i) ≡ false → begins i ≡ true
   begins_from i has_one e = and_from (has i) (not (reached i (decision i))) has_one (ap not e)
 
   -- what its look finds

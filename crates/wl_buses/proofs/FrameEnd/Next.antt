@@ -33,7 +33,7 @@ module _ (m : MachineLaws) (s : Stations) (are : AreStations s) (room : HaveRoom
       let next = plain_place m s are room o is end valid over won chase catch enough (suc end + n) i none in
       ap (λ k. (bits k).place i) e ∙ omega arith)
 
-  last_place : (i : ℕ) → (bits (end + 12)).place i ≡ (bits (suc end)).place i + 11 * bit_quanta (s.lengths i)
+  pub last_place : (i : ℕ) → (bits (end + 12)).place i ≡ (bits (suc end)).place i + 11 * bit_quanta (s.lengths i)
   last_place i = (let e : suc end + 11 ≡ end + 12 = omega arith in ap (λ k. (bits k).place i) (sym e) ∙ place_after 11 i (omega arith))
 
   pub next_after : (i k : ℕ) → i < s.count → k < s.count

@@ -1,0 +1,4 @@
+pub mod Forward
+pub mod Once
+pub mod Takes
+pub mod Twelve

@@ -1,0 +1,4 @@
+pub mod QueuedFrames
+pub mod Messages
+pub mod Bounds
+pub mod Lasting
