@@ -1,6 +1,7 @@
 pub mod Families
 pub mod Measure
 pub mod Offered
+pub mod Ordering
 pub mod OnBus
 pub mod Parts
 pub mod Scaling

@@ -6,8 +6,9 @@ use Rattle.wl_node.specs.declared.setup.NodeSetup.{NodeSetup}
 use Rattle.wl_node.specs.History.{History, counters_of, error_count, history_of}
 use Rattle.wl_plan.specs.Line.{Line}
 use Rattle.wl_plan.specs.Simulation.{AreInside, seen}
-use Rattle.wl_buses.specs.BothProofs.Queues.{queued_contents}
+use Rattle.wl_buses.specs.BothProofs.Queues.{decides_at, first_ready, queued_contents}
 use Rattle.wl_buses.specs.OneFrame.Lines.{IsLineOf}
+use Rattle.wl_buses.specs.OneFrame.Stations.{Stations}
 use Rattle.wl_buses.specs.FirstFrame.FirstStarts.{AreIdle, HandTheFirst, Waiting, first_outset}
 use Rattle.wl_buses.specs.NextFrames.Frames.{FollowOneAnother, Frame}
 use Rattle.wl_buses.specs.NextFrames.Lines.{IsBeforeLast, LineGoes}
@@ -15,6 +16,18 @@ use Rattle.wl_buses.specs.SentFrames.Sending.{ByQueues}
 use Rattle.wl_buses.specs.SentFrames.Winners.{passed_with, won_by}
 use Rattle.wl_buses.specs.CleanPlans.Clean.{sent_contents}
 use Rattle.wl_buses.specs.FrameTimes.Times.{passing_sample}
+
+-- the nodes have the segments of these stations
+abbrev pub HaveSegments : (setups : ℕ → NodeSetup) → Stations → Type 0
+HaveSegments setups s = (i : ℕ) → i < s.count → s.lengths i ≡ (setups i).segments
+
+-- Stations that are such nodes wait for the first frame. Each decides to send by its queue (as `waiting_of` has it of a plan).
+abbrev pub waiting_by : (setups : ℕ → NodeSetup) → Stations → Waiting
+waiting_by setups s = record {
+  stations = s;
+  frames = λ i. queued_contents (setups i).queue;
+  decides = λ i. decides_at (setups i).segments (first_ready (setups i).queue);
+}
 
 -- The nodes of a line from their power-up on, as stations that wait for the first frame. Each is handed the frames of its queue (Bosch CAN 2.0 part B, section 2, wake-up).
 pub record IsPoweredUp (l : Line) (setups : ℕ → NodeSetup) (w : Waiting) : Type 0 where
