@@ -1,9 +1,11 @@
+pub mod Entries
 pub mod Families
 pub mod Measure
 pub mod Offered
 pub mod Ordering
 pub mod OnBus
 pub mod Parts
+pub mod Rows
 pub mod Scaling
 pub mod Waits
 pub mod Windows

@@ -17,7 +17,7 @@ use Rattle.wl_buses.specs.NextFrames.Frames.{resting_of}
 use Rattle.wl_buses.specs.NextFrames.NextStarts.{AreResting, Resting, begins_next, has_next, start_next}
 use Rattle.wl_buses.specs.NextFrames.Queues.{decides_after}
 use Rattle.wl_buses.specs.SentFrames.Winners.{won_by}
-use Rattle.wl_buses.specs.CleanLines.Lines.{FramesOfLine, HaveSegments, waiting_by}
+use Rattle.wl_buses.specs.CleanLines.Lines.{FramesOfLine, HaveSegments, waiting_with}
 use Rattle.wl_buses.specs.TakesPart.Takes.{Offers, TakePart, first_offers, next_offers}
 use Rattle.wl_buses.specs.BoundedWaits.Messages.{AreReadyLate, entries}
 
@@ -74,7 +74,7 @@ soon_at l ready some late = elim (cases_lt (div_ceil (ready - sample_at l) (bit_
 ]
 
 -- what the stations of a line have for each frame
-module _ (setups : ℕ → NodeSetup) (s : Stations) (bus : FramesOfLine setups (waiting_by setups s)) where
+module _ (setups : ℕ → NodeSetup) (s : Stations) (bus : FramesOfLine setups (waiting_with setups s)) where
   abbrev pub turn : ℕ → ℕ → ℕ
   turn i n = won_by bus.by.winner i n
 
@@ -125,14 +125,14 @@ module _ (setups : ℕ → NodeSetup) (s : Stations) (bus : FramesOfLine setups 
     long i inside = omega arith
 
     -- the first frame
-    module _ (first : FirstParts) (idle : AreIdle (waiting_by setups s)) (late : AreReadyLate s setups) where
+    module _ (first : FirstParts) (idle : AreIdle (waiting_with setups s)) (late : AreReadyLate s setups) where
       decides_first : (i : ℕ) → i < s.count → decides_at (setups i).segments (ready_entry i 0) ≡ decides_at (s.lengths i) (ready_entry i 0)
       decides_first i inside = ap (λ l. decides_at l (ready_entry i 0)) (sym (of i inside))
 
       pub offered_first : IsOffered 0
       offered_first = record {
-        offers = first_offers (waiting_by setups s);
-        part = subst (λ o. TakePart s (first_offers (waiting_by setups s)) o.start) (sym bus.first) (first (waiting_by setups s) are.line idle);
+        offers = first_offers (waiting_with setups s);
+        part = subst (λ o. TakePart s (first_offers (waiting_with setups s)) o.start) (sym bus.first) (first (waiting_with setups s) are.line idle);
         has = λ i inside. refl;
         frames = λ i inside. ap (λ o. o.frames i) bus.first;
         due = λ i inside. omega arith;

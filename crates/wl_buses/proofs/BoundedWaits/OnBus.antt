@@ -21,7 +21,7 @@ use Rattle.wl_buses.specs.FrameEnd.Rests.{passing_bit}
 use Rattle.wl_buses.specs.NextFrames.Frames.{FollowOneAnother, Frame, HasRoomForAll, IsBegun, IsBegunAfter, resting_of}
 use Rattle.wl_buses.specs.NextFrames.NextStarts.{AreResting, begins_next, has_next}
 use Rattle.wl_buses.proofs.NextFrames.Winning.{has_begun}
-use Rattle.wl_buses.specs.CleanLines.Lines.{FramesOfLine, HaveSegments, waiting_by}
+use Rattle.wl_buses.specs.CleanLines.Lines.{FramesOfLine, HaveSegments, waiting_with}
 use Rattle.wl_buses.specs.TakesPart.Decisions.{AllMayDecide}
 use Rattle.wl_buses.specs.TakesPart.Takes.{IsReachedFirst}
 use Rattle.wl_buses.specs.BoundedWaits.Lasting.{LastNoLonger, PassNoLonger}
@@ -46,11 +46,11 @@ pub record ForwardLaws : Type 0 where
   pub other : (s : Stations) (frames : ℕ → Frame) (count : ℕ) → AreStations s → HaveRoom s → FollowOneAnother s frames count → (n k bit i j : ℕ) → n < k → k < count → i < s.count → j < s.count → i ≢ j
       → steady_tick (s.clocks j) ((expected_bits s (frames n).outset 0).place j) < steady_tick (s.clocks i) (expected_sample s (frames k).outset bit i) + s.delay i j
 
-abbrev pub Ordered : (setups : ℕ → NodeSetup) (s : Stations) → FramesOfLine setups (waiting_by setups s) → Type 0
+abbrev pub Ordered : (setups : ℕ → NodeSetup) (s : Stations) → FramesOfLine setups (waiting_with setups s) → Type 0
 Ordered setups s bus = (n : ℕ) → n < bus.count → slice_get (queued_contents (setups (bus.by.winner n)).queue) (turn setups s bus (bus.by.winner n) n) ≡ Some (bus.by.content n)
 
 -- its frames in parts of a unit
-abbrev pub frames_on : (setups : ℕ → NodeSetup) (s : Stations) → FramesOfLine setups (waiting_by setups s) → Times → Messages → QueuedFrames
+abbrev pub frames_on : (setups : ℕ → NodeSetup) (s : Stations) → FramesOfLine setups (waiting_with setups s) → Times → Messages → QueuedFrames
 frames_on setups s bus t ms = record {
   nodes = s.count;
   count = bus.count;
@@ -64,8 +64,8 @@ frames_on setups s bus t ms = record {
   gap = gap_before setups s bus;
 }
 
-module _ (setups : ℕ → NodeSetup) (s : Stations) (bus : FramesOfLine setups (waiting_by setups s)) (t : Times) (ms : Messages) (d : Delays) (of : HaveSegments setups s) (are : AreStations s) (room : HaveRoom s)
-    (idle_at : AreIdle (waiting_by setups s)) (late_enough : AreReadyLate s setups) (have : HaveMessages s setups ms) (delays : DelayNoLonger s t ms d)
+module _ (setups : ℕ → NodeSetup) (s : Stations) (bus : FramesOfLine setups (waiting_with setups s)) (t : Times) (ms : Messages) (d : Delays) (of : HaveSegments setups s) (are : AreStations s) (room : HaveRoom s)
+    (idle_at : AreIdle (waiting_with setups s)) (late_enough : AreReadyLate s setups) (have : HaveMessages s setups ms) (delays : DelayNoLonger s t ms d)
     (ordered : Ordered setups s bus) (rests : Rests) (readies : Readies setups s bus of are) (parts : Parts setups s bus of are) (first : FirstParts setups s bus of are)
     (chase : ℕ → ℕ) (for_all : HasRoomForAll s chase) (decide : AllMayDecide s chase) (once : Once) (forward : ForwardLaws) (lasts : LastNoLonger s t) (passing : PassNoLonger s t) where
   abbrev D : ℕ

@@ -35,7 +35,7 @@ same_count x p d some parts =
     let pd : 1 * 1 ≤ p * d = (let a : p * 1 ≤ p * d = mul-le-mul_left p (let h : 1 ≤ d = omega arith in h) in omega arith) in
     fewer (x * d) (p * d) (periods_in x p) (omega arith) (omega arith)
 
-scaled_sum : (f g : ℕ → ℕ) (d n : ℕ) → ((k : ℕ) → k < n → f k ≤ g k * d) → sum_below f n ≤ sum_below g n * d
+pub scaled_sum : (f g : ℕ → ℕ) (d n : ℕ) → ((k : ℕ) → k < n → f k ≤ g k * d) → sum_below f n ≤ sum_below g n * d
 scaled_sum f g d zero h = omega arith
 scaled_sum f g d (suc n) h = (let old = scaled_sum f g d n (λ k below. h k (omega arith)) in let new = h n (omega arith) in omega arith)
 

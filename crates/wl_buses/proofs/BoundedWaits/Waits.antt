@@ -7,7 +7,7 @@ use Rattle.wl_buses.specs.FrameTimes.Times.{Times}
 use Rattle.wl_buses.specs.OneFrame.Stations.{AreStations, HaveRoom, Stations}
 use Rattle.wl_buses.specs.FirstFrame.FirstStarts.{AreIdle}
 use Rattle.wl_buses.specs.NextFrames.Frames.{HasRoomForAll}
-use Rattle.wl_buses.specs.CleanLines.Lines.{FramesOfLine, HaveSegments, waiting_by}
+use Rattle.wl_buses.specs.CleanLines.Lines.{FramesOfLine, HaveSegments, waiting_with}
 use Rattle.wl_buses.specs.TakesPart.Decisions.{AllMayDecide}
 use Rattle.wl_buses.specs.BoundedWaits.LineBounds.{LineWaitsNoLonger, line_ready, line_sent, line_turn}
 use Rattle.wl_buses.specs.BoundedWaits.Lasting.{LastNoLonger, PassNoLonger}
@@ -30,8 +30,8 @@ own_parts u b offset num den q p x d some e h =
     let all : b * (u * (q * num)) ≤ b * (u * (p * num) + x * den) = omega arith in
     le_of_mul-le-mul_left all some
 
-module _ (setups : ℕ → NodeSetup) (s : Stations) (bus : FramesOfLine setups (waiting_by setups s)) (t : Times) (ms : Messages) (d : Delays) (of : HaveSegments setups s) (are : AreStations s) (room : HaveRoom s)
-    (idle_at : AreIdle (waiting_by setups s)) (late_enough : AreReadyLate s setups) (have : HaveMessages s setups ms) (delays : DelayNoLonger s t ms d)
+module _ (setups : ℕ → NodeSetup) (s : Stations) (bus : FramesOfLine setups (waiting_with setups s)) (t : Times) (ms : Messages) (d : Delays) (of : HaveSegments setups s) (are : AreStations s) (room : HaveRoom s)
+    (idle_at : AreIdle (waiting_with setups s)) (late_enough : AreReadyLate s setups) (have : HaveMessages s setups ms) (delays : DelayNoLonger s t ms d)
     (ordered : Ordered setups s bus) (rests : Rests) (readies : Readies setups s bus of are) (parts : Parts setups s bus of are) (first : FirstParts setups s bus of are)
     (chase : ℕ → ℕ) (for_all : HasRoomForAll s chase) (decide : AllMayDecide s chase) (once : Once) (forward : ForwardLaws) (lasts : LastNoLonger s t) (passing : PassNoLonger s t)
     (curve : Curve) (no_longer : NoLonger) (blocking w r : ℕ → ℕ) (blocks : BlockNoLonger (terms_of t ms d) blocking) (enough : AreEnough (table_by (terms_of t ms d) blocking r) w r) where

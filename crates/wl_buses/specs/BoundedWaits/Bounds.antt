@@ -1,5 +1,5 @@
 -- How long the frames on the bus of a plan wait.
-use Rattle.std.specs.Prelude.{ℕ, ◌+◌, ◌*◌, ◌<◌, ◌≤◌, length}
+use Rattle.std.specs.Prelude.{◌≡◌, ℕ, ◌+◌, ◌*◌, ◌<◌, ◌≤◌, length}
 use Rattle.wl_plan.specs.declared.plan.Plan.{Plan}
 use Rattle.wl_plan.specs.PlanLine.{line_of, setup_at}
 use Rattle.wl_plan.specs.Simulation.{AreInside}
@@ -43,3 +43,10 @@ abbrev pub PassInTime : (plan : Plan) (s : Stations) → AllGetThrough plan s �
 PassInTime plan s all ms shortest r = (n k : ℕ) → n < all.bus.count → AreInside (line_of plan) (all.bus.by.winner n) k
     → ready_quantum plan s all.bus n * shortest (all.bus.by.winner n) + r (ms.of (all.bus.by.winner n) (turn_of plan s all.bus n)) < k * shortest (all.bus.by.winner n)
     → n < length (plan_history plan (all.bus.by.winner n) k).frames
+
+-- Entry a of the queue of node i is one of these frames.
+pub record IsOnBus (plan : Plan) (s : Stations) (bus : FramesOfPlan plan s) (i a : ℕ) : Type 0 where
+  pub frame : ℕ
+  pub inside : frame < bus.count
+  pub winner : bus.by.winner frame ≡ i
+  pub turn : turn_of plan s bus frame ≡ a

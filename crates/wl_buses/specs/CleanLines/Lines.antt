@@ -22,8 +22,8 @@ abbrev pub HaveSegments : (setups : ℕ → NodeSetup) → Stations → Type 0
 HaveSegments setups s = (i : ℕ) → i < s.count → s.lengths i ≡ (setups i).segments
 
 -- Stations that are such nodes wait for the first frame. Each decides to send by its queue (as `waiting_of` has it of a plan).
-abbrev pub waiting_by : (setups : ℕ → NodeSetup) → Stations → Waiting
-waiting_by setups s = record {
+abbrev pub waiting_with : (setups : ℕ → NodeSetup) → Stations → Waiting
+waiting_with setups s = record {
   stations = s;
   frames = λ i. queued_contents (setups i).queue;
   decides = λ i. decides_at (setups i).segments (first_ready (setups i).queue);

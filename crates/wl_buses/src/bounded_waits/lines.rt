@@ -8,7 +8,7 @@ ghost use Rattle.wl_buses.specs.OneFrame.Stations.{AreStations, HaveRoom, Statio
 ghost use Rattle.wl_buses.specs.FirstFrame.FirstStarts.{AreIdle};
 ghost use Rattle.wl_buses.specs.NextFrames.Frames.{HasRoomForAll};
 ghost use Rattle.wl_buses.specs.CleanLines.Lines.{FramesOfLine, HaveSegments, IsPoweredUp, LineGetsThrough};
-ghost use Rattle.wl_buses.specs.CleanLines.Lines.{waiting_by};
+ghost use Rattle.wl_buses.specs.CleanLines.Lines.{waiting_with};
 ghost use Rattle.wl_buses.specs.FrameTimes.Times.{TakeNoLonger, Times};
 ghost use Rattle.wl_buses.specs.TakesPart.Decisions.{AllMayDecide};
 ghost use Rattle.wl_buses.specs.BoundedWaits.LineBounds.{LinePassesInTime, LineWaitsNoLonger};
@@ -19,18 +19,18 @@ ghost use Rattle.wl_buses.specs.BoundedWaits.QueuedFrames.{BlockNoLonger, table_
 /// Law: so it is on lines, whenever they end: no frame waits longer than the bound of its message. Whoever has been for longer than that after
 /// a frame of its own was ready has sent it. A plan ends after its quanta, a line may go on for hours.
 pub fn waits_on_a_line_are_bounded()
-    ensures frames { (setups : ℕ → NodeSetup) (s : Stations) (bus : FramesOfLine setups (waiting_by setups s))
+    ensures frames { (setups : ℕ → NodeSetup) (s : Stations) (bus : FramesOfLine setups (waiting_with setups s))
         (t : Times) (ms : Messages) (d : Delays) (chase blocking w r : ℕ → ℕ) → HaveSegments setups s
-        → AreStations s → HaveRoom s → HasRoomForAll s chase → AllMayDecide s chase → AreIdle (waiting_by setups s)
+        → AreStations s → HaveRoom s → HasRoomForAll s chase → AllMayDecide s chase → AreIdle (waiting_with setups s)
         → TakeNoLonger s t → HaveMessages s setups ms → AreReadyLate s setups → DelayNoLonger s t ms d
         → BlockNoLonger (terms_of t ms d) blocking → AreEnough (table_by (terms_of t ms d) blocking r) w r
         → LineWaitsNoLonger setups s bus t ms r }
     ensures line { (l : Line) (setups : ℕ → NodeSetup) (s : Stations) (t : Times) (ms : Messages) (d : Delays)
-        (chase blocking w r : ℕ → ℕ) → IsPoweredUp l setups (waiting_by setups s) → AreStations s → HaveRoom s
+        (chase blocking w r : ℕ → ℕ) → IsPoweredUp l setups (waiting_with setups s) → AreStations s → HaveRoom s
         → HasRoomForAll s chase → AllMayDecide s chase → TakeNoLonger s t → HaveMessages s setups ms
         → AreReadyLate s setups → DelayNoLonger s t ms d → BlockNoLonger (terms_of t ms d) blocking
         → AreEnough (table_by (terms_of t ms d) blocking r) w r
-        → (all : LineGetsThrough l setups (waiting_by setups s)) × LineWaitsNoLonger setups s all.bus t ms r
+        → (all : LineGetsThrough l setups (waiting_with setups s)) × LineWaitsNoLonger setups s all.bus t ms r
         × LinePassesInTime l setups s all t ms r }
 {
     wl_counts::laws::periods_give_a_curve();

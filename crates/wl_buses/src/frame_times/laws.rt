@@ -26,7 +26,7 @@ ghost use Rattle.wl_buses.specs.FrameTimes.Times.{AreWinners, ComesWithin, HaveN
 ghost use Rattle.wl_buses.specs.FrameTimes.Times.{following_place, frame_time, frames_time, passing_sample};
 ghost use Rattle.wl_buses.specs.FrameTimes.Times.{start_place, tail_time, whole_instant};
 ghost use Rattle.wl_buses.specs.FrameTimes.BusTimes.{bit_times, bus_times};
-ghost use Rattle.wl_buses.specs.FrameTimes.PlanTimes.{PassInTime};
+ghost use Rattle.wl_buses.specs.FrameTimes.PlanTimes.{PassByTheirTails};
 
 /// Law: a frame has at most one stuff bit for each four bits after the first one. So the number of its bits up to the end of the CRC
 /// sequence has a bound.
@@ -148,12 +148,12 @@ pub fn frames_without_a_gap_begin_in_time()
 /// each quantum up to the end of the plan. What `margin` tests before it says that this is proved is enough, with the times of the family.
 pub fn the_frames_of_a_plan_pass_in_time()
     ensures plan { (plan : Plan) (s : Stations) (t : Times) → AreStations s → HaveRoom s → TakeNoLonger s t
-        → (all : AllGetThrough plan s) → PassInTime plan s t all }
+        → (all : AllGetThrough plan s) → PassByTheirTails plan s t all }
     ensures covered { (f : Buses) (plan : Plan) (clocks : ℕ → Steady) → IsSteadyPlan plan clocks
         → IsOfFamily f plan clocks → AreContents plan → SendAsFamily f plan → verdict_of plan f ≡ ForAny
         → is_covered plan ≡ true → leaves_room f ≡ true
         → (all : AllGetThrough plan (stations_of f plan clocks))
-        × PassInTime plan (stations_of f plan clocks) (bus_times (plain_bus f)) all }
+        × PassByTheirTails plan (stations_of f plan clocks) (bus_times (plain_bus f)) all }
 {
     wl_bound::condition_laws();
     crate::one_frame::laws::a_plan_is_on_a_line();
