@@ -2,6 +2,7 @@ pub mod Entries
 pub mod Families
 pub mod Measure
 pub mod Offered
+pub mod Ordering
 pub mod OnBus
 pub mod Parts
 pub mod Rows

@@ -2,6 +2,7 @@ pub mod Adding
 pub mod Following
 pub mod Lasting
 pub mod Longest
+pub mod Passing
 pub mod Places
 pub mod Rows
 pub mod Stuffed

@@ -9,6 +9,7 @@ mod SentFrames
 mod TakesPart
 mod FamilyPlans
 mod CleanPlans
+mod CleanLines
 mod FrameTimes
 mod BoundedWaits
 pub mod Callers

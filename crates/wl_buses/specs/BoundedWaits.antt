@@ -1,4 +1,5 @@
 pub mod QueuedFrames
 pub mod Messages
 pub mod Bounds
+pub mod LineBounds
 pub mod Lasting

@@ -1,2 +1,3 @@
-pub mod Times
 pub mod BusTimes
+pub mod PlanTimes
+pub mod Times

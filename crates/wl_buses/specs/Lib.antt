@@ -9,5 +9,6 @@ pub mod SentFrames
 pub mod TakesPart
 pub mod FamilyPlans
 pub mod CleanPlans
+pub mod CleanLines
 pub mod FrameTimes
 pub mod BoundedWaits

@@ -3,3 +3,4 @@
 //! All is by the rules of the book, for clocks of one rate each (Tindell and Burns 1994; Davis, Burns, Bril, Lukkien 2007).
 
 pub mod laws;
+pub mod lines;

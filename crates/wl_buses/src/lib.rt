@@ -5,6 +5,7 @@
 
 pub mod both_proofs;
 pub mod bounded_waits;
+pub mod clean_lines;
 pub mod clean_plans;
 pub mod family_plans;
 pub mod first_frame;

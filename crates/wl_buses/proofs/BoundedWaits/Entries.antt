@@ -1,6 +1,6 @@
 -- Each entry of a queue comes on the bus of a plan.
-use Rattle.std.proofs.Common.{◌≡◌, ◌≢◌, ◌∙◌, inl, inr, refl, sym, ap, subst, ℕ, zero, suc, ◌+◌, ◌<◌, ◌≤◌, cond, length, Some, arith}
-use Rattle.std.specs.Prelude.{◌==◌, slice_get}
+use Rattle.std.proofs.Common.{◌≡◌, ◌≢◌, ◌∙◌, inl, inr, refl, sym, ap, subst, ℕ, zero, suc, ◌+◌, ◌<◌, ◌≤◌, cond, length, arith}
+use Rattle.std.specs.Prelude.{◌==◌}
 use Rattle.std.proofs.lemmas.Bool.{cases_Bool, cases_lt, eq-eqb, eqb-true, ne_eqb}
 use Rattle.std.proofs.lemmas.List.{length-map}
 use Rattle.std.proofs.lemmas.Option.{slice_get_within}
@@ -8,26 +8,18 @@ use Rattle.wl_counts.specs.Counts.{sum_below}
 use Rattle.wl_plan.specs.declared.plan.Plan.{Plan}
 use Rattle.wl_plan.specs.PlanLine.{setup_at}
 use Rattle.wl_buses.specs.BothProofs.Queues.{queued_contents}
-use Rattle.wl_buses.specs.OneFrame.Stations.{AreStations, HaveRoom, Stations}
-use Rattle.wl_buses.specs.FirstFrame.FirstFrames.{queues_of, waiting_of}
-use Rattle.wl_buses.specs.FirstFrame.FirstStarts.{AreIdle, Waiting, first_outset}
-use Rattle.wl_node.specs.declared.setup.NodeSetup.{NodeSetup}
-use Rattle.wl_buses.specs.NextFrames.Frames.{FollowOneAnother, Frame, IsBegun}
-use Rattle.wl_buses.specs.SentFrames.Sending.{ByQueues}
+use Rattle.wl_buses.specs.OneFrame.Stations.{Stations}
 use Rattle.wl_buses.specs.SentFrames.Winners.{won_by}
-use Rattle.wl_buses.proofs.SentFrames.Nexting.{FirstHanded, NextQueued}
+use Rattle.wl_buses.specs.CleanLines.Lines.{FramesOfLine, waiting_with}
 use Rattle.wl_buses.specs.CleanPlans.PlanFrames.{FirstFramesOfPlan, FramesOfPlan}
 use Rattle.wl_buses.specs.BoundedWaits.Bounds.{IsOnBus}
 use Rattle.wl_buses.specs.BoundedWaits.Messages.{entries}
 use Rattle.wl_buses.proofs.BoundedWaits.OnBus.{Ordered}
 use Rattle.wl_buses.proofs.BoundedWaits.Scaling.{scaled_sum}
 
--- the frame of each winner is the next one of its queue
-pub in_order : FirstHanded → NextQueued → (plan : Plan) (s : Stations) (bus : FramesOfPlan plan s) → AreStations s → HaveRoom s → AreIdle (waiting_of plan (queues_of plan) s) → Ordered plan s bus
-in_order first next plan s bus are room idle zero less =
-    let h = first (waiting_of plan (queues_of plan) s) (bus.frames 0) are room idle (bus.are.each 0 less) bus.first in
-    subst (λ i. slice_get (queued_contents (setup_at plan i).queue) 0 ≡ Some (bus.by.content 0)) (bus.by.wins 0 less) (h ∙ ap Some (bus.by.wins_with 0 less))
-in_order first next plan s bus are room idle (suc n) less = next s (setup_at plan) bus.frames bus.count are room bus.are bus.by n less
+-- the frames of a plan are those of its line
+abbrev pub as_line : (plan : Plan) (s : Stations) → FramesOfPlan plan s → FramesOfLine (setup_at plan) (waiting_with (setup_at plan) s)
+as_line plan s bus = record { frames = bus.frames; count = bus.count; some = bus.some; are = bus.are; first = bus.first; by = bus.by }
 
 -- one of several numbers alone
 abbrev is_it : (w i : ℕ) → ℕ
@@ -39,31 +31,27 @@ other_is w n apart = ap (λ b. cond b 1 0) (ne_eqb n w apart)
 own_is : (w n : ℕ) → n ≡ w → is_it w n ≡ 1
 own_is w n same = ap (λ b. cond b 1 0) (eq-eqb n w same)
 
-none_among : (w n : ℕ) → n ≤ w → sum_below (is_it w) n ≡ 0
-none_among w zero less = refl
-none_among w (suc n) less =
-    let before : sum_below (is_it w) n ≡ 0 = none_among w n (omega arith) in
+none_more : (f : ℕ → ℕ) (w n : ℕ) → n ≤ w → sum_below (λ i. f i + is_it w i) n ≡ sum_below f n
+none_more f w zero less = refl
+none_more f w (suc n) less =
+    let before : sum_below (λ i. f i + is_it w i) n ≡ sum_below f n = none_more f w n (omega arith) in
     let here : is_it w n ≡ 0 = other_is w n (λ e. omega (arith, e, less)) in
     omega arith
 
-one_among : (w n : ℕ) → w < n → sum_below (is_it w) n ≡ 1
-one_among w zero less = absurd (omega arith)
-one_among w (suc n) less = elim (cases_lt w n) [
+one_more : (f : ℕ → ℕ) (w n : ℕ) → w < n → sum_below (λ i. f i + is_it w i) n ≡ suc (sum_below f n)
+one_more f w zero less = absurd (omega arith)
+one_more f w (suc n) less = elim (cases_lt w n) [
   | inl below ↦
-      (let before : sum_below (is_it w) n ≡ 1 = one_among w n below in
+      (let before : sum_below (λ i. f i + is_it w i) n ≡ suc (sum_below f n) = one_more f w n below in
       let here : is_it w n ≡ 0 = other_is w n (λ e. omega (arith, e, below)) in
       omega arith)
   | inr last ↦
-      (let before : sum_below (is_it w) n ≡ 0 = none_among w n last in
+      (let before : sum_below (λ i. f i + is_it w i) n ≡ sum_below f n = none_more f w n last in
       let here : is_it w n ≡ 1 = own_is w n (omega arith) in
       omega arith)
 ]
 
-sum_both : (f g : ℕ → ℕ) (n : ℕ) → sum_below (λ i. f i + g i) n ≡ sum_below f n + sum_below g n
-sum_both f g zero = refl
-sum_both f g (suc n) = (let old = sum_both f g n in omega arith)
-
-module _ (plan : Plan) (s : Stations) (bus : FramesOfPlan plan s) (ordered : Ordered plan s bus) where
+module _ (plan : Plan) (s : Stations) (bus : FramesOfPlan plan s) (ordered : Ordered (setup_at plan) s (as_line plan s bus)) where
   abbrev turn : ℕ → ℕ → ℕ
   turn i n = won_by bus.by.winner i n
 
@@ -79,8 +67,7 @@ module _ (plan : Plan) (s : Stations) (bus : FramesOfPlan plan s) (ordered : Ord
       zeros (suc k) = (let old = zeros k in omega arith)
   all_turns (suc n) less =
       let old = all_turns n (omega arith) in
-      let one : sum_below (is_it (bus.by.winner n)) s.count ≡ 1 = one_among (bus.by.winner n) s.count (wins n less) in
-      let sum = sum_both (λ i. turn i n) (is_it (bus.by.winner n)) s.count in
+      let more = one_more (λ i. turn i n) (bus.by.winner n) s.count (wins n less) in
       omega arith
 
   few_turns : (i n : ℕ) → n ≤ bus.count → turn i n ≤ entries (setup_at plan) i
@@ -116,7 +103,7 @@ module _ (plan : Plan) (s : Stations) (bus : FramesOfPlan plan s) (ordered : Ord
   ]
 
 -- with as many frames and one more every queue is empty
-pub each_entry : (plan : Plan) (s : Stations) (x : FirstFramesOfPlan plan s (sum_below (entries (setup_at plan)) s.count)) → Ordered plan s x.bus → (i a : ℕ) → i < s.count → a < entries (setup_at plan) i
+pub each_entry : (plan : Plan) (s : Stations) (x : FirstFramesOfPlan plan s (sum_below (entries (setup_at plan)) s.count)) → Ordered (setup_at plan) s (as_line plan s x.bus) → (i a : ℕ) → i < s.count → a < entries (setup_at plan) i
     → IsOnBus plan s x.bus i a
 each_entry plan s x ordered i a inside there =
     elim x.ends [

@@ -1,4 +1,4 @@
--- What stations have to send before each frame of a plan, by their queues, and when each decides to.
+-- What stations have to send before each frame of a line, by their queues, and when each decides to.
 use Rattle.std.proofs.Common.{◌≡◌, ◌≢◌, ◌∙◌, ◌⊎◌, inl, inr, refl, sym, ap, subst, ℕ, zero, suc, ◌+◌, ◌-◌, ◌*◌, ◌<◌, ◌≤◌, ◌&&◌, not, Bool, true, false, length, arith}
 use Rattle.std.specs.Prelude.{◌==◌, nat_lt}
 use Rattle.std.specs.Int.{div_ceil}
@@ -7,20 +7,17 @@ use Rattle.std.proofs.lemmas.Grind.{div_ceil_times}
 use Rattle.wl_segments.specs.Lengths.{Lengths, bit_quanta, sample_at}
 use Rattle.wl_topology.specs.Driven.{any_below}
 use Rattle.wl_topology.proofs.Callers.{any_from, any_one}
-use Rattle.wl_plan.specs.declared.plan.Plan.{Plan}
-use Rattle.wl_plan.specs.PlanLine.{setup_at}
+use Rattle.wl_node.specs.declared.setup.NodeSetup.{NodeSetup}
 use Rattle.wl_buses.specs.BothProofs.Queues.{decides_at, queued_contents, ready_at}
 use Rattle.wl_buses.specs.OneFrame.Expected.{expected_bits}
-use Rattle.wl_buses.specs.OneFrame.Plans.{IsPlanOf}
 use Rattle.wl_buses.specs.OneFrame.Starts.{Start}
 use Rattle.wl_buses.specs.OneFrame.Stations.{AreOnALine, AreStations, Stations}
-use Rattle.wl_buses.specs.FirstFrame.FirstFrames.{queues_of, waiting_of}
 use Rattle.wl_buses.specs.FirstFrame.FirstStarts.{AreIdle, Waiting, first_start}
 use Rattle.wl_buses.specs.NextFrames.Frames.{resting_of}
 use Rattle.wl_buses.specs.NextFrames.NextStarts.{AreResting, Resting, begins_next, has_next, start_next}
 use Rattle.wl_buses.specs.NextFrames.Queues.{decides_after}
 use Rattle.wl_buses.specs.SentFrames.Winners.{won_by}
-use Rattle.wl_buses.specs.CleanPlans.PlanFrames.{FramesOfPlan}
+use Rattle.wl_buses.specs.CleanLines.Lines.{FramesOfLine, HaveSegments, waiting_with}
 use Rattle.wl_buses.specs.TakesPart.Takes.{Offers, TakePart, first_offers, next_offers}
 use Rattle.wl_buses.specs.BoundedWaits.Messages.{AreReadyLate, entries}
 
@@ -76,19 +73,19 @@ soon_at l ready some late = elim (cases_lt (div_ceil (ready - sample_at l) (bit_
       omega arith)
 ]
 
--- what the stations of a plan have for each frame
-module _ (plan : Plan) (s : Stations) (bus : FramesOfPlan plan s) where
+-- what the stations of a line have for each frame
+module _ (setups : ℕ → NodeSetup) (s : Stations) (bus : FramesOfLine setups (waiting_with setups s)) where
   abbrev pub turn : ℕ → ℕ → ℕ
   turn i n = won_by bus.by.winner i n
 
   abbrev pub count_of : ℕ → ℕ
-  count_of i = entries (setup_at plan) i
+  count_of i = entries setups i
 
   abbrev pub has_entry : ℕ → ℕ → Bool
   has_entry i n = nat_lt (turn i n) (count_of i)
 
   abbrev pub ready_entry : ℕ → ℕ → ℕ
-  ready_entry i a = ready_at (setup_at plan i).queue a
+  ready_entry i a = ready_at (setups i).queue a
 
   -- the bit with whose sample a station decides to send after frame n
   abbrev pub decides_then : ℕ → ℕ → ℕ
@@ -109,12 +106,12 @@ module _ (plan : Plan) (s : Stations) (bus : FramesOfPlan plan s) where
     pub offers : Offers
     pub part : TakePart s offers (start_of n)
     pub has : (i : ℕ) → i < s.count → offers.has i ≡ has_entry i n
-    pub frames : (i : ℕ) → i < s.count → (bus.frames n).outset.frames i ≡ queued_contents (setup_at plan i).queue
+    pub frames : (i : ℕ) → i < s.count → (bus.frames n).outset.frames i ≡ queued_contents (setups i).queue
     pub due : (i : ℕ) → i < s.count → offers.due i ≡ offers.decision i + (s.lengths i).ps2
     pub ready : (i : ℕ) → i < s.count → turn i n < count_of i → ready_entry i (turn i n) ≤ offers.decision i
     pub soon : (i : ℕ) → i < s.count → turn i n < count_of i → ((start_of n).drives i ≡ false) ⊎ (gap_before n ≡ true) → offers.decision i < ready_entry i (turn i n) + bit_quanta (s.lengths i)
 
-  module _ (of : IsPlanOf plan s) (are : AreStations s) where
+  module _ (of : HaveSegments setups s) (are : AreStations s) where
     abbrev pub Readies : Type 0
     Readies = (r : Resting) → AreOnALine r.stations → AreResting r → (i : ℕ) → i < r.stations.count → has_next r i ≡ true → r.decides i ≡ 0 → begins_next r i ≡ true
 
@@ -128,25 +125,25 @@ module _ (plan : Plan) (s : Stations) (bus : FramesOfPlan plan s) where
     long i inside = omega arith
 
     -- the first frame
-    module _ (first : FirstParts) (idle : AreIdle (waiting_of plan (queues_of plan) s)) (late : AreReadyLate s (setup_at plan)) where
-      decides_first : (i : ℕ) → i < s.count → decides_at (setup_at plan i).segments (ready_entry i 0) ≡ decides_at (s.lengths i) (ready_entry i 0)
-      decides_first i inside = ap (λ l. decides_at l (ready_entry i 0)) (sym (of.lengths i inside))
+    module _ (first : FirstParts) (idle : AreIdle (waiting_with setups s)) (late : AreReadyLate s setups) where
+      decides_first : (i : ℕ) → i < s.count → decides_at (setups i).segments (ready_entry i 0) ≡ decides_at (s.lengths i) (ready_entry i 0)
+      decides_first i inside = ap (λ l. decides_at l (ready_entry i 0)) (sym (of i inside))
 
       pub offered_first : IsOffered 0
       offered_first = record {
-        offers = first_offers (waiting_of plan (queues_of plan) s);
-        part = subst (λ o. TakePart s (first_offers (waiting_of plan (queues_of plan) s)) o.start) (sym bus.first) (first (waiting_of plan (queues_of plan) s) are.line idle);
+        offers = first_offers (waiting_with setups s);
+        part = subst (λ o. TakePart s (first_offers (waiting_with setups s)) o.start) (sym bus.first) (first (waiting_with setups s) are.line idle);
         has = λ i inside. refl;
         frames = λ i inside. ap (λ o. o.frames i) bus.first;
         due = λ i inside. omega arith;
         ready = λ i inside some.
             (let h = at_ready (s.lengths i) (ready_entry i 0) (long i inside) in
-            let e : decides_at (setup_at plan i).segments (ready_entry i 0) * bit_quanta (s.lengths i) ≡ decides_at (s.lengths i) (ready_entry i 0) * bit_quanta (s.lengths i) =
+            let e : decides_at (setups i).segments (ready_entry i 0) * bit_quanta (s.lengths i) ≡ decides_at (s.lengths i) (ready_entry i 0) * bit_quanta (s.lengths i) =
             ap (λ d. d * bit_quanta (s.lengths i)) (decides_first i inside) in
             omega arith);
         soon = λ i inside some either.
             (let h = soon_at (s.lengths i) (ready_entry i 0) (long i inside) (late i inside some) in
-            let e : decides_at (setup_at plan i).segments (ready_entry i 0) * bit_quanta (s.lengths i) ≡ decides_at (s.lengths i) (ready_entry i 0) * bit_quanta (s.lengths i) =
+            let e : decides_at (setups i).segments (ready_entry i 0) * bit_quanta (s.lengths i) ≡ decides_at (s.lengths i) (ready_entry i 0) * bit_quanta (s.lengths i) =
             ap (λ d. d * bit_quanta (s.lengths i)) (decides_first i inside) in
             omega arith);
       }
@@ -163,7 +160,7 @@ module _ (plan : Plan) (s : Stations) (bus : FramesOfPlan plan s) where
       sent_is : (i : ℕ) → i < s.count → r.sent i ≡ turn i (suc n)
       sent_is i inside = bus.by.sent i n less inside
 
-      frames_are : (i : ℕ) → i < s.count → r.frames i ≡ queued_contents (setup_at plan i).queue
+      frames_are : (i : ℕ) → i < s.count → r.frames i ≡ queued_contents (setups i).queue
       frames_are i inside = (bus.by.queues i n less inside).frames
 
       pub has_is : (i : ℕ) → i < s.count → has_next r i ≡ has_entry i (suc n)

@@ -1,4 +1,4 @@
--- The frames on the bus of a plan as those that queues hand to a bus: when each begins, and which were ready then.
+-- The frames on a line as those that queues hand to a bus: when each begins, and which were ready then.
 use Rattle.std.proofs.Common.{◌≡◌, ◌≢◌, ◌∙◌, inl, inr, refl, sym, ap, subst, ℕ, zero, suc, ◌+◌, ◌-◌, ◌*◌, ◌<◌, ◌≤◌, cond, Bool, true, false, Some, arith}
 use Rattle.std.specs.Prelude.{◌==◌, slice_get}
 use Rattle.std.proofs.lemmas.Bool.{both_ways, cases_Bool, cases_eq, eq-eqb, lt-ltb}
@@ -8,23 +8,20 @@ use Rattle.wl_segments.specs.Lengths.{bit_quanta}
 use Rattle.wl_frame.specs.Grammar.{bits_of}
 use Rattle.wl_frame.specs.Stuffing.{Stuffs}
 use Rattle.wl_phase.specs.Clocks.{steady_tick}
-use Rattle.wl_plan.specs.declared.plan.Plan.{Plan}
-use Rattle.wl_plan.specs.PlanLine.{setup_at}
+use Rattle.wl_node.specs.declared.setup.NodeSetup.{NodeSetup}
 use Rattle.wl_wire.specs.Winner.{Beats}
 use Rattle.wl_buses.specs.BothProofs.Queues.{queued_contents, ready_at}
 use Rattle.wl_buses.proofs.Callers.{levels_length}
 use Rattle.wl_buses.specs.FrameTimes.Times.{ComesWithin, Times, start_place, frame_time, following_place, tail_time}
 use Rattle.wl_buses.specs.OneFrame.Expected.{expected_bits, expected_sample}
 use Rattle.wl_buses.specs.OneFrame.Machines.{bus_levels}
-use Rattle.wl_buses.specs.OneFrame.Plans.{IsPlanOf}
 use Rattle.wl_buses.specs.OneFrame.Stations.{AreStations, HaveRoom, Stations}
-use Rattle.wl_buses.specs.FirstFrame.FirstFrames.{queues_of, waiting_of}
 use Rattle.wl_buses.specs.FirstFrame.FirstStarts.{AreIdle}
 use Rattle.wl_buses.specs.FrameEnd.Rests.{passing_bit}
 use Rattle.wl_buses.specs.NextFrames.Frames.{FollowOneAnother, Frame, HasRoomForAll, IsBegun, IsBegunAfter, resting_of}
 use Rattle.wl_buses.specs.NextFrames.NextStarts.{AreResting, begins_next, has_next}
 use Rattle.wl_buses.proofs.NextFrames.Winning.{has_begun}
-use Rattle.wl_buses.specs.CleanPlans.PlanFrames.{FramesOfPlan}
+use Rattle.wl_buses.specs.CleanLines.Lines.{FramesOfLine, HaveSegments, waiting_with}
 use Rattle.wl_buses.specs.TakesPart.Decisions.{AllMayDecide}
 use Rattle.wl_buses.specs.TakesPart.Takes.{IsReachedFirst}
 use Rattle.wl_buses.specs.BoundedWaits.Lasting.{LastNoLonger, PassNoLonger}
@@ -49,27 +46,27 @@ pub record ForwardLaws : Type 0 where
   pub other : (s : Stations) (frames : ℕ → Frame) (count : ℕ) → AreStations s → HaveRoom s → FollowOneAnother s frames count → (n k bit i j : ℕ) → n < k → k < count → i < s.count → j < s.count → i ≢ j
       → steady_tick (s.clocks j) ((expected_bits s (frames n).outset 0).place j) < steady_tick (s.clocks i) (expected_sample s (frames k).outset bit i) + s.delay i j
 
-abbrev pub Ordered : (plan : Plan) (s : Stations) → FramesOfPlan plan s → Type 0
-Ordered plan s bus = (n : ℕ) → n < bus.count → slice_get (queued_contents (setup_at plan (bus.by.winner n)).queue) (turn plan s bus (bus.by.winner n) n) ≡ Some (bus.by.content n)
+abbrev pub Ordered : (setups : ℕ → NodeSetup) (s : Stations) → FramesOfLine setups (waiting_with setups s) → Type 0
+Ordered setups s bus = (n : ℕ) → n < bus.count → slice_get (queued_contents (setups (bus.by.winner n)).queue) (turn setups s bus (bus.by.winner n) n) ≡ Some (bus.by.content n)
 
 -- its frames in parts of a unit
-abbrev pub frames_on : (plan : Plan) (s : Stations) → FramesOfPlan plan s → Times → Messages → QueuedFrames
-frames_on plan s bus t ms = record {
+abbrev pub frames_on : (setups : ℕ → NodeSetup) (s : Stations) → FramesOfLine setups (waiting_with setups s) → Times → Messages → QueuedFrames
+frames_on setups s bus t ms = record {
   nodes = s.count;
   count = bus.count;
-  length = entries (setup_at plan);
+  length = entries setups;
   message = ms.of;
-  ready = λ i a. part_at s t i (ready_at (setup_at plan i).queue a);
+  ready = λ i a. part_at s t i (ready_at (setups i).queue a);
   winner = bus.by.winner;
-  turn = turn plan s bus;
+  turn = turn setups s bus;
   begin = λ n. part_at s t (bus.by.winner n) (start_place s (bus.frames n) (bus.by.winner n));
   sent = λ n. part_at s t (bus.by.winner n) (expected_sample s (bus.frames n).outset (passing_bit (bus.frames n).bits (bus.by.winner n) (bus.by.winner n)) (bus.by.winner n));
-  gap = gap_before plan s bus;
+  gap = gap_before setups s bus;
 }
 
-module _ (plan : Plan) (s : Stations) (bus : FramesOfPlan plan s) (t : Times) (ms : Messages) (d : Delays) (of : IsPlanOf plan s) (are : AreStations s) (room : HaveRoom s)
-    (idle_at : AreIdle (waiting_of plan (queues_of plan) s)) (late_enough : AreReadyLate s (setup_at plan)) (have : HaveMessages s (setup_at plan) ms) (delays : DelayNoLonger s t ms d)
-    (ordered : Ordered plan s bus) (rests : Rests) (readies : Readies plan s bus of are) (parts : Parts plan s bus of are) (first : FirstParts plan s bus of are)
+module _ (setups : ℕ → NodeSetup) (s : Stations) (bus : FramesOfLine setups (waiting_with setups s)) (t : Times) (ms : Messages) (d : Delays) (of : HaveSegments setups s) (are : AreStations s) (room : HaveRoom s)
+    (idle_at : AreIdle (waiting_with setups s)) (late_enough : AreReadyLate s setups) (have : HaveMessages s setups ms) (delays : DelayNoLonger s t ms d)
+    (ordered : Ordered setups s bus) (rests : Rests) (readies : Readies setups s bus of are) (parts : Parts setups s bus of are) (first : FirstParts setups s bus of are)
     (chase : ℕ → ℕ) (for_all : HasRoomForAll s chase) (decide : AllMayDecide s chase) (once : Once) (forward : ForwardLaws) (lasts : LastNoLonger s t) (passing : PassNoLonger s t) where
   abbrev D : ℕ
   D = parts_of s
@@ -78,7 +75,7 @@ module _ (plan : Plan) (s : Stations) (bus : FramesOfPlan plan s) (t : Times) (m
   w = bus.by.winner
 
   abbrev x : QueuedFrames
-  x = frames_on plan s bus t ms
+  x = frames_on setups s bus t ms
 
   abbrev at : ℕ → ℕ → ℕ
   at i q = part_at s t i q
@@ -92,27 +89,27 @@ module _ (plan : Plan) (s : Stations) (bus : FramesOfPlan plan s) (t : Times) (m
   pub wins : (n : ℕ) → n < bus.count → w n < s.count
   wins n less = subst (λ k. k < s.count) (won_is n less) (bus.are.each n less).won.inside
 
-  turns : (n : ℕ) → n < bus.count → turn plan s bus (w n) n < entries (setup_at plan) (w n)
-  turns n less = slice_get_within (queued_contents (setup_at plan (w n)).queue) (turn plan s bus (w n) n) (bus.by.content n) (ordered n less)
+  turns : (n : ℕ) → n < bus.count → turn setups s bus (w n) n < entries setups (w n)
+  turns n less = slice_get_within (queued_contents (setups (w n)).queue) (turn setups s bus (w n) n) (bus.by.content n) (ordered n less)
 
-  offered : (n : ℕ) → n < bus.count → IsOffered plan s bus n
-  offered zero less = offered_first plan s bus of are first idle_at late_enough
+  offered : (n : ℕ) → n < bus.count → IsOffered setups s bus n
+  offered zero less = offered_first setups s bus of are first idle_at late_enough
   offered (suc n) less =
-      offered_next plan s bus of are readies parts n less
+      offered_next setups s bus of are readies parts n less
       (rests s (bus.frames n) (bus.frames (suc n)) are room (bus.are.each n (omega arith)) (bus.are.next n less))
 
-  drives : (n : ℕ) → n < bus.count → (start_of plan s bus n).drives (w n) ≡ true
+  drives : (n : ℕ) → n < bus.count → (start_of setups s bus n).drives (w n) ≡ true
   drives n less =
       let won = (bus.are.each n less).won in
-      subst (λ k. (start_of plan s bus n).drives k ≡ true) (won_is n less) (has_begun s (expected_bits s (bus.frames n).outset) (bus.frames n).bits won.station won.sends)
+      subst (λ k. (start_of setups s bus n).drives k ≡ true) (won_is n less) (has_begun s (expected_bits s (bus.frames n).outset) (bus.frames n).bits won.station won.sends)
 
-  next_up : (i n : ℕ) → turn plan s bus i n ≤ turn plan s bus i (suc n)
+  next_up : (i n : ℕ) → turn setups s bus i n ≤ turn setups s bus i (suc n)
   next_up i n = omega arith
 
-  next_on : (n : ℕ) → turn plan s bus (w n) (suc n) ≡ suc (turn plan s bus (w n) n)
+  next_on : (n : ℕ) → turn setups s bus (w n) (suc n) ≡ suc (turn setups s bus (w n) n)
   next_on n = one_more (w n == w n) (eq-eqb (w n) (w n) refl)
     where
-      one_more : (b : Bool) → b ≡ true → turn plan s bus (w n) n + cond b 1 0 ≡ suc (turn plan s bus (w n) n)
+      one_more : (b : Bool) → b ≡ true → turn setups s bus (w n) n + cond b 1 0 ≡ suc (turn setups s bus (w n) n)
       one_more true e = omega arith
       one_more false e = cc
 
@@ -122,7 +119,7 @@ module _ (plan : Plan) (s : Stations) (bus : FramesOfPlan plan s) (t : Times) (m
       let o = offered n less in
       let ready = o.ready (w n) (wins n less) (turns n less) in
       let decided = o.part.decided (w n) (wins n less) (drives n less) in
-      parts_up s are t (w n) (ready_entry plan s bus (w n) (turn plan s bus (w n) n)) (start_place s (bus.frames n) (w n)) (omega arith)
+      parts_up s are t (w n) (ready_entry setups s bus (w n) (turn setups s bus (w n) n)) (start_place s (bus.frames n) (w n)) (omega arith)
 
   -- how much of a unit's parts a time of a station takes
   pub but_some : (i : ℕ) → i < s.count → 0 < but i
@@ -148,15 +145,15 @@ module _ (plan : Plan) (s : Stations) (bus : FramesOfPlan plan s) (t : Times) (m
       omega arith
 
   -- a station with a frame to send
-  module _ (n : ℕ) (less : n < bus.count) (i : ℕ) (inside : i < s.count) (some : turn plan s bus i n < entries (setup_at plan) i) where
-    abbrev o : IsOffered plan s bus n
+  module _ (n : ℕ) (less : n < bus.count) (i : ℕ) (inside : i < s.count) (some : turn setups s bus i n < entries setups i) where
+    abbrev o : IsOffered setups s bus n
     o = offered n less
 
     abbrev ready_then : ℕ
-    ready_then = ready_entry plan s bus i (turn plan s bus i n)
+    ready_then = ready_entry setups s bus i (turn setups s bus i n)
 
     has_offer : o.offers.has i ≡ true
-    has_offer = o.has i inside ∙ lt-ltb (turn plan s bus i n) (entries (setup_at plan) i) some
+    has_offer = o.has i inside ∙ lt-ltb (turn setups s bus i n) (entries setups i) some
 
     soon_parts : o.offers.decision i < ready_then + bit_quanta (s.lengths i) → at i (o.offers.decision i) ≤ at i ready_then + t.unit * ((bit_quanta (s.lengths i) - 1) * (s.clocks i).num) * but i
     soon_parts h =
@@ -174,8 +171,8 @@ module _ (plan : Plan) (s : Stations) (bus : FramesOfPlan plan s) (t : Times) (m
     by_own : i ≡ w n → x.begin n ≤ at i (o.offers.due i)
     by_own same =
         let low = o.part.by_due i inside has_offer in
-        let up = parts_up s are t i ((start_of plan s bus n).place i) (o.offers.due i) low in
-        let e : at i ((start_of plan s bus n).place i) ≡ x.begin n = ap (λ k. at k ((start_of plan s bus n).place k)) same in
+        let up = parts_up s are t i ((start_of setups s bus n).place i) (o.offers.due i) low in
+        let e : at i ((start_of setups s bus n).place i) ≡ x.begin n = ap (λ k. at k ((start_of setups s bus n).place k)) same in
         omega arith
 
     by_other : i ≢ w n → x.begin n ≤ at i (o.offers.due i) + t.unit * s.delay i (w n) * D
@@ -183,7 +180,7 @@ module _ (plan : Plan) (s : Stations) (bus : FramesOfPlan plan s) (t : Times) (m
         near_parts s are t (w n) i (start_place s (bus.frames n) (w n)) (o.offers.due i) (s.delay i (w n)) (wins n less) inside
         (o.part.near i (w n) inside (wins n less) apart has_offer)
 
-    pub after_gap : gap_before plan s bus n ≡ true → x.begin n < at i ready_then + d.lead * D + d.wake * D
+    pub after_gap : gap_before setups s bus n ≡ true → x.begin n < at i ready_then + d.lead * D + d.wake * D
     after_gap gap =
         let soon = soon_parts (o.soon i inside some (inr gap)) in
         let due = due_parts in
@@ -193,12 +190,12 @@ module _ (plan : Plan) (s : Stations) (bus : FramesOfPlan plan s) (t : Times) (m
         ]
 
   -- one that a start of frame has reached first
-  module _ (n : ℕ) (less : n < bus.count) (i : ℕ) (inside : i < s.count) (some : turn plan s bus i n < entries (setup_at plan) i) (none : (start_of plan s bus n).drives i ≡ false) where
-    abbrev q : IsOffered plan s bus n
+  module _ (n : ℕ) (less : n < bus.count) (i : ℕ) (inside : i < s.count) (some : turn setups s bus i n < entries setups i) (none : (start_of setups s bus n).drives i ≡ false) where
+    abbrev q : IsOffered setups s bus n
     q = offered n less
 
     not_winner : i ≢ w n
-    not_winner e = both_ways ((start_of plan s bus n).drives i) none (ap (start_of plan s bus n).drives e ∙ drives n less)
+    not_winner e = both_ways ((start_of setups s bus n).drives i) none (ap (start_of setups s bus n).drives e ∙ drives n less)
 
     reached_by : (y : IsReachedFirst s q.offers i) → x.begin n ≤ at i (q.offers.decision i) + t.unit * s.delay i (w n) * D
     reached_by y =
@@ -206,8 +203,8 @@ module _ (plan : Plan) (s : Stations) (bus : FramesOfPlan plan s) (t : Times) (m
         elim (cases_eq y.by (w n)) [
           | inl same ↦
               (let low = q.part.by_due y.by y.inside y.offers in
-              let up = parts_up s are t y.by ((start_of plan s bus n).place y.by) (q.offers.due y.by) low in
-              let e : at y.by ((start_of plan s bus n).place y.by) ≡ x.begin n = ap (λ k. at k ((start_of plan s bus n).place k)) same in
+              let up = parts_up s are t y.by ((start_of setups s bus n).place y.by) (q.offers.due y.by) low in
+              let e : at y.by ((start_of setups s bus n).place y.by) ≡ x.begin n = ap (λ k. at k ((start_of setups s bus n).place k)) same in
               let one : 1 ≤ s.delay y.by i = are.line.later y.by i y.inside inside in
               let m : (t.unit * D) * 1 ≤ (t.unit * D) * s.delay y.by i = mul-le-mul_left (t.unit * D) one in
               omega arith)
@@ -221,7 +218,7 @@ module _ (plan : Plan) (s : Stations) (bus : FramesOfPlan plan s) (t : Times) (m
               omega arith)
         ]
 
-    pub reached_late : x.begin n < at i (ready_entry plan s bus i (turn plan s bus i n)) + d.lead * D
+    pub reached_late : x.begin n < at i (ready_entry setups s bus i (turn setups s bus i n)) + d.lead * D
     reached_late =
         let by = reached_by (q.part.missed i inside (has_offer n less i inside some) none) in
         let soon = soon_parts n less i inside some (q.soon i inside some (inl none)) in
@@ -229,30 +226,30 @@ module _ (plan : Plan) (s : Stations) (bus : FramesOfPlan plan s) (t : Times) (m
         omega arith
 
   -- a node whose messages are all within a level doesn't lose against a frame beyond it
-  not_driving : (m i n : ℕ) (less : n < bus.count) → i < s.count → ms.mixed m i ≡ false → ms.joins m (ms.of (w n) (turn plan s bus (w n) n)) ≡ false → (start_of plan s bus n).drives i ≡ false
-  not_driving m i n less inside pure beyond = elim (cases_Bool ((start_of plan s bus n).drives i)) [
+  not_driving : (m i n : ℕ) (less : n < bus.count) → i < s.count → ms.mixed m i ≡ false → ms.joins m (ms.of (w n) (turn setups s bus (w n) n)) ≡ false → (start_of setups s bus n).drives i ≡ false
+  not_driving m i n less inside pure beyond = elim (cases_Bool ((start_of setups s bus n).drives i)) [
     | inr none ↦ none
     | inl own ↦
         (let won = (bus.are.each n less).won in
         elim (cases_eq i (w n)) [
           | inl same ↦
-              absurd (both_ways (ms.joins m (ms.of (w n) (turn plan s bus (w n) n))) beyond
-              (have.within m (w n) (turn plan s bus (w n) n) (wins n less) (turns n less) (ap (ms.mixed m) (sym same) ∙ pure)))
+              absurd (both_ways (ms.joins m (ms.of (w n) (turn setups s bus (w n) n))) beyond
+              (have.within m (w n) (turn setups s bus (w n) n) (wins n less) (turns n less) (ap (ms.mixed m) (sym same) ∙ pure)))
           | inr apart ↦
               (let b = won.beats i inside (λ e. apart (e ∙ won_is n less)) own in
-              let entry : IsEntry (setup_at plan) i b.1.0 b.0 = ap (λ fs. slice_get fs b.1.0) (sym ((offered n less).frames i inside)) ∙ b.1.1 in
-              let there = slice_get_within (queued_contents (setup_at plan i).queue) b.1.0 b.0 entry in
-              absurd (have.stronger m (w n) (turn plan s bus (w n) n) i b.1.0 (bus.by.content n) b.0 (wins n less) inside (ordered n less) entry beyond (have.within m i b.1.0 inside there pure)
+              let entry : IsEntry setups i b.1.0 b.0 = ap (λ fs. slice_get fs b.1.0) (sym ((offered n less).frames i inside)) ∙ b.1.1 in
+              let there = slice_get_within (queued_contents (setups i).queue) b.1.0 b.0 entry in
+              absurd (have.stronger m (w n) (turn setups s bus (w n) n) i b.1.0 (bus.by.content n) b.0 (wins n less) inside (ordered n less) entry beyond (have.within m i b.1.0 inside there pure)
               (subst (λ c. Beats c b.0) (bus.by.wins_with n less) b.2)))
         ])
   ]
 
   -- lengths of frames
-  bits_short : (n : ℕ) → n < bus.count → (bus.frames n).bits ≤ ms.bits (ms.of (w n) (turn plan s bus (w n) n))
+  bits_short : (n : ℕ) → n < bus.count → (bus.frames n).bits ≤ ms.bits (ms.of (w n) (turn setups s bus (w n) n))
   bits_short n less =
       let won = (bus.are.each n less).won in
       let h =
-      have.short (w n) (turn plan s bus (w n) n) (bus.by.content n) (bus_levels s (expected_bits s (bus.frames n).outset) (bus.frames n).bits) (wins n less) (ordered n less)
+      have.short (w n) (turn setups s bus (w n) n) (bus.by.content n) (bus_levels s (expected_bits s (bus.frames n).outset) (bus.frames n).bits) (wins n less) (ordered n less)
       (subst (λ c. Stuffs (bus_levels s (expected_bits s (bus.frames n).outset) (bus.frames n).bits) (bits_of c)) (bus.by.wins_with n less) won.stuffs) in
       let e = levels_length s (expected_bits s (bus.frames n).outset) (bus.frames n).bits in
       omega arith
@@ -263,35 +260,35 @@ module _ (plan : Plan) (s : Stations) (bus : FramesOfPlan plan s) (t : Times) (m
   tail_more : (a b : ℕ) → a ≤ b → tail_time t a * D ≤ tail_time t b * D
   tail_more a b h = (let m : (a + 9) * t.bit ≤ (b + 9) * t.bit = mul-le-mul_right t.bit (omega arith) in mul-le-mul_right D (omega arith))
 
-  ended : (n : ℕ) → n < bus.count → x.sent n ≤ x.begin n + tail_time t (ms.bits (ms.of (w n) (turn plan s bus (w n) n))) * D
+  ended : (n : ℕ) → n < bus.count → x.sent n ≤ x.begin n + tail_time t (ms.bits (ms.of (w n) (turn setups s bus (w n) n))) * D
   ended n less =
       let f = bus.frames n in
       let h = passing (bus.frames n) (bus.are.each n less) (w n) (wins n less) in
       let g : ComesWithin s t (tail_time t f.bits) (w n) (expected_sample s f.outset (passing_bit f.bits (w n) (w n)) (w n)) (w n) (start_place s f (w n)) =
       subst (λ k. ComesWithin s t (tail_time t f.bits) (w n) (expected_sample s f.outset (passing_bit f.bits (w n) k) (w n)) k (start_place s f k)) (won_is n less) h in
       let parts = within_parts s are t (tail_time t f.bits) (w n) (expected_sample s f.outset (passing_bit f.bits (w n) (w n)) (w n)) (w n) (start_place s f (w n)) (wins n less) (wins n less) g in
-      let more = tail_more f.bits (ms.bits (ms.of (w n) (turn plan s bus (w n) n))) (bits_short n less) in
+      let more = tail_more f.bits (ms.bits (ms.of (w n) (turn setups s bus (w n) n))) (bits_short n less) in
       omega arith
 
   -- without a gap the next winner begins a bit after its third one of the intermission
-  next_in_time : (n : ℕ) (less : suc n < bus.count) → gap_before plan s bus (suc n) ≡ false → x.begin (suc n) ≤ x.begin n + frame_time t (ms.bits (ms.of (w n) (turn plan s bus (w n) n))) * D
+  next_in_time : (n : ℕ) (less : suc n < bus.count) → gap_before setups s bus (suc n) ≡ false → x.begin (suc n) ≤ x.begin n + frame_time t (ms.bits (ms.of (w n) (turn setups s bus (w n) n))) * D
   next_in_time n less none =
       let f = bus.frames n in
       let was = bus.are.each n (omega arith) in
       let next = bus.are.next n less in
       let rested = rests s (bus.frames n) (bus.frames (suc n)) are room was next in
-      let k = one_prompt plan s bus of are readies parts n less rested none in
+      let k = one_prompt setups s bus of are readies parts n less rested none in
       let own : begins_next (resting_of s (bus.frames n) (bus.frames (suc n)) next) (w (suc n)) ≡ true =
-      ap (λ b. b.drives (w (suc n))) (sym (start_is plan s bus of are readies parts n less rested)) ∙ drives (suc n) less in
+      ap (λ b. b.drives (w (suc n))) (sym (start_is setups s bus of are readies parts n less rested)) ∙ drives (suc n) less in
       let zero_is = once s (bus.frames n) (bus.frames (suc n)) chase are room for_all decide was next (w (suc n)) k.0 (wins (suc n) less) k.2 k.3 own in
       let low : start_place s (bus.frames (suc n)) (w (suc n)) ≤ following_place s (bus.frames n) (w (suc n)) =
-      prompt_place plan s bus of are readies parts n less rested (w (suc n)) (wins (suc n) less) (turns (suc n) less) zero_is in
+      prompt_place setups s bus of are readies parts n less rested (w (suc n)) (wins (suc n) less) (turns (suc n) less) zero_is in
       let up = parts_up s are t (w (suc n)) (start_place s (bus.frames (suc n)) (w (suc n))) (following_place s f (w (suc n))) low in
       let h = lasts (bus.frames n) was (w (suc n)) (wins (suc n) less) in
       let g : ComesWithin s t (frame_time t f.bits) (w (suc n)) (following_place s f (w (suc n))) (w n) (start_place s f (w n)) =
       subst (λ j. ComesWithin s t (frame_time t f.bits) (w (suc n)) (following_place s f (w (suc n))) j (start_place s f j)) (won_is n (omega arith)) h in
       let parts = within_parts s are t (frame_time t f.bits) (w (suc n)) (following_place s f (w (suc n))) (w n) (start_place s f (w n)) (wins (suc n) less) (wins n (omega arith)) g in
-      let more = cost_more f.bits (ms.bits (ms.of (w n) (turn plan s bus (w n) n))) (bits_short n (omega arith)) in
+      let more = cost_more f.bits (ms.bits (ms.of (w n) (turn setups s bus (w n) n))) (bits_short n (omega arith)) in
       omega arith
 
   -- a later frame passes after this one has begun
@@ -313,12 +310,12 @@ module _ (plan : Plan) (s : Stations) (bus : FramesOfPlan plan s) (t : Times) (m
   ]
 
   -- a period later
-  period_parts : (i a b : ℕ) → i < s.count → a < b → b < entries (setup_at plan) i → ms.of i a ≡ ms.of i b
-      → at i (ready_at (setup_at plan i).queue a) + d.period (ms.of i a) * D ≤ at i (ready_at (setup_at plan i).queue b)
+  period_parts : (i a b : ℕ) → i < s.count → a < b → b < entries setups i → ms.of i a ≡ ms.of i b
+      → at i (ready_at (setups i).queue a) + d.period (ms.of i a) * D ≤ at i (ready_at (setups i).queue b)
   period_parts i a b inside low there same =
       let h = have.apart i a b inside low there same in
-      let up = parts_up s are t i (ready_at (setup_at plan i).queue a + ms.every (ms.of i a)) (ready_at (setup_at plan i).queue b) h in
-      let sum = quanta_on s are t i (ready_at (setup_at plan i).queue a) (ms.every (ms.of i a)) in
+      let up = parts_up s are t i (ready_at (setups i).queue a + ms.every (ms.of i a)) (ready_at (setups i).queue b) h in
+      let sum = quanta_on s are t i (ready_at (setups i).queue a) (ms.every (ms.of i a)) in
       let p = delays.periods i (ms.of i a) inside (have.node i a inside (omega arith)) in
       let m : (d.period (ms.of i a) * (s.clocks i).den) * but i ≤ t.unit * (ms.every (ms.of i a) * (s.clocks i).num) * but i = mul-le-mul_right (but i) p in
       let e : d.period (ms.of i a) * ((s.clocks i).den * but i) ≡ d.period (ms.of i a) * D = ap (λ y. d.period (ms.of i a) * y) (whole s are t i inside) in
@@ -339,10 +336,10 @@ module _ (plan : Plan) (s : Stations) (bus : FramesOfPlan plan s) (t : Times) (m
     turns = turns;
     known = have.known;
     node = have.node;
-    ordered = λ i a b inside low there. parts_up s are t i (ready_at (setup_at plan i).queue a) (ready_at (setup_at plan i).queue b) (have.ordered i a b inside low there);
+    ordered = λ i a b inside low there. parts_up s are t i (ready_at (setups i).queue a) (ready_at (setups i).queue b) (have.ordered i a b inside low there);
     positive = positive_parts;
     apart = period_parts;
-    own = λ n less. have.own (w n) (turn plan s bus (w n) n) (wins n less) (turns n less);
+    own = λ n less. have.own (w n) (turn setups s bus (w n) n) (wins n less) (turns n less);
     within = have.within;
     begun = begun;
     ended = ended;

@@ -1,18 +1,15 @@
--- No frame on the bus of a plan waits longer than the bound of its message.
+-- No frame on a line waits longer than the bound of its message.
 use Rattle.std.proofs.Common.{◌≡◌, ap, ℕ, ◌+◌, ◌*◌, ◌<◌, ◌≤◌, arith}
 use Rattle.std.proofs.Math.Nat.{le_of_mul-le-mul_left}
 use Rattle.wl_counts.specs.Waits.{AreEnough, Frames, HaveWindows, Table}
-use Rattle.wl_plan.specs.declared.plan.Plan.{Plan}
-use Rattle.wl_plan.specs.PlanLine.{setup_at}
+use Rattle.wl_node.specs.declared.setup.NodeSetup.{NodeSetup}
 use Rattle.wl_buses.specs.FrameTimes.Times.{Times}
-use Rattle.wl_buses.specs.OneFrame.Plans.{IsPlanOf}
 use Rattle.wl_buses.specs.OneFrame.Stations.{AreStations, HaveRoom, Stations}
-use Rattle.wl_buses.specs.FirstFrame.FirstFrames.{queues_of, waiting_of}
 use Rattle.wl_buses.specs.FirstFrame.FirstStarts.{AreIdle}
 use Rattle.wl_buses.specs.NextFrames.Frames.{HasRoomForAll}
-use Rattle.wl_buses.specs.CleanPlans.PlanFrames.{FramesOfPlan}
+use Rattle.wl_buses.specs.CleanLines.Lines.{FramesOfLine, HaveSegments, waiting_with}
 use Rattle.wl_buses.specs.TakesPart.Decisions.{AllMayDecide}
-use Rattle.wl_buses.specs.BoundedWaits.Bounds.{WaitNoLonger, ready_quantum, sent_quantum, turn_of}
+use Rattle.wl_buses.specs.BoundedWaits.LineBounds.{LineWaitsNoLonger, line_ready, line_sent, line_turn}
 use Rattle.wl_buses.specs.BoundedWaits.Lasting.{LastNoLonger, PassNoLonger}
 use Rattle.wl_buses.specs.BoundedWaits.Messages.{AreReadyLate, DelayNoLonger, Delays, HaveMessages, Messages, terms_of}
 use Rattle.wl_buses.proofs.BoundedWaits.Parts.{parts_of, product_but}
@@ -33,30 +30,30 @@ own_parts u b offset num den q p x d some e h =
     let all : b * (u * (q * num)) ≤ b * (u * (p * num) + x * den) = omega arith in
     le_of_mul-le-mul_left all some
 
-module _ (plan : Plan) (s : Stations) (bus : FramesOfPlan plan s) (t : Times) (ms : Messages) (d : Delays) (of : IsPlanOf plan s) (are : AreStations s) (room : HaveRoom s)
-    (idle_at : AreIdle (waiting_of plan (queues_of plan) s)) (late_enough : AreReadyLate s (setup_at plan)) (have : HaveMessages s (setup_at plan) ms) (delays : DelayNoLonger s t ms d)
-    (ordered : Ordered plan s bus) (rests : Rests) (readies : Readies plan s bus of are) (parts : Parts plan s bus of are) (first : FirstParts plan s bus of are)
+module _ (setups : ℕ → NodeSetup) (s : Stations) (bus : FramesOfLine setups (waiting_with setups s)) (t : Times) (ms : Messages) (d : Delays) (of : HaveSegments setups s) (are : AreStations s) (room : HaveRoom s)
+    (idle_at : AreIdle (waiting_with setups s)) (late_enough : AreReadyLate s setups) (have : HaveMessages s setups ms) (delays : DelayNoLonger s t ms d)
+    (ordered : Ordered setups s bus) (rests : Rests) (readies : Readies setups s bus of are) (parts : Parts setups s bus of are) (first : FirstParts setups s bus of are)
     (chase : ℕ → ℕ) (for_all : HasRoomForAll s chase) (decide : AllMayDecide s chase) (once : Once) (forward : ForwardLaws) (lasts : LastNoLonger s t) (passing : PassNoLonger s t)
     (curve : Curve) (no_longer : NoLonger) (blocking w r : ℕ → ℕ) (blocks : BlockNoLonger (terms_of t ms d) blocking) (enough : AreEnough (table_by (terms_of t ms d) blocking r) w r) where
   abbrev D : ℕ
   D = parts_of s
 
-  pub wait_no_longer : WaitNoLonger plan s bus t ms r
+  pub wait_no_longer : LineWaitsNoLonger setups s bus t ms r
   wait_no_longer n less =
       let i = bus.by.winner n in
-      let inside = wins plan s bus t ms d of are room idle_at late_enough have delays ordered rests readies parts first chase for_all decide once forward lasts passing n less in
+      let inside = wins setups s bus t ms d of are room idle_at late_enough have delays ordered rests readies parts first chase for_all decide once forward lasts passing n less in
       let some = some_parts s are t in
-      let is = queued_on plan s bus t ms d of are room idle_at late_enough have delays ordered rests readies parts first chase for_all decide once forward lasts passing in
-      let lead = lead_some plan s bus t ms d of are room idle_at late_enough have delays ordered rests readies parts first chase for_all decide once forward lasts passing (omega arith) in
+      let is = queued_on setups s bus t ms d of are room idle_at late_enough have delays ordered rests readies parts first chase for_all decide once forward lasts passing in
+      let lead = lead_some setups s bus t ms d of are room idle_at late_enough have delays ordered rests readies parts first chase for_all decide once forward lasts passing (omega arith) in
       let windows =
-      have_windows curve (frames_on plan s bus t ms) (scaled D (terms_of t ms d)) (in_parts (terms_of t ms d) blocking w r D some delays.positive blocking)
+      have_windows curve (frames_on setups s bus t ms) (scaled D (terms_of t ms d)) (in_parts (terms_of t ms d) blocking w r D some delays.positive blocking)
       (in_parts (terms_of t ms d) blocking w r D some delays.positive r) is lead (blocks_in_parts (terms_of t ms d) blocking w r D some delays.positive blocks) in
       let h =
       no_longer
       (table_by (scaled D (terms_of t ms d)) (in_parts (terms_of t ms d) blocking w r D some delays.positive blocking) (in_parts (terms_of t ms d) blocking w r D some delays.positive r))
-      (frames_in (frames_on plan s bus t ms)) (in_parts (terms_of t ms d) blocking w r D some delays.positive w) (in_parts (terms_of t ms d) blocking w r D some delays.positive r) bus.count
+      (frames_in (frames_on setups s bus t ms)) (in_parts (terms_of t ms d) blocking w r D some delays.positive w) (in_parts (terms_of t ms d) blocking w r D some delays.positive r) bus.count
       (enough_in_parts (terms_of t ms d) blocking w r D some delays.positive enough) windows n less in
       own_parts t.unit (product_but (λ k. (s.clocks k).den) (bus.by.winner n) s.count) ((s.clocks (bus.by.winner n)).den * (s.clocks (bus.by.winner n)).offset) (s.clocks (bus.by.winner n)).num
-      (s.clocks (bus.by.winner n)).den (sent_quantum plan s bus n) (ready_quantum plan s bus n) (r (ms.of (bus.by.winner n) (turn_of plan s bus n))) D
-      (but_some plan s bus t ms d of are room idle_at late_enough have delays ordered rests readies parts first chase for_all decide once forward lasts passing (bus.by.winner n) inside)
+      (s.clocks (bus.by.winner n)).den (line_sent setups s bus n) (line_ready setups s bus n) (r (ms.of (bus.by.winner n) (line_turn setups s bus n))) D
+      (but_some setups s bus t ms d of are room idle_at late_enough have delays ordered rests readies parts first chase for_all decide once forward lasts passing (bus.by.winner n) inside)
       (whole s are t (bus.by.winner n) inside) h

@@ -58,3 +58,10 @@ pub in_whole_units : (s : Stations) (t : Times) (time i n k p : ℕ) → AreOnAL
 in_whole_units s t time i n k p line inside there a =
     let b = a.within in
     floors_apart (t.unit * instant (s.clocks i) n) (t.unit * instant (s.clocks k) p) (s.clocks i).den (s.clocks k).den time (line.steady i inside).divides (line.steady k there).divides (omega arith)
+
+pub later_than : (s : Stations) (t : Times) (time i n q k p : ℕ) → AreOnALine s → i < s.count → k < s.count → ComesWithin s t time i n k p
+    → whole_instant t (s.clocks k) p + time < whole_instant t (s.clocks i) q → n < q
+later_than s t time i n q k p line inside there a late = elim (cases_lt n q) [
+  | inl before ↦ before
+  | inr by ↦ (let whole = in_whole_units s t time i q k p line inside there (sooner s t time i q n k p by a) in absurd (omega arith))
+]

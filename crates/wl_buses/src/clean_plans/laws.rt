@@ -29,11 +29,8 @@ pub fn the_frames_of_a_plan()
     ensures { (plan : Plan) (s : Stations) (chase : ℕ → ℕ) (most : ℕ) → IsPlanOf plan s → AreStations s → HaveRoom s
         → HasRoomForAll s chase → HasFirstFrames plan (queues_of plan) s → FirstFramesOfPlan plan s most }
 {
-    crate::first_frame::laws::idle_stations_begin_a_first_frame();
-    crate::next_frames::laws::resting_stations_begin_the_next_frame();
-    crate::next_frames::laws::stations_rest_after_a_frame();
-    crate::next_frames::begun::another_frame_follows();
     crate::first_frame::laws::a_plan_has_a_first_frame();
+    crate::clean_lines::laws::the_frames_of_a_line();
 }
 
 /// Law: of frames that follow one another each node samples every bit later than the third bit of the intermission of the one before. So frame n
@@ -75,16 +72,13 @@ pub fn any_senders_are_clean()
         → is_covered plan ≡ true → leaves_room f ≡ true → AllGetThrough plan (stations_of f plan clocks) }
 {
     wl_bound::condition_laws();
+    wl_plan::checked_is_sound();
     crate::one_frame::laws::a_plan_is_on_a_line();
     crate::one_frame::laws::a_sound_bus_has_room();
+    crate::first_frame::laws::a_plan_has_a_first_frame();
     crate::family_plans::laws::a_family_leaves_room();
     crate::family_plans::laws::a_plan_has_stations();
     crate::family_plans::laws::a_covered_plan_has_first_frames();
     crate::next_frames::begun::a_bus_has_room_for_all();
-    crate::next_frames::lines::a_plan_goes_from_frame_to_frame();
-    crate::next_frames::silence::a_plan_rests_after_its_frames();
-    crate::passed_frames::laws::what_is_found_stays();
-    crate::sent_frames::plans::a_plan_sends_by_its_queues();
-    the_frames_of_a_plan();
-    each_frame_ends_later();
+    crate::clean_lines::laws::all_frames_of_a_line_get_through();
 }

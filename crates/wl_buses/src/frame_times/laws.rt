@@ -6,9 +6,13 @@ ghost use Rattle.wl_segments.specs.Lengths.{bit_quanta};
 ghost use Rattle.wl_frame.specs.Grammar.{bits_of};
 ghost use Rattle.wl_frame.specs.Stuffing.{Stuffs};
 ghost use Rattle.wl_plan.specs.declared.plan.Plan.{Plan};
-ghost use Rattle.wl_plan.specs.PlanLine.{line_of};
-ghost use Rattle.wl_plan.specs.Simulation.{AreInside};
-ghost use Rattle.wl_bound.specs.Families.{Bus};
+ghost use Rattle.wl_phase.specs.Clocks.{Steady};
+ghost use Rattle.wl_bound.specs.Covered.{is_covered};
+ghost use Rattle.wl_bound.specs.Families.{Bus, Buses};
+ghost use Rattle.wl_bound.specs.Rooms.{leaves_room, plain_bus};
+ghost use Rattle.wl_bound.specs.Verdicts.{verdict_of};
+ghost use Rattle.wl_bound.specs.declared.verdict.Verdict.TheVariants.{ForAny};
+ghost use Rattle.wl_buses.specs.BothProofs.Plans.{IsOfFamily, IsSteadyPlan};
 ghost use Rattle.wl_buses.specs.OneFrame.Bounds.{HasStations};
 ghost use Rattle.wl_buses.specs.OneFrame.Expected.{expected_bits};
 ghost use Rattle.wl_buses.specs.OneFrame.Stations.{AreOnALine, AreStations, HaveRoom, Stations};
@@ -16,11 +20,13 @@ ghost use Rattle.wl_buses.specs.FirstFrame.FirstStarts.{Waiting, due_first, firs
 ghost use Rattle.wl_buses.specs.NextFrames.Frames.{FollowOneAnother, Frame, HasRoomForAll};
 ghost use Rattle.wl_buses.specs.NextFrames.Frames.{IsBegun, IsBegunAfter, resting_of};
 ghost use Rattle.wl_buses.specs.NextFrames.NextStarts.{has_next};
-ghost use Rattle.wl_buses.specs.CleanPlans.Clean.{AllGetThrough, plan_history};
+ghost use Rattle.wl_buses.specs.FamilyPlans.FamilyStations.{AreContents, SendAsFamily, stations_of};
+ghost use Rattle.wl_buses.specs.CleanPlans.Clean.{AllGetThrough};
 ghost use Rattle.wl_buses.specs.FrameTimes.Times.{AreWinners, ComesWithin, HaveNoGap, TakeNoLonger, Times};
 ghost use Rattle.wl_buses.specs.FrameTimes.Times.{following_place, frame_time, frames_time, passing_sample};
 ghost use Rattle.wl_buses.specs.FrameTimes.Times.{start_place, tail_time, whole_instant};
 ghost use Rattle.wl_buses.specs.FrameTimes.BusTimes.{bit_times, bus_times};
+ghost use Rattle.wl_buses.specs.FrameTimes.PlanTimes.{PassByTheirTails};
 
 /// Law: a frame has at most one stuff bit for each four bits after the first one. So the number of its bits up to the end of the CRC
 /// sequence has a bound.
@@ -86,6 +92,9 @@ pub fn times_add_up()
     ensures whole { (s : Stations) (t : Times) (time i n k p : ℕ) → AreOnALine s → i < s.count → k < s.count
         → ComesWithin s t time i n k p
         → whole_instant t (s.clocks i) n ≤ whole_instant t (s.clocks k) p + time }
+    ensures later { (s : Stations) (t : Times) (time i n q k p : ℕ) → AreOnALine s → i < s.count → k < s.count
+        → ComesWithin s t time i n k p → whole_instant t (s.clocks k) p + time < whole_instant t (s.clocks i) q
+        → n < q }
 {}
 
 /// Law: a bus has such times, wherever within its tolerance each clock lies. Its shift is the greatest lag of a bit at another node, or the
@@ -136,15 +145,23 @@ pub fn frames_without_a_gap_begin_in_time()
 }
 
 /// Law: on a plan on which all frames get through each frame has passed every node by its tail after its winner's start of frame. So it is at
-/// each quantum up to the end of the plan.
+/// each quantum up to the end of the plan. What `margin` tests before it says that this is proved is enough, with the times of the family.
 pub fn the_frames_of_a_plan_pass_in_time()
-    ensures { (plan : Plan) (s : Stations) (t : Times) → AreStations s → HaveRoom s → TakeNoLonger s t
-        → (all : AllGetThrough plan s) → (i k n : ℕ) → i < s.count → AreInside (line_of plan) i k → n < all.bus.count
-        → whole_instant t (s.clocks (all.bus.by.winner n))
-        (start_place s (all.bus.frames n) (all.bus.by.winner n))
-        + tail_time t (all.bus.frames n).bits < whole_instant t (s.clocks i) k
-        → n < length (plan_history plan i k).frames }
+    ensures plan { (plan : Plan) (s : Stations) (t : Times) → AreStations s → HaveRoom s → TakeNoLonger s t
+        → (all : AllGetThrough plan s) → PassByTheirTails plan s t all }
+    ensures covered { (f : Buses) (plan : Plan) (clocks : ℕ → Steady) → IsSteadyPlan plan clocks
+        → IsOfFamily f plan clocks → AreContents plan → SendAsFamily f plan → verdict_of plan f ≡ ForAny
+        → is_covered plan ≡ true → leaves_room f ≡ true
+        → (all : AllGetThrough plan (stations_of f plan clocks))
+        × PassByTheirTails plan (stations_of f plan clocks) (bus_times (plain_bus f)) all }
 {
+    wl_bound::condition_laws();
+    crate::one_frame::laws::a_plan_is_on_a_line();
+    crate::one_frame::laws::a_sound_bus_has_room();
+    crate::family_plans::laws::a_plan_has_stations();
+    crate::family_plans::laws::a_covered_plan_has_first_frames();
+    crate::clean_plans::laws::any_senders_are_clean();
     a_frame_lasts_no_longer();
     times_add_up();
+    a_bus_has_times();
 }

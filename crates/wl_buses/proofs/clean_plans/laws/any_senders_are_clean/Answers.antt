@@ -1,4 +1,4 @@
-use Rattle.std.proofs.Common.{◌≡◌, ◌⊎◌, inl, inr, ℕ, [], arith}
+use Rattle.std.proofs.Common.{◌≡◌, refl, ℕ, []}
 use Rattle.wl_plan.specs.declared.plan.Plan.{Plan}
 use Rattle.wl_plan.specs.PlanLine.{line_of, setup_at}
 use Rattle.wl_bound.specs.Conditions.{IsSound, plain}
@@ -8,44 +8,39 @@ use Rattle.wl_buses.specs.OneFrame.Answers.{HasRoomToAnswer}
 use Rattle.wl_buses.specs.OneFrame.Bounds.{HasStations}
 use Rattle.wl_buses.specs.OneFrame.Plans.{IsPlanOf}
 use Rattle.wl_buses.specs.OneFrame.Stations.{AreStations, Stations}
-use Rattle.wl_buses.specs.FirstFrame.FirstFrames.{HasFirstFrames, queues_of}
+use Rattle.wl_buses.proofs.OneFrame.Plans.{line_of_plan}
+use Rattle.wl_buses.specs.FirstFrame.FirstFrames.{HasFirstFrames, queues_of, waiting_of}
 use Rattle.wl_buses.specs.FrameEnd.Again.{LeavesRoomToRest}
 use Rattle.wl_buses.specs.FamilyPlans.FamilyStations.{stations_of}
-use Rattle.wl_buses.specs.NextFrames.Lines.{IsBeforeLast, LineGoes}
-use Rattle.wl_buses.specs.NextFrames.Silence.{LineFallsSilent}
+use Rattle.wl_buses.specs.CleanLines.Lines.{IsPoweredUp}
 use Rattle.wl_buses.specs.CleanPlans.Clean.{AllGetThrough}
-use Rattle.wl_buses.specs.CleanPlans.PlanFrames.{EmptyAllQueues}
 use Rattle.wl_buses.proofs.CleanPlans.Verdicts.{of_verdict}
-use Rattle.wl_buses.proofs.CleanPlans.Whole.{all_sent, through}
 use Rattle.wl_buses.proofs.clean_plans.laws.any_senders_are_clean.Goals as goal
 
-whole : goal.After-each_frame_ends_later → (plan : Plan) (s : Stations) (bus : Bus) (chase : ℕ → ℕ) → IsPlanOf plan s → plan.disturbances ≡ [] → HasStations bus s → IsSound bus
+-- as all frames of its line do
+whole : goal.After-all_frames_of_a_line_get_through → (plan : Plan) (s : Stations) (bus : Bus) (chase : ℕ → ℕ) → IsPlanOf plan s → plan.disturbances ≡ [] → HasStations bus s → IsSound bus
     → HasRoomToAnswer bus chase → LeavesRoomToRest bus chase → HasFirstFrames plan (queues_of plan) s → AllGetThrough plan s
 whole c plan s bus chase of calm bus_of sound answer rest has =
-    (let found = c.what_is_found_stays.ensures in
-    let line = c.a_plan_is_on_a_line.ensures plan s of in
+    (let line = c.a_plan_is_on_a_line.ensures plan s of in
     let are : AreStations s = record { line = line; ways = c.a_sound_bus_has_room.ensures.ways bus s line bus_of } in
     let room = c.a_sound_bus_has_room.ensures.room bus s line bus_of sound in
-    let x = c.the_frames_of_a_plan.ensures plan s chase plan.end of are room (c.a_bus_has_room_for_all.ensures bus s chase line bus_of answer rest) has in
-    let f = x.bus in
-    let sends = c.a_plan_sends_by_its_queues.ensures plan s bus f.frames f.count of calm bus_of sound has f.are f.some f.first f.by in
-    let ends : IsBeforeLast (line_of plan) s f.frames f.count (line_of plan).stop ⊎ EmptyAllQueues plan s f =
-    elim x.ends [
-      | inl all ↦ inl (record {
-        inside = omega arith;
-        sampled = λ i n inside e. (let later = c.each_frame_ends_later.ensures.later s f.frames f.count are room f.are n i (omega arith) inside in omega arith);
-      })
-      | inr emptied ↦ inr emptied
-    ] in
-    let silent : EmptyAllQueues plan s f → LineFallsSilent (line_of plan) (setup_at plan) s f.frames f.count f.are (line_of plan).stop =
-    λ emptied. c.a_plan_rests_after_its_frames.ensures plan s bus f.frames f.count (line_of plan).stop of calm bus_of sound f.are f.some sends.begins
-    (all_sent found.faults found.frames found.counters c.each_frame_ends_later.ensures.grows plan s of are room f sends.passes emptied) (omega arith) in
-    let goes : LineGoes (line_of plan) (setup_at plan) s f.frames f.count f.are (line_of plan).stop =
-    elim ends [
-      | inl before ↦ c.a_plan_goes_from_frame_to_frame.ensures.goes plan s bus f.frames f.count (line_of plan).stop of calm bus_of sound f.are f.some sends.begins before
-      | inr emptied ↦ (silent emptied).goes
-    ] in
-    through found.faults found.frames found.counters c.each_frame_ends_later.ensures.grows plan s of are room f sends.passes goes ends silent sends.order)
+    let up : IsPoweredUp (line_of plan) (setup_at plan) (waiting_of plan (queues_of plan) s) = record {
+      line = line_of_plan c.checked_is_sound.ensures plan s of calm;
+      idle = c.a_plan_has_a_first_frame.ensures.idle plan (queues_of plan) s of has;
+      hands = c.a_plan_has_a_first_frame.ensures.hands plan (queues_of plan) s of has.has.begin;
+      queues = λ i. refl;
+    } in
+    let x = c.all_frames_of_a_line_get_through.ensures (line_of plan) (setup_at plan) (waiting_of plan (queues_of plan) s) chase up are room (c.a_bus_has_room_for_all.ensures bus s chase line bus_of answer rest) in record {
+      bus = record { frames = x.bus.frames; count = x.bus.count; some = x.bus.some; are = x.bus.are; first = x.bus.first; by = x.bus.by };
+      fine = x.fine;
+      counters = x.counters;
+      passed = x.passed;
+      in_time = x.in_time;
+      sent = x.sent;
+      order = x.order;
+      goes = x.goes;
+      ends = x.ends;
+    })
 
 pub returns-clause-plan : goal.returns-clause-plan
 returns-clause-plan c = whole c

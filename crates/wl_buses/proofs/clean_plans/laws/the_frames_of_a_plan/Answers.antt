@@ -1,8 +1,11 @@
-use Rattle.wl_buses.specs.FirstFrame.FirstFrames.{queues_of}
-use Rattle.wl_buses.proofs.CleanPlans.Plans.{first_frames}
+use Rattle.std.proofs.Common.{refl}
+use Rattle.wl_plan.specs.PlanLine.{setup_at}
+use Rattle.wl_buses.specs.FirstFrame.FirstFrames.{queues_of, waiting_of}
 use Rattle.wl_buses.proofs.clean_plans.laws.the_frames_of_a_plan.Goals as goal
 
 pub returns : goal.returns
 returns c = λ plan s chase most of are room enough has.
-    first_frames c.resting_stations_begin_the_next_frame.ensures.outset c.stations_rest_after_a_frame.ensures.rest c.stations_rest_after_a_frame.ensures.free c.another_frame_follows.ensures.first
-    c.idle_stations_begin_a_first_frame.ensures.outset plan s of are room chase enough has (c.a_plan_has_a_first_frame.ensures.idle plan (queues_of plan) s of has) most
+    (let x = c.the_frames_of_a_line.ensures (setup_at plan) (waiting_of plan (queues_of plan) s) chase most are room enough (c.a_plan_has_a_first_frame.ensures.idle plan (queues_of plan) s of has) (λ i. refl) in record {
+      bus = record { frames = x.bus.frames; count = x.bus.count; some = x.bus.some; are = x.bus.are; first = x.bus.first; by = x.bus.by };
+      ends = x.ends;
+    })
