@@ -31,29 +31,25 @@ other_is w n apart = ap (λ b. cond b 1 0) (ne_eqb n w apart)
 own_is : (w n : ℕ) → n ≡ w → is_it w n ≡ 1
 own_is w n same = ap (λ b. cond b 1 0) (eq-eqb n w same)
 
-none_among : (w n : ℕ) → n ≤ w → sum_below (is_it w) n ≡ 0
-none_among w zero less = refl
-none_among w (suc n) less =
-    let before : sum_below (is_it w) n ≡ 0 = none_among w n (omega arith) in
+none_more : (f : ℕ → ℕ) (w n : ℕ) → n ≤ w → sum_below (λ i. f i + is_it w i) n ≡ sum_below f n
+none_more f w zero less = refl
+none_more f w (suc n) less =
+    let before : sum_below (λ i. f i + is_it w i) n ≡ sum_below f n = none_more f w n (omega arith) in
     let here : is_it w n ≡ 0 = other_is w n (λ e. omega (arith, e, less)) in
     omega arith
 
-one_among : (w n : ℕ) → w < n → sum_below (is_it w) n ≡ 1
-one_among w zero less = absurd (omega arith)
-one_among w (suc n) less = elim (cases_lt w n) [
+one_more : (f : ℕ → ℕ) (w n : ℕ) → w < n → sum_below (λ i. f i + is_it w i) n ≡ suc (sum_below f n)
+one_more f w zero less = absurd (omega arith)
+one_more f w (suc n) less = elim (cases_lt w n) [
   | inl below ↦
-      (let before : sum_below (is_it w) n ≡ 1 = one_among w n below in
+      (let before : sum_below (λ i. f i + is_it w i) n ≡ suc (sum_below f n) = one_more f w n below in
       let here : is_it w n ≡ 0 = other_is w n (λ e. omega (arith, e, below)) in
       omega arith)
   | inr last ↦
-      (let before : sum_below (is_it w) n ≡ 0 = none_among w n last in
+      (let before : sum_below (λ i. f i + is_it w i) n ≡ sum_below f n = none_more f w n last in
       let here : is_it w n ≡ 1 = own_is w n (omega arith) in
       omega arith)
 ]
-
-sum_with : (f : ℕ → ℕ) (w n : ℕ) → sum_below (λ i. f i + is_it w i) n ≡ sum_below f n + sum_below (is_it w) n
-sum_with f w zero = refl
-sum_with f w (suc n) = (let old = sum_with f w n in omega arith)
 
 module _ (plan : Plan) (s : Stations) (bus : FramesOfPlan plan s) (ordered : Ordered (setup_at plan) s (as_line plan s bus)) where
   abbrev turn : ℕ → ℕ → ℕ
@@ -71,8 +67,7 @@ module _ (plan : Plan) (s : Stations) (bus : FramesOfPlan plan s) (ordered : Ord
       zeros (suc k) = (let old = zeros k in omega arith)
   all_turns (suc n) less =
       let old = all_turns n (omega arith) in
-      let one : sum_below (is_it (bus.by.winner n)) s.count ≡ 1 = one_among (bus.by.winner n) s.count (wins n less) in
-      let sum = sum_with (λ i. turn i n) (bus.by.winner n) s.count in
+      let more = one_more (λ i. turn i n) (bus.by.winner n) s.count (wins n less) in
       omega arith
 
   few_turns : (i n : ℕ) → n ≤ bus.count → turn i n ≤ entries (setup_at plan) i

@@ -154,7 +154,7 @@ module _ (m : MachineLaws) (s : Stations) (are : AreStations s) (room : HaveRoom
   unfolding wire
   in_step = m.steps s.count o.frames (events end) is.frames
 
-  one_winner : HasOneWinner (wire end)
+  pub one_winner : HasOneWinner (wire end)
   unfolding wire
   one_winner = m.winner s.count o.frames (events end) is.frames
 

@@ -22,6 +22,7 @@ use Rattle.wl_machine.specs.Judged.{drive_by, drive_of, head_of, or_next, stretc
 use Rattle.wl_machine.specs.States.{stretch_by}
 use Rattle.wl_machine.proofs.Callers.{stretch_next}
 use Rattle.wl_wire.specs.InStep.{AreSoundFrames}
+use Rattle.wl_wire.proofs.Callers.{some_same}
 use Rattle.wl_wire.specs.Wire.{sampled}
 use Rattle.wl_buses.specs.OneFrame.Expected.{IsOutset, Outset, expected_bits, expected_drove, expected_end, past_at, wants}
 use Rattle.wl_buses.specs.OneFrame.Machines.{AllRight, AreMachines, GoesByMachines, HasWon, MayBegin, SomeBegins, bus_levels}
@@ -29,7 +30,7 @@ use Rattle.wl_buses.specs.OneFrame.OneBit.{IsRight}
 use Rattle.wl_buses.specs.OneFrame.Starts.{Start}
 use Rattle.wl_buses.specs.OneFrame.Stations.{AreStations, HaveRoom, Stations}
 use Rattle.wl_buses.proofs.OneFrame.Expecting.{drives_are}
-use Rattle.wl_buses.specs.FrameEnd.Asked.{EndAsAsked, EndsBefore}
+use Rattle.wl_buses.specs.FrameEnd.Asked.{EndAsAsked, EndsBefore, begun_frame}
 use Rattle.wl_buses.proofs.FrameEnd.Below.{MachineLaws}
 use Rattle.wl_buses.proofs.NextFrames.Winning.{CourseLaw, SameBits, has_begun}
 
@@ -87,13 +88,10 @@ framing_keeps Tx (Some h) own x e = subst (λ o. Keeps (Some h) (framing_sent h 
 framing_keeps Tx None own x e = subst (λ o. Keeps None (framing_received own o x)) (sym e) (receiving_keeps None own x)
 framing_keeps Rx head own x e = subst (λ o. Keeps head (framing_received own o x)) (sym e) (receiving_keeps head own x)
 
-module _ (m : MachineLaws) (course : CourseLaw) (same_bits : SameBits) (drive : DriveLaw) (asked : AskedLaw) (s : Stations) (o : Outset) (end : ℕ) (are : AreStations s) (room : HaveRoom s)
-    (is : IsOutset s o) (ends : EndsBefore s o end) (won : HasWon s (expected_bits s o) o.frames end) where
+module _ (m : MachineLaws) (course : CourseLaw) (same_bits : SameBits) (drive : DriveLaw) (s : Stations) (o : Outset) (end : ℕ) (are : AreStations s) (room : HaveRoom s)
+    (is : IsOutset s o) (ends : EndsBefore s o end) where
   abbrev bits : ℕ → Start
   bits = expected_bits s o
-
-  abbrev k : ℕ
-  k = won.station
 
   right : (n i : ℕ) → n < end → i < s.count → IsRight s (bits n) (expected_drove s o end) i
   right n i less inside = (same_bits s (expected_bits s o) (expected_drove s o end) end (λ j. expected_end s o end) are room (course s o end are room is ends.none) n less).right i inside
@@ -109,26 +107,41 @@ module _ (m : MachineLaws) (course : CourseLaw) (same_bits : SameBits) (drive : 
         (any_same s.count (wants s o n) (bits n).drives (λ i inside. sym (drives_are m.steps m.errors m.winner m.stuffed m.six m.ten s are room o is n i)) ∙ sym (right n j less lt));
   }
 
-  begun_by : (x : Stretch) → MayBegin o.frames k x → is_dominant (drive_of x) ≡ true → (c : Content) × (x ≡ stretch_by (Framing (Some c)) [])
-  begun_by x (inl idle) e = (let none : is_dominant (drive_of x) ≡ false = ap (λ q. is_dominant (drive_by q x.own)) idle in cc)
-  begun_by x (inr due) e = (due.0, due.2)
+  -- a station that begins the frame
+  module _ (k : ℕ) (inside : k < s.count) (drives : o.start.drives k ≡ true) where
+    begun_by : (x : Stretch) → MayBegin o.frames k x → is_dominant (drive_of x) ≡ true → (c : Content) × (x ≡ stretch_by (Framing (Some c)) [])
+    begun_by x (inl idle) e = (let none : is_dominant (drive_of x) ≡ false = ap (λ q. is_dominant (drive_by q x.own)) idle in cc)
+    begun_by x (inr due) e = (due.0, due.2)
 
-  begun : (c : Content) × (stretch_of (o.past k) ≡ stretch_by (Framing (Some c)) [])
-  begun = begun_by (stretch_of (o.past k)) (is.may k won.inside) (sym (is.drives k) ∙ has_begun s bits end k won.sends)
+    pub begun : (c : Content) × (stretch_of (o.past k) ≡ stretch_by (Framing (Some c)) [])
+    begun = begun_by (stretch_of (o.past k)) (is.may k inside) (sym (is.drives k) ∙ drives)
 
-  stage : (n : ℕ) → n ≤ end → stretch_of (past_at s o n k) ≡ stretch_by (Framing (Some begun.0)) (bus_levels s bits n)
-  stage zero less = begun.1
-  stage (suc n) less =
-      let g = drive s (expected_bits s o) (expected_drove s o end) o.frames (past_at s o) end is.frames machines is.some n (omega arith) (λ i inside j below. right j i (omega arith) inside) (ends.none n (omega arith)) in
-      let f = g.framing k won.inside (λ j below. right j k (omega arith) won.inside) in
-      let x : Sampled = sampled (level_of (any_below s.count (wants s o n))) (o.frames k) (o.handed n k) in
-      let e = sym (ap (λ t. stretch_after t (Sample (sampled (level_of (any_below s.count (wants s o n))) (o.frames k) (o.handed n k)))) (stage n (omega arith)))
-      ∙ sym (stretch_next (past_at s o n k) (Sample (sampled (level_of (any_below s.count (wants s o n))) (o.frames k) (o.handed n k)))) ∙ f.1 in
-      let h = (framing_keeps (frame_role (Some begun.0) (bus_levels s bits n)) (Some begun.0) (bus_levels s bits n) (sampled (level_of (any_below s.count (wants s o n))) (o.frames k) (o.handed n k)) (ends.none n (omega arith))).stays
-      (bus_levels s bits n ++ level_of (any_below s.count (wants s o n)) ∷ []) (bus_levels s bits (suc n)) f.0 e in
-      f.1 ∙ ap (λ q. stretch_by (Framing q) (bus_levels s bits (suc n))) (sym h)
+    -- its machine has that frame up to the end of the stuffed part
+    pub stage : (n : ℕ) → n ≤ end → stretch_of (past_at s o n k) ≡ stretch_by (Framing (Some begun.0)) (bus_levels s bits n)
+    stage zero less = begun.1
+    stage (suc n) less =
+        let g = drive s (expected_bits s o) (expected_drove s o end) o.frames (past_at s o) end is.frames machines is.some n (omega arith) (λ i there j below. right j i (omega arith) there) (ends.none n (omega arith)) in
+        let f = g.framing k inside (λ j below. right j k (omega arith) inside) in
+        let x : Sampled = sampled (level_of (any_below s.count (wants s o n))) (o.frames k) (o.handed n k) in
+        let e = sym (ap (λ t. stretch_after t (Sample (sampled (level_of (any_below s.count (wants s o n))) (o.frames k) (o.handed n k)))) (stage n (omega arith)))
+        ∙ sym (stretch_next (past_at s o n k) (Sample (sampled (level_of (any_below s.count (wants s o n))) (o.frames k) (o.handed n k)))) ∙ f.1 in
+        let h = (framing_keeps (frame_role (Some begun.0) (bus_levels s bits n)) (Some begun.0) (bus_levels s bits n) (sampled (level_of (any_below s.count (wants s o n))) (o.frames k) (o.handed n k)) (ends.none n (omega arith))).stays
+        (bus_levels s bits n ++ level_of (any_below s.count (wants s o n)) ∷ []) (bus_levels s bits (suc n)) f.0 e in
+        f.1 ∙ ap (λ q. stretch_by (Framing q) (bus_levels s bits (suc n))) (sym h)
+
+    pub head_at_end : begun_frame s o end k ≡ Some begun.0
+    head_at_end = ap (λ y. head_of y.sort) (stage end (omega arith))
+
+-- and the winner
+module _ (m : MachineLaws) (course : CourseLaw) (same_bits : SameBits) (drive : DriveLaw) (asked : AskedLaw) (s : Stations) (o : Outset) (end : ℕ) (are : AreStations s) (room : HaveRoom s)
+    (is : IsOutset s o) (ends : EndsBefore s o end) (won : HasWon s (expected_bits s o) o.frames end) where
+  abbrev pub first : o.start.drives won.station ≡ true
+  first = has_begun s (expected_bits s o) end won.station won.sends
+
+  pub own_begun : (begun m course same_bits drive s o end are room is ends won.station won.inside first).0 ≡ won.frame
+  own_begun =
+      let a = asked s o end are room is ends won in
+      some_same (begun m course same_bits drive s o end are room is ends won.station won.inside first).0 won.frame (sym (head_at_end m course same_bits drive s o end are room is ends won.station won.inside first) ∙ a.own)
 
   pub begun_with : stretch_of (o.past won.station) ≡ stretch_by (Framing (Some won.frame)) []
-  begun_with =
-      let a = asked s o end are room is ends won in
-      begun.1 ∙ ap (λ h. stretch_by (Framing h) []) (sym (ap (λ y. head_of y.sort) (stage end (omega arith))) ∙ a.own)
+  begun_with = (begun m course same_bits drive s o end are room is ends won.station won.inside first).1 ∙ ap (λ h. stretch_by (Framing (Some h)) []) own_begun

@@ -1,6 +1,8 @@
 -- Which stations take part in a frame, by when each has one ready.
-use Rattle.std.specs.Prelude.{◌≡◌, ◌≢◌, ℕ, ◌+◌, ◌<◌, ◌≤◌, Bool, true, false}
+use Rattle.std.specs.Prelude.{◌≡◌, ◌≢◌, ℕ, ◌+◌, ◌<◌, ◌≤◌, Bool, true, false, List, Some, slice_get}
+use Rattle.wl_frame.specs.Grammar.{Content}
 use Rattle.wl_phase.specs.Clocks.{steady_tick}
+use Rattle.wl_wire.specs.Winner.{Beats}
 use Rattle.wl_buses.specs.OneFrame.Stations.{Stations}
 use Rattle.wl_buses.specs.OneFrame.Starts.{Start}
 use Rattle.wl_buses.specs.FirstFrame.FirstStarts.{Waiting, decision_quantum, due_first, has_first}
@@ -36,3 +38,9 @@ pub record TakePart (s : Stations) (f : Offers) (b : Start) : Type 0 where
   pub near : (i j : ℕ) → i < s.count → j < s.count → i ≢ j → f.has i ≡ true
       → steady_tick (s.clocks j) (b.place j) < steady_tick (s.clocks i) (f.due i) + s.delay i j
   pub missed : (i : ℕ) → i < s.count → f.has i ≡ true → b.drives i ≡ false → IsReachedFirst s f i
+
+-- Station k has begun with the next of its frames, after those that count as sent, and the winner's frame beats it (Bosch CAN 2.0 part B, section 3.1, arbitration).
+pub record BeganWith (frames : ℕ → List Content) (sent : ℕ → ℕ) (k : ℕ) (winner : Content) : Type 0 where
+  pub frame : Content
+  pub is : slice_get (frames k) (sent k) ≡ Some frame
+  pub beaten : Beats winner frame

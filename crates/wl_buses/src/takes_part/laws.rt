@@ -1,17 +1,24 @@
 //! Laws of who takes part in a frame, each proved as the contract of a function that does nothing.
 
-ghost use Rattle.std.specs.Prelude.{◌≡◌, ◌≢◌, ◌+◌, ◌<◌, ℕ, true};
+ghost use Rattle.std.specs.Prelude.{◌≡◌, ◌≢◌, ◌+◌, ◌<◌, ℕ, true, Some, []};
+ghost use Rattle.wl_frame.specs.Grammar.{Content};
+ghost use Rattle.wl_machine.specs.Judged.{stretch_of};
+ghost use Rattle.wl_machine.specs.Stretch.Sort.{Framing};
+ghost use Rattle.wl_machine.specs.States.{stretch_by};
+ghost use Rattle.wl_wire.specs.Winner.{Beats};
 ghost use Rattle.wl_phase.specs.Clocks.{steady_tick};
 ghost use Rattle.wl_bound.specs.Families.{Bus};
 ghost use Rattle.wl_buses.specs.OneFrame.Answers.{HasRoomToAnswer};
 ghost use Rattle.wl_buses.specs.OneFrame.Bounds.{HasStations};
-ghost use Rattle.wl_buses.specs.OneFrame.Expected.{expected_bits, expected_sample};
+ghost use Rattle.wl_buses.specs.OneFrame.Expected.{IsOutset, Outset, expected_bits, expected_sample};
+ghost use Rattle.wl_buses.specs.OneFrame.Machines.{HasWon};
 ghost use Rattle.wl_buses.specs.OneFrame.Stations.{AreOnALine, AreStations, HaveRoom, Stations};
 ghost use Rattle.wl_buses.specs.FirstFrame.FirstStarts.{AreIdle, Waiting, first_start};
+ghost use Rattle.wl_buses.specs.FrameEnd.Asked.{EndsBefore};
 ghost use Rattle.wl_buses.specs.NextFrames.Frames.{FollowOneAnother, Frame, HasRoomForAll, IsBegun, IsBegunAfter, resting_of};
 ghost use Rattle.wl_buses.specs.NextFrames.NextStarts.{AreResting, Resting, begins_next, has_next, start_next};
 ghost use Rattle.wl_buses.specs.TakesPart.Decisions.{AllMayDecide, LeavesRoomToDecide};
-ghost use Rattle.wl_buses.specs.TakesPart.Takes.{TakePart, first_offers, next_offers};
+ghost use Rattle.wl_buses.specs.TakesPart.Takes.{BeganWith, TakePart, first_offers, next_offers};
 
 /// Law: a station that has a frame ready at its third bit of the intermission begins the next frame. Nobody begins that later than the
 /// start of frame of any station with a frame can reach it, and who has one by when that is due. Who has a frame and doesn't begin was reached
@@ -24,6 +31,30 @@ pub fn who_is_ready_takes_part()
     ensures first { (w : Waiting) → AreOnALine w.stations → AreIdle w
         → TakePart w.stations (first_offers w) (first_start w) }
 {}
+
+/// Law: whoever loses the arbitration has begun with a frame of its own, and the winner's beats that one. It is the next of its frames.
+pub fn who_loses_has_begun_with_its_next_frame()
+    ensures begun { (s : Stations) (o : Outset) (end : ℕ) → AreStations s → HaveRoom s → IsOutset s o
+        → EndsBefore s o end → (won : HasWon s (expected_bits s o) o.frames end) → (k : ℕ) → k < s.count
+        → k ≢ won.station → o.start.drives k ≡ true
+        → (d : Content) × (stretch_of (o.past k) ≡ stretch_by (Framing (Some d)) []) × Beats won.frame d }
+    ensures next { (s : Stations) (a b : Frame) → AreStations s → HaveRoom s → IsBegun s a → (is : IsBegun s b)
+        → (after : IsBegunAfter s a b) → (k : ℕ) → k < s.count → k ≢ is.won.station → b.outset.start.drives k ≡ true
+        → BeganWith a.outset.frames after.sent k is.won.frame }
+{
+    wl_topology::driven_laws();
+    crate::one_frame::laws::machines_drive_as_a_course_asks();
+    crate::one_frame::laws::what_is_expected_is_a_course();
+    crate::one_frame::laws::all_sample_the_same_bits();
+    crate::one_frame::waits::idle_machines_may_wait();
+    crate::frame_end::laws::machines_answer_as_asked();
+    wl_wire::laws::machines_stay_in_step();
+    wl_wire::laws::the_least_field_wins();
+    wl_machine::laws::a_transmitter_sends_its_head_stuffed();
+    wl_frame::laws::a_front_of_no_stuffing_ends_six_equal_bits();
+    wl_frame::laws::ten_bits_have_an_edge();
+    crate::next_frames::laws::stations_rest_after_a_frame();
+}
 
 /// Law: if some station has a frame ready at its third bit of the intermission, all that begin the next frame had one ready at theirs. A
 /// station that decides a bit later was reached before, if a bit is there at each sample twelve bits after the last edge.
