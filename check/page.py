@@ -368,7 +368,7 @@ x = 20
 # The colour of each level, its signal in the dump, and lines of pixels of a node's row: of recessive, between both levels, of dominant
 LEVELS = [("drive", "t", (48, 53, 58)), ("found", "r", (66, 72, 78))]
 STRUCK, LABEL = 62, range(67, 78)  # the lines of pixels of the bars over disturbances, and of their label
-SYNCS, CROWDED = 81, 7  # the line of pixels of marks at synchronisations; so many columns on end are no longer a mark and an event's line
+SYNCS, CROWDED = 81, 10  # the line of pixels of marks at synchronisations; so many columns on end are no longer two marks and an event's line
 CLEAR, SOLID = 8, 140  # a column is free of a colour up to CLEAR of 255; an edge, a line 1.5 pixels wide, covers its column by 0.75 or more
 NEAR = 0.8  # as far from an edge, in pixels, its line may reach
 
