@@ -1,11 +1,19 @@
 # The part of .ci/program.sh on settings: it takes that script's $program, $room, is and runs.
-# - the lists of examples/settings and the plans of their first settings, as check/settings.py has them, with ticks of two lengths
+# - the lists of examples/settings and the plans of their first settings, as check/settings.py has them, with ticks of two lengths; of a list that
+#   takes it minutes the first rows alone, which it wrote into NAME.list: check/settings.py --best 3 < NAME.toml > NAME.list
 # - each plan runs clean, holds by margin, and is the file that -o names
 # - three lists of other texts, as check/settings.py has them
 # - what is refused: the fault's line, the hint, the status, and nothing on standard output
 
 for given in examples/settings/*.toml; do
   name=$(basename "$given" .toml)
+  if [ -f "${given%.toml}.list" ]; then
+    runs "settings --best 3 of $name" "$given" 0 "${given%.toml}.list" "$room/none" settings --best 3
+    runs "settings --plan -o of $name" "$given" 0 "$room/none" "$room/none" settings --plan -o "$room/written.toml"
+    is "the plan of $name runs clean" [ "$("$program" run "$room/written.toml" | tail -1)" = "verdict clean" ]
+    is "the plan of $name holds" grep -q '^holds for ' <("$program" margin "$room/written.toml")
+    continue
+  fi
   python3 check/settings.py < "$given" > "$room/listed"
   runs "settings of $name" "$given" 0 "$room/listed" "$room/none" settings
   sed '/^setting [3-9] /d; /^setting [0-9][0-9]/d' "$room/listed" > "$room/two"

@@ -14,8 +14,16 @@ LIMITS = {
     "bitrate": (1, 1_000_000), "cable": (1, 2**20), "per": (1, 2**20), "out": (0, 2**20), "in": (0, 2**20), "tolerance": (0, 100_000),
     "rate_error": (0, 100_000), "clock": (1, 1_000_000_000), "prescaler": (1, 1024), "prop": (1, 8), "ps1": (1, 8), "ps2": (1, 8), "sjw": (1, 4),
 }
+WIDE = {**LIMITS, "version": (4, 4), "tseg1": (2, 256), "tseg2": (2, 128), "sjw": (1, 128)}  # of texts with `version = 4`
 TOP = ["bitrate", "cable", "per", "out", "in", "tolerance", "senders", "controller"], ["rate_error"]
 CONTROLLER = ["name", "clock"], ["prescaler", "prop", "ps1", "ps2", "sjw"]
+WIDE_CONTROLLER = ["name", "clock"], ["kind", "prescaler", "tseg1", "tseg2", "sjw"]
+# The greatest prescaler, TSEG1, TSEG2 and jump width that the registers of a kind hold, by the bits of their fields.
+KINDS = {
+    **dict.fromkeys(["m_can", "fdcan", "tcan4550"], (2**9, 2**8, 2**7, 2**7)), "mcp2518fd": (2**8, 2**8, 2**7, 2**7),
+    "flexcan": (2**10, 2**6 + 2**5, 2**5, 2**5), "sja1000": (2**6, 2**4, 2**3, 2**2), "c_can": (2**10, 2**4, 2**3, 2**2),
+    "bxcan": (2**10, 2**4, 2**3, 2**2), "mcp2515": (2 * 2**6, 2**3 + 2**3, 2**3, 2**2),
+}
 INEQUALITIES = {margin.DRIFT: "drift_fits_jump", margin.LATE: "bit_is_there_at_sample", margin.EARLY: "no_bit_too_early"}
 LETTERS = set("abcdefghijklmnopqrstuvwxyzABCDEFGHIJKLMNOPQRSTUVWXYZ0123456789_-")
 SECOND = 10**12
@@ -29,45 +37,88 @@ def is_whole(value):
     return isinstance(value, int) and not isinstance(value, bool)
 
 
-def is_right(key, value):
+def is_right(key, value, limits):
+    if key == "kind": return isinstance(value, str) and value in KINDS
     if key == "senders": return value in ("one", "any")
     if key == "name": return isinstance(value, str) and 1 <= len(value) <= 32 and set(value) <= LETTERS
     if key == "controller": return isinstance(value, list) and all(isinstance(table, dict) for table in value)
-    low, high = LIMITS[key]
+    low, high = limits[key]
     return is_whole(value) and low <= value <= high
 
 
-def check(table, keys):
+def check(table, keys, limits=LIMITS):
     required, optional = keys
     for key in required:
         if key not in table: raise Fault(f"Missing({key})")
-        if not is_right(key, table[key]): raise Fault(f"Kind({key})")
+        if not is_right(key, table[key], limits): raise Fault(f"Kind({key})")
     for key in optional:
-        if key in table and not is_right(key, table[key]): raise Fault(f"Kind({key})")
+        if key in table and not is_right(key, table[key], limits): raise Fault(f"Kind({key})")
     for key in sorted(table, key=lambda word: word.encode()):
         if key not in required and key not in optional: raise Fault(f"Unknown({key})")
+
+
+def is_wide(top):
+    """Whether the controllers of a text have PROP_SEG and PHASE_SEG1 as one length."""
+    return is_whole(top.get("version")) and top["version"] == 4
 
 
 def read(text):
     try: top = plain.read_toml(text)
     except plain.Fault as fault: raise Fault(fault)
-    check(top, TOP)
-    for table in top["controller"]: check(table, CONTROLLER)
+    wide = is_wide(top)
+    check(top, (TOP[0], ["version", *TOP[1]]) if wide else TOP, WIDE if wide else LIMITS)
+    for table in top["controller"]: check(table, WIDE_CONTROLLER if wide else CONTROLLER, WIDE if wide else LIMITS)
     if not top["controller"]: raise Fault("NoController")
     return top
 
 
 class Setting:
+    version = 1
+
     def __init__(self, prescaler, prop, ps1, ps2, sjw):
         self.prescaler, self.prop, self.ps1, self.ps2, self.sjw = prescaler, prop, ps1, ps2, sjw
-        self.quanta = 1 + prop + ps1 + ps2
+        self.quanta, self.after = 1 + prop + ps1 + ps2, ps2
+        self.parts = {"prop": prop, "ps1": ps1, "ps2": ps2}
 
     def words(self):
-        return f"prescaler {self.prescaler} prop {self.prop} ps1 {self.ps1} ps2 {self.ps2} sjw {self.sjw}"
+        return " ".join(f"{key} {value}" for key, value in [("prescaler", self.prescaler), *self.parts.items(), ("sjw", self.sjw)])
+
+
+class WideSetting(Setting):
+    version = 4
+
+    def __init__(self, prescaler, tseg1, tseg2, sjw):
+        self.prescaler, self.tseg1, self.tseg2, self.sjw = prescaler, tseg1, tseg2, sjw
+        self.quanta, self.after = 1 + tseg1 + tseg2, tseg2
+        self.parts = {"tseg1": tseg1, "tseg2": tseg2}
+
+
+def wide_settings_of(top, controller):
+    """The same of a controller whose PROP_SEG and PHASE_SEG1 are one length."""
+    kind = controller.get("kind")
+    bounds = zip(["prescaler", "tseg1", "tseg2", "sjw"], KINDS.get(kind, (1024, 256, 128, 128)))
+    most = {key: min(controller.get(key, high), high) for key, high in bounds}
+    clock, rate, error = controller["clock"], top["bitrate"], top.get("rate_error", 0)
+    for prescaler in range(1, most["prescaler"] + 1):
+        # By fractions: a bit of so many quanta at the rate, less and more than that by the error.
+        exact = Fraction(clock, rate * prescaler)
+        least, greatest = ceil(exact / (1 + Fraction(error, 10**6))), int(exact / (1 - Fraction(error, 10**6)))
+        for quanta in range(max(8, least), min(385, greatest) + 1):
+            for tseg1 in range(2, min(most["tseg1"], quanta - 3) + 1):
+                tseg2 = quanta - 1 - tseg1
+                if tseg2 > most["tseg2"]: continue
+                widest = min(tseg1 - 1, tseg2, most["sjw"])
+                if kind == "mcp2515":
+                    if prescaler % 2 or tseg2 > tseg1: continue
+                    widest = min(widest, tseg2 - 1)
+                for sjw in range(widest, 0, -1): yield WideSetting(prescaler, tseg1, tseg2, sjw)
 
 
 def settings_of(top, controller):
     """Returns the settings that have the bit rate, in order."""
+    if is_wide(top):
+        yield from wide_settings_of(top, controller)
+        return
     most = {key: controller.get(key, LIMITS[key][1]) for key in CONTROLLER[1]}
     clock, rate, error = controller["clock"], top["bitrate"], top.get("rate_error", 0)
     for prescaler in range(1, most["prescaler"] + 1):
@@ -83,12 +134,12 @@ def settings_of(top, controller):
 def plan_text(top, controller, setting, tick):
     num, den = setting.prescaler * SECOND, controller["clock"] * tick
     num, den = num // gcd(num, den), den // gcd(num, den)
-    lines = [f"# {controller['name']}, clock {controller['clock']} Hz, prescaler {setting.prescaler}", "version = 1"]
+    lines = [f"# {controller['name']}, clock {controller['clock']} Hz, prescaler {setting.prescaler}", f"version = {setting.version}"]
     lines += [f"end = {ceil(Fraction(400 * setting.quanta * num, den))}", f"per = {top['per']}", 'sync = "book"']
     later = 230 if top["senders"] == "one" else 30
     for name, x, number, ready in ("a", 0, 2032, 30), ("b", top["cable"], 2033, later):
         lines += ["", "[[node]]", f'name = "{name}"', "offset = 0", f"num = {num}", f"den = {den}", f"tolerance = {top['tolerance']}"]
-        lines += [f"prop = {setting.prop}", f"ps1 = {setting.ps1}", f"ps2 = {setting.ps2}", f"sjw = {setting.sjw}", f"x = {x}"]
+        lines += [f"{key} = {value}" for key, value in setting.parts.items()] + [f"sjw = {setting.sjw}", f"x = {x}"]
         lines += [f"out = {top['out']}", f"in = {top['in']}", "", "[[node.frame]]", f"id = {number}", "dlc = 8", f"ready = {ready * setting.quanta}"]
         lines += ["bytes = [60, 60, 60, 60, 60, 60, 60, 60]"]
     return "".join(line + "\n" for line in lines)
@@ -152,7 +203,7 @@ def row_line(top, controller, number, row):
     s = row.setting
     divisor = top["bitrate"] * s.prescaler * s.quanta
     error = ceil(Fraction(abs(controller["clock"] - divisor) * 10**6, divisor))
-    sample = (1 + s.prop + s.ps1) * 1000 // s.quanta
+    sample = (s.quanta - s.after) * 1000 // s.quanta
     tolerance = " ".join(f"{figure(top['tolerance'], n)} {name}" for n, name in zip(row.wider, ("one", "any")))
     cable = " ".join(f"{figure(top['cable'], n)} {name}" for n, name in zip(row.longer, ("one", "any")))
     return (f"setting {number} {s.words()} quanta {s.quanta} sample {sample // 10}.{sample % 10} % error {error} ppm "

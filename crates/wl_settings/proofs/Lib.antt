@@ -6,3 +6,6 @@ mod Least
 mod MadeTables
 mod Rows
 mod Saying
+mod SettingFacts
+mod SettingLists
+mod SettingPlaces

@@ -1,5 +1,5 @@
 -- What is made of an array's tables one by one.
-use Rattle.std.proofs.Common.{◌≡◌, ℕ, List, ◌++◌, map, drop}
+use Rattle.std.proofs.Common.{◌≡◌, ℕ, Bool, List, ◌++◌, map, drop}
 use Rattle.toml.specs.View.{view}
 use Rattle.toml.specs.declared.value.Value.{Value}
 use Rattle.wl_setup.specs.Faults.{first_some}
@@ -9,7 +9,7 @@ use Rattle.wl_settings.specs.Faults.{controller_fault}
 use Rattle.wl_settings.specs.Texts.{controller_of}
 
 -- the first fault is among the tables from this place on, and what is made of them follows on what was made
-abbrev pub AreMade : List Controller → ℕ → List Value → Type 0
-AreMade made place values =
-    (first_some (map controller_fault (tables_in (map view (drop place values)))) ≡ first_some (map controller_fault (tables_in (map view values))))
-    × (made ++ map controller_of (tables_in (map view (drop place values))) ≡ map controller_of (tables_in (map view values)))
+abbrev pub AreMade : Bool → List Controller → ℕ → List Value → Type 0
+AreMade joint made place values =
+    (first_some (map (controller_fault joint) (tables_in (map view (drop place values)))) ≡ first_some (map (controller_fault joint) (tables_in (map view values))))
+    × (made ++ map (controller_of joint) (tables_in (map view (drop place values))) ≡ map (controller_of joint) (tables_in (map view values)))

@@ -1,13 +1,17 @@
 -- The definitions on worked values: by hand, from the rules of a bit and from the words of the output.
-use Rattle.std.proofs.Common.{◌≡◌, refl, ℕ, true, false, Some, None}
+use Rattle.std.proofs.Common.{◌≡◌, ◌+◌, ◌*◌, ◌^◌, refl, ℕ, Bool, true, false, Some, None, codes}
+use Rattle.std.specs.Result.{is_ok}
 use Rattle.wl_bound.specs.declared.condition.Senders.TheVariants.{Any, One}
 use Rattle.wl_settings.specs.declared.asked.Asked.{Asked}
 use Rattle.wl_settings.specs.declared.asked.Setting.{Setting}
 use Rattle.wl_settings.specs.declared.judged.Reach.{Reach}
+use Rattle.wl_settings.specs.declared.parts.Parts.TheVariants.{Each, Joint}
+use Rattle.wl_settings.specs.declared.parts.Rules.TheVariants.{Common, Mcp2515}
 use Rattle.wl_settings.specs.Judged.{margin, part}
 use Rattle.wl_settings.specs.Plans.{later_ready}
 use Rattle.wl_settings.specs.Rankings.{place_in_order}
-use Rattle.wl_settings.specs.Settings.{bit_divisor, fits_registers, is_near, setting_quanta}
+use Rattle.wl_settings.specs.Registers.{bounds_named}
+use Rattle.wl_settings.specs.Settings.{bit_divisor, fits_registers, is_near, obeys, segments_by, setting_quanta}
 use Rattle.wl_settings.specs.Words.{rate_error, sample_permille}
 
 abbrev asked : ℕ → Asked
@@ -25,7 +29,7 @@ asked error = record {
 
 -- 16 MHz by 2 is 8 MHz, and 16 quanta make 500 kbit/s; the sample is after 14 of them
 abbrev eight_megahertz : Setting
-eight_megahertz = record { prescaler = 2; prop = 5; ps1 = 8; ps2 = 2; sjw = 4 }
+eight_megahertz = record { prescaler = 2; parts = Each 5 8 2; sjw = 4 }
 
 has_sixteen_quanta : setting_quanta eight_megahertz ≡ 16
 has_sixteen_quanta = refl
@@ -47,11 +51,64 @@ rounded_up : rate_error 16000001 (bit_divisor 500000 eight_megahertz) ≡ 1
 rounded_up = refl
 
 -- registers that hold it, and one that is a quantum too narrow
-holds_it : fits_registers (record { prescaler = 2; prop = 5; ps1 = 8; ps2 = 2; sjw = 4 }) eight_megahertz ≡ true
+holds_it : fits_registers (record { prescaler = 2; parts = Each 5 8 2; sjw = 4; rules = Common }) eight_megahertz ≡ true
 holds_it = refl
 
-too_narrow : fits_registers (record { prescaler = 2; prop = 5; ps1 = 7; ps2 = 2; sjw = 4 }) eight_megahertz ≡ false
+too_narrow : fits_registers (record { prescaler = 2; parts = Each 5 7 2; sjw = 4; rules = Common }) eight_megahertz ≡ false
 too_narrow = refl
+
+-- 80 MHz by 1, and 160 quanta make 500 kbit/s; the sample is after 128 of them
+abbrev eighty_megahertz : Setting
+eighty_megahertz = record { prescaler = 1; parts = Joint 127 32; sjw = 32 }
+
+has_many_quanta : setting_quanta eighty_megahertz ≡ 160
+has_many_quanta = refl
+
+samples_at_eighty : sample_permille eighty_megahertz ≡ 800
+samples_at_eighty = refl
+
+has_that_rate : is_near (asked 0) 80000000 eighty_megahertz ≡ true
+has_that_rate = refl
+
+-- the jump width is at most TSEG2, and at most TSEG1 - 1 (ISO 11898-1)
+wide_enough : is_ok (segments_by eighty_megahertz.parts 32) ≡ true
+wide_enough = refl
+
+too_wide : is_ok (segments_by eighty_megahertz.parts 33) ≡ false
+too_wide = refl
+
+-- registers with one length for PROP_SEG and PHASE_SEG1 don't hold three
+other_registers : fits_registers (record { prescaler = 512; parts = Joint 256 128; sjw = 128; rules = Common }) eight_megahertz ≡ false
+other_registers = refl
+
+-- The MCP2515 asks for an even prescaler, PHASE_SEG2 above the jump width, and PHASE_SEG2 of PROP_SEG and PHASE_SEG1 at most.
+abbrev of_mcp2515 : (prescaler tseg1 tseg2 sjw : ℕ) → Bool
+of_mcp2515 prescaler tseg1 tseg2 sjw = obeys Mcp2515 (record { prescaler = prescaler; parts = Joint tseg1 tseg2; sjw = sjw })
+
+obeyed : of_mcp2515 2 13 2 1 ≡ true
+obeyed = refl
+
+odd_prescaler : of_mcp2515 1 13 2 1 ≡ false
+odd_prescaler = refl
+
+jump_of_second : of_mcp2515 2 13 2 2 ≡ false
+jump_of_second = refl
+
+late_enough : of_mcp2515 2 8 8 1 ≡ true
+late_enough = refl
+
+too_early : of_mcp2515 2 7 8 1 ≡ false
+too_early = refl
+
+-- a word of the catalogue, with CAN FD and without, and one that is in none
+by_word : bounds_named (codes "mcp2518fd") ≡ Some (record { prescaler = 256; parts = Joint 256 128; sjw = 128; rules = Common })
+by_word = refl
+
+by_old_word : bounds_named (codes "sja1000") ≡ Some (record { prescaler = 64; parts = Joint 16 8; sjw = 4; rules = Common })
+by_old_word = refl
+
+by_no_word : bounds_named (codes "mcp2516") ≡ None
+by_no_word = refl
 
 -- 84 m more than 40 m are 2.1 times as much, and 6,086 ppm more than 100 ppm are 60.86 times as much
 abbrev reach : Reach
@@ -74,6 +131,9 @@ of_nothing = refl
 waits : later_ready One eight_megahertz ≡ 3680
 waits = refl
 
--- the widest jump comes first, and a longer PROP_SEG after a shorter one with any others
-wide_first : place_in_order eight_megahertz ≡ 8674345723
+-- of two that differ in the jump width alone, the wider one comes first
+wide_first : place_in_order eight_megahertz ≡ 2 * 2 ^ 64 + (5 * 2 ^ 32 + 8 * 2 ^ 16 + 2) * 2 ^ 16 + 65531
 wide_first = refl
+
+quanta_first : place_in_order eighty_megahertz ≡ 2 ^ 64 + (160 * 2 ^ 16 + 127) * 2 ^ 16 + 65503
+quanta_first = refl

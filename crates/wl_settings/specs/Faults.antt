@@ -1,5 +1,5 @@
 -- The faults of a text's tables, in the order in which they are returned (this project's profile).
-use Rattle.std.specs.Prelude.{◌≡◌, ◌≢◌, ℕ, List, [], ◌∷◌, map, Option, Some, None, option_map, Result, MatchResult}
+use Rattle.std.specs.Prelude.{◌≡◌, ◌≢◌, ℕ, Bool, List, [], ◌∷◌, map, Option, Some, None, option_map, Result, MatchResult}
 use Rattle.toml.specs.Data.{Members}
 use Rattle.wl_setup.specs.declared.tables.Wrong.{Wrong}
 use Rattle.wl_setup.specs.declared.tables.Wrong.TheVariants as wrong
@@ -9,7 +9,7 @@ use Rattle.wl_settings.specs.declared.keys.Key.TheVariants as key
 use Rattle.wl_settings.specs.declared.fault.SettingsFault.{SettingsFault}
 use Rattle.wl_settings.specs.declared.fault.SettingsFault.TheVariants.{Missing, Kind, Unknown, NoController, Memory}
 use Rattle.wl_settings.specs.Keys.{bus_optional, bus_required, controller_optional, controller_required, key_word}
-use Rattle.wl_settings.specs.Kinds.{inner_tables, takes_value}
+use Rattle.wl_settings.specs.Kinds.{has_joint_parts, inner_tables, takes_value}
 
 -- a fault of a key as one of a text
 abbrev pub settings_fault : Wrong × List ℕ → SettingsFault
@@ -21,8 +21,9 @@ settings_fault (wrong.Unknown, key) = Unknown key
 abbrev pub fault_of_table : List Key → List Key → Members → Option SettingsFault
 fault_of_table required optional table = option_map settings_fault (fault_of_keys key_word takes_value required optional table)
 
-abbrev pub controller_fault : Members → Option SettingsFault
-controller_fault table = fault_of_table controller_required controller_optional table
+-- a controller's keys go by whether PROP_SEG and PHASE_SEG1 are one length
+abbrev pub controller_fault : Bool → Members → Option SettingsFault
+controller_fault joint table = fault_of_table controller_required (controller_optional joint) table
 
 -- there is no controller
 abbrev pub no_controller : List Members → Option SettingsFault
@@ -33,8 +34,8 @@ no_controller (table ∷ tables) = None
 abbrev pub wanted_fault : Members → Option SettingsFault
 wanted_fault top =
     first_some (
-    fault_of_table bus_required bus_optional top
-    ∷ first_some (map controller_fault (inner_tables key.Controller top))
+    fault_of_table bus_required (bus_optional (has_joint_parts top)) top
+    ∷ first_some (map (controller_fault (has_joint_parts top)) (inner_tables key.Controller top))
     ∷ no_controller (inner_tables key.Controller top) ∷ [])
 
 -- an answer is this value, or this fault if there is one, unless memory was refused

@@ -1,15 +1,18 @@
 -- What the value of a key has to be, and what it says (this project's profile).
-use Rattle.std.specs.Prelude.{ℕ, min, Bool, if◌then◌else◌, List, Option, Some, None, is_some, unwrap_or, option_and_then, codes}
+use Rattle.std.specs.Prelude.{ℕ, min, ◌==◌, Bool, if◌then◌else◌, List, Option, Some, None, is_some, unwrap_or, option_and_then, codes}
 use Rattle.std.specs.List.{filter_map}
 use Rattle.std.specs.Str.{bytes_eq}
 use Rattle.toml.specs.Data.{Data, Members, get_member, as_str, as_table}
 use Rattle.wl_bound.specs.declared.condition.Senders.{Senders}
 use Rattle.wl_bound.specs.declared.condition.Senders.TheVariants.{Any, One}
 use Rattle.wl_setup.specs.Kinds.{elements_said, has_kind, name_said, number_within}
+use Rattle.wl_settings.specs.declared.asked.Bounds.{Bounds}
 use Rattle.wl_settings.specs.declared.keys.Key.{Key}
+use Rattle.wl_settings.specs.declared.keys.Key.TheVariants as key
 use Rattle.wl_settings.specs.declared.keys.ValueKind.{ValueKind}
 use Rattle.wl_settings.specs.declared.keys.ValueKind.TheVariants as kind
 use Rattle.wl_settings.specs.Keys.{key_word, value_kind}
+use Rattle.wl_settings.specs.Registers.{bounds_named, widest_bounds}
 
 -- who sends, as a word says it
 abbrev pub senders_named : List ℕ → Option Senders
@@ -18,10 +21,15 @@ senders_named text = if bytes_eq text (codes "one") then Some One else if bytes_
 abbrev pub senders_in : Data → Option Senders
 senders_in d = option_and_then senders_named (as_str d)
 
+-- what the registers of a kind of controllers hold, as its word says it
+abbrev pub bounds_in : Data → Option Bounds
+bounds_in d = option_and_then bounds_named (as_str d)
+
 -- whether a value is of a kind
 abbrev pub is_of_kind : ValueKind → Data → Bool
 is_of_kind (kind.Within least most) d = is_some (number_within least most d)
 is_of_kind kind.Senders d = is_some (senders_in d)
+is_of_kind kind.Named d = is_some (bounds_in d)
 is_of_kind (kind.OfPlan k) d = has_kind k d
 
 abbrev pub takes_value : Key → Data → Bool
@@ -40,10 +48,14 @@ abbrev pub whole_at : Key → ℕ → Members → ℕ
 whole_at key without table = unwrap_or (whole_in (value_kind key) (data_at key table)) without
 
 abbrev pub segment_at : Key → ℕ → Members → ℕ
-segment_at key without table = min (whole_at key without table) 255
+segment_at key without table = min (whole_at key without table) 65535
 
 abbrev pub senders_at : Key → Members → Senders
 senders_at key table = unwrap_or (option_and_then senders_in (data_at key table)) Any
+
+-- the widest without the key
+abbrev pub bounds_at : Key → Members → Bounds
+bounds_at key table = unwrap_or (option_and_then bounds_in (data_at key table)) widest_bounds
 
 abbrev pub name_in_table : Key → Members → List ℕ
 name_in_table key table = name_said (data_at key table)
@@ -53,3 +65,7 @@ values_at key table = elements_said (data_at key table)
 
 abbrev pub inner_tables : Key → Members → List Members
 inner_tables key table = filter_map as_table (values_at key table)
+
+-- the text is one of controllers whose PROP_SEG and PHASE_SEG1 are one length
+abbrev pub has_joint_parts : Members → Bool
+has_joint_parts top = whole_at key.Version 0 top == 4

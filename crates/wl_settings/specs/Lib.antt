@@ -4,8 +4,10 @@ pub mod Keys
 pub mod Kinds
 pub mod Plans
 pub mod Rankings
+pub mod Registers
 pub mod Runs
 pub mod Said
+pub mod SettingLaws
 pub mod Settings
 pub mod Texts
 pub mod Words

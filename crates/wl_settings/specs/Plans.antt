@@ -8,6 +8,8 @@ use Rattle.wl_margin.specs.Pieces.{joined}
 use Rattle.wl_settings.specs.declared.asked.Asked.{Asked}
 use Rattle.wl_settings.specs.declared.asked.Controller.{Controller}
 use Rattle.wl_settings.specs.declared.asked.Setting.{Setting}
+use Rattle.wl_settings.specs.declared.parts.Parts.{Parts}
+use Rattle.wl_settings.specs.declared.parts.Parts.TheVariants.{Each, Joint}
 use Rattle.wl_settings.specs.declared.plan.Quantum.{Quantum}
 use Rattle.wl_settings.specs.Settings.{setting_quanta}
 
@@ -46,9 +48,14 @@ unfoldable pub text_of_title : Controller → Setting → List ℕ
 text_of_title c s =
     joined (codes "# " ∷ c.name ∷ codes ", clock " ∷ decimal c.clock ∷ codes " Hz, prescaler " ∷ decimal s.prescaler ∷ codes "\n" ∷ [])
 
-unfoldable pub text_of_top : ℕ → ℕ → List ℕ
-text_of_top end per =
-    joined (codes "version = 1\nend = " ∷ decimal end ∷ codes "\nper = " ∷ decimal per ∷ codes "\nsync = \"book\"\n" ∷ [])
+-- the version of a plan whose nodes have such segments
+abbrev pub version_of : Parts → ℕ
+version_of (Each prop ps1 ps2) = 1
+version_of (Joint tseg1 tseg2) = 4
+
+unfoldable pub text_of_top : (version end per : ℕ) → List ℕ
+text_of_top version end per =
+    joined (codes "version = " ∷ decimal version ∷ codes "\nend = " ∷ decimal end ∷ codes "\nper = " ∷ decimal per ∷ codes "\nsync = \"book\"\n" ∷ [])
 
 unfoldable pub text_of_name : List ℕ → List ℕ
 text_of_name name = joined (codes "\n[[node]]\nname = \"" ∷ name ∷ codes "\"\noffset = 0\n" ∷ [])
@@ -57,10 +64,13 @@ unfoldable pub text_of_clock : Quantum → ℕ → List ℕ
 text_of_clock q tolerance =
     joined (codes "num = " ∷ decimal q.num ∷ codes "\nden = " ∷ decimal q.den ∷ codes "\ntolerance = " ∷ decimal tolerance ∷ codes "\n" ∷ [])
 
+unfoldable pub text_of_parts : Parts → List ℕ
+text_of_parts (Each prop ps1 ps2) =
+    joined (codes "prop = " ∷ decimal prop ∷ codes "\nps1 = " ∷ decimal ps1 ∷ codes "\nps2 = " ∷ decimal ps2 ∷ codes "\n" ∷ [])
+text_of_parts (Joint tseg1 tseg2) = joined (codes "tseg1 = " ∷ decimal tseg1 ∷ codes "\ntseg2 = " ∷ decimal tseg2 ∷ codes "\n" ∷ [])
+
 unfoldable pub text_of_bit : Setting → List ℕ
-text_of_bit s =
-    joined (codes "prop = " ∷ decimal s.prop ∷ codes "\nps1 = " ∷ decimal s.ps1 ∷ codes "\nps2 = " ∷ decimal s.ps2 ∷ codes "\nsjw = " ∷ decimal s.sjw
-    ∷ codes "\n" ∷ [])
+text_of_bit s = text_of_parts s.parts ++ joined (codes "sjw = " ∷ decimal s.sjw ∷ codes "\n" ∷ [])
 
 unfoldable pub text_of_place : ℕ → Asked → List ℕ
 text_of_place x a =
@@ -81,7 +91,7 @@ text_of_both a q s =
 
 -- the whole text
 abbrev pub setting_plan : Controller → Asked → Setting → Quantum → List ℕ
-setting_plan c a s q = (text_of_title c s ++ text_of_top (plan_end q s) a.per) ++ text_of_both a q s
+setting_plan c a s q = (text_of_title c s ++ text_of_top (version_of s.parts) (plan_end q s) a.per) ++ text_of_both a q s
 
 abbrev pub setting_plan_text : Asked → Controller → Setting → List ℕ
 setting_plan_text a c s = setting_plan c a s (setting_quantum a c.clock s)

@@ -4,19 +4,26 @@ use Rattle.std.specs.List.Sorted.{IsPermutation, IsNonDecreasingBy}
 use Rattle.wl_settings.specs.declared.asked.Asked.{Asked}
 use Rattle.wl_settings.specs.declared.asked.Controller.{Controller}
 use Rattle.wl_settings.specs.declared.asked.Setting.{Setting}
+use Rattle.wl_settings.specs.declared.parts.Parts.{Parts}
+use Rattle.wl_settings.specs.declared.parts.Parts.TheVariants.{Each, Joint}
 use Rattle.wl_settings.specs.declared.judged.Refusal.{Refusal}
 use Rattle.wl_settings.specs.declared.judged.WorkingSetting.{WorkingSetting}
 use Rattle.wl_settings.specs.declared.listing.Listing.{Listing}
 use Rattle.wl_settings.specs.Judged.{IsShortfall, IsRow, is_failing, works}
-use Rattle.wl_settings.specs.Settings.{possible_settings}
+use Rattle.wl_settings.specs.Settings.{possible_settings, quanta_of_parts}
 
--- the order of settings: by the prescaler, PROP_SEG, PHASE_SEG1 and PHASE_SEG2, and of the jump width the widest first
+-- The order of segments: by PROP_SEG, PHASE_SEG1 and PHASE_SEG2, or by the quanta of a bit and TSEG1. Each number is below 2^16, but for the quanta.
+abbrev pub order_of_parts : Parts → ℕ
+order_of_parts (Each prop ps1 ps2) = prop * 2 ^ 32 + ps1 * 2 ^ 16 + ps2
+order_of_parts (Joint tseg1 tseg2) = quanta_of_parts (Joint tseg1 tseg2) * 2 ^ 16 + tseg1
+
+-- the order of settings: by the prescaler and by the segments, and of the jump width the widest first
 abbrev pub place_in_order : Setting → ℕ
-place_in_order s = s.prescaler * 2 ^ 32 + s.prop * 2 ^ 24 + s.ps1 * 2 ^ 16 + s.ps2 * 2 ^ 8 + (255 - s.sjw)
+place_in_order s = s.prescaler * 2 ^ 64 + order_of_parts s.parts * 2 ^ 16 + (65535 - s.sjw)
 
 -- by how many thousandths a margin is below the greatest that there is, and of like margins the order of settings
 abbrev pub row_rank : WorkingSetting → ℕ
-row_rank r = (100000000 - r.margin) * 2 ^ 64 + place_in_order r.setting
+row_rank r = (100000000 - r.margin) * 2 ^ 96 + place_in_order r.setting
 
 -- Rows of exactly these settings, each with what is so of it, the one with most to spare first.
 pub record IsRanking (a : Asked) (c : Controller) (all : List Setting) (rows : List WorkingSetting) : Type 0 where

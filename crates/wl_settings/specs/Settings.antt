@@ -1,33 +1,73 @@
 -- Which settings have the bit rate. This project's; what is taken from public texts is named.
-use Rattle.std.specs.Prelude.{ℕ, zero, suc, ◌+◌, ◌-◌, ◌*◌, ◌&&◌, nat_le, Bool, List, [], ◌∷◌, ◌++◌, if◌then◌else◌}
+use Rattle.std.specs.Prelude.{ℕ, zero, suc, ◌+◌, ◌-◌, ◌*◌, ◌%◌, ◌==◌, ◌&&◌, nat_le, nat_lt, Bool, true, false, List, [], ◌∷◌, ◌++◌, Result, if◌then◌else◌}
 use Rattle.std.specs.Int.{abs_diff}
 use Rattle.std.specs.Result.{is_ok}
-use Rattle.wl_segments.specs.Lengths.{segments_of}
+use Rattle.wl_segments.specs.declared.SegmentsFault.{SegmentsFault}
+use Rattle.wl_segments.specs.Lengths.{Lengths, controller_segments_of, segments_of}
 use Rattle.wl_settings.specs.declared.asked.Asked.{Asked}
 use Rattle.wl_settings.specs.declared.asked.Bounds.{Bounds}
 use Rattle.wl_settings.specs.declared.asked.Controller.{Controller}
+use Rattle.wl_settings.specs.declared.parts.Parts.{Parts}
+use Rattle.wl_settings.specs.declared.parts.Parts.TheVariants.{Each, Joint}
+use Rattle.wl_settings.specs.declared.parts.Rules.{Rules}
+use Rattle.wl_settings.specs.declared.parts.Rules.TheVariants.{Common, Mcp2515}
 use Rattle.wl_settings.specs.declared.asked.Setting.{Setting}
 
--- the quanta of a bit: SYNC_SEG, PROP_SEG, PHASE_SEG1 and PHASE_SEG2 (Bosch CAN 2.0 part B, section 10)
-abbrev pub setting_quanta : Setting → ℕ
-setting_quanta s = 1 + s.prop + s.ps1 + s.ps2
+-- the quanta of a bit: SYNC_SEG, PROP_SEG, PHASE_SEG1 and PHASE_SEG2 (Bosch CAN 2.0 part B, section 10); TSEG1 is PROP_SEG and PHASE_SEG1 as one
+-- length, and TSEG2 is PHASE_SEG2 (ISO 11898-1, bit timing)
+abbrev pub quanta_of_parts : Parts → ℕ
+quanta_of_parts (Each prop ps1 ps2) = 1 + prop + ps1 + ps2
+quanta_of_parts (Joint tseg1 tseg2) = 1 + tseg1 + tseg2
 
--- the clock by which the setting has a bit rate, exactly
+abbrev pub setting_quanta : Setting → ℕ
+setting_quanta s = quanta_of_parts s.parts
+
+-- the quanta after the sample
+abbrev pub quanta_after_sample : Parts → ℕ
+quanta_after_sample (Each prop ps1 ps2) = ps2
+quanta_after_sample (Joint tseg1 tseg2) = tseg2
+
+-- the segments, if there are such
+abbrev pub segments_by : Parts → ℕ → Result Lengths SegmentsFault
+segments_by (Each prop ps1 ps2) sjw = segments_of prop ps1 ps2 sjw
+segments_by (Joint tseg1 tseg2) sjw = controller_segments_of tseg1 tseg2 sjw
+
+-- the clock by which bits of so many quanta have a bit rate, exactly
+abbrev pub divisor_of : (bitrate prescaler quanta : ℕ) → ℕ
+divisor_of bitrate prescaler quanta = bitrate * (prescaler * quanta)
+
 abbrev pub bit_divisor : ℕ → Setting → ℕ
-bit_divisor bitrate s = bitrate * (s.prescaler * setting_quanta s)
+bit_divisor bitrate s = divisor_of bitrate s.prescaler (setting_quanta s)
+
+-- each segment is at most what its register holds
+abbrev pub fit_parts : Parts → Parts → Bool
+fit_parts (Each prop ps1 ps2) (Each a b c) = nat_le a prop && (nat_le b ps1 && nat_le c ps2)
+fit_parts (Joint tseg1 tseg2) (Joint a b) = nat_le a tseg1 && nat_le b tseg2
+fit_parts _ _ = false
+
+-- What a data sheet asks beyond that. A quantum of the MCP2515 takes two periods of its oscillator or a multiple of them; its PHASE_SEG2 is longer
+-- than the jump width and at most PROP_SEG and PHASE_SEG1 together (Microchip, MCP2515 data sheet, bit timing; from memory).
+abbrev pub obeys : Rules → Setting → Bool
+obeys Common s = true
+obeys Mcp2515 s =
+    s.prescaler % 2 == 0
+    && (nat_lt s.sjw (quanta_after_sample s.parts) && nat_lt (quanta_after_sample s.parts) (setting_quanta s - quanta_after_sample s.parts))
 
 -- the registers hold it
 abbrev pub fits_registers : Bounds → Setting → Bool
-fits_registers b s =
-    nat_le s.prescaler b.prescaler && (nat_le s.prop b.prop && (nat_le s.ps1 b.ps1 && (nat_le s.ps2 b.ps2 && nat_le s.sjw b.sjw)))
+fits_registers b s = nat_le s.prescaler b.prescaler && (fit_parts b.parts s.parts && (nat_le s.sjw b.sjw && obeys b.rules s))
 
--- its bit rate deviates from the one asked for by at most `rate_error` parts per million
+-- The bit rate of bits of so many quanta deviates from the one asked for by at most `rate_error` parts per million.
+abbrev pub is_rate_near : Asked → (clock prescaler quanta : ℕ) → Bool
+is_rate_near a clock prescaler quanta =
+    nat_le (abs_diff clock (divisor_of a.bitrate prescaler quanta) * 1000000) (a.rate_error * divisor_of a.bitrate prescaler quanta)
+
 abbrev pub is_near : Asked → ℕ → Setting → Bool
-is_near a clock s = nat_le (abs_diff clock (bit_divisor a.bitrate s) * 1000000) (a.rate_error * bit_divisor a.bitrate s)
+is_near a clock s = is_rate_near a clock s.prescaler (setting_quanta s)
 
 -- and its segments are those of a bit
 abbrev pub is_setting : Asked → Controller → Setting → Bool
-is_setting a c s = fits_registers c.bounds s && (is_near a c.clock s && is_ok (segments_of s.prop s.ps1 s.ps2 s.sjw))
+is_setting a c s = fits_registers c.bounds s && (is_near a c.clock s && is_ok (segments_by s.parts s.sjw))
 
 -- a setting, if it is possible
 abbrev pub only : Asked → Controller → Setting → List Setting
@@ -38,21 +78,43 @@ unfoldable pub each_under : {X : Type 0} → (ℕ → List X) → ℕ → List X
 each_under f zero = []
 each_under f (suc n) = each_under f n ++ f n
 
--- All settings: the jump width is 1 to 4 quanta, PHASE_SEG2 is 2 to 8, PHASE_SEG1 and PROP_SEG are 1 to 8 (Bosch CAN 2.0 part B, section 10), and
--- the prescaler is 1 to what its register holds.
-abbrev pub by_jump : Asked → Controller → Setting → List Setting
-by_jump a c s = each_under (λ narrower. only a c (record s { sjw = 4 - narrower })) 4
+-- All settings with these segments: the widest jump comes first, and none is wider than the register holds.
+abbrev pub by_jump : Asked → Controller → ℕ → Parts → List Setting
+by_jump a c prescaler parts = each_under (λ narrower. only a c (record { prescaler = prescaler; parts = parts; sjw = c.bounds.sjw - narrower })) c.bounds.sjw
 
-abbrev pub by_second : Asked → Controller → Setting → List Setting
-by_second a c s = each_under (λ more. by_jump a c (record s { ps2 = 2 + more })) 7
+-- If each segment has a register of its own, PHASE_SEG2 is 2 to 8 quanta, PHASE_SEG1 and PROP_SEG are 1 to 8 (Bosch CAN 2.0 part B, section 10).
+abbrev pub by_second : Asked → Controller → (prescaler prop ps1 : ℕ) → List Setting
+by_second a c prescaler prop ps1 = each_under (λ more. by_jump a c prescaler (Each prop ps1 (2 + more))) 7
 
-abbrev pub by_first : Asked → Controller → Setting → List Setting
-by_first a c s = each_under (λ more. by_second a c (record s { ps1 = 1 + more })) 8
+abbrev pub by_first : Asked → Controller → (prescaler prop : ℕ) → List Setting
+by_first a c prescaler prop = each_under (λ more. by_second a c prescaler prop (1 + more)) 8
 
 abbrev pub by_prop : Asked → Controller → ℕ → List Setting
-by_prop a c prescaler =
-    each_under (λ more. by_first a c (record { prescaler = prescaler; prop = 1 + more; ps1 = 1; ps2 = 2; sjw = 1 })) 8
+by_prop a c prescaler = each_under (λ more. by_first a c prescaler (1 + more)) 8
 
--- the possible ones of all
+-- If PROP_SEG and PHASE_SEG1 have one, TSEG1 is 2 quanta or more, and TSEG2 is what it leaves of the bit.
+abbrev pub by_sample : Asked → Controller → (prescaler quanta tseg1 : ℕ) → List Setting
+by_sample a c prescaler quanta tseg1 = by_jump a c prescaler (Joint tseg1 (quanta - tseg1 - 1))
+
+abbrev pub by_samples : Asked → Controller → (prescaler quanta most : ℕ) → List Setting
+by_samples a c prescaler quanta most = each_under (λ more. by_sample a c prescaler quanta (2 + more)) (most - 1)
+
+-- Only bits that have the rate are parted.
+abbrev pub by_length : Asked → Controller → (prescaler quanta most : ℕ) → List Setting
+by_length a c prescaler quanta most = if is_rate_near a c.clock prescaler quanta then by_samples a c prescaler quanta most else []
+
+-- A bit has 8 to 385 quanta (ISO 11898-1, bit timing: SYNC_SEG, TSEG1 of 256 at most and TSEG2 of 128 at most).
+abbrev pub by_lengths : Asked → Controller → (prescaler most : ℕ) → List Setting
+by_lengths a c prescaler most = each_under (λ more. by_length a c prescaler (8 + more) most) 378
+
+-- the registers of the controller say which
+abbrev pub by_registers : Asked → Controller → Parts → ℕ → List Setting
+by_registers a c (Each prop ps1 ps2) prescaler = by_prop a c prescaler
+by_registers a c (Joint tseg1 tseg2) prescaler = by_lengths a c prescaler tseg1
+
+abbrev pub by_prescaler : Asked → Controller → ℕ → List Setting
+by_prescaler a c prescaler = by_registers a c c.bounds.parts prescaler
+
+-- the possible ones of all, by a prescaler of 1 to what its register holds
 abbrev pub possible_settings : Asked → Controller → List Setting
-possible_settings a c = each_under (λ less. by_prop a c (less + 1)) c.bounds.prescaler
+possible_settings a c = each_under (λ less. by_prescaler a c (less + 1)) c.bounds.prescaler

@@ -1,5 +1,5 @@
 -- What a text asks for (this project's profile).
-use Rattle.std.specs.Prelude.{◌≡◌, ◌≢◌, ℕ, List, map, Option, Some, None, Result, Ok, Err, MatchResult}
+use Rattle.std.specs.Prelude.{◌≡◌, ◌≢◌, ℕ, min, Bool, true, false, List, map, Option, Some, None, Result, Ok, Err, MatchResult}
 use Rattle.wl_device.specs.declared.bounded.Ended.{Ended}
 use Rattle.wl_device.specs.declared.bounded.Ended.TheVariants as ended
 use Rattle.wl_device.specs.Devices.{Answer}
@@ -15,22 +15,41 @@ use Rattle.wl_settings.specs.declared.asked.Controller.{Controller}
 use Rattle.wl_settings.specs.declared.fault.SettingsFault.{SettingsFault}
 use Rattle.wl_settings.specs.declared.fault.SettingsFault.TheVariants as fault
 use Rattle.wl_settings.specs.declared.keys.Key.TheVariants as key
+use Rattle.wl_settings.specs.declared.parts.Parts.{Parts}
+use Rattle.wl_settings.specs.declared.parts.Parts.TheVariants.{Each, Joint}
+use Rattle.wl_settings.specs.declared.parts.Rules.TheVariants.{Common}
 use Rattle.wl_settings.specs.declared.read.Wanted.{Wanted}
 use Rattle.wl_settings.specs.Faults.{AnswersFault, controller_fault, wanted_fault}
-use Rattle.wl_settings.specs.Kinds.{values_at, name_in_table, whole_at, segment_at, senders_at}
+use Rattle.wl_settings.specs.Kinds.{bounds_at, has_joint_parts, values_at, name_in_table, whole_at, segment_at, senders_at}
 
 -- what the registers of a controller hold: if a key is absent, as much as the format allows
-abbrev pub bounds_of : Members → Bounds
-bounds_of table = record {
+abbrev pub single_bounds_of : Members → Bounds
+single_bounds_of table = record {
   prescaler = whole_at key.Prescaler 1024 table;
-  prop = segment_at key.Prop 8 table;
-  ps1 = segment_at key.Ps1 8 table;
-  ps2 = segment_at key.Ps2 8 table;
+  parts = Each (segment_at key.Prop 8 table) (segment_at key.Ps1 8 table) (segment_at key.Ps2 8 table);
   sjw = segment_at key.Sjw 4 table;
+  rules = Common;
 }
 
-abbrev pub controller_of : Members → Controller
-controller_of table = record { name = name_in_table key.Name table; clock = whole_at key.Clock 0 table; bounds = bounds_of table }
+-- The same if PROP_SEG and PHASE_SEG1 are one length. Of a known kind they hold no more than its data sheet says.
+abbrev pub lesser_parts : Parts → (tseg1 tseg2 : ℕ) → Parts
+lesser_parts (Each prop ps1 ps2) tseg1 tseg2 = Each prop ps1 ps2
+lesser_parts (Joint a b) tseg1 tseg2 = Joint (min a tseg1) (min b tseg2)
+
+abbrev pub lesser_bounds : Bounds → Members → Bounds
+lesser_bounds b table = record {
+  prescaler = min b.prescaler (whole_at key.Prescaler 1024 table);
+  parts = lesser_parts b.parts (segment_at key.Tseg1 256 table) (segment_at key.Tseg2 128 table);
+  sjw = min b.sjw (segment_at key.WideSjw 128 table);
+  rules = b.rules;
+}
+
+abbrev pub bounds_of : Bool → Members → Bounds
+bounds_of false table = single_bounds_of table
+bounds_of true table = lesser_bounds (bounds_at key.Kind table) table
+
+abbrev pub controller_of : Bool → Members → Controller
+controller_of joint table = record { name = name_in_table key.Name table; clock = whole_at key.Clock 0 table; bounds = bounds_of joint table }
 
 -- the bus, with ticks of so many picoseconds
 abbrev pub asked_of : ℕ → Members → Asked
@@ -47,11 +66,15 @@ asked_of tick table = record {
 }
 
 -- the controllers of the tables in an array, or the first fault of one
-abbrev pub AnswersControllers : List Data → Result (List Controller) SettingsFault → Type 0
-AnswersControllers values answer = AnswersFault (first_some (map controller_fault (tables_in values))) (map controller_of (tables_in values)) answer
+abbrev pub AnswersControllers : Bool → List Data → Result (List Controller) SettingsFault → Type 0
+AnswersControllers joint values answer =
+    AnswersFault (first_some (map (controller_fault joint) (tables_in values))) (map (controller_of joint) (tables_in values)) answer
 
 abbrev pub wanted_of : ℕ → Members → Wanted
-wanted_of tick top = record { asked = asked_of tick top; controllers = map controller_of (tables_in (values_at key.Controller top)) }
+wanted_of tick top = record {
+  asked = asked_of tick top;
+  controllers = map (controller_of (has_joint_parts top)) (tables_in (values_at key.Controller top));
+}
 
 -- what a document asks for, or its first fault, or Toml if there is none
 abbrev pub without_fault : {T : Type 0} → Option SettingsFault → T → Result T SettingsFault

@@ -10,19 +10,24 @@ use Rattle.wl_margin.specs.Pieces.{joined, thousandths}
 use Rattle.wl_settings.specs.declared.asked.Asked.{Asked}
 use Rattle.wl_settings.specs.declared.asked.Controller.{Controller}
 use Rattle.wl_settings.specs.declared.asked.Setting.{Setting}
+use Rattle.wl_settings.specs.declared.parts.Parts.{Parts}
+use Rattle.wl_settings.specs.declared.parts.Parts.TheVariants.{Each, Joint}
 use Rattle.wl_settings.specs.declared.judged.Refusal.{Refusal}
 use Rattle.wl_settings.specs.declared.judged.WorkingSetting.{WorkingSetting}
 use Rattle.wl_settings.specs.declared.listing.Listing.{Listing}
-use Rattle.wl_settings.specs.Settings.{bit_divisor, each_under, setting_quanta}
+use Rattle.wl_settings.specs.Settings.{bit_divisor, each_under, quanta_after_sample, setting_quanta}
+
+abbrev pub words_of_parts : Parts → List ℕ
+words_of_parts (Each prop ps1 ps2) = joined (codes " prop " ∷ decimal prop ∷ codes " ps1 " ∷ decimal ps1 ∷ codes " ps2 " ∷ decimal ps2 ∷ [])
+words_of_parts (Joint tseg1 tseg2) = joined (codes " tseg1 " ∷ decimal tseg1 ∷ codes " tseg2 " ∷ decimal tseg2 ∷ [])
 
 abbrev pub setting_words : Setting → List ℕ
 setting_words s =
-    joined (codes "prescaler " ∷ decimal s.prescaler ∷ codes " prop " ∷ decimal s.prop ∷ codes " ps1 " ∷ decimal s.ps1 ∷ codes " ps2 " ∷ decimal s.ps2
-    ∷ codes " sjw " ∷ decimal s.sjw ∷ [])
+    (joined (codes "prescaler " ∷ decimal s.prescaler ∷ []) ++ words_of_parts s.parts) ++ joined (codes " sjw " ∷ decimal s.sjw ∷ [])
 
 -- the sample point in tenths of a percent of a bit
 abbrev pub sample_permille : Setting → ℕ
-sample_permille s = (setting_quanta s - s.ps2) * 1000 / setting_quanta s
+sample_permille s = (setting_quanta s - quanta_after_sample s.parts) * 1000 / setting_quanta s
 
 abbrev pub words_of_sample : Setting → List ℕ
 words_of_sample s =

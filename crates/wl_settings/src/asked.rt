@@ -1,7 +1,8 @@
 //! What is asked for, for which controller, and what a setting is.
 ghost use Rattle.std.specs.Prelude.{◌≡◌, ◌<◌, ◌^◌};
-ghost use Rattle.wl_settings.specs.Settings.{bit_divisor, is_near, fits_registers, setting_quanta};
+ghost use Rattle.wl_settings.specs.Settings.{bit_divisor, divisor_of, fits_registers, is_near, is_rate_near, obeys, setting_quanta};
 
+use crate::parts::{Parts, Rules};
 use wl_bound::Senders;
 use wl_setup::Text;
 
@@ -36,14 +37,12 @@ pub struct Asked {
 pub struct Bounds {
     /// Of the prescaler.
     pub prescaler: u32,
-    /// Of PROP_SEG, in quanta.
-    pub prop: u8,
-    /// Of PHASE_SEG1, in quanta.
-    pub ps1: u8,
-    /// Of PHASE_SEG2, in quanta.
-    pub ps2: u8,
+    /// Of each segment, in quanta.
+    pub parts: Parts,
     /// Of the jump width, in quanta.
-    pub sjw: u8,
+    pub sjw: u16,
+    /// What the data sheet asks besides.
+    pub rules: Rules,
 }
 
 /// A CAN controller.
@@ -62,31 +61,62 @@ pub struct Controller {
 pub struct Setting {
     /// Periods of the clock in a quantum.
     pub prescaler: u32,
-    /// PROP_SEG.
-    pub prop: u8,
-    /// PHASE_SEG1.
-    pub ps1: u8,
-    /// PHASE_SEG2.
-    pub ps2: u8,
+    /// The segments.
+    pub parts: Parts,
     /// The resynchronisation jump width.
-    pub sjw: u8,
+    pub sjw: u16,
+}
+
+impl Asked {
+    /// Returns by which clock, in Hz, bits of these quanta have the bit rate exactly.
+    pub(crate) fn divisor(&self, prescaler: u32, quanta: u64) -> u128
+        requires { quanta < 2 ^ 18 }
+        ensures value { result ≡ divisor_of self.now.bitrate prescaler quanta }
+        ensures most { result < 2 ^ 82 }
+    {
+        self.bitrate as u128 * (prescaler as u128 * quanta as u128)
+    }
+
+    /// True if the rate of bits of these quanta deviates from the one asked for by at most `rate_error` parts per million.
+    pub(crate) fn is_rate_near(&self, clock: u32, prescaler: u32, quanta: u64) -> bool
+        requires { quanta < 2 ^ 18 }
+        ensures { result ≡ is_rate_near self.now clock prescaler quanta }
+    {
+        let divisor = self.divisor(prescaler, quanta);
+        (clock as u128).abs_diff(divisor) * MILLION <= self.rate_error as u128 * divisor
+    }
+}
+
+impl Rules {
+    /// True if the setting does what the data sheet asks.
+    fn are_obeyed(self, setting: Setting) -> bool
+        ensures { result ≡ obeys self setting }
+    {
+        let after = setting.parts.after_sample();
+        match self {
+            Rules::Common => true,
+            Rules::Mcp2515 => setting.prescaler % 2 == 0
+                && setting.sjw < after
+                && (after as u64) < setting.quanta() - after as u64,
+        }
+    }
 }
 
 impl Setting {
     /// Returns the quanta of a bit.
     pub fn quanta(self) -> u64
         ensures value { result ≡ setting_quanta self }
-        ensures most { result < 2 ^ 10 }
+        ensures most { result < 2 ^ 18 }
     {
-        1 + self.prop as u64 + self.ps1 as u64 + self.ps2 as u64
+        self.parts.quanta()
     }
 
     /// Returns the periods of the clock in a second in which there are `bitrate` bits of this setting.
-    pub(crate) fn divisor(self, bitrate: u32) -> u128
-        ensures value { result ≡ bit_divisor bitrate self }
-        ensures most { result < 2 ^ 74 }
+    pub(crate) fn divisor(self, asked: &Asked) -> u128
+        ensures value { result ≡ bit_divisor asked.now.bitrate self }
+        ensures most { result < 2 ^ 82 }
     {
-        bitrate as u128 * (self.prescaler as u128 * self.quanta() as u128)
+        asked.divisor(self.prescaler, self.quanta())
     }
 
     /// True if the registers hold the setting.
@@ -94,17 +124,15 @@ impl Setting {
         ensures { result ≡ fits_registers bounds self }
     {
         self.prescaler <= bounds.prescaler
-            && self.prop <= bounds.prop
-            && self.ps1 <= bounds.ps1
-            && self.ps2 <= bounds.ps2
+            && self.parts.fit(bounds.parts)
             && self.sjw <= bounds.sjw
+            && bounds.rules.are_obeyed(self)
     }
 
     /// True if the bit rate deviates from the one asked for by at most `rate_error` parts per million.
     pub(crate) fn is_near(self, asked: &Asked, clock: u32) -> bool
         ensures { result ≡ is_near asked.now clock self }
     {
-        let divisor = self.divisor(asked.bitrate);
-        (clock as u128).abs_diff(divisor) * MILLION <= asked.rate_error as u128 * divisor
+        asked.is_rate_near(clock, self.prescaler, self.quanta())
     }
 }

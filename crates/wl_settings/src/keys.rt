@@ -6,6 +6,9 @@ use crate::values::is_of_kind;
 use toml::Value;
 use wl_setup::{Kind, TableKey};
 
+/// The version of a text whose controllers have PROP_SEG and PHASE_SEG1 as one length.
+pub(crate) const VERSION_OF_CONTROLLERS: u32 = 4;
+
 /// What the value of a key has to be.
 #[derive(Clone, Copy)]
 pub enum ValueKind {
@@ -13,6 +16,8 @@ pub enum ValueKind {
     Within(u32, u32),
     /// `"one"` or `"any"`.
     Senders,
+    /// The word of a known kind of controllers.
+    Named,
     /// A kind that plans have too.
     OfPlan(Kind),
 }
@@ -20,6 +25,7 @@ pub enum ValueKind {
 /// A key of one of the tables.
 #[derive(Clone, Copy)]
 pub enum Key {
+    Version,
     Bitrate,
     Cable,
     Per,
@@ -31,11 +37,16 @@ pub enum Key {
     RateError,
     Name,
     Clock,
+    Kind,
     Prescaler,
     Prop,
     Ps1,
     Ps2,
     Sjw,
+    Tseg1,
+    Tseg2,
+    /// The key `sjw` beside `tseg1` and `tseg2`.
+    WideSjw,
 }
 
 impl Key {
@@ -44,6 +55,7 @@ impl Key {
         ensures { result ≡ value_kind self }
     {
         match self {
+            Key::Version => ValueKind::Within(VERSION_OF_CONTROLLERS, VERSION_OF_CONTROLLERS),
             Key::Bitrate => ValueKind::Within(1, 1_000_000),
             Key::Cable | Key::Per => ValueKind::Within(1, 1_048_576),
             Key::Out | Key::In => ValueKind::Within(0, 1_048_576),
@@ -52,9 +64,13 @@ impl Key {
             Key::Controller => ValueKind::OfPlan(Kind::Tables),
             Key::Name => ValueKind::OfPlan(Kind::Name),
             Key::Clock => ValueKind::Within(1, 1_000_000_000),
+            Key::Kind => ValueKind::Named,
             Key::Prescaler => ValueKind::Within(1, 1024),
             Key::Prop | Key::Ps1 | Key::Ps2 => ValueKind::Within(1, 8),
             Key::Sjw => ValueKind::Within(1, 4),
+            Key::Tseg1 => ValueKind::Within(2, 256),
+            Key::Tseg2 => ValueKind::Within(2, 128),
+            Key::WideSjw => ValueKind::Within(1, 128),
         }
     }
 }
@@ -69,6 +85,7 @@ impl TableKey for Key {
 
     fn word(self) -> &'static str {
         match self {
+            Key::Version => "version",
             Key::Bitrate => "bitrate",
             Key::Cable => "cable",
             Key::Per => "per",
@@ -80,11 +97,14 @@ impl TableKey for Key {
             Key::RateError => "rate_error",
             Key::Name => "name",
             Key::Clock => "clock",
+            Key::Kind => "kind",
             Key::Prescaler => "prescaler",
             Key::Prop => "prop",
             Key::Ps1 => "ps1",
             Key::Ps2 => "ps2",
-            Key::Sjw => "sjw",
+            Key::Sjw | Key::WideSjw => "sjw",
+            Key::Tseg1 => "tseg1",
+            Key::Tseg2 => "tseg2",
         }
     }
 

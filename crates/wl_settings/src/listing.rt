@@ -1,11 +1,12 @@
 //! The settings with which a bus works.
 ghost use Rattle.std.specs.Prelude.{◌≡◌, ◌++◌, ◌<◌, ◌^◌, IfOk, OnOk, Some, filter};
 ghost use Rattle.wl_settings.specs.Judged.{works};
-ghost use Rattle.wl_settings.specs.Rankings.{AreFoundRows, AreRefusals, IsListing, IsNearest, IsRanking, found_one, least_refusal, lesser_of, place_in_order, row_rank};
+ghost use Rattle.wl_settings.specs.Rankings.{AreFoundRows, AreRefusals, IsListing, IsNearest, IsRanking, found_one, least_refusal, lesser_of, order_of_parts, place_in_order, row_rank};
 ghost use Rattle.wl_settings.specs.Settings.{possible_settings};
 
 use crate::asked::{Asked, Controller, Setting};
 use crate::judged::{Refusal, WorkingSetting, find_refusal, find_row};
+use crate::parts::Parts;
 use crate::possible::possible_settings;
 use std::alloc::{AllocError, Global};
 use wl_level::Listed;
@@ -84,23 +85,34 @@ fn find_refusals(
     Ok(all)
 }
 
+/// Returns the place of segments in the order of settings.
+fn place_of_parts(parts: Parts) -> u64
+    ensures value { result ≡ order_of_parts parts }
+    ensures most { result < 2 ^ 48 }
+{
+    match parts {
+        Parts::Each { prop, ps1, ps2 } => prop as u64 * (1 << 32)
+            + ps1 as u64 * (1 << 16)
+            + ps2 as u64,
+        Parts::Joint { tseg1, .. } => parts.quanta() * (1 << 16) + tseg1 as u64,
+    }
+}
+
 /// Returns the place of a setting in the order of settings.
 fn place_of(setting: Setting) -> u128
     ensures value { result ≡ place_in_order setting }
-    ensures most { result < 2 ^ 65 }
+    ensures most { result < 2 ^ 96 }
 {
-    setting.prescaler as u128 * (1 << 32)
-        + setting.prop as u128 * (1 << 24)
-        + setting.ps1 as u128 * (1 << 16)
-        + setting.ps2 as u128 * (1 << 8)
-        + (255 - setting.sjw) as u128
+    setting.prescaler as u128 * (1 << 64)
+        + place_of_parts(setting.parts) as u128 * (1 << 16)
+        + (65_535 - setting.sjw) as u128
 }
 
 /// Returns a number by which the rows are in order.
 fn rank(row: &WorkingSetting) -> u128
     ensures { result ≡ row_rank row.now }
 {
-    MOST.saturating_sub(row.margin) as u128 * (1 << 64) + place_of(row.setting)
+    MOST.saturating_sub(row.margin) as u128 * (1 << 96) + place_of(row.setting)
 }
 
 /// Returns the rows, the one with most to spare first. Of those with the same margin the one comes first that comes first in the order of

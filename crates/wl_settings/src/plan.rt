@@ -1,8 +1,9 @@
 //! The plan of a setting: two nodes at the ends of the cable.
 ghost use Rattle.std.specs.Prelude.{◌≡◌, ◌++◌, ◌<◌, ◌^◌, string_bytes, IfOk, OnOk};
-ghost use Rattle.wl_settings.specs.Plans.{common, plan_end, text_of_frame, later_ready, text_of_node, setting_plan_text, setting_quantum, step, text_of_title, text_of_top, text_of_bit, text_of_both, text_of_clock, text_of_name, text_of_place};
+ghost use Rattle.wl_settings.specs.Plans.{common, plan_end, text_of_frame, later_ready, text_of_node, setting_plan_text, setting_quantum, step, text_of_title, text_of_top, text_of_bit, text_of_parts, text_of_both, text_of_clock, text_of_name, text_of_place, version_of};
 
 use crate::asked::{Asked, Controller, Setting};
+use crate::parts::Parts;
 use std::alloc::{AllocError, Global};
 use wl_bound::Senders;
 
@@ -90,14 +91,24 @@ fn push_title(
     write!(text, "# {name}, clock {clock} Hz, prescaler {prescaler}\n")
 }
 
+/// Returns the version of a plan whose nodes have such segments.
+fn version_of(parts: Parts) -> u8
+    ensures { result ≡ version_of parts }
+{
+    match parts {
+        Parts::Each { .. } => 1,
+        Parts::Joint { .. } => 4,
+    }
+}
+
 /// Adds the keys of the top table.
 #[tactic(auto, unfolding(crate::specs::Plans::text_of_top))]
-fn push_top(text: &mut String, end: u128, per: u32) -> Result<(), AllocError>
-    ensures { OnOk result (string_bytes text.new ≡ string_bytes text.old ++ text_of_top end per) }
+fn push_top(text: &mut String, version: u8, end: u128, per: u32) -> Result<(), AllocError>
+    ensures { OnOk result (string_bytes text.new ≡ string_bytes text.old ++ text_of_top version end per) }
 {
     write!(
         text,
-        "version = 1\nend = {end}\nper = {per}\nsync = \"book\"\n"
+        "version = {version}\nend = {end}\nper = {per}\nsync = \"book\"\n"
     )
 }
 
@@ -110,22 +121,25 @@ fn push_clock(text: &mut String, quantum: Quantum, tolerance: u32) -> Result<(),
     write!(text, "num = {num}\nden = {den}\ntolerance = {tolerance}\n")
 }
 
+/// Adds the keys of a node's segments but for the jump width.
+#[tactic(auto, unfolding(crate::specs::Plans::text_of_parts))]
+fn push_parts(text: &mut String, parts: Parts) -> Result<(), AllocError>
+    ensures { OnOk result (string_bytes text.new ≡ string_bytes text.old ++ text_of_parts parts) }
+{
+    match parts {
+        Parts::Each { prop, ps1, ps2 } => write!(text, "prop = {prop}\nps1 = {ps1}\nps2 = {ps2}\n"),
+        Parts::Joint { tseg1, tseg2 } => write!(text, "tseg1 = {tseg1}\ntseg2 = {tseg2}\n"),
+    }
+}
+
 /// Adds the keys of a node's segments.
 #[tactic(auto, unfolding(crate::specs::Plans::text_of_bit))]
 fn push_bit(text: &mut String, setting: Setting) -> Result<(), AllocError>
     ensures { OnOk result (string_bytes text.new ≡ string_bytes text.old ++ text_of_bit setting) }
 {
-    let Setting {
-        prop,
-        ps1,
-        ps2,
-        sjw,
-        ..
-    } = setting;
-    write!(
-        text,
-        "prop = {prop}\nps1 = {ps1}\nps2 = {ps2}\nsjw = {sjw}\n"
-    )
+    push_parts(text, setting.parts)?;
+    let sjw = setting.sjw;
+    write!(text, "sjw = {sjw}\n")
 }
 
 /// Adds the keys of a node's place.
@@ -222,7 +236,12 @@ pub fn plan_text(
     let mut text = String::new(alloc);
     let quantum = quantum_of(asked, controller.clock, setting);
     push_title(&mut text, controller, setting)?;
-    push_top(&mut text, end_of(quantum, setting), asked.per)?;
+    push_top(
+        &mut text,
+        version_of(setting.parts),
+        end_of(quantum, setting),
+        asked.per,
+    )?;
     push_nodes(&mut text, asked, quantum, setting)?;
     Ok(text)
 }

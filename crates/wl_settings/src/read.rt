@@ -2,14 +2,15 @@
 ghost use Rattle.std.specs.Prelude.{◌≡◌, ◌≢◌, Ok, Err, IfOk, IfErr, map};
 ghost use Rattle.toml.specs.View.{view, table_view};
 ghost use Rattle.wl_settings.specs.Faults.{AnswersFault, PassesTest, controller_fault, fault_of_table, wanted_fault};
-ghost use Rattle.wl_settings.specs.Keys.{bus_optional, bus_required};
-ghost use Rattle.wl_settings.specs.Texts.{AnswersControllers, IsWantedAnswer, ReadsWanted, asked_of, bounds_of, controller_of, wanted_in_text, wanted_of};
+ghost use Rattle.wl_settings.specs.Keys.{bus_optional, bus_required, controller_optional};
+ghost use Rattle.wl_settings.specs.Texts.{AnswersControllers, IsWantedAnswer, ReadsWanted, asked_of, bounds_of, controller_of, lesser_bounds, lesser_parts, single_bounds_of, wanted_in_text, wanted_of};
 
 use crate::asked::{Asked, Bounds, Controller};
 use crate::fault::SettingsFault;
 use crate::keys::Key;
+use crate::parts::{Parts, Rules};
 use crate::tables::check_table;
-use crate::values::{number_at, segment_at, senders_at};
+use crate::values::{bounds_at, has_joint_parts, number_at, segment_at, senders_at};
 use std::alloc::{AllocError, Global};
 use toml::{Table, Value};
 use wl_device::{Ended, Source};
@@ -25,40 +26,107 @@ pub struct Wanted {
     pub controllers: Listed<Controller>,
 }
 
-/// Returns what the registers of a controller hold.
-fn bounds_of(table: &Table) -> Bounds
-    ensures { result ≡ bounds_of (table_view table.now) }
+/// Returns what the registers of a controller hold, each segment by itself.
+fn single_bounds_of(table: &Table) -> Bounds
+    ensures { result ≡ single_bounds_of (table_view table.now) }
 {
     Bounds {
         prescaler: number_at(table, Key::Prescaler, 1024),
-        prop: segment_at(table, Key::Prop, 8),
-        ps1: segment_at(table, Key::Ps1, 8),
-        ps2: segment_at(table, Key::Ps2, 8),
+        parts: Parts::Each {
+            prop: segment_at(table, Key::Prop, 8),
+            ps1: segment_at(table, Key::Ps1, 8),
+            ps2: segment_at(table, Key::Ps2, 8),
+        },
         sjw: segment_at(table, Key::Sjw, 4),
+        rules: Rules::Common,
+    }
+}
+
+/// Returns the lesser ones of these parts and of TSEG1 and TSEG2.
+fn lesser_parts(parts: Parts, tseg1: u16, tseg2: u16) -> Parts
+    ensures { result ≡ lesser_parts parts tseg1 tseg2 }
+{
+    match parts {
+        Parts::Each { .. } => parts,
+        Parts::Joint { tseg1: a, tseg2: b } => Parts::Joint {
+            tseg1: a.min(tseg1),
+            tseg2: b.min(tseg2),
+        },
+    }
+}
+
+/// Returns what the registers of a controller hold that are these at most.
+fn lesser_bounds(bounds: Bounds, table: &Table) -> Bounds
+    ensures { result ≡ lesser_bounds bounds (table_view table.now) }
+{
+    let tseg1 = segment_at(table, Key::Tseg1, 256);
+    let tseg2 = segment_at(table, Key::Tseg2, 128);
+    Bounds {
+        prescaler: bounds.prescaler.min(number_at(table, Key::Prescaler, 1024)),
+        parts: lesser_parts(bounds.parts, tseg1, tseg2),
+        sjw: bounds.sjw.min(segment_at(table, Key::WideSjw, 128)),
+        rules: bounds.rules,
+    }
+}
+
+/// Returns what the registers of a controller hold.
+fn bounds_of(joint: bool, table: &Table) -> Bounds
+    ensures { result ≡ bounds_of joint (table_view table.now) }
+{
+    if joint {
+        lesser_bounds(bounds_at(table, Key::Kind), table)
+    } else {
+        single_bounds_of(table)
+    }
+}
+
+/// Returns the optional keys of a controller.
+fn controller_optional(joint: bool) -> &'static [Key]
+    ensures { result.now ≡ controller_optional joint }
+{
+    if joint {
+        &[
+            Key::Kind,
+            Key::Prescaler,
+            Key::Tseg1,
+            Key::Tseg2,
+            Key::WideSjw,
+        ]
+    } else {
+        &[Key::Prescaler, Key::Prop, Key::Ps1, Key::Ps2, Key::Sjw]
     }
 }
 
 /// Returns the controller of a table, or the table's first fault.
-fn read_controller(alloc: Global, table: &Table) -> Result<Controller, SettingsFault>
-    ensures { AnswersFault (controller_fault (table_view table.now)) (controller_of (table_view table.now)) result }
+fn read_controller(alloc: Global, joint: bool, table: &Table) -> Result<Controller, SettingsFault>
+    ensures { AnswersFault (controller_fault joint (table_view table.now))
+        (controller_of joint (table_view table.now)) result }
 {
-    let registers = &[Key::Prescaler, Key::Prop, Key::Ps1, Key::Ps2, Key::Sjw];
-    check_table(alloc, table, &[Key::Name, Key::Clock], registers)?;
+    check_table(
+        alloc,
+        table,
+        &[Key::Name, Key::Clock],
+        controller_optional(joint),
+    )?;
     Ok(Controller {
         name: name_at(alloc, table, Key::Name)?,
         clock: number_at(table, Key::Clock, 0),
-        bounds: bounds_of(table),
+        bounds: bounds_of(joint, table),
     })
 }
 
 /// Returns the controllers of the tables in an array. What is no table is passed over.
-fn read_controllers(alloc: Global, values: &[Value]) -> Result<Listed<Controller>, SettingsFault>
-    ensures { AnswersControllers (map view values.now) result }
+fn read_controllers(
+    alloc: Global,
+    joint: bool,
+    values: &[Value],
+) -> Result<Listed<Controller>, SettingsFault>
+    ensures { AnswersControllers joint (map view values.now) result }
 {
     let mut all = Listed::new(alloc);
     for value in values {
         if let Some(table) = value.as_table() {
-            all.push(read_controller(alloc, table)?)?;
+            all.push(read_controller(alloc, joint, table)?)?;
         }
     }
     Ok(all)
@@ -81,9 +149,20 @@ fn asked_of(table: &Table, tick: u64) -> Asked
     }
 }
 
+/// Returns the optional keys of the top table.
+fn bus_optional(joint: bool) -> &'static [Key]
+    ensures { result.now ≡ bus_optional joint }
+{
+    if joint {
+        &[Key::Version, Key::RateError]
+    } else {
+        &[Key::RateError]
+    }
+}
+
 /// Tests the top table.
-fn check_bus(alloc: Global, top: &Table) -> Result<(), SettingsFault>
-    ensures { PassesTest (fault_of_table bus_required bus_optional (table_view top.now)) result }
+fn check_bus(alloc: Global, joint: bool, top: &Table) -> Result<(), SettingsFault>
+    ensures { PassesTest (fault_of_table bus_required (bus_optional joint) (table_view top.now)) result }
 {
     let required = &[
         Key::Bitrate,
@@ -95,15 +174,16 @@ fn check_bus(alloc: Global, top: &Table) -> Result<(), SettingsFault>
         Key::Senders,
         Key::Controller,
     ];
-    check_table(alloc, top, required, &[Key::RateError])
+    check_table(alloc, top, required, bus_optional(joint))
 }
 
 /// Returns what a document asks for, or its first fault.
 fn read_document(alloc: Global, tick: u64, top: &Table) -> Result<Wanted, SettingsFault>
     ensures { AnswersFault (wanted_fault (table_view top.now)) (wanted_of tick (table_view top.now)) result }
 {
-    check_bus(alloc, top)?;
-    let controllers = read_controllers(alloc, elements_at(top, Key::Controller))?;
+    let joint = has_joint_parts(top);
+    check_bus(alloc, joint, top)?;
+    let controllers = read_controllers(alloc, joint, elements_at(top, Key::Controller))?;
     if controllers.is_empty() {
         return Err(SettingsFault::NoController);
     }

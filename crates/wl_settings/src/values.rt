@@ -1,9 +1,11 @@
 //! What the values of a table's keys are, and what they say.
 ghost use Rattle.std.specs.Prelude.{◌≡◌, ◌≤◌, ◌<◌, ◌^◌};
 ghost use Rattle.toml.specs.View.{view, table_view};
-ghost use Rattle.wl_settings.specs.Kinds.{is_of_kind, whole_at, segment_at, senders_at, senders_in, senders_named};
+ghost use Rattle.wl_settings.specs.Kinds.{bounds_at, bounds_in, has_joint_parts, is_of_kind, whole_at, segment_at, senders_at, senders_in, senders_named};
 
-use crate::keys::{Key, ValueKind};
+use crate::asked::Bounds;
+use crate::keys::{Key, VERSION_OF_CONTROLLERS, ValueKind};
+use crate::registers::{bounds_named, widest_bounds};
 use toml::{Table, Value};
 use wl_bound::Senders;
 use wl_setup::{has_kind, number_within, value_at};
@@ -30,6 +32,16 @@ fn senders_in(value: &Value) -> Option<Senders>
     }
 }
 
+/// Returns what the registers of a kind of controllers hold, as its word says it.
+fn bounds_in(value: &Value) -> Option<Bounds>
+    ensures { result ≡ bounds_in (view value.now) }
+{
+    match value.as_str() {
+        Some(word) => bounds_named(word),
+        None => None,
+    }
+}
+
 /// True if a value is of a kind.
 pub(crate) fn is_of_kind(kind: ValueKind, value: &Value) -> bool
     ensures { result ≡ is_of_kind kind (view value.now) }
@@ -37,6 +49,7 @@ pub(crate) fn is_of_kind(kind: ValueKind, value: &Value) -> bool
     match kind {
         ValueKind::Within(least, most) => number_within(least as u64, most as u64, value).is_some(),
         ValueKind::Senders => senders_in(value).is_some(),
+        ValueKind::Named => bounds_in(value).is_some(),
         ValueKind::OfPlan(kind) => has_kind(kind, value),
     }
 }
@@ -56,11 +69,28 @@ pub(crate) fn number_at(table: &Table, key: Key, without: u32) -> u32
     }
 }
 
-/// Returns the quanta at a key, at most 255; without the key this number.
-pub(crate) fn segment_at(table: &Table, key: Key, without: u8) -> u8
+/// Returns the quanta at a key, at most 65,535; without the key this number.
+pub(crate) fn segment_at(table: &Table, key: Key, without: u16) -> u16
     ensures { result ≡ segment_at key without (table_view table.now) }
 {
-    number_at(table, key, without as u32).min(255) as u8
+    number_at(table, key, without as u32).min(65_535) as u16
+}
+
+/// Returns what the registers of the kind at a key hold; without the key the widest.
+pub(crate) fn bounds_at(table: &Table, key: Key) -> Bounds
+    ensures { result ≡ bounds_at key (table_view table.now) }
+{
+    match value_at(table, key) {
+        Some(value) => bounds_in(value).unwrap_or(widest_bounds()),
+        None => widest_bounds(),
+    }
+}
+
+/// True if the text is one of controllers whose PROP_SEG and PHASE_SEG1 are one length.
+pub(crate) fn has_joint_parts(top: &Table) -> bool
+    ensures { result ≡ has_joint_parts (table_view top.now) }
+{
+    number_at(top, Key::Version, 0) == VERSION_OF_CONTROLLERS
 }
 
 /// Returns who sends, at a key; any without the key.

@@ -1,10 +1,11 @@
 //! A listing as text.
 ghost use Rattle.std.specs.Prelude.{◌≡◌, ◌++◌, ◌<◌, ◌≤◌, ◌^◌, string_bytes, IfOk, OnOk, unwrap_or};
-ghost use Rattle.wl_settings.specs.Words.{controller_line, grown_words, error_words, failing_words, head_words, words_of_inequality, listing_words, line_at, words_of_spare, nearest_words, none_words, words_for_both, picoseconds_up, picoseconds_down, setting_line, row_lines, words_of_sample, setting_words, unless_rows};
+ghost use Rattle.wl_settings.specs.Words.{controller_line, grown_words, error_words, failing_words, head_words, words_of_inequality, listing_words, line_at, words_of_spare, nearest_words, none_words, words_for_both, picoseconds_up, picoseconds_down, setting_line, row_lines, words_of_sample, setting_words, unless_rows, words_of_parts};
 
 use crate::asked::{Asked, Controller, Setting};
 use crate::judged::{Refusal, WorkingSetting};
 use crate::listing::Listing;
+use crate::parts::Parts;
 use std::alloc::AllocError;
 use wl_bound::{Failure, Inequality};
 use wl_margin::Thousandths;
@@ -15,29 +16,32 @@ const MILLION: u128 = 1_000_000;
 /// The longest time that is written, in millionths of a tick.
 const LONGEST: u128 = 1 << 80;
 
+/// Adds the segments but for the jump width.
+fn push_parts(text: &mut String, parts: Parts) -> Result<(), AllocError>
+    ensures { OnOk result (string_bytes text.new ≡ string_bytes text.old ++ words_of_parts parts) }
+{
+    match parts {
+        Parts::Each { prop, ps1, ps2 } => write!(text, " prop {prop} ps1 {ps1} ps2 {ps2}"),
+        Parts::Joint { tseg1, tseg2 } => write!(text, " tseg1 {tseg1} tseg2 {tseg2}"),
+    }
+}
+
 /// Adds the registers of a setting.
 fn push_setting(text: &mut String, setting: Setting) -> Result<(), AllocError>
     ensures { OnOk result (string_bytes text.new ≡ string_bytes text.old ++ setting_words setting) }
 {
-    let Setting {
-        prescaler,
-        prop,
-        ps1,
-        ps2,
-        sjw,
-    } = setting;
-    write!(
-        text,
-        "prescaler {prescaler} prop {prop} ps1 {ps1} ps2 {ps2} sjw {sjw}"
-    )
+    let (prescaler, sjw) = (setting.prescaler, setting.sjw);
+    write!(text, "prescaler {prescaler}")?;
+    push_parts(text, setting.parts)?;
+    write!(text, " sjw {sjw}")
 }
 
 /// Adds the quanta of a bit and the sample point, in tenths of a percent.
 fn push_sample(text: &mut String, setting: Setting) -> Result<(), AllocError>
     ensures { OnOk result (string_bytes text.new ≡ string_bytes text.old ++ words_of_sample setting) }
 {
-    let quanta = setting.quanta();
-    let sample = (quanta - setting.ps2 as u64) * 1000 / quanta;
+    let quanta = setting.parts.quanta();
+    let sample = (quanta - setting.parts.after_sample() as u64) * 1000 / quanta;
     let (whole, tenth) = (sample / 10, sample % 10);
     write!(text, " quanta {quanta} sample {whole}.{tenth} %")
 }
@@ -52,7 +56,7 @@ fn push_error(
     ensures { OnOk result (string_bytes text.new
         ≡ string_bytes text.old ++ error_words asked.now controller.now setting) }
 {
-    let divisor = setting.divisor(asked.bitrate);
+    let divisor = setting.divisor(asked);
     let error = ((controller.clock as u128).abs_diff(divisor) * MILLION).div_ceil(divisor.max(1));
     write!(text, " error {error} ppm")
 }

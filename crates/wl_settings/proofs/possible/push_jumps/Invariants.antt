@@ -4,4 +4,4 @@ use Rattle.wl_settings.proofs.possible.push_jumps.Given as goal
 
 -- those so far come after the others
 abbrev pub invariant-loop-narrower : goal.invariant-loop-narrower
-invariant-loop-narrower l = l.all ≡ l.initial.all ++ each_under (λ narrower. only l.asked l.controller (record l.setting { sjw = 4 - narrower })) l.narrower
+invariant-loop-narrower l = l.all ≡ l.initial.all ++ each_under (λ narrower. only l.question.asked.now l.question.controller.now (record { prescaler = l.prescaler; parts = l.parts; sjw = l.question.controller.now.bounds.sjw - narrower })) l.narrower

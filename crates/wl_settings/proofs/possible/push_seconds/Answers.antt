@@ -1,12 +1,13 @@
 use Rattle.std.proofs.Common.{◌+◌}
 use Rattle.wl_settings.specs.Settings.{by_jump}
+use Rattle.wl_settings.specs.declared.parts.Parts.TheVariants.{Each}
 use Rattle.wl_settings.proofs.Growing.{none_more, one_more}
 use Rattle.wl_settings.proofs.possible.push_seconds.Goals as goal
 
 pub loop-more-preserved : goal.loop-more-preserved
 loop-more-preserved c =
-    one_more (λ more. by_jump c.args.asked.now c.args.controller.now (record c.args.setting { ps2 = 2 + more })) c.loop-more.more
+    one_more (λ more. by_jump c.args.question.now.asked.now c.args.question.now.controller.now c.args.prescaler (Each c.args.prop c.args.ps1 (2 + more))) c.loop-more.more
     c.args.all.now c.loop-more.all c.push_jumps.new.all c.loop-more.invariant c.in_ok-push_jumps.ensures
 
 pub loop-more-init : goal.loop-more-init
-loop-more-init c = none_more (λ more. by_jump c.args.asked.now c.args.controller.now (record c.args.setting { ps2 = 2 + more })) c.args.all.now
+loop-more-init c = none_more (λ more. by_jump c.args.question.now.asked.now c.args.question.now.controller.now c.args.prescaler (Each c.args.prop c.args.ps1 (2 + more))) c.args.all.now

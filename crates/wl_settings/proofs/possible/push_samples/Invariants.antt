@@ -1,0 +1,7 @@
+use Rattle.std.proofs.Common.{◌≡◌, ◌++◌, ◌+◌}
+use Rattle.wl_settings.specs.Settings.{each_under, by_sample}
+use Rattle.wl_settings.proofs.possible.push_samples.Given as goal
+
+-- those so far come after the others
+abbrev pub invariant-loop-more : goal.invariant-loop-more
+invariant-loop-more l = l.all ≡ l.initial.all ++ each_under (λ more. by_sample l.question.asked.now l.question.controller.now l.prescaler l.quanta (2 + more)) l.more

@@ -1,0 +1,13 @@
+//! Laws on the list of settings and on its order.
+ghost use Rattle.wl_settings.specs.SettingLaws.{HaveOwnPlaces, ListsAllSettings};
+
+/// Law: `possible_settings` has each setting that the registers hold, that has the bit rate and whose segments are those of a bit, and nothing
+/// else.
+pub fn all_settings_are_listed()
+    ensures { ListsAllSettings }
+{}
+
+/// Law: the order of the list puts no two settings of a controller at one place.
+pub fn settings_have_own_places()
+    ensures { HaveOwnPlaces }
+{}
