@@ -6,7 +6,8 @@ usage: package.py proved|elsewhere PROGRAM FOLDER    writes FOLDER/wireline-VERS
        package.py man PROGRAM                        writes the man page to standard output
 
 Both have the same files below one prefix: the program, the command `wireline`, the man page, completions, examples with their reports, the pages of 'use
-it' as one HTML file, and PROOF. The same sources and program give the same bytes: names are sorted, times are those of the commit, owners are root.
+it' as one HTML file, and PROOF. Beside the proved program they also have the library for C with its header, if tools/c_library.py made it of these sources.
+The same sources and program give the same bytes: names are sorted, times are those of the commit, owners are root.
 It takes git, dpkg-deb, gzip and cmark-gfm (Debian's packages of these names).
 """
 import base64
@@ -154,16 +155,31 @@ def use_html(version):
 
 # ---- What is proved
 
+LIBRARY = [("libwireline.a", "lib"), ("libwireline.so", "lib"), ("wireline.h", "include")]
+
+
+def sum_of(file):
+    with open(file, "rb") as it: return hashlib.sha256(it.read()).hexdigest()
+
+
+def library_folder(sources):
+    """Returns where the library for C is, if it was made of these sources; else None."""
+    folder = f"{TOP}/out/c"
+    note = f"{folder}/library.sum"
+    return folder if os.path.isfile(note) and text_of(note).strip() == sources else None
+
+
 def proof(program, version, is_proved):
     """Returns the text of PROOF. A program that was built elsewhere may be a proved one, but nothing here knows it."""
-    with open(program, "rb") as it: own = hashlib.sha256(it.read()).hexdigest()
-    sources = said("./wireline", "sum").strip()
+    own, sources = sum_of(program), said("./wireline", "sum").strip()
     kit = said("rt", "version").strip() if shutil.which("rt") else "not on the path where this was packed"
     claims = re.findall(r"(?ms)^## (.*?)\n\n(.*?)\n\n", text_of(f"{TOP}/docs/proof/claims.md"))
     unlinked = [(title, re.sub(r" *\(\[[^]]*\]\(.*", "", " ".join(text.split()))) for title, text in claims]
     claims = "\n".join(f"- {title}. {text}" for title, text in unlinked)
     head = (f"Wireline {version}\n\ncommit    {said('git', 'rev-parse', 'HEAD').strip()}\nkit       {kit}\nsources   sha256 {sources} (./wireline sum)\n"
-            f"program   sha256 {own}\n\n")
+            f"program   sha256 {own}\n")
+    folder = library_folder(sources) if is_proved else None
+    head += "".join(f"library   sha256 {sum_of(f'{folder}/{name}')} {name}\n" for name, _ in LIBRARY if folder) + "\n"
     if not is_proved: return head + "The program was built elsewhere, and was not made from these sources here: nothing is said of a proof of it.\n"
     return (f"{head}Each function of the program is proved to meet its contract, by the kit that is named above. The promises are:\n\n{claims}\n\n"
             "What is only tested, and what is trusted (the kit, the C library, the machine), is said in the pages on proof of the sources.\n")
@@ -234,6 +250,10 @@ def stage(program, version, root, is_proved):
     put("share/man/man1/wireline.1.gz", squeezed(man(program).encode()))
     put("share/doc/wireline/use.html", use_html(version))
     put("share/doc/wireline/PROOF", proof(program, version, is_proved))
+    folder = library_folder(said("./wireline", "sum").strip()) if is_proved else None
+    for name, place in LIBRARY if folder else []:
+        with open(f"{folder}/{name}", "rb") as it: put(f"{place}/{name}", it.read())
+    if not folder: print("left out: the library for C, which `tools/c_library.py out/c` makes beside the proved program")
     for file in said("git", "ls-files", "examples").split("\n"):
         if file:
             with open(f"{TOP}/{file}", "rb") as it: put(f"share/wireline/{file}", it.read())

@@ -1,0 +1,157 @@
+-- What the runs of engines over a text in memory say of the text itself.
+use Rattle.std.proofs.Common.{◌≡◌, ◌≤◌, ◌<◌, ◌∙◌, ℕ, List, [], ◌++◌, length, sym, ap, subst, arith, inl, inr, if◌then◌else◌, MatchBool, Result, Ok, Err, length-append}
+use Rattle.std.proofs.lemmas.Bool.{le-leb, lt-leb}
+use Rattle.std.proofs.lemmas.List.{append-nil}
+use Rattle.wl_device.specs.Bounded.{ReadsUpTo}
+use Rattle.wl_device.specs.Devices.{Run, moved_bytes}
+use Rattle.wl_device.specs.Limits.{most_calls-is}
+use Rattle.wl_device.specs.declared.bounded.Ended.{Ended}
+use Rattle.wl_device.specs.declared.bounded.Ended.TheVariants as reading
+use Rattle.wl_plan.specs.declared.plan.Plan.{Plan}
+use Rattle.wl_setup.specs.Buses.{GivesBus, bus_of_text}
+use Rattle.wl_setup.specs.Limits.{most_bytes, most_bytes-is}
+use Rattle.wl_setup.specs.Plans.{GivesPlan, after, named_plan_of}
+use Rattle.wl_setup.specs.Reading.{reading_answer, text_answer}
+use Rattle.wl_setup.specs.declared.bus.Bus.{Bus}
+use Rattle.wl_setup.specs.declared.fault.SetupFault.{SetupFault}
+use Rattle.wl_setup.specs.declared.fault.SetupFault.TheVariants as setup
+use Rattle.wl_explain.specs.Condition.{IsExplanation}
+use Rattle.wl_explain.specs.Refusals.{IsRefusal, size_words}
+use Rattle.wl_traffic.specs.Traffic.{traffic_text}
+use Rattle.wl_traffic.specs.declared.reason.Reason.{Reason}
+use Rattle.wl_views.specs.declared.tick.Tick.{Tick}
+use Rattle.wl_engines.specs.Explained.{Explains, ExplainsReading}
+use Rattle.wl_engines.specs.Margin.{RunsBus}
+use Rattle.wl_engines.specs.Plans.{RunsPlan}
+use Rattle.wl_engines.specs.TrafficRun.{IsTrafficOutput, RunsTraffic}
+use Rattle.wl_engines.specs.declared.fault.RunFault.{RunFault}
+use Rattle.wl_engines.specs.declared.fault.RunFault.TheVariants.{Setup}
+use Rattle.wl_c.proofs.Reading.{gives, takes, rest_came, none_left, never_fails, few_calls, wrote, wrote_front}
+use Rattle.wl_c.specs.Made.{ByMade, IsMade, without_reason}
+use Rattle.wl_c.specs.Texts.{AreWordsOn, ExplainsRefusal, HasNoBus, HasNoPlan, IsOfBus, IsOfPlan, bus_read, plan_read, text_read}
+use Rattle.wl_c.specs.declared.engines.Made.{Made}
+use Rattle.wl_c.specs.declared.engines.Made.TheVariants.{Output, Refusal, OutOfMemory}
+
+within : (text : List ℕ) → length text ≤ most_bytes → text_read text ≡ text_answer text
+within text few = ap (λ b. if b then text_answer text else Err setup.Size) (le-leb (length text) most_bytes few)
+
+beyond : (text : List ℕ) → most_bytes < length text → text_read text ≡ Err setup.Size
+beyond text many = ap (λ b. if b then text_answer text else Err setup.Size) (lt-leb (length text) most_bytes many)
+
+module _ {S : Type 0} (rest : S → List ℕ) (s s' : S) (text : List ℕ) where
+  -- what was read up to its end is the text
+  whole : ReadsUpTo (gives rest) s most_bytes text reading.End s' → (text ≡ rest s) × (length text ≤ most_bytes)
+  whole (answers, by, few) =
+      let none : rest s' ≡ [] = none_left rest by.ends.0 s s' (subst (λ all. Run (gives rest) s all s') by.ends.1 by.run) in (
+        sym by.bytes_are ∙ sym (append-nil (moved_bytes answers)) ∙ ap (λ l. moved_bytes answers ++ l) (sym none) ∙ sym (rest_came rest answers s s' by.run),
+        subst (λ (l : List ℕ). length l ≤ most_bytes) by.bytes_are few,
+      )
+
+  -- the reader doesn't break off
+  unbroken : ReadsUpTo (gives rest) s most_bytes text reading.Broken s' → ⊥
+  unbroken (answers, by, few) = elim by.ends [
+    | inl f ↦ never_fails rest f.0 s s' (subst (λ all. Run (gives rest) s all s') f.1 by.run)
+    | inr f ↦ omega (arith, f.0, few, few_calls rest answers s s' f.1 by.run, most_calls-is, most_bytes-is)
+  ]
+
+  -- what is too much is of a text that is too long
+  too_long : ReadsUpTo (gives rest) s most_bytes text reading.Full s' → most_bytes < length (rest s)
+  too_long (answers, by, keep) =
+      omega (arith, keep.4, ap length (rest_came rest answers s s' by.run), length-append (moved_bytes answers) (rest s'))
+
+module _ {S : Type 0} (rest : S → List ℕ) (s s' : S) where
+  read_is : (text : List ℕ) (e : Ended) → ReadsUpTo (gives rest) s most_bytes text e s' → text_read (rest s) ≡ reading_answer e text
+  read_is text reading.End r = let w : (text ≡ rest s) × (length text ≤ most_bytes) = whole rest s s' text r in ap text_read (sym w.0) ∙ within text w.1
+  read_is text reading.Broken r = absurd (unbroken rest s s' text r)
+  read_is text reading.Full r = beyond (rest s) (too_long rest s s' text r)
+
+  -- the plan, or the fault, that the reader gave is the text's
+  plan_is : (answer : Result (Plan × List (List ℕ)) SetupFault) → GivesPlan (gives rest) s answer s' → plan_read (rest s) ≡ answer
+  plan_is answer g =
+      ap (λ x. after x named_plan_of) (read_is g.1.0 g.1.1 g.1.2 ∙ sym g.1.3) ∙ sym g.2
+
+  bus_is : (answer : Result Bus SetupFault) → GivesBus (gives rest) s answer s' → bus_read (rest s) ≡ answer
+  bus_is answer g =
+      ap (λ x. after x bus_of_text) (read_is g.1.0 g.1.1 g.1.2 ∙ sym g.1.3) ∙ sym g.2
+
+module _ {S T : Type 0} (rest : S → List ℕ) (bytes : T → List ℕ) (s s' : S) (t t' : T) (none : bytes t ≡ []) where
+  -- of a run over a plan
+  pub plan_made : (IsOutput : Plan → List (List ℕ) → List ℕ → Type 0) (answer : Result (Unit {0}) RunFault) (made : Made)
+      → RunsPlan (gives rest) (takes bytes) IsOutput s s' t t' answer → IsMade answer (bytes t') made
+      → ByMade (IsOfPlan (rest s) IsOutput) (HasNoPlan (rest s)) made
+  plan_made IsOutput answer (Output v) h m =
+      let r : RunsPlan (gives rest) (takes bytes) IsOutput s s' t t' (Ok tt) = subst (λ a. RunsPlan (gives rest) (takes bytes) IsOutput s s' t t' a) m.0 h in
+      (r.0, r.1, plan_is rest s s' (Ok (r.0, r.1)) r.3, subst (λ (x : List ℕ). IsOutput r.0 r.1 x) (sym (m.1 ∙ wrote bytes r.2 t t' none r.5)) r.4)
+  plan_made IsOutput answer (Refusal v) h m =
+      let r : RunsPlan (gives rest) (takes bytes) IsOutput s s' t t' (Err (Setup m.0)) = subst (λ a. RunsPlan (gives rest) (takes bytes) IsOutput s s' t t' a) m.1 h in
+      (m.0, r.0.0, plan_is rest s s' (Err m.0) r.0.1, m.2 ∙ ap bytes r.1 ∙ none)
+  plan_made IsOutput answer OutOfMemory h m = tt
+
+  -- of a run over a bus
+  pub bus_made : (IsOutput : Bus → List ℕ → Type 0) (answer : Result (Unit {0}) RunFault) (made : Made)
+      → RunsBus (gives rest) (takes bytes) IsOutput s s' t t' answer → IsMade answer (bytes t') made
+      → ByMade (IsOfBus (rest s) IsOutput) (HasNoBus (rest s)) made
+  bus_made IsOutput answer (Output v) h m =
+      let r : RunsBus (gives rest) (takes bytes) IsOutput s s' t t' (Ok tt) = subst (λ a. RunsBus (gives rest) (takes bytes) IsOutput s s' t t' a) m.0 h in
+      (r.0, bus_is rest s s' (Ok r.0) r.2, subst (λ (x : List ℕ). IsOutput r.0 x) (sym (m.1 ∙ wrote bytes r.1 t t' none r.4)) r.3)
+  bus_made IsOutput answer (Refusal v) h m =
+      let r : RunsBus (gives rest) (takes bytes) IsOutput s s' t t' (Err (Setup m.0)) = subst (λ a. RunsBus (gives rest) (takes bytes) IsOutput s s' t t' a) m.1 h in
+      (m.0, r.0.0, bus_is rest s s' (Err m.0) r.0.1, m.2 ∙ ap bytes r.1 ∙ none)
+  bus_made IsOutput answer OutOfMemory h m = tt
+
+  -- of a run that wrote the traffic
+  traffic_done : (tick : Tick) (reason : Reason) → RunsTraffic (gives rest) (takes bytes) tick s s' t t' (Ok reason)
+      → IsOfPlan (rest s) (IsTrafficOutput tick) (bytes t')
+  traffic_done tick reason h = (h.0, h.1, plan_is rest s s' (Ok (h.0, h.1)) h.2, wrote bytes (traffic_text tick h.0 h.1) t t' none h.4)
+
+  pub traffic_made : (tick : Tick) (answer : Result Reason RunFault) (made : Made)
+      → RunsTraffic (gives rest) (takes bytes) tick s s' t t' answer → IsMade (without_reason answer) (bytes t') made
+      → ByMade (IsOfPlan (rest s) (IsTrafficOutput tick)) (HasNoPlan (rest s)) made
+  traffic_made tick (Ok reason) (Output v) h m = subst (λ (x : List ℕ). IsOfPlan (rest s) (IsTrafficOutput tick) x) (sym m.1) (traffic_done tick reason h)
+  traffic_made tick (Ok reason) (Refusal v) h m = cc
+  traffic_made tick (Ok reason) OutOfMemory h m = tt
+  traffic_made tick (Err fault) made h m = plan_made (IsTrafficOutput tick) (Err fault) made h m
+
+  -- of an explanation
+  explained : (text : List ℕ) (e : Ended) → ReadsUpTo (gives rest) s most_bytes text e s'
+      → ExplainsReading (takes bytes) e text t t' (Ok tt) → IsOfBus (rest s) IsExplanation (bytes t')
+  explained text reading.End r h =
+      (h.0, ap (λ x. after x bus_of_text) (read_is rest s s' text reading.End r) ∙ h.2, subst (λ (x : List ℕ). IsExplanation h.0 x) (sym (wrote bytes h.1 t t' none h.4)) h.3)
+  explained text reading.Broken r h = absurd (unbroken rest s s' text r)
+  explained text reading.Full r h = cc
+
+  refused : (text : List ℕ) (e : Ended) (fault : SetupFault) → ReadsUpTo (gives rest) s most_bytes text e s'
+      → ExplainsReading (takes bytes) e text t t' (Err (Setup fault)) → ExplainsRefusal (rest s) (bytes t')
+  refused text reading.End fault r h =
+      let w : (text ≡ rest s) × (length text ≤ most_bytes) = whole rest s s' text r in
+      let front : (more : List ℕ) × (bytes t' ++ more ≡ h.2) = wrote_front bytes h.2 t t' h.4.0 none h.4.1 in
+      let words : IsRefusal text fault (bytes t' ++ front.0) = subst (IsRefusal text fault) (sym front.1) h.3 in (
+        fault,
+        front.0,
+        h.0,
+        ap (λ x. after x bus_of_text) (read_is rest s s' text reading.End r) ∙ h.1,
+        subst (λ x. AreWordsOn x fault (bytes t' ++ front.0)) w.0
+            (subst (λ b. MatchBool b (IsRefusal text fault (bytes t' ++ front.0)) (bytes t' ++ front.0 ≡ size_words)) (sym (le-leb (length text) most_bytes w.1)) words),
+      )
+  refused text reading.Broken fault r h = absurd (unbroken rest s s' text r)
+  refused text reading.Full fault r h =
+      let many : most_bytes < length (rest s) = too_long rest s s' text r in
+      let is : fault ≡ setup.Size = cc in
+      let front : (more : List ℕ) × (bytes t' ++ more ≡ size_words) = wrote_front bytes size_words t t' h.1.0 none h.1.1 in (
+        fault,
+        front.0,
+        (λ e. cc),
+        ap (λ x. after x bus_of_text) (beyond (rest s) many) ∙ ap (λ f. Err f) (sym is),
+        subst (λ b. MatchBool b (IsRefusal (rest s) fault (bytes t' ++ front.0)) (bytes t' ++ front.0 ≡ size_words)) (sym (lt-leb (length (rest s)) most_bytes many)) front.1,
+      )
+
+  pub explanation_made : (answer : Result (Unit {0}) RunFault) (made : Made)
+      → Explains (gives rest) (takes bytes) s s' t t' answer → IsMade answer (bytes t') made
+      → ByMade (IsOfBus (rest s) IsExplanation) (ExplainsRefusal (rest s)) made
+  explanation_made answer (Output v) h m =
+      let r : Explains (gives rest) (takes bytes) s s' t t' (Ok tt) = subst (λ a. Explains (gives rest) (takes bytes) s s' t t' a) m.0 h in
+      subst (IsOfBus (rest s) IsExplanation) (sym m.1) (explained r.0 r.1 r.2 r.3)
+  explanation_made answer (Refusal v) h m =
+      let r : Explains (gives rest) (takes bytes) s s' t t' (Err (Setup m.0)) = subst (λ a. Explains (gives rest) (takes bytes) s s' t t' a) m.1 h in
+      subst (ExplainsRefusal (rest s)) (sym m.2) (refused r.0 r.1 m.0 r.2 r.3)
+  explanation_made answer OutOfMemory h m = tt

@@ -1,0 +1,3 @@
+mod Direct
+mod Ending
+mod Reading

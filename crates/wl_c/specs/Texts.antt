@@ -1,0 +1,83 @@
+-- What the commands say of a plan's text (this project's profile).
+use Rattle.std.specs.Prelude.{◌≡◌, ◌≢◌, nat_le, ℕ, MatchBool, List, [], ◌++◌, length, if◌then◌else◌, Result, Ok, Err}
+use Rattle.wl_plan.specs.declared.plan.Plan.{Plan}
+use Rattle.wl_setup.specs.Buses.{bus_of_text}
+use Rattle.wl_setup.specs.Check.{IsPlanCheck}
+use Rattle.wl_setup.specs.Limits.{most_bytes}
+use Rattle.wl_setup.specs.Plans.{after, named_plan_of}
+use Rattle.wl_setup.specs.Reading.{text_answer}
+use Rattle.wl_setup.specs.declared.bus.Bus.{Bus}
+use Rattle.wl_setup.specs.declared.fault.SetupFault.{SetupFault}
+use Rattle.wl_setup.specs.declared.fault.SetupFault.TheVariants as setup
+use Rattle.wl_setup.specs.declared.plan_text.PlanText.{PlanText}
+use Rattle.wl_explain.specs.Condition.{IsExplanation}
+use Rattle.wl_explain.specs.Refusals.{IsRefusal, size_words}
+use Rattle.wl_engines.specs.Margin.{IsMarginOutput}
+use Rattle.wl_engines.specs.Plans.{IsRunOutput}
+use Rattle.wl_engines.specs.TrafficRun.{IsTrafficOutput}
+use Rattle.wl_c.specs.declared.asked.Task.{Task}
+use Rattle.wl_c.specs.declared.asked.Task.TheVariants.{Run, Check, Explain, Margin, Traffic}
+use Rattle.wl_c.specs.declared.status.Status.{Status}
+use Rattle.wl_c.specs.declared.status.Status.TheVariants.{Done, Refused, Asked, Memory, Room, Shape}
+
+-- what the document of a text says, or the text's first fault; a text that is too long has the fault Size
+abbrev pub text_read : List ℕ → Result PlanText SetupFault
+text_read text = if nat_le (length text) most_bytes then text_answer text else Err setup.Size
+
+-- the plan of a text and the names of its nodes, or its first fault
+abbrev pub plan_read : List ℕ → Result (Plan × List (List ℕ)) SetupFault
+plan_read text = after (text_read text) named_plan_of
+
+-- the bus of a text, or its first fault
+abbrev pub bus_read : List ℕ → Result Bus SetupFault
+bus_read text = after (text_read text) bus_of_text
+
+module _ (text : List ℕ) where
+  -- the output of a plan's simulation
+  abbrev pub IsOfPlan : (Plan → List (List ℕ) → List ℕ → Type 0) → List ℕ → Type 0
+  IsOfPlan IsOutput said = (plan : Plan) × (names : List (List ℕ)) × (plan_read text ≡ Ok (plan, names)) × IsOutput plan names said
+
+  -- the output of a bus
+  abbrev pub IsOfBus : (Bus → List ℕ → Type 0) → List ℕ → Type 0
+  IsOfBus IsOutput said = (bus : Bus) × (bus_read text ≡ Ok bus) × IsOutput bus said
+
+  -- the output of a command
+  abbrev pub IsOutputOf : Task → List ℕ → Type 0
+  IsOutputOf Run said = IsOfPlan IsRunOutput said
+  IsOutputOf Check said = IsOfPlan IsPlanCheck said
+  IsOutputOf Explain said = IsOfBus IsExplanation said
+  IsOutputOf (Margin tick all) said = IsOfBus (IsMarginOutput tick all) said
+  IsOutputOf (Traffic tick) said = IsOfPlan (IsTrafficOutput tick) said
+
+  -- no plan is read from the text, but this fault, and nothing is said of that
+  abbrev pub HasNoPlan : List ℕ → Type 0
+  HasNoPlan said = (fault : SetupFault) × (fault ≢ setup.Memory) × (plan_read text ≡ Err fault) × (said ≡ [])
+
+  abbrev pub HasNoBus : List ℕ → Type 0
+  HasNoBus said = (fault : SetupFault) × (fault ≢ setup.Memory) × (bus_read text ≡ Err fault) × (said ≡ [])
+
+  -- the words on a text that is refused, or on one that is too long
+  abbrev pub AreWordsOn : SetupFault → List ℕ → Type 0
+  AreWordsOn fault words = MatchBool (nat_le (length text) most_bytes) (IsRefusal text fault words) (words ≡ size_words)
+
+  -- what is wrong with the text is said, and what to change; if memory runs out, only the front of that
+  abbrev pub ExplainsRefusal : List ℕ → Type 0
+  ExplainsRefusal said =
+      (fault : SetupFault) × (rest : List ℕ) × (fault ≢ setup.Memory) × (bus_read text ≡ Err fault) × AreWordsOn fault (said ++ rest)
+
+  -- what a command says of a text that is refused
+  abbrev pub IsRefusalOf : Task → List ℕ → Type 0
+  IsRefusalOf Run said = HasNoPlan said
+  IsRefusalOf Check said = HasNoPlan said
+  IsRefusalOf Explain said = ExplainsRefusal said
+  IsRefusalOf (Margin tick all) said = HasNoBus said
+  IsRefusalOf (Traffic tick) said = HasNoPlan said
+
+  -- what a command says, and whether it is the output or a refusal
+  abbrev pub Says : Task → Status → List ℕ → Type 0
+  Says task Done said = IsOutputOf task said
+  Says task Refused said = IsRefusalOf task said
+  Says task Asked said = ⊥
+  Says task Memory said = ⊥
+  Says task Room said = ⊥
+  Says task Shape said = ⊥

@@ -1,0 +1,107 @@
+//! The engines over a text in memory.
+ghost use Rattle.std.specs.Prelude.{◌≡◌};
+ghost use Rattle.wl_c.specs.Made.{IsMade, Makes, without_reason};
+
+use crate::asked::Task;
+use crate::reader::TextReader;
+use std::alloc::Global;
+use wl_engines::{
+    Kept, Reason, RunFault, check_run, explain_run, margin_run, plan_run, traffic_run,
+};
+use wl_views::Tick;
+
+/// What an engine made of a text.
+#[derive(Drop)]
+pub(crate) enum Made {
+    /// The whole output.
+    Output(Vec<u8>),
+    /// What is said of a text that is refused: nothing, but by an explanation.
+    Refusal(Vec<u8>),
+    /// Nothing, for want of memory.
+    OutOfMemory,
+}
+
+/// Returns what an engine with this answer made, which it wrote into memory.
+fn made_by(answer: Result<(), RunFault>, kept: Kept) -> Made
+    ensures { IsMade answer kept.bytes.items result }
+{
+    match answer {
+        Ok(()) => Made::Output(kept.bytes),
+        Err(RunFault::Setup(_)) => Made::Refusal(kept.bytes),
+        Err(_) => Made::OutOfMemory,
+    }
+}
+
+/// Returns the report of a plan's simulation.
+fn run_of(alloc: Global, text: &[u8]) -> Made
+    ensures { Makes Task.Run text.now result }
+{
+    let mut reader = TextReader { rest: text };
+    let mut kept = Kept::new(alloc);
+    let answer = plan_run(alloc, &mut reader, &mut kept);
+    made_by(answer, kept)
+}
+
+/// Returns the check of a plan.
+fn check_of(alloc: Global, text: &[u8]) -> Made
+    ensures { Makes Task.Check text.now result }
+{
+    let mut reader = TextReader { rest: text };
+    let mut kept = Kept::new(alloc);
+    let answer = check_run(alloc, &mut reader, &mut kept);
+    made_by(answer, kept)
+}
+
+/// Returns the explanation of a plan, or of its refusal.
+fn explanation_of(alloc: Global, text: &[u8]) -> Made
+    ensures { Makes Task.Explain text.now result }
+{
+    let mut reader = TextReader { rest: text };
+    let mut kept = Kept::new(alloc);
+    let answer = explain_run(alloc, &mut reader, &mut kept);
+    made_by(answer, kept)
+}
+
+/// Returns the margin of a plan's bus.
+fn margin_of(alloc: Global, tick: Tick, all_send: bool, text: &[u8]) -> Made
+    ensures { Makes (Task.Margin tick all_send) text.now result }
+{
+    let mut reader = TextReader { rest: text };
+    let mut kept = Kept::new(alloc);
+    let answer = margin_run(alloc, tick, all_send, &mut reader, &mut kept);
+    made_by(answer, kept)
+}
+
+/// Returns the answer of a run whose traffic was written, without why it didn't work.
+fn without_reason(answer: Result<Reason, RunFault>) -> Result<(), RunFault>
+    ensures { result ≡ without_reason answer }
+{
+    match answer {
+        Ok(_) => Ok(()),
+        Err(fault) => Err(fault),
+    }
+}
+
+/// Returns the traffic of a plan's simulation.
+fn traffic_of(alloc: Global, tick: Tick, text: &[u8]) -> Made
+    ensures { Makes (Task.Traffic tick) text.now result }
+{
+    let mut reader = TextReader { rest: text };
+    let mut kept = Kept::new(alloc);
+    let found = traffic_run(alloc, tick, &mut reader, &mut kept);
+    let answer = without_reason(found);
+    made_by(answer, kept)
+}
+
+/// Returns what a command says of a text.
+pub(crate) fn make(alloc: Global, task: Task, text: &[u8]) -> Made
+    ensures { Makes task text.now result }
+{
+    match task {
+        Task::Run => run_of(alloc, text),
+        Task::Check => check_of(alloc, text),
+        Task::Explain => explanation_of(alloc, text),
+        Task::Margin(tick, all_send) => margin_of(alloc, tick, all_send, text),
+        Task::Traffic(tick) => traffic_of(alloc, tick, text),
+    }
+}
