@@ -73,7 +73,7 @@ class Checked:
 def moves(check, browser, end):
     """Keys, wheel and drag change the part that is shown, and the picture with it."""
     picture = "(draw(), plot.toDataURL())"
-    browser.value("plot.scrollIntoView({ block: 'center' }), plot.focus()")
+    browser.value("plot.focus({ preventScroll: true }), scrollBy(0, plot.getBoundingClientRect().y - 250)")  # below the axis, which stays in sight
     whole = browser.value(picture)
     x, y = browser.value("(({x, y}) => [x + 500, y + 60])(plot.getBoundingClientRect())")
     browser.press("+", 4)
@@ -488,8 +488,7 @@ def text_faults(check, browser, program, plan, words):
     frames = report.count("\nframe ")
     for scheme in ("dark", "light"):
         browser.media(scheme)
-        browser.value("draw([0, nodes.length])")
-        check.same("document.documentElement.dataset.frames", str(frames), f"frames in {scheme} colours")
+        check.same("(draw([0, nodes.length]), document.documentElement.dataset.frames)", str(frames), f"frames in {scheme} colours")
     return frames
 
 
