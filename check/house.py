@@ -1,7 +1,7 @@
 #!/usr/bin/env python3
 """Looks for what makes the sources hard to read, and fails if it finds something that accepted.txt doesn't have with a reason.
 
-usage: house.py [--all] [repeats|wide|names|unused|long|english|large|wordy|dated|comments|links|quotes|cites|edits|flags]..
+usage: house.py [--all] [repeats|wide|names|unused|long|english|large|wordy|trade|dated|comments|links|quotes|cites|edits|flags]..
        all of them if none is named; --all shows what is accepted, too
 
 repeats  lemma statements that stand more than once, up to the names of their variables (definitions and proofs are read, bodies not; a module's own
@@ -13,6 +13,7 @@ long     files of more than 800 lines, functions of more than 40
 english  of each page: sentences of more than 30 words, lines of more than 100 columns, and words that CONTRIBUTING asks not to use
 large    pages of more than 20 KB
 wordy    pages of which more than 8 % of the words are it, one, that, those, what, this, other, so or such: a thing is named again
+trade    words of ours in pages for which the trade has a word
 dated    dates in pages of docs/: a page says what is, and bench/results.tsv has what was measured when
 comments of the doc comments of src/: sentences of more than 30 words, words to avoid, and functions with an answer whose comment doesn't begin with
          it ('Returns ..', 'True if ..') or with a verb
@@ -225,6 +226,26 @@ def wordy():
             yield name, f"{name} {share:.1f} %"
 
 
+# Words of ours, and what the trade says; words of code don't count
+TRADE = {
+    r"guess(es|ed|ing)?": "speculate, or in a proof assume",
+    r"trails?": "checkpoint",
+    r"(rings?|rang) (a|the|its) bell|is rung": "wake up",
+    r"claims? (a|the|each|its) (word|change|quantum)": "commit or vote",
+    r"here follows": "a verb with its actor",
+    r"that night|later that|(this|the) (morning|evening)": "nothing: a page says what is",
+}
+
+
+def trade():
+    for path in pages():
+        name = path.relative_to(TOP)
+        for line, words in sentences(path.read_text(encoding="utf-8")):
+            for ours, theirs in TRADE.items():
+                found = re.search(rf"\b(?:{ours})\b", " ".join(words), re.I)
+                if found: yield name, f"{name}:{line} '{found[0]}': {theirs}"
+
+
 MONTHS = "January|February|March|April|May|June|July|August|September|October|November|December"
 
 
@@ -390,7 +411,7 @@ def accepted():
 
 
 def main():
-    every = {it.__name__: it for it in (repeats, wide, names, unused, long, english, large, wordy, dated, comments, links, quotes, cites, edits, flags)}
+    every = {it.__name__: it for it in (repeats, wide, names, unused, long, english, large, wordy, trade, dated, comments, links, quotes, cites, edits, flags)}
     words, left, bad = sys.argv[1:], accepted(), 0
     show = "--all" in words
     for kind in [it for it in words if it != "--all"] or every:

@@ -1,5 +1,5 @@
 #!/usr/bin/env python3
-"""The margin of a bus, by an independent program: what `margin` has to write of a plan, from the three inequalities as docs/use/margins.md has them.
+"""The margin of a bus, by an independent program: what `margin` has to write of a plan, from the three inequalities as docs/bus/condition.md has them.
 
 usage: margin.py [--tick TIME] [--all-send] < PLAN
 
@@ -129,7 +129,7 @@ class Bus:
         return chase[k] * (10 * self.drift(i, k) + max(0, self.sjw[i] * self.high[i] - self.jump[k]))
 
     def lacks(self):
-        """Yields what the bus lacks of the room of docs/use/margins.md (Room for any senders), node by node: kind, both nodes, what is taken, and the
+        """Yields what the bus lacks of the room of docs/bus/condition.md (The room), node by node: kind, both nodes, what is taken, and the
         time that there is. One pair's inequalities come in the order of the table."""
         d, nodes = self.delay, range(self.n)
         far = {(k, w): d(k, w) + d(w, k) + self.look[k] + max(0, self.high[w] - d(w, w)) - self.low[k] for k in nodes for w in self.others(k)}

@@ -1,5 +1,5 @@
 #!/usr/bin/env python3
-"""The tables of docs/use/margins.md and docs/proof/margins-tried.md: longest cable and greatest tolerance of some settings, by the condition for a sound bus and by the classical rules.
+"""The tables of docs/proof/margins-tried.md: longest cable and greatest tolerance of some settings, by the condition for a sound bus and by the classical rules.
 
 A plain copy of the definition (crates/wl_bound/specs) for clocks of one rate, in whole numbers: millionths of a nanosecond. The nodes sit at 0, X
 and X metres, 5 ns a metre, and each takes 250 ns out and in, if nothing else is said.

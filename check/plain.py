@@ -7,7 +7,7 @@ This is a second program, written from the rules and not from the proved one: wh
 Where both answer the same bytes on many inputs, a mistake would have to be in both. It shares no line with the proved program.
 
 Rules of the bus are from the Bosch CAN Specification 2.0 (1991) and ISO 11898-1; the section stands behind each, as (B 3.2.1) for
-section 3.2.1 of part B. What they leave open is this project's profile, marked (P); docs/change/DECISIONS.md lists it.
+section 3.2.1 of part B. What they leave open is this project's profile, marked (P), here and in docs/bus/.
 Plan texts are read by Python's tomllib, which knows TOML 1.0; the proved program takes TOML 1.1.
 """
 import re
