@@ -6,6 +6,7 @@ pub mod KeptBits
 pub mod Laws
 pub mod Limits
 pub mod Marks
+pub mod Queues
 pub mod Quiet
 pub mod Reached
 pub mod IdleBits

@@ -25,5 +25,5 @@ pub use mark::Mark;
 pub use node::{Node, NodeLists};
 pub use phase_totals::PhaseTotals;
 pub use samples::{SampleList, Samples};
-pub use setup::{NodeSetup, Passed, Queue, Queued};
+pub use setup::{NodeSetup, Passed, Queue, QueueOrder, Queued};
 pub use wl_limits::MOST_RUN_QUANTA;
