@@ -1,5 +1,5 @@
 -- A node as a function of its setup and of all levels that it has seen, one for each quantum, the oldest first.
-use Rattle.std.specs.Prelude.{ℕ, ℤ, Bool, true, false, List, [], ◌∷◌, ◌++◌, length, take, drop, map, count_by, fold, Option, Some, None}
+use Rattle.std.specs.Prelude.{ℕ, ◌-◌, min, nat_le, nat_lt, ℤ, Bool, true, false, List, [], ◌∷◌, ◌++◌, length, take, drop, map, count_by, fold, Option, Some, None}
 use Rattle.std.specs.List.{flat_map}
 use Rattle.wl_level.specs.declared.Level.{Level}
 use Rattle.wl_level.specs.declared.Level.TheVariants.{Dominant, Recessive}
@@ -136,10 +136,33 @@ abbrev pub left_history : History → List Level → History
 left_history h [] = h
 left_history h (level ∷ levels) = record h { seen = h.seen ++ map (seen_next (record h { drive = Recessive })) (level ∷ levels); drive = Recessive }
 
--- a node that leaves the bus at this quantum, if there is one: it is where the levels before it put it, and stays there (this project's profile)
+-- the levels that a node sees before it leaves the bus, at this quantum or never, and those of the quanta after that
+abbrev pub levels_there : Option ℕ → List Level → List Level
+levels_there None levels = levels
+levels_there (Some n) levels = take n levels
+
+abbrev pub levels_away : Option ℕ → List Level → List Level
+levels_away None levels = []
+levels_away (Some n) levels = drop n levels
+
+-- a quantum is one at which it isn't there any more
+abbrev pub is_after : Option ℕ → ℕ → Bool
+is_after None quantum = false
+is_after (Some n) quantum = nat_le n quantum
+
+-- how many of so many quanta, from this one on, come before it leaves
+abbrev pub quanta_before : Option ℕ → ℕ → ℕ → ℕ
+quanta_before None quantum most = most
+quanta_before (Some n) quantum most = min most (n - quantum)
+
+-- it has left: a quantum has come at which it wasn't there any more
+abbrev pub has_left : Option ℕ → List Level → Bool
+has_left None levels = false
+has_left (Some n) levels = nat_lt n (length levels)
+
+-- a node that leaves the bus then: it is where the levels before it put it, and stays there (this project's profile)
 abbrev pub history_until : Option ℕ → NodeSetup → List Level → History
-history_until None setup levels = staying_history setup levels
-history_until (Some n) setup levels = left_history (staying_history setup (take n levels)) (drop n levels)
+history_until until setup levels = left_history (staying_history setup (levels_there until levels)) (levels_away until levels)
 
 -- a node after the levels that it saw at its quanta
 unfoldable pub history_of : NodeSetup → List Level → History

@@ -46,6 +46,11 @@ abbrev pub head_by : QueueOrder → List Queued → ℕ → Option Content
 head_by Fifo unsent quantum = ready_head unsent quantum
 head_by Priority unsent quantum = least_frame (waiting_frames unsent quantum)
 
+-- the first of a queue
+abbrev pub first_frame : List Queued → Option Content
+first_frame [] = None
+first_frame (q ∷ qs) = Some q.frame
+
 -- a queue without the first of this content
 abbrev pub queue_without : Content → List Queued → List Queued
 queue_without frame [] = []

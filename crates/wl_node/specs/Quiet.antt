@@ -12,7 +12,7 @@ use Rattle.wl_machine.specs.Judged.{stretch_of, drive_of}
 use Rattle.wl_machine.specs.Silence.{silence_of}
 use Rattle.wl_node.specs.declared.setup.Queued.{Queued}
 use Rattle.wl_node.specs.declared.setup.NodeSetup.{NodeSetup}
-use Rattle.wl_node.specs.History.{History, staying_history, history_of, unsent_of}
+use Rattle.wl_node.specs.History.{History, staying_history, history_of, has_left, unsent_of}
 use Rattle.wl_node.specs.Limits.{most_quiet}
 
 -- the level that the machine wants since the last sample, which the next bit's start puts on the line
@@ -62,12 +62,14 @@ abbrev pub quiet_up_to : ℕ → Level → ℕ → ℕ
 quiet_up_to left Dominant quiet = min left quiet
 quiet_up_to left Recessive quiet = quiet
 
--- by the quantum at which it leaves, if there is one: a node that has left keeps its recessive drive
+-- by the quantum at which it leaves, if there is one
+abbrev pub quiet_before : Option ℕ → NodeSetup → List Level → ℕ
+quiet_before None setup levels = quiet_at setup (staying_history setup levels)
+quiet_before (Some n) setup levels = quiet_up_to (n - length levels) (staying_history setup levels).drive (quiet_at setup (staying_history setup levels))
+
+-- a node that has left drives recessive for ever
 abbrev pub quiet_until : Option ℕ → NodeSetup → List Level → ℕ
-quiet_until None setup levels = quiet_at setup (staying_history setup levels)
-quiet_until (Some n) setup levels =
-    if nat_lt n (length levels) then most_quiet
-    else quiet_up_to (n - length levels) (staying_history setup levels).drive (quiet_at setup (staying_history setup levels))
+quiet_until until setup levels = if has_left until levels then most_quiet else quiet_before until setup levels
 
 -- for how many quanta more a node that has seen these levels is sure to keep its drive
 unfoldable pub quiet_of : NodeSetup → List Level → ℕ

@@ -1,5 +1,5 @@
 -- For how many quanta more the drive of a node stands where the node sees recessive at each of them.
-use Rattle.std.specs.Prelude.{ℕ, suc, ◌+◌, ◌*◌, ◌-◌, ◌&&◌, not, nat_lt, min, max, List, [], ◌∷◌, length, Option, Some, None, if◌then◌else◌}
+use Rattle.std.specs.Prelude.{ℕ, suc, ◌+◌, ◌*◌, ◌-◌, ◌&&◌, not, min, max, List, [], ◌∷◌, length, Option, Some, None, if◌then◌else◌}
 use Rattle.wl_level.specs.Levels.{is_dominant}
 use Rattle.wl_segments.specs.Lengths.{bit_quanta}
 use Rattle.wl_sync.specs.SampleLaws.{recessive_way}
@@ -8,7 +8,7 @@ use Rattle.wl_machine.specs.RecessiveStay.{rest_of}
 use Rattle.wl_node.specs.declared.setup.Queued.{Queued}
 use Rattle.wl_node.specs.declared.setup.NodeSetup.{NodeSetup}
 use Rattle.wl_level.specs.declared.Level.{Level}
-use Rattle.wl_node.specs.History.{History, staying_history, unsent_of}
+use Rattle.wl_node.specs.History.{History, staying_history, has_left, unsent_of}
 use Rattle.wl_node.specs.Limits.{most_run_quanta}
 
 -- the quanta up to the one at which the first frame of a queue is ready, that one too; without a frame all that a node may run, which is the most
@@ -37,11 +37,6 @@ stay_at setup h = if is_dominant h.drive then 0 else stay_by (rest_of (stretch_o
 abbrev pub free_stay : NodeSetup → History → ℕ
 free_stay setup h = if is_free_sort (stretch_of h.inputs).sort && not (is_dominant h.drive) then until_frame (unsent_of setup h) (length h.seen) else 0
 
--- the same by the quantum at which it leaves the bus, if there is one: a node that has left drives recessive for all that a node may run
-abbrev pub stay_until : Option ℕ → NodeSetup → List Level → ℕ
-stay_until None setup levels = stay_at setup (staying_history setup levels)
-stay_until (Some n) setup levels = if nat_lt n (length levels) then most_run_quanta else stay_at setup (staying_history setup levels)
-
--- for how many quanta more a node that has seen these levels is sure to drive recessive where it sees recessive
+-- for how many quanta more a node that has seen these levels is sure to drive recessive where it sees recessive; one that has left is, for all that a node may run
 unfoldable pub stay_of : NodeSetup → List Level → ℕ
-stay_of setup levels = stay_until setup.until setup levels
+stay_of setup levels = if has_left setup.until levels then most_run_quanta else stay_at setup (staying_history setup levels)
