@@ -327,3 +327,7 @@ pub place_found : (order : QueueOrder) (unsent : List Queued) (quantum : ℕ) (p
     → MatchOption place (head_by order unsent quantum ≡ None) (IsHeadAt order unsent quantum)
 place_found order unsent quantum None e ready none = absurd (some_waiting unsent quantum ready none)
 place_found order unsent quantum (Some place) e ready at = subst (λ o. IsHeadAt o unsent quantum place) (sym e) (least_head unsent quantum place at)
+
+-- the place of the frame that was chosen decides nothing of those that are left
+pub moved : {setup : NodeSetup} {kept : Unsent} {place : ℕ} {passed : List Passed} → IsUnsent setup kept passed → IsUnsent setup (record kept { place = place }) passed
+moved is = record { left = is.left; sent = is.sent; long = is.long }

@@ -70,11 +70,11 @@ impl StayingNode {
         ensures turned { IfOk result (λ n. n < most → StayingTurns self.old level n) }
         ensures stopped { OnErr result (StayingHasStopped level most self.old self.new) }
     {
-        let before = self.progress.drive;
+        let before = self.drive();
         let mut done = 0;
         while done < most {
             done += self.to_sample_or_event(level, most - done)?;
-            if !self.progress.drive.is(before) {
+            if !self.drive().is(before) {
                 return Ok(done);
             }
         }
