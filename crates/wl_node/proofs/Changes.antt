@@ -1,21 +1,21 @@
 -- A drive changes few times.
-use Rattle.std.proofs.Common.{◌≡◌, ◌∙◌, ℕ, zero, suc, ◌+◌, ◌*◌, ◌/◌, ◌<◌, ◌≤◌, Bool, true, false, cond, not, List, [], ◌∷◌, ◌++◌, length, take, Option, Some, None, ◌⊎◌, inl, inr, refl, sym, ap, subst, arith, add-one, length-append, append-nil}
+use Rattle.std.proofs.Common.{◌≡◌, ◌∙◌, ℕ, suc, ◌+◌, ◌*◌, ◌/◌, ◌<◌, ◌≤◌, Bool, true, false, cond, not, List, [], ◌∷◌, ◌++◌, length, take, Option, Some, None, ◌⊎◌, inl, inr, refl, sym, ap, subst, arith, add-one}
 use Rattle.std.proofs.Math.Nat.{mul-le-mul_left, div-add-mod}
 use Rattle.std.proofs.lemmas.Bool.{cases_lt}
 use Rattle.std.proofs.lemmas.List.{take-append-le, take_all}
 use Rattle.wl_level.specs.declared.Level.{Level}
-use Rattle.wl_level.specs.declared.Level.TheVariants.{Dominant, Recessive}
+use Rattle.wl_level.specs.declared.Level.TheVariants.{Recessive}
 use Rattle.wl_level.specs.Levels.{same}
 use Rattle.wl_level.specs.Places.{count_places}
-use Rattle.wl_level.proofs.Callers.{length_more, same_equal}
+use Rattle.wl_level.proofs.Callers.{length_more}
 use Rattle.wl_segments.specs.Lengths.{AreLengths, least_way, sample_at}
 use Rattle.wl_sync.specs.declared.Beat.{Beat}
 use Rattle.wl_sync.specs.declared.Beat.TheVariants.{Plain, Sample, Start}
 use Rattle.wl_sync.specs.SampleLaws.{SampleLaws, quanta_to_sample}
 use Rattle.wl_machine.specs.Judged.{drive_of, stretch_of}
 use Rattle.wl_node.specs.declared.setup.NodeSetup.{NodeSetup}
-use Rattle.wl_node.specs.History.{History, staying_history, no_history, seen_next, sampled_next, history_of}
-use Rattle.wl_node.specs.Quiet.{pending_of, changes_of}
+use Rattle.wl_node.specs.History.{History, staying_history, seen_next}
+use Rattle.wl_node.specs.Quiet.{pending_of}
 use Rattle.wl_node.proofs.Drives.{behind, beat_next, grown, left, same_when, settled}
 use Rattle.wl_node.proofs.Turns.{history_first, history_next}
 

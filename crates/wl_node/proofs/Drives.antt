@@ -1,23 +1,19 @@
 -- A node keeps its drive for as long as it promises, and changes it seldom.
-use Rattle.std.proofs.Common.{◌≡◌, ◌∙◌, ℕ, zero, suc, ◌+◌, ◌*◌, ◌/◌, ◌<◌, ◌≤◌, Bool, true, false, cond, not, List, [], ◌∷◌, ◌++◌, length, drop, Option, Some, None, refl, sym, ap, subst, arith, ◌⊎◌, inl, inr, append-nil, append_assoc, add-one, add-zero, length-append}
-use Rattle.std.specs.Prelude.{count_by, nat_lt}
-use Rattle.std.proofs.Math.Nat.{mul-le-mul_left, div-add-mod}
+use Rattle.std.proofs.Common.{◌≡◌, ◌∙◌, ℕ, zero, suc, ◌+◌, ◌*◌, ◌<◌, ◌≤◌, Bool, true, false, List, [], ◌∷◌, ◌++◌, length, Option, Some, None, refl, sym, ap, subst, arith, ◌⊎◌, inl, inr, append-nil, append_assoc, add-one, length-append}
+use Rattle.std.proofs.Math.Nat.{mul-le-mul_left}
 use Rattle.std.proofs.lemmas.Bool.{cases_lt, lt-leb, ltb-false, le-ltb}
-use Rattle.std.proofs.lemmas.List.{take-append-le, take_all, drop_all}
 use Rattle.wl_level.specs.declared.Level.{Level}
 use Rattle.wl_level.specs.declared.Level.TheVariants.{Recessive}
 use Rattle.wl_level.specs.Levels.{same}
-use Rattle.wl_level.specs.Places.{count_places}
-use Rattle.wl_level.proofs.Callers.{length_more, same_self, same_equal}
-use Rattle.wl_segments.specs.Lengths.{AreLengths, sample_at, least_way}
+use Rattle.wl_level.proofs.Callers.{same_self, same_equal}
+use Rattle.wl_segments.specs.Lengths.{AreLengths, least_way}
 use Rattle.wl_sync.specs.declared.Beat.{Beat}
 use Rattle.wl_sync.specs.declared.Beat.TheVariants.{Plain, Sample, Start}
 use Rattle.wl_sync.specs.Bits.{beat_of, sync_of}
 use Rattle.wl_sync.specs.SampleLaws.{SampleLaws, quanta_to_sample}
 use Rattle.wl_confine.specs.declared.Mode.{Mode}
 use Rattle.wl_confine.specs.Counts.{counts_of, mode_of}
-use Rattle.wl_machine.specs.Stretch.{Sort, Stretch, Sampled, Input, Ended}
-use Rattle.wl_machine.specs.Stretch.Ended.{NoFrame, Sent, Received}
+use Rattle.wl_machine.specs.Stretch.{Sort, Stretch, Sampled, Input}
 use Rattle.wl_machine.specs.Stretch.Sort.{Integration, Idle, Framing, Flagging, Waiting, Delimiting, Intermission, Suspension, OffBus}
 use Rattle.wl_machine.specs.Stretch.Input.{Sample as Given, SwitchedOff}
 use Rattle.wl_machine.specs.Judged.{judged, stretch_of, stretch_after, drive_of, head_of}
@@ -27,8 +23,8 @@ use Rattle.wl_machine.proofs.Callers.{stretch_next}
 use Rattle.wl_node.specs.declared.setup.Queued.{Queued}
 use Rattle.wl_node.specs.declared.setup.NodeSetup.{NodeSetup}
 use Rattle.wl_node.specs.History.{History, staying_history, no_history, seen_next, sampled_next, handed, passed_frames, switched_off, by_beat, syncs_at, unsent_of}
-use Rattle.wl_node.specs.Limits.{most_quiet, most_quiet-is}
-use Rattle.wl_node.specs.Quiet.{pending_of, is_waiting, floor_by, floor_at, floor_and_silence, promise_by, until_ready, promise_at, quiet_at, drive_at, changes_of}
+use Rattle.wl_node.specs.Limits.{most_quiet-is}
+use Rattle.wl_node.specs.Quiet.{pending_of, is_waiting, floor_by, floor_at, floor_and_silence, promise_by, until_ready, promise_at, quiet_at}
 use Rattle.wl_node.proofs.Turns.{history_first, history_next}
 use Rattle.wl_node.specs.Queues.{head_by}
 use Rattle.wl_node.specs.Unsent.{is_first_ready}

@@ -1,6 +1,6 @@
 -- Samples of one level in a row that a machine only keeps, and the quanta of their bits.
 use Rattle.std.proofs.Common.{◌≡◌, ◌∙◌, ℕ, zero, suc, ◌+◌, ◌-◌, ◌*◌, ◌<◌, ◌≤◌, inl, inr, List, [], ◌∷◌, ◌++◌, length, replicate, Option, true, refl, sym, ap, subst, arith, append-nil, append_assoc, length-append, add-zero}
-use Rattle.std.specs.Prelude.{count_by, drop}
+use Rattle.std.specs.Prelude.{count_by}
 use Rattle.std.specs.List.{flat_map}
 use Rattle.std.proofs.lemmas.Bool.{cases_lt}
 use Rattle.std.proofs.lemmas.List.{length-replicate}
@@ -21,7 +21,7 @@ use Rattle.wl_machine.specs.Reached.{IsMachine}
 use Rattle.wl_machine.specs.States.{sample_of}
 use Rattle.wl_node.specs.declared.setup.NodeSetup.{NodeSetup}
 use Rattle.wl_node.specs.declared.progress.NodeProgress.{NodeProgress}
-use Rattle.wl_node.specs.History.{History, staying_history, error_count, is_hard, is_sent, phase_of, sampled_next, seen_next, unsent_of}
+use Rattle.wl_node.specs.History.{History, staying_history, error_count, is_hard, phase_of, sampled_next, seen_next, unsent_of}
 use Rattle.wl_node.specs.Extremes.{phase_totals}
 use Rattle.wl_node.specs.Kept.{IsProgress}
 use Rattle.wl_node.specs.Queues.{unsent_by}

@@ -1,8 +1,8 @@
 -- A node that leaves the bus: what comes before and after it does.
-use Rattle.std.proofs.Common.{◌≡◌, ◌∙◌, ℕ, zero, suc, ◌+◌, ◌-◌, ◌<◌, ◌≤◌, Bool, true, false, cond, min, nat_le, nat_lt, List, [], ◌∷◌, ◌++◌, length, take, drop, replicate, Option, Some, None, inl, inr, refl, sym, ap, subst, arith, append-nil, length-append}
+use Rattle.std.proofs.Common.{◌≡◌, ◌∙◌, ℕ, ◌+◌, ◌-◌, ◌<◌, ◌≤◌, Bool, true, false, nat_lt, List, [], ◌∷◌, ◌++◌, length, take, drop, Option, Some, None, inl, inr, refl, sym, ap, arith, append-nil, length-append}
 use Rattle.std.proofs.Math.Seq.{take-append-add}
-use Rattle.std.proofs.lemmas.Bool.{cases_lt, le-leb, leb-true, leb-false, le-ltb, lt-leb, ltb-false, ltb-true, lt-ltb}
-use Rattle.std.proofs.lemmas.List.{drop_all, drop-append-le, length-drop, length-replicate, length-take, take_all, take-append-le}
+use Rattle.std.proofs.lemmas.Bool.{cases_lt, leb-true, leb-false, le-ltb, ltb-false, ltb-true, lt-ltb}
+use Rattle.std.proofs.lemmas.List.{drop_all, drop-append-le, length-drop, length-take, take_all, take-append-le}
 use Rattle.wl_level.specs.declared.Level.{Level}
 use Rattle.wl_level.specs.declared.Level.TheVariants.{Recessive}
 use Rattle.wl_node.specs.declared.setup.NodeSetup.{NodeSetup}
@@ -113,10 +113,11 @@ pub there_more : (until : Option ℕ) (levels more : List Level) → (rest : Lis
 there_more None levels more = (more, refl)
 there_more (Some n) levels more = elim (cases_lt n (length levels)) [
   | inl past ↦ ([], take-append-le n levels more (omega (arith, past)) ∙ sym (append-nil (take n levels)))
-  | inr within ↦
-      (take (n - length levels) more,
-      (let e : n ≡ length levels + (n - length levels) = omega (arith, within) in
-      ap (λ k. take k (levels ++ more)) e ∙ (take-append-add levels more (n - length levels) ∙ ap (λ ls. ls ++ take (n - length levels) more) (sym (take_all n levels within)))))
+  | inr within ↦ (
+    take (n - length levels) more,
+    (let e : n ≡ length levels + (n - length levels) = omega (arith, within) in
+        ap (λ k. take k (levels ++ more)) e ∙ (take-append-add levels more (n - length levels) ∙ ap (λ ls. ls ++ take (n - length levels) more) (sym (take_all n levels within)))),
+  )
 ]
 
 -- each level is one of those before it leaves, or one of those after that

@@ -1,8 +1,8 @@
 -- A node that leaves the bus keeps what it promises, and changes its drive few times.
-use Rattle.std.proofs.Common.{◌≡◌, ◌∙◌, ℕ, zero, suc, ◌+◌, ◌-◌, ◌*◌, ◌/◌, ◌<◌, ◌≤◌, Bool, true, false, cond, not, nat_lt, min, List, [], ◌∷◌, ◌++◌, length, replicate, take, Option, Some, None, ◌⊎◌, inl, inr, refl, sym, ap, subst, arith, append-nil, length-append}
+use Rattle.std.proofs.Common.{◌≡◌, ◌∙◌, ℕ, suc, ◌+◌, ◌-◌, ◌*◌, ◌/◌, ◌<◌, ◌≤◌, Bool, true, false, cond, not, List, [], ◌∷◌, ◌++◌, length, replicate, Option, Some, None, ◌⊎◌, inl, inr, refl, sym, ap, subst, arith, length-append}
 use Rattle.std.proofs.Math.Nat.{mul-le-mul_left}
 use Rattle.std.proofs.lemmas.Bool.{cases_lt, ltb-true, ltb-false}
-use Rattle.std.proofs.lemmas.List.{length-drop, length-replicate, length-take}
+use Rattle.std.proofs.lemmas.List.{length-drop, length-replicate}
 use Rattle.wl_level.specs.declared.Level.{Level}
 use Rattle.wl_level.specs.declared.Level.TheVariants.{Dominant, Recessive}
 use Rattle.wl_level.specs.Levels.{is_dominant, same}
@@ -12,14 +12,14 @@ use Rattle.wl_sync.specs.SampleLaws.{SampleLaws}
 use Rattle.wl_machine.specs.Judged.{stretch_of}
 use Rattle.wl_machine.specs.RecessiveStay.{rest_of}
 use Rattle.wl_node.specs.declared.setup.NodeSetup.{NodeSetup}
-use Rattle.wl_node.specs.History.{History, staying_history, history_of, has_left, levels_there, levels_away}
+use Rattle.wl_node.specs.History.{staying_history, history_of, has_left, levels_away}
 use Rattle.wl_node.specs.Laws.{StayingLaws}
 use Rattle.wl_node.specs.Limits.{most_quiet, most_run_quanta}
 use Rattle.wl_node.specs.Quiet.{changes_of, quiet_at, quiet_before, quiet_of, quiet_up_to}
 use Rattle.wl_node.specs.Stays.{stay_at, stay_by, stay_of}
-use Rattle.wl_node.proofs.Changes.{CountsBelow, Spare, by_parts, changes_by, changes_next, one_if, spare, staying_few, left_less, part, none_more}
+use Rattle.wl_node.proofs.Changes.{CountsBelow, Spare, by_parts, changes_by, changes_next, one_if, spare, staying_few, left_less, none_more}
 use Rattle.wl_node.proofs.Drives.{grown}
-use Rattle.wl_node.proofs.Leaving.{AreThere, all_of, away_drive, history_there, not_left, stays_on}
+use Rattle.wl_node.proofs.Leaving.{AreThere, all_of, away_drive, history_there, stays_on}
 
 abbrev drive_of : NodeSetup → List Level → Level
 drive_of setup levels = (history_of setup levels).drive

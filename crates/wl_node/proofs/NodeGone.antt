@@ -1,5 +1,7 @@
 -- Quanta of one level that a node has run, which may leave the bus among them.
-use Rattle.std.proofs.Common.{◌≡◌, ◌≢◌, ◌∙◌, ℕ, zero, suc, ◌+◌, ◌-◌, ◌<◌, ◌≤◌, true, false, inl, inr, List, [], ◌∷◌, ◌++◌, length, replicate, Some, refl, sym, ap, subst, arith, append-nil}
+use Rattle.std.proofs.Common.{◌≡◌, ◌∙◌, ℕ, zero, suc, ◌+◌, ◌-◌, ◌<◌, ◌≤◌, true, inl, inr, List, ◌++◌, length, replicate, sym, ap, subst, arith, append-nil}
+use Rattle.std.specs.Prelude.{Result, Ok, Err, IfOk, OnErr}
+use Rattle.std.proofs.Math.Logic.{∥∥₁_map}
 use Rattle.std.proofs.lemmas.Bool.{cases_lt}
 use Rattle.std.proofs.lemmas.List.{length-replicate}
 use Rattle.wl_level.specs.declared.Level.{Level}
@@ -8,7 +10,7 @@ use Rattle.wl_node.specs.declared.setup.NodeSetup.{NodeSetup}
 use Rattle.wl_node.specs.declared.node.Node.{Node}
 use Rattle.wl_node.specs.declared.staying_node.StayingNode.{StayingNode}
 use Rattle.wl_node.specs.History.{staying_history, history_of, levels_there, levels_away, is_after, quanta_before}
-use Rattle.wl_node.specs.Reached.{node_setup, quanta_of, IsNode, StandsFor, TurnsAfter, HasGone, HasStopped}
+use Rattle.wl_node.specs.Reached.{node_setup, IsNode, StandsFor, TurnsAfter, HasGone, HasStopped}
 use Rattle.wl_node.specs.Staying.{IsStaying, StayingHasGone, StayingHasStopped, StayingStands, StayingTurns}
 use Rattle.wl_node.proofs.Gone.{joined}
 use Rattle.wl_node.proofs.Leaving.{AreThere, HaveLeft, are_there, are_there_now, away_drive, have_left, history_there}
@@ -16,6 +18,28 @@ use Rattle.wl_node.proofs.Leaving.{AreThere, HaveLeft, are_there, are_there_now,
 -- the drive after these levels
 abbrev drive_by : NodeSetup → List Level → Level
 drive_by setup levels = (history_of setup levels).drive
+
+-- these levels put a node that has run so many quanta since it left where it is
+abbrev pub IsAt : StayingNode → ℕ → List Level → Type 0
+IsAt staying away levels = IsStaying (levels_there staying.setup.until levels) staying × (away ≡ length (levels_away staying.setup.until levels))
+
+abbrev pub IsReachable : StayingNode → ℕ → Type 0
+IsReachable staying away =
+    ∥ ((levels : List Level) × IsStaying (levels_there staying.setup.until levels) staying × (away ≡ length (levels_away staying.setup.until levels))) ∥₁
+
+-- some levels put it there, if some put it where it was
+pub reachable : (old : Node) (staying : StayingNode) (away : ℕ) (more : List Level → List Level) → ((levels : List Level) → IsNode levels old → IsAt staying away (more levels)) → IsReachable staying away
+reachable old staying away more at =
+    ∥∥₁_map old.reached (λ (levels, stayed, gone). (let is = at levels (record { stayed = stayed; away = gone }) in (more levels, is.0, is.1)))
+
+-- the same place, in a node of the same setup
+pub at_same : (old : Node) (staying : StayingNode) → ((levels : List Level) → IsStaying levels old.staying → IsStaying levels staying) → staying.setup ≡ old.staying.setup
+    → (levels : List Level) → IsNode levels old → IsAt staying old.away levels
+at_same old staying same setup levels is =
+    (let until = ap (λ s. s.until) setup in (
+      subst (λ u. IsStaying (levels_there u levels) staying) (sym until) (same (levels_there old.staying.setup.until levels) is.stayed),
+      is.away ∙ ap (λ u. length (levels_away u levels)) (sym until),
+    ))
 
 -- the quanta of a node that it was there
 pub quanta_there : (levels : List Level) (node : Node) → IsNode levels node → node.staying.progress.quanta ≡ length (levels_there (node_setup node).until levels)
@@ -86,21 +110,30 @@ module _ (level : Level) (most : ℕ) (old new : Node) (some : 0 < most) (few : 
   turns_there m less turns levels is e =
       turns levels (stays_there levels is) (sym (drive_there levels is m less) ∙ (e ∙ drive_now levels is))
 
+  pub at_there : (staying : StayingNode) (n : ℕ) → n ≤ most → StayingHasGone level n old.staying staying → (levels : List Level) → IsNode levels old → IsAt staying old.away (levels ++ replicate n level)
+  at_there staying n less gone levels is =
+      (let at = there_after levels is n less in
+      let until = ap (λ s. s.until) gone.setup in (
+        subst (λ ls. IsStaying ls staying)
+            (sym at.there ∙ ap (λ u. levels_there u (levels ++ replicate n level)) (sym until)) (gone.node levels (stays_there levels is)),
+        is.away ∙ (ap length ((there_now levels is).away ∙ sym at.away) ∙ ap (λ u. length (levels_away u (levels ++ replicate n level))) (sym until)),
+      ))
+
   pub gone_there : (n : ℕ) → n ≤ most → StayingHasGone level n old.staying new.staying → new.away ≡ old.away → HasGone level n old new
   gone_there n less gone away = record {
-    node = λ levels is.
-        (let at = there_after levels is n less in
-        let until = ap (λ s. s.until) gone.setup in
-        record {
-          stayed = subst (λ ls. IsStaying ls new.staying)
-              (sym at.there ∙ ap (λ u. levels_there u (levels ++ replicate n level)) (sym until)) (gone.node levels (stays_there levels is));
-          away = away ∙ (is.away ∙ (ap length ((there_now levels is).away ∙ sym at.away) ∙ ap (λ u. length (levels_away u (levels ++ replicate n level))) (sym until)));
-        });
+    node = λ levels is. (let at = at_there new.staying n less gone levels is in record { stayed = at.0; away = away ∙ at.1 });
     setup = gone.setup;
     quanta = (let q = gone.quanta in omega (arith, q, away));
     keeps = gone.keeps;
     stood = λ m before. stands_there m (omega (arith, before, less)) (gone.stood m before);
   }
+
+  -- also if it is refused
+  pub reachable_there : {E : Type 0} (staying : StayingNode) (r : Result ℕ E) → IfOk r (λ n. StayingHasGone level n old.staying staying) → IfOk r (λ n. n ≤ most)
+      → OnErr r (StayingHasStopped level most old.staying staying) → IsReachable staying old.away
+  reachable_there staying (Ok n) gone less stopped = reachable old staying old.away (λ levels. levels ++ replicate n level) (at_there staying n less gone)
+  reachable_there staying (Err e) gone less stopped =
+      reachable old staying old.away (λ levels. levels ++ replicate stopped.n level) (at_there staying stopped.n (let f = stopped.few in omega (arith, f)) stopped.gone)
 
   pub stopped_there : StayingHasStopped level most old.staying new.staying → new.away ≡ old.away → HasStopped level most old new
   stopped_there stopped away = (let less = stopped.few in record {
@@ -109,6 +142,12 @@ module _ (level : Level) (most : ℕ) (old new : Node) (some : 0 < most) (few : 
     gone = gone_there stopped.n (omega (arith, less)) stopped.gone away;
     stands = stands_there stopped.n (omega (arith, less)) stopped.stands;
   })
+
+-- so many quanta that fit are few, also if it is refused
+pub few_quanta : {E : Type 0} (level : Level) (most away limit : ℕ) (old new : StayingNode) (r : Result ℕ E) → IfOk r (λ n. StayingHasGone level n old new) → IfOk r (λ n. n ≤ most)
+    → OnErr r (StayingHasStopped level most old new) → old.progress.quanta + away + most ≤ limit → new.progress.quanta + away ≤ limit
+few_quanta level most away limit old new (Ok n) gone less stopped short = (let q = gone.quanta in omega (arith, q, less, short))
+few_quanta level most away limit old new (Err e) gone less stopped short = (let q = stopped.gone.quanta in let f = stopped.few in omega (arith, q, f, short))
 
 -- Quanta of a node that leaves with the first of them, or has left.
 module _ (level : Level) (old new : Node) (after : is_after (node_setup old).until old.staying.progress.quanta ≡ true) where
@@ -128,18 +167,22 @@ module _ (level : Level) (old new : Node) (after : is_after (node_setup old).unt
   pub turns_away : (before : Level) → ((levels : List Level) → IsNode levels old → before ≡ drive_by (node_setup old) levels) → before ≡ Dominant → TurnsAfter old level 1
   turns_away before was e levels is f = (let g : Dominant ≡ Recessive = sym e ∙ (was levels is ∙ (sym f ∙ recessive_after levels is 0)) in cc)
 
+  pub at_away : (n : ℕ) (levels : List Level) → IsNode levels old → IsAt old.staying (old.away + n) (levels ++ replicate n level)
+  at_away n levels is =
+      (let at = left_after levels is n in
+      let l = length-replicate n level in
+      let a = at.away in
+      let w = is.away in
+      (subst (λ ls. IsStaying ls old.staying) (sym at.there) is.stayed, omega (arith, w, a, l)))
+
   pub gone_away : (n : ℕ) → new.staying ≡ old.staying → new.away ≡ old.away + n → ((m : ℕ) → m < n → StandsFor old level m) → HasGone level n old new
   gone_away n same away stood = record {
     node = λ levels is.
-        (let at = left_after levels is n in
+        (let at = at_away n levels is in
         let until = ap (λ s. s.setup.until) same in
-        let l = length-replicate n level in
-        let a = at.away in
-        let w = is.away in
         record {
-          stayed = subst (λ s. IsStaying (levels_there s.setup.until (levels ++ replicate n level)) s) (sym same)
-              (subst (λ ls. IsStaying ls old.staying) (sym at.there) is.stayed);
-          away = omega (arith, away, w, a, l) ∙ ap (λ u. length (levels_away u (levels ++ replicate n level))) (sym until);
+          stayed = subst (λ s. IsStaying (levels_there s.setup.until (levels ++ replicate n level)) s) (sym same) at.0;
+          away = away ∙ at.1 ∙ ap (λ u. length (levels_away u (levels ++ replicate n level))) (sym until);
         });
     setup = ap (λ s. s.setup) same;
     quanta = (let q = ap (λ s. s.progress.quanta) same in omega (arith, q, away));

@@ -16,7 +16,7 @@ use Rattle.wl_node.specs.declared.setup.Passed.{Passed}
 use Rattle.wl_node.specs.declared.unsent.Unsent.{Unsent}
 use Rattle.wl_node.specs.declared.setup.QueueOrder.{QueueOrder}
 use Rattle.wl_node.specs.declared.setup.QueueOrder.TheVariants.{Fifo, Priority}
-use Rattle.wl_node.specs.Queues.{field_number, first_frame, head_by, is_sent, least_frame, lesser_frame, queue_after, queue_without, ready_head, unsent_by, waiting_frames}
+use Rattle.wl_node.specs.Queues.{field_number, head_by, is_sent, least_frame, lesser_frame, queue_after, queue_without, ready_head, unsent_by, waiting_frames}
 use Rattle.wl_node.specs.Unsent.{IsHeadAt, IsLeastAt, IsUnsent, is_first_ready, left_in, line_by, next_place, place_of}
 
 pub count_append : {X : Type 0} (p : X → Bool) (xs ys : List X) → count_by p (xs ++ ys) ≡ count_by p xs + count_by p ys

@@ -177,8 +177,9 @@ impl Node {
         }
         let quiet = self.staying.quiet();
         match self.staying.setup.until {
-            Some(until) if self.staying.progress.drive.is_dominant() => (quiet as u64)
-                .min(until.saturating_sub(self.staying.progress.quanta)) as u32,
+            Some(until) if self.staying.progress.drive.is_dominant() => (quiet as u64).min(
+                until.saturating_sub(self.staying.progress.quanta),
+            ) as u32,
             _ => quiet,
         }
     }
@@ -197,6 +198,7 @@ impl Node {
         ensures free { Shows self.now (λ h. free_stay (node_setup self.now) h ≤ result) }
         ensures most { result ≤ most_run_quanta }
     {
+        crate::laws::drive_laws();
         if 0 < self.away {
             return MOST_RUN_QUANTA;
         }

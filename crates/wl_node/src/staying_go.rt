@@ -18,9 +18,9 @@ ghost use Rattle.wl_node.specs.Kept.{HasProgressedBy, FitsQuanta, IsRoomy, Keeps
 ghost use Rattle.wl_node.specs.Limits.{most_run_quanta};
 ghost use Rattle.wl_node.specs.Unsent.{left_in};
 
-use crate::staying_node::StayingNode;
 use crate::progress::NodeProgress;
 use crate::setup::NodeSetup;
+use crate::staying_node::StayingNode;
 use std::alloc::AllocError;
 use wl_level::Level;
 use wl_sync::Beat;

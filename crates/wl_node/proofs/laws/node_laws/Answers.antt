@@ -1,4 +1,4 @@
-use Rattle.std.proofs.Common.{◌≡◌, ◌∙◌, ◌+◌, length, sym, arith, length-append}
+use Rattle.std.proofs.Common.{arith}
 use Rattle.std.proofs.Math.Logic.{∥∥₁_map}
 use Rattle.wl_node.proofs.Leaving.{there_and_away}
 use Rattle.wl_node.proofs.NodeGone.{quanta_there}

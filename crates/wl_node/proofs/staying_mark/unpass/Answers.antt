@@ -1,4 +1,4 @@
-use Rattle.std.proofs.Common.{◌≡◌, ◌∙◌, sym, ap, subst}
+use Rattle.std.proofs.Common.{◌∙◌, sym, ap, subst}
 use Rattle.std.specs.Prelude.{count_by}
 use Rattle.wl_node.specs.Queues.{is_sent}
 use Rattle.wl_node.specs.Unsent.{IsUnsent}

@@ -1,4 +1,4 @@
-use Rattle.std.proofs.Common.{◌≡◌, ◌∙◌, sym, ap, subst, arith}
+use Rattle.std.proofs.Common.{◌∙◌, sym, ap, subst, arith}
 use Rattle.wl_node.specs.Reached.{node_setup}
 use Rattle.wl_node.specs.Staying.{IsStaying}
 use Rattle.wl_node.proofs.Leaving.{away_drive, history_there, not_left}

@@ -1,8 +1,7 @@
-use Rattle.std.proofs.Common.{◌≡◌, ◌∙◌, ℕ, ◌+◌, ◌<◌, List, ◌++◌, length, replicate, sym, ap, refl, arith}
-use Rattle.wl_level.specs.declared.Level.{Level}
+use Rattle.std.proofs.Common.{◌∙◌, ◌++◌, replicate, sym, ap, arith}
 use Rattle.wl_level.proofs.Callers.{same_equal}
 use Rattle.wl_node.specs.History.{history_of}
-use Rattle.wl_node.specs.Reached.{StandsFor, node_setup}
+use Rattle.wl_node.specs.Reached.{StandsFor}
 use Rattle.wl_node.proofs.NodeGone.{gone_more, turns_more}
 use Rattle.wl_node.proofs.node.Node.go_until.Goals.{After-go_away-2}
 use Rattle.wl_node.proofs.node.Node.go_until.Goals as goal

@@ -1,4 +1,4 @@
-use Rattle.std.proofs.Common.{◌≡◌, ◌∙◌, sym, ap}
+use Rattle.std.proofs.Common.{◌∙◌, sym, ap}
 use Rattle.wl_node.specs.Reached.{node_setup}
 use Rattle.wl_node.proofs.Leaving.{same_past}
 use Rattle.std.specs.List.{flat_map}

@@ -1,4 +1,4 @@
-use Rattle.std.proofs.Common.{[], length, refl, sym, ap, subst}
+use Rattle.std.proofs.Common.{length, refl, sym, ap, subst}
 use Rattle.wl_node.specs.declared.setup.NodeSetup.{NodeSetup}
 use Rattle.wl_node.specs.History.{History, no_history}
 use Rattle.wl_node.specs.Kept.{FitsHistory}

@@ -1,6 +1,6 @@
-use Rattle.std.proofs.Common.{◌≡◌, ◌∙◌, ap, sym}
+use Rattle.std.proofs.Common.{◌∙◌, ap, sym}
 use Rattle.wl_node.specs.Unsent.{place_of}
-use Rattle.wl_node.proofs.Unsents.{none_by_priority, taken_by_priority}
+use Rattle.wl_node.proofs.Unsents.{none_by_priority}
 use Rattle.wl_node.proofs.unsent.Unsent.send_frame.Goals as goal
 
 pub returns-in_default-clause-passed : goal.returns-in_default-clause-passed
