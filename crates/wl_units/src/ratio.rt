@@ -40,7 +40,9 @@ fn divides_both(g: u128, num: u128, den: u128) -> bool
 
 /// Returns a ratio with both parts divided by what divides them.
 fn reduced_by(g: u128, num: u128, den: u128) -> Option<(u64, u64)>
-    ensures { result ≡ reduced_by g num den }
+    ensures ratio { result ≡ reduced_by g num den }
+    ensures num { IfSome result (λ r. r.0 ≤ LARGEST_WHOLE) }
+    ensures den { IfSome result (λ r. r.1 ≤ LARGEST_WHOLE) }
 {
     let largest = LARGEST_WHOLE as u128;
     if divides_both(g, num, den) && num / g <= largest && den / g <= largest {
@@ -52,7 +54,9 @@ fn reduced_by(g: u128, num: u128, den: u128) -> Option<(u64, u64)>
 
 /// Returns a ratio in lowest terms, if both parts are then at most 2^48 - 1.
 pub fn lowest(num: u128, den: u128) -> Option<(u64, u64)>
-    ensures { result ≡ lowest num den }
+    ensures ratio { result ≡ lowest num den }
+    ensures num { IfSome result (λ r. r.0 ≤ LARGEST_WHOLE) }
+    ensures den { IfSome result (λ r. r.1 ≤ LARGEST_WHOLE) }
 {
     reduced_by(greatest_common(num, den), num, den)
 }
@@ -76,7 +80,9 @@ fn near_product(a: u64, b: u64) -> u128
 /// Returns how many ticks a quantum takes, as a fraction in lowest terms: its periods of a clock in Hz, by the length of a tick in
 /// femtoseconds.
 pub fn quantum_of(clock: u64, prescaler: u64, tick: u64) -> Option<(u64, u64)>
-    ensures { result ≡ quantum_of clock prescaler tick }
+    ensures ratio { result ≡ quantum_of clock prescaler tick }
+    ensures num { IfSome result (λ r. r.0 ≤ LARGEST_WHOLE) }
+    ensures den { IfSome result (λ r. r.1 ≤ LARGEST_WHOLE) }
 {
     lowest(
         product(prescaler, 1_000_000_000_000_000),

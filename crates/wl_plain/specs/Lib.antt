@@ -1,0 +1,5 @@
+pub mod Tables
+pub mod Measures
+pub mod Clocks
+pub mod Nodes
+pub mod Documents
