@@ -3,3 +3,4 @@ pub mod Measures
 pub mod Clocks
 pub mod Nodes
 pub mod Documents
+pub mod Asking

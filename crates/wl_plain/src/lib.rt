@@ -2,6 +2,7 @@
 //! place of its controller's, its clock's frequency, its cycles and its times.
 #![tactic(auto)]
 
+mod asking;
 mod clock;
 mod controller;
 mod document;
@@ -10,6 +11,7 @@ mod measure;
 mod node;
 mod tables;
 
+pub use asking::asks_tick;
 pub use clock::{ClockKey, ClockKeys, Quantum};
 pub use document::plain_document;
 pub use frame::Beat;

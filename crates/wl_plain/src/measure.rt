@@ -72,7 +72,7 @@ fn is_along(row: Row, key: &str) -> bool
 }
 
 /// Returns what a text with a unit measures at a key of such a table, if there may be one.
-fn measure_of(row: Row, key: &str) -> Option<Measure>
+pub(crate) fn measure_of(row: Row, key: &str) -> Option<Measure>
     ensures { result ≡ measure_of row key.now }
 {
     if is_time(row, key) {
@@ -87,7 +87,7 @@ fn measure_of(row: Row, key: &str) -> Option<Measure>
 }
 
 /// True if a measure asks for the length of a tick.
-fn asks_tick(measure: Measure) -> bool
+pub(crate) fn asks_tick(measure: Measure) -> bool
     ensures { result ≡ asks_tick measure }
 {
     match measure {
