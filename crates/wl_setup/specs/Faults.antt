@@ -1,11 +1,11 @@
 -- The faults of a plan's tables, in the order in which they are answered (this project's profile).
-use Rattle.std.specs.Prelude.{ℕ, ◌==◌, Bool, true, false, not, ◌||◌, ◌&&◌, if◌then◌else◌, List, [], ◌∷◌, map, filter, Option, Some, None, option_map, is_some}
+use Rattle.std.specs.Prelude.{ℕ, ◌==◌, Bool, true, false, not, ◌||◌, ◌&&◌, if◌then◌else◌, List, [], ◌∷◌, map, filter, Option, Some, None, option_map, option_and_then, is_some}
 use Rattle.std.specs.List.{list_any}
 use Rattle.std.specs.Ordering.{nat_cmp, is_lt}
 use Rattle.std.specs.Str.{bytes_eq}
 use Rattle.std.specs.Cmp.Lexicographic.{slice_cmp}
 use Rattle.wl_plain.specs.Asking.{asks_tick}
-use Rattle.toml.specs.Data.{Data, table, Members, get_member, no_members, member}
+use Rattle.toml.specs.Data.{Data, Members, as_table, get_member, no_members, member}
 use Rattle.wl_setup.specs.declared.keys.Key.{Key}
 use Rattle.wl_setup.specs.declared.keys.Key.TheVariants as key
 use Rattle.wl_setup.specs.declared.fault.SetupFault.{SetupFault}
@@ -165,8 +165,7 @@ top_keys version top = record { required = top_required (asks_tick_in version to
 
 -- of a controller
 abbrev pub controller_fault : Data → Option SetupFault
-controller_fault (table t) = table_fault controller_keys t
-controller_fault d = None
+controller_fault d = option_and_then (table_fault controller_keys) (as_table d)
 
 -- a version that is missing, of another kind, or not known
 abbrev pub version_fault : Members → Option SetupFault

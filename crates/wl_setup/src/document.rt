@@ -3,7 +3,8 @@ ghost use Rattle.std.specs.Prelude.{◌≡◌, map};
 ghost use Rattle.toml.specs.View.{view, table_view};
 ghost use Rattle.wl_setup.specs.declared.keys.Key.TheVariants as key;
 ghost use Rattle.wl_setup.specs.Kinds.{tables_at};
-ghost use Rattle.wl_setup.specs.Faults.{controller_fault, version_fault};
+ghost use Rattle.wl_setup.specs.Faults.{controller_fault, table_fault, version_fault};
+ghost use Rattle.wl_setup.specs.Keys.{controller_keys};
 ghost use Rattle.wl_setup.specs.TablePaths.{controller_faults, controllers_at, disturbance_fault_at, first_in, frame_fault_at, node_fault_at, rate_fault_at};
 ghost use Rattle.wl_setup.specs.Texts.{frame_of, disturbance_of, clock_of, rate_of, rates_of, segments_text_of, node_text_of};
 ghost use Rattle.wl_setup.specs.Document.{AnswersAt, AnswersEach, Passes, first_fault, head_fault, named_plain, named_text_of, plain_fault};
@@ -250,12 +251,19 @@ impl TableText for NodeText {
     }
 }
 
-/// Tests the table of a controller: what is no table has no fault.
+/// Tests the table of a controller.
+fn check_controller_table(alloc: Global, table: &Table) -> Result<(), SetupFault>
+    ensures { Passes (table_fault controller_keys (table_view table.now)) result }
+{
+    check_table(alloc, table, keys::controller_keys())
+}
+
+/// Tests the value of a controller: what is no table has no fault.
 fn check_controller(alloc: Global, value: &Value) -> Result<(), SetupFault>
     ensures { Passes (controller_fault (view value.now)) result }
 {
     match value.as_table() {
-        Some(table) => check_table(alloc, table, keys::controller_keys()),
+        Some(table) => check_controller_table(alloc, table),
         None => Ok(()),
     }
 }

@@ -183,12 +183,8 @@ impl Key {
             Key::Unit => Kind::Unit,
             Key::Queue => Kind::Queue,
             Key::Controllers => Kind::Named,
-            Key::Controller
-            | Key::OfKind
-            | Key::Clock
-            | Key::BitRate
-            | Key::Cycle
-            | Key::At => Kind::Filled,
+            Key::Controller | Key::OfKind | Key::Clock | Key::BitRate | Key::Cycle | Key::At =>
+                Kind::Filled,
             _ => Kind::Number,
         }
     }
