@@ -47,6 +47,7 @@ module _ {T U : Type 0} (make : T → Result U SetupFault) where
 rate-made : (i from : ℕ) (c : ClockText) → IsMade (with_fault (fault.NodeClock i) (rate_from from (nominal_clock c)))
 rate-made i from (text.Rate num den) = (_, refl)
 rate-made i from (text.Ppm quantum ppm) = (_, refl)
+rate-made i from (text.Fraction num den ppm) = (_, refl)
 
 rates-made : (i : ℕ) (rates : List RateText) → IsMade (each (rate_in i) (map nominal rates))
 rates-made i [] = ([], refl)

@@ -1,25 +1,25 @@
 -- Which faults a document can have.
-use Rattle.std.proofs.Common.{◌≡◌, ℕ, true, List, [], ◌∷◌, map, Option, None, Some, IfSome, option_map, Err, refl, inl, inr}
+use Rattle.std.proofs.Common.{◌≡◌, ℕ, true, List, [], ◌∷◌, map, Option, None, Some, IfSome, option_map, option_and_then, suc, Err, refl, inl, inr}
 use Rattle.std.specs.List.{AllByRecursion, enumerate_from}
 use Rattle.std.proofs.lemmas.Bool.{cases_Bool}
-use Rattle.toml.specs.Data.{Members}
+use Rattle.toml.specs.Data.{Members, no_members, member, as_table}
 use Rattle.wl_setup.specs.declared.keys.Key.TheVariants as key
 use Rattle.wl_setup.specs.declared.fault.SetupFault.{SetupFault}
 use Rattle.wl_setup.specs.declared.fault.SetupFault.TheVariants.{Version, Toml}
 use Rattle.wl_setup.specs.declared.tables.Wrong.{Wrong}
 use Rattle.wl_setup.specs.declared.tables.Wrong.TheVariants as wrong
 use Rattle.wl_setup.specs.declared.plan_text.PlanText.{PlanText}
-use Rattle.wl_setup.specs.Keys.{TableKeys, top_keys}
+use Rattle.wl_setup.specs.Keys.{TableKeys, controller_keys}
 use Rattle.wl_setup.specs.Kinds.{number_at, tables_at}
-use Rattle.wl_setup.specs.Faults.{first_some, required_fault, setup_fault, table_fault, node_keys, rate_keys, frame_keys, disturbance_keys, version_fault}
+use Rattle.wl_setup.specs.Faults.{controller_fault, first_some, top_keys, required_fault, setup_fault, table_fault, node_keys, rate_keys, frame_keys, disturbance_keys, version_fault}
 use Rattle.wl_setup.specs.Version.{is_known_version}
 use Rattle.wl_setup.specs.Names.{first_repeat, has_repeat, names_of, same_name_fault}
 use Rattle.wl_setup.specs.declared.table_path.PlacedFault.{PlacedFault}
 use Rattle.wl_setup.specs.declared.table_path.TablePath.{TablePath}
-use Rattle.wl_setup.specs.declared.table_path.TablePath.TheVariants.{Top, Node, Rate, Frame, Disturbance}
-use Rattle.wl_setup.specs.TablePaths.{fault_at, rate_fault_at, frame_fault_at, disturbance_fault_at, first_in, node_fault_at}
+use Rattle.wl_setup.specs.declared.table_path.TablePath.TheVariants.{Top, Controller, Node, Rate, Frame, Disturbance}
+use Rattle.wl_setup.specs.TablePaths.{controller_faults, controllers_at, fault_at, rate_fault_at, frame_fault_at, disturbance_fault_at, first_in, node_fault_at}
 use Rattle.wl_setup.specs.Texts.{plan_of}
-use Rattle.wl_setup.specs.Document.{document_fault, first_fault, is_document_fault, unless, OnlyDocumentFaults}
+use Rattle.wl_setup.specs.Document.{document_fault, first_fault, head_fault, is_document_fault, plain_fault, read_form, unless, OnlyDocumentFaults}
 use Rattle.wl_setup.specs.Reading.{document_answer}
 use Rattle.std.specs.Prelude.{if◌then◌else◌}
 
@@ -92,19 +92,35 @@ names_of_document plan =
       | inr other ↦ rw other tt
     ]
 
-first_of_document : (top : Members) → IsPlaced (first_fault top)
+controller_of_document : (o : Option Members) → IsOfDocument (option_and_then (table_fault controller_keys) o)
+controller_of_document None = tt
+controller_of_document (Some t) = table_of_document controller_keys t
+
+controllers_of_document : (n : ℕ) (ms : Members) → IsPlaced (controller_faults n ms)
+controllers_of_document n no_members = tt
+controllers_of_document n (member k d ms) = first_some_of placed_has (
+    fault_at (Controller n) (controller_fault d) ∷ controller_faults (suc n) ms ∷ []
+    ) (placed_of (Controller n) _ (controller_of_document (as_table d)), (controllers_of_document (suc n) ms, tt))
+
+head_of_document : (top : Members) → IsPlaced (head_fault top)
+head_of_document top =
+    let keys = top_keys (number_at key.Version top) top in
+    first_some_of placed_has (
+    fault_at Top (version_fault top) ∷ fault_at Top (table_fault keys top) ∷ controller_faults 0 (controllers_at top) ∷ []
+    ) (placed_of Top _ (version_of_document top), (placed_of Top _ (table_of_document keys top), (controllers_of_document 0 (controllers_at top), tt)))
+
+first_of_document : (top : Members) → IsPlaced (plain_fault top)
 first_of_document top =
     let version = number_at key.Version top in
     first_some_of placed_has (
-    fault_at Top (version_fault top)
-    ∷ fault_at Top (table_fault top_keys top)
+    head_fault top
     ∷ first_in (node_fault_at version) (tables_at key.Node top)
     ∷ first_in (disturbance_fault_at version) (tables_at key.Disturbance top)
     ∷ fault_at (Node (first_repeat [] (names_of (plan_of top)))) (same_name_fault (plan_of top)) ∷ []
-    ) (placed_of Top _ (version_of_document top), (placed_of Top _ (table_of_document top_keys top), (in_document (node_fault_at version) (node_of_document version) (tables_at key.Node top), (in_document (disturbance_fault_at version) (λ n d. placed_of (Disturbance n) _ (table_of_document (disturbance_keys version d) d)) (tables_at key.Disturbance top), (placed_of _ _ (names_of_document (plan_of top)), tt)))))
+    ) (head_of_document top, (in_document (node_fault_at version) (node_of_document version) (tables_at key.Node top), (in_document (disturbance_fault_at version) (λ n d. placed_of (Disturbance n) _ (table_of_document (disturbance_keys version d) d)) (tables_at key.Disturbance top), (placed_of _ _ (names_of_document (plan_of top)), tt))))
 
 document_of_document : (top : Members) → IsOfDocument (document_fault top)
-document_of_document top = unplaced_of (first_fault top) (first_of_document top)
+document_of_document top = unplaced_of (first_fault top) (first_of_document (read_form top))
 
 -- the fault of a document is one that documents have
 pub only_document_faults : OnlyDocumentFaults
@@ -117,4 +133,4 @@ toml_without (Some fault) plan own is = let same : fault ≡ Toml = cc in let ow
 -- Toml is the answer where there is no document, and nowhere else
 pub toml_means_none : (o : Option Members) → document_answer o ≡ Err Toml → o ≡ None
 toml_means_none None is = refl
-toml_means_none (Some top) is = absurd (toml_without (document_fault top) (plan_of top) (document_of_document top) is)
+toml_means_none (Some top) is = absurd (toml_without (document_fault top) (plan_of (read_form top)) (document_of_document top) is)

@@ -1,5 +1,5 @@
 -- Names that are put into a set one after another, beside the test for a repeat in the whole list.
-use Rattle.std.proofs.Common.{◌≡◌, ℕ, Bool, true, false, ◌||◌, List, [], ◌∷◌, ◌++◌, map, String, Global, string_bytes, refl, ap, ◌∙◌, sym, ◌+◌, ◌<◌, length, get_or, drop, not, if◌then◌else◌, append_assoc, length-append, suc, arith}
+use Rattle.std.proofs.Common.{◌≡◌, ℕ, Bool, true, false, ◌||◌, List, [], ◌∷◌, ◌++◌, map, String, Global, string_bytes, refl, ap, ◌∙◌, sym, ◌+◌, ◌<◌, length, get_or, drop, not, if◌then◌else◌, append_assoc, length-append, arith}
 use Rattle.std.specs.List.{list_any, IsDistinct, AllByRecursion}
 use Rattle.std.specs.Str.{bytes_eq}
 use Rattle.std.specs.String.{string_eq}

@@ -34,12 +34,13 @@ use Rattle.wl_setup.specs.Version.{queued_in}
 use Rattle.wl_setup.specs.Faults.{frame_fault, disturbance_fault, version_fault}
 use Rattle.wl_setup.specs.Names.{first_repeat}
 use Rattle.wl_setup.specs.TablePaths.{node_fault_at, placed}
+use Rattle.wl_setup.specs.declared.plan_text.QueueText.TheVariants.{Fifo}
 use Rattle.wl_setup.specs.Document.{fault_path, first_fault}
 use Rattle.wl_setup.specs.Texts.{frame_of, disturbance_of, node_text_of}
 use Rattle.wl_setup.specs.Plans.{plan_of_text, segments_of_node, queued_of, instances_of, queue_in, queue_of, cable_of, place_of, disturbance_in}
 
 abbrev frame_text : ℕ → FrameText
-frame_text id = record { id = id; dlc = 0; remote = false; bytes = []; ready = 0; extended = false; every = None; count = None }
+frame_text id = record { id = id; dlc = 0; remote = false; bytes = []; ready = 0; extended = false; every = None; count = None; deadline = None; jitter = None }
 
 abbrev node_text : List ℕ → ℕ → ℕ → List FrameText → NodeText
 node_text name x in_delay frames = record {
@@ -54,6 +55,8 @@ node_text name x in_delay frames = record {
   frame = frames;
   tolerance = Some 250;
   listens = false;
+  queue = Fifo;
+  until = None;
 }
 
 -- two nodes 50 ticks apart, the first with a frame; its identifier, its way from the cable and the end differ from row to row
@@ -65,6 +68,8 @@ text_with id in_delay end = record {
   node = node_text (codes "a") 0 in_delay (frame_text id ∷ []) ∷ node_text (codes "b") 50 1 [] ∷ [];
   disturbance = [];
   sync = After;
+  tick = None;
+  unit = None;
 }
 
 abbrev setup_with : List Queued → NodeSetup
@@ -96,7 +101,7 @@ plan-id : plan_of_text (text_with 2048 0 68719476737) ≡ Err (fault.NodeFrame 0
 plan-id = refl
 
 abbrev extended_with : ℕ → ℕ → FrameText
-extended_with id dlc = record { id = id; dlc = dlc; remote = false; bytes = []; ready = 0; extended = true; every = None; count = None }
+extended_with id dlc = record { id = id; dlc = dlc; remote = false; bytes = []; ready = 0; extended = true; every = None; count = None; deadline = None; jitter = None }
 
 plan-extended_id : queued_of 0 (0, extended_with 536870912 0) ≡ Err (fault.NodeFrame 0 0 ExtendedId)
 plan-extended_id = refl
@@ -182,7 +187,7 @@ unfolding largest_number largest_small
 frame-every = refl
 
 frame-says : frame_of (frame_with ((codes "count", 2) ∷ (codes "every", 5) ∷ [])) ≡
-    record { id = 1; dlc = 0; remote = false; bytes = []; ready = 0; extended = false; every = Some 5; count = Some 2 }
+    record { id = 1; dlc = 0; remote = false; bytes = []; ready = 0; extended = false; every = Some 5; count = Some 2; deadline = None; jitter = None }
 unfolding largest_number largest_small
 frame-says = refl
 

@@ -14,7 +14,7 @@ use Rattle.wl_setup.specs.declared.plan_text.PlanText.{PlanText}
 use Rattle.wl_setup.specs.declared.plan_text.NodeText.{NodeText}
 use Rattle.wl_setup.specs.declared.plan_text.RateText.{RateText}
 use Rattle.wl_setup.specs.declared.plan_text.ClockText.{ClockText}
-use Rattle.wl_setup.specs.declared.plan_text.ClockText.TheVariants.{Rate, Ppm}
+use Rattle.wl_setup.specs.declared.plan_text.ClockText.TheVariants.{Rate, Ppm, Fraction}
 use Rattle.wl_setup.specs.Names.{names_of}
 use Rattle.wl_setup.specs.Plans.{after, each, rate_in, plan_of_text}
 use Rattle.wl_setup.specs.Reading.{ReadsPlan}
@@ -23,6 +23,7 @@ use Rattle.wl_setup.specs.Reading.{ReadsPlan}
 abbrev pub nominal_clock : ClockText → ClockText
 nominal_clock (Rate num den) = Rate num den
 nominal_clock (Ppm quantum ppm) = Ppm quantum (pos 0)
+nominal_clock (Fraction num den ppm) = Rate num den
 
 abbrev pub nominal : RateText → RateText
 nominal r = record { from = r.from; clock = nominal_clock r.clock }

@@ -1,30 +1,46 @@
 -- Which plan text or first fault belongs to a document (this project's profile).
-use Rattle.std.specs.Prelude.{◌≡◌, ◌≢◌, ℕ, Bool, true, false, List, [], ◌∷◌, map, Option, Some, None, option_map, unwrap_or, Result, Ok, Err, MatchResult}
-use Rattle.std.specs.List.{enumerate_from, filter_map}
+use Rattle.std.specs.Prelude.{◌≡◌, ◌≢◌, ℕ, Bool, true, false, List, [], ◌∷◌, map, Option, Some, None, option_map, unwrap_or, if◌then◌else◌, Result, Ok, Err, MatchResult}
+use Rattle.std.specs.List.{filter_map}
 use Rattle.toml.specs.Data.{Data, Members, as_table}
 use Rattle.wl_setup.specs.declared.keys.Key.TheVariants as key
 use Rattle.wl_setup.specs.declared.fault.SetupFault.{SetupFault}
 use Rattle.wl_setup.specs.declared.fault.SetupFault.TheVariants.{Version, Missing, Kind, Unknown, SameName, Memory}
 use Rattle.wl_setup.specs.declared.plan_text.PlanText.{PlanText}
-use Rattle.wl_setup.specs.Keys.{top_keys}
 use Rattle.wl_setup.specs.Kinds.{number_at, tables_at}
 use Rattle.wl_setup.specs.Texts.{plan_of}
+use Rattle.wl_setup.specs.Version.{has_controllers}
+use Rattle.wl_plain.specs.Documents.{plain_document}
 use Rattle.wl_setup.specs.declared.table_path.PlacedFault.{PlacedFault}
 use Rattle.wl_setup.specs.declared.table_path.TablePath.{TablePath}
 use Rattle.wl_setup.specs.declared.table_path.TablePath.TheVariants.{Top, Node}
-use Rattle.wl_setup.specs.Faults.{first_some, version_fault, table_fault}
-use Rattle.wl_setup.specs.TablePaths.{fault_at, first_in, node_fault_at, disturbance_fault_at}
+use Rattle.wl_setup.specs.Faults.{first_some, top_keys, version_fault, table_fault}
+use Rattle.wl_setup.specs.TablePaths.{controller_faults, controllers_at, fault_at, first_in, node_fault_at, disturbance_fault_at}
 use Rattle.wl_setup.specs.Names.{first_repeat, names_of, same_name_fault}
 
--- the first fault and its place: of the version, the top table, each node followed by its rates and its frames, the disturbances, the names
-abbrev pub first_fault : Members → Option PlacedFault
-first_fault top =
+-- the first fault of a plain document's version, its top table and its controllers
+abbrev pub head_fault : Members → Option PlacedFault
+head_fault top =
     first_some (
     fault_at Top (version_fault top)
-    ∷ fault_at Top (table_fault top_keys top)
+    ∷ fault_at Top (table_fault (top_keys (number_at key.Version top) top) top)
+    ∷ controller_faults 0 (controllers_at top) ∷ [])
+
+-- the first fault of a plain document and its place: of these, each node followed by its rates and its frames, the disturbances, the names
+abbrev pub plain_fault : Members → Option PlacedFault
+plain_fault top =
+    first_some (
+    head_fault top
     ∷ first_in (node_fault_at (number_at key.Version top)) (tables_at key.Node top)
     ∷ first_in (disturbance_fault_at (number_at key.Version top)) (tables_at key.Disturbance top)
     ∷ fault_at (Node (first_repeat [] (names_of (plan_of top)))) (same_name_fault (plan_of top)) ∷ [])
+
+-- the document that is read: in the version of controllers its plain form, else itself
+abbrev pub read_form : Members → Members
+read_form top = if has_controllers (number_at key.Version top) then plain_document top else top
+
+-- the first fault of a document and its place
+abbrev pub first_fault : Members → Option PlacedFault
+first_fault top = plain_fault (read_form top)
 
 -- the first fault without its place
 abbrev pub document_fault : Members → Option SetupFault
@@ -41,11 +57,14 @@ unless (Some fault) value = Err fault
 
 -- the plan text of a document, or its first fault
 abbrev pub plan_text_of : Members → Result PlanText SetupFault
-plan_text_of top = unless (document_fault top) (plan_of top)
+plan_text_of top = unless (document_fault top) (plan_of (read_form top))
 
 -- the plan text of a document without fault, and the names of its nodes
+abbrev pub named_plain : Members → PlanText × List (List ℕ)
+named_plain top = (plan_of top, names_of (plan_of top))
+
 abbrev pub named_text_of : Members → PlanText × List (List ℕ)
-named_text_of top = (plan_of top, names_of (plan_of top))
+named_text_of top = named_plain (read_form top)
 
 -- an answer is this value, or this fault if there is one, unless memory was refused
 abbrev pub Answers : {T : Type 0} → Option SetupFault → T → Result T SetupFault → Type 0

@@ -1,10 +1,11 @@
 -- The faults of a plan's tables, in the order in which they are answered (this project's profile).
-use Rattle.std.specs.Prelude.{ℕ, ◌==◌, Bool, true, false, not, ◌||◌, ◌&&◌, if◌then◌else◌, List, [], ◌∷◌, map, filter, Option, Some, None, option_map, is_some}
+use Rattle.std.specs.Prelude.{ℕ, ◌==◌, Bool, true, false, not, ◌||◌, ◌&&◌, if◌then◌else◌, List, [], ◌∷◌, map, filter, Option, Some, None, option_map, option_and_then, is_some}
 use Rattle.std.specs.List.{list_any}
 use Rattle.std.specs.Ordering.{nat_cmp, is_lt}
 use Rattle.std.specs.Str.{bytes_eq}
 use Rattle.std.specs.Cmp.Lexicographic.{slice_cmp}
-use Rattle.toml.specs.Data.{Data, Members, get_member, no_members, member}
+use Rattle.wl_plain.specs.Asking.{asks_tick}
+use Rattle.toml.specs.Data.{Data, Members, as_table, get_member, no_members, member}
 use Rattle.wl_setup.specs.declared.keys.Key.{Key}
 use Rattle.wl_setup.specs.declared.keys.Key.TheVariants as key
 use Rattle.wl_setup.specs.declared.fault.SetupFault.{SetupFault}
@@ -12,7 +13,7 @@ use Rattle.wl_setup.specs.declared.fault.SetupFault.TheVariants.{Version, Missin
 use Rattle.wl_setup.specs.declared.tables.KeyFault.{KeyFault}
 use Rattle.wl_setup.specs.declared.tables.Wrong.{Wrong}
 use Rattle.wl_setup.specs.declared.tables.Wrong.TheVariants as wrong
-use Rattle.wl_setup.specs.Keys.{key_text, kind_of, TableKeys, required_by_rate, required_by_ppm, required_by_rates, node_optional, rate_keys_by_fraction, rate_keys_by_ppm, frame_required, frame_optional, disturbance_required}
+use Rattle.wl_setup.specs.Keys.{key_text, kind_of, TableKeys, top_required, top_optional, controller_keys, required_by_clock, required_by_rate, required_by_ppm, required_by_rates, node_optional, wide_node_optional, wide_frame_optional, rate_keys_by_fraction, rate_keys_by_ppm, frame_required, frame_optional, disturbance_required}
 use Rattle.wl_setup.specs.Kinds.{has_kind, value_at, number_at}
 use Rattle.wl_setup.specs.Limits.{version_of_rates}
 use Rattle.wl_setup.specs.Version.{has_controllers, has_traffic, is_known_version}
@@ -99,21 +100,40 @@ has_rates version table = (version == version_of_rates) || (has_traffic version 
 abbrev pub has_tseg : ℕ → Members → Bool
 has_tseg version table = has_controllers version && (is_some (value_at key.Tseg1 table) || is_some (value_at key.Tseg2 table))
 
+-- a node's clock is written by its frequency: one of these keys is there
+abbrev pub has_clock : ℕ → Members → Bool
+has_clock version table =
+    has_controllers version
+    && (is_some (value_at key.Clock table) || (is_some (value_at key.Prescaler table) || is_some (value_at key.BitRate table)))
+
+-- by a bit rate without a prescaler
+abbrev pub is_by_bit_rate : Members → Bool
+is_by_bit_rate table = is_some (value_at key.BitRate table) && not (is_some (value_at key.Prescaler table))
+
 -- the keys of a node go by the version, by whether `rates` or `quantum` is there, and by whether `tseg1` or `tseg2` is
 abbrev pub node_required : ℕ → Members → List Key
 node_required version table =
-    if has_rates version table then required_by_rates (has_tseg version table)
+    if has_clock version table then required_by_clock (is_by_bit_rate table) (has_tseg version table)
+    else if has_rates version table then required_by_rates (has_tseg version table)
     else if is_some (value_at key.Quantum table) then required_by_ppm (has_tseg version table)
     else required_by_rate (has_tseg version table)
 
+-- a rate is written as a fraction: neither as a whole number of ticks nor by tables of its own
+abbrev pub is_fraction : ℕ → Members → Bool
+is_fraction version table = has_clock version table || not (has_rates version table || is_some (value_at key.Quantum table))
+
+abbrev pub optional_in : ℕ → Members → List Key
+optional_in version table =
+    if has_controllers version then wide_node_optional (is_fraction version table) else node_optional (has_traffic version)
+
 abbrev pub node_keys : ℕ → Members → TableKeys
-node_keys version table = record { required = node_required version table; optional = node_optional (has_traffic version) }
+node_keys version table = record { required = node_required version table; optional = optional_in version table }
 
 -- those of a frame by the version, and by whether `count` is there
 abbrev pub frame_keys : ℕ → Members → TableKeys
 frame_keys version table = record {
   required = frame_required (has_traffic version && is_some (value_at key.Count table));
-  optional = frame_optional (has_traffic version);
+  optional = if has_controllers version then wide_frame_optional else frame_optional (has_traffic version);
 }
 
 -- those of a disturbance by the version, and by whether `node` is there
@@ -135,6 +155,17 @@ rate_keys table = if is_some (value_at key.Quantum table) then rate_keys_by_ppm 
 
 abbrev pub rate_fault : Members → Option SetupFault
 rate_fault table = table_fault (rate_keys table) table
+
+-- those of the top table by the version, and by whether a text with a unit is left, which asks for the length of a tick
+abbrev pub asks_tick_in : ℕ → Members → Bool
+asks_tick_in version top = has_controllers version && asks_tick top
+
+abbrev pub top_keys : ℕ → Members → TableKeys
+top_keys version top = record { required = top_required (asks_tick_in version top); optional = top_optional (has_controllers version) }
+
+-- of a controller
+abbrev pub controller_fault : Data → Option SetupFault
+controller_fault d = option_and_then (table_fault controller_keys) (as_table d)
 
 -- a version that is missing, of another kind, or not known
 abbrev pub version_fault : Members → Option SetupFault

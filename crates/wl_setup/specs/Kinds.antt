@@ -1,10 +1,13 @@
 -- What the value of a key has to be, and what it says (this project's profile).
-use Rattle.std.specs.Prelude.{ℕ, ℤ, pos, unsigned_abs, ◌||◌, ◌&&◌, ◌==◌, nat_le, Bool, false, if◌then◌else◌, List, [], ◌∷◌, length, Option, Some, None, is_some, unwrap_or, option_and_then, codes}
+use Rattle.std.specs.Prelude.{ℕ, ℤ, pos, unsigned_abs, ◌||◌, ◌&&◌, ◌==◌, nat_le, Bool, true, false, if◌then◌else◌, List, [], ◌∷◌, length, Option, Some, None, is_some, unwrap_or, option_and_then, codes}
 use Rattle.std.specs.List.{list_all, filter_map}
-use Rattle.toml.specs.Data.{Data, integer, array, Items, no_items, item, Members, get_member, as_str, as_integer, as_bool, as_table}
+use Rattle.toml.specs.Data.{Data, integer, array, Items, no_items, item, Members, no_members, member, get_member, as_str, as_integer, as_bool, as_table}
 use Rattle.std.specs.Str.{bytes_eq}
 use Rattle.wl_segments.specs.declared.SyncRules.{SyncRules}
 use Rattle.wl_segments.specs.declared.SyncRules.TheVariants.{After, Book}
+use Rattle.wl_units.specs.Scales.{tick_of, unit_of}
+use Rattle.wl_setup.specs.declared.plan_text.QueueText.{QueueText}
+use Rattle.wl_setup.specs.declared.plan_text.QueueText.TheVariants.{Fifo, Priority}
 use Rattle.wl_setup.specs.declared.keys.Key.{Key}
 use Rattle.wl_setup.specs.declared.keys.Kind.{Kind}
 use Rattle.wl_setup.specs.declared.keys.Kind.TheVariants as kind
@@ -62,6 +65,29 @@ sync_named text = if bytes_eq text (codes "after") then Some After else if bytes
 abbrev pub sync_in : Data → Option SyncRules
 sync_in d = option_and_then sync_named (as_str d)
 
+-- which frame a node sends first, as a word says it
+abbrev pub queue_named : List ℕ → Option QueueText
+queue_named text = if bytes_eq text (codes "fifo") then Some Fifo else if bytes_eq text (codes "priority") then Some Priority else None
+
+abbrev pub queue_in : Data → Option QueueText
+queue_in d = option_and_then queue_named (as_str d)
+
+-- the lengths of a tick in femtoseconds, and of a unit of length in micrometres
+abbrev pub tick_in : Data → Option ℕ
+tick_in d = option_and_then tick_of (as_str d)
+
+abbrev pub unit_in : Data → Option ℕ
+unit_in d = option_and_then unit_of (as_str d)
+
+-- a text that isn't empty
+abbrev pub is_filled : List ℕ → Bool
+is_filled text = nat_le 1 (length text)
+
+-- each member is a table
+abbrev pub are_all_tables : Members → Bool
+are_all_tables no_members = true
+are_all_tables (member k d ms) = is_some (as_table d) && are_all_tables ms
+
 -- whether a value is of a kind
 abbrev pub has_kind : Kind → Data → Bool
 has_kind kind.Number d = is_some (number_in largest_number d)
@@ -74,6 +100,20 @@ has_kind kind.Tables d = holds (list_all (λ e. is_some (as_table e))) (elements
 has_kind kind.Sync d = is_some (sync_in d)
 has_kind kind.Tolerance d = is_some (number_in largest_tolerance d)
 has_kind kind.Positive d = is_some (positive_in d)
+has_kind kind.Queue d = is_some (queue_in d)
+has_kind kind.Tick d = is_some (tick_in d)
+has_kind kind.Unit d = is_some (unit_in d)
+has_kind kind.Filled d = holds is_filled (as_str d)
+has_kind kind.Named d = holds are_all_tables (as_table d)
+
+-- the kinds that the version of controllers has besides
+abbrev pub is_wide_kind : Kind → Bool
+is_wide_kind kind.Queue = true
+is_wide_kind kind.Tick = true
+is_wide_kind kind.Unit = true
+is_wide_kind kind.Filled = true
+is_wide_kind kind.Named = true
+is_wide_kind _ = false
 
 -- the value of a key
 abbrev pub value_at : Key → Members → Option Data
@@ -98,6 +138,19 @@ sync_choice_at key table = unwrap_or (option_and_then sync_in (value_at key tabl
 -- a tolerance has no default
 abbrev pub tolerance_at : Key → Members → Option ℕ
 tolerance_at key table = option_and_then (number_in largest_tolerance) (value_at key table)
+
+abbrev pub queue_at : Key → Members → QueueText
+queue_at key table = unwrap_or (option_and_then queue_in (value_at key table)) Fifo
+
+-- nor has a length of a tick or of a unit, and a number that may be absent
+abbrev pub tick_at : Key → Members → Option ℕ
+tick_at key table = option_and_then tick_in (value_at key table)
+
+abbrev pub unit_at : Key → Members → Option ℕ
+unit_at key table = option_and_then unit_in (value_at key table)
+
+abbrev pub some_number_at : Key → Members → Option ℕ
+some_number_at key table = option_and_then (number_in largest_number) (value_at key table)
 
 -- nor has a number from 1 on, and a name that may be absent
 abbrev pub positive_at : Key → Members → Option ℕ

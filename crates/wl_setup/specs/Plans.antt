@@ -1,13 +1,15 @@
 -- Which plan, or which fault, belongs to a plan's text (this project's profile).
-use Rattle.std.specs.Prelude.{◌≡◌, ◌≢◌, ℕ, zero, suc, ◌+◌, nat_lt, min, max, Bool, true, false, if◌then◌else◌, List, [], ◌∷◌, ◌++◌, map, take, Option, Some, None, option_map, unwrap_or, Result, Ok, Err, MatchResult}
+use Rattle.std.specs.Prelude.{◌≡◌, ◌≢◌, ℕ, zero, suc, ◌+◌, nat_lt, unsigned_abs, min, max, Bool, true, false, if◌then◌else◌, List, [], ◌∷◌, ◌++◌, map, take, Option, Some, None, option_map, unwrap_or, Result, Ok, Err, MatchResult}
 use Rattle.std.specs.List.{enumerate_from, position_or_len}
 use Rattle.std.specs.Str.{bytes_eq}
 use Rattle.wl_level.specs.ByTick.{by_tick}
 use Rattle.wl_device.specs.Devices.{Answer}
 use Rattle.wl_limits.specs.declared.Limits.{Limits}
-use Rattle.wl_clock.specs.Timing.{Timing, tick_of, timing_within, rate_of_ppm}
+use Rattle.wl_clock.specs.Timing.{Timing, largest_deviation, millionths, tick_of, timing_within, rate_of_ppm}
 use Rattle.wl_clock.specs.declared.Rate.{Rate}
 use Rattle.wl_clock.specs.declared.ClockFault.{ClockFault}
+use Rattle.wl_clock.specs.declared.ClockFault.TheVariants.{BadPpm}
+use Rattle.wl_units.specs.Ratios.{fraction_with}
 use Rattle.wl_segments.specs.Lengths.{Lengths, segments_of, controller_segments_of}
 use Rattle.wl_segments.specs.declared.SegmentsFault.{SegmentsFault}
 use Rattle.wl_segments.specs.declared.SyncRules.{SyncRules}
@@ -55,6 +57,9 @@ each make (x ∷ xs) = after (make x) (λ y. after (each make xs) (λ ys. Ok (y 
 abbrev pub rate_from : ℕ → ClockText → Result Rate ClockFault
 rate_from from (text.Rate num den) = Ok (record { from = from; num = num; den = den })
 rate_from from (text.Ppm quantum ppm) = rate_of_ppm from quantum ppm
+rate_from from (text.Fraction num den ppm) =
+    if nat_lt largest_deviation (unsigned_abs ppm) then Err BadPpm
+    else Ok (record { from = from; num = (fraction_with num den (millionths ppm)).0; den = (fraction_with num den (millionths ppm)).1 })
 
 -- a rate of node i
 abbrev pub rate_in : ℕ → RateText → Result Rate SetupFault

@@ -8,11 +8,11 @@ use Rattle.wl_setup.specs.declared.plan_text.FrameText.{FrameText}
 use Rattle.wl_setup.specs.declared.plan_text.DisturbanceText.{DisturbanceText}
 use Rattle.wl_setup.specs.declared.plan_text.RateText.{RateText}
 use Rattle.wl_setup.specs.declared.plan_text.ClockText.{ClockText}
-use Rattle.wl_setup.specs.declared.plan_text.ClockText.TheVariants.{Rate, Ppm}
+use Rattle.wl_setup.specs.declared.plan_text.ClockText.TheVariants.{Rate, Ppm, Fraction}
 use Rattle.wl_setup.specs.declared.plan_text.SegmentsText.{SegmentsText}
 use Rattle.wl_setup.specs.declared.plan_text.SegmentsText.TheVariants.{Each, Controller}
 use Rattle.wl_setup.specs.Faults.{has_rates, has_tseg}
-use Rattle.wl_setup.specs.Kinds.{value_at, number_at, small_at, tolerance_at, positive_at, some_name_at, ppm_at, truth_at, name_at, bytes_at, tables_at, sync_choice_at}
+use Rattle.wl_setup.specs.Kinds.{value_at, number_at, small_at, tolerance_at, positive_at, some_name_at, ppm_at, truth_at, name_at, bytes_at, tables_at, sync_choice_at, queue_at, tick_at, unit_at, some_number_at}
 
 abbrev pub frame_of : Members → FrameText
 frame_of table = record {
@@ -24,6 +24,8 @@ frame_of table = record {
   extended = truth_at key.Extended table;
   every = positive_at key.Every table;
   count = positive_at key.Count table;
+  deadline = some_number_at key.Deadline table;
+  jitter = some_number_at key.Jitter table;
 }
 
 abbrev pub disturbance_of : Members → DisturbanceText
@@ -34,10 +36,11 @@ disturbance_of table = record {
   to = number_at key.To table;
 }
 
--- how a rate is written goes by whether `quantum` is there
+-- how a rate is written goes by whether `quantum` is there, and else by whether `ppm` is
 abbrev pub clock_of : Members → ClockText
 clock_of table =
     if is_some (value_at key.Quantum table) then Ppm (number_at key.Quantum table) (ppm_at key.Ppm table)
+    else if is_some (value_at key.Ppm table) then Fraction (number_at key.Num table) (number_at key.Den table) (ppm_at key.Ppm table)
     else Rate (number_at key.Num table) (number_at key.Den table)
 
 abbrev pub rate_of : Members → RateText
@@ -68,6 +71,8 @@ node_text_of version table = record {
   frame = map frame_of (tables_at key.Frame table);
   tolerance = tolerance_at key.Tolerance table;
   listens = truth_at key.Listen table;
+  queue = queue_at key.Queue table;
+  until = some_number_at key.Until table;
 }
 
 abbrev pub plan_of : Members → PlanText
@@ -78,4 +83,6 @@ plan_of top = record {
   node = map (node_text_of (number_at key.Version top)) (tables_at key.Node top);
   disturbance = map disturbance_of (tables_at key.Disturbance top);
   sync = sync_choice_at key.Sync top;
+  tick = tick_at key.Tick top;
+  unit = unit_at key.Unit top;
 }

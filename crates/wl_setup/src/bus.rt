@@ -48,6 +48,7 @@ impl ClockText {
     {
         match self {
             ClockText::Ppm { quantum, ppm: _ } => ClockText::Ppm { quantum, ppm: 0 },
+            ClockText::Fraction { num, den, ppm: _ } => ClockText::Rate { num, den },
             ClockText::Rate { .. } => self,
         }
     }

@@ -3,10 +3,11 @@ ghost use Rattle.std.specs.Prelude.{◌≡◌, map};
 ghost use Rattle.toml.specs.View.{view, table_view};
 ghost use Rattle.wl_setup.specs.declared.keys.Key.TheVariants as key;
 ghost use Rattle.wl_setup.specs.Kinds.{tables_at};
-ghost use Rattle.wl_setup.specs.Faults.{version_fault};
-ghost use Rattle.wl_setup.specs.TablePaths.{disturbance_fault_at, first_in, frame_fault_at, node_fault_at, rate_fault_at};
+ghost use Rattle.wl_setup.specs.Faults.{controller_fault, table_fault, version_fault};
+ghost use Rattle.wl_setup.specs.Keys.{controller_keys};
+ghost use Rattle.wl_setup.specs.TablePaths.{controller_faults, controllers_at, disturbance_fault_at, first_in, frame_fault_at, node_fault_at, rate_fault_at};
 ghost use Rattle.wl_setup.specs.Texts.{frame_of, disturbance_of, clock_of, rate_of, rates_of, segments_text_of, node_text_of};
-ghost use Rattle.wl_setup.specs.Document.{AnswersAt, AnswersEach, Passes, first_fault, named_text_of};
+ghost use Rattle.wl_setup.specs.Document.{AnswersAt, AnswersEach, Passes, first_fault, head_fault, named_plain, named_text_of, plain_fault};
 
 use crate::fault::SetupFault;
 use crate::keys::{self, Key};
@@ -14,16 +15,18 @@ use crate::names::Names;
 use crate::plan_text::{
     ClockText, DisturbanceText, FrameText, NodeText, PlanText, RateText, SegmentsText,
 };
-use crate::table_path::{PlacedFault, TablePath};
+use crate::table_path::{PlacedFault, TablePath, controllers};
 use crate::tables::{check_required, check_table};
 use crate::values::{
-    bytes_at, elements_at, name_at, number_at, positive_at, ppm_at, small_at, some_name_at,
-    sync_choice_at, tolerance_at, truth_at, value_at,
+    bytes_at, elements_at, name_at, number_at, positive_at, ppm_at, queue_at, small_at,
+    some_name_at, some_number_at, sync_choice_at, tick_at, tolerance_at, truth_at, unit_at,
+    value_at,
 };
-use crate::version::is_known_version;
+use crate::version::{has_controllers, is_known_version};
 use std::alloc::Global;
 use toml::{Table, Value};
 use wl_level::Listed;
+use wl_plain::plain_document;
 
 fn check_version(alloc: Global, top: &Table) -> Result<(), SetupFault>
     ensures { Passes (version_fault (table_view top.now)) result }
@@ -101,6 +104,8 @@ impl TableText for FrameText {
             extended: truth_at(table, Key::Extended),
             every: positive_at(table, Key::Every),
             count: positive_at(table, Key::Count),
+            deadline: some_number_at(table, Key::Deadline),
+            jitter: some_number_at(table, Key::Jitter),
         })
     }
 }
@@ -135,6 +140,12 @@ fn clock(table: &Table) -> ClockText
     if value_at(table, Key::Quantum).is_some() {
         ClockText::Ppm {
             quantum: number_at(table, Key::Quantum),
+            ppm: ppm_at(table, Key::Ppm),
+        }
+    } else if value_at(table, Key::Ppm).is_some() {
+        ClockText::Fraction {
+            num: number_at(table, Key::Num),
+            den: number_at(table, Key::Den),
             ppm: ppm_at(table, Key::Ppm),
         }
     } else {
@@ -234,16 +245,64 @@ impl TableText for NodeText {
             frame,
             tolerance: tolerance_at(table, Key::Tolerance),
             listens: truth_at(table, Key::Listen),
+            queue: queue_at(table, Key::Queue),
+            until: some_number_at(table, Key::Until),
         })
     }
 }
 
-/// Returns the plan text of a document's top table, and the names of its nodes; or the first fault, with the table where it is.
-pub(crate) fn plan_text(alloc: Global, top: &Table) -> Result<(PlanText, Names), PlacedFault>
-    ensures { AnswersAt (first_fault (table_view top.now)) (named_text_of (table_view top.now)) result }
+/// Tests the table of a controller.
+fn check_controller_table(alloc: Global, table: &Table) -> Result<(), SetupFault>
+    ensures { Passes (table_fault controller_keys (table_view table.now)) result }
+{
+    check_table(alloc, table, keys::controller_keys())
+}
+
+/// Tests the value of a controller: what is no table has no fault.
+fn check_controller(alloc: Global, value: &Value) -> Result<(), SetupFault>
+    ensures { Passes (controller_fault (view value.now)) result }
+{
+    match value.as_table() {
+        Some(table) => check_controller_table(alloc, table),
+        None => Ok(()),
+    }
+}
+
+/// Tests the tables of controllers.
+fn check_controllers(alloc: Global, table: &Table) -> Result<(), PlacedFault>
+    ensures { AnswersAt (controller_faults 0 (table_view table.now)) tt result }
+{
+    for (n, (_, value)) in table.iter().enumerate() {
+        TablePath::Controller(n as u64).placed(check_controller(alloc, value))?;
+    }
+    Ok(())
+}
+
+/// Tests the controllers of a document.
+fn check_all_controllers(alloc: Global, top: &Table) -> Result<(), PlacedFault>
+    ensures { AnswersAt (controller_faults 0 (controllers_at (table_view top.now))) tt result }
+{
+    match controllers(top) {
+        Some(table) => check_controllers(alloc, table),
+        None => Ok(()),
+    }
+}
+
+/// Tests the version, the top table and the controllers of a plain document.
+fn check_top(alloc: Global, top: &Table) -> Result<(), PlacedFault>
+    ensures { AnswersAt (head_fault (table_view top.now)) tt result }
 {
     TablePath::Top.placed(check_version(alloc, top))?;
-    TablePath::Top.placed(check_table(alloc, top, keys::top_keys()))?;
+    let keys = keys::top_keys(number_at(top, Key::Version), top);
+    TablePath::Top.placed(check_table(alloc, top, keys))?;
+    check_all_controllers(alloc, top)
+}
+
+/// Returns the plan text of a plain document's top table, and the names of its nodes; or the first fault, with the table where it is.
+fn plain_text(alloc: Global, top: &Table) -> Result<(PlanText, Names), PlacedFault>
+    ensures { AnswersAt (plain_fault (table_view top.now)) (named_plain (table_view top.now)) result }
+{
+    check_top(alloc, top)?;
     let version = number_at(top, Key::Version);
     let plan = PlanText {
         version,
@@ -252,7 +311,21 @@ pub(crate) fn plan_text(alloc: Global, top: &Table) -> Result<(PlanText, Names),
         node: rows(alloc, version, 0, elements_at(top, Key::Node))?,
         disturbance: rows(alloc, version, 0, elements_at(top, Key::Disturbance))?,
         sync: sync_choice_at(top, Key::Sync),
+        tick: tick_at(top, Key::Tick),
+        unit: unit_at(top, Key::Unit),
     };
     let names = plan.placed_names(alloc)?;
     Ok((plan, names))
+}
+
+/// Returns the plan text of a document's top table, and the names of its nodes; or the first fault, with the table where it is.
+pub(crate) fn plan_text(alloc: Global, top: &Table) -> Result<(PlanText, Names), PlacedFault>
+    ensures { AnswersAt (first_fault (table_view top.now)) (named_text_of (table_view top.now)) result }
+{
+    if has_controllers(number_at(top, Key::Version)) {
+        let plain = plain_document(alloc, top)?;
+        plain_text(alloc, &plain)
+    } else {
+        plain_text(alloc, top)
+    }
 }

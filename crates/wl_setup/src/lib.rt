@@ -28,7 +28,7 @@ pub use limits::{LARGEST_NUMBER, LARGEST_PPM, LARGEST_SMALL, LARGEST_TOLERANCE};
 pub use names::Names;
 pub use plan::{read_checked, read_plan};
 pub use plan_text::{
-    ClockText, DisturbanceText, FrameText, NodeText, PlanText, RateText, SegmentsText,
+    ClockText, DisturbanceText, FrameText, NodeText, PlanText, QueueText, RateText, SegmentsText,
 };
 pub use read::{NoDocument, document_or_place, read_bytes, read_text};
 pub use table_path::{PlacedFault, TablePath, table_at};

@@ -26,6 +26,7 @@ use wl_node::{NodeSetup, Queue, Queued};
 use wl_plan::{CheckedPlan, Disturbance, Disturbances, LATEST_END, Nodes, Plan};
 use wl_segments::{Segments, SegmentsFault, SyncRules};
 use wl_topology::{Place, Topology};
+use wl_units::fraction_with;
 
 impl FrameText {
     /// Returns the frame, as it waits: the `n`th of node `i`.
@@ -72,8 +73,21 @@ impl RateText {
                 den,
             }),
             ClockText::Ppm { quantum, ppm } => Rate::from_ppm(self.from, quantum, ppm),
+            ClockText::Fraction { num, den, ppm } => deviating_rate(self.from, num, den, ppm),
         }
     }
+}
+
+/// Returns the rate of a fraction of ticks and a deviation in parts per million, in lowest terms.
+fn deviating_rate(from: u64, num: u64, den: u64, ppm: i64) -> Result<Rate, ClockFault>
+    ensures { result ≡ rate_from from (ClockText.Fraction num den ppm) }
+{
+    let millionths = match Rate::from_ppm(0, 1, ppm) {
+        Ok(rate) => rate.num as u64,
+        Err(fault) => return Err(fault),
+    };
+    let (num, den) = fraction_with(num, den, millionths);
+    Ok(Rate { from, num, den })
 }
 
 /// Returns the rates of node `i`, or the first that is none.

@@ -20,6 +20,10 @@ pub struct PlanText {
     pub disturbance: Listed<DisturbanceText>,
     /// Where SYNC_SEG lies in a bit that an edge begins, at all nodes: after the edge if the key is absent.
     pub sync: SyncRules,
+    /// The length of a tick in femtoseconds, if it is said. No run uses it.
+    pub tick: Option<u64>,
+    /// The length of a unit of length in micrometres, if it is said. No run uses it.
+    pub unit: Option<u64>,
 }
 
 /// How fast a clock goes, as it is written.
@@ -29,6 +33,17 @@ pub enum ClockText {
     Rate { num: u64, den: u64 },
     /// A quantum takes `quantum` ticks, but for a deviation of `ppm` parts per million, from -10^9 to 10^9.
     Ppm { quantum: u64, ppm: i64 },
+    /// A quantum takes `num / den` ticks, but for a deviation of `ppm` parts per million, from -10^9 to 10^9.
+    Fraction { num: u64, den: u64, ppm: i64 },
+}
+
+/// Which of the frames that are ready a node sends first, as it is written.
+#[derive(Clone, Copy, Debug, PartialEq, Eq)]
+pub enum QueueText {
+    /// The one that became ready first: `queue = "fifo"`, or no key.
+    Fifo,
+    /// The one that wins the arbitration: `queue = "priority"`.
+    Priority,
 }
 
 /// A rate of a node's clock as it is written.
@@ -36,7 +51,7 @@ pub enum ClockText {
 pub struct RateText {
     /// The first quantum at this rate, counted from 0.
     pub from: u64,
-    /// The keys `num` and `den`, or `quantum` and `ppm`.
+    /// The keys `num` and `den`, or `quantum` and `ppm`, or all but `quantum`.
     pub clock: ClockText,
 }
 
@@ -75,6 +90,10 @@ pub struct NodeText {
     pub tolerance: Option<u32>,
     /// Whether the node only listens, false if the key is absent.
     pub listens: bool,
+    /// Which frame it sends first, `Fifo` if the key is absent.
+    pub queue: QueueText,
+    /// The tick from which on the node is unplugged, if it ever is.
+    pub until: Option<u64>,
 }
 
 /// A frame that waits at a node, as it is written.
@@ -96,6 +115,10 @@ pub struct FrameText {
     pub every: Option<u64>,
     /// How many times it becomes ready at most, if that is said.
     pub count: Option<u64>,
+    /// Within how many ticks after it becomes ready the frame has to be sent, if that is said. No run uses it.
+    pub deadline: Option<u64>,
+    /// By how many ticks at most it becomes ready later than it should, if that is said. No run uses it.
+    pub jitter: Option<u64>,
 }
 
 /// A disturbance as it is written: at a place of the cable, or at one node, something drives dominant for a while.

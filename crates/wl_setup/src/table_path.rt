@@ -1,11 +1,11 @@
 //! The tables of a plan's document, and a fault with the table where it is.
 ghost use Rattle.std.specs.Prelude.{◌≡◌, option_map};
 ghost use Rattle.toml.specs.View.{table_view};
-ghost use Rattle.wl_setup.specs.TablePaths.{answer_at, row_at, table_at};
+ghost use Rattle.wl_setup.specs.TablePaths.{answer_at, controllers_said, row_at, table_at, table_in};
 
 use crate::fault::SetupFault;
 use crate::keys::Key;
-use crate::values::elements_at;
+use crate::values::{elements_at, value_at};
 use std::alloc::AllocError;
 use toml::Table;
 
@@ -14,6 +14,8 @@ use toml::Table;
 pub enum TablePath {
     /// The top table.
     Top,
+    /// A controller's, in the order of their names.
+    Controller(u64),
     /// A node's.
     Node(u64),
     /// A rate's: first the node, then the rate.
@@ -69,12 +71,37 @@ fn row_at(table: &Table, key: Key, n: u64) -> Option<&Table>
     }
 }
 
+/// Returns the tables of controllers, if there are any.
+pub(crate) fn controllers(top: &Table) -> Option<&Table>
+    ensures { option_map (λ t. table_view t.now) result ≡ controllers_said (table_view top.now) }
+{
+    match value_at(top, Key::Controllers) {
+        Some(value) => value.as_table(),
+        None => None,
+    }
+}
+
+/// Returns the table with this number among those at the keys of a table.
+fn nth_table(table: &Table, number: u64) -> Option<&Table>
+    ensures { option_map (λ t. table_view t.now) result ≡ table_in number (table_view table.now) }
+{
+    let mut left = number;
+    for (_, value) in table.iter() {
+        if left == 0 {
+            return value.as_table();
+        }
+        left -= 1;
+    }
+    None
+}
+
 /// Returns the table at a path, if the document has it.
 pub fn table_at(top: &Table, path: TablePath) -> Option<&Table>
     ensures { option_map (λ t. table_view t.now) result ≡ table_at path (table_view top.now) }
 {
     match path {
         TablePath::Top => Some(top),
+        TablePath::Controller(n) => nth_table(controllers(top)?, n),
         TablePath::Node(i) => row_at(top, Key::Node, i),
         TablePath::Rate(i, n) => row_at(row_at(top, Key::Node, i)?, Key::Rates, n),
         TablePath::Frame(i, n) => row_at(row_at(top, Key::Node, i)?, Key::Frame, n),

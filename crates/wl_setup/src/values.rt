@@ -1,20 +1,22 @@
 //! What the values of a table's keys are, and what they say.
-ghost use Rattle.std.specs.Prelude.{◌≡◌, ◌≤◌, ◌^◌, ◌<◌, Some, None, option_map, option_copied, IsSome, IfOk, is_some, map};
+ghost use Rattle.std.specs.Prelude.{◌≡◌, ◌≤◌, ◌^◌, ◌<◌, true, Some, None, option_map, option_copied, IsSome, IfOk, is_some, map};
 ghost use Rattle.std.specs.List.{list_all};
 ghost use Rattle.toml.specs.Data.{as_table, get_member};
 ghost use Rattle.toml.specs.View.{view, table_view, items_view};
-ghost use Rattle.wl_setup.specs.Kinds.{number_within, number_in, positive_in, positive_at, some_name_at, byte_in, is_name, is_name_letter, is_ppm, has_kind, number_at, small_at, tolerance_at, ppm_at, truth_at, name_said, elements_of, elements_said, bytes_at, sync_named, sync_in, sync_choice_at};
+ghost use Rattle.wl_setup.specs.Kinds.{are_all_tables, is_filled, is_wide_kind, queue_at, queue_in, queue_named, some_number_at, tick_at, tick_in, unit_at, unit_in, number_within, number_in, positive_in, positive_at, some_name_at, byte_in, is_name, is_name_letter, is_ppm, has_kind, number_at, small_at, tolerance_at, ppm_at, truth_at, name_said, elements_of, elements_said, bytes_at, sync_named, sync_in, sync_choice_at};
 
 use crate::keys::{Key, Kind};
 use crate::limits::{
     LARGEST_BYTE, LARGEST_NUMBER, LARGEST_PPM, LARGEST_SMALL, LARGEST_TOLERANCE, LONGEST_NAME,
 };
+use crate::plan_text::QueueText;
 use crate::tables::TableKey;
 use crate::text::Text;
 use std::alloc::{AllocError, Global};
 use toml::{Table, Value};
 use wl_level::Listed;
 use wl_segments::SyncRules;
+use wl_units::{tick_of, unit_of};
 
 /// Returns the value at a key of this name.
 pub fn value_named<'a>(table: &'a Table, name: &str) -> Option<&'a Value>
@@ -129,6 +131,83 @@ fn sync_in(value: &Value) -> Option<SyncRules>
     }
 }
 
+/// Returns which frame a node sends first, as a word says it.
+fn queue_named(text: &str) -> Option<QueueText>
+    ensures { result ≡ queue_named text.now }
+{
+    if text == "fifo" {
+        Some(QueueText::Fifo)
+    } else if text == "priority" {
+        Some(QueueText::Priority)
+    } else {
+        None
+    }
+}
+
+fn queue_in(value: &Value) -> Option<QueueText>
+    ensures { result ≡ queue_in (view value.now) }
+{
+    match value.as_str() {
+        Some(text) => queue_named(text),
+        None => None,
+    }
+}
+
+/// Returns the length of a tick in femtoseconds.
+fn tick_in(value: &Value) -> Option<u64>
+    ensures { result ≡ tick_in (view value.now) }
+{
+    match value.as_str() {
+        Some(text) => tick_of(text),
+        None => None,
+    }
+}
+
+/// Returns the length of a unit of length in micrometres.
+fn unit_in(value: &Value) -> Option<u64>
+    ensures { result ≡ unit_in (view value.now) }
+{
+    match value.as_str() {
+        Some(text) => unit_of(text),
+        None => None,
+    }
+}
+
+fn is_filled(text: &str) -> bool
+    ensures { result ≡ is_filled text.now }
+{
+    1 <= text.len()
+}
+
+/// True if each member is a table.
+fn are_all_tables(table: &Table) -> bool
+    ensures { result ≡ are_all_tables (table_view table.now) }
+{
+    for (_, value) in table.iter() {
+        if !value.is_table() {
+            return false;
+        }
+    }
+    true
+}
+
+/// True if a value is of a kind that version 4 has besides.
+fn has_wide_kind(kind: Kind, value: &Value) -> bool
+    requires { is_wide_kind kind ≡ true }
+    ensures { result ≡ has_kind kind (view value.now) }
+{
+    match kind {
+        Kind::Queue => queue_in(value).is_some(),
+        Kind::Tick => tick_in(value).is_some(),
+        Kind::Unit => unit_in(value).is_some(),
+        Kind::Filled => value.as_str().is_some_and(is_filled),
+        _ => match value.as_table() {
+            Some(table) => are_all_tables(table),
+            None => false,
+        },
+    }
+}
+
 /// True if a value is of a kind.
 #[tactic(auto, unfolding(crate::specs::Limits::largest_number, crate::specs::Limits::largest_small))]
 pub fn has_kind(kind: Kind, value: &Value) -> bool
@@ -151,6 +230,9 @@ pub fn has_kind(kind: Kind, value: &Value) -> bool
             Some(values) => are_tables(values),
             None => false,
         },
+        Kind::Queue | Kind::Tick | Kind::Unit | Kind::Filled | Kind::Named => {
+            has_wide_kind(kind, value)
+        }
     }
 }
 
@@ -204,6 +286,38 @@ pub(crate) fn positive_at(table: &Table, key: Key) -> Option<u64>
     ensures { result ≡ positive_at key (table_view table.now) }
 {
     positive_in(value_at(table, key)?)
+}
+
+/// Returns the number at a key, if it has one.
+#[tactic(auto, unfolding(crate::specs::Limits::largest_number))]
+pub(crate) fn some_number_at(table: &Table, key: Key) -> Option<u64>
+    ensures { result ≡ some_number_at key (table_view table.now) }
+{
+    number_in(LARGEST_NUMBER, value_at(table, key)?)
+}
+
+/// Returns the length of a tick in femtoseconds at a key, if it has one.
+pub(crate) fn tick_at(table: &Table, key: Key) -> Option<u64>
+    ensures { result ≡ tick_at key (table_view table.now) }
+{
+    tick_in(value_at(table, key)?)
+}
+
+/// Returns the length of a unit of length in micrometres at a key, if it has one.
+pub(crate) fn unit_at(table: &Table, key: Key) -> Option<u64>
+    ensures { result ≡ unit_at key (table_view table.now) }
+{
+    unit_in(value_at(table, key)?)
+}
+
+/// Returns which frame a node sends first, at a key; the one that became ready first if it has none.
+pub(crate) fn queue_at(table: &Table, key: Key) -> QueueText
+    ensures { result ≡ queue_at key (table_view table.now) }
+{
+    match value_at(table, key) {
+        Some(value) => queue_in(value).unwrap_or(QueueText::Fifo),
+        None => QueueText::Fifo,
+    }
 }
 
 /// Returns the truth value at a key, false if it has none.

@@ -1,0 +1,6 @@
+pub mod Tables
+pub mod Measures
+pub mod Clocks
+pub mod Nodes
+pub mod Documents
+pub mod Asking

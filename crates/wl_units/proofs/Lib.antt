@@ -1,0 +1,3 @@
+mod Terms
+mod Steps
+mod Rows

@@ -1,0 +1,4 @@
+pub mod Decimals
+pub mod Units
+pub mod Ratios
+pub mod Scales
