@@ -1,3 +1,4 @@
 pub mod Expecting
+pub mod Heads
 pub mod Rows
 pub mod Small

@@ -1,15 +1,19 @@
 -- What has passed a node, as a list: its first parts, and what of it the node has sent.
-use Rattle.std.proofs.Common.{◌≡◌, ◌∙◌, refl, sym, ap, subst, inl, inr, ℕ, zero, suc, ◌+◌, ◌<◌, ◌≤◌, ◌==◌, cond, Bool, true, false, List, [], ◌∷◌, ◌++◌, length, take, drop, Some, arith, append-nil}
-use Rattle.std.specs.Prelude.{count_by, filter, map, slice_get}
-use Rattle.std.proofs.lemmas.Bool.{cases_eq, eqb-true}
-use Rattle.std.proofs.lemmas.List.{length-append, map-append, take-append-drop, take-append-le}
+use Rattle.std.proofs.Common.{◌≡◌, ◌≢◌, ◌∙◌, refl, sym, ap, subst, inl, inr, ℕ, zero, suc, ◌+◌, ◌<◌, ◌≤◌, ◌==◌, cond, Bool, true, false, List, [], ◌∷◌, ◌++◌, length, take, Some, arith, append-nil, append_assoc}
+use Rattle.std.specs.Prelude.{IsPermutation, count_by, filter, map, slice_get}
+use Rattle.std.proofs.lemmas.Bool.{cases_eq, eq-eqb, eqb-true, ne_eqb}
+use Rattle.std.proofs.lemmas.List.{length-append, map-append, take-append-le}
 use Rattle.std.proofs.lemmas.List.Elements.{filter-append}
+use Rattle.std.proofs.lemmas.List.Sorted.{IsPermutation-pop_more, IsPermutation-refl}
 use Rattle.std.proofs.lemmas.List.Sums.{sum_by-append}
 use Rattle.std.proofs.lemmas.Option.{get_or_from_slice_get, slice_get_within}
 use Rattle.std.proofs.Math.Seq.{take-append_seam, take-length, take-suc}
 use Rattle.wl_frame.specs.Grammar.{Content}
+use Rattle.wl_node.specs.declared.setup.NodeSetup.{NodeSetup}
 use Rattle.wl_node.specs.declared.setup.Passed.{Passed}
 use Rattle.wl_node.specs.History.{is_sent}
+use Rattle.wl_buses.specs.BothProofs.Queues.{ComeFrom, IsFifo, queued_contents, unsent_after}
+use Rattle.wl_buses.proofs.BothProofs.Heads.{IsHandedBy, fifo_next, fifo_sent, sent_length, unsent_first, unsent_received, unsent_sent}
 use Rattle.wl_buses.specs.OneFrame.Stations.{Stations}
 use Rattle.wl_buses.specs.FrameEnd.Rests.{passed_frame}
 use Rattle.wl_buses.specs.NextFrames.Frames.{Frame}
@@ -65,14 +69,68 @@ module _ (s : Stations) (frames : ℕ → Frame) (winner : ℕ → ℕ) (content
   sent_one true x = refl
   sent_one false x = refl
 
-  module _ (queue : List Content) (count : ℕ) (order : (n : ℕ) → n < count → i ≡ winner n → slice_get queue (won_by winner i n) ≡ Some (content n)) where
-    pub sent_is : (n : ℕ) → n ≤ count → sent_contents (P n) ≡ take (won_by winner i n) queue
-    sent_is zero few = refl
-    sent_is (suc n) few =
-        sent_both (P n) (one n ∷ []) ∙ ap (λ l. l ++ sent_contents (one n ∷ [])) (sent_is n (omega arith))
-        ∙ ap (λ l. take (won_by winner i n) queue ++ l) (sent_one (i == winner n) (one n)) ∙ won_next winner content i queue n (order n few) (i == winner n) refl
+  -- what it has sent, and what its queue still has
+  module _ (setup : NodeSetup) (count : ℕ) (handed : (n : ℕ) → n < count → i ≡ winner n → IsHandedBy setup (unsent_after setup (P n)) (content n)) where
+    abbrev left : ℕ → List Content
+    left n = queued_contents (unsent_after setup (P n))
 
-    pub sent_part : (n : ℕ) (xs : List Passed) → n ≤ count → xs ≡ P n → (rest : List Content) × (sent_contents xs ++ rest ≡ queue)
-    sent_part n xs few e =
-        let left = drop (won_by winner i n) queue in
-        (drop (won_by winner i n) queue, ap (λ l. sent_contents l ++ left) e ∙ ap (λ l. l ++ left) (sent_is n few) ∙ take-append-drop (won_by winner i n) queue)
+    sent_own : (n : ℕ) → i ≡ winner n → sent_contents (P (suc n)) ≡ sent_contents (P n) ++ content n ∷ []
+    sent_own n e =
+        sent_both (P n) (one n ∷ []) ∙ ap (λ l. sent_contents (P n) ++ l) (sent_one (i == winner n) (one n) ∙ ap (λ b. cond b (content n ∷ []) []) (eq-eqb i (winner n) e))
+
+    sent_other : (n : ℕ) → i ≢ winner n → sent_contents (P (suc n)) ≡ sent_contents (P n)
+    sent_other n e =
+        sent_both (P n) (one n ∷ []) ∙ ap (λ l. sent_contents (P n) ++ l) (sent_one (i == winner n) (one n) ∙ ap (λ b. cond b (content n ∷ []) []) (ne_eqb i (winner n) e))
+        ∙ append-nil (sent_contents (P n))
+
+    left_other : (n : ℕ) → i ≢ winner n → unsent_after setup (P (suc n)) ≡ unsent_after setup (P n)
+    left_other n e = unsent_received setup (P n) (one n) (ne_eqb i (winner n) e)
+
+    once : (n : ℕ) → n ≤ count → IsPermutation (queued_contents setup.queue) (sent_contents (P n) ++ left n)
+    once zero few = subst (λ u. IsPermutation (queued_contents setup.queue) (queued_contents u)) (sym (unsent_first setup)) (IsPermutation-refl (queued_contents setup.queue))
+    once (suc n) few = elim (cases_eq i (winner n)) [
+      | inl own ↦
+          (let h = handed n few own in
+          subst (λ l. IsPermutation (queued_contents setup.queue) (l ++ left (suc n))) (sym (sent_own n own))
+          (IsPermutation-pop_more (queued_contents setup.queue) (sent_contents (P n)) (left n) (left (suc n)) (content n) (once n (omega arith))
+          (unsent_sent setup (P n) (one n) h.0 (eq-eqb i (winner n) own) h.1)))
+      | inr other ↦
+          subst (λ l. IsPermutation (queued_contents setup.queue) (l ++ left (suc n))) (sym (sent_other n other))
+          (subst (λ u. IsPermutation (queued_contents setup.queue) (sent_contents (P n) ++ queued_contents u)) (sym (left_other n other)) (once n (omega arith)))
+    ]
+
+    in_order : IsFifo setup → (n : ℕ) → n ≤ count → sent_contents (P n) ++ left n ≡ queued_contents setup.queue
+    in_order fifo zero few = ap queued_contents (unsent_first setup)
+    in_order fifo (suc n) few = elim (cases_eq i (winner n)) [
+      | inl own ↦
+          (let h = handed n few own in
+          ap (λ l. l ++ left (suc n)) (sent_own n own) ∙ append_assoc (sent_contents (P n)) (content n ∷ []) (left (suc n))
+          ∙ ap (λ l. sent_contents (P n) ++ l) (sym (fifo_sent setup (P n) (one n) h.0 fifo (eq-eqb i (winner n) own) h.1)) ∙ in_order fifo n (omega arith))
+      | inr other ↦
+          ap (λ l. l ++ left (suc n)) (sent_other n other) ∙ ap (λ u. sent_contents (P n) ++ queued_contents u) (left_other n other) ∙ in_order fifo n (omega arith)
+    ]
+
+    pub come_from : (n : ℕ) → n ≤ count → ComeFrom setup (sent_contents (P n)) (queued_contents (unsent_after setup (P n)))
+    come_from n few = record { once = once n few; order = λ fifo. in_order fifo n few }
+
+    -- how many are left
+    pub left_is : (n : ℕ) → n ≤ count → length (unsent_after setup (P n)) + won_by winner i n ≡ length setup.queue
+    left_is zero few = (let e = ap length (unsent_first setup) in omega arith)
+    left_is (suc n) few = elim (cases_eq i (winner n)) [
+      | inl own ↦
+          (let h = handed n few own in
+          let fewer = sent_length setup (P n) (one n) h.0 (eq-eqb i (winner n) own) h.1 in
+          let more : won_by winner i (suc n) ≡ won_by winner i n + 1 = ap (λ b. won_by winner i n + cond b 1 0) (eq-eqb i (winner n) own) in
+          let before = left_is n (omega arith) in
+          omega arith)
+      | inr other ↦
+          (let same = ap length (left_other n other) in
+          let more : won_by winner i (suc n) ≡ won_by winner i n + 0 = ap (λ b. won_by winner i n + cond b 1 0) (ne_eqb i (winner n) other) in
+          let before = left_is n (omega arith) in
+          omega arith)
+    ]
+
+    -- the next in the order of a queue that is first in, first out
+    pub next_in_order : IsFifo setup → (n : ℕ) → n < count → i ≡ winner n → slice_get (queued_contents setup.queue) (won_by winner i n) ≡ Some (content n)
+    next_in_order fifo n less own =
+        (let h = handed n less own in ap (slice_get (queued_contents setup.queue)) (sym (count_sent n)) ∙ fifo_next setup (P n) h.0 (content n) fifo h.1)

@@ -1,4 +1,4 @@
-use Rattle.std.proofs.Common.{◌≡◌, refl, ℕ, []}
+use Rattle.std.proofs.Common.{◌≡◌, refl, ℕ, zero, suc, ◌<◌, [], Some}
 use Rattle.wl_plan.specs.declared.plan.Plan.{Plan}
 use Rattle.wl_plan.specs.PlanLine.{line_of, setup_at}
 use Rattle.wl_bound.specs.Conditions.{IsSound, plain}
@@ -12,10 +12,20 @@ use Rattle.wl_buses.proofs.OneFrame.Plans.{line_of_plan}
 use Rattle.wl_buses.specs.FirstFrame.FirstFrames.{HasFirstFrames, queues_of, waiting_of}
 use Rattle.wl_buses.specs.FrameEnd.Again.{LeavesRoomToRest}
 use Rattle.wl_buses.specs.FamilyPlans.FamilyStations.{stations_of}
-use Rattle.wl_buses.specs.CleanLines.Lines.{IsPoweredUp}
+use Rattle.wl_buses.specs.CleanLines.Lines.{IsPoweredUp, LineGetsThrough}
+use Rattle.wl_buses.specs.BothProofs.Queues.{head_at}
+use Rattle.wl_buses.specs.SentFrames.Sending.{unsent_with}
+use Rattle.wl_buses.specs.CleanPlans.PlanFrames.{plan_decision_of}
 use Rattle.wl_buses.specs.CleanPlans.Clean.{AllGetThrough}
 use Rattle.wl_buses.proofs.CleanPlans.Verdicts.{of_verdict}
 use Rattle.wl_buses.proofs.clean_plans.laws.any_senders_are_clean.Goals as goal
+
+-- as its line has it
+handed_on : (plan : Plan) (s : Stations) (x : LineGetsThrough (line_of plan) (setup_at plan) (waiting_of plan (queues_of plan) s)) → (n : ℕ) (less : n < x.bus.count)
+    → head_at (setup_at plan (x.bus.by.winner n)) (unsent_with s (setup_at plan) x.bus.frames x.bus.by.winner x.bus.by.content (x.bus.by.winner n) n)
+    (plan_decision_of plan s (record { frames = x.bus.frames; count = x.bus.count; some = x.bus.some; are = x.bus.are; first = x.bus.first; by = x.bus.by }) n less) ≡ Some (x.bus.by.content n)
+handed_on plan s x zero less = x.handed zero less
+handed_on plan s x (suc n) less = x.handed (suc n) less
 
 -- as all frames of its line do
 whole : goal.After-all_frames_of_a_line_get_through → (plan : Plan) (s : Stations) (bus : Bus) (chase : ℕ → ℕ) → IsPlanOf plan s → plan.disturbances ≡ [] → HasStations bus s → IsSound bus
@@ -37,6 +47,7 @@ whole c plan s bus chase of calm bus_of sound answer rest has =
       passed = x.passed;
       in_time = x.in_time;
       sent = x.sent;
+      handed = handed_on plan s x;
       order = x.order;
       goes = x.goes;
       ends = x.ends;

@@ -1,0 +1,171 @@
+-- What a queue hands its node at a quantum, of the frames that the node hasn't sent.
+use Rattle.std.proofs.Common.{◌≡◌, ◌∙◌, inl, inr, refl, sym, ap, subst, ℕ, zero, suc, ◌+◌, ◌<◌, ◌≤◌, cond, Bool, true, false, List, [], ◌∷◌, ◌++◌, length, Some, None, arith}
+use Rattle.std.specs.Prelude.{IsPermutation, count_by, drop, nat_le, slice_get}
+use Rattle.std.proofs.lemmas.Bool.{cases_Bool, le-leb, lt-leb}
+use Rattle.std.proofs.lemmas.List.Sorted.{IsPermutation-refl, length_permutation}
+use Rattle.std.proofs.lemmas.List.Sums.{sum_by-append}
+use Rattle.wl_frame.specs.Grammar.{Content}
+use Rattle.wl_frame.specs.Same.{content_decides, same_content}
+use Rattle.wl_node.specs.declared.setup.NodeSetup.{NodeSetup}
+use Rattle.wl_node.specs.declared.setup.Passed.{Passed}
+use Rattle.wl_node.specs.declared.setup.Queued.{Queued}
+use Rattle.wl_node.specs.History.{is_sent, ready_head}
+use Rattle.wl_buses.specs.BothProofs.Queues.{IsFifo, head_at, place_of, queued_contents, unsent_after, wakes_at}
+
+pub same_length : (queue : List Queued) → length (queued_contents queue) ≡ length queue
+same_length [] = refl
+same_length (q ∷ more) = ap suc (same_length more)
+
+-- the place of a frame in a list that has it
+pub place_is : (c : Content) (fs : List Content) (n : ℕ) → slice_get fs n ≡ Some c → slice_get fs (place_of (Some c) fs) ≡ Some c
+place_is c [] n e = cc
+place_is c (f ∷ fs) zero e = elim (cases_Bool (same_content c f)) [
+  | inl alike ↦ ap (λ b. slice_get (f ∷ fs) (cond b 0 (suc (place_of (Some c) fs)))) alike ∙ e
+  | inr other ↦ absurd (both_ways (same_content c f) other ((content_decides c f).1 (same_some f c e)))
+]
+  where
+    same_some : (f c : Content) → Some f ≡ Some c → c ≡ f
+    same_some f c e = cc
+
+    both_ways : (b : Bool) → b ≡ false → b ≡ true → ⊥
+    both_ways b off on = cc
+place_is c (f ∷ fs) (suc n) e = elim (cases_Bool (same_content c f)) [
+  | inl alike ↦ ap (λ b. slice_get (f ∷ fs) (cond b 0 (suc (place_of (Some c) fs)))) alike ∙ ap Some (sym ((content_decides c f).0 alike))
+  | inr other ↦ ap (λ b. slice_get (f ∷ fs) (cond b 0 (suc (place_of (Some c) fs)))) other ∙ place_is c fs n e
+]
+
+-- an element of a list
+pub some_at : (cs : List Content) (n : ℕ) → n < length cs → (c : Content) × (slice_get cs n ≡ Some c)
+some_at [] n less = absurd (omega arith)
+some_at (c ∷ cs) zero less = (c, refl)
+some_at (c ∷ cs) (suc n) less = some_at cs n (omega arith)
+
+pub some_then : (cs : List Content) (n : ℕ) (c : Content) → slice_get cs n ≡ Some c → n < length cs
+some_then [] n c e = cc
+some_then (x ∷ cs) zero c e = omega arith
+some_then (x ∷ cs) (suc n) c e = (let h = some_then cs n c e in omega arith)
+
+pub none_then : (cs : List Content) (n : ℕ) → slice_get cs n ≡ None → length cs ≤ n
+none_then [] n e = omega arith
+none_then (x ∷ cs) zero e = cc
+none_then (x ∷ cs) (suc n) e = (let h = none_then cs n e in omega arith)
+
+-- none before it wakes, none of no frames, and one of some from then on
+pub head_none : (setup : NodeSetup) (k : ℕ) → head_at setup [] k ≡ None
+head_none setup k = refl
+
+pub head_early : (setup : NodeSetup) (unsent : List Queued) (k : ℕ) → k < wakes_at setup unsent → head_at setup unsent k ≡ None
+head_early setup [] k less = refl
+head_early setup (q ∷ more) k less = ap (λ c. cond c (Some q.frame) None) (lt-leb q.ready k less)
+
+-- a frame of a queue that it is handed
+pub record IsHanded (setup : NodeSetup) (unsent : List Queued) (k : ℕ) : Type 0 where
+  pub frame : Content
+  pub is : head_at setup unsent k ≡ Some frame
+
+pub head_late : (setup : NodeSetup) (unsent : List Queued) (k : ℕ) → 0 < length unsent → wakes_at setup unsent ≤ k → IsHanded setup unsent k
+head_late setup [] k some late = absurd (omega arith)
+head_late setup (q ∷ more) k some late = record { frame = q.frame; is = ap (λ c. cond c (Some q.frame) None) (le-leb q.ready k late) }
+
+-- a node was handed a frame at some quantum, of those that are left
+abbrev pub IsHandedBy : NodeSetup → List Queued → Content → Type 0
+IsHandedBy setup left frame = (quantum : ℕ) × (head_at setup left quantum ≡ Some frame)
+
+-- it is one of them
+pub head_in : (setup : NodeSetup) (unsent : List Queued) (k : ℕ) (c : Content) → head_at setup unsent k ≡ Some c → (n : ℕ) × (slice_get (queued_contents unsent) n ≡ Some c)
+head_in setup [] k c e = cc
+head_in setup (q ∷ more) k c e = (0, by (nat_le q.ready k) e)
+  where
+    by : (b : Bool) → cond b (Some q.frame) None ≡ Some c → Some q.frame ≡ Some c
+    by true e = e
+    by false e = cc
+
+-- what is left after frames have passed the node
+pub unsent_first : (setup : NodeSetup) → unsent_after setup [] ≡ setup.queue
+unsent_first setup = refl
+
+drop_nothing : (n : ℕ) → drop {A = Queued} n [] ≡ []
+drop_nothing zero = refl
+drop_nothing (suc n) = refl
+
+drop_one_more : (n : ℕ) (queue : List Queued) → drop (n + 1) queue ≡ drop 1 (drop n queue)
+drop_one_more zero queue = refl
+drop_one_more (suc n) [] = drop_nothing (suc n + 1) ∙ sym (ap (drop 1) (drop_nothing (suc n)))
+drop_one_more (suc n) (q ∷ queue) = ap (λ k. drop k (q ∷ queue)) (let e : suc n + 1 ≡ suc (n + 1) = omega arith in e) ∙ drop_one_more n queue
+
+count_more : (passed : List Passed) (p : Passed) → count_by is_sent (passed ++ p ∷ []) ≡ count_by is_sent passed + (cond p.sent 1 0 + 0)
+count_more passed p = sum_by-append (λ p. cond (is_sent p) 1 0) passed (p ∷ []) ∙ omega arith
+
+pub unsent_received : (setup : NodeSetup) (passed : List Passed) (p : Passed) → p.sent ≡ false → unsent_after setup (passed ++ p ∷ []) ≡ unsent_after setup passed
+unsent_received setup passed p e =
+    ap (λ n. drop n setup.queue) (count_more passed p ∙ ap (λ b. count_by is_sent passed + (cond b 1 0 + 0)) e ∙ omega arith)
+
+unsent_tail : (setup : NodeSetup) (passed : List Passed) (p : Passed) → p.sent ≡ true → unsent_after setup (passed ++ p ∷ []) ≡ drop 1 (unsent_after setup passed)
+unsent_tail setup passed p e =
+    ap (λ n. drop n setup.queue) (count_more passed p ∙ ap (λ b. count_by is_sent passed + (cond b 1 0 + 0)) e ∙ omega arith)
+    ∙ drop_one_more (count_by is_sent passed) setup.queue
+
+-- a frame that was handed and is sent is no more among them
+pub unsent_sent : (setup : NodeSetup) (passed : List Passed) (p : Passed) (k : ℕ) → p.sent ≡ true → head_at setup (unsent_after setup passed) k ≡ Some p.frame
+    → IsPermutation (queued_contents (unsent_after setup passed)) (p.frame ∷ queued_contents (unsent_after setup (passed ++ p ∷ [])))
+unsent_sent setup passed p k sent e =
+    subst (λ u. IsPermutation (queued_contents (unsent_after setup passed)) (p.frame ∷ queued_contents u)) (sym (unsent_tail setup passed p sent)) (first_of (unsent_after setup passed) e)
+  where
+    first_of : (u : List Queued) → head_at setup u k ≡ Some p.frame → IsPermutation (queued_contents u) (p.frame ∷ queued_contents (drop 1 u))
+    first_of [] e = cc
+    first_of (q ∷ more) e = by (nat_le q.ready k) e
+      where
+        by : (b : Bool) → cond b (Some q.frame) None ≡ Some p.frame → IsPermutation (q.frame ∷ queued_contents more) (p.frame ∷ queued_contents more)
+        by true e = subst (λ c. IsPermutation (q.frame ∷ queued_contents more) (c ∷ queued_contents more)) (let h : q.frame ≡ p.frame = cc in h) (IsPermutation-refl (q.frame ∷ queued_contents more))
+        by false e = cc
+
+pub sent_length : (setup : NodeSetup) (passed : List Passed) (p : Passed) (k : ℕ) → p.sent ≡ true → head_at setup (unsent_after setup passed) k ≡ Some p.frame
+    → suc (length (unsent_after setup (passed ++ p ∷ []))) ≡ length (unsent_after setup passed)
+sent_length setup passed p k sent e =
+    let same = length_permutation (queued_contents (unsent_after setup passed)) (p.frame ∷ queued_contents (unsent_after setup (passed ++ p ∷ []))) (unsent_sent setup passed p k sent e) in
+    let before = same_length (unsent_after setup passed) in
+    let after = same_length (unsent_after setup (passed ++ p ∷ [])) in
+    omega arith
+
+-- it is one of the queue
+drop_in : (n : ℕ) (queue : List Queued) (k : ℕ) (c : Content) → slice_get (queued_contents (drop n queue)) k ≡ Some c → (m : ℕ) × (slice_get (queued_contents queue) m ≡ Some c)
+drop_in zero queue k c e = (k, e)
+drop_in (suc n) [] k c e = (k, e)
+drop_in (suc n) (q ∷ queue) k c e = (let m = drop_in n queue k c e in (suc m.0, m.1))
+
+pub unsent_in : (setup : NodeSetup) (passed : List Passed) (n : ℕ) (c : Content) → slice_get (queued_contents (unsent_after setup passed)) n ≡ Some c → (m : ℕ) × (slice_get (queued_contents setup.queue) m ≡ Some c)
+unsent_in setup passed n c e = drop_in (count_by is_sent passed) setup.queue n c e
+
+-- a queue that is first in, first out
+pub fifo_unsent : (setup : NodeSetup) (passed : List Passed) → IsFifo setup → unsent_after setup passed ≡ drop (count_by is_sent passed) setup.queue
+fifo_unsent setup passed fifo = refl
+
+-- what it hands is the next in its order
+drop_at : (n : ℕ) (queue : List Queued) (c : Content) → slice_get (queued_contents (drop n queue)) 0 ≡ Some c → slice_get (queued_contents queue) n ≡ Some c
+drop_at zero queue c e = e
+drop_at (suc n) [] c e = e
+drop_at (suc n) (q ∷ queue) c e = drop_at n queue c e
+
+first_of_ready : (u : List Queued) (k : ℕ) (c : Content) → ready_head u k ≡ Some c → slice_get (queued_contents u) 0 ≡ Some c
+first_of_ready [] k c e = cc
+first_of_ready (q ∷ more) k c e = by (nat_le q.ready k) e
+  where
+    by : (b : Bool) → cond b (Some q.frame) None ≡ Some c → Some q.frame ≡ Some c
+    by true e = e
+    by false e = cc
+
+pub fifo_next : (setup : NodeSetup) (passed : List Passed) (k : ℕ) (c : Content) → IsFifo setup → head_at setup (unsent_after setup passed) k ≡ Some c
+    → slice_get (queued_contents setup.queue) (count_by is_sent passed) ≡ Some c
+fifo_next setup passed k c fifo e = drop_at (count_by is_sent passed) setup.queue c (first_of_ready (drop (count_by is_sent passed) setup.queue) k c e)
+
+pub fifo_sent : (setup : NodeSetup) (passed : List Passed) (p : Passed) (k : ℕ) → IsFifo setup → p.sent ≡ true → head_at setup (unsent_after setup passed) k ≡ Some p.frame
+    → queued_contents (unsent_after setup passed) ≡ p.frame ∷ queued_contents (unsent_after setup (passed ++ p ∷ []))
+fifo_sent setup passed p k fifo sent e = first_of (unsent_after setup passed) e ∙ ap (λ u. p.frame ∷ queued_contents u) (sym (unsent_tail setup passed p sent))
+  where
+    first_of : (u : List Queued) → head_at setup u k ≡ Some p.frame → queued_contents u ≡ p.frame ∷ queued_contents (drop 1 u)
+    first_of [] e = cc
+    first_of (q ∷ more) e = by (nat_le q.ready k) e
+      where
+        by : (b : Bool) → cond b (Some q.frame) None ≡ Some p.frame → q.frame ∷ queued_contents more ≡ p.frame ∷ queued_contents more
+        by true e = ap (λ c. c ∷ queued_contents more) (let h : q.frame ≡ p.frame = cc in h)
+        by false e = cc
