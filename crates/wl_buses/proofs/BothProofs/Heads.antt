@@ -1,8 +1,8 @@
 -- What a queue hands its node at a quantum, of the frames that the node hasn't sent.
-use Rattle.std.proofs.Common.{◌≡◌, ◌∙◌, inl, inr, refl, sym, ap, subst, ℕ, zero, suc, ◌+◌, ◌<◌, ◌≤◌, cond, Bool, true, false, List, [], ◌∷◌, ◌++◌, length, Some, None, arith}
+use Rattle.std.proofs.Common.{◌≡◌, ◌∙◌, inl, inr, refl, sym, ap, subst, ℕ, zero, suc, ◌+◌, ◌<◌, ◌≤◌, cond, Bool, true, false, List, [], ◌∷◌, ◌++◌, length, Some, None, arith, append_assoc, length-append}
 use Rattle.std.specs.Prelude.{IsPermutation, count_by, drop, nat_le, slice_get}
-use Rattle.std.proofs.lemmas.Bool.{cases_Bool, le-leb, lt-leb}
-use Rattle.std.proofs.lemmas.List.Sorted.{IsPermutation-refl, length_permutation}
+use Rattle.std.proofs.lemmas.Bool.{cases_Bool, cases_lt, le-leb, lt-leb}
+use Rattle.std.proofs.lemmas.List.Sorted.{IsPermutation-pop_more, IsPermutation-refl, length_permutation}
 use Rattle.std.proofs.lemmas.List.Sums.{sum_by-append}
 use Rattle.wl_frame.specs.Grammar.{Content}
 use Rattle.wl_frame.specs.Same.{content_decides, same_content}
@@ -10,7 +10,7 @@ use Rattle.wl_node.specs.declared.setup.NodeSetup.{NodeSetup}
 use Rattle.wl_node.specs.declared.setup.Passed.{Passed}
 use Rattle.wl_node.specs.declared.setup.Queued.{Queued}
 use Rattle.wl_node.specs.History.{is_sent, ready_head}
-use Rattle.wl_buses.specs.BothProofs.Queues.{IsFifo, head_at, place_of, queued_contents, unsent_after, wakes_at}
+use Rattle.wl_buses.specs.BothProofs.Queues.{ComeFrom, IsFifo, first_ready, head_at, place_of, queued_contents, ready_at, unsent_after, wakes_at}
 
 pub same_length : (queue : List Queued) → length (queued_contents queue) ≡ length queue
 same_length [] = refl
@@ -169,3 +169,56 @@ fifo_sent setup passed p k fifo sent e = first_of (unsent_after setup passed) e 
         by : (b : Bool) → cond b (Some q.frame) None ≡ Some p.frame → q.frame ∷ queued_contents more ≡ p.frame ∷ queued_contents more
         by true e = ap (λ c. c ∷ queued_contents more) (let h : q.frame ≡ p.frame = cc in h)
         by false e = cc
+
+-- of an empty queue nothing is left
+pub unsent_none : (setup : NodeSetup) (passed : List Passed) → setup.queue ≡ [] → unsent_after setup passed ≡ []
+unsent_none setup passed e = ap (drop (count_by is_sent passed)) e ∙ drop_nothing (count_by is_sent passed)
+
+-- a node that is handed none of some frames isn't awake yet
+pub awake_later : (setup : NodeSetup) (unsent : List Queued) (k : ℕ) → 0 < length unsent → head_at setup unsent k ≡ None → k < wakes_at setup unsent
+awake_later setup unsent k some none = elim (cases_lt k (wakes_at setup unsent)) [
+  | inl early ↦ early
+  | inr late ↦ (let x = head_late setup unsent k some late in absurd (some_none x.frame (sym x.is ∙ none)))
+]
+  where
+    some_none : (c : Content) → Some c ≡ None → ⊥
+    some_none c e = cc
+
+-- who is handed one has some
+pub handed_some : (setup : NodeSetup) (unsent : List Queued) (k : ℕ) (c : Content) → head_at setup unsent k ≡ Some c → 0 < length unsent
+handed_some setup [] k c e = absurd (none_some c (sym (head_none setup k) ∙ e))
+  where
+    none_some : (c : Content) → None ≡ Some c → ⊥
+    none_some c e = cc
+handed_some setup (q ∷ more) k c e = omega arith
+
+-- it wakes by the time at which so many of the queue and one are ready
+drop_awake : (n : ℕ) (queue : List Queued) (r : ℕ) → ((j : ℕ) → j ≤ n → ready_at queue j ≤ r) → first_ready (drop n queue) ≤ r
+drop_awake n queue r all = all n (omega arith)
+
+pub awake_by : (setup : NodeSetup) (passed : List Passed) (r : ℕ) → ((j : ℕ) → j ≤ count_by is_sent passed → ready_at setup.queue j ≤ r) → wakes_at setup (unsent_after setup passed) ≤ r
+awake_by setup passed r all = drop_awake (count_by is_sent passed) setup.queue r all
+
+-- what comes from a queue: at first it has all frames, and a frame that was handed and is sent is one more
+pub come_first : (setup : NodeSetup) → ComeFrom setup [] (queued_contents (unsent_after setup []))
+come_first setup = record {
+  once = subst (λ u. IsPermutation (queued_contents setup.queue) (queued_contents u)) (sym (unsent_first setup)) (IsPermutation-refl (queued_contents setup.queue));
+  order = λ fifo. ap queued_contents (unsent_first setup);
+}
+
+pub come_next : (setup : NodeSetup) (passed : List Passed) (p : Passed) (k : ℕ) (sent : List Content) → p.sent ≡ true → head_at setup (unsent_after setup passed) k ≡ Some p.frame
+    → ComeFrom setup sent (queued_contents (unsent_after setup passed)) → ComeFrom setup (sent ++ p.frame ∷ []) (queued_contents (unsent_after setup (passed ++ p ∷ [])))
+come_next setup passed p k sent own e from = record {
+  once =
+      IsPermutation-pop_more (queued_contents setup.queue) sent (queued_contents (unsent_after setup passed)) (queued_contents (unsent_after setup (passed ++ p ∷ []))) p.frame from.once
+      (unsent_sent setup passed p k own e);
+  order = λ fifo.
+      append_assoc sent (p.frame ∷ []) (queued_contents (unsent_after setup (passed ++ p ∷ []))) ∙ ap (λ l. sent ++ l) (sym (fifo_sent setup passed p k fifo own e)) ∙ from.order fifo;
+}
+
+pub come_length : (setup : NodeSetup) (sent left : List Content) → ComeFrom setup sent left → length sent + length left ≡ length setup.queue
+come_length setup sent left from =
+    let both = length_permutation (queued_contents setup.queue) (sent ++ left) from.once in
+    let sum = length-append sent left in
+    let same = same_length setup.queue in
+    omega arith

@@ -1,10 +1,9 @@
 -- What has passed a node, as a list: its first parts, and what of it the node has sent.
-use Rattle.std.proofs.Common.{◌≡◌, ◌≢◌, ◌∙◌, refl, sym, ap, subst, inl, inr, ℕ, zero, suc, ◌+◌, ◌<◌, ◌≤◌, ◌==◌, cond, Bool, true, false, List, [], ◌∷◌, ◌++◌, length, take, Some, arith, append-nil, append_assoc}
-use Rattle.std.specs.Prelude.{IsPermutation, count_by, filter, map, slice_get}
+use Rattle.std.proofs.Common.{◌≡◌, ◌≢◌, ◌∙◌, refl, sym, ap, subst, inl, inr, ℕ, zero, suc, ◌+◌, ◌<◌, ◌≤◌, ◌==◌, cond, Bool, true, false, List, [], ◌∷◌, ◌++◌, length, take, Some, arith, append-nil}
+use Rattle.std.specs.Prelude.{count_by, filter, map, slice_get}
 use Rattle.std.proofs.lemmas.Bool.{cases_eq, eq-eqb, eqb-true, ne_eqb}
 use Rattle.std.proofs.lemmas.List.{length-append, map-append, take-append-le}
 use Rattle.std.proofs.lemmas.List.Elements.{filter-append}
-use Rattle.std.proofs.lemmas.List.Sorted.{IsPermutation-pop_more, IsPermutation-refl}
 use Rattle.std.proofs.lemmas.List.Sums.{sum_by-append}
 use Rattle.std.proofs.lemmas.Option.{get_or_from_slice_get, slice_get_within}
 use Rattle.std.proofs.Math.Seq.{take-append_seam, take-length, take-suc}
@@ -13,7 +12,7 @@ use Rattle.wl_node.specs.declared.setup.NodeSetup.{NodeSetup}
 use Rattle.wl_node.specs.declared.setup.Passed.{Passed}
 use Rattle.wl_node.specs.History.{is_sent}
 use Rattle.wl_buses.specs.BothProofs.Queues.{ComeFrom, IsFifo, queued_contents, unsent_after}
-use Rattle.wl_buses.proofs.BothProofs.Heads.{IsHandedBy, fifo_next, fifo_sent, sent_length, unsent_first, unsent_received, unsent_sent}
+use Rattle.wl_buses.proofs.BothProofs.Heads.{IsHandedBy, come_first, come_next, fifo_next, sent_length, unsent_first, unsent_received}
 use Rattle.wl_buses.specs.OneFrame.Stations.{Stations}
 use Rattle.wl_buses.specs.FrameEnd.Rests.{passed_frame}
 use Rattle.wl_buses.specs.NextFrames.Frames.{Frame}
@@ -86,32 +85,17 @@ module _ (s : Stations) (frames : ℕ → Frame) (winner : ℕ → ℕ) (content
     left_other : (n : ℕ) → i ≢ winner n → unsent_after setup (P (suc n)) ≡ unsent_after setup (P n)
     left_other n e = unsent_received setup (P n) (one n) (ne_eqb i (winner n) e)
 
-    once : (n : ℕ) → n ≤ count → IsPermutation (queued_contents setup.queue) (sent_contents (P n) ++ left n)
-    once zero few = subst (λ u. IsPermutation (queued_contents setup.queue) (queued_contents u)) (sym (unsent_first setup)) (IsPermutation-refl (queued_contents setup.queue))
-    once (suc n) few = elim (cases_eq i (winner n)) [
-      | inl own ↦
-          (let h = handed n few own in
-          subst (λ l. IsPermutation (queued_contents setup.queue) (l ++ left (suc n))) (sym (sent_own n own))
-          (IsPermutation-pop_more (queued_contents setup.queue) (sent_contents (P n)) (left n) (left (suc n)) (content n) (once n (omega arith))
-          (unsent_sent setup (P n) (one n) h.0 (eq-eqb i (winner n) own) h.1)))
-      | inr other ↦
-          subst (λ l. IsPermutation (queued_contents setup.queue) (l ++ left (suc n))) (sym (sent_other n other))
-          (subst (λ u. IsPermutation (queued_contents setup.queue) (sent_contents (P n) ++ queued_contents u)) (sym (left_other n other)) (once n (omega arith)))
-    ]
-
-    in_order : IsFifo setup → (n : ℕ) → n ≤ count → sent_contents (P n) ++ left n ≡ queued_contents setup.queue
-    in_order fifo zero few = ap queued_contents (unsent_first setup)
-    in_order fifo (suc n) few = elim (cases_eq i (winner n)) [
-      | inl own ↦
-          (let h = handed n few own in
-          ap (λ l. l ++ left (suc n)) (sent_own n own) ∙ append_assoc (sent_contents (P n)) (content n ∷ []) (left (suc n))
-          ∙ ap (λ l. sent_contents (P n) ++ l) (sym (fifo_sent setup (P n) (one n) h.0 fifo (eq-eqb i (winner n) own) h.1)) ∙ in_order fifo n (omega arith))
-      | inr other ↦
-          ap (λ l. l ++ left (suc n)) (sent_other n other) ∙ ap (λ u. sent_contents (P n) ++ queued_contents u) (left_other n other) ∙ in_order fifo n (omega arith)
-    ]
-
     pub come_from : (n : ℕ) → n ≤ count → ComeFrom setup (sent_contents (P n)) (queued_contents (unsent_after setup (P n)))
-    come_from n few = record { once = once n few; order = λ fifo. in_order fifo n few }
+    come_from zero few = come_first setup
+    come_from (suc n) few = elim (cases_eq i (winner n)) [
+      | inl own ↦
+          (let h = handed n few own in
+          subst (λ l. ComeFrom setup l (left (suc n))) (sym (sent_own n own))
+          (come_next setup (P n) (one n) h.0 (sent_contents (P n)) (eq-eqb i (winner n) own) h.1 (come_from n (omega arith))))
+      | inr other ↦
+          subst (λ l. ComeFrom setup l (left (suc n))) (sym (sent_other n other))
+          (subst (λ u. ComeFrom setup (sent_contents (P n)) (queued_contents u)) (sym (left_other n other)) (come_from n (omega arith)))
+    ]
 
     -- how many are left
     pub left_is : (n : ℕ) → n ≤ count → length (unsent_after setup (P n)) + won_by winner i n ≡ length setup.queue

@@ -14,6 +14,9 @@ use Rattle.wl_bound.specs.Verdicts.{idle_at, is_ready_from}
 use Rattle.wl_buses.specs.BothProofs.Plans.{IsSteadyPlan}
 use Rattle.wl_buses.specs.OneSender.Clean.{HasOneSender}
 use Rattle.wl_buses.proofs.BothProofs.Small.{none_below, covered_each, passed}
+use Rattle.wl_buses.specs.BothProofs.Queues.{decided_by, wakes_at}
+use Rattle.wl_buses.proofs.BothProofs.Heads.{IsHanded, head_late}
+use Rattle.wl_buses.proofs.FirstFrame.Deciding.{decided_after}
 
 neither : (v w : Bool) → (v || w) ≡ false → (v ≡ false) × (w ≡ false)
 neither false w e = (refl, e)
@@ -53,6 +56,13 @@ module _ (plan : Plan) (covered : is_covered plan ≡ true) where
     undisturbed = is_empty plan.disturbances (not_less 0 (length plan.disturbances) few.1);
   }
 
+  -- on which frame it decides after its power-up
+  decides_on : (sender : ℕ) (first : Queued) (later : List Queued) → (setup_at plan sender).queue ≡ first ∷ later → IsHanded (setup_at plan sender) (setup_at plan sender).queue (decided_by (setup_at plan sender))
+  decides_on sender first later queue =
+      let long = ap length queue in
+      head_late (setup_at plan sender) (setup_at plan sender).queue (decided_by (setup_at plan sender)) (omega arith)
+      (decided_after (setup_at plan sender).segments (wakes_at (setup_at plan sender) (setup_at plan sender).queue) (omega arith))
+
   pub one_sender : (sender : ℕ) (first : Queued) (later : List Queued) → sender < length plan.nodes → (setup_at plan sender).queue ≡ first ∷ later
       → ((j : ℕ) → j < length plan.nodes → j ≢ sender → (setup_at plan j).queue ≡ []) → HasOneSender plan sender
   one_sender sender first later inside queue alone = record {
@@ -60,6 +70,8 @@ module _ (plan : Plan) (covered : is_covered plan ≡ true) where
     first = first;
     later = later;
     queue = queue;
+    frame = (decides_on sender first later queue).frame;
+    decides = (decides_on sender first later queue).is;
     alone = alone;
     answers = λ i less. (covered_each plan covered i less).0;
     idle = λ j less apart. idle_then sender j inside less apart;

@@ -1,7 +1,5 @@
 -- Worked clocks and delays: a sender and two listeners, one a hundredth faster and one a hundredth slower.
-use Rattle.std.proofs.Common.{◌≡◌, refl, ℕ, zero, suc, List, [], ◌∷◌, false, arith}
-use Rattle.wl_level.specs.declared.Level.{Level}
-use Rattle.wl_level.specs.declared.Level.TheVariants.{Dominant}
+use Rattle.std.proofs.Common.{◌≡◌, refl, ℕ, zero, suc, [], ◌∷◌, false, arith}
 use Rattle.wl_frame.specs.Grammar.{content_of}
 use Rattle.wl_buses.specs.OneSender.OneSender.{SenderBus}
 use Rattle.wl_buses.specs.OneSender.Through.{due_quantum}
@@ -116,9 +114,9 @@ one_late : FitClocks crystals (cable_of 294) → ⊥
 one_late fit = let h = fit.ends_there 1 (omega arith, λ e. omega (arith, e)) in omega arith
 
 -- two frames of 3 and 4 bits, in bits of 10 quanta: 18 bits after the first 8, and 19 after quantum 500
-abbrev lists : ℕ → List Level
-lists zero = Dominant ∷ Dominant ∷ Dominant ∷ []
-lists (suc n) = Dominant ∷ Dominant ∷ Dominant ∷ Dominant ∷ []
+abbrev lists : ℕ → ℕ
+lists zero = 3
+lists (suc n) = 4
 
 first_due : due_quantum (cable_of 292) lists 1 ≡ 260
 first_due = refl

@@ -14,7 +14,9 @@ use Rattle.wl_frame.specs.Laws.{up_to_ack}
 use Rattle.wl_machine.specs.Judged.{awaits_start, stretch_of}
 use Rattle.wl_machine.specs.States.{stretch_by}
 use Rattle.wl_node.specs.declared.setup.Passed.{Passed}
-use Rattle.wl_node.specs.History.{history_of, error_count, ready_head}
+use Rattle.wl_node.specs.History.{history_of, error_count}
+use Rattle.wl_buses.specs.BothProofs.Queues.{head_at}
+use Rattle.wl_buses.proofs.BothProofs.Heads.{unsent_first}
 use Rattle.wl_phase.specs.Clocks.{Finds, instant, steady_tick}
 use Rattle.wl_phase.proofs.Callers.{floor_low, floor_high}
 use Rattle.wl_phase.specs.Answer.{HearsAnswer, answer_begin, own_sample}
@@ -63,9 +65,11 @@ module _ (laws : Laws) (b : SenderBus) (is : IsBus b) (sends : SendsFirst b) (me
     stuffs = sends.stuffs;
     decides = record {
       idle = sends.idle;
-      ready = ap (ready_head (b.setups b.sender).queue) (zero_first (b.decides * bit_quanta (lengths_of b b.sender)) (sample_at (lengths_of b b.sender))) ∙ sends.ready;
+      ready = ap (λ u. head_at (b.setups b.sender) u (0 + b.decides * bit_quanta (lengths_of b b.sender) + sample_at (lengths_of b b.sender))) (unsent_first (b.setups b.sender))
+          ∙ ap (head_at (b.setups b.sender) (b.setups b.sender).queue) (zero_first (b.decides * bit_quanta (lengths_of b b.sender)) (sample_at (lengths_of b b.sender))) ∙ sends.ready;
       unready = λ n many less.
-          ap (ready_head (b.setups b.sender).queue) (zero_first (n * bit_quanta (lengths_of b b.sender)) (sample_at (lengths_of b b.sender))) ∙ sends.unready n many less;
+          ap (λ u. head_at (b.setups b.sender) u (0 + n * bit_quanta (lengths_of b b.sender) + sample_at (lengths_of b b.sender))) (unsent_first (b.setups b.sender))
+          ∙ ap (head_at (b.setups b.sender) (b.setups b.sender).queue) (zero_first (n * bit_quanta (lengths_of b b.sender)) (sample_at (lengths_of b b.sender))) ∙ sends.unready n many less;
     };
     from_is = omega arith;
     alone = sends.alone;
