@@ -222,3 +222,13 @@ come_length setup sent left from =
     let sum = length-append sent left in
     let same = same_length setup.queue in
     omega arith
+
+-- it wakes as one of the queue is ready
+drop_wakes : (n : ℕ) (queue : List Queued) → 0 < length (drop n queue) → n < length queue
+drop_wakes zero queue some = some
+drop_wakes (suc n) [] some = absurd (omega arith)
+drop_wakes (suc n) (q ∷ queue) some = (let less = drop_wakes n queue some in omega arith)
+
+pub wakes_one : (setup : NodeSetup) (passed : List Passed) → 0 < length (unsent_after setup passed)
+    → (n : ℕ) × (n < length setup.queue) × (wakes_at setup (unsent_after setup passed) ≡ ready_at setup.queue n)
+wakes_one setup passed some = (count_by is_sent passed, drop_wakes (count_by is_sent passed) setup.queue some, refl)

@@ -19,16 +19,6 @@ use Rattle.wl_buses.specs.NextFrames.Frames.{Frame}
 use Rattle.wl_buses.specs.SentFrames.Winners.{passed_with, won_by}
 use Rattle.wl_buses.specs.CleanPlans.Clean.{sent_contents}
 
--- the next frame of a queue, if the node has won with those before it
-pub won_next : (winner : ℕ → ℕ) (content : ℕ → Content) (i : ℕ) (queue : List Content) (n : ℕ) → (i ≡ winner n → slice_get queue (won_by winner i n) ≡ Some (content n))
-    → (b : Bool) → (i == winner n) ≡ b → take (won_by winner i n) queue ++ cond b (content n ∷ []) [] ≡ take (won_by winner i n + cond b 1 0) queue
-won_next winner content i queue n order true e =
-    let there = order (eqb-true i (winner n) e) in
-    let inside = slice_get_within queue (won_by winner i n) (content n) there in
-    ap (λ x. take (won_by winner i n) queue ++ x ∷ []) (sym (get_or_from_slice_get queue (won_by winner i n) (content n) (content n) there))
-    ∙ sym (take-suc queue (won_by winner i n) (content n) inside) ∙ ap (λ k. take k queue) (let e : suc (won_by winner i n) ≡ won_by winner i n + 1 = omega arith in e)
-won_next winner content i queue n order false e = append-nil (take (won_by winner i n) queue) ∙ ap (λ k. take k queue) (let e : won_by winner i n ≡ won_by winner i n + 0 = omega arith in e)
-
 module _ (s : Stations) (frames : ℕ → Frame) (winner : ℕ → ℕ) (content : ℕ → Content) (i : ℕ) where
   abbrev P : ℕ → List Passed
   P n = passed_with s frames winner content i n
@@ -61,10 +51,10 @@ module _ (s : Stations) (frames : ℕ → Frame) (winner : ℕ → ℕ) (content
       sum_by-append (λ p. cond (is_sent p) 1 0) (P n) (one n ∷ []) ∙ ap (λ k. k + count_by is_sent (one n ∷ [])) (count_sent n)
       ∙ ap (λ k. won_by winner i n + k) (let e : 0 + cond (i == winner n) 1 0 ≡ cond (i == winner n) 1 0 = omega arith in e)
 
-  sent_both : (xs ys : List Passed) → sent_contents (xs ++ ys) ≡ sent_contents xs ++ sent_contents ys
+  pub sent_both : (xs ys : List Passed) → sent_contents (xs ++ ys) ≡ sent_contents xs ++ sent_contents ys
   sent_both xs ys = ap (map (λ p. p.frame)) (filter-append is_sent xs ys) ∙ map-append (λ p. p.frame) (filter is_sent xs) (filter is_sent ys)
 
-  sent_one : (b : Bool) (x : Passed) → map (λ p. p.frame) (cond b (x ∷ []) []) ≡ cond b (x.frame ∷ []) []
+  pub sent_one : (b : Bool) (x : Passed) → map (λ p. p.frame) (cond b (x ∷ []) []) ≡ cond b (x.frame ∷ []) []
   sent_one true x = refl
   sent_one false x = refl
 
