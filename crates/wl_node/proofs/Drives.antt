@@ -26,11 +26,14 @@ use Rattle.wl_machine.specs.Laws.{HeadLaws}
 use Rattle.wl_machine.proofs.Callers.{stretch_next}
 use Rattle.wl_node.specs.declared.setup.Queued.{Queued}
 use Rattle.wl_node.specs.declared.setup.NodeSetup.{NodeSetup}
-use Rattle.wl_node.specs.History.{History, history_of, no_history, seen_next, sampled_next, ready_head, handed, is_sent, passed_frames, switched_off, by_beat, syncs_at, unsent_of}
+use Rattle.wl_node.specs.History.{History, staying_history, no_history, seen_next, sampled_next, handed, passed_frames, switched_off, by_beat, syncs_at, unsent_of}
 use Rattle.wl_node.specs.Limits.{most_quiet, most_quiet-is}
-use Rattle.wl_node.specs.Quiet.{pending_of, is_waiting, floor_by, floor_at, floor_and_silence, promise_by, until_ready, promise_at, quiet_of, drive_at, changes_of}
+use Rattle.wl_node.specs.Quiet.{pending_of, is_waiting, floor_by, floor_at, floor_and_silence, promise_by, until_ready, promise_at, quiet_at, drive_at, changes_of}
 use Rattle.wl_node.proofs.Turns.{history_first, history_next}
-use Rattle.wl_node.proofs.Sends.{off_or_not, count_append, handed_none}
+use Rattle.wl_node.specs.Queues.{head_by}
+use Rattle.wl_node.specs.Unsent.{is_first_ready}
+use Rattle.wl_node.proofs.Sends.{off_or_not, handed_none, none_from}
+use Rattle.wl_node.proofs.Unsents.{no_head, none_left, unsent_less}
 
 -- what holds of no level, and of one level more where it holds before it, holds of all lists
 pub grown : {A : Type 0} (P : List A → Type 0) → P [] → ((xs : List A) (x : A) → P xs → P (xs ++ x ∷ [])) → (xs : List A) → P xs
@@ -99,28 +102,26 @@ module _ (ways : SampleLaws) (setup : NodeSetup) where
   settled_first : IsSettled setup no_history
   settled_first n w = refl
 
-  pub settled : (levels : List Level) → IsSettled setup (history_of setup levels)
+  pub settled : (levels : List Level) → IsSettled setup (staying_history setup levels)
   settled =
-      grown (λ levels. IsSettled setup (history_of setup levels)) (subst (IsSettled setup) (sym (history_first setup)) settled_first)
-      (λ levels x s. subst (IsSettled setup) (sym (history_next setup levels x)) (settled_by (history_of setup levels) x (beat_next setup (history_of setup levels) x) refl s))
+      grown (λ levels. IsSettled setup (staying_history setup levels)) (subst (IsSettled setup) (sym (history_first setup)) settled_first)
+      (λ levels x s. subst (IsSettled setup) (sym (history_next setup levels x)) (settled_by (staying_history setup levels) x (beat_next setup (staying_history setup levels) x) refl s))
 
   floor_few : (h : History) (o : Option ℕ) (t : Bool) → way_at setup h ≡ o → floor_by o t (place_of setup) ≤ suc (place_of setup)
   floor_few h (Some n) t e = (let m = ways.few setup.segments h.seen n e in let f = ways.least setup.segments in omega arith)
   floor_few h None true e = omega arith
   floor_few h None false e = omega arith
 
-  pub floor : (levels : List Level) → AreLengths setup.segments → floor_at setup (history_of setup levels) ≤ quiet_of setup levels
-  unfolding quiet_of
+  pub floor : (levels : List Level) → AreLengths setup.segments → floor_at setup (staying_history setup levels) ≤ quiet_at setup (staying_history setup levels)
   floor levels l =
-      let f = floor_few (history_of setup levels) (way_at setup (history_of setup levels)) (same (history_of setup levels).drive (pending_of (history_of setup levels))) refl in
+      let f = floor_few (staying_history setup levels) (way_at setup (staying_history setup levels)) (same (staying_history setup levels).drive (pending_of (staying_history setup levels))) refl in
       let m = most_quiet-is in
       let a = l.high in
       let b = l.ps2_low in
-      let g = longer_least (floor_at setup (history_of setup levels)) (silence_of (is_waiting setup (history_of setup levels)) (stretch_of (history_of setup levels).inputs)) (least_way setup.segments) in
+      let g = longer_least (floor_at setup (staying_history setup levels)) (silence_of (is_waiting setup (staying_history setup levels)) (stretch_of (staying_history setup levels).inputs)) (least_way setup.segments) in
       omega arith
 
-  pub most : (levels : List Level) → quiet_of setup levels ≤ most_quiet
-  unfolding quiet_of
+  pub most : (levels : List Level) → quiet_at setup (staying_history setup levels) ≤ most_quiet
   most levels = omega arith
 
 module _ (silences : SilenceLaws) (ways : SampleLaws) (setup : NodeSetup) where
@@ -187,13 +188,19 @@ module _ (silences : SilenceLaws) (ways : SampleLaws) (setup : NodeSetup) where
       }
 
   -- where none waits, none is handed to the machine, then and later
-  none_handed : (level : Level) (sent quantum : ℕ) → nat_lt sent (length setup.queue) ≡ false
-      → handed level setup.segments.sync (ready_head (drop sent setup.queue) quantum) ≡ None
-  none_handed level sent quantum e =
-      ap (λ u. handed level setup.segments.sync (ready_head u quantum)) (drop_all sent setup.queue (ltb-false sent (length setup.queue) e)) ∙ handed_none level setup.segments.sync
+  none_handed : (level : Level) (h : History) → is_waiting setup h ≡ false → (sampled_next setup h level).head ≡ None
+  none_handed level h e =
+      ap (λ u. handed level setup.segments.sync (head_by setup.order u (length h.seen))) (none_left (unsent_of setup h) e)
+      ∙ ap (handed level setup.segments.sync) (no_head setup.order [] (length h.seen) refl) ∙ handed_none level setup.segments.sync
 
-  none_later : (sent more : ℕ) → sent ≤ more → nat_lt sent (length setup.queue) ≡ false → nat_lt more (length setup.queue) ≡ false
-  none_later sent more h e = (let f = ltb-false sent (length setup.queue) e in le-ltb more (length setup.queue) (omega arith))
+  none_later : (h : History) (level : Level) (b : Beat) → is_waiting setup h ≡ false → is_waiting setup (behind setup h level b) ≡ false
+  none_later h level Start e = e
+  none_later h level Plain e = e
+  none_later h level (Sample v) e =
+      let next : History = behind setup h level (Sample v) in
+      (let few = unsent_less setup.order setup.queue h.frames (passed_frames (length h.seen) (judged (stretch_of h.inputs) (sampled_next setup h level)).ended) in
+      let none = ltb-false 0 (length (unsent_of setup h)) e in
+      le-ltb 0 (length (unsent_of setup next)) (omega arith))
 
   never_less : (heads later : Bool) (r : Stretch) → (heads ≡ false → later ≡ false) → silence_of heads r ≤ silence_of later r
   never_less true true r e = omega arith
@@ -238,20 +245,13 @@ module _ (silences : SilenceLaws) (ways : SampleLaws) (setup : NodeSetup) where
   more_silence zero s t h = omega arith
   more_silence (suc f) s t h = (let m = mul-le-mul_left (suc (place_of setup)) h in omega arith)
 
-  -- the frames that were sent by a quantum more
-  sent_by : (h : History) (level : Level) (b : Beat) → count_by is_sent h.frames ≤ count_by is_sent (behind setup h level b).frames
-  sent_by h level Start = omega arith
-  sent_by h level Plain = omega arith
-  sent_by h level (Sample v) =
-      (let g = count_append is_sent h.frames (passed_frames (length h.seen) (judged (stretch_of h.inputs) (sampled_next setup h level)).ended) in omega arith)
-
   -- where a node leaves the machine without a head, a quantum more leaves it no nearer than by one
   abbrev handed_in : History → ℕ
   handed_in h = until_ready (unsent_of setup h) (length h.seen)
 
-  none_ready : (unsent : List Queued) (quantum k : ℕ) → suc k ≤ until_ready unsent quantum → ready_head unsent quantum ≡ None
+  none_ready : (unsent : List Queued) (quantum k : ℕ) → suc k ≤ until_ready unsent quantum → is_first_ready unsent quantum ≡ false
   none_ready [] quantum k h = refl
-  none_ready (q ∷ qs) quantum k h = ap (λ b. cond b (Some q.frame) None) (lt-leb q.ready quantum (omega arith))
+  none_ready (q ∷ qs) quantum k h = lt-leb q.ready quantum (omega arith)
 
   nearer : (unsent : List Queued) (quantum k : ℕ) → suc k ≤ until_ready unsent quantum → k ≤ until_ready unsent (suc quantum)
   nearer [] quantum k h = absurd (omega arith)
@@ -276,11 +276,11 @@ module _ (silences : SilenceLaws) (ways : SampleLaws) (setup : NodeSetup) where
   goes_waiting : (h : History) (level : Level) (b : Beat) → beat_next setup h level ≡ b → IsSettled setup h → (k : ℕ) → suc k ≤ promise_by (is_waiting setup h) setup h → Goes h (behind setup h level b) k
   goes_waiting h level b e s k q =
       let next : History = behind setup h level b in
-      let g = keeps_by (is_waiting setup h) h level b e (none_handed level (count_by is_sent h.frames) (length h.seen)) s k q in
+      let g = keeps_by (is_waiting setup h) h level b e (none_handed level h) s k q in
       let p = g.promise in
       let later : silence_of (is_waiting setup h) (stretch_of next.inputs) ≤ silence_of (is_waiting setup next) (stretch_of next.inputs) =
       never_less (is_waiting setup h) (is_waiting setup next) (stretch_of next.inputs)
-      (none_later (count_by is_sent h.frames) (count_by is_sent next.frames) (sent_by h level b)) in
+      (none_later h level b) in
       let more = more_silence (floor_at setup next) (silence_of (is_waiting setup h) (stretch_of next.inputs)) (silence_of (is_waiting setup next) (stretch_of next.inputs)) later in
       (g.drive, omega arith)
 
@@ -289,14 +289,7 @@ module _ (silences : SilenceLaws) (ways : SampleLaws) (setup : NodeSetup) where
     pub same_sent : (h : History) (level : Level) (b : Beat) → head_of (stretch_of h.inputs).sort ≡ None → unsent_of setup (behind setup h level b) ≡ unsent_of setup h
     same_sent h level Start none = refl
     same_sent h level Plain none = refl
-    same_sent h level (Sample v) none = by_end (judged (stretch_of h.inputs) (sampled_next setup h level)).ended refl
-      where
-        by_end : (ended : Ended) → (judged (stretch_of h.inputs) (sampled_next setup h level)).ended ≡ ended → unsent_of setup (behind setup h level (Sample v)) ≡ unsent_of setup h
-        by_end NoFrame e = ap (λ n. drop n setup.queue) (count_append is_sent h.frames (passed_frames (length h.seen) (judged (stretch_of h.inputs) (sampled_next setup h level)).ended)
-            ∙ ap (λ d. count_by is_sent h.frames + count_by is_sent (passed_frames (length h.seen) d)) e ∙ add-zero _)
-        by_end (Received frame) e = ap (λ n. drop n setup.queue) (count_append is_sent h.frames (passed_frames (length h.seen) (judged (stretch_of h.inputs) (sampled_next setup h level)).ended)
-            ∙ ap (λ d. count_by is_sent h.frames + count_by is_sent (passed_frames (length h.seen) d)) e ∙ add-zero _)
-        by_end (Sent frame) e = (let f : head_of (stretch_of h.inputs).sort ≡ Some frame = ap head_of (heads.sent (stretch_of h.inputs) (sampled_next setup h level) frame e) in cc)
+    same_sent h level (Sample v) none = none_from heads (stretch_of h.inputs) (sampled_next setup h level) none setup.order setup.queue h.frames (length h.seen)
 
     goes_ready : (h : History) (level : Level) (b : Beat) → beat_next setup h level ≡ b → IsSettled setup h → (k : ℕ) → suc k ≤ handed_in h → suc k ≤ promise_by false setup h
         → (silence_of false (stretch_of h.inputs) ≡ silence_of true (stretch_of h.inputs)) ⊎ (head_of (stretch_of h.inputs).sort ≡ None) → Goes h (behind setup h level b) k
@@ -307,7 +300,7 @@ module _ (silences : SilenceLaws) (ways : SampleLaws) (setup : NodeSetup) where
         any false = q
     goes_ready h level b e s k r q (inr f) =
         let next : History = behind setup h level b in
-        let g = keeps_by false h level b e (λ t. ap (handed level setup.segments.sync) (none_ready (unsent_of setup h) (length h.seen) k r) ∙ handed_none level setup.segments.sync) s k q in
+        let g = keeps_by false h level b e (λ t. ap (handed level setup.segments.sync) (no_head setup.order (unsent_of setup h) (length h.seen) (none_ready (unsent_of setup h) (length h.seen) k r)) ∙ handed_none level setup.segments.sync) s k q in
         let p = g.promise in
         let near = nearer (unsent_of setup h) (length h.seen) k r in
         let here : handed_in next ≡ until_ready (unsent_of setup h) (suc (length h.seen)) =
@@ -320,20 +313,19 @@ module _ (silences : SilenceLaws) (ways : SampleLaws) (setup : NodeSetup) where
       | inr many ↦ goes_ready h level (beat_next setup h level) refl s k (omega arith) (omega arith) (heads_matter (stretch_of h.inputs).sort (stretch_of h.inputs).own)
     ]
 
-    keeps : (levels : List Level) (x : Level) (k : ℕ) → suc k ≤ promise_at setup (history_of setup levels) → Goes (history_of setup levels) (history_of setup (levels ++ x ∷ [])) k
+    keeps : (levels : List Level) (x : Level) (k : ℕ) → suc k ≤ promise_at setup (staying_history setup levels) → Goes (staying_history setup levels) (staying_history setup (levels ++ x ∷ [])) k
     keeps levels x k q =
-        subst (λ next. Goes (history_of setup levels) next k) (sym (history_next setup levels x))
-        (goes (history_of setup levels) x (settled ways setup levels) k q)
+        subst (λ next. Goes (staying_history setup levels) next k) (sym (history_next setup levels x))
+        (goes (staying_history setup levels) x (settled ways setup levels) k q)
 
-    stays : (more levels : List Level) → length more ≤ promise_at setup (history_of setup levels) → (history_of setup (levels ++ more)).drive ≡ (history_of setup levels).drive
-    stays [] levels q = ap (λ l. (history_of setup l).drive) (append-nil levels)
+    stays : (more levels : List Level) → length more ≤ promise_at setup (staying_history setup levels) → (staying_history setup (levels ++ more)).drive ≡ (staying_history setup levels).drive
+    stays [] levels q = ap (λ l. (staying_history setup l).drive) (append-nil levels)
     stays (x ∷ more) levels q =
         let k = keeps levels x (length more) (omega arith) in
-        ap (λ l. (history_of setup l).drive) (sym (append_assoc levels (x ∷ []) more)) ∙ (stays more (levels ++ x ∷ []) k.1 ∙ k.0)
+        ap (λ l. (staying_history setup l).drive) (sym (append_assoc levels (x ∷ []) more)) ∙ (stays more (levels ++ x ∷ []) k.1 ∙ k.0)
 
-    pub quiet : (levels more : List Level) → length more ≤ quiet_of setup levels → (history_of setup (levels ++ more)).drive ≡ (history_of setup levels).drive
-    unfolding quiet_of
-    quiet levels more q = stays more levels (omega arith)
+    pub quiet : (levels more : List Level) → length more ≤ quiet_at setup (staying_history setup levels) → (staying_history setup (levels ++ more)).drive ≡ (staying_history setup levels).drive
+      quiet levels more q = stays more levels (omega arith)
 
 -- what laws of places say of counts
 abbrev pub CountsBelow : Type 0
@@ -348,14 +340,14 @@ module _ (counts : CountsBelow) (ways : SampleLaws) (setup : NodeSetup) where
   turns levels k = not (same (drive_at setup levels k) (drive_at setup levels (suc k)))
 
   front_drive : (levels : List Level) (x : Level) (k : ℕ) → k ≤ length levels → drive_at setup (levels ++ x ∷ []) k ≡ drive_at setup levels k
-  front_drive levels x k h = ap (λ l. (history_of setup l).drive) (take-append-le k levels (x ∷ []) h)
+  front_drive levels x k h = ap (λ l. (staying_history setup l).drive) (take-append-le k levels (x ∷ []) h)
 
-  whole_drive : (levels : List Level) (k : ℕ) → length levels ≤ k → drive_at setup levels k ≡ (history_of setup levels).drive
-  whole_drive levels k h = ap (λ l. (history_of setup l).drive) (take_all k levels h)
+  whole_drive : (levels : List Level) (k : ℕ) → length levels ≤ k → drive_at setup levels k ≡ (staying_history setup levels).drive
+  whole_drive levels k h = ap (λ l. (staying_history setup l).drive) (take_all k levels h)
 
   -- one level more is one change more where it changes the drive
   changes_next : (levels : List Level) (x : Level)
-      → changes_of setup (levels ++ x ∷ []) ≡ changes_of setup levels + one_if (not (same (history_of setup levels).drive (history_of setup (levels ++ x ∷ [])).drive))
+      → changes_of setup (levels ++ x ∷ []) ≡ changes_of setup levels + one_if (not (same (staying_history setup levels).drive (staying_history setup (levels ++ x ∷ [])).drive))
   changes_next levels x =
       ap (count_places (turns (levels ++ x ∷ []))) (length_more levels x ∙ add-one (length levels))
       ∙ ap (λ n. n + one_if (turns (levels ++ x ∷ []) (length levels)))
@@ -363,11 +355,11 @@ module _ (counts : CountsBelow) (ways : SampleLaws) (setup : NodeSetup) where
       (λ k h. ap (λ d. not (same d (drive_at setup (levels ++ x ∷ []) (suc k)))) (front_drive levels x k (omega arith)) ∙ ap (λ d. not (same (drive_at setup levels k) d)) (front_drive levels x (suc k) (omega arith))))
       ∙ ap (λ d. changes_of setup levels + one_if (not (same d (drive_at setup (levels ++ x ∷ []) (suc (length levels))))))
       (front_drive levels x (length levels) (omega arith) ∙ whole_drive levels (length levels) (omega arith))
-      ∙ ap (λ d. changes_of setup levels + one_if (not (same (history_of setup levels).drive d))) (whole_drive (levels ++ x ∷ []) (suc (length levels)) (omega (arith, length_more levels x)))
+      ∙ ap (λ d. changes_of setup levels + one_if (not (same (staying_history setup levels).drive d))) (whole_drive (levels ++ x ∷ []) (suc (length levels)) (omega (arith, length_more levels x)))
 
   -- the quanta of as many parts of bits from a start to its sample as there were changes
   abbrev IsFew : List Level → Type 0
-  IsFew levels = changes_of setup levels * suc (least_way setup.segments) ≤ length levels + left (quanta_to_sample setup.segments (history_of setup levels).seen)
+  IsFew levels = changes_of setup levels * suc (least_way setup.segments) ≤ length levels + left (quanta_to_sample setup.segments (staying_history setup levels).seen)
 
   abbrev part : ℕ
   part = suc (least_way setup.segments)
@@ -411,11 +403,11 @@ module _ (counts : CountsBelow) (ways : SampleLaws) (setup : NodeSetup) where
   few =
       grown IsFew (omega arith)
       (λ levels x q.
-      let by = few_by (changes_of setup levels) (length levels) (history_of setup levels) x (beat_next setup (history_of setup levels) x) refl (settled ways setup levels) q in
-      let at : (changes_of setup levels + one_if (not (same (history_of setup levels).drive (history_of setup (levels ++ x ∷ [])).drive))) * part
-      ≤ suc (length levels) + left (quanta_to_sample setup.segments (history_of setup (levels ++ x ∷ [])).seen) =
-      subst (λ (next : History). (changes_of setup levels + one_if (not (same (history_of setup levels).drive next.drive))) * part ≤ suc (length levels) + left (quanta_to_sample setup.segments next.seen)) (sym (history_next setup levels x)) by in
-      let e : changes_of setup (levels ++ x ∷ []) * part ≡ (changes_of setup levels + one_if (not (same (history_of setup levels).drive (history_of setup (levels ++ x ∷ [])).drive))) * part =
+      let by = few_by (changes_of setup levels) (length levels) (staying_history setup levels) x (beat_next setup (staying_history setup levels) x) refl (settled ways setup levels) q in
+      let at : (changes_of setup levels + one_if (not (same (staying_history setup levels).drive (staying_history setup (levels ++ x ∷ [])).drive))) * part
+      ≤ suc (length levels) + left (quanta_to_sample setup.segments (staying_history setup (levels ++ x ∷ [])).seen) =
+      subst (λ (next : History). (changes_of setup levels + one_if (not (same (staying_history setup levels).drive next.drive))) * part ≤ suc (length levels) + left (quanta_to_sample setup.segments next.seen)) (sym (history_next setup levels x)) by in
+      let e : changes_of setup (levels ++ x ∷ []) * part ≡ (changes_of setup levels + one_if (not (same (staying_history setup levels).drive (staying_history setup (levels ++ x ∷ [])).drive))) * part =
       ap (λ n. n * part) (changes_next levels x) in
       omega (arith, length_more levels x))
 
@@ -426,8 +418,8 @@ module _ (counts : CountsBelow) (ways : SampleLaws) (setup : NodeSetup) where
   pub few_changes : (levels : List Level) → changes_of setup levels ≤ length levels / part + 1
   few_changes levels = elim (cases_lt (length levels / part + 1) (changes_of setup levels)) [
     | inl many ↦ absurd (
-        let q : changes_of setup levels * part ≤ length levels + left (quanta_to_sample setup.segments (history_of setup levels).seen) = few levels in
-        let r = left_few (history_of setup levels) (quanta_to_sample setup.segments (history_of setup levels).seen) refl in
+        let q : changes_of setup levels * part ≤ length levels + left (quanta_to_sample setup.segments (staying_history setup levels).seen) = few levels in
+        let r = left_few (staying_history setup levels) (quanta_to_sample setup.segments (staying_history setup levels).seen) refl in
         let two : part * (length levels / part + 2) ≤ part * changes_of setup levels = mul-le-mul_left part (omega arith) in
         let low = ways.least setup.segments in
         far (length levels) (changes_of setup levels) (least_way setup.segments) (omega arith) two)

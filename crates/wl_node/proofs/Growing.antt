@@ -10,7 +10,7 @@ use Rattle.wl_sync.specs.declared.Sync.{Sync}
 use Rattle.wl_sync.specs.Bits.{beat_of, sync_of}
 use Rattle.wl_machine.specs.Judged.{judged, stretch_of}
 use Rattle.wl_node.specs.declared.setup.NodeSetup.{NodeSetup}
-use Rattle.wl_node.specs.History.{History, history_of, history_after, by_beat, seen_next, sampled_next, passed_frames, phase_of, syncs_at}
+use Rattle.wl_node.specs.History.{History, staying_history, history_after, by_beat, seen_next, sampled_next, passed_frames, phase_of, syncs_at}
 use Rattle.wl_node.proofs.Turns.{history_next}
 
 abbrev pub Longer : {X : Type 0} → List X → List X → Type 0
@@ -62,14 +62,14 @@ grown_by_one setup h level = record {
   syncs = (syncs_at (length h.seen) (sync_of setup.segments h.seen (seen_next h level)), refl);
 }
 
-pub grown : (setup : NodeSetup) (levels more : List Level) → HasGrown (history_of setup levels) (history_of setup (levels ++ more))
+pub grown : (setup : NodeSetup) (levels more : List Level) → HasGrown (staying_history setup levels) (staying_history setup (levels ++ more))
 grown setup levels [] =
-    subst (λ ls. HasGrown (history_of setup levels) (history_of setup ls)) (sym (append-nil levels)) (record {
-      samples = same_long (history_of setup levels).samples;
-      frames = same_long (history_of setup levels).frames;
-      syncs = same_long (history_of setup levels).syncs;
+    subst (λ ls. HasGrown (staying_history setup levels) (staying_history setup ls)) (sym (append-nil levels)) (record {
+      samples = same_long (staying_history setup levels).samples;
+      frames = same_long (staying_history setup levels).frames;
+      syncs = same_long (staying_history setup levels).syncs;
     })
 grown setup levels (level ∷ more) =
-    grown_on (history_of setup levels) (history_of setup (levels ++ level ∷ [])) (history_of setup (levels ++ level ∷ more))
-    (subst (λ g. HasGrown (history_of setup levels) g) (sym (history_next setup levels level)) (grown_by_one setup (history_of setup levels) level))
-    (subst (λ ls. HasGrown (history_of setup (levels ++ level ∷ [])) (history_of setup ls)) (append_assoc levels (level ∷ []) more) (grown setup (levels ++ level ∷ []) more))
+    grown_on (staying_history setup levels) (staying_history setup (levels ++ level ∷ [])) (staying_history setup (levels ++ level ∷ more))
+    (subst (λ g. HasGrown (staying_history setup levels) g) (sym (history_next setup levels level)) (grown_by_one setup (staying_history setup levels) level))
+    (subst (λ ls. HasGrown (staying_history setup (levels ++ level ∷ [])) (staying_history setup ls)) (append_assoc levels (level ∷ []) more) (grown setup (levels ++ level ∷ []) more))

@@ -12,7 +12,7 @@ use Rattle.wl_sync.specs.Skips.{IsSampledAfter}
 use Rattle.wl_node.specs.declared.setup.NodeSetup.{NodeSetup}
 use Rattle.wl_node.specs.declared.traffic.Traffic.{Traffic}
 use Rattle.wl_node.specs.declared.progress.NodeProgress.{NodeProgress}
-use Rattle.wl_node.specs.History.{History, history_of, history_after, history_after_sample, seen_next, by_beat, syncs_at}
+use Rattle.wl_node.specs.History.{History, staying_history, history_after, history_after_sample, seen_next, by_beat, syncs_at}
 use Rattle.wl_node.specs.Kept.{IsProgress, IsTraffic, FitsHistory}
 use Rattle.wl_node.specs.Quiet.{pending_of}
 use Rattle.wl_node.proofs.Skipped.{seen_more, same_history, IsIdleFor, history_skipped}
@@ -24,7 +24,7 @@ traffic_seen setup kept h seen is = record {
   machine = is.machine;
   counters = is.counters;
   pending = is.pending;
-  sent = is.sent;
+  unsent = is.unsent;
   errors = is.errors;
   samples = is.samples;
   sampled = is.sampled;
@@ -33,10 +33,10 @@ traffic_seen setup kept h seen is = record {
 }
 
 module _ (setup : NodeSetup) (levels : List Level) (level : Level) (n : ℕ)
-    (is : IsSampledAfter setup.segments (history_of setup levels).seen (seen_next (history_of setup levels) level) n)
-    (settled : (history_of setup levels).drive ≡ pending_of (history_of setup levels)) where
+    (is : IsSampledAfter setup.segments (staying_history setup levels).seen (seen_next (staying_history setup levels) level) n)
+    (settled : (staying_history setup levels).drive ≡ pending_of (staying_history setup levels)) where
   abbrev h : History
-  h = history_of setup levels
+  h = staying_history setup levels
 
   abbrev x : Seen
   x = seen_next h level
@@ -54,9 +54,9 @@ module _ (setup : NodeSetup) (levels : List Level) (level : Level) (n : ℕ)
   abbrev after : History
   after = record (history_after_sample setup up_to level) { seen = h.seen ++ replicate (suc n) x; syncs = h.syncs }
 
-  pub heard_history : history_of setup (levels ++ replicate (suc n) level) ≡ after
+  pub heard_history : staying_history setup (levels ++ replicate (suc n) level) ≡ after
   heard_history =
-      ap (history_of setup) (snoc levels level n)
+      ap (staying_history setup) (snoc levels level n)
       ∙ history_next setup (levels ++ replicate n level) level
       ∙ ap (λ (g : History). history_after setup g level) (history_skipped setup levels level n n (omega arith) idle)
       ∙ ap (λ (b : Beat). record (by_beat setup up_to level b) { seen = up_to.seen ++ x ∷ []; syncs = h.syncs ++ syncs_at (length up_to.seen) (sync_of setup.segments up_to.seen x) }) is.sampled
@@ -86,7 +86,7 @@ module _ (setup : NodeSetup) (levels : List Level) (level : Level) (n : ℕ)
             machine = traffic.machine;
             counters = traffic.counters;
             pending = traffic.pending;
-            sent = traffic.sent;
+            unsent = traffic.unsent;
             errors = traffic.errors;
             samples = traffic.samples;
             sampled = traffic.sampled;
@@ -97,8 +97,8 @@ module _ (setup : NodeSetup) (levels : List Level) (level : Level) (n : ℕ)
       }
 
   -- the drive stays
-  pub heard_drive : (m : ℕ) → m < suc (suc n) → (history_of setup (levels ++ replicate m level)).drive ≡ (history_of setup levels).drive
+  pub heard_drive : (m : ℕ) → m < suc (suc n) → (staying_history setup (levels ++ replicate m level)).drive ≡ (staying_history setup levels).drive
   heard_drive m less = elim (cases_lt n m) [
-    | inl last ↦ (let e : suc n ≡ m = omega arith in subst (λ k. (history_of setup (levels ++ replicate k level)).drive ≡ (history_of setup levels).drive) e (ap (λ (g : History). g.drive) heard_history))
+    | inl last ↦ (let e : suc n ≡ m = omega arith in subst (λ k. (staying_history setup (levels ++ replicate k level)).drive ≡ (staying_history setup levels).drive) e (ap (λ (g : History). g.drive) heard_history))
     | inr before ↦ ap (λ (g : History). g.drive) (history_skipped setup levels level n m before idle)
   ]

@@ -21,9 +21,11 @@ use Rattle.wl_machine.specs.Reached.{IsMachine}
 use Rattle.wl_machine.specs.States.{sample_of}
 use Rattle.wl_node.specs.declared.setup.NodeSetup.{NodeSetup}
 use Rattle.wl_node.specs.declared.progress.NodeProgress.{NodeProgress}
-use Rattle.wl_node.specs.History.{History, history_of, error_count, is_hard, is_sent, phase_of, sampled_next, seen_next}
+use Rattle.wl_node.specs.History.{History, staying_history, error_count, is_hard, is_sent, phase_of, sampled_next, seen_next}
 use Rattle.wl_node.specs.Extremes.{phase_totals}
-use Rattle.wl_node.specs.Kept.{IsProgress, first_frame}
+use Rattle.wl_node.specs.Kept.{IsProgress}
+use Rattle.wl_node.specs.Queues.{unsent_by}
+use Rattle.wl_node.specs.Unsent.{IsChosen, IsUnsent}
 use Rattle.wl_node.specs.KeptBits.{AreMore, HasKept}
 use Rattle.wl_node.specs.Quiet.{pending_of}
 use Rattle.wl_node.specs.Runs.{samples_by, samples_from}
@@ -106,13 +108,13 @@ module _ (setup : NodeSetup) (level : Level) (old : NodeProgress) (before bit n 
     (bits : 0 < bit) (some : 0 < n) (recessive : old.drive ≡ Recessive) (clocks : SamplesBits old.clock level before bit after) (kept : HasKept level n old.traffic.machine machine)
     (levels : List Level) (was : IsProgress setup old levels) where
   abbrev h : History
-  h = history_of setup levels
+  h = staying_history setup levels
 
   abbrev at : ℕ → List Level
   at k = levels ++ replicate (quanta_by before bit k) level
 
   abbrev here : ℕ → History
-  here k = history_of setup (at k)
+  here k = staying_history setup (at k)
 
   -- after so many of these samples
   pub record AreKept (k : ℕ) : Type 0 where
@@ -132,16 +134,16 @@ module _ (setup : NodeSetup) (level : Level) (old : NodeProgress) (before bit n 
 
   kept_first : AreKept 0
   kept_first = record {
-    clock = was.place.clock ∙ ap (λ ls. clock_after setup.segments (history_of setup ls).seen) (sym start);
-    long = ap (λ ls. length (history_of setup ls).seen) start ∙ sym was.place.quanta ∙ sym (add-zero old.quanta);
-    more = ap (λ ls. (history_of setup ls).inputs) start;
-    counts = ap (λ ls. counts_of (history_of setup ls).happened) start;
-    errors = ap (λ ls. error_count (history_of setup ls)) start;
-    frames = ap (λ ls. (history_of setup ls).frames) start;
-    drive = ap (λ ls. (history_of setup ls).drive) start;
-    syncs = ap (λ ls. (history_of setup ls).syncs) start;
-    head = ap (λ ls. head_of (stretch_of (history_of setup ls).inputs).sort) start;
-    samples = ap (λ ls. (history_of setup ls).samples) start ∙ sym (append-nil h.samples) ∙ ap (λ xs. h.samples ++ xs) (sym (from_none (old.quanta + before) bit level));
+    clock = was.place.clock ∙ ap (λ ls. clock_after setup.segments (staying_history setup ls).seen) (sym start);
+    long = ap (λ ls. length (staying_history setup ls).seen) start ∙ sym was.place.quanta ∙ sym (add-zero old.quanta);
+    more = ap (λ ls. (staying_history setup ls).inputs) start;
+    counts = ap (λ ls. counts_of (staying_history setup ls).happened) start;
+    errors = ap (λ ls. error_count (staying_history setup ls)) start;
+    frames = ap (λ ls. (staying_history setup ls).frames) start;
+    drive = ap (λ ls. (staying_history setup ls).drive) start;
+    syncs = ap (λ ls. (staying_history setup ls).syncs) start;
+    head = ap (λ ls. head_of (stretch_of (staying_history setup ls).inputs).sort) start;
+    samples = ap (λ ls. (staying_history setup ls).samples) start ∙ sym (append-nil h.samples) ∙ ap (λ xs. h.samples ++ xs) (sym (from_none (old.quanta + before) bit level));
   }
 
   module _ (k : ℕ) (less : k < n) (is : AreKept k) where
@@ -180,7 +182,7 @@ module _ (setup : NodeSetup) (level : Level) (old : NodeProgress) (before bit n 
 
     then_is : here (suc k) ≡ then
     then_is =
-        ap (history_of setup) (sym levels_next)
+        ap (staying_history setup) (sym levels_next)
         ∙ heard_history setup (at k) level way sampled settled
         ∙ ap (λ (r : History). record r { seen = g.seen ++ replicate (suc way) x; syncs = g.syncs }) (history_is setup up level judged_is)
 
@@ -209,7 +211,7 @@ module _ (setup : NodeSetup) (level : Level) (old : NodeProgress) (before bit n 
           ∙ ap (λ xs. h.samples ++ xs) (sym (from_suc (old.quanta + before) bit level k));
     }
 
-    drive_next : (m : ℕ) → m ≤ suc way → (history_of setup (at k ++ replicate m level)).drive ≡ h.drive
+    drive_next : (m : ℕ) → m ≤ suc way → (staying_history setup (at k ++ replicate m level)).drive ≡ h.drive
     drive_next m few = heard_drive setup (at k) level way sampled settled m (omega arith) ∙ is.drive
 
   are_kept : (k : ℕ) → k ≤ n → AreKept k
@@ -217,21 +219,21 @@ module _ (setup : NodeSetup) (level : Level) (old : NodeProgress) (before bit n 
   are_kept (suc k) few = kept_next k (omega arith) (are_kept k (omega arith))
 
   -- the drive stays
-  pub kept_drive : (k : ℕ) → k ≤ n → (m : ℕ) → m ≤ quanta_by before bit k → (history_of setup (levels ++ replicate m level)).drive ≡ h.drive
-  kept_drive zero few m less = ap (λ j. (history_of setup (levels ++ replicate j level)).drive) (let e : m ≡ 0 = omega arith in e) ∙ ap (λ ls. (history_of setup ls).drive) (append-nil levels)
+  pub kept_drive : (k : ℕ) → k ≤ n → (m : ℕ) → m ≤ quanta_by before bit k → (staying_history setup (levels ++ replicate m level)).drive ≡ h.drive
+  kept_drive zero few m less = ap (λ j. (staying_history setup (levels ++ replicate j level)).drive) (let e : m ≡ 0 = omega arith in e) ∙ ap (λ ls. (staying_history setup ls).drive) (append-nil levels)
   kept_drive (suc k) few m less = elim (cases_lt m (quanta_by before bit k)) [
     | inl first ↦ kept_drive k (omega arith) m (omega arith)
     | inr more ↦
         (let q = quanta_next before bit k bits in
         let e : m ≡ quanta_by before bit k + (m - quanta_by before bit k) = omega (arith, more) in
-        ap (λ j. (history_of setup (levels ++ replicate j level)).drive) e
-        ∙ ap (λ ls. (history_of setup ls).drive) (sym (joined levels level (quanta_by before bit k) (m - quanta_by before bit k)))
+        ap (λ j. (staying_history setup (levels ++ replicate j level)).drive) e
+        ∙ ap (λ ls. (staying_history setup ls).drive) (sym (joined levels level (quanta_by before bit k) (m - quanta_by before bit k)))
         ∙ drive_next k (omega arith) (are_kept k (omega arith)) (m - quanta_by before bit k) (omega (arith, less, more, q)))
   ]
 
   -- where they put what a node keeps
   module _ (new : NodeProgress) (clock : new.clock ≡ clock_by old.clock after n) (drive : new.drive ≡ old.drive) (quanta : new.quanta ≡ old.quanta + quanta_by before bit n) (syncs : new.syncs ≡ old.syncs)
-      (reached : new.traffic.machine ≡ machine) (counters : new.traffic.counters ≡ old.traffic.counters) (pending : new.traffic.pending ≡ old.traffic.pending) (sent : new.traffic.sent ≡ old.traffic.sent)
+      (reached : new.traffic.machine ≡ machine) (counters : new.traffic.counters ≡ old.traffic.counters) (pending : new.traffic.pending ≡ old.traffic.pending) (unsent : new.traffic.unsent ≡ old.traffic.unsent)
       (errors : new.traffic.errors ≡ old.traffic.errors) (frames : new.traffic.frames ≡ old.traffic.frames)
       (keeps : new.traffic.samples.keeps ≡ old.traffic.samples.keeps)
       (listed : old.traffic.samples.keeps ≡ true → samples_by new.traffic.samples.runs.items ≡ samples_by old.traffic.samples.runs.items ++ samples_from (old.quanta + before) bit level n)
@@ -258,7 +260,7 @@ module _ (setup : NodeSetup) (level : Level) (old : NodeProgress) (before bit n 
               counters = counters ∙ was.place.traffic.counters ∙ sym is.counts;
               pending = pending ∙ was.place.traffic.pending ∙ kept.drives h.inputs h.inputs 0 (omega arith) some was.place.traffic.machine refl
                   ∙ sym (kept.drives h.inputs g.inputs n (omega arith) some was.place.traffic.machine is.more);
-              sent = sent ∙ was.place.traffic.sent ∙ ap (count_by is_sent) (sym is.frames);
+              unsent = subst (λ u. IsUnsent setup u _) (sym unsent) (subst (IsUnsent setup old.traffic.unsent) (sym is.frames) was.place.traffic.unsent);
               errors = errors ∙ was.place.traffic.errors ∙ sym is.errors;
               samples = λ on.
                   (let kept_on = sym keeps ∙ on in
@@ -268,7 +270,8 @@ module _ (setup : NodeSetup) (level : Level) (old : NodeProgress) (before bit n 
                   ∙ ap (λ m. length h.samples + m) (length_from (old.quanta + before) bit level n));
               frames = ap (λ f. f.items) frames ∙ was.place.traffic.frames ∙ sym is.frames;
               sends = λ frame e.
-                  ap (λ fs. first_frame (drop (count_by is_sent fs) setup.queue)) is.frames ∙ was.place.traffic.sends frame (sym is.head ∙ e);
+                  subst (λ fs. IsChosen setup.order (unsent_by setup.order setup.queue fs) frame new.traffic.unsent.place) (sym is.frames)
+                  (subst (λ u. IsChosen setup.order (unsent_of setup h) frame u.place) (sym unsent) (was.place.traffic.sends frame (sym is.head ∙ e)));
             };
           };
         }

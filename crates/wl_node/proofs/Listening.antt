@@ -6,7 +6,7 @@ use Rattle.wl_sync.specs.declared.Beat.TheVariants.{Sample}
 use Rattle.wl_sync.specs.Bits.{beat_of, sync_of}
 use Rattle.wl_node.specs.declared.setup.NodeSetup.{NodeSetup}
 use Rattle.wl_node.specs.declared.progress.NodeProgress.{NodeProgress}
-use Rattle.wl_node.specs.History.{History, history_of, history_after, seen_next, syncs_at}
+use Rattle.wl_node.specs.History.{History, staying_history, history_after, seen_next, syncs_at}
 use Rattle.wl_node.specs.Kept.{FitsQuanta, HasProgressedBy, KeepsCounts, KeepsDrive, sync_count}
 use Rattle.wl_node.specs.Quiet.{pending_of}
 use Rattle.wl_node.proofs.Gone.{joined}
@@ -38,8 +38,8 @@ module _ (setup : NodeSetup) (level : Level) (a b : ℕ) (old mid new : NodeProg
     | inl before ↦ stood m before levels is
     | inr behind ↦
         (let e : m ≡ a + (m - a) = omega (arith, behind) in
-        ap (λ k. (history_of setup (levels ++ replicate k level)).drive) e
-        ∙ ap (λ ls. (history_of setup ls).drive) (sym (joined levels level a (m - a)))
+        ap (λ k. (staying_history setup (levels ++ replicate k level)).drive) e
+        ∙ ap (λ ls. (staying_history setup ls).drive) (sym (joined levels level a (m - a)))
         ∙ stands (m - a) (omega (arith, less, behind)) (levels ++ replicate a level) (first levels is)
         ∙ stood a (omega arith) levels is)
   ]

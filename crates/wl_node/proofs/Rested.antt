@@ -21,14 +21,11 @@ use Rattle.wl_node.specs.declared.setup.NodeSetup.{NodeSetup}
 use Rattle.wl_node.specs.declared.samples.Samples.{Samples}
 use Rattle.wl_node.specs.declared.traffic.Traffic.{Traffic}
 use Rattle.wl_frame.specs.Grammar.{Content}
-use Rattle.wl_node.specs.History.{History, error_count, is_sent, sampled_next, history_after_judgement, history_after_sample, switched_off, unsent_of, ready_head}
-use Rattle.wl_node.specs.Kept.{IsTraffic, first_frame}
+use Rattle.wl_node.specs.History.{History, error_count, sampled_next, history_after_judgement, history_after_sample, switched_off, unsent_of, head_at_next}
+use Rattle.wl_node.specs.Kept.{IsTraffic}
+use Rattle.wl_node.specs.Unsent.{IsChosen, IsUnsent}
 use Rattle.wl_node.specs.Runs.{samples_by}
-use Rattle.wl_node.proofs.Sends.{count_append}
-
-pub none_mapped : {A B : Type 0} (f : A → B) (o : Option A) → is_some o ≡ false → option_map f o ≡ None
-none_mapped f None e = refl
-none_mapped f (Some x) e = cc
+use Rattle.wl_node.proofs.Unsents.{count_append}
 
 never_off : (m : Mode) → switched_off m m ≡ []
 never_off Active = refl
@@ -40,17 +37,17 @@ pub record IsApart (setup : NodeSetup) (kept : Traffic) (h : History) : Type 0 w
   pub machine : IsMachine kept.machine h.inputs
   pub counters : kept.counters ≡ counts_of h.happened
   pub pending : kept.pending ≡ drive_of (stretch_of h.inputs)
-  pub sent : kept.sent ≡ count_by is_sent h.frames
+  pub unsent : IsUnsent setup kept.unsent h.frames
   pub errors : kept.errors ≡ error_count h
   pub frames : kept.frames.items ≡ h.frames
-  pub sends : (frame : Content) → head_of (stretch_of h.inputs).sort ≡ Some frame → first_frame (unsent_of setup h) ≡ Some frame
+  pub sends : (frame : Content) → head_of (stretch_of h.inputs).sort ≡ Some frame → IsChosen setup.order (unsent_of setup h) frame kept.unsent.place
 
 pub apart : (setup : NodeSetup) (kept : Traffic) (h : History) → IsTraffic setup kept h → IsApart setup kept h
 apart setup kept h is = record {
   machine = is.machine;
   counters = is.counters;
   pending = is.pending;
-  sent = is.sent;
+  unsent = is.unsent;
   errors = is.errors;
   frames = is.frames;
   sends = is.sends;
@@ -62,7 +59,7 @@ whole setup kept h is samples sampled = record {
   machine = is.machine;
   counters = is.counters;
   pending = is.pending;
-  sent = is.sent;
+  unsent = is.unsent;
   errors = is.errors;
   samples = samples;
   sampled = sampled;
@@ -117,20 +114,20 @@ module _ (setup : NodeSetup) (h : History) (level : Level) (judged_is : judged (
   pub stretch_on : stretch_of (h.inputs ++ Sample x ∷ []) ≡ record { sort = s.sort; own = s.own ++ level ∷ [] }
   stretch_on = stretch_next h.inputs (Sample x) ∙ ap (λ (j : Judgement). or_next j.next (record { sort = s.sort; own = s.own ++ level ∷ [] })) judged_is
 
-  keeps_apart : (old new : Traffic) → IsApart setup old h → new.counters ≡ old.counters → new.pending ≡ old.pending → new.sent ≡ old.sent
+  keeps_apart : (old new : Traffic) → IsApart setup old h → new.counters ≡ old.counters → new.pending ≡ old.pending → new.unsent ≡ old.unsent
       → new.errors ≡ old.errors → new.frames ≡ old.frames → drive_of (stretch_of h.inputs) ≡ drive_of (stretch_of (h.inputs ++ Sample x ∷ []))
       → IsMachine new.machine (h.inputs ++ Sample x ∷ []) → IsApart setup new (history_after_sample setup h level)
   keeps_apart old new kept counters pending sent errors frames drive reached = subst (IsApart setup new) (sym history_is) (record {
     machine = reached;
     counters = counters ∙ kept.counters ∙ sym counts_same;
     pending = pending ∙ kept.pending ∙ drive;
-    sent = sent ∙ kept.sent;
+    unsent = subst (λ u. IsUnsent setup u h.frames) (sym sent) kept.unsent;
     errors = errors ∙ kept.errors ∙ sym (count_append is_error h.happened (Nothing ∷ []) ∙ add-zero _);
     frames = ap (λ f. f.items) frames ∙ kept.frames;
-    sends = λ frame e. kept.sends frame (sym (ap (λ (r : Stretch). head_of r.sort) stretch_on) ∙ e);
+    sends = λ frame e. subst (λ u. IsChosen setup.order (unsent_of setup h) frame u.place) (sym sent) (kept.sends frame (sym (ap (λ (r : Stretch). head_of r.sort) stretch_on) ∙ e));
   })
 
-  pub keeps : (old new : Traffic) → IsTraffic setup old h → new.counters ≡ old.counters → new.pending ≡ old.pending → new.sent ≡ old.sent
+  pub keeps : (old new : Traffic) → IsTraffic setup old h → new.counters ≡ old.counters → new.pending ≡ old.pending → new.unsent ≡ old.unsent
       → new.errors ≡ old.errors → new.frames ≡ old.frames → IsOneMore old.samples new.samples (length h.seen) level
       → drive_of (stretch_of h.inputs) ≡ drive_of (stretch_of (h.inputs ++ Sample x ∷ [])) → IsMachine new.machine (h.inputs ++ Sample x ∷ [])
       → IsTraffic setup new (history_after_sample setup h level)
@@ -140,7 +137,7 @@ module _ (setup : NodeSetup) (h : History) (level : Level) (judged_is : judged (
       (λ on. (let was = sym samples.keeps ∙ on in samples.samples was ∙ ap (λ l. l ++ (length h.seen, level) ∷ []) (kept.samples was)))
       (samples.count ∙ ap (λ n. n + 1) kept.sampled ∙ sym (length-append h.samples ((length h.seen, level) ∷ [])))
 
-module _ (setup : NodeSetup) (h : History) (none : ready_head (unsent_of setup h) (length h.seen) ≡ None) (free : is_free_sort (stretch_of h.inputs).sort ≡ true) where
+module _ (setup : NodeSetup) (h : History) (none : head_at_next setup h ≡ None) (free : is_free_sort (stretch_of h.inputs).sort ≡ true) where
   abbrev sample : Sampled
   sample = sampled_next setup h Recessive
 
@@ -164,7 +161,7 @@ module _ (setup : NodeSetup) (h : History) (none : ready_head (unsent_of setup h
   x_is : sample_of Recessive None sample.mode ≡ sample
   x_is = λ i. record { level = Recessive; head = sym none i; mode = sample.mode }
 
-  pub rests : (old new : Traffic) → IsTraffic setup old h → new.machine ≡ old.machine → new.counters ≡ old.counters → new.pending ≡ old.pending → new.sent ≡ old.sent
+  pub rests : (old new : Traffic) → IsTraffic setup old h → new.machine ≡ old.machine → new.counters ≡ old.counters → new.pending ≡ old.pending → new.unsent ≡ old.unsent
       → new.errors ≡ old.errors → new.frames ≡ old.frames → IsOneMore old.samples new.samples (length h.seen) Recessive
       → IsMachine old.machine (h.inputs ++ Sample (sample_of Recessive None sample.mode) ∷ [])
       → IsTraffic setup new (history_after_sample setup h Recessive)

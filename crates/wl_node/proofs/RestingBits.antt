@@ -14,11 +14,13 @@ use Rattle.wl_machine.specs.Reached.{IsMachine}
 use Rattle.wl_node.specs.declared.setup.NodeSetup.{NodeSetup}
 use Rattle.wl_node.specs.declared.traffic.Traffic.{Traffic}
 use Rattle.wl_node.specs.declared.progress.NodeProgress.{NodeProgress}
-use Rattle.wl_node.specs.History.{History, history_of, history_after, history_after_sample, ready_head, seen_next, unsent_of, sampled_next, by_beat, syncs_at}
+use Rattle.wl_node.specs.History.{History, staying_history, history_after, history_after_sample, ready_head, seen_next, unsent_of, sampled_next, by_beat, syncs_at}
 use Rattle.wl_node.specs.Kept.{AreSyncs, IsProgress, FitsHistory}
 use Rattle.wl_node.specs.IdleBits.{AlwaysRests, IsRest}
 use Rattle.wl_node.specs.Runs.{samples_by, samples_from}
 use Rattle.wl_node.proofs.Gone.{joined}
+use Rattle.wl_node.specs.Unsent.{IsChosen, IsUnsent, left_in}
+use Rattle.wl_node.proofs.Unsents.{no_head_of}
 use Rattle.wl_node.proofs.Rested.{IsApart, apart, rests_apart}
 use Rattle.wl_node.proofs.RunsOfSamples.{from_none, from_suc, length_from}
 use Rattle.wl_node.proofs.Skipped.{seen_more, same_history, IsIdleFor, history_skipped}
@@ -36,23 +38,23 @@ beside setup kept h is = record { clock = is.clock; drive = is.drive; syncs = is
 
 -- where no frame is ready at the sample
 pub rests_here : (setup : NodeSetup) (h : History) (kept : NodeProgress) (n : ℕ) → AlwaysRests kept n → IsBeside setup kept h
-    → ready_head (drop kept.traffic.sent setup.queue) (length h.seen + n - 1) ≡ None → IsRest setup kept h n
+    → ready_head (left_in setup kept.traffic.unsent) (length h.seen + n - 1) ≡ None → IsRest setup kept h n
 rests_here setup h kept n rests is none =
     let bit : IsRestingBit setup.segments h.seen (seen_next h Recessive) n = rests.bit setup.segments h.seen is.clock (seen_next h Recessive) refl in
-    let unsent : drop kept.traffic.sent setup.queue ≡ unsent_of setup h = ap (λ k. drop k setup.queue) is.apart.sent in
+    let unsent : left_in setup kept.traffic.unsent ≡ unsent_of setup h = is.apart.unsent.left in
     let last : length h.seen + n - 1 ≡ length h.seen + bit.last = (let b = bit.bit in omega arith) in
     record {
       free = rests.free h.inputs is.apart.machine;
       settled = sym is.drive ∙ rests.settled ∙ is.apart.pending;
       bit = bit;
-      none = ap (λ u. ready_head u (length h.seen + bit.last)) (sym unsent) ∙ ap (ready_head (drop kept.traffic.sent setup.queue)) (sym last) ∙ none;
+      none = ap (λ u. ready_head u (length h.seen + bit.last)) (sym unsent) ∙ ap (ready_head (left_in setup kept.traffic.unsent)) (sym last) ∙ none;
       stays = rests.stays;
     }
 
 -- one bit
-module _ (setup : NodeSetup) (levels : List Level) (kept : NodeProgress) (n : ℕ) (is : IsBeside setup kept (history_of setup levels)) (rest : IsRest setup kept (history_of setup levels) n) where
+module _ (setup : NodeSetup) (levels : List Level) (kept : NodeProgress) (n : ℕ) (is : IsBeside setup kept (staying_history setup levels)) (rest : IsRest setup kept (staying_history setup levels) n) where
   abbrev h : History
-  h = history_of setup levels
+  h = staying_history setup levels
 
   abbrev x : Seen
   x = seen_next h Recessive
@@ -76,10 +78,10 @@ module _ (setup : NodeSetup) (levels : List Level) (kept : NodeProgress) (n : �
   abbrev after : History
   after = record (history_after_sample setup before Recessive) { seen = h.seen ++ replicate n x; syncs = h.syncs }
 
-  after_is : history_of setup (levels ++ replicate n Recessive) ≡ after
+  after_is : staying_history setup (levels ++ replicate n Recessive) ≡ after
   after_is =
-      ap (λ k. history_of setup (levels ++ replicate k Recessive)) rest.bit.bit
-      ∙ ap (history_of setup) (snoc levels Recessive last)
+      ap (λ k. staying_history setup (levels ++ replicate k Recessive)) rest.bit.bit
+      ∙ ap (staying_history setup) (snoc levels Recessive last)
       ∙ history_next setup (levels ++ replicate last Recessive) Recessive
       ∙ ap (λ (g : History). history_after setup g Recessive) (history_skipped setup levels Recessive last last (omega arith) idle)
       ∙ ap (λ (b : Beat). record (by_beat setup before Recessive b) { seen = before.seen ++ x ∷ []; syncs = h.syncs ++ syncs_at (length before.seen) (sync_of setup.segments before.seen x) }) rest.bit.sampled
@@ -97,7 +99,7 @@ module _ (setup : NodeSetup) (levels : List Level) (kept : NodeProgress) (n : �
     machine = is.apart.machine;
     counters = is.apart.counters;
     pending = is.apart.pending;
-    sent = is.apart.sent;
+    unsent = is.apart.unsent;
     errors = is.apart.errors;
     frames = is.apart.frames;
     sends = is.apart.sends;
@@ -105,10 +107,10 @@ module _ (setup : NodeSetup) (levels : List Level) (kept : NodeProgress) (n : �
 
   now : IsApart setup kept.traffic (history_after_sample setup before Recessive)
   now =
-      rests_apart setup before (ap (ready_head (unsent_of setup h)) before_long ∙ rest.none) rest.free kept.traffic was
+      rests_apart setup before (no_head_of setup.order (unsent_of setup h) (length before.seen) (ap (ready_head (unsent_of setup h)) before_long ∙ rest.none)) rest.free kept.traffic was
       (rest.stays h.inputs (sampled_next setup before Recessive).mode is.apart.machine)
 
-  bit_beside : IsBeside setup kept (history_of setup (levels ++ replicate n Recessive))
+  bit_beside : IsBeside setup kept (staying_history setup (levels ++ replicate n Recessive))
   bit_beside = subst (IsBeside setup kept) (sym after_is) (record {
     clock = is.clock ∙ sym rest.bit.clock;
     drive = is.drive;
@@ -117,24 +119,24 @@ module _ (setup : NodeSetup) (levels : List Level) (kept : NodeProgress) (n : �
       machine = now.machine;
       counters = now.counters;
       pending = now.pending;
-      sent = now.sent;
+      unsent = now.unsent;
       errors = now.errors;
       frames = now.frames;
       sends = now.sends;
     };
   })
 
-  bit_long : length (history_of setup (levels ++ replicate n Recessive)).seen ≡ length h.seen + n
+  bit_long : length (staying_history setup (levels ++ replicate n Recessive)).seen ≡ length h.seen + n
   bit_long = ap (λ (k : History). length k.seen) after_is ∙ after_long
 
-  bit_samples : (history_of setup (levels ++ replicate n Recessive)).samples ≡ h.samples ++ (length h.seen + n - 1, Recessive) ∷ []
+  bit_samples : (staying_history setup (levels ++ replicate n Recessive)).samples ≡ h.samples ++ (length h.seen + n - 1, Recessive) ∷ []
   bit_samples = ap (λ (k : History). k.samples) after_is
       ∙ ap (λ k. h.samples ++ (k, Recessive) ∷ []) (let b = rest.bit.bit in let l = before_long in let e : length before.seen ≡ length h.seen + n - 1 = omega arith in e)
 
-  bit_drive : (m : ℕ) → m < suc n → (history_of setup (levels ++ replicate m Recessive)).drive ≡ (history_of setup levels).drive
+  bit_drive : (m : ℕ) → m < suc n → (staying_history setup (levels ++ replicate m Recessive)).drive ≡ (staying_history setup levels).drive
   bit_drive m h = elim (cases_lt m n) [
     | inl less ↦ ap (λ (g : History). g.drive) (history_skipped setup levels Recessive last m (let b = rest.bit.bit in omega arith) idle)
-    | inr more ↦ (let e : m ≡ n = omega arith in ap (λ k. (history_of setup (levels ++ replicate k Recessive)).drive) e ∙ ap (λ (g : History). g.drive) after_is)
+    | inr more ↦ (let e : m ≡ n = omega arith in ap (λ k. (staying_history setup (levels ++ replicate k Recessive)).drive) e ∙ ap (λ (g : History). g.drive) after_is)
   ]
 
 -- bit after bit, as long as no frame is ready
@@ -143,12 +145,12 @@ module _ (setup : NodeSetup) (kept : NodeProgress) (n : ℕ) (some : 0 < n) (res
   at k = levels ++ replicate (k * n) Recessive
 
   abbrev NoneBefore : ℕ → Type 0
-  NoneBefore k = (quantum : ℕ) → quantum < kept.quanta + k * n → ready_head (drop kept.traffic.sent setup.queue) quantum ≡ None
+  NoneBefore k = (quantum : ℕ) → quantum < kept.quanta + k * n → ready_head (left_in setup kept.traffic.unsent) quantum ≡ None
 
   record AreRested (k : ℕ) : Type 0 where
-    beside : IsBeside setup kept (history_of setup (at k))
-    long : length (history_of setup (at k)).seen ≡ kept.quanta + k * n
-    samples : (history_of setup (at k)).samples ≡ (history_of setup levels).samples ++ samples_from (kept.quanta + n - 1) n Recessive k
+    beside : IsBeside setup kept (staying_history setup (at k))
+    long : length (staying_history setup (at k)).seen ≡ kept.quanta + k * n
+    samples : (staying_history setup (at k)).samples ≡ (staying_history setup levels).samples ++ samples_from (kept.quanta + n - 1) n Recessive k
 
   first : at 0 ≡ levels
   first = (let e : 0 * n ≡ 0 = omega arith in ap (λ k. levels ++ replicate k Recessive) e ∙ append-nil levels)
@@ -156,51 +158,51 @@ module _ (setup : NodeSetup) (kept : NodeProgress) (n : ℕ) (some : 0 < n) (res
   next : (k : ℕ) → at (suc k) ≡ at k ++ replicate n Recessive
   next k = (let e : suc k * n ≡ k * n + n = omega arith in ap (λ m. levels ++ replicate m Recessive) e ∙ sym (joined levels Recessive (k * n) n))
 
-  here : (k : ℕ) → NoneBefore (suc k) → AreRested k → IsRest setup kept (history_of setup (at k)) n
-  here k none is = rests_here setup (history_of setup (at k)) kept n rests is.beside (none (length (history_of setup (at k)).seen + n - 1) (let l = is.long in omega arith))
+  here : (k : ℕ) → NoneBefore (suc k) → AreRested k → IsRest setup kept (staying_history setup (at k)) n
+  here k none is = rests_here setup (staying_history setup (at k)) kept n rests is.beside (none (length (staying_history setup (at k)).seen + n - 1) (let l = is.long in omega arith))
 
   are_rested : (k : ℕ) → NoneBefore k → AreRested k
   are_rested zero none = record {
-    beside = subst (λ ls. IsBeside setup kept (history_of setup ls)) (sym first) (beside setup kept (history_of setup levels) old.place);
-    long = ap (λ ls. length (history_of setup ls).seen) first ∙ sym old.place.quanta ∙ (let e : kept.quanta ≡ kept.quanta + 0 * n = omega arith in e);
-    samples = ap (λ ls. (history_of setup ls).samples) first
-        ∙ sym (ap (λ xs. (history_of setup levels).samples ++ xs) (from_none (kept.quanta + n - 1) n Recessive) ∙ append-nil (history_of setup levels).samples);
+    beside = subst (λ ls. IsBeside setup kept (staying_history setup ls)) (sym first) (beside setup kept (staying_history setup levels) old.place);
+    long = ap (λ ls. length (staying_history setup ls).seen) first ∙ sym old.place.quanta ∙ (let e : kept.quanta ≡ kept.quanta + 0 * n = omega arith in e);
+    samples = ap (λ ls. (staying_history setup ls).samples) first
+        ∙ sym (ap (λ xs. (staying_history setup levels).samples ++ xs) (from_none (kept.quanta + n - 1) n Recessive) ∙ append-nil (staying_history setup levels).samples);
   }
   are_rested (suc k) none =
       let is : AreRested k = are_rested k (λ quantum less. none quantum (omega arith)) in
-      let rest : IsRest setup kept (history_of setup (at k)) n = here k none is in
-      let last : length (history_of setup (at k)).seen + n - 1 ≡ kept.quanta + n - 1 + k * n = (let l = is.long in omega arith) in
+      let rest : IsRest setup kept (staying_history setup (at k)) n = here k none is in
+      let last : length (staying_history setup (at k)).seen + n - 1 ≡ kept.quanta + n - 1 + k * n = (let l = is.long in omega arith) in
       record {
-        beside = subst (λ ls. IsBeside setup kept (history_of setup ls)) (sym (next k)) (bit_beside setup (at k) kept n is.beside rest);
-        long = ap (λ ls. length (history_of setup ls).seen) (next k) ∙ bit_long setup (at k) kept n is.beside rest ∙ (let l = is.long in omega arith);
-        samples = ap (λ ls. (history_of setup ls).samples) (next k) ∙ bit_samples setup (at k) kept n is.beside rest
+        beside = subst (λ ls. IsBeside setup kept (staying_history setup ls)) (sym (next k)) (bit_beside setup (at k) kept n is.beside rest);
+        long = ap (λ ls. length (staying_history setup ls).seen) (next k) ∙ bit_long setup (at k) kept n is.beside rest ∙ (let l = is.long in omega arith);
+        samples = ap (λ ls. (staying_history setup ls).samples) (next k) ∙ bit_samples setup (at k) kept n is.beside rest
             ∙ (λ i. is.samples i ++ (last i, Recessive) ∷ [])
-            ∙ append_assoc (history_of setup levels).samples (samples_from (kept.quanta + n - 1) n Recessive k) ((kept.quanta + n - 1 + k * n, Recessive) ∷ [])
-            ∙ ap (λ xs. (history_of setup levels).samples ++ xs) (sym (from_suc (kept.quanta + n - 1) n Recessive k));
+            ∙ append_assoc (staying_history setup levels).samples (samples_from (kept.quanta + n - 1) n Recessive k) ((kept.quanta + n - 1 + k * n, Recessive) ∷ [])
+            ∙ ap (λ xs. (staying_history setup levels).samples ++ xs) (sym (from_suc (kept.quanta + n - 1) n Recessive k));
       }
 
-  pub rested_drive : (k : ℕ) → NoneBefore k → (m : ℕ) → m ≤ k * n → (history_of setup (levels ++ replicate m Recessive)).drive ≡ (history_of setup levels).drive
-  rested_drive zero none m few = (let e : m ≡ 0 * n = omega arith in ap (λ j. (history_of setup (levels ++ replicate j Recessive)).drive) e ∙ ap (λ ls. (history_of setup ls).drive) first)
+  pub rested_drive : (k : ℕ) → NoneBefore k → (m : ℕ) → m ≤ k * n → (staying_history setup (levels ++ replicate m Recessive)).drive ≡ (staying_history setup levels).drive
+  rested_drive zero none m few = (let e : m ≡ 0 * n = omega arith in ap (λ j. (staying_history setup (levels ++ replicate j Recessive)).drive) e ∙ ap (λ ls. (staying_history setup ls).drive) first)
   rested_drive (suc k) none m few = elim (cases_lt m (suc (k * n))) [
     | inl less ↦ rested_drive k (λ quantum l. none quantum (omega arith)) m (omega arith)
     | inr more ↦
         (let is : AreRested k = are_rested k (λ quantum l. none quantum (omega arith)) in
         let e : m ≡ k * n + (m - k * n) = omega arith in
-        ap (λ j. (history_of setup (levels ++ replicate j Recessive)).drive) e
-        ∙ ap (λ ls. (history_of setup ls).drive) (sym (joined levels Recessive (k * n) (m - k * n)))
+        ap (λ j. (staying_history setup (levels ++ replicate j Recessive)).drive) e
+        ∙ ap (λ ls. (staying_history setup ls).drive) (sym (joined levels Recessive (k * n) (m - k * n)))
         ∙ bit_drive setup (at k) kept n is.beside (here k none is) (m - k * n) (omega arith)
         ∙ rested_drive k (λ quantum l. none quantum (omega arith)) (k * n) (omega arith))
   ]
 
   module _ (k : ℕ) (none : NoneBefore k) (traffic : Traffic) (machine : traffic.machine ≡ kept.traffic.machine) (counters : traffic.counters ≡ kept.traffic.counters)
-      (pending : traffic.pending ≡ kept.traffic.pending) (sent : traffic.sent ≡ kept.traffic.sent) (errors : traffic.errors ≡ kept.traffic.errors) (frames : traffic.frames ≡ kept.traffic.frames)
+      (pending : traffic.pending ≡ kept.traffic.pending) (unsent : traffic.unsent ≡ kept.traffic.unsent) (errors : traffic.errors ≡ kept.traffic.errors) (frames : traffic.frames ≡ kept.traffic.frames)
       (keeps : traffic.samples.keeps ≡ kept.traffic.samples.keeps)
       (samples : kept.traffic.samples.keeps ≡ true → samples_by traffic.samples.runs.items ≡ samples_by kept.traffic.samples.runs.items ++ samples_from (kept.quanta + n - 1) n Recessive k)
       (count : traffic.samples.count ≡ kept.traffic.samples.count + k) where
     pub now_rested : IsProgress setup (record { clock = kept.clock; drive = kept.drive; quanta = kept.quanta + k * n; syncs = kept.syncs; traffic = traffic }) (at k)
     now_rested =
         let is : AreRested k = are_rested k none in
-        let a : IsApart setup kept.traffic (history_of setup (at k)) = is.beside.apart in
+        let a : IsApart setup kept.traffic (staying_history setup (at k)) = is.beside.apart in
         record {
           counted = is.long ∙ ap (λ q. q + k * n) (old.place.quanta ∙ old.counted)
               ∙ sym (length-append levels (replicate (k * n) Recessive) ∙ ap (λ m. length levels + m) (length-replicate (k * n) Recessive));
@@ -211,17 +213,17 @@ module _ (setup : NodeSetup) (kept : NodeProgress) (n : ℕ) (some : 0 < n) (res
             syncs = is.beside.syncs;
             same = old.place.same ∙ sym keeps;
             traffic = record {
-              machine = subst (λ m. IsMachine m (history_of setup (at k)).inputs) (sym machine) a.machine;
+              machine = subst (λ m. IsMachine m (staying_history setup (at k)).inputs) (sym machine) a.machine;
               counters = counters ∙ a.counters;
               pending = pending ∙ a.pending;
-              sent = sent ∙ a.sent;
+              unsent = subst (λ u. IsUnsent setup u _) (sym unsent) a.unsent;
               errors = errors ∙ a.errors;
               samples = λ on.
                   (let kept_on = sym keeps ∙ on in
                   samples kept_on ∙ ap (λ xs. xs ++ samples_from (kept.quanta + n - 1) n Recessive k) (old.place.traffic.samples kept_on) ∙ sym is.samples);
               sampled = count ∙ ap (λ m. m + k) old.place.traffic.sampled
-                  ∙ sym (ap length is.samples ∙ length-append (history_of setup levels).samples (samples_from (kept.quanta + n - 1) n Recessive k)
-                  ∙ ap (λ m. length (history_of setup levels).samples + m) (length_from (kept.quanta + n - 1) n Recessive k));
+                  ∙ sym (ap length is.samples ∙ length-append (staying_history setup levels).samples (samples_from (kept.quanta + n - 1) n Recessive k)
+                  ∙ ap (λ m. length (staying_history setup levels).samples + m) (length_from (kept.quanta + n - 1) n Recessive k));
               frames = ap (λ f. f.items) frames ∙ a.frames;
               sends = a.sends;
             };

@@ -1,7 +1,5 @@
--- The frame that a machine sends is the first unsent one of its node, sample by sample.
+-- The frame that a machine sends is one of those that its node has not sent yet, sample by sample.
 use Rattle.std.proofs.Common.{◌≡◌, ◌∙◌, ℕ, ◌+◌, Bool, true, false, cond, nat_le, List, [], ◌∷◌, ◌++◌, drop, Option, Some, None, ◌⊎◌, inl, inr, refl, sym, ap, append-nil, add-zero}
-use Rattle.std.specs.Prelude.{count_by, if◌then◌else◌}
-use Rattle.std.proofs.lemmas.List.Sums.{sum_by-append}
 use Rattle.wl_level.specs.declared.Level.{Level}
 use Rattle.wl_level.specs.declared.Level.TheVariants.{Dominant, Recessive}
 use Rattle.wl_segments.specs.declared.SyncRules.{SyncRules}
@@ -15,23 +13,14 @@ use Rattle.wl_machine.specs.Stretch.Ended.{NoFrame, Sent, Received}
 use Rattle.wl_machine.specs.Judged.{judged, or_next, stretch_after, stretch_of, head_of}
 use Rattle.wl_machine.specs.Laws.{HeadLaws}
 use Rattle.wl_machine.proofs.Callers.{stretch_next}
+use Rattle.wl_node.specs.declared.setup.Passed.{Passed}
+use Rattle.wl_node.specs.declared.setup.QueueOrder.{QueueOrder}
 use Rattle.wl_node.specs.declared.setup.Queued.{Queued}
-use Rattle.wl_node.specs.History.{ready_head, handed, passed_frames, is_sent, switched_off}
-use Rattle.wl_node.specs.Kept.{first_frame}
+use Rattle.wl_node.specs.History.{handed, passed_frames, switched_off}
+use Rattle.wl_node.specs.Queues.{unsent_by}
+use Rattle.wl_node.proofs.Unsents.{received_by}
 
-pub count_append : {X : Type 0} (p : X → Bool) (xs ys : List X) → count_by p (xs ++ ys) ≡ count_by p xs + count_by p ys
-count_append p xs ys = sum_by-append (λ x. cond (p x) 1 0) xs ys
-
--- a head that is ready is the first unsent frame
-pub ready_first : (unsent : List Queued) (quantum : ℕ) (frame : Content) → ready_head unsent quantum ≡ Some frame → first_frame unsent ≡ Some frame
-ready_first [] quantum frame e = cc
-ready_first (q ∷ qs) quantum frame e = first_if (nat_le q.ready quantum) e
-  where
-    first_if : (b : Bool) → (if b then Some q.frame else None) ≡ Some frame → Some q.frame ≡ Some frame
-    first_if true f = f
-    first_if false f = cc
-
--- and so is one that is handed
+-- a head that is handed is the head
 pub handed_some : (level : Level) (rules : SyncRules) (head : Option Content) (frame : Content) → handed level rules head ≡ Some frame → head ≡ Some frame
 handed_some Recessive rules head frame e = e
 handed_some Dominant Book head frame e = e
@@ -51,35 +40,43 @@ off_or_not Passive Passive = inl refl
 off_or_not Passive Off = inr refl
 off_or_not Off after = inl refl
 
+-- a sample that sends no frame leaves all
+unsent_on : (order : QueueOrder) (queue : List Queued) (frames : List Passed) (quantum : ℕ) (ended : Ended) → ((frame : Content) → ended ≡ Sent frame → ⊥)
+    → unsent_by order queue (frames ++ passed_frames quantum ended) ≡ unsent_by order queue frames
+unsent_on order queue frames quantum NoFrame none = ap (unsent_by order queue) (append-nil frames)
+unsent_on order queue frames quantum (Received frame) none = received_by order queue frames quantum frame
+unsent_on order queue frames quantum (Sent frame) none = absurd (none frame refl)
+
 module _ (laws : HeadLaws) where
-  module _ (s : Stretch) (x : Sampled) (unsent : List Queued) (quantum : ℕ)
-      (before : (frame : Content) → head_of s.sort ≡ Some frame → first_frame unsent ≡ Some frame)
-      (ready : (frame : Content) → x.head ≡ Some frame → ready_head unsent quantum ≡ Some frame) where
-    -- a sample that leaves a head has sent no frame
-    pub none_sent : (frame : Content) → head_of (stretch_after s (Sample x)).sort ≡ Some frame → (ended : Ended) → (judged s x).ended ≡ ended
-        → count_by is_sent (passed_frames quantum ended) ≡ 0
-    none_sent frame e NoFrame j = refl
-    none_sent frame e (Received other) j = refl
-    none_sent frame e (Sent other) j =
+  -- a machine in no frame sends none with its next sample
+  pub none_from : (s : Stretch) (x : Sampled) → head_of s.sort ≡ None → (order : QueueOrder) (queue : List Queued) (frames : List Passed) (quantum : ℕ)
+      → unsent_by order queue (frames ++ passed_frames quantum (judged s x).ended) ≡ unsent_by order queue frames
+  none_from s x none order queue frames quantum =
+      unsent_on order queue frames quantum (judged s x).ended (λ frame e. let f : head_of s.sort ≡ Some frame = ap head_of (laws.sent s x frame e) in cc)
+
+  module _ (s : Stretch) (x : Sampled) where
+    -- nor does one that has a head after it
+    pub none_sent : (frame : Content) → head_of (stretch_after s (Sample x)).sort ≡ Some frame → (order : QueueOrder) (queue : List Queued) (frames : List Passed) (quantum : ℕ)
+        → unsent_by order queue (frames ++ passed_frames quantum (judged s x).ended) ≡ unsent_by order queue frames
+    none_sent frame e order queue frames quantum = unsent_on order queue frames quantum (judged s x).ended (λ other j.
         let gone : head_of (stretch_after s (Sample x)).sort ≡ None =
         ap (λ n. head_of (or_next n (record { sort = s.sort; own = s.own ++ x.level ∷ [] })).sort) (laws.over s x other j) in
-        cc
+        cc)
 
-    still_first : (frame : Content) → head_of (stretch_after s (Sample x)).sort ≡ Some frame → (next : Option Stretch) → (judged s x).next ≡ next
-        → first_frame unsent ≡ Some frame
-    still_first frame e None j = before frame (sym (ap head_of (laws.on s x j)) ∙ e)
-    still_first frame e (Some next) j =
-        let here : head_of next.sort ≡ Some frame =
-        sym (ap (λ n. head_of (or_next n (record { sort = s.sort; own = s.own ++ x.level ∷ [] })).sort) j) ∙ e in
-        elim (laws.head s next x j) [
-          | inl h ↦ ready_first unsent quantum frame (ready frame (sym h ∙ here))
-          | inr h ↦ cc
-        ]
-
-    -- the first unsent frame after a sample that leaves a head
-    sends_on : (frame : Content) → head_of (stretch_after s (Sample x)).sort ≡ Some frame
-        → (first_frame unsent ≡ Some frame) × (count_by is_sent (passed_frames quantum (judged s x).ended) ≡ 0)
-    sends_on frame e = (still_first frame e (judged s x).next refl, none_sent frame e (judged s x).ended refl)
+    -- the head after a sample is the one before it, or the one that was handed with it
+    pub still : (P : Content → Type 0) → ((frame : Content) → head_of s.sort ≡ Some frame → P frame) → ((frame : Content) → x.head ≡ Some frame → P frame)
+        → (frame : Content) → head_of (stretch_after s (Sample x)).sort ≡ Some frame → P frame
+    still P before handed frame e = by (judged s x).next refl
+      where
+        by : (next : Option Stretch) → (judged s x).next ≡ next → P frame
+        by None j = before frame (sym (ap head_of (laws.on s x j)) ∙ e)
+        by (Some next) j =
+            let here : head_of next.sort ≡ Some frame =
+            sym (ap (λ n. head_of (or_next n (record { sort = s.sort; own = s.own ++ x.level ∷ [] })).sort) j) ∙ e in
+            elim (laws.head s next x j) [
+              | inl h ↦ handed frame (sym h ∙ here)
+              | inr h ↦ cc
+            ]
 
   -- the same over all that reached the machine, with the order to go off the bus after the sample
   pub sends_off : (past : List Input) (frame : Content) (off : List Input) → (off ≡ []) ⊎ (off ≡ SwitchedOff ∷ [])
@@ -91,12 +88,13 @@ module _ (laws : HeadLaws) where
       ap (λ p. head_of (stretch_of (past ++ p)).sort) o ∙ ap (λ s. head_of s.sort) (stretch_next past SwitchedOff) in
       cc
 
-  pub sends_next : (past : List Input) (x : Sampled) (queue : List Queued) (sent quantum : ℕ) (after : Mode)
-      → ((frame : Content) → head_of (stretch_of past).sort ≡ Some frame → first_frame (drop sent queue) ≡ Some frame)
-      → ((frame : Content) → x.head ≡ Some frame → ready_head (drop sent queue) quantum ≡ Some frame)
+  -- So it is over a sample, with what is left of the queue.
+  pub sends_next : (P : Content → Type 0) (past : List Input) (x : Sampled) (after : Mode)
+      → ((frame : Content) → head_of (stretch_of past).sort ≡ Some frame → P frame) → ((frame : Content) → x.head ≡ Some frame → P frame)
       → (frame : Content) → head_of (stretch_of ((past ++ Sample x ∷ []) ++ switched_off x.mode after)).sort ≡ Some frame
-      → first_frame (drop (sent + count_by is_sent (passed_frames quantum (judged (stretch_of past) x).ended)) queue) ≡ Some frame
-  sends_next past x queue sent quantum after before ready frame e =
-      let now = sends_off (past ++ Sample x ∷ []) frame (switched_off x.mode after) (off_or_not x.mode after) e in
-      let both = sends_on (stretch_of past) x (drop sent queue) quantum before ready frame (sym (ap (λ s. head_of s.sort) (stretch_next past (Sample x))) ∙ now) in
-      ap (λ n. first_frame (drop n queue)) (ap (λ n. sent + n) both.1 ∙ add-zero sent) ∙ both.0
+      → (order : QueueOrder) (queue : List Queued) (frames : List Passed) (quantum : ℕ)
+      → P frame × (unsent_by order queue (frames ++ passed_frames quantum (judged (stretch_of past) x).ended) ≡ unsent_by order queue frames)
+  sends_next P past x after before handed frame e order queue frames quantum =
+      let now : head_of (stretch_after (stretch_of past) (Sample x)).sort ≡ Some frame =
+      sym (ap (λ s. head_of s.sort) (stretch_next past (Sample x))) ∙ sends_off (past ++ Sample x ∷ []) frame (switched_off x.mode after) (off_or_not x.mode after) e in
+      (still (stretch_of past) x P before handed frame now, none_sent (stretch_of past) x frame now order queue frames quantum)

@@ -9,7 +9,7 @@ use Rattle.wl_sync.specs.declared.Seen.{Seen}
 use Rattle.wl_sync.specs.Bits.{beat_of, sync_of}
 use Rattle.wl_sync.specs.Skips.{IsUnmoved, IsUnsampled, IsPlain}
 use Rattle.wl_node.specs.declared.setup.NodeSetup.{NodeSetup}
-use Rattle.wl_node.specs.History.{History, history_of, history_after, seen_next, by_beat, syncs_at}
+use Rattle.wl_node.specs.History.{History, staying_history, history_after, seen_next, by_beat, syncs_at}
 use Rattle.wl_node.specs.Quiet.{pending_of}
 use Rattle.wl_node.proofs.Turns.{history_next}
 
@@ -43,14 +43,14 @@ pub record IsIdleFor (setup : NodeSetup) (h : History) (level : Level) (n : ℕ)
   pub unsampled : IsUnsampled setup.segments h.seen (seen_next h level) n
   pub starts : (m : ℕ) → m < n → beat_of setup.segments (h.seen ++ replicate m (seen_next h level)) (seen_next h level) ≡ Start → h.drive ≡ pending_of h
 
-pub history_skipped : (setup : NodeSetup) (levels : List Level) (level : Level) (n m : ℕ) → m ≤ n → IsIdleFor setup (history_of setup levels) level n
-    → history_of setup (levels ++ replicate m level) ≡ seen_more (history_of setup levels) (replicate m (seen_next (history_of setup levels) level))
+pub history_skipped : (setup : NodeSetup) (levels : List Level) (level : Level) (n m : ℕ) → m ≤ n → IsIdleFor setup (staying_history setup levels) level n
+    → staying_history setup (levels ++ replicate m level) ≡ seen_more (staying_history setup levels) (replicate m (seen_next (staying_history setup levels) level))
 history_skipped setup levels level n zero less is =
-    ap (history_of setup) (append-nil levels) ∙ same_history (history_of setup levels) (sym (append-nil (history_of setup levels).seen)) refl
+    ap (staying_history setup) (append-nil levels) ∙ same_history (staying_history setup levels) (sym (append-nil (staying_history setup levels).seen)) refl
 history_skipped setup levels level n (suc m) less is =
-    let h : History = history_of setup levels in
+    let h : History = staying_history setup levels in
     let x : Seen = seen_next h level in
-    ap (history_of setup) (snoc levels level m)
+    ap (staying_history setup) (snoc levels level m)
     ∙ history_next setup (levels ++ replicate m level) level
     ∙ ap (λ (g : History). history_after setup g level) (history_skipped setup levels level n m (omega arith) is)
     ∙ step setup (seen_more h (replicate m x)) level (λ v. is.unsampled m v (omega arith)) (is.starts m (omega arith)) (is.unmoved m (omega arith))

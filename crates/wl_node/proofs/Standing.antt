@@ -23,12 +23,14 @@ use Rattle.wl_machine.specs.Silence.{SilenceLaws}
 use Rattle.wl_machine.proofs.Callers.{stretch_next}
 use Rattle.wl_node.specs.declared.setup.Queued.{Queued}
 use Rattle.wl_node.specs.declared.setup.NodeSetup.{NodeSetup}
-use Rattle.wl_node.specs.History.{History, history_of, seen_next, sampled_next, unsent_of, ready_head, switched_off}
+use Rattle.wl_node.specs.History.{History, staying_history, seen_next, sampled_next, unsent_of, head_at_next, switched_off}
 use Rattle.wl_node.specs.Limits.{most_run_quanta}
 use Rattle.wl_node.specs.Stays.{until_frame, rest_stay, stay_by, stay_at}
 use Rattle.wl_node.proofs.Drives.{behind, beat_next, same_sent}
 use Rattle.wl_node.proofs.ReadyHeads.{ready_heads, until_now}
+use Rattle.wl_node.specs.Unsent.{is_first_ready}
 use Rattle.wl_node.proofs.Sends.{off_or_not}
+use Rattle.wl_node.proofs.Unsents.{no_head}
 use Rattle.wl_node.proofs.Turns.{history_next}
 
 pub until_frame_most : (unsent : List Queued) (n : ℕ) → until_frame unsent n ≤ most_run_quanta
@@ -36,9 +38,9 @@ until_frame_most [] n = omega arith
 until_frame_most (q ∷ qs) n = omega arith
 
 -- before the quantum at which a frame is ready none is
-none_ready : (unsent : List Queued) (n m : ℕ) → suc (suc m) ≤ until_frame unsent n → ready_head unsent n ≡ None
+none_ready : (unsent : List Queued) (n m : ℕ) → suc (suc m) ≤ until_frame unsent n → is_first_ready unsent n ≡ false
 none_ready [] n m few = refl
-none_ready (q ∷ qs) n m few = ap (λ b. cond b (Some q.frame) None) (lt-leb q.ready n (omega arith))
+none_ready (q ∷ qs) n m few = lt-leb q.ready n (omega arith)
 
 until_less : (unsent : List Queued) (n m : ℕ) → suc (suc m) ≤ until_frame unsent n → suc m ≤ until_frame unsent (suc n)
 until_less [] n m few = omega arith
@@ -164,16 +166,16 @@ module _ (rests : RestLaws) (silences : SilenceLaws) (ways : SampleLaws) (bits :
     goes d (inr less) = goes_bit d less
 
   abbrev drive_after : List Level → Level
-  drive_after levels = (history_of setup levels).drive
+  drive_after levels = (staying_history setup levels).drive
 
   one_more : (levels : List Level) (m : ℕ) → drive_after (levels ++ replicate (suc m) Recessive) ≡ drive_after ((levels ++ Recessive ∷ []) ++ replicate m Recessive)
   one_more levels m = ap drive_after (sym (append_assoc levels (Recessive ∷ []) (replicate m Recessive)))
 
-  stands_rest : (m : ℕ) (levels : List Level) → drive_after levels ≡ Recessive → Lasts (history_of setup levels) m → drive_after (levels ++ replicate m Recessive) ≡ Recessive
+  stands_rest : (m : ℕ) (levels : List Level) → drive_after levels ≡ Recessive → Lasts (staying_history setup levels) m → drive_after (levels ++ replicate m Recessive) ≡ Recessive
   stands_rest zero levels d lasts = ap drive_after (append-nil levels) ∙ d
   stands_rest (suc m) levels d lasts =
-      let g : Goes (history_of setup levels) m (history_of setup (levels ++ Recessive ∷ [])) =
-      subst (Goes (history_of setup levels) m) (sym (history_next setup levels Recessive)) (goes (history_of setup levels) m d lasts) in
+      let g : Goes (staying_history setup levels) m (staying_history setup (levels ++ Recessive ∷ [])) =
+      subst (Goes (staying_history setup levels) m) (sym (history_next setup levels Recessive)) (goes (staying_history setup levels) m d lasts) in
       one_more levels m ∙ stands_rest m (levels ++ Recessive ∷ []) g.drive g.left
 
   -- as long as none is handed
@@ -197,7 +199,7 @@ module _ (rests : RestLaws) (silences : SilenceLaws) (ways : SampleLaws) (bits :
             | inr f ↦ here ∙ f
           ]
 
-  headless_behind : (h : History) (v : Level) → ready_head (unsent_of setup h) (length h.seen) ≡ None → head_of (stretch_of h.inputs).sort ≡ None
+  headless_behind : (h : History) (v : Level) → head_at_next setup h ≡ None → head_of (stretch_of h.inputs).sort ≡ None
       → head_of (stretch_of (behind setup h Recessive (Sample v)).inputs).sort ≡ None
   headless_behind h v none e = by (switched_off x.mode after) (off_or_not x.mode after)
     where
@@ -224,8 +226,8 @@ module _ (rests : RestLaws) (silences : SilenceLaws) (ways : SampleLaws) (bits :
     few = subst (λ n. suc m ≤ n) (sym waiting) (until_less (unsent_of setup h) (length h.seen) m is.few);
   }
     where
-      none : ready_head (unsent_of setup h) (length h.seen) ≡ None
-      none = none_ready (unsent_of setup h) (length h.seen) m is.few
+      none : head_at_next setup h ≡ None
+      none = no_head setup.order (unsent_of setup h) (length h.seen) (none_ready (unsent_of setup h) (length h.seen) m is.few)
 
       rest_by : (b : Beat) → RestsFor 0 (rest_in (behind setup h Recessive b))
       rest_by Start = is.rest
@@ -242,31 +244,31 @@ module _ (rests : RestLaws) (silences : SilenceLaws) (ways : SampleLaws) (bits :
           ap (λ u. until_frame u (length (h.seen ++ seen_next h Recessive ∷ []))) (same_sent silences ways setup heads h Recessive b is.headless)
           ∙ ap (until_frame (unsent_of setup h)) (length-append h.seen (seen_next h Recessive ∷ []) ∙ add-one (length h.seen))
 
-  stands_unhanded : (m : ℕ) (levels : List Level) → IsUnhanded (history_of setup levels) m → drive_after (levels ++ replicate m Recessive) ≡ Recessive
+  stands_unhanded : (m : ℕ) (levels : List Level) → IsUnhanded (staying_history setup levels) m → drive_after (levels ++ replicate m Recessive) ≡ Recessive
   stands_unhanded zero levels is = ap drive_after (append-nil levels) ∙ is.drive
   stands_unhanded (suc zero) levels is =
-      let h : History = history_of setup levels in
+      let h : History = staying_history setup levels in
       ap (λ (g : History). g.drive) (history_next setup levels Recessive) ∙ drive_next h (beat_next setup h Recessive) is.rest is.drive
   stands_unhanded (suc (suc m)) levels is =
-      let h : History = history_of setup levels in
+      let h : History = staying_history setup levels in
       one_more levels (suc m)
       ∙ stands_unhanded (suc m) (levels ++ Recessive ∷ [])
       (subst (λ next. IsUnhanded next (suc m)) (sym (history_next setup levels Recessive)) (unhanded_next h m (beat_next setup h Recessive) is))
 
   -- both
 
-  pub stands_at : (levels : List Level) (m : ℕ) → m ≤ stay_at setup (history_of setup levels) → drive_after (levels ++ replicate m Recessive) ≡ drive_after levels
+  pub stands_at : (levels : List Level) (m : ℕ) → m ≤ stay_at setup (staying_history setup levels) → drive_after (levels ++ replicate m Recessive) ≡ drive_after levels
   stands_at levels m few = by_drive (is_dominant h.drive) refl few
     where
       h : History
-      h = history_of setup levels
+      h = staying_history setup levels
 
       by_head : (rest : ℕ) → rest_in h ≡ Some rest → h.drive ≡ Recessive → rest_stay (Some rest) setup h < m → m ≤ until_frame (unsent_of setup h) (length h.seen)
           → (o : Option Content) → head_of (stretch_of h.inputs).sort ≡ o → drive_after (levels ++ replicate m Recessive) ≡ Recessive
       by_head rest e d more less None f =
           stands_unhanded m levels (record { drive = d; rest = subst (RestsFor 0) (sym e) (let l : 0 ≤ rest = omega arith in l); headless = f; few = less })
       by_head rest e d more less (Some frame) f =
-          absurd (let now = until_now (unsent_of setup h) (length h.seen) frame (ready_heads heads setup levels frame f) in
+          absurd (let now = until_now (unsent_of setup h) (length h.seen) (ready_heads heads setup levels frame f) in
           let some : 1 ≤ rest_stay (Some rest) setup h = omega arith in
           omega arith)
 

@@ -9,14 +9,14 @@ use Rattle.wl_sync.specs.declared.Seen.{Seen}
 use Rattle.wl_sync.specs.Bits.{beat_of}
 use Rattle.wl_machine.specs.Judged.{awaits_start, stretch_of, is_idle_sort}
 use Rattle.wl_node.specs.declared.setup.NodeSetup.{NodeSetup}
-use Rattle.wl_node.specs.History.{History, history_of, history_after, is_integration, no_history, seen_next, by_beat}
+use Rattle.wl_node.specs.History.{History, staying_history, history_after, is_integration, no_history, seen_next, by_beat}
 
-pub history_first : (setup : NodeSetup) → history_of setup [] ≡ no_history
-unfolding history_of
+pub history_first : (setup : NodeSetup) → staying_history setup [] ≡ no_history
+unfolding staying_history
 history_first setup = refl
 
-pub history_next : (setup : NodeSetup) (levels : List Level) (level : Level) → history_of setup (levels ++ level ∷ []) ≡ history_after setup (history_of setup levels) level
-unfolding history_of
+pub history_next : (setup : NodeSetup) (levels : List Level) (level : Level) → staying_history setup (levels ++ level ∷ []) ≡ history_after setup (staying_history setup levels) level
+unfolding staying_history
 history_next setup levels level = fold-append (history_after setup) no_history levels (level ∷ [])
 
 -- what the bit clock is given is what it sees
@@ -28,10 +28,10 @@ seen_is h level drive idle awaits integrates driving e f n g d i =
 
 -- the drive after one more level, by the beat
 pub drive_is : (setup : NodeSetup) (levels : List Level) (level : Level) (beat : Beat)
-    → beat ≡ beat_of setup.segments (history_of setup levels).seen (seen_next (history_of setup levels) level)
-    → (by_beat setup (history_of setup levels) level beat).drive ≡ (history_of setup (levels ++ level ∷ [])).drive
+    → beat ≡ beat_of setup.segments (staying_history setup levels).seen (seen_next (staying_history setup levels) level)
+    → (by_beat setup (staying_history setup levels) level beat).drive ≡ (staying_history setup (levels ++ level ∷ [])).drive
 drive_is setup levels level beat e =
-    ap (λ b. (by_beat setup (history_of setup levels) level b).drive) e ∙ sym (ap (λ h. h.drive) (history_next setup levels level))
+    ap (λ b. (by_beat setup (staying_history setup levels) level b).drive) e ∙ sym (ap (λ h. h.drive) (history_next setup levels level))
 
 -- the drive stays where no bit starts
 pub drive_stays : (setup : NodeSetup) (h : History) (level : Level) (beat : Beat) → beat ≢ Start → h.drive ≡ (by_beat setup h level beat).drive

@@ -1,5 +1,5 @@
 -- A node as a function of its setup and of all levels that it has seen, one for each quantum, the oldest first.
-use Rattle.std.specs.Prelude.{ℕ, nat_le, ℤ, Bool, true, false, List, [], ◌∷◌, ◌++◌, length, drop, count_by, fold, Option, Some, None, if◌then◌else◌}
+use Rattle.std.specs.Prelude.{ℕ, ◌-◌, min, nat_le, nat_lt, ℤ, Bool, true, false, List, [], ◌∷◌, ◌++◌, length, take, drop, map, count_by, fold, Option, Some, None}
 use Rattle.std.specs.List.{flat_map}
 use Rattle.wl_level.specs.declared.Level.{Level}
 use Rattle.wl_level.specs.declared.Level.TheVariants.{Dominant, Recessive}
@@ -25,6 +25,8 @@ use Rattle.wl_machine.specs.Judged.{awaits_start, judged, stretch_of, drive_of, 
 use Rattle.wl_node.specs.declared.setup.Queued.{Queued}
 use Rattle.wl_node.specs.declared.setup.Passed.{Passed}
 use Rattle.wl_node.specs.declared.setup.NodeSetup.{NodeSetup}
+pub use Rattle.wl_node.specs.Queues.{is_sent, ready_head}
+use Rattle.wl_node.specs.Queues.{unsent_by, head_by}
 
 -- What a node saw and did: what its bit clock saw at each quantum, what its machine was given and what happened at each
 -- sample, its samples, the frames that passed and the synchronisations with their quanta, and the level that it drives.
@@ -41,17 +43,13 @@ pub record History : Type 0 where
 abbrev pub no_history : History
 no_history = record { seen = []; inputs = []; happened = []; samples = []; frames = []; syncs = []; drive = Recessive }
 
-abbrev pub is_sent : Passed → Bool
-is_sent p = p.sent
-
--- the frames of the queue that were not sent yet: a frame that lost the arbitration or failed stays (Bosch CAN 2.0 part B, sections 2 and 5)
+-- The frames of the queue that were not sent yet, by the order of the queue: a frame that lost the arbitration or failed stays (Bosch CAN 2.0 part B, sections 2 and 5)
 abbrev pub unsent_of : NodeSetup → History → List Queued
-unsent_of setup h = drop (count_by is_sent h.frames) setup.queue
+unsent_of setup h = unsent_by setup.order setup.queue h.frames
 
--- the first of them, if it is ready (this project's profile)
-abbrev pub ready_head : List Queued → ℕ → Option Content
-ready_head [] quantum = None
-ready_head (q ∷ qs) quantum = if nat_le q.ready quantum then Some q.frame else None
+-- the head of the queue at the next quantum: of the frames that wait then, the one that the order of the queue puts first
+abbrev pub head_at_next : NodeSetup → History → Option Content
+head_at_next setup h = head_by setup.order (unsent_of setup h) (length h.seen)
 
 -- The head that is handed to the machine with a sample of this level. A dominant one begins a frame of the node's own by the book alone, where it is the third bit of
 -- an intermission (Bosch CAN 2.0 part B, section 3.2.5; that no head is handed with it else, is this project's profile).
@@ -91,7 +89,7 @@ seen_next h level = record {
 abbrev pub sampled_next : NodeSetup → History → Level → Sampled
 sampled_next setup h level = record {
   level = level;
-  head = handed level setup.segments.sync (ready_head (unsent_of setup h) (length h.seen));
+  head = handed level setup.segments.sync (head_at_next setup h);
   mode = mode_of (counts_of h.happened);
 }
 
@@ -129,9 +127,46 @@ history_after setup h level =
     let next : History = by_beat setup h level (beat_of setup.segments h.seen x) in
     record next { seen = h.seen ++ x ∷ []; syncs = h.syncs ++ syncs_at (length h.seen) (sync_of setup.segments h.seen x) }
 
+-- a node that never leaves the bus, after the levels that it saw at its quanta
+unfoldable pub staying_history : NodeSetup → List Level → History
+staying_history setup levels = fold (history_after setup) no_history levels
+
+-- What a node that has left the bus sees: it drives recessive and looks no more. Nothing comes of these levels but that quanta pass (this project's profile).
+abbrev pub left_history : History → List Level → History
+left_history h [] = h
+left_history h (level ∷ levels) = record h { seen = h.seen ++ map (seen_next (record h { drive = Recessive })) (level ∷ levels); drive = Recessive }
+
+-- the levels that a node sees before it leaves the bus, at this quantum or never, and those of the quanta after that
+abbrev pub levels_there : Option ℕ → List Level → List Level
+levels_there None levels = levels
+levels_there (Some n) levels = take n levels
+
+abbrev pub levels_away : Option ℕ → List Level → List Level
+levels_away None levels = []
+levels_away (Some n) levels = drop n levels
+
+-- a quantum is one at which it isn't there any more
+abbrev pub is_after : Option ℕ → ℕ → Bool
+is_after None quantum = false
+is_after (Some n) quantum = nat_le n quantum
+
+-- how many of so many quanta, from this one on, come before it leaves
+abbrev pub quanta_before : Option ℕ → ℕ → ℕ → ℕ
+quanta_before None quantum most = most
+quanta_before (Some n) quantum most = min most (n - quantum)
+
+-- it has left: a quantum has come at which it wasn't there any more
+abbrev pub has_left : Option ℕ → List Level → Bool
+has_left None levels = false
+has_left (Some n) levels = nat_lt n (length levels)
+
+-- a node that leaves the bus then: it is where the levels before it put it, and stays there (this project's profile)
+abbrev pub history_until : Option ℕ → NodeSetup → List Level → History
+history_until until setup levels = left_history (staying_history setup (levels_there until levels)) (levels_away until levels)
+
 -- a node after the levels that it saw at its quanta
 unfoldable pub history_of : NodeSetup → List Level → History
-history_of setup levels = fold (history_after setup) no_history levels
+history_of setup levels = history_until setup.until setup levels
 
 -- the error counters
 abbrev pub counters_of : History → Counts

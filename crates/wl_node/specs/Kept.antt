@@ -1,27 +1,21 @@
 -- Where its history puts what a node keeps.
-use Rattle.std.specs.Prelude.{◌≡◌, ℕ, ◌+◌, ◌<◌, ◌≤◌, true, List, [], ◌∷◌, ◌++◌, length, replicate, count_by, Option, Some, None, vec_len, vec_capacity}
+use Rattle.std.specs.Prelude.{◌≡◌, ℕ, ◌+◌, ◌<◌, ◌≤◌, true, List, [], ◌∷◌, ◌++◌, length, replicate, count_by, Some, vec_len, vec_capacity}
 use Rattle.std.specs.List.{flat_map}
 use Rattle.wl_level.specs.declared.Level.{Level}
-use Rattle.wl_segments.specs.Lengths.{Lengths}
 use Rattle.wl_sync.specs.declared.Sync.{Sync}
 use Rattle.wl_sync.specs.Running.{clock_after}
 use Rattle.wl_confine.specs.Counts.{counts_of}
 use Rattle.wl_frame.specs.Grammar.{Content}
 use Rattle.wl_machine.specs.Judged.{stretch_of, drive_of, head_of}
 use Rattle.wl_machine.specs.Reached.{IsMachine}
-use Rattle.wl_node.specs.declared.setup.Queued.{Queued}
 use Rattle.wl_node.specs.declared.setup.NodeSetup.{NodeSetup}
 use Rattle.wl_node.specs.declared.syncs.Syncs.{Syncs}
 use Rattle.wl_node.specs.declared.traffic.Traffic.{Traffic}
 use Rattle.wl_node.specs.declared.progress.NodeProgress.{NodeProgress}
-use Rattle.wl_node.specs.History.{History, history_of, is_sent, unsent_of, error_count, phase_of, is_hard}
+use Rattle.wl_node.specs.History.{History, staying_history, unsent_of, error_count, phase_of, is_hard}
 use Rattle.wl_node.specs.Extremes.{phase_totals}
 use Rattle.wl_node.specs.Runs.{samples_by}
-
--- the frame of the first one in a queue
-abbrev pub first_frame : List Queued → Option Content
-first_frame [] = None
-first_frame (q ∷ qs) = Some q.frame
+use Rattle.wl_node.specs.Unsent.{IsChosen, IsUnsent}
 
 -- how many synchronisations are kept
 abbrev pub sync_count : Syncs → ℕ
@@ -33,17 +27,17 @@ pub record AreSyncs (kept : Syncs) (syncs : List (ℕ × Sync)) : Type 0 where
   pub totals : kept.totals ≡ phase_totals (flat_map phase_of syncs)
   pub hards : kept.hards ≡ count_by is_hard syncs
 
--- What is kept of the samples, which are listed or only counted, and of what came of them. The frame that the machine sends is the first unsent one.
+-- What is kept of the samples, which are listed or only counted, and of what came of them. The frame that the machine sends is the one that was chosen of those that were not sent yet.
 pub record IsTraffic (setup : NodeSetup) (kept : Traffic) (h : History) : Type 0 where
   pub machine : IsMachine kept.machine h.inputs
   pub counters : kept.counters ≡ counts_of h.happened
   pub pending : kept.pending ≡ drive_of (stretch_of h.inputs)
-  pub sent : kept.sent ≡ count_by is_sent h.frames
+  pub unsent : IsUnsent setup kept.unsent h.frames
   pub errors : kept.errors ≡ error_count h
   pub samples : kept.samples.keeps ≡ true → samples_by kept.samples.runs.items ≡ h.samples
   pub sampled : kept.samples.count ≡ length h.samples
   pub frames : kept.frames.items ≡ h.frames
-  pub sends : (frame : Content) → head_of (stretch_of h.inputs).sort ≡ Some frame → first_frame (unsent_of setup h) ≡ Some frame
+  pub sends : (frame : Content) → head_of (stretch_of h.inputs).sort ≡ Some frame → IsChosen setup.order (unsent_of setup h) frame kept.unsent.place
 
 -- a node is where its history puts it; it lists both its samples and its phase errors, or neither
 pub record FitsHistory (setup : NodeSetup) (kept : NodeProgress) (h : History) : Type 0 where
@@ -56,12 +50,8 @@ pub record FitsHistory (setup : NodeSetup) (kept : NodeProgress) (h : History) :
 
 -- a node is where these levels put it, one for each of its quanta
 pub record IsProgress (setup : NodeSetup) (kept : NodeProgress) (levels : List Level) : Type 0 where
-  pub counted : length (history_of setup levels).seen ≡ length levels
-  pub place : FitsHistory setup kept (history_of setup levels)
-
--- the same of every setup with these segments, before any level
-abbrev pub HasSeenNothing : Lengths → NodeProgress → Type 0
-HasSeenNothing segments kept = (setup : NodeSetup) → setup.segments ≡ segments → IsProgress setup kept []
+  pub counted : length (staying_history setup levels).seen ≡ length levels
+  pub place : FitsHistory setup kept (staying_history setup levels)
 
 -- whatever setup and levels put the old one where it is, put the new one where that is
 abbrev pub IsSameProgress : NodeProgress → NodeProgress → Type 0
@@ -79,7 +69,7 @@ HasProgressedBy setup level n old new = (levels : List Level) → IsProgress set
 abbrev pub KeepsDrive : NodeSetup → Level → ℕ → NodeProgress → Type 0
 KeepsDrive setup level n kept =
     (m : ℕ) → m < n → (levels : List Level) → IsProgress setup kept levels
-    → (history_of setup (levels ++ replicate m level)).drive ≡ (history_of setup levels).drive
+    → (staying_history setup (levels ++ replicate m level)).drive ≡ (staying_history setup levels).drive
 
 -- what is counted fits the quanta that ran: at most a synchronisation, an error and a sample each
 pub record FitsQuanta (kept : NodeProgress) : Type 0 where

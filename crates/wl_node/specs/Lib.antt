@@ -6,6 +6,9 @@ pub mod KeptBits
 pub mod Laws
 pub mod Limits
 pub mod Marks
+pub mod Queues
+pub mod Unsent
+pub mod Deciding
 pub mod Quiet
 pub mod Reached
 pub mod IdleBits
@@ -13,3 +16,4 @@ pub mod Runs
 pub mod Same
 pub mod Samples
 pub mod Stays
+pub mod Staying

@@ -1,26 +1,28 @@
 -- What others say of a node: its setup, its quanta, where levels put it, what it has done, and whether it has room.
-use Rattle.std.specs.Prelude.{◌≡◌, ◌≢◌, ℕ, ◌+◌, ◌<◌, Bool, List, [], ◌∷◌, ◌++◌, replicate}
+use Rattle.std.specs.Prelude.{◌≡◌, ◌≢◌, ℕ, ◌+◌, ◌<◌, Bool, List, [], ◌∷◌, ◌++◌, length, replicate}
 use Rattle.wl_level.specs.declared.Level.{Level}
 use Rattle.wl_node.specs.declared.setup.NodeSetup.{NodeSetup}
 use Rattle.wl_node.specs.declared.node.Node.{Node}
-use Rattle.wl_node.specs.History.{History, history_of}
-use Rattle.wl_node.specs.Kept.{IsProgress, IsRoomy}
+use Rattle.wl_node.specs.History.{History, history_of, levels_there, levels_away}
+use Rattle.wl_node.specs.Kept.{IsRoomy}
+use Rattle.wl_node.specs.Staying.{IsStaying}
 
 -- the setup that the node was made of
 abbrev pub node_setup : Node → NodeSetup
-node_setup node = node.setup
+node_setup node = node.staying.setup
 
 -- the number of quanta that the node has run
 abbrev pub quanta_of : Node → ℕ
-quanta_of node = node.progress.quanta
+quanta_of node = node.staying.progress.quanta + node.away
 
 -- whether the node lists its samples and phase errors, or only keeps what a report says of them
 abbrev pub keeps_lists : Node → Bool
-keeps_lists node = node.progress.traffic.samples.keeps
+keeps_lists node = node.staying.progress.traffic.samples.keeps
 
 -- the node is where these levels put it, one for each quantum that it has run, the oldest first
-abbrev pub IsNode : List Level → Node → Type 0
-IsNode levels node = IsProgress node.setup node.progress levels
+pub record IsNode (levels : List Level) (node : Node) : Type 0 where
+  pub stayed : IsStaying (levels_there node.staying.setup.until levels) node.staying
+  pub away : node.away ≡ length (levels_away node.staying.setup.until levels)
 
 -- this holds of what the node has done, whatever levels led to it
 abbrev pub Shows : Node → (History → Type 0) → Type 0
@@ -36,17 +38,17 @@ IsSameNode old new = (levels : List Level) → IsNode levels old → IsNode leve
 
 -- the node can store what its next quantum brings, without memory
 abbrev pub HasRoom : Node → Type 0
-HasRoom node = IsRoomy node.progress
+HasRoom node = IsRoomy node.staying.progress
 
 -- after so many quanta more, all of this level, the node drives what it drove before them
 abbrev pub StandsFor : Node → Level → ℕ → Type 0
 StandsFor node level n =
-    (levels : List Level) → IsNode levels node → (history_of node.setup (levels ++ replicate n level)).drive ≡ (history_of node.setup levels).drive
+    (levels : List Level) → IsNode levels node → (history_of (node_setup node) (levels ++ replicate n level)).drive ≡ (history_of (node_setup node) levels).drive
 
 -- and after these it drives the other level
 abbrev pub TurnsAfter : Node → Level → ℕ → Type 0
 TurnsAfter node level n =
-    (levels : List Level) → IsNode levels node → (history_of node.setup (levels ++ replicate n level)).drive ≢ (history_of node.setup levels).drive
+    (levels : List Level) → IsNode levels node → (history_of (node_setup node) (levels ++ replicate n level)).drive ≢ (history_of (node_setup node) levels).drive
 
 -- at so many quanta more the node has seen this level, and before the last of them its drive stood
 pub record HasGone (level : Level) (n : ℕ) (old new : Node) : Type 0 where

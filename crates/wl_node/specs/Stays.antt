@@ -7,7 +7,8 @@ use Rattle.wl_machine.specs.Judged.{stretch_of, is_free_sort}
 use Rattle.wl_machine.specs.RecessiveStay.{rest_of}
 use Rattle.wl_node.specs.declared.setup.Queued.{Queued}
 use Rattle.wl_node.specs.declared.setup.NodeSetup.{NodeSetup}
-use Rattle.wl_node.specs.History.{History, unsent_of}
+use Rattle.wl_level.specs.declared.Level.{Level}
+use Rattle.wl_node.specs.History.{History, staying_history, has_left, unsent_of}
 use Rattle.wl_node.specs.Limits.{most_run_quanta}
 
 -- the quanta up to the one at which the first frame of a queue is ready, that one too; without a frame all that a node may run, which is the most
@@ -35,3 +36,7 @@ stay_at setup h = if is_dominant h.drive then 0 else stay_by (rest_of (stretch_o
 -- the drive changes later than at that sample (Bosch CAN 2.0 part B, section 3.2.5, bus idle).
 abbrev pub free_stay : NodeSetup → History → ℕ
 free_stay setup h = if is_free_sort (stretch_of h.inputs).sort && not (is_dominant h.drive) then until_frame (unsent_of setup h) (length h.seen) else 0
+
+-- for how many quanta more a node that has seen these levels is sure to drive recessive where it sees recessive; one that has left is, for all that a node may run
+unfoldable pub stay_of : NodeSetup → List Level → ℕ
+stay_of setup levels = if has_left setup.until levels then most_run_quanta else stay_at setup (staying_history setup levels)

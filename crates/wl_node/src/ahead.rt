@@ -8,28 +8,31 @@ use wl_machine::Doing;
 
 impl Node {
     ghost use Rattle.std.specs.Prelude.{◌≡◌};
-    ghost use Rattle.wl_node.specs.Ahead.{left_to_send, is_listening};
-    ghost use Rattle.wl_node.specs.Reached.{Shows};
+    ghost use Rattle.std.specs.Prelude.{List};
+    ghost use Rattle.wl_level.specs.declared.Level.{Level};
+    ghost use Rattle.wl_node.specs.Ahead.{to_send_of, listens_of};
+    ghost use Rattle.wl_node.specs.Reached.{IsNode, node_setup};
 
     /// Returns how many bits of its frame a transmitter still has, without stuff bits, up to the end of the CRC sequence: at most 117. It
-    /// is 0 for a node that doesn't transmit, before the start of frame is sampled, and after the CRC sequence (Bosch CAN 2.0 part B,
+    /// is 0 for a node that doesn't transmit or has left, before the start of frame is sampled, and after the CRC sequence (Bosch CAN 2.0 part B,
     /// sections 3.2.1 and 5).
     pub fn to_send(&self) -> usize
-        ensures { Shows self.now (λ h. result ≡ left_to_send h) }
+        ensures { (levels : List Level) → IsNode levels self.now → result ≡ to_send_of (node_setup self.now) levels }
     {
-        let machine = &self.progress.traffic.machine;
-        if machine.awaits_start() {
+        let machine = &self.staying.progress.traffic.machine;
+        if 0 < self.away || machine.awaits_start() {
             return 0;
         }
         machine.to_send()
     }
 
     /// True if the node drives recessive and doesn't take part in what is sent, other than by its acknowledgement or an error: it
-    /// integrates, is idle, receives, or is bus off.
+    /// integrates, is idle, receives, is bus off, or has left.
     pub fn listens(&self) -> bool
-        ensures { Shows self.now (λ h. result ≡ is_listening h) }
+        ensures { (levels : List Level) → IsNode levels self.now → result ≡ listens_of (node_setup self.now) levels }
     {
-        !self.progress.drive.is_dominant() && hears(self.progress.traffic.machine.doing())
+        let progress = &self.staying.progress;
+        0 < self.away || !progress.drive.is_dominant() && hears(progress.traffic.machine.doing())
     }
 }
 

@@ -1,32 +1,18 @@
 //! A mark of where a node is, and the ways back and on to it.
 
 ghost use Rattle.std.specs.Prelude.{◌+◌, ◌≤◌};
+ghost use Rattle.wl_node.specs.Limits.{most_run_quanta};
 
 use crate::node::Node;
-use crate::phase_totals::PhaseTotals;
-use wl_confine::Counters;
-use wl_level::Level;
-use wl_machine::Machine;
-use wl_sync::BitClock;
+use crate::staying_mark::StayingMark;
 
 /// Where a node was: what it keeps beside its lists, and how many samples and frames it had stored.
 #[derive(Drop)]
 pub struct Mark {
-    pub(crate) clock: BitClock,
-    pub(crate) drive: Level,
-    pub(crate) quanta: u64,
-    pub(crate) hards: u64,
-    pub(crate) totals: PhaseTotals,
-    pub(crate) machine: Machine,
-    pub(crate) counters: Counters,
-    pub(crate) pending: Level,
-    pub(crate) sent: usize,
-    pub(crate) errors: u64,
-    pub(crate) samples: u64,
-    pub(crate) frames: usize,
-    ghost few_syncs: { hards + totals.count ≤ quanta },
-    ghost few_errors: { errors ≤ quanta },
-    ghost few_samples: { samples ≤ quanta },
+    pub(crate) staying: StayingMark,
+    /// How many quanta it had run since it left the bus.
+    pub(crate) away: u64,
+    ghost few: { staying.quanta + away ≤ most_run_quanta },
 }
 
 impl Node {
@@ -40,20 +26,9 @@ impl Node {
         ensures mark { (levels : List Level) → IsNode levels self.now → IsMark (node_setup self.now) levels result }
         ensures quanta { quanta_marked result ≡ quanta_of self.now }
     {
-        let traffic = &self.progress.traffic;
         Mark {
-            clock: self.progress.clock,
-            drive: self.progress.drive,
-            quanta: self.progress.quanta,
-            hards: self.progress.syncs.hards,
-            totals: self.progress.syncs.totals,
-            machine: traffic.machine.copy(),
-            counters: traffic.counters,
-            pending: traffic.pending,
-            sent: traffic.sent,
-            errors: traffic.errors,
-            samples: traffic.samples.count,
-            frames: traffic.frames.len(),
+            staying: self.staying.keep(),
+            away: self.away,
         }
     }
 
@@ -65,7 +40,8 @@ impl Node {
         ensures quanta { quanta_of self.new ≡ quanta_marked mark.now }
         ensures keeps { keeps_lists self.new ≡ keeps_lists self.old }
     {
-        self.progress.back(mark);
+        self.staying.back(&mark.staying);
+        self.away = mark.away;
     }
 
     /// Takes the node on to a mark of a place after it, and returns true, if it stored nothing on the way there: it only counts its samples and
@@ -82,66 +58,10 @@ impl Node {
             → IsMark (node_setup self.old) (levels ++ more) mark.now → NoFrameIn (node_setup self.old) levels more
             → result ≡ true }
     {
-        let traffic = &self.progress.traffic;
-        if traffic.samples.keeps || traffic.frames.len() != mark.frames {
+        if !self.staying.forth(&mark.staying) {
             return false;
         }
-        self.progress.forth(mark);
+        self.away = mark.away;
         true
-    }
-}
-
-impl crate::progress::NodeProgress {
-    ghost use Rattle.std.specs.Prelude.{◌≡◌, ◌+◌, ◌++◌, ◌≤◌, List, false, vec_len};
-    ghost use Rattle.wl_level.specs.declared.Level.{Level};
-    ghost use Rattle.wl_node.specs.declared.setup.NodeSetup.{NodeSetup};
-    ghost use Rattle.wl_node.specs.Kept.{FitsQuanta, IsProgress};
-    ghost use Rattle.wl_node.specs.Marks.{IsMark};
-
-    /// Puts a node's progress back to a mark.
-    fn back(&mut self, mark: &Mark)
-        ensures place { (setup : NodeSetup) (levels more : List Level) → IsMark setup levels mark.now
-            → IsProgress setup self.old (levels ++ more) → IsProgress setup self.new levels }
-        ensures quanta { self.new.quanta ≡ mark.now.quanta }
-        ensures fits { FitsQuanta self.new }
-        ensures keeps { self.new.traffic.samples.keeps ≡ self.old.traffic.samples.keeps }
-    {
-        self.clock = mark.clock;
-        self.drive = mark.drive;
-        self.quanta = mark.quanta;
-        self.syncs.hards = mark.hards;
-        self.syncs.totals = mark.totals;
-        self.syncs.phases.truncate(mark.totals.count as usize);
-        self.traffic.machine = mark.machine.copy();
-        self.traffic.counters = mark.counters;
-        self.traffic.pending = mark.pending;
-        self.traffic.sent = mark.sent;
-        self.traffic.errors = mark.errors;
-        self.traffic.samples.truncate(mark.samples);
-        self.traffic.frames.truncate(mark.frames);
-    }
-
-    /// Takes the progress of a node that lists neither samples nor phase errors on to a mark up to which no frame came to its end.
-    fn forth(&mut self, mark: &Mark)
-        requires counts { self.old.traffic.samples.keeps ≡ false }
-        requires frames { vec_len self.old.traffic.frames ≡ mark.now.frames }
-        ensures place { (setup : NodeSetup) (levels more : List Level) → IsMark setup (levels ++ more) mark.now
-            → IsProgress setup self.old levels → IsProgress setup self.new (levels ++ more) }
-        ensures quanta { self.new.quanta ≡ mark.now.quanta }
-        ensures fits { FitsQuanta self.new }
-        ensures keeps { self.new.traffic.samples.keeps ≡ self.old.traffic.samples.keeps }
-    {
-        self.clock = mark.clock;
-        self.drive = mark.drive;
-        self.quanta = mark.quanta;
-        self.syncs.hards = mark.hards;
-        self.syncs.totals = mark.totals;
-        let traffic = &mut self.traffic;
-        traffic.machine = mark.machine.copy();
-        traffic.counters = mark.counters;
-        traffic.pending = mark.pending;
-        traffic.sent = mark.sent;
-        traffic.errors = mark.errors;
-        traffic.samples.recount(mark.samples);
     }
 }

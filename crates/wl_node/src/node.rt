@@ -1,28 +1,32 @@
-//! A node, quantum by quantum.
+//! A node, quantum by quantum, which may leave the bus.
 
-ghost use Rattle.std.specs.Prelude.{List};
+ghost use Rattle.std.specs.Prelude.{◌≤◌, ◌+◌, List};
 ghost use Rattle.wl_level.specs.declared.Level.{Level};
-ghost use Rattle.wl_node.specs.Kept.{FitsQuanta, IsProgress};
+ghost use Rattle.wl_node.specs.History.{levels_away, levels_there};
+ghost use Rattle.wl_node.specs.Limits.{most_run_quanta};
 
+use crate::limits::MOST_QUIET;
 use crate::phase_totals::PhaseTotals;
-use crate::progress::NodeProgress;
 use crate::samples::{SampleList, Samples};
 use crate::setup::{NodeSetup, Passed};
+use crate::staying_node::StayingNode;
 use std::alloc::{AllocError, Global};
 use wl_confine::Counters;
 use wl_level::{Level, Listed};
+use wl_limits::MOST_RUN_QUANTA;
 
 /// A node: its setup, and where the levels that it saw put it, one for each quantum. Its rules are those of the bit clock (Bosch CAN 2.0
 /// part B, section 10), the machine (sections 3, 6 and 7) and the counters (section 8).
 ///
 /// A node looks at the line once a quantum. [`Node::quantum`] is one of its quanta. If the owner has to know whether there is memory before
-/// anything happens, it calls [`Node::prepare`] and [`Node::run`] in its place.
+/// anything happens, it calls [`Node::prepare`] and [`Node::run`] in its place. From its quantum `until` on, if it has one, a node has left
+/// the bus: it drives recessive and looks no more.
 #[derive(Drop)]
 pub struct Node {
-    pub(crate) setup: NodeSetup,
-    pub(crate) progress: NodeProgress,
-    ghost fits: { FitsQuanta progress },
-    ghost reached: { ∥ ((levels : List Level) × IsProgress setup progress levels) ∥₁ },
+    pub(crate) staying: StayingNode,
+    /// How many quanta it has run since it left.
+    pub(crate) away: u64,
+    ghost few: { staying.progress.quanta + away ≤ most_run_quanta },
 }
 
 /// What a node stored, given up by it.
@@ -39,12 +43,12 @@ pub struct NodeLists {
 impl Node {
     ghost use Rattle.std.specs.Prelude.{◌≡◌, ◌≤◌, ℕ, ◌+◌, ◌<◌, [], true, false, length, OnOk, OnErr, IfOk};
     ghost use Rattle.wl_node.specs.Extremes.{phase_totals};
-    ghost use Rattle.wl_node.specs.History.{counters_of, phases_of, hards_of, error_count, unsent_count};
+    ghost use Rattle.wl_node.specs.History.{is_after, counters_of, phases_of, hards_of, error_count, unsent_count};
     ghost use Rattle.wl_node.specs.Limits.{most_quiet, most_run_quanta};
     ghost use Rattle.wl_node.specs.Quiet.{quiet_of};
     ghost use Rattle.wl_node.specs.Reached.{keeps_lists, node_setup, quanta_of, IsNode, HasRoom, Shows, HasSeen, IsSameNode, StandsFor};
     ghost use Rattle.wl_node.specs.Samples.{samples_of};
-    ghost use Rattle.wl_node.specs.Stays.{free_stay, stay_at};
+    ghost use Rattle.wl_node.specs.Stays.{free_stay, stay_of};
 
     /// Returns a node of this setup that has run no quantum: it drives recessive. Refused only if memory runs out.
     pub fn new(alloc: Global, setup: NodeSetup) -> Result<Node, AllocError>
@@ -71,15 +75,15 @@ impl Node {
         ensures setup { IfOk result (λ node. node_setup node ≡ setup) }
         ensures keeps { IfOk result (λ node. keeps_lists node ≡ keeps) }
     {
-        let progress = NodeProgress::new(alloc, setup.segments, keeps)?;
-        Ok(Node { setup, progress })
+        let staying = StayingNode::begin(alloc, setup, keeps)?;
+        Ok(Node { staying, away: 0 })
     }
 
     /// Returns what the node was made of. No call changes it.
     pub fn setup(&self) -> &NodeSetup
         ensures { result.now ≡ node_setup self.now }
     {
-        &self.setup
+        &self.staying.setup
     }
 
     /// Takes the memory that the next quantum needs, so that [`Node::run`] needs none. Refused if memory runs out. Refused or not, the node
@@ -91,7 +95,7 @@ impl Node {
         ensures quanta { quanta_of self.new ≡ quanta_of self.old }
         ensures keeps { keeps_lists self.new ≡ keeps_lists self.old }
     {
-        self.progress.prepare()
+        self.staying.prepare()
     }
 
     /// Takes the memory of this many runs of samples and resynchronising edges more, so that their lists needn't grow so often. A
@@ -103,7 +107,7 @@ impl Node {
         ensures quanta { quanta_of self.new ≡ quanta_of self.old }
         ensures keeps { keeps_lists self.new ≡ keeps_lists self.old }
     {
-        self.progress.reserve(runs, edges)
+        self.staying.reserve(runs, edges)
     }
 
     /// Runs the next quantum, at which the node sees this level. [`Node::prepare`] has made room, and fewer than
@@ -120,7 +124,11 @@ impl Node {
         ensures quanta { quanta_of self.new ≡ quanta_of self.old + 1 }
         ensures keeps { keeps_lists self.new ≡ keeps_lists self.old }
     {
-        self.progress.run(&self.setup, level);
+        if self.is_away() {
+            self.away += 1;
+        } else {
+            self.staying.run(level);
+        }
     }
 
     /// Runs the next quantum, at which the node sees this level: [`Node::prepare`], and then [`Node::run`]. Fewer than
@@ -144,7 +152,10 @@ impl Node {
     pub fn drive(&self) -> Level
         ensures { Shows self.now (λ h. result ≡ h.drive) }
     {
-        self.progress.drive
+        if 0 < self.away {
+            return Level::Recessive;
+        }
+        self.staying.progress.drive
     }
 
     /// Returns for how many quanta more the node is sure to keep its drive, whatever levels it sees: at most
@@ -157,7 +168,15 @@ impl Node {
             → result ≡ quiet_of (node_setup self.now) levels }
         ensures most { result ≤ most_quiet }
     {
-        self.progress.quiet(&self.setup)
+        if 0 < self.away {
+            return MOST_QUIET;
+        }
+        let quiet = self.staying.quiet();
+        match self.staying.setup.until {
+            Some(until) if self.staying.progress.drive.is_dominant() => (quiet as u64)
+                .min(until.saturating_sub(self.staying.progress.quanta)) as u32,
+            _ => quiet,
+        }
     }
 
     /// Returns for how many quanta more the node is sure to keep its drive if it sees recessive at each of them: at most
@@ -169,12 +188,15 @@ impl Node {
     /// an acknowledged frame, a flag, a delimiter, an intermission, a suspension, a bus off or an integration (Bosch CAN 2.0 part B,
     /// sections 3.2 and 8, rule 12). On a recessive line no edge moves a bit, so each is as long as its segments.
     pub fn stays(&self) -> u64
-        ensures value { Shows self.now (λ h. result ≡ stay_at (node_setup self.now) h) }
+        ensures value { (levels : List Level) → IsNode levels self.now → result ≡ stay_of (node_setup self.now) levels }
         ensures stands { (m : ℕ) → m ≤ result → StandsFor self.now Level.Recessive m }
         ensures free { Shows self.now (λ h. free_stay (node_setup self.now) h ≤ result) }
         ensures most { result ≤ most_run_quanta }
     {
-        self.progress.stays(&self.setup)
+        if 0 < self.away {
+            return MOST_RUN_QUANTA;
+        }
+        self.staying.stays()
     }
 
     /// Returns the number of quanta that the node has run.
@@ -182,73 +204,85 @@ impl Node {
         ensures value { result ≡ quanta_of self.now }
         ensures levels { (levels : List Level) → IsNode levels self.now → result ≡ length levels }
     {
-        self.progress.quanta
+        self.staying.progress.quanta + self.away
     }
 
     /// Returns the samples so far, each with its quantum. The node lends them, which takes no memory. A counting node gives none.
     pub fn samples(&self) -> &Samples
         ensures { keeps_lists self.now ≡ true → Shows self.now (λ h. samples_of result.now ≡ h.samples) }
     {
-        &self.progress.traffic.samples
+        &self.staying.progress.traffic.samples
     }
 
     /// Returns the number of samples, whether the node lists them or only counts them.
     pub fn sample_count(&self) -> u64
         ensures { Shows self.now (λ h. result ≡ length h.samples) }
     {
-        self.progress.traffic.samples.count
+        self.staying.progress.traffic.samples.count
     }
 
     /// Returns the frames that the node sent and received, in the order in which they were completed.
     pub fn frames(&self) -> &[Passed]
         ensures { Shows self.now (λ h. result.now ≡ h.frames) }
     {
-        &self.progress.traffic.frames
+        &self.staying.progress.traffic.frames
     }
 
     /// Returns the error counters.
     pub fn counters(&self) -> Counters
         ensures { Shows self.now (λ h. result ≡ counters_of h) }
     {
-        self.progress.traffic.counters
+        self.staying.progress.traffic.counters
     }
 
     /// Returns the resynchronising edges: quantum and phase error, in quanta, error 0 too. A counting node gives none.
     pub fn phases(&self) -> &[(u64, i16)]
         ensures { keeps_lists self.now ≡ true → Shows self.now (λ h. result.now ≡ phases_of h) }
     {
-        &self.progress.syncs.phases
+        &self.staying.progress.syncs.phases
     }
 
     /// Returns what a report says of these edges, whether the node lists them or not.
     pub fn phase_totals(&self) -> PhaseTotals
         ensures { Shows self.now (λ h. result ≡ phase_totals (phases_of h)) }
     {
-        self.progress.syncs.totals
+        self.staying.progress.syncs.totals
     }
 
     /// Returns the number of hard synchronisations.
     pub fn hards(&self) -> u64
         ensures { Shows self.now (λ h. result ≡ hards_of h) }
     {
-        self.progress.syncs.hards
+        self.staying.progress.syncs.hards
     }
 
     /// Returns the number of errors that the node found, those that leave its counters alone too.
     pub fn errors(&self) -> u64
         ensures { Shows self.now (λ h. result ≡ error_count h) }
     {
-        self.progress.traffic.errors
+        self.staying.progress.traffic.errors
     }
 
     /// Returns the number of frames of the queue that were not sent yet.
     pub fn unsent(&self) -> u64
         ensures { Shows self.now (λ h. result ≡ unsent_count (node_setup self.now) h) }
     {
-        self.setup
-            .queue
-            .len()
-            .saturating_sub(self.progress.traffic.sent) as u64
+        self.staying
+            .progress
+            .traffic
+            .unsent
+            .frames(&self.staying.setup)
+            .len() as u64
+    }
+
+    /// True if the node is to leave the bus with its next quantum, or has left it.
+    pub(crate) fn is_away(&self) -> bool
+        ensures { result ≡ is_after (node_setup self.now).until self.now.staying.progress.quanta }
+    {
+        match self.staying.setup.until {
+            Some(until) => until <= self.staying.progress.quanta,
+            None => false,
+        }
     }
 
     /// Returns what the node stored, without a copy. A counting node gives no samples and no phase errors.
@@ -258,9 +292,9 @@ impl Node {
         ensures phases { keeps_lists self ≡ true → Shows self (λ h. result.phases ≡ phases_of h) }
     {
         NodeLists {
-            samples: self.progress.traffic.samples.into_list(),
-            frames: Listed::from_vec(self.progress.traffic.frames),
-            phases: Listed::from_vec(self.progress.syncs.phases),
+            samples: self.staying.progress.traffic.samples.into_list(),
+            frames: Listed::from_vec(self.staying.progress.traffic.frames),
+            phases: Listed::from_vec(self.staying.progress.syncs.phases),
         }
     }
 }

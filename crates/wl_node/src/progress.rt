@@ -1,9 +1,9 @@
 //! One quantum of a node.
 
-ghost use Rattle.std.specs.Prelude.{◌≡◌, ◌+◌, ◌<◌, ◌≤◌, length, OnOk, IfOk, vec_len, vec_capacity};
+ghost use Rattle.std.specs.Prelude.{◌≡◌, ◌+◌, ◌<◌, ◌≤◌, [], length, OnOk, IfOk, vec_len, vec_capacity};
 ghost use Rattle.wl_node.specs.declared.setup.NodeSetup.{NodeSetup};
 ghost use Rattle.wl_node.specs.History.{History, by_beat, seen_next};
-ghost use Rattle.wl_node.specs.Kept.{FitsHistory, FitsQuanta, IsTraffic, IsRoomy, HasSeenNothing, IsSameProgress, HasProgressed, KeepsCounts};
+ghost use Rattle.wl_node.specs.Kept.{FitsHistory, FitsQuanta, IsTraffic, IsRoomy, IsProgress, IsSameProgress, HasProgressed, KeepsCounts};
 ghost use Rattle.wl_node.specs.Limits.{most_run_quanta};
 
 use crate::integration::integrates;
@@ -12,11 +12,11 @@ use crate::samples::Samples;
 use crate::setup::NodeSetup;
 use crate::syncs::Syncs;
 use crate::traffic::Traffic;
+use crate::unsent::Unsent;
 use std::alloc::{AllocError, Global};
 use wl_confine::Counters;
 use wl_level::Level;
 use wl_machine::Machine;
-use wl_segments::Segments;
 use wl_sync::{Beat, BitClock, Seen};
 
 /// What a node keeps beside its setup.
@@ -35,11 +35,12 @@ const FIRST_ROOM: usize = 8;
 impl NodeProgress {
     /// Returns what a node keeps before the first quantum: it drives recessive. It lists its samples and phase errors if `keeps` is true, and
     /// otherwise only keeps what a report says of them.
-    pub fn new(alloc: Global, segments: Segments, keeps: bool) -> Result<NodeProgress, AllocError>
-        ensures place { IfOk result (HasSeenNothing segments) }
+    pub fn new(alloc: Global, setup: &NodeSetup, keeps: bool) -> Result<NodeProgress, AllocError>
+        ensures place { IfOk result (λ kept. IsProgress setup.now kept []) }
         ensures fits { IfOk result FitsQuanta }
         ensures keeps { IfOk result (λ kept. kept.traffic.samples.keeps ≡ keeps) }
     {
+        let segments = setup.segments;
         Ok(NodeProgress {
             clock: BitClock::new(segments),
             drive: Level::Recessive,
@@ -54,7 +55,7 @@ impl NodeProgress {
                 machine: Machine::new(),
                 counters: Counters::new(),
                 pending: Level::Recessive,
-                sent: 0,
+                unsent: Unsent::new(alloc, setup)?,
                 errors: 0,
                 samples: Samples::new(
                     alloc,

@@ -1,10 +1,11 @@
 //! For how long a node's drive is sure to stay.
 
-ghost use Rattle.std.specs.Prelude.{◌≡◌, ◌≤◌, List, [], drop};
+ghost use Rattle.std.specs.Prelude.{◌≡◌, ◌≤◌, List, []};
 ghost use Rattle.wl_level.specs.declared.Level.{Level};
+ghost use Rattle.wl_node.specs.History.{staying_history};
 ghost use Rattle.wl_node.specs.Kept.{IsProgress};
 ghost use Rattle.wl_node.specs.Limits.{most_quiet};
-ghost use Rattle.wl_node.specs.Quiet.{floor_by, floor_and_silence, until_ready, quiet_of};
+ghost use Rattle.wl_node.specs.Quiet.{floor_by, floor_and_silence, until_ready, quiet_at, quiet_of};
 
 use crate::limits::MOST_QUIET;
 use crate::progress::NodeProgress;
@@ -15,15 +16,15 @@ impl NodeProgress {
     /// Returns for how many quanta more the drive is sure to stay, in a node of this setup.
     pub fn quiet(&self, setup: &NodeSetup) -> u32
         ensures value { (levels : List Level) → IsProgress setup.now self.now levels
-            → result ≡ quiet_of setup.now levels }
+            → result ≡ quiet_at setup.now (staying_history setup.now levels) }
         ensures most { result ≤ most_quiet }
     {
         let settled = self.drive.is(self.traffic.pending);
         let place = setup.segments.least_way() as u32;
         let least = floor(self.clock.before_sample(), settled, place);
-        let waiting = self.traffic.sent < setup.queue.len();
-        let handed = longer(least, self.traffic.machine.silence(waiting), place);
-        let ready_in = until_ready(setup.queue.as_slice(), self.traffic.sent, self.quanta);
+        let unsent = self.traffic.unsent.frames(setup);
+        let handed = longer(least, self.traffic.machine.silence(0 < unsent.len()), place);
+        let ready_in = until_ready(unsent, self.quanta);
         if ready_in <= handed as u64 {
             return handed.min(MOST_QUIET);
         }
@@ -48,11 +49,11 @@ impl NodeSetup {
     }
 }
 
-/// Returns the quanta before the one at which the first frame that was not sent yet is ready.
-fn until_ready(queue: &[Queued], sent: usize, quantum: u64) -> u64
-    ensures { result ≡ until_ready (drop sent queue.now) quantum }
+/// Returns the quanta before the one at which the first of these frames is ready.
+fn until_ready(unsent: &[Queued], quantum: u64) -> u64
+    ensures { result ≡ until_ready unsent.now quantum }
 {
-    match queue.get(sent) {
+    match unsent.first() {
         Some(first) => first.ready.saturating_sub(quantum),
         None => 0,
     }

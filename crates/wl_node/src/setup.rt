@@ -31,15 +31,29 @@ pub struct Passed {
 /// The frames that a node is to send, in this order.
 pub type Queue = Listed<Queued>;
 
-/// What a node is made of: its clock, its bit segments and the frames that it is to send.
+/// Which of the frames that wait is sent next.
+#[derive(Clone, Copy, Debug, PartialEq, Eq)]
+pub enum QueueOrder {
+    /// The first of the queue: first in, first out.
+    Fifo,
+    /// The one that wins the arbitration against all others that wait, and of equal ones the first of
+    /// the queue (Bosch CAN 2.0 part B, section 3.1).
+    Priority,
+}
+
+/// What a node is made of: its clock, its bit segments, the frames that it is to send, and how long it stays.
 #[derive(Debug, Drop)]
 pub struct NodeSetup {
     /// The ticks of its quanta. The node itself never asks for them.
     pub clock: Clock,
     /// The segments of its bits, in quanta.
     pub segments: Segments,
-    /// The frames that it is to send, in this order, whatever their identifiers.
+    /// The frames that it is to send. They come to its controller in this order, each when it is ready.
     pub queue: Queue,
+    /// Which of the frames that wait in its controller is sent next.
+    pub order: QueueOrder,
+    /// The quantum, counted from 0, from which on it has left the bus: it drives recessive and looks no more.
+    pub until: Option<u64>,
 }
 
 impl NodeSetup {
@@ -51,6 +65,8 @@ impl NodeSetup {
             clock: self.clock,
             segments: self.segments,
             queue: self.queue.clone_in(alloc)?,
+            order: self.order,
+            until: self.until,
         })
     }
 }
@@ -62,12 +78,16 @@ impl PartialEq for NodeSetup {
 
     ghost laws = { same_setup_laws };
 
-    /// True if two setups have the same clock, segments and queue.
+    /// True if two setups have the same clock, segments and queue, with the same order, and leave at the same quantum.
     fn eq(&self, other: &NodeSetup) -> bool
         ensures value { result ≡ same_setup self.now other.now }
         ensures same { IsTrue result ↔ (self.now ≡ other.now) }
     {
-        self.clock == other.clock && self.segments == other.segments && self.queue == other.queue
+        self.clock == other.clock
+            && self.segments == other.segments
+            && self.queue == other.queue
+            && self.order == other.order
+            && self.until == other.until
     }
 }
 

@@ -1,7 +1,6 @@
 //! What a node's samples do: to its machine, its counters, and the frames that pass.
 
-ghost use Rattle.std.specs.Prelude.{◌≡◌, ◌+◌, ◌-◌, ◌*◌, ◌<◌, ◌≤◌, ◌^◌, ◌++◌, [], ◌∷◌, true, false, length, drop, count_by, List, OnOk, Option, Some, vec_len, vec_capacity};
-ghost use Rattle.std.specs.Option.{option_copied};
+ghost use Rattle.std.specs.Prelude.{◌≡◌, ◌+◌, ◌-◌, ◌*◌, ◌<◌, ◌≤◌, ◌^◌, ◌++◌, [], ◌∷◌, true, false, length, count_by, List, OnOk, Option, None, Some, vec_len, vec_capacity};
 ghost use Rattle.wl_frame.specs.Grammar.{Content};
 ghost use Rattle.wl_confine.specs.Counts.{is_error};
 ghost use Rattle.wl_machine.specs.Stretch.{Input, Ended};
@@ -10,19 +9,24 @@ ghost use Rattle.wl_machine.specs.Judged.{stretch_of, drive_of};
 ghost use Rattle.wl_machine.specs.Reached.{IsMachine};
 ghost use Rattle.wl_machine.specs.States.{done_of};
 ghost use Rattle.wl_node.specs.declared.setup.NodeSetup.{NodeSetup};
-ghost use Rattle.wl_node.specs.History.{History, handed, ready_head, passed_frames, is_sent, switched_off, history_after_sample};
-ghost use Rattle.wl_node.specs.Kept.{IsTraffic, first_frame};
+ghost use Rattle.wl_node.specs.declared.setup.Passed.{Passed as PassedFrame};
+ghost use Rattle.wl_node.specs.Deciding.{looks_at_head};
+ghost use Rattle.wl_node.specs.History.{History, handed, head_at_next, passed_frames, switched_off, history_after_sample, unsent_of};
+ghost use Rattle.wl_node.specs.Kept.{IsTraffic};
 ghost use Rattle.wl_node.specs.KeptBits.{HasKept};
 ghost use Rattle.wl_node.specs.Limits.{most_run_quanta};
 ghost use Rattle.wl_node.specs.Runs.{samples_by, samples_from};
+ghost use Rattle.wl_node.specs.Unsent.{IsChosen, IsUnsent, left_in};
+ghost use Rattle.wl_machine.specs.Doing.{doing_of};
 
 use crate::samples::Samples;
-use crate::setup::{NodeSetup, Passed, Queued};
+use crate::setup::{NodeSetup, Passed};
+use crate::unsent::{Unsent, is_first_ready};
 use std::alloc::AllocError;
 use wl_confine::{Counters, Happened, Mode};
 use wl_frame::frame::Frame;
 use wl_level::Level;
-use wl_machine::{Done, Machine};
+use wl_machine::{Doing, Done, Machine};
 use wl_segments::SyncRules;
 
 /// What a node keeps of its samples, and of what came of them.
@@ -32,27 +36,16 @@ pub struct Traffic {
     pub counters: Counters,
     /// What the node drives from its next bit start on.
     pub pending: Level,
-    /// How many frames of the queue were sent.
-    pub sent: usize,
+    pub unsent: Unsent,
     pub errors: u64,
     pub samples: Samples,
     pub frames: Vec<Passed>,
 }
 
-/// Returns the first unsent frame, if it is ready.
-pub fn ready_head(queue: &[Queued], sent: usize, quantum: u64) -> Option<&Frame>
-    ensures { option_copied result ≡ ready_head (drop sent queue.now) quantum }
-{
-    match queue.get(sent) {
-        Some(first) if first.ready <= quantum => Some(&first.frame),
-        _ => None,
-    }
-}
-
 /// Returns the head that is handed to the machine with a sample of this level. By `after` it is handed only with a recessive one. By the
 /// book a dominant one may be its start of frame too, as the third bit of an intermission (Bosch CAN 2.0 part B, section 3.2.5).
-fn handed(level: Level, rules: SyncRules, head: Option<&Frame>) -> Option<&Frame>
-    ensures { option_copied result ≡ handed level rules (option_copied head.entry) }
+fn handed(level: Level, rules: SyncRules, head: Option<Frame>) -> Option<Frame>
+    ensures { result ≡ handed level rules head }
 {
     if level.is_dominant() && rules == SyncRules::After {
         return None;
@@ -60,24 +53,35 @@ fn handed(level: Level, rules: SyncRules, head: Option<&Frame>) -> Option<&Frame
     head
 }
 
-/// Keeps the frame that a sample completed: one that was sent is the first unsent one.
-fn pass(frames: &mut Vec<Passed>, sent: &mut usize, done: Done, queue: &[Queued], quantum: u64)
+/// True if a machine that does this looks at the head that it is handed.
+fn looks_at_head(doing: Doing) -> bool
+    ensures { result ≡ looks_at_head doing }
+{
+    match doing {
+        Doing::Integrating | Doing::Idle | Doing::Intermission | Doing::Suspended | Doing::OffBus => true,
+        _ => false,
+    }
+}
+
+/// Keeps the frame that a sample completed: one that was sent is the one that was chosen.
+fn pass(frames: &mut Vec<Passed>, unsent: &mut Unsent, done: Done, setup: &NodeSetup, quantum: u64)
     requires { vec_len frames.old < vec_capacity frames.old }
-    ensures { (ended : Ended) → done ≡ done_of ended
-        → ((frame : Content) → ended ≡ SentFrame frame → first_frame (drop sent.old queue.now) ≡ Some frame)
+    ensures passed { (ended : Ended) (past : List PassedFrame) → done ≡ done_of ended → IsUnsent setup.now unsent.old past
+        → ((frame : Content) → ended ≡ SentFrame frame
+        → IsChosen setup.now.order (left_in setup.now unsent.old) frame unsent.old.place)
         → (frames.new.items ≡ frames.old.items ++ passed_frames quantum ended)
-        × (sent.new ≡ sent.old + count_by is_sent (passed_frames quantum ended)) }
+        × IsUnsent setup.now unsent.new (past ++ passed_frames quantum ended) }
+    ensures place { unsent.new.place ≡ unsent.old.place }
 {
     match done {
         Done::Nothing => {}
         Done::Sent => {
-            if let Some(first) = queue.get(*sent) {
+            if let Some(frame) = unsent.send(setup) {
                 frames.push_reserved(Passed {
                     sent: true,
                     quantum,
-                    frame: first.frame,
+                    frame,
                 });
-                *sent += 1;
             }
         }
         Done::Received(frame) => frames.push_reserved(Passed {
@@ -196,7 +200,7 @@ impl Traffic {
             ≡ samples_by self.old.samples.runs.items ++ samples_from from bit level result }
         ensures counters { self.new.counters ≡ self.old.counters }
         ensures pending { self.new.pending ≡ self.old.pending }
-        ensures sent { self.new.sent ≡ self.old.sent }
+        ensures unsent { self.new.unsent ≡ self.old.unsent }
         ensures frames { self.new.frames ≡ self.old.frames }
         ensures errors { self.new.errors ≡ self.old.errors }
         ensures count { self.new.samples.count ≡ self.old.samples.count + result }
@@ -243,12 +247,33 @@ impl Traffic {
     {
         if !level.is_dominant()
             && self.machine.is_free()
-            && ready_head(setup.queue.as_slice(), self.sent, quantum).is_none()
+            && !is_first_ready(self.unsent.frames(setup), quantum)
         {
             self.samples.push(quantum, Level::Recessive);
             return;
         }
         self.judge(setup, quantum, level);
+    }
+
+    /// Returns the head that is handed to the machine with a sample of this level, if the machine looks at it, and notes its place.
+    fn next_head(&mut self, setup: &NodeSetup, quantum: u64, level: Level) -> Option<Frame>
+        ensures traffic { (h : History) → IsTraffic setup.now self.old h → IsTraffic setup.now self.new h }
+        ensures handed { (h : History) → length h.seen ≡ quantum → IsTraffic setup.now self.old h
+            → looks_at_head (doing_of (stretch_of h.inputs)) ≡ true
+            → result ≡ handed level setup.now.segments.sync (head_at_next setup.now h) }
+        ensures none { (h : History) → IsTraffic setup.now self.old h
+            → looks_at_head (doing_of (stretch_of h.inputs)) ≡ false → result ≡ None }
+        ensures chosen { (h : History) (frame : Content) → IsTraffic setup.now self.old h → result ≡ Some frame
+            → IsChosen setup.now.order (unsent_of setup.now h) frame self.new.unsent.place }
+        ensures frames { self.new.frames ≡ self.old.frames }
+        ensures errors { self.new.errors ≡ self.old.errors }
+        ensures samples { self.new.samples ≡ self.old.samples }
+    {
+        if !looks_at_head(self.machine.doing()) {
+            return None;
+        }
+        let head = self.unsent.choose(setup, quantum);
+        handed(level, setup.segments.sync(), head)
     }
 
     /// Takes such a sample, whatever the machine is in.
@@ -266,13 +291,11 @@ impl Traffic {
     {
         wl_machine::laws::a_sent_frame_is_the_head_that_began_its_stretch();
         let mode = self.counters.mode();
-        let queue = setup.queue.as_slice();
-        let ready = ready_head(queue, self.sent, quantum);
-        let head = handed(level, setup.segments.sync(), ready);
-        let turn = self.machine.bit(level, head, mode);
+        let head = self.next_head(setup, quantum, level);
+        let turn = self.machine.bit(level, head.as_ref(), mode);
         self.samples.push(quantum, level);
         self.pending = turn.drive;
-        pass(&mut self.frames, &mut self.sent, turn.done, queue, quantum);
+        pass(&mut self.frames, &mut self.unsent, turn.done, setup, quantum);
         count(&mut self.errors, turn.happened);
         self.counters.apply(turn.happened);
         let after = self.counters.mode();

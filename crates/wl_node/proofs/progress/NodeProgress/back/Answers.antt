@@ -1,19 +1,29 @@
 -- What the lists had at the mark comes first in them.
-use Rattle.std.proofs.Common.{◌∙◌, ◌++◌, take, length, ap, sym, arith, length-append}
+use Rattle.std.proofs.Common.{◌≡◌, ◌∙◌, ◌++◌, take, length, ap, sym, subst, arith, length-append}
 use Rattle.std.specs.List.{flat_map}
 use Rattle.wl_node.specs.declared.phase_totals.PhaseTotals.{PhaseTotals}
-use Rattle.wl_node.specs.History.{history_of, phase_of}
+use Rattle.std.specs.Prelude.{count_by}
+use Rattle.wl_node.specs.declared.setup.NodeSetup.{NodeSetup}
+use Rattle.wl_node.specs.History.{staying_history, phase_of, is_sent, unsent_of}
+use Rattle.wl_node.specs.Unsent.{IsChosen, IsUnsent}
 use Rattle.wl_node.specs.Runs.{samples_by}
 use Rattle.wl_node.proofs.Growing.{front_of, grown, longer_phases}
 use Rattle.wl_node.proofs.progress.NodeProgress.back.Goals as goal
 
 pub returns-clause-place : goal.returns-clause-place
-returns-clause-place c setup levels more marked was =
-    let h = history_of setup levels in
-    let g = history_of setup (levels ++ more) in
+returns-clause-place c levels more marked was =
+    let setup : NodeSetup = c.args.setup.now in
+    let h = staying_history setup levels in
+    let g = staying_history setup (levels ++ more) in
     let on = grown setup levels more in
     let at = marked.place in
     let kept = was.place in
+    let front : take c.args.mark.now.frames c.args.self.now.traffic.frames.items ≡ h.frames =
+    ap (λ n. take n c.args.self.now.traffic.frames.items) at.frames ∙ (ap (take (length h.frames)) kept.traffic.frames ∙ front_of h.frames g.frames on.frames) in
+    let unsent : IsUnsent setup c.unpass.new.self.unsent h.frames =
+    subst (IsUnsent setup c.unpass.new.self.unsent) front
+    (c.unpass.ensures.unsent (subst (IsUnsent setup c.args.self.now.traffic.unsent) (sym kept.traffic.frames) kept.traffic.unsent)
+    (λ fifo. at.sent fifo ∙ ap (count_by is_sent) (sym front))) in
     record {
       counted = marked.counted;
       place = record {
@@ -33,7 +43,7 @@ returns-clause-place c setup levels more marked was =
           machine = c.copy-self.ensures h.inputs at.machine;
           counters = at.counters;
           pending = at.pending;
-          sent = at.sent;
+          unsent = unsent;
           errors = at.errors;
           samples = λ listed.
               (let was_listed = sym c.truncate-2.ensures.keeps ∙ listed in
@@ -46,10 +56,8 @@ returns-clause-place c setup levels more marked was =
               let was_count = kept.traffic.sampled in
               let mark = at.samples in
               omega (arith, few, now, was_count, mark));
-          frames = c.truncate-3.ensures.items
-              ∙ (ap (λ n. take n c.args.self.now.traffic.frames.items) at.frames
-              ∙ (ap (take (length h.frames)) kept.traffic.frames ∙ front_of h.frames g.frames on.frames));
-          sends = at.sends;
+          frames = c.unpass.ensures.frames ∙ front;
+          sends = λ frame e. subst (IsChosen setup.order (unsent_of setup h) frame) (sym c.unpass.ensures.place) (at.sends frame e);
         };
       };
     }

@@ -9,7 +9,7 @@ use Rattle.wl_sync.specs.Bits.{beat_of, sync_of}
 use Rattle.wl_sync.specs.Running.{clock_after}
 use Rattle.wl_node.specs.declared.setup.NodeSetup.{NodeSetup}
 use Rattle.wl_node.specs.declared.progress.NodeProgress.{NodeProgress}
-use Rattle.wl_node.specs.History.{History, history_of, seen_next, syncs_at}
+use Rattle.wl_node.specs.History.{History, staying_history, seen_next, syncs_at}
 use Rattle.wl_node.specs.Kept.{AreSyncs, FitsHistory, IsProgress}
 use Rattle.wl_node.proofs.Listening.{quantum_alone}
 use Rattle.wl_node.proofs.Turns.{history_next}
@@ -17,7 +17,7 @@ use Rattle.wl_node.proofs.progress.NodeProgress.edge_quantum.Goals as goal
 
 module _ (c : goal.After-self-1) (setup : NodeSetup) (levels : List Level) (old : IsProgress setup c.args.self.now levels) where
   abbrev h : History
-  h = history_of setup levels
+  h = staying_history setup levels
 
   abbrev x : Seen
   x = seen_next h c.args.level
@@ -34,7 +34,7 @@ module _ (c : goal.After-self-1) (setup : NodeSetup) (levels : List Level) (old 
   abbrev after : History
   after = record h { seen = h.seen ++ x ∷ []; syncs = h.syncs ++ syncs_at (length h.seen) (sync_of setup.segments h.seen x) }
 
-  after_is : history_of setup (levels ++ c.args.level ∷ []) ≡ after
+  after_is : staying_history setup (levels ++ c.args.level ∷ []) ≡ after
   after_is =
       history_next setup levels c.args.level
       ∙ quantum_alone setup h c.args.level unsampled (sym old.place.drive ∙ c.requires.settled ∙ old.place.traffic.pending)
@@ -87,10 +87,10 @@ pub returns-clause-drive : goal.returns-clause-drive
 returns-clause-drive c setup m less levels old = elim (cases_lt m 1) [
   | inl none ↦
       (let e : m ≡ 0 = omega (arith, none) in
-      ap (λ (k : ℕ). (history_of setup (levels ++ replicate k c.args.level)).drive) e ∙ ap (λ ls. (history_of setup ls).drive) (append-nil levels))
+      ap (λ (k : ℕ). (staying_history setup (levels ++ replicate k c.args.level)).drive) e ∙ ap (λ ls. (staying_history setup ls).drive) (append-nil levels))
   | inr one ↦
       (let e : m ≡ 1 = omega (arith, one, less) in
-      ap (λ (k : ℕ). (history_of setup (levels ++ replicate k c.args.level)).drive) e ∙ ap (λ (g : History). g.drive) (after_is c setup levels old))
+      ap (λ (k : ℕ). (staying_history setup (levels ++ replicate k c.args.level)).drive) e ∙ ap (λ (g : History). g.drive) (after_is c setup levels old))
 ]
 
 pub returns-clause-keeps : goal.returns-clause-keeps

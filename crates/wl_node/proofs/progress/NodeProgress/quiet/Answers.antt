@@ -1,5 +1,5 @@
 -- A promise, by the quanta up to the next sample and by what the machine is handed.
-use Rattle.std.proofs.Common.{◌≡◌, ◌∙◌, List, length, drop, nat_lt, ap, arith}
+use Rattle.std.proofs.Common.{◌≡◌, ◌∙◌, List, length, nat_lt, ap, arith}
 use Rattle.std.specs.Prelude.{false}
 use Rattle.wl_level.specs.declared.Level.{Level}
 use Rattle.wl_level.specs.Levels.{same}
@@ -8,17 +8,17 @@ use Rattle.wl_sync.specs.SampleLaws.{quanta_to_sample as way_at}
 use Rattle.wl_machine.specs.Judged.{stretch_of}
 use Rattle.wl_machine.specs.Silence.{silence_of}
 use Rattle.wl_node.specs.declared.setup.NodeSetup.{NodeSetup}
-use Rattle.wl_node.specs.History.{History, history_of, unsent_of}
+use Rattle.wl_node.specs.History.{History, staying_history, unsent_of}
 use Rattle.wl_node.specs.Kept.{IsProgress, FitsHistory}
 use Rattle.wl_node.specs.Limits.{most_quiet}
-use Rattle.wl_node.specs.Quiet.{floor_by, floor_at, floor_and_silence, is_waiting, pending_of, promise_by, quiet_of, until_ready}
+use Rattle.wl_node.specs.Quiet.{floor_by, floor_at, floor_and_silence, is_waiting, pending_of, promise_by, until_ready}
 use Rattle.wl_node.proofs.progress.NodeProgress.quiet.Goals.{After-until_ready-ready_in}
 use Rattle.wl_node.proofs.progress.NodeProgress.quiet.Goals as goal
 
-least_is : (c : After-until_ready-ready_in) (levels : List Level) → IsProgress c.args.setup.now c.args.self.now levels → c.floor-least.result ≡ floor_at c.args.setup.now (history_of c.args.setup.now levels)
+least_is : (c : After-until_ready-ready_in) (levels : List Level) → IsProgress c.args.setup.now c.args.self.now levels → c.floor-least.result ≡ floor_at c.args.setup.now (staying_history c.args.setup.now levels)
 least_is c levels old =
     let setup : NodeSetup = c.args.setup.now in
-    let h : History = history_of setup levels in
+    let h : History = staying_history setup levels in
     let p : FitsHistory setup c.args.self.now h = old.place in
     let way = c.before_sample.ensures setup.segments h.seen p.clock in
     let settled : c.is-settled.result ≡ same h.drive (pending_of h) = c.is-settled.ensures ∙ ap (same c.args.self.now.drive) p.traffic.pending ∙ ap (λ d. same d (pending_of h)) p.drive in
@@ -29,13 +29,13 @@ least_is c levels old =
     ∙ ap (floor_by (way_at setup.segments h.seen) (same h.drive (pending_of h))) place
 
 handed_is : (c : After-until_ready-ready_in) (levels : List Level) → IsProgress c.args.setup.now c.args.self.now levels
-    → c.longer-handed.result ≡ promise_by (is_waiting c.args.setup.now (history_of c.args.setup.now levels)) c.args.setup.now (history_of c.args.setup.now levels)
+    → c.longer-handed.result ≡ promise_by (is_waiting c.args.setup.now (staying_history c.args.setup.now levels)) c.args.setup.now (staying_history c.args.setup.now levels)
 handed_is c levels old =
     let setup : NodeSetup = c.args.setup.now in
-    let h : History = history_of setup levels in
+    let h : History = staying_history setup levels in
     let p : FitsHistory setup c.args.self.now h = old.place in
-    let waiting : nat_lt c.args.self.now.traffic.sent c.len.result ≡ is_waiting setup h =
-    ap (nat_lt c.args.self.now.traffic.sent) c.len.ensures ∙ ap (λ n. nat_lt n (length setup.queue)) p.traffic.sent in
+    let waiting : nat_lt 0 (length c.frames-unsent.result.now) ≡ is_waiting setup h =
+    ap (λ u. nat_lt 0 (length u)) (c.frames-unsent.ensures ∙ p.traffic.unsent.left) in
     let silence : c.silence.result ≡ silence_of (is_waiting setup h) (stretch_of h.inputs) = c.silence.ensures h.inputs p.traffic.machine ∙ ap (λ w. silence_of w (stretch_of h.inputs)) waiting in
     c.longer-handed.ensures
     ∙ ap (λ n. floor_and_silence n c.silence.result c.least_way-place.result) (least_is c levels old)
@@ -43,18 +43,17 @@ handed_is c levels old =
     ∙ ap (floor_and_silence (floor_at setup h) (silence_of (is_waiting setup h) (stretch_of h.inputs))) c.least_way-place.ensures.way
 
 ready_is : (c : After-until_ready-ready_in) (levels : List Level) → IsProgress c.args.setup.now c.args.self.now levels
-    → c.until_ready-ready_in.result ≡ until_ready (unsent_of c.args.setup.now (history_of c.args.setup.now levels)) (length (history_of c.args.setup.now levels).seen)
+    → c.until_ready-ready_in.result ≡ until_ready (unsent_of c.args.setup.now (staying_history c.args.setup.now levels)) (length (staying_history c.args.setup.now levels).seen)
 ready_is c levels old =
     let setup : NodeSetup = c.args.setup.now in
-    let h : History = history_of setup levels in
+    let h : History = staying_history setup levels in
     let p : FitsHistory setup c.args.self.now h = old.place in
     c.until_ready-ready_in.ensures
-    ∙ ap (λ q. until_ready (drop c.args.self.now.traffic.sent q) c.args.self.now.quanta) c.as_slice.ensures
-    ∙ ap (λ n. until_ready (drop n setup.queue) c.args.self.now.quanta) p.traffic.sent
+    ∙ ap (λ u. until_ready u c.args.self.now.quanta) (c.frames-unsent.ensures ∙ p.traffic.unsent.left)
     ∙ ap (until_ready (unsent_of setup h)) p.quanta
 
 pub returns-then-ready_in-handed-clause-value : goal.returns-then-ready_in-handed-clause-value
-unfolding quiet_of most_quiet
+unfolding most_quiet
 returns-then-ready_in-handed-clause-value c levels old = (let a = handed_is (goal.at.returns-then-ready_in-handed-clause-value c).After-until_ready-ready_in levels old in let b = ready_is (goal.at.returns-then-ready_in-handed-clause-value c).After-until_ready-ready_in levels old in omega (arith, c.min.ensures, c.if-ready_in-handed.true))
 
 pub returns-then-ready_in-handed-clause-most : goal.returns-then-ready_in-handed-clause-most
@@ -62,10 +61,10 @@ unfolding most_quiet
 returns-then-ready_in-handed-clause-most c = omega (arith, c.min.ensures)
 
 pub returns-clause-value : goal.returns-clause-value
-unfolding quiet_of most_quiet
+unfolding most_quiet
 returns-clause-value c levels old =
     let setup : NodeSetup = c.args.setup.now in
-    let h : History = history_of setup levels in
+    let h : History = staying_history setup levels in
     let p : FitsHistory setup c.args.self.now h = old.place in
     let a = handed_is (goal.at.returns-clause-value c).After-until_ready-ready_in levels old in
     let b = ready_is (goal.at.returns-clause-value c).After-until_ready-ready_in levels old in

@@ -6,7 +6,7 @@ use Rattle.wl_sync.specs.Bits.{beat_of, sync_of}
 use Rattle.wl_sync.specs.Running.{clock_after}
 use Rattle.wl_node.specs.declared.setup.NodeSetup.{NodeSetup}
 use Rattle.wl_node.specs.declared.progress.NodeProgress.{NodeProgress}
-use Rattle.wl_node.specs.History.{History, history_of, history_after, seen_next, by_beat, syncs_at}
+use Rattle.wl_node.specs.History.{History, staying_history, history_after, seen_next, by_beat, syncs_at}
 use Rattle.wl_node.specs.Kept.{IsTraffic, AreSyncs, FitsHistory}
 use Rattle.wl_node.proofs.Turns.{history_next}
 use Rattle.wl_node.proofs.progress.NodeProgress.run.Goals as goal
@@ -14,7 +14,7 @@ use Rattle.wl_node.proofs.progress.NodeProgress.run.Goals as goal
 pub returns-clause-place : goal.returns-clause-place
 returns-clause-place c levels old =
     let setup : NodeSetup = c.args.setup.now in
-    let h : History = history_of setup levels in
+    let h : History = staying_history setup levels in
     let now : NodeProgress = record {
       clock = c.see-beat.new.self;
       drive = c.obey.new.drive;

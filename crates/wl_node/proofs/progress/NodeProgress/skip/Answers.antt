@@ -6,7 +6,7 @@ use Rattle.wl_sync.specs.declared.Seen.{Seen}
 use Rattle.wl_sync.specs.Skips.{free_quanta, IsPlain}
 use Rattle.wl_node.specs.declared.setup.NodeSetup.{NodeSetup}
 use Rattle.wl_node.specs.declared.progress.NodeProgress.{NodeProgress}
-use Rattle.wl_node.specs.History.{History, history_of, seen_next}
+use Rattle.wl_node.specs.History.{History, staying_history, seen_next}
 use Rattle.wl_node.specs.Kept.{FitsHistory}
 use Rattle.wl_node.specs.Quiet.{pending_of}
 use Rattle.wl_node.proofs.Listening.{kept_same}
@@ -29,7 +29,7 @@ idle_for c setup h p =
 
 pub returns-clause-place : goal.returns-clause-place
 returns-clause-place c setup levels old =
-    let h : History = history_of setup levels in
+    let h : History = staying_history setup levels in
     let x : Seen = seen_next h c.args.level in
     let n : ℕ = c.args.quanta in
     let now : NodeProgress = record {
@@ -40,7 +40,7 @@ returns-clause-place c setup levels old =
       traffic = c.args.self.now.traffic;
     } in
     let p : FitsHistory setup c.args.self.now h = old.place in
-    let e : history_of setup (levels ++ replicate n c.args.level) ≡ seen_more h (replicate n x) = history_skipped setup levels c.args.level n n (omega arith) (idle_for c setup h p) in
+    let e : staying_history setup (levels ++ replicate n c.args.level) ≡ seen_more h (replicate n x) = history_skipped setup levels c.args.level n n (omega arith) (idle_for c setup h p) in
     let more : length (h.seen ++ replicate n x) ≡ length h.seen + n = length-append h.seen (replicate n x) ∙ ap (λ (k : ℕ). length h.seen + k) (length-replicate n x) in
     let place : FitsHistory setup now (seen_more h (replicate n x)) = record {
       clock = c.skip.ensures.clock setup.segments h.seen p.clock x refl;
@@ -68,7 +68,7 @@ returns-clause-place c setup levels old =
 
 pub returns-clause-drive : goal.returns-clause-drive
 returns-clause-drive c setup m less levels old =
-    ap (λ (h : History). h.drive) (history_skipped setup levels c.args.level c.args.quanta m (omega arith) (idle_for c setup (history_of setup levels) old.place))
+    ap (λ (h : History). h.drive) (history_skipped setup levels c.args.level c.args.quanta m (omega arith) (idle_for c setup (staying_history setup levels) old.place))
 
 pub returns-clause-keeps : goal.returns-clause-keeps
 returns-clause-keeps c = kept_same c.requires.fits refl refl refl refl refl

@@ -6,7 +6,7 @@ use Rattle.wl_sync.specs.Running.{clock_after}
 use Rattle.wl_sync.specs.Skips.{IsSampledAfter}
 use Rattle.wl_node.specs.declared.setup.NodeSetup.{NodeSetup}
 use Rattle.wl_node.specs.declared.progress.NodeProgress.{NodeProgress}
-use Rattle.wl_node.specs.History.{History, history_of, seen_next}
+use Rattle.wl_node.specs.History.{History, staying_history, seen_next}
 use Rattle.wl_node.specs.Kept.{IsProgress}
 use Rattle.wl_node.specs.Quiet.{pending_of}
 use Rattle.wl_node.proofs.Heard.{heard_drive, heard_place, traffic_seen, up_to, up_to_long}
@@ -15,7 +15,7 @@ use Rattle.wl_node.proofs.progress.NodeProgress.through_sample.Goals as goal
 pub returns-clause-place : goal.returns-clause-place
 returns-clause-place c levels was =
     let setup : NodeSetup = c.args.setup.now in
-    let h : History = history_of setup levels in
+    let h : History = staying_history setup levels in
     let x : Seen = seen_next h c.args.level in
     let n : ℕ = c.args.before in
     let settled : h.drive ≡ pending_of h =
@@ -42,7 +42,7 @@ returns-clause-place c levels was =
 pub returns-clause-drive : goal.returns-clause-drive
 returns-clause-drive c m less levels was =
     let setup : NodeSetup = c.args.setup.now in
-    let h : History = history_of setup levels in
+    let h : History = staying_history setup levels in
     let x : Seen = seen_next h c.args.level in
     let settled : h.drive ≡ pending_of h =
     sym was.place.drive ∙ same_equal c.args.self.now.drive c.args.self.now.traffic.pending c.requires.settled ∙ was.place.traffic.pending in

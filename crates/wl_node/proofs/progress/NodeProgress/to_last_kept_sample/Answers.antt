@@ -4,7 +4,7 @@ use Rattle.std.proofs.Math.Nat.{mul-le-mul_left}
 use Rattle.wl_sync.specs.Running.{Running}
 use Rattle.wl_sync.specs.Skips.{sampled_bits, SamplesAfter}
 use Rattle.wl_node.specs.declared.progress.NodeProgress.{NodeProgress}
-use Rattle.wl_node.specs.History.{history_of}
+use Rattle.wl_node.specs.History.{staying_history}
 use Rattle.wl_node.specs.Kept.{IsProgress}
 use Rattle.wl_node.specs.KeptBits.{AreMore}
 use Rattle.wl_node.specs.Runs.{samples_by, samples_from}
@@ -33,8 +33,8 @@ returns-then-bits-eq0-clause-place c setup levels was =
         syncs = record { phases = was.place.syncs.phases; totals = was.place.syncs.totals; hards = was.place.syncs.hards };
         same = was.place.same ∙ sym e.keeps;
         traffic = record {
-          machine = e.kept.machine (history_of setup levels).inputs (history_of setup levels).inputs kept.machine
-              (subst (λ k. AreMore (history_of setup levels).inputs c.args.level k (history_of setup levels).inputs) (sym none) refl);
+          machine = e.kept.machine (staying_history setup levels).inputs (staying_history setup levels).inputs kept.machine
+              (subst (λ k. AreMore (staying_history setup levels).inputs c.args.level k (staying_history setup levels).inputs) (sym none) refl);
           counters = e.counters ∙ kept.counters;
           pending = e.pending ∙ kept.pending;
           sent = e.sent ∙ kept.sent;

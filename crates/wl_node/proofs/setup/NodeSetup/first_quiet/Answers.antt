@@ -1,17 +1,23 @@
 use Rattle.std.proofs.Common.{◌≡◌, ◌∙◌, suc, ◌+◌, ap, sym, refl, arith, min, [], ℕ, false, true}
 use Rattle.wl_segments.specs.Lengths.{least_way}
 use Rattle.wl_node.specs.declared.setup.NodeSetup.{NodeSetup}
-use Rattle.wl_node.specs.History.{history_of, no_history}
+use Rattle.wl_node.specs.History.{staying_history, no_history}
 use Rattle.wl_node.specs.Limits.{most_quiet}
 use Rattle.wl_node.specs.Quiet.{floor_by, floor_and_silence, is_waiting, promise_by, quiet_of}
 use Rattle.wl_node.proofs.setup.NodeSetup.first_quiet.Goals as goal
 
--- a node that has run nothing promises the same whether it may be handed a head or not
+-- A node that has run nothing drives recessive, and promises the same whether it may be handed a head or not.
 both : (setup : NodeSetup) (longer least : ℕ) → longer ≡ promise_by false setup no_history → least ≡ min longer most_quiet → least ≡ quiet_of setup []
-unfolding quiet_of history_of
-both setup longer least e f =
-    let g : promise_by (is_waiting setup no_history) setup no_history ≡ promise_by false setup no_history = refl in
-    omega arith
+unfolding quiet_of staying_history
+both setup longer least e f = by setup.until setup.order refl
+  where
+    waits : (order : QueueOrder) → setup.order ≡ order → promise_by (is_waiting setup no_history) setup no_history ≡ promise_by false setup no_history
+    waits Fifo g = ?
+    waits Priority g = ?
+
+    by : (until : Option ℕ) (order : QueueOrder) → setup.order ≡ order → least ≡ quiet_until until setup []
+    by None order g = (let w = waits order g in omega arith)
+    by (Some n) order g = (let w = waits order g in omega arith)
 
 pub returns-clause-value : goal.returns-clause-value
 unfolding most_quiet

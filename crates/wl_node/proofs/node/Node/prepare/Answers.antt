@@ -1,8 +1,0 @@
-use Rattle.std.proofs.Math.Logic.{∥∥₁_map}
-use Rattle.wl_node.proofs.node.Node.prepare.Goals as goal
-
-pub invariant_of-self : goal.invariant_of-self
-invariant_of-self c = record {
-  fits = c.prepare.ensures.keeps.fits;
-  reached = ∥∥₁_map c.args.self.now.reached (λ (levels, h). (levels, c.prepare.ensures.same c.args.self.now.setup levels h));
-}
