@@ -9,11 +9,13 @@ use Rattle.wl_level.specs.declared.Level.{Level}
 use Rattle.wl_frame.specs.Grammar.{Content}
 use Rattle.wl_node.specs.declared.setup.Passed.{Passed}
 use Rattle.wl_node.specs.declared.setup.NodeSetup.{NodeSetup}
-use Rattle.wl_node.specs.History.{history_of, is_sent}
+use Rattle.wl_node.specs.History.{history_of, is_sent, staying_history}
+use Rattle.wl_node.proofs.Callers.{stays_on}
 use Rattle.wl_plan.specs.declared.plan.Plan.{Plan}
 use Rattle.wl_plan.specs.PlanLine.{line_of, setup_at}
 use Rattle.wl_plan.specs.Simulation.{AreInside, seen}
 use Rattle.wl_phase.specs.Clocks.{Steady}
+use Rattle.wl_buses.specs.BothProofs.Plans.{NoneLeaves}
 use Rattle.wl_buses.specs.OneSender.Clean.{HasOneSender, bus_with}
 use Rattle.wl_buses.specs.OneSender.Through.{GetThrough}
 use Rattle.wl_buses.specs.BothProofs.Queues.{ComeFrom, queued_contents}
@@ -71,7 +73,7 @@ passing_by i sender (c ∷ more) = ap (λ l. (i == sender, c) ∷ l) (passing_by
 none_come : (setup : NodeSetup) → setup.queue ≡ [] → ComeFrom setup [] []
 none_come setup e = record { once = subst (λ q. IsPermutation (queued_contents q) []) (sym e) (IsPermutation-refl []); order = λ fifo. sym (ap queued_contents e) }
 
-module _ (plan : Plan) (clocks : ℕ → Steady) (sender : ℕ) (one : HasOneSender plan sender) (alone : SendsAlone plan sender) (stuffed : Content → List Level) (lengths : ℕ → ℕ)
+module _ (plan : Plan) (clocks : ℕ → Steady) (stays : NoneLeaves plan) (sender : ℕ) (one : HasOneSender plan sender) (alone : SendsAlone plan sender) (stuffed : Content → List Level) (lengths : ℕ → ℕ)
     (through : GetThrough (bus_with plan clocks sender one stuffed) lengths) where
   abbrev pub bus_frames : List (ℕ × Content)
   bus_frames = all_by sender through.line
@@ -87,8 +89,8 @@ module _ (plan : Plan) (clocks : ℕ → Steady) (sender : ℕ) (one : HasOneSen
         ([], subst (λ l. ComeFrom (setup_at plan i) l []) (sym (no_frames i sender through.line (ne_eqb i sender other))) (none_come (setup_at plan i) (alone i other)))
   ]
 
-  pub clean_at : (i k : ℕ) → i < length plan.nodes → AreInside (line_of plan) i k → IsCleanAt plan bus_frames i (history_of (setup_at plan i) (seen (line_of plan) i k))
-  clean_at i k node inside =
+  stayed_at : (i k : ℕ) → i < length plan.nodes → AreInside (line_of plan) i k → IsCleanAt plan bus_frames i (staying_history (setup_at plan i) (seen (line_of plan) i k))
+  stayed_at i k node inside =
       let x = through.frames i k node inside in
       let role = through.roles i k node inside in
       let left = through.unsent i k node inside in
@@ -97,9 +99,14 @@ module _ (plan : Plan) (clocks : ℕ → Steady) (sender : ℕ) (one : HasOneSen
         counters = through.counters i k node inside;
         passed = (
           map (λ c. (i == sender, c)) x.0,
-          ap (λ l. l ++ map (λ c. (i == sender, c)) x.0) (one_way (history_of (setup_at plan i) (seen (line_of plan) i k)).frames (i == sender) role)
-              ∙ sym (map-append (λ c. (i == sender, c)) (map (λ p. p.frame) (history_of (setup_at plan i) (seen (line_of plan) i k)).frames) x.0)
+          ap (λ l. l ++ map (λ c. (i == sender, c)) x.0) (one_way (staying_history (setup_at plan i) (seen (line_of plan) i k)).frames (i == sender) role)
+              ∙ sym (map-append (λ c. (i == sender, c)) (map (λ p. p.frame) (staying_history (setup_at plan i) (seen (line_of plan) i k)).frames) x.0)
               ∙ ap (map (λ c. (i == sender, c))) x.1 ∙ sym (passing_by i sender through.line),
         );
         unsent = omega arith;
       }
+
+  -- none leaves the bus
+  pub clean_at : (i k : ℕ) → i < length plan.nodes → AreInside (line_of plan) i k → IsCleanAt plan bus_frames i (history_of (setup_at plan i) (seen (line_of plan) i k))
+  clean_at i k node inside =
+      subst (IsCleanAt plan bus_frames i) (sym (stays_on (setup_at plan i) (seen (line_of plan) i k) (stays i node))) (stayed_at i k node inside)

@@ -1,12 +1,13 @@
 -- On a plan that ends late enough a lone sender has no frame left.
-use Rattle.std.proofs.Common.{◌≡◌, ◌≢◌, refl, sym, ap, subst, inl, inr, ℕ, zero, suc, ◌+◌, ◌*◌, ◌<◌, ◌≤◌, List, All, length, drop, cond, arith}
+use Rattle.std.proofs.Common.{◌≡◌, ◌≢◌, ◌∙◌, refl, sym, ap, subst, inl, inr, ℕ, zero, suc, ◌+◌, ◌*◌, ◌<◌, ◌≤◌, List, All, length, drop, cond, arith}
 use Rattle.std.proofs.lemmas.Bool.{cases_eq, cases_lt, eq-eqb}
 use Rattle.std.proofs.lemmas.List.{length-map}
 use Rattle.std.proofs.Math.Nat.{mul-le-mul_right}
 use Rattle.wl_level.specs.declared.Level.{Level}
 use Rattle.wl_segments.specs.Lengths.{bit_quanta}
 use Rattle.wl_node.specs.declared.setup.Queued.{Queued}
-use Rattle.wl_node.specs.History.{history_of, unsent_of}
+use Rattle.wl_node.specs.History.{history_of, staying_history, unsent_of}
+use Rattle.wl_node.proofs.Callers.{stays_on}
 use Rattle.wl_plan.specs.declared.plan.Plan.{Plan}
 use Rattle.wl_plan.specs.PlanLine.{line_of, setup_at}
 use Rattle.wl_plan.specs.Simulation.{AreInside, ran, seen}
@@ -114,14 +115,21 @@ module _ (laws : SimulationLaws) (plan : Plan) (s : Stations) (of : IsPlanOf pla
     | inr late_enough ↦ late_enough
   ]
 
+  -- what a node has left at the end
+  at_end : (i : ℕ) → i < s.count → (node_outcome_of plan i).unsent ≡ length (unsent_of (setup_at plan i) (staying_history (setup_at plan i) (seen (line_of plan) i (ran (line_of plan) i plan.end))))
+  at_end i ni =
+      let inside : i < length plan.nodes = let e = of.count in omega arith in
+      ap (λ levels. length (unsent_of (setup_at plan i) (history_of (setup_at plan i) levels))) (laws.history_seen (line_of plan) i plan.end causal inside)
+      ∙ ap (λ h. length (unsent_of (setup_at plan i) h)) (stays_on (setup_at plan i) (seen (line_of plan) i (ran (line_of plan) i plan.end)) (of.stays i ni))
+
   -- what the sender has sent
   own_left : (node_outcome_of plan sender).unsent ≡ 0
   own_left =
       let sent = through.sent (length queue) k (let r : length queue ≤ length queue = omega arith in r) run in_time in
       let role = through.roles sender k one.inside run in
-      let own = ap (λ b. cond b (length (history_of (setup_at plan sender) (seen (line_of plan) sender k)).frames) 0) (eq-eqb sender sender refl) in
-      let long = length-map (history_of (setup_at plan sender) (seen (line_of plan) sender k)).frames (λ p. p.frame) in
-      let same = ap (λ levels. length (unsent_of (setup_at plan sender) (history_of (setup_at plan sender) levels))) (laws.history_seen (line_of plan) sender plan.end causal one.inside) in
+      let own = ap (λ b. cond b (length (staying_history (setup_at plan sender) (seen (line_of plan) sender k)).frames) 0) (eq-eqb sender sender refl) in
+      let long = length-map (staying_history (setup_at plan sender) (seen (line_of plan) sender k)).frames (λ p. p.frame) in
+      let same = at_end sender there in
       let left = through.unsent sender k one.inside run in
       omega arith
 
@@ -130,7 +138,7 @@ module _ (laws : SimulationLaws) (plan : Plan) (s : Stations) (of : IsPlanOf pla
   other_left i inside other =
       let empty = ap length (alone i other) in
       let left = through.unsent i (ran (line_of plan) i plan.end) inside (laws.ran_inside (line_of plan) i plan.end causal inside) in
-      let same = ap (λ levels. length (unsent_of (setup_at plan i) (history_of (setup_at plan i) levels))) (laws.history_seen (line_of plan) i plan.end causal inside) in
+      let same = at_end i (let e = of.count in omega arith) in
       omega arith
 
   none_left : (i : ℕ) → i < length plan.nodes → (node_outcome_of plan i).unsent ≡ 0

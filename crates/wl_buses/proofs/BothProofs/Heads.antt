@@ -1,16 +1,17 @@
 -- What a queue hands its node at a quantum, of the frames that the node hasn't sent.
 use Rattle.std.proofs.Common.{◌≡◌, ◌∙◌, inl, inr, refl, sym, ap, subst, ℕ, zero, suc, ◌+◌, ◌<◌, ◌≤◌, cond, Bool, true, false, List, [], ◌∷◌, ◌++◌, length, Some, None, arith, append_assoc, length-append}
-use Rattle.std.specs.Prelude.{IsPermutation, count_by, drop, nat_le, slice_get}
-use Rattle.std.proofs.lemmas.Bool.{cases_Bool, cases_lt, le-leb, lt-leb}
+use Rattle.std.specs.Prelude.{IsPermutation, count_by, drop, slice_get}
+use Rattle.std.proofs.lemmas.Bool.{cases_Bool, cases_lt}
 use Rattle.std.proofs.lemmas.List.Sorted.{IsPermutation-pop_more, IsPermutation-refl, length_permutation}
-use Rattle.std.proofs.lemmas.List.Sums.{sum_by-append}
 use Rattle.wl_frame.specs.Grammar.{Content}
 use Rattle.wl_frame.specs.Same.{content_decides, same_content}
 use Rattle.wl_node.specs.declared.setup.NodeSetup.{NodeSetup}
 use Rattle.wl_node.specs.declared.setup.Passed.{Passed}
 use Rattle.wl_node.specs.declared.setup.Queued.{Queued}
-use Rattle.wl_node.specs.History.{is_sent, ready_head}
-use Rattle.wl_buses.specs.BothProofs.Queues.{ComeFrom, IsFifo, first_ready, head_at, place_of, queued_contents, ready_at, unsent_after, wakes_at}
+use Rattle.wl_node.specs.declared.setup.QueueOrder.TheVariants.{Fifo}
+use Rattle.wl_node.specs.Queues.{head_by, is_sent, unsent_by}
+use Rattle.wl_buses.specs.BothProofs.Queues.{ComeFrom, IsFifo, head_at, place_of, queued_contents, ready_at, unsent_after, wakes_at}
+use Rattle.wl_buses.proofs.BothProofs.Orders as orders
 
 pub same_length : (queue : List Queued) → length (queued_contents queue) ≡ length queue
 same_length [] = refl
@@ -52,11 +53,10 @@ none_then (x ∷ cs) (suc n) e = (let h = none_then cs n e in omega arith)
 
 -- none before it wakes, none of no frames, and one of some from then on
 pub head_none : (setup : NodeSetup) (k : ℕ) → head_at setup [] k ≡ None
-head_none setup k = refl
+head_none setup k = orders.none_by setup.order k
 
 pub head_early : (setup : NodeSetup) (unsent : List Queued) (k : ℕ) → k < wakes_at setup unsent → head_at setup unsent k ≡ None
-head_early setup [] k less = refl
-head_early setup (q ∷ more) k less = ap (λ c. cond c (Some q.frame) None) (lt-leb q.ready k less)
+head_early setup unsent k less = orders.early_by setup.order unsent k less
 
 -- a frame of a queue that it is handed
 pub record IsHanded (setup : NodeSetup) (unsent : List Queued) (k : ℕ) : Type 0 where
@@ -64,8 +64,7 @@ pub record IsHanded (setup : NodeSetup) (unsent : List Queued) (k : ℕ) : Type 
   pub is : head_at setup unsent k ≡ Some frame
 
 pub head_late : (setup : NodeSetup) (unsent : List Queued) (k : ℕ) → 0 < length unsent → wakes_at setup unsent ≤ k → IsHanded setup unsent k
-head_late setup [] k some late = absurd (omega arith)
-head_late setup (q ∷ more) k some late = record { frame = q.frame; is = ap (λ c. cond c (Some q.frame) None) (le-leb q.ready k late) }
+head_late setup unsent k some late = let x = orders.late_by setup.order unsent k some late in record { frame = x.0; is = x.1 }
 
 -- a node was handed a frame at some quantum, of those that are left
 abbrev pub IsHandedBy : NodeSetup → List Queued → Content → Type 0
@@ -73,51 +72,19 @@ IsHandedBy setup left frame = (quantum : ℕ) × (head_at setup left quantum ≡
 
 -- it is one of them
 pub head_in : (setup : NodeSetup) (unsent : List Queued) (k : ℕ) (c : Content) → head_at setup unsent k ≡ Some c → (n : ℕ) × (slice_get (queued_contents unsent) n ≡ Some c)
-head_in setup [] k c e = cc
-head_in setup (q ∷ more) k c e = (0, by (nat_le q.ready k) e)
-  where
-    by : (b : Bool) → cond b (Some q.frame) None ≡ Some c → Some q.frame ≡ Some c
-    by true e = e
-    by false e = cc
+head_in setup unsent k c e = orders.in_by setup.order unsent k c e
 
 -- what is left after frames have passed the node
 pub unsent_first : (setup : NodeSetup) → unsent_after setup [] ≡ setup.queue
-unsent_first setup = refl
-
-drop_nothing : (n : ℕ) → drop {A = Queued} n [] ≡ []
-drop_nothing zero = refl
-drop_nothing (suc n) = refl
-
-drop_one_more : (n : ℕ) (queue : List Queued) → drop (n + 1) queue ≡ drop 1 (drop n queue)
-drop_one_more zero queue = refl
-drop_one_more (suc n) [] = drop_nothing (suc n + 1) ∙ sym (ap (drop 1) (drop_nothing (suc n)))
-drop_one_more (suc n) (q ∷ queue) = ap (λ k. drop k (q ∷ queue)) (let e : suc n + 1 ≡ suc (n + 1) = omega arith in e) ∙ drop_one_more n queue
-
-count_more : (passed : List Passed) (p : Passed) → count_by is_sent (passed ++ p ∷ []) ≡ count_by is_sent passed + (cond p.sent 1 0 + 0)
-count_more passed p = sum_by-append (λ p. cond (is_sent p) 1 0) passed (p ∷ []) ∙ omega arith
+unsent_first setup = orders.left_first setup.order setup.queue
 
 pub unsent_received : (setup : NodeSetup) (passed : List Passed) (p : Passed) → p.sent ≡ false → unsent_after setup (passed ++ p ∷ []) ≡ unsent_after setup passed
-unsent_received setup passed p e =
-    ap (λ n. drop n setup.queue) (count_more passed p ∙ ap (λ b. count_by is_sent passed + (cond b 1 0 + 0)) e ∙ omega arith)
-
-unsent_tail : (setup : NodeSetup) (passed : List Passed) (p : Passed) → p.sent ≡ true → unsent_after setup (passed ++ p ∷ []) ≡ drop 1 (unsent_after setup passed)
-unsent_tail setup passed p e =
-    ap (λ n. drop n setup.queue) (count_more passed p ∙ ap (λ b. count_by is_sent passed + (cond b 1 0 + 0)) e ∙ omega arith)
-    ∙ drop_one_more (count_by is_sent passed) setup.queue
+unsent_received setup passed p e = orders.left_received setup.order setup.queue passed p e
 
 -- a frame that was handed and is sent is no more among them
 pub unsent_sent : (setup : NodeSetup) (passed : List Passed) (p : Passed) (k : ℕ) → p.sent ≡ true → head_at setup (unsent_after setup passed) k ≡ Some p.frame
     → IsPermutation (queued_contents (unsent_after setup passed)) (p.frame ∷ queued_contents (unsent_after setup (passed ++ p ∷ [])))
-unsent_sent setup passed p k sent e =
-    subst (λ u. IsPermutation (queued_contents (unsent_after setup passed)) (p.frame ∷ queued_contents u)) (sym (unsent_tail setup passed p sent)) (first_of (unsent_after setup passed) e)
-  where
-    first_of : (u : List Queued) → head_at setup u k ≡ Some p.frame → IsPermutation (queued_contents u) (p.frame ∷ queued_contents (drop 1 u))
-    first_of [] e = cc
-    first_of (q ∷ more) e = by (nat_le q.ready k) e
-      where
-        by : (b : Bool) → cond b (Some q.frame) None ≡ Some p.frame → IsPermutation (q.frame ∷ queued_contents more) (p.frame ∷ queued_contents more)
-        by true e = subst (λ c. IsPermutation (q.frame ∷ queued_contents more) (c ∷ queued_contents more)) (let h : q.frame ≡ p.frame = cc in h) (IsPermutation-refl (q.frame ∷ queued_contents more))
-        by false e = cc
+unsent_sent setup passed p k sent e = orders.left_sent setup.order setup.queue passed p k sent e
 
 pub sent_length : (setup : NodeSetup) (passed : List Passed) (p : Passed) (k : ℕ) → p.sent ≡ true → head_at setup (unsent_after setup passed) k ≡ Some p.frame
     → suc (length (unsent_after setup (passed ++ p ∷ []))) ≡ length (unsent_after setup passed)
@@ -128,51 +95,31 @@ sent_length setup passed p k sent e =
     omega arith
 
 -- it is one of the queue
-drop_in : (n : ℕ) (queue : List Queued) (k : ℕ) (c : Content) → slice_get (queued_contents (drop n queue)) k ≡ Some c → (m : ℕ) × (slice_get (queued_contents queue) m ≡ Some c)
-drop_in zero queue k c e = (k, e)
-drop_in (suc n) [] k c e = (k, e)
-drop_in (suc n) (q ∷ queue) k c e = (let m = drop_in n queue k c e in (suc m.0, m.1))
-
 pub unsent_in : (setup : NodeSetup) (passed : List Passed) (n : ℕ) (c : Content) → slice_get (queued_contents (unsent_after setup passed)) n ≡ Some c → (m : ℕ) × (slice_get (queued_contents setup.queue) m ≡ Some c)
-unsent_in setup passed n c e = drop_in (count_by is_sent passed) setup.queue n c e
+unsent_in setup passed n c e = orders.left_in setup.order setup.queue passed c (n, e)
 
 -- a queue that is first in, first out
 pub fifo_unsent : (setup : NodeSetup) (passed : List Passed) → IsFifo setup → unsent_after setup passed ≡ drop (count_by is_sent passed) setup.queue
-fifo_unsent setup passed fifo = refl
+fifo_unsent setup passed fifo = ap (λ o. unsent_by o setup.queue passed) fifo
+
+fifo_head : (setup : NodeSetup) (passed : List Passed) (k : ℕ) (c : Content) → (fifo : IsFifo setup) → head_at setup (unsent_after setup passed) k ≡ Some c
+    → head_by Fifo (unsent_by Fifo setup.queue passed) k ≡ Some c
+fifo_head setup passed k c fifo e = sym (ap (λ o. head_by o (unsent_by o setup.queue passed) k) fifo) ∙ e
 
 -- what it hands is the next in its order
-drop_at : (n : ℕ) (queue : List Queued) (c : Content) → slice_get (queued_contents (drop n queue)) 0 ≡ Some c → slice_get (queued_contents queue) n ≡ Some c
-drop_at zero queue c e = e
-drop_at (suc n) [] c e = e
-drop_at (suc n) (q ∷ queue) c e = drop_at n queue c e
-
-first_of_ready : (u : List Queued) (k : ℕ) (c : Content) → ready_head u k ≡ Some c → slice_get (queued_contents u) 0 ≡ Some c
-first_of_ready [] k c e = cc
-first_of_ready (q ∷ more) k c e = by (nat_le q.ready k) e
-  where
-    by : (b : Bool) → cond b (Some q.frame) None ≡ Some c → Some q.frame ≡ Some c
-    by true e = e
-    by false e = cc
-
 pub fifo_next : (setup : NodeSetup) (passed : List Passed) (k : ℕ) (c : Content) → IsFifo setup → head_at setup (unsent_after setup passed) k ≡ Some c
     → slice_get (queued_contents setup.queue) (count_by is_sent passed) ≡ Some c
-fifo_next setup passed k c fifo e = drop_at (count_by is_sent passed) setup.queue c (first_of_ready (drop (count_by is_sent passed) setup.queue) k c e)
+fifo_next setup passed k c fifo e = orders.fifo_at setup.queue passed k c (fifo_head setup passed k c fifo e)
 
 pub fifo_sent : (setup : NodeSetup) (passed : List Passed) (p : Passed) (k : ℕ) → IsFifo setup → p.sent ≡ true → head_at setup (unsent_after setup passed) k ≡ Some p.frame
     → queued_contents (unsent_after setup passed) ≡ p.frame ∷ queued_contents (unsent_after setup (passed ++ p ∷ []))
-fifo_sent setup passed p k fifo sent e = first_of (unsent_after setup passed) e ∙ ap (λ u. p.frame ∷ queued_contents u) (sym (unsent_tail setup passed p sent))
-  where
-    first_of : (u : List Queued) → head_at setup u k ≡ Some p.frame → queued_contents u ≡ p.frame ∷ queued_contents (drop 1 u)
-    first_of [] e = cc
-    first_of (q ∷ more) e = by (nat_le q.ready k) e
-      where
-        by : (b : Bool) → cond b (Some q.frame) None ≡ Some p.frame → q.frame ∷ queued_contents more ≡ p.frame ∷ queued_contents more
-        by true e = ap (λ c. c ∷ queued_contents more) (let h : q.frame ≡ p.frame = cc in h)
-        by false e = cc
+fifo_sent setup passed p k fifo sent e =
+    ap queued_contents (ap (λ o. unsent_by o setup.queue passed) fifo) ∙ orders.fifo_left setup.queue passed p k sent (fifo_head setup passed k p.frame fifo e)
+    ∙ ap (λ u. p.frame ∷ queued_contents u) (sym (ap (λ o. unsent_by o setup.queue (passed ++ p ∷ [])) fifo))
 
 -- of an empty queue nothing is left
 pub unsent_none : (setup : NodeSetup) (passed : List Passed) → setup.queue ≡ [] → unsent_after setup passed ≡ []
-unsent_none setup passed e = ap (drop (count_by is_sent passed)) e ∙ drop_nothing (count_by is_sent passed)
+unsent_none setup passed e = ap (λ q. unsent_by setup.order q passed) e ∙ orders.left_none setup.order passed
 
 -- a node that is handed none of some frames isn't awake yet
 pub awake_later : (setup : NodeSetup) (unsent : List Queued) (k : ℕ) → 0 < length unsent → head_at setup unsent k ≡ None → k < wakes_at setup unsent
@@ -193,11 +140,8 @@ handed_some setup [] k c e = absurd (none_some c (sym (head_none setup k) ∙ e)
 handed_some setup (q ∷ more) k c e = omega arith
 
 -- it wakes by the time at which so many of the queue and one are ready
-drop_awake : (n : ℕ) (queue : List Queued) (r : ℕ) → ((j : ℕ) → j ≤ n → ready_at queue j ≤ r) → first_ready (drop n queue) ≤ r
-drop_awake n queue r all = all n (omega arith)
-
 pub awake_by : (setup : NodeSetup) (passed : List Passed) (r : ℕ) → ((j : ℕ) → j ≤ count_by is_sent passed → ready_at setup.queue j ≤ r) → wakes_at setup (unsent_after setup passed) ≤ r
-awake_by setup passed r all = drop_awake (count_by is_sent passed) setup.queue r all
+awake_by setup passed r all = orders.left_ready_by setup.order setup.queue passed r all
 
 -- what comes from a queue: at first it has all frames, and a frame that was handed and is sent is one more
 pub come_first : (setup : NodeSetup) → ComeFrom setup [] (queued_contents (unsent_after setup []))
@@ -224,11 +168,6 @@ come_length setup sent left from =
     omega arith
 
 -- it wakes as one of the queue is ready
-drop_wakes : (n : ℕ) (queue : List Queued) → 0 < length (drop n queue) → n < length queue
-drop_wakes zero queue some = some
-drop_wakes (suc n) [] some = absurd (omega arith)
-drop_wakes (suc n) (q ∷ queue) some = (let less = drop_wakes n queue some in omega arith)
-
 pub wakes_one : (setup : NodeSetup) (passed : List Passed) → 0 < length (unsent_after setup passed)
     → (n : ℕ) × (n < length setup.queue) × (wakes_at setup (unsent_after setup passed) ≡ ready_at setup.queue n)
-wakes_one setup passed some = (count_by is_sent passed, drop_wakes (count_by is_sent passed) setup.queue some, refl)
+wakes_one setup passed some = orders.left_ready setup.order setup.queue passed some

@@ -44,7 +44,7 @@ module _ (plan : Plan) (covered : is_covered plan ≡ true) where
   pub idle : (s : Stations) → s.count ≡ length plan.nodes → AreIdleWhenReady plan s
   idle s count i k ni nk apart =
       let busy = none_below (length plan.nodes) (λ j. not (j == k) && not (is_ready_from (setup_at plan k) (setup_at plan k).queue (idle_at (setup_at plan j))))
-      (covered_each plan covered k (omega arith)).1 i (omega arith) in
+      (covered_each plan covered k (omega arith)).2 i (omega arith) in
       let other : not (i == k) ≡ true = ap not (ne_eqb i k apart) in
       not-false (is_ready_from (setup_at plan k) (setup_at plan k).queue (idle_at (setup_at plan i)))
       (ap (λ v. v && not (is_ready_from (setup_at plan k) (setup_at plan k).queue (idle_at (setup_at plan i)))) (sym other) ∙ busy)

@@ -13,7 +13,7 @@ use Rattle.wl_frame.specs.Grammar.{Content}
 use Rattle.wl_machine.specs.Stretch.{Stretch}
 use Rattle.wl_node.specs.declared.setup.Passed.{Passed}
 use Rattle.wl_node.specs.declared.setup.Queued.{Queued}
-use Rattle.wl_node.specs.History.{history_of, counters_of, error_count, is_sent}
+use Rattle.wl_node.specs.History.{staying_history, counters_of, error_count, is_sent}
 use Rattle.wl_phase.specs.Clocks.{steady_tick}
 use Rattle.wl_plan.specs.Line.{Line}
 use Rattle.wl_plan.specs.Simulation.{seen, AreInside}
@@ -72,10 +72,10 @@ module _ (laws : Laws) (stay : StayLaws) (b : SenderBus) (stuffed : Content → 
   good_from : (line : List Content) (i k : ℕ) (inside : i < l.nodes) (levels : ℕ → Level) (passed : List Passed) (s : Stretch) (v : Level) → Does laws.clocks (b.setups i) (is.book i inside) levels passed k s v
       → seen l i k ≡ levels_before levels k → (n : ℕ) × IsPassed (b.setups a) line (i == b.sender) n passed → IsGood line i k
   good_from line i k inside levels passed s v d e p = record {
-    fine = ap (λ ls. error_count (history_of (b.setups i) ls)) e ∙ d.errors;
-    counters = ap (λ ls. counters_of (history_of (b.setups i) ls)) e ∙ d.counts;
+    fine = ap (λ ls. error_count (staying_history (b.setups i) ls)) e ∙ d.errors;
+    counters = ap (λ ls. counters_of (staying_history (b.setups i) ls)) e ∙ d.counts;
     count = p.0;
-    passed = subst (IsPassed (b.setups a) line (i == b.sender) p.0) (sym (ap (λ ls. (history_of (b.setups i) ls).frames) e ∙ d.frames)) p.1;
+    passed = subst (IsPassed (b.setups a) line (i == b.sender) p.0) (sym (ap (λ ls. (staying_history (b.setups i) ls).frames) e ∙ d.frames)) p.1;
   }
 
   -- so it is of a longer line
@@ -125,7 +125,7 @@ module _ (laws : Laws) (stay : StayLaws) (b : SenderBus) (stuffed : Content → 
 
   frames_are : (i k : ℕ) (inside : i < l.nodes) (levels : ℕ → Level) (passed : List Passed) (s : Stretch) (v : Level) → Does laws.clocks (b.setups i) (is.book i inside) levels passed k s v
       → seen l i k ≡ levels_before levels k → (history_at b i k).frames ≡ passed
-  frames_are i k inside levels passed s v d e = ap (λ ls. (history_of (b.setups i) ls).frames) e ∙ d.frames
+  frames_are i k inside levels passed s v d e = ap (λ ls. (staying_history (b.setups i) ls).frames) e ∙ d.frames
 
   strict : (i k m : ℕ) → i < l.nodes → k < m → tick i k < tick i m
   strict i k m inside less =

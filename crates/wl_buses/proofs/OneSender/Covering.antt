@@ -13,7 +13,7 @@ use Rattle.wl_bound.specs.Covered.{is_covered, is_uncovered}
 use Rattle.wl_bound.specs.Verdicts.{idle_at, is_ready_from}
 use Rattle.wl_buses.specs.BothProofs.Plans.{IsSteadyPlan}
 use Rattle.wl_buses.specs.OneSender.Clean.{HasOneSender}
-use Rattle.wl_buses.proofs.BothProofs.Small.{none_below, covered_each, passed}
+use Rattle.wl_buses.proofs.BothProofs.Small.{none_below, covered_each, covered_stays, passed}
 use Rattle.wl_buses.specs.BothProofs.Queues.{decided_by, wakes_at}
 use Rattle.wl_buses.proofs.BothProofs.Heads.{IsHanded, head_late}
 use Rattle.wl_buses.proofs.FirstFrame.Deciding.{decided_after}
@@ -41,7 +41,7 @@ module _ (plan : Plan) (covered : is_covered plan ≡ true) where
 
   idle_then : (i j : ℕ) → i < length plan.nodes → j < length plan.nodes → j ≢ i → is_ready_from (setup_at plan i) (setup_at plan i).queue (idle_at (setup_at plan j)) ≡ true
   idle_then i j ni nj apart =
-      let busy = none_below (length plan.nodes) (λ j. not (j == i) && not (is_ready_from (setup_at plan i) (setup_at plan i).queue (idle_at (setup_at plan j)))) (covered_each plan covered i ni).1 j nj in
+      let busy = none_below (length plan.nodes) (λ j. not (j == i) && not (is_ready_from (setup_at plan i) (setup_at plan i).queue (idle_at (setup_at plan j)))) (covered_each plan covered i ni).2 j nj in
       let other : not (j == i) ≡ true = ap not (ne_eqb j i apart) in
       not-false (is_ready_from (setup_at plan i) (setup_at plan i).queue (idle_at (setup_at plan j)))
       (ap (λ v. v && not (is_ready_from (setup_at plan i) (setup_at plan i).queue (idle_at (setup_at plan j)))) (sym other) ∙ busy)
@@ -54,6 +54,7 @@ module _ (plan : Plan) (covered : is_covered plan ≡ true) where
     rates = rates;
     book = book;
     undisturbed = is_empty plan.disturbances (not_less 0 (length plan.disturbances) few.1);
+    stays = covered_stays plan covered;
   }
 
   -- on which frame it decides after its power-up

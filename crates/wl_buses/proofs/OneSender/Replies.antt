@@ -10,7 +10,7 @@ use Rattle.wl_sync.specs.Running.{clock_after}
 use Rattle.wl_frame.specs.Grammar.{Content}
 use Rattle.wl_machine.specs.Stretch.{Stretch}
 use Rattle.wl_node.specs.declared.setup.Passed.{Passed}
-use Rattle.wl_node.specs.History.{history_of}
+use Rattle.wl_node.specs.History.{staying_history}
 use Rattle.wl_buses.specs.BothProofs.Queues.{head_at}
 use Rattle.wl_buses.proofs.BothProofs.Heads.{head_none}
 use Rattle.wl_phase.specs.Clocks.{steady_tick}
@@ -593,7 +593,7 @@ module _ (laws : Laws) (stay : StayLaws) (b : SenderBus) (is : IsBus b) (meets :
             drive = z.drive;
             longer = z.longer;
             going = going_same laws.clocks (b.setups j) (is.book j p.nat.heard.listener.0) finds (lv j) (suc q) (lists_moved (suc q) (omega arith)) (suc (S j)) z.longer false (Hears (suc (suc last))) z.drive z.going;
-            slot = ap (λ ls. (clock_after (lengths_of b j) (history_of (b.setups j) ls).seen).sample) (sym (lists_moved (suc q) (omega arith))) ∙ z.slot;
+            slot = ap (λ ls. (clock_after (lengths_of b j) (staying_history (b.setups j) ls).seen).sample) (sym (lists_moved (suc q) (omega arith))) ∙ z.slot;
             after_quiet = z.if_not;
             after_loud = z.if_replied;
             kind = r.kind;

@@ -23,7 +23,7 @@ use Rattle.wl_machine.specs.States.{stretch_by}
 use Rattle.wl_node.specs.declared.setup.NodeSetup.{NodeSetup}
 use Rattle.wl_node.specs.declared.setup.Passed.{Passed}
 use Rattle.wl_node.specs.declared.setup.Queued.{Queued}
-use Rattle.wl_node.specs.History.{handed, history_of, passed_frames, unsent_of, sampled_next}
+use Rattle.wl_node.specs.History.{handed, staying_history, passed_frames, unsent_of, sampled_next}
 use Rattle.wl_phase.specs.Ways.{ByTheBook}
 use Rattle.wl_buses.specs.BothProofs.Levels.{levels_before}
 use Rattle.wl_phase.proofs.Callers.{IsSilent, first_silent, now_recessive}
@@ -534,6 +534,6 @@ module _ (clocks : ClockGoes) (setup : NodeSetup) (book : ByTheBook setup.segmen
     stretch = a.stretch;
     waiting = a.waiting;
     going = going_same clocks setup book u v k e a.p 0 true a.stretch Recessive a.going;
-    sample = ap (λ ls. (clock_after setup.segments (history_of setup ls).seen).sample) (sym e) ∙ a.sample;
-    level = ap (λ ls. (clock_after setup.segments (history_of setup ls).seen).level) (sym e) ∙ a.level;
+    sample = ap (λ ls. (clock_after setup.segments (staying_history setup ls).seen).sample) (sym e) ∙ a.sample;
+    level = ap (λ ls. (clock_after setup.segments (staying_history setup ls).seen).level) (sym e) ∙ a.level;
   }

@@ -7,7 +7,8 @@ use Rattle.wl_frame.specs.Same.{same_content}
 use Rattle.wl_node.specs.declared.setup.NodeSetup.{NodeSetup}
 use Rattle.wl_node.specs.declared.setup.Passed.{Passed}
 use Rattle.wl_node.specs.declared.setup.Queued.{Queued}
-use Rattle.wl_node.specs.History.{is_sent, ready_head}
+use Rattle.wl_node.specs.declared.setup.QueueOrder.TheVariants.{Fifo}
+use Rattle.wl_node.specs.Queues.{head_by, unsent_by}
 
 abbrev pub queued_contents : List Queued → List Content
 queued_contents = map (λ q. q.frame)
@@ -27,19 +28,19 @@ decides_at l ready = max 10 (div_ceil (ready - sample_at l) (bit_quanta l))
 
 -- of the frames of its queue that it hasn't sent, the one that a node is handed at a quantum
 abbrev pub head_at : NodeSetup → (unsent : List Queued) → ℕ → Option Content
-head_at setup unsent quantum = ready_head unsent quantum
+head_at setup unsent quantum = head_by setup.order unsent quantum
 
--- the quantum from which on it is handed one
+-- the quantum from which on it is handed one: frames come to a controller in the order of its queue
 abbrev pub wakes_at : NodeSetup → (unsent : List Queued) → ℕ
 wakes_at setup unsent = first_ready unsent
 
 -- The queue is first in, first out.
 abbrev pub IsFifo : NodeSetup → Type 0
-IsFifo setup = setup.queue ≡ setup.queue
+IsFifo setup = setup.order ≡ Fifo
 
 -- the frames of its queue that it hasn't sent, after these have passed it
 abbrev pub unsent_after : NodeSetup → List Passed → List Queued
-unsent_after setup passed = drop (count_by is_sent passed) setup.queue
+unsent_after setup passed = unsent_by setup.order setup.queue passed
 
 -- the first place of a frame in a list; if there is no frame, or the list hasn't got it, a number that is no place
 abbrev pub place_of : Option Content → List Content → ℕ

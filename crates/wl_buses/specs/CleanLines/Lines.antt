@@ -2,7 +2,7 @@
 use Rattle.std.specs.Prelude.{◌≡◌, ◌⊎◌, ℕ, zero, suc, ◌<◌, ◌≤◌, length, Some, slice_get}
 use Rattle.wl_confine.specs.Counts.{no_counts}
 use Rattle.wl_node.specs.declared.setup.NodeSetup.{NodeSetup}
-use Rattle.wl_node.specs.History.{History, counters_of, error_count, history_of, unsent_of}
+use Rattle.wl_node.specs.History.{History, counters_of, error_count, staying_history, unsent_of}
 use Rattle.wl_plan.specs.Line.{Line}
 use Rattle.wl_plan.specs.Simulation.{AreInside, seen}
 use Rattle.wl_buses.specs.BothProofs.Queues.{ComeFrom, IsFifo, decides_at, first_head, head_at, place_of, queued_contents, wakes_at}
@@ -61,9 +61,9 @@ pub record FirstFramesOfLine (setups : ℕ → NodeSetup) (w : Waiting) (most : 
   pub bus : FramesOfLine setups w
   pub ends : (bus.count ≡ suc most) ⊎ EmptyEachQueue setups w bus
 
--- a node of a line after its first k quanta
+-- a node of a line after its first k quanta: none leaves the bus
 abbrev pub line_history : Line → (setups : ℕ → NodeSetup) → (i k : ℕ) → History
-line_history l setups i k = history_of (setups i) (seen l i k)
+line_history l setups i k = staying_history (setups i) (seen l i k)
 
 -- At each quantum of each node up to the end of the line, as on a plan (`AllGetThrough`):
 pub record LineGetsThrough (l : Line) (setups : ℕ → NodeSetup) (w : Waiting) : Type 0 where

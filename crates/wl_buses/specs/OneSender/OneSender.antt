@@ -13,7 +13,7 @@ use Rattle.wl_machine.specs.Stretch.Sort.{Framing}
 use Rattle.wl_machine.specs.Judged.{stretch_of}
 use Rattle.wl_machine.specs.States.{stretch_by}
 use Rattle.wl_node.specs.declared.setup.NodeSetup.{NodeSetup}
-use Rattle.wl_node.specs.History.{history_of, error_count}
+use Rattle.wl_node.specs.History.{staying_history, error_count}
 use Rattle.wl_phase.specs.Clocks.{Steady, IsSteady, steady_tick}
 use Rattle.wl_phase.specs.Ways.{ByTheBook}
 use Rattle.wl_phase.specs.InStep.{Sender, Listener, ClocksAreNear, arrival}
@@ -58,7 +58,7 @@ pub record IsBus (b : SenderBus) : Type 0 where
   pub causal : IsCausal b.line
   pub sender : b.sender < b.line.nodes
   pub other : (j : ℕ) × IsListener b j
-  pub drives : (i : ℕ) (levels : List Level) → i < b.line.nodes → b.line.drives i levels ≡ is_dominant (history_of (b.setups i) levels).drive
+  pub drives : (i : ℕ) (levels : List Level) → i < b.line.nodes → b.line.drives i levels ≡ is_dominant (staying_history (b.setups i) levels).drive
   pub ticks : (i k : ℕ) → i < b.line.nodes → b.line.instant i k ≡ steady_tick (b.clocks i) k
   pub steady : (i : ℕ) → i < b.line.nodes → IsSteady (b.clocks i)
   pub book : (i : ℕ) → i < b.line.nodes → ByTheBook (lengths_of b i)
@@ -99,8 +99,8 @@ pub record EndsAfterSlot (b : SenderBus) : Type 0 where
 pub record IsAtStretch (b : SenderBus) (i : ℕ) (s : Stretch) : Type 0 where
   pub quanta : ℕ
   pub inside : (k : ℕ) → k < quanta → b.line.instant i k < b.line.stop
-  pub stretch : stretch_of (history_of (b.setups i) (seen b.line i quanta)).inputs ≡ s
-  pub fine : error_count (history_of (b.setups i) (seen b.line i quanta)) ≡ 0
+  pub stretch : stretch_of (staying_history (b.setups i) (seen b.line i quanta)).inputs ≡ s
+  pub fine : error_count (staying_history (b.setups i) (seen b.line i quanta)) ≡ 0
 
 -- Each listener has sampled the frame's bits up to the CRC delimiter, and the sender those, and its acknowledgement. Some listener, as the first one, has driven and
 -- sampled it (Bosch CAN 2.0 part B, section 3.2.1, ACK field).

@@ -6,7 +6,7 @@ use Rattle.wl_confine.specs.Counts.{no_counts}
 use Rattle.wl_frame.specs.Stuffing.{Stuffs}
 use Rattle.wl_frame.specs.Grammar.{Content, IsContent, bits_of}
 use Rattle.wl_node.specs.declared.setup.Queued.{Queued}
-use Rattle.wl_node.specs.History.{History, history_of, counters_of, error_count, is_sent, unsent_of}
+use Rattle.wl_node.specs.History.{History, staying_history, counters_of, error_count, is_sent, unsent_of}
 use Rattle.wl_phase.specs.Answer.{EndsAfterMove, EndsBeforeSample, EndsInTime, FitsBit}
 use Rattle.wl_plan.specs.Simulation.{seen, AreInside}
 use Rattle.wl_buses.specs.OneSender.OneSender.{SenderBus, IsListener, lengths_of, listener_of, sender_of}
@@ -36,9 +36,9 @@ pub record AreFrames (b : SenderBus) (stuffed : Content → List Level) (lengths
   pub stuffs : (place : ℕ) (frame : Content) → slice_get (queued_contents (sender_queue b)) place ≡ Some frame → Stuffs (stuffed frame) (bits_of frame)
   pub short : (n : ℕ) (frame : Content) → MaySend b n frame → length (stuffed frame) ≤ lengths n
 
--- a node after its first k quanta
+-- a node after its first k quanta: none leaves the bus
 abbrev pub history_at : SenderBus → (i k : ℕ) → History
-history_at b i k = history_of (b.setups i) (seen b.line i k)
+history_at b i k = staying_history (b.setups i) (seen b.line i k)
 
 -- the frames that a node has sent or received
 abbrev pub passed_at : SenderBus → (i k : ℕ) → List Content

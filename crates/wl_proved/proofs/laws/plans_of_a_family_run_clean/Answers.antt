@@ -36,6 +36,6 @@ returns-clause-one c = λ f plan sender of lone sound.
     } in
     let through = c.one_sender_is_clean.ensures f plan (paced.clocks f plan of) sender one stuffed_of (λ n. most_stuffed_bits) steady (paced.of_family f plan of) frames bus in
     ends_clean c.simulation_laws.ensures c.clean_is_clean.ensures plan (c.checked_is_sound.ensures plan of.runs.checked).causal
-    (alone.bus_frames plan (paced.clocks f plan of) sender one lone stuffed_of (λ n. most_stuffed_bits) through)
-    (alone.clean_at plan (paced.clocks f plan of) sender one lone stuffed_of (λ n. most_stuffed_bits) through)
-    (alone.in_order plan (paced.clocks f plan of) sender one lone stuffed_of (λ n. most_stuffed_bits) through))
+    (alone.bus_frames plan (paced.clocks f plan of) steady.stays sender one lone stuffed_of (λ n. most_stuffed_bits) through)
+    (alone.clean_at plan (paced.clocks f plan of) steady.stays sender one lone stuffed_of (λ n. most_stuffed_bits) through)
+    (alone.in_order plan (paced.clocks f plan of) steady.stays sender one lone stuffed_of (λ n. most_stuffed_bits) through))
