@@ -95,12 +95,10 @@ passed true w e = cc
 pub covered_each : (plan : Plan) → is_covered plan ≡ true → (i : ℕ) → i < length plan.nodes
     → (only_listens plan.topology i ≡ false) × (leaves plan i ≡ false) × (finds_one_busy plan i ≡ false)
 covered_each plan covered i less =
-    all_three (or_parts (only_listens plan.topology i) (leaves plan i || finds_one_busy plan i)
-    (none_below (length plan.nodes) (is_uncovered plan)
-    (passed (nat_lt (length plan.nodes) 2 || nat_lt 0 (length plan.disturbances)) (any_below (length plan.nodes) (is_uncovered plan)) covered).1 i less))
-  where
-    all_three : (only_listens plan.topology i ≡ false) × ((leaves plan i || finds_one_busy plan i) ≡ false) → (only_listens plan.topology i ≡ false) × (leaves plan i ≡ false) × (finds_one_busy plan i ≡ false)
-    all_three (speaks, rest) = (speaks, or_parts (leaves plan i) (finds_one_busy plan i) rest)
+    let refusals = passed (nat_lt (length plan.nodes) 2 || nat_lt 0 (length plan.disturbances)) (any_below (length plan.nodes) (is_uncovered plan)) covered in
+    let each = or_parts (only_listens plan.topology i) (leaves plan i || finds_one_busy plan i) (none_below (length plan.nodes) (is_uncovered plan) refusals.1 i less) in
+    let rest = or_parts (leaves plan i) (finds_one_busy plan i) each.1 in
+    (each.0, rest.0, rest.1)
 
 -- without a quantum at which it leaves
 no_quantum : (until : Option ℕ) → is_some until ≡ false → until ≡ None

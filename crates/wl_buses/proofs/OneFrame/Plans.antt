@@ -1,5 +1,5 @@
 -- The line of a plan is that of its stations.
-use Rattle.std.proofs.Common.{◌≡◌, ap, refl, sym, [], arith}
+use Rattle.std.proofs.Common.{◌≡◌, ap, sym, [], arith}
 use Rattle.std.specs.List.{list_any}
 use Rattle.wl_clock.specs.Timing.{tick_of}
 use Rattle.wl_plan.specs.declared.plan.Plan.{Plan}

@@ -11,7 +11,7 @@ use Rattle.wl_frame.specs.Grammar.{Content}
 use Rattle.wl_phase.specs.Clocks.{Steady}
 use Rattle.wl_plan.specs.declared.plan.Plan.{Plan}
 use Rattle.wl_plan.specs.Checked.{CheckedIsSound}
-use Rattle.wl_plan.specs.PlanLine.{is_at}
+use Rattle.wl_plan.specs.PlanLine.{is_at, setup_at}
 use Rattle.wl_buses.specs.OneSender.OneSender.{IsBus, IsListener}
 use Rattle.wl_buses.specs.BothProofs.Plans.{IsSteadyPlan}
 use Rattle.wl_buses.specs.OneSender.Plans.{sender_bus_of}

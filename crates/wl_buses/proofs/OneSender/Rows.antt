@@ -1,6 +1,7 @@
 -- Worked clocks and delays: a sender and two listeners, one a hundredth faster and one a hundredth slower.
-use Rattle.std.proofs.Common.{◌≡◌, refl, ℕ, zero, suc, [], ◌∷◌, false, arith}
+use Rattle.std.proofs.Common.{◌≡◌, refl, ℕ, zero, suc, [], ◌∷◌, None, false, arith}
 use Rattle.wl_frame.specs.Grammar.{content_of}
+use Rattle.wl_node.specs.declared.setup.QueueOrder.TheVariants.{Fifo}
 use Rattle.wl_buses.specs.OneSender.OneSender.{SenderBus}
 use Rattle.wl_buses.specs.OneSender.Through.{due_quantum}
 use Rattle.wl_buses.specs.OneSender.Tolerances.{FitClocks, Tolerance}
@@ -80,6 +81,8 @@ cable_of way = record {
     clock = steady_timing s.clock;
     segments = l;
     queue = record { frame = content_of []; ready = 0 } ∷ record { frame = content_of []; ready = 500 } ∷ [];
+    order = Fifo;
+    until = None;
   };
   clocks = λ i. s.clock;
   sender = 0;

@@ -1,5 +1,5 @@
 -- The frames of a queue, and when the first of them is ready and decided to be sent.
-use Rattle.std.specs.Prelude.{◌≡◌, ◌++◌, IsPermutation, ℕ, suc, ◌+◌, ◌-◌, ◌*◌, max, List, [], ◌∷◌, length, drop, map, count_by, Option, Some, None, if◌then◌else◌}
+use Rattle.std.specs.Prelude.{◌≡◌, ◌++◌, IsPermutation, ℕ, suc, ◌+◌, ◌-◌, ◌*◌, max, List, [], ◌∷◌, length, drop, map, Option, Some, None, if◌then◌else◌}
 use Rattle.std.specs.Int.{div_ceil}
 use Rattle.wl_segments.specs.Lengths.{Lengths, sample_at, bit_quanta}
 use Rattle.wl_frame.specs.Grammar.{Content}
