@@ -1,12 +1,12 @@
 -- A machine that is in no gap between frames doesn't look at the head that it is handed.
-use Rattle.std.proofs.Common.{◌≡◌, ◌∙◌, ◌==◌, ℕ, Bool, true, false, cond, List, [], ◌∷◌, ◌++◌, length, Option, Some, None, refl, sym, ap}
+use Rattle.std.proofs.Common.{◌≡◌, ℕ, true, false, List, Option, Some, None, refl}
 use Rattle.wl_level.specs.declared.Level.{Level}
 use Rattle.wl_confine.specs.declared.Mode.{Mode}
 use Rattle.wl_frame.specs.Grammar.{Content}
 use Rattle.wl_machine.specs.declared.state.Role.{Role}
 use Rattle.wl_machine.specs.declared.state.Role.TheVariants.{Tx, Rx}
 use Rattle.wl_machine.specs.Doing.{doing_as, doing_by}
-use Rattle.wl_machine.specs.Stretch.{Flag, Sort, Stretch, Sampled}
+use Rattle.wl_machine.specs.Stretch.{Flag, Sort, Sampled}
 use Rattle.wl_machine.specs.Stretch.Flag.{ActiveFlag, OverloadFlag, PassiveFlag}
 use Rattle.wl_machine.specs.Stretch.Sort.{Integration, Idle, Framing, Flagging, Waiting, Delimiting, Intermission, Suspension, OffBus}
 use Rattle.wl_machine.specs.Frames.{frame_role, framing_by, framing_received, framing_sent, stuffed_end}

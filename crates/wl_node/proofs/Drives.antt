@@ -1,23 +1,19 @@
 -- A node keeps its drive for as long as it promises, and changes it seldom.
-use Rattle.std.proofs.Common.{◌≡◌, ◌∙◌, ℕ, zero, suc, ◌+◌, ◌*◌, ◌/◌, ◌<◌, ◌≤◌, Bool, true, false, cond, not, List, [], ◌∷◌, ◌++◌, length, drop, Option, Some, None, refl, sym, ap, subst, arith, ◌⊎◌, inl, inr, append-nil, append_assoc, add-one, add-zero, length-append}
-use Rattle.std.specs.Prelude.{count_by, nat_lt}
-use Rattle.std.proofs.Math.Nat.{mul-le-mul_left, div-add-mod}
+use Rattle.std.proofs.Common.{◌≡◌, ◌∙◌, ℕ, zero, suc, ◌+◌, ◌*◌, ◌<◌, ◌≤◌, Bool, true, false, List, [], ◌∷◌, ◌++◌, length, Option, Some, None, refl, sym, ap, subst, arith, ◌⊎◌, inl, inr, append-nil, append_assoc, add-one, length-append}
+use Rattle.std.proofs.Math.Nat.{mul-le-mul_left}
 use Rattle.std.proofs.lemmas.Bool.{cases_lt, lt-leb, ltb-false, le-ltb}
-use Rattle.std.proofs.lemmas.List.{take-append-le, take_all, drop_all}
 use Rattle.wl_level.specs.declared.Level.{Level}
 use Rattle.wl_level.specs.declared.Level.TheVariants.{Recessive}
 use Rattle.wl_level.specs.Levels.{same}
-use Rattle.wl_level.specs.Places.{count_places}
-use Rattle.wl_level.proofs.Callers.{length_more, same_self, same_equal}
-use Rattle.wl_segments.specs.Lengths.{AreLengths, sample_at, least_way}
+use Rattle.wl_level.proofs.Callers.{same_self, same_equal}
+use Rattle.wl_segments.specs.Lengths.{AreLengths, least_way}
 use Rattle.wl_sync.specs.declared.Beat.{Beat}
 use Rattle.wl_sync.specs.declared.Beat.TheVariants.{Plain, Sample, Start}
 use Rattle.wl_sync.specs.Bits.{beat_of, sync_of}
 use Rattle.wl_sync.specs.SampleLaws.{SampleLaws, quanta_to_sample}
 use Rattle.wl_confine.specs.declared.Mode.{Mode}
 use Rattle.wl_confine.specs.Counts.{counts_of, mode_of}
-use Rattle.wl_machine.specs.Stretch.{Sort, Stretch, Sampled, Input, Ended}
-use Rattle.wl_machine.specs.Stretch.Ended.{NoFrame, Sent, Received}
+use Rattle.wl_machine.specs.Stretch.{Sort, Stretch, Sampled, Input}
 use Rattle.wl_machine.specs.Stretch.Sort.{Integration, Idle, Framing, Flagging, Waiting, Delimiting, Intermission, Suspension, OffBus}
 use Rattle.wl_machine.specs.Stretch.Input.{Sample as Given, SwitchedOff}
 use Rattle.wl_machine.specs.Judged.{judged, stretch_of, stretch_after, drive_of, head_of}
@@ -27,8 +23,8 @@ use Rattle.wl_machine.proofs.Callers.{stretch_next}
 use Rattle.wl_node.specs.declared.setup.Queued.{Queued}
 use Rattle.wl_node.specs.declared.setup.NodeSetup.{NodeSetup}
 use Rattle.wl_node.specs.History.{History, staying_history, no_history, seen_next, sampled_next, handed, passed_frames, switched_off, by_beat, syncs_at, unsent_of}
-use Rattle.wl_node.specs.Limits.{most_quiet, most_quiet-is}
-use Rattle.wl_node.specs.Quiet.{pending_of, is_waiting, floor_by, floor_at, floor_and_silence, promise_by, until_ready, promise_at, quiet_at, drive_at, changes_of}
+use Rattle.wl_node.specs.Limits.{most_quiet-is}
+use Rattle.wl_node.specs.Quiet.{pending_of, is_waiting, floor_by, floor_at, floor_and_silence, promise_by, until_ready, promise_at, quiet_at}
 use Rattle.wl_node.proofs.Turns.{history_first, history_next}
 use Rattle.wl_node.specs.Queues.{head_by}
 use Rattle.wl_node.specs.Unsent.{is_first_ready}
@@ -43,7 +39,7 @@ grown P none more xs = from [] none xs
     from front p [] = subst P (sym (append-nil front)) p
     from front p (x ∷ rest) = subst P (append_assoc front (x ∷ []) rest) (from (front ++ x ∷ []) (more front x p) rest)
 
-same_when : (a b : Level) → a ≡ b → same a b ≡ true
+pub same_when : (a b : Level) → a ≡ b → same a b ≡ true
 same_when a b e = ap (same a) (sym e) ∙ same_self a
 
 -- the history after a quantum of this beat
@@ -57,7 +53,7 @@ abbrev pub beat_next : NodeSetup → History → Level → Beat
 beat_next setup h level = beat_of setup.segments h.seen (seen_next h level)
 
 -- the quanta up to the sample, where there is a way to it
-abbrev left : Option ℕ → ℕ
+abbrev pub left : Option ℕ → ℕ
 left (Some n) = n
 left None = 0
 
@@ -120,9 +116,6 @@ module _ (ways : SampleLaws) (setup : NodeSetup) where
       let b = l.ps2_low in
       let g = longer_least (floor_at setup (staying_history setup levels)) (silence_of (is_waiting setup (staying_history setup levels)) (stretch_of (staying_history setup levels).inputs)) (least_way setup.segments) in
       omega arith
-
-  pub most : (levels : List Level) → quiet_at setup (staying_history setup levels) ≤ most_quiet
-  most levels = omega arith
 
 module _ (silences : SilenceLaws) (ways : SampleLaws) (setup : NodeSetup) where
   -- where a quantum leaves a node that is quiet for it and for k quanta more
@@ -325,106 +318,4 @@ module _ (silences : SilenceLaws) (ways : SampleLaws) (setup : NodeSetup) where
         ap (λ l. (staying_history setup l).drive) (sym (append_assoc levels (x ∷ []) more)) ∙ (stays more (levels ++ x ∷ []) k.1 ∙ k.0)
 
     pub quiet : (levels more : List Level) → length more ≤ quiet_at setup (staying_history setup levels) → (staying_history setup (levels ++ more)).drive ≡ (staying_history setup levels).drive
-      quiet levels more q = stays more levels (omega arith)
-
--- what laws of places say of counts
-abbrev pub CountsBelow : Type 0
-CountsBelow = (test other : ℕ → Bool) (n : ℕ) → ((k : ℕ) → k < n → test k ≡ other k) → count_places test n ≡ count_places other n
-
--- one more if the test passes
-abbrev one_if : Bool → ℕ
-one_if b = cond b 1 0
-
-module _ (counts : CountsBelow) (ways : SampleLaws) (setup : NodeSetup) where
-  abbrev turns : List Level → ℕ → Bool
-  turns levels k = not (same (drive_at setup levels k) (drive_at setup levels (suc k)))
-
-  front_drive : (levels : List Level) (x : Level) (k : ℕ) → k ≤ length levels → drive_at setup (levels ++ x ∷ []) k ≡ drive_at setup levels k
-  front_drive levels x k h = ap (λ l. (staying_history setup l).drive) (take-append-le k levels (x ∷ []) h)
-
-  whole_drive : (levels : List Level) (k : ℕ) → length levels ≤ k → drive_at setup levels k ≡ (staying_history setup levels).drive
-  whole_drive levels k h = ap (λ l. (staying_history setup l).drive) (take_all k levels h)
-
-  -- one level more is one change more where it changes the drive
-  changes_next : (levels : List Level) (x : Level)
-      → changes_of setup (levels ++ x ∷ []) ≡ changes_of setup levels + one_if (not (same (staying_history setup levels).drive (staying_history setup (levels ++ x ∷ [])).drive))
-  changes_next levels x =
-      ap (count_places (turns (levels ++ x ∷ []))) (length_more levels x ∙ add-one (length levels))
-      ∙ ap (λ n. n + one_if (turns (levels ++ x ∷ []) (length levels)))
-      (counts (turns (levels ++ x ∷ [])) (turns levels) (length levels)
-      (λ k h. ap (λ d. not (same d (drive_at setup (levels ++ x ∷ []) (suc k)))) (front_drive levels x k (omega arith)) ∙ ap (λ d. not (same (drive_at setup levels k) d)) (front_drive levels x (suc k) (omega arith))))
-      ∙ ap (λ d. changes_of setup levels + one_if (not (same d (drive_at setup (levels ++ x ∷ []) (suc (length levels))))))
-      (front_drive levels x (length levels) (omega arith) ∙ whole_drive levels (length levels) (omega arith))
-      ∙ ap (λ d. changes_of setup levels + one_if (not (same (staying_history setup levels).drive d))) (whole_drive (levels ++ x ∷ []) (suc (length levels)) (omega (arith, length_more levels x)))
-
-  -- the quanta of as many parts of bits from a start to its sample as there were changes
-  abbrev IsFew : List Level → Type 0
-  IsFew levels = changes_of setup levels * suc (least_way setup.segments) ≤ length levels + left (quanta_to_sample setup.segments (staying_history setup levels).seen)
-
-  abbrev part : ℕ
-  part = suc (least_way setup.segments)
-
-  none_more : (d e : Level) → d ≡ e → one_if (not (same d e)) ≡ 0
-  none_more d e h = ap (λ b. one_if (not b)) (same_when d e h)
-
-  stays_few : (c u a b : ℕ) → u ≡ 0 → c * part ≤ a → a ≤ b → (c + u) * part ≤ b
-  stays_few c u a b h q r = (let e : (c + u) * part ≡ c * part = ap (λ n. n * part) (let f : c + u ≡ c = omega arith in f) in omega arith)
-
-  one_more : (t : Bool) (c n : ℕ) → c * part ≤ n → (c + one_if t) * part ≤ suc n + least_way setup.segments
-  one_more true c n q = omega arith
-  one_more false c n q = omega arith
-
-  few_by : (c n : ℕ) (h : History) (level : Level) (b : Beat) → beat_next setup h level ≡ b → ((m : ℕ) → quanta_to_sample setup.segments h.seen ≡ Some m → h.drive ≡ pending_of h)
-      → c * part ≤ n + left (quanta_to_sample setup.segments h.seen)
-      → (c + one_if (not (same h.drive (behind setup h level b).drive))) * part ≤ suc n + left (quanta_to_sample setup.segments (behind setup h level b).seen)
-  few_by c n h level Start e s q =
-      subst (λ o. (c + one_if (not (same h.drive (pending_of h)))) * part ≤ suc n + left o) (sym after.1.0)
-      (let low = after.1.1 in let r = starts (quanta_to_sample setup.segments h.seen) refl q in omega arith)
-    where
-      after : (m : ℕ) × ((quanta_to_sample setup.segments (h.seen ++ seen_next h level ∷ []) ≡ Some m) × (least_way setup.segments ≤ m))
-      after = ways.start setup.segments h.seen (seen_next h level) e
-
-      starts : (o : Option ℕ) → quanta_to_sample setup.segments h.seen ≡ o → c * part ≤ n + left o → (c + one_if (not (same h.drive (pending_of h)))) * part ≤ suc n + least_way setup.segments
-      starts (Some m) f r = stays_few c _ (n + m) _ (none_more h.drive (pending_of h) (s m f)) r (let l = ways.few setup.segments h.seen m f in let low = ways.least setup.segments in omega arith)
-      starts None f r = one_more (not (same h.drive (pending_of h))) c n (omega arith)
-  few_by c n h level (Sample v) e s q =
-      stays_few c _ (n + 1) _ (none_more h.drive h.drive refl) (subst (λ o. c * part ≤ n + left o) (ways.sampled setup.segments h.seen (seen_next h level) v e) q) (omega arith)
-  few_by c n h level Plain e s q = plain (quanta_to_sample setup.segments h.seen) refl q
-    where
-      plain : (o : Option ℕ) → quanta_to_sample setup.segments h.seen ≡ o → c * part ≤ n + left o
-          → (c + one_if (not (same h.drive h.drive))) * part ≤ suc n + left (quanta_to_sample setup.segments (h.seen ++ seen_next h level ∷ []))
-      plain None f r = stays_few c _ (n + 0) _ (none_more h.drive h.drive refl) r (omega arith)
-      plain (Some m) f r =
-          let near = ways.near setup.segments h.seen (seen_next h level) m e f in
-          subst (λ o. (c + one_if (not (same h.drive h.drive))) * part ≤ suc n + left o) (sym near.1.0)
-          (stays_few c _ (n + m) _ (none_more h.drive h.drive refl) r (omega (arith, near.1.1)))
-
-  few : (levels : List Level) → IsFew levels
-  few =
-      grown IsFew (omega arith)
-      (λ levels x q.
-      let by = few_by (changes_of setup levels) (length levels) (staying_history setup levels) x (beat_next setup (staying_history setup levels) x) refl (settled ways setup levels) q in
-      let at : (changes_of setup levels + one_if (not (same (staying_history setup levels).drive (staying_history setup (levels ++ x ∷ [])).drive))) * part
-      ≤ suc (length levels) + left (quanta_to_sample setup.segments (staying_history setup (levels ++ x ∷ [])).seen) =
-      subst (λ (next : History). (changes_of setup levels + one_if (not (same (staying_history setup levels).drive next.drive))) * part ≤ suc (length levels) + left (quanta_to_sample setup.segments next.seen)) (sym (history_next setup levels x)) by in
-      let e : changes_of setup (levels ++ x ∷ []) * part ≡ (changes_of setup levels + one_if (not (same (staying_history setup levels).drive (staying_history setup (levels ++ x ∷ [])).drive))) * part =
-      ap (λ n. n * part) (changes_next levels x) in
-      omega (arith, length_more levels x))
-
-  left_few : (h : History) (o : Option ℕ) → quanta_to_sample setup.segments h.seen ≡ o → left o ≤ sample_at setup.segments
-  left_few h (Some m) f = ways.few setup.segments h.seen m f
-  left_few h None f = omega arith
-
-  pub few_changes : (levels : List Level) → changes_of setup levels ≤ length levels / part + 1
-  few_changes levels = elim (cases_lt (length levels / part + 1) (changes_of setup levels)) [
-    | inl many ↦ absurd (
-        let q : changes_of setup levels * part ≤ length levels + left (quanta_to_sample setup.segments (staying_history setup levels).seen) = few levels in
-        let r = left_few (staying_history setup levels) (quanta_to_sample setup.segments (staying_history setup levels).seen) refl in
-        let two : part * (length levels / part + 2) ≤ part * changes_of setup levels = mul-le-mul_left part (omega arith) in
-        let low = ways.least setup.segments in
-        far (length levels) (changes_of setup levels) (least_way setup.segments) (omega arith) two)
-    | inr h ↦ h
-  ]
-    where
-      far : (n c p : ℕ) → c * suc p ≤ n + suc p → suc p * (n / suc p + 2) ≤ suc p * c → ⊥
-      far n c p q two = (let d = div-add-mod n (suc p) in omega arith)
+    quiet levels more q = stays more levels (omega arith)

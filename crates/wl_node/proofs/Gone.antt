@@ -99,7 +99,7 @@ stopped_more level a b old mid new first stands second = record {
 }
 
 -- by what the node drives before and after
-module _ {level : Level} {n : ℕ} {old new : StayingNode} (g : StayingHasGone level n old new) {before after : Level} 
+module _ {level : Level} {n : ℕ} {old new : StayingNode} (g : StayingHasGone level n old new) {before after : Level}
     (was : (levels : List Level) → IsStaying levels old → before ≡ drive_by old.setup levels) (now : (levels : List Level) → IsStaying levels new → after ≡ drive_by new.setup levels) where
   now_is : (levels : List Level) → IsStaying levels old → after ≡ drive_by old.setup (levels ++ replicate n level)
   now_is levels is = now (levels ++ replicate n level) (g.node levels is) ∙ ap (λ setup. drive_by setup (levels ++ replicate n level)) g.setup

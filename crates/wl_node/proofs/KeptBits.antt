@@ -1,6 +1,6 @@
 -- Samples of one level in a row that a machine only keeps, and the quanta of their bits.
 use Rattle.std.proofs.Common.{◌≡◌, ◌∙◌, ℕ, zero, suc, ◌+◌, ◌-◌, ◌*◌, ◌<◌, ◌≤◌, inl, inr, List, [], ◌∷◌, ◌++◌, length, replicate, Option, true, refl, sym, ap, subst, arith, append-nil, append_assoc, length-append, add-zero}
-use Rattle.std.specs.Prelude.{count_by, drop}
+use Rattle.std.specs.Prelude.{count_by}
 use Rattle.std.specs.List.{flat_map}
 use Rattle.std.proofs.lemmas.Bool.{cases_lt}
 use Rattle.std.proofs.lemmas.List.{length-replicate}
@@ -21,7 +21,7 @@ use Rattle.wl_machine.specs.Reached.{IsMachine}
 use Rattle.wl_machine.specs.States.{sample_of}
 use Rattle.wl_node.specs.declared.setup.NodeSetup.{NodeSetup}
 use Rattle.wl_node.specs.declared.progress.NodeProgress.{NodeProgress}
-use Rattle.wl_node.specs.History.{History, staying_history, error_count, is_hard, is_sent, phase_of, sampled_next, seen_next}
+use Rattle.wl_node.specs.History.{History, staying_history, error_count, is_hard, phase_of, sampled_next, seen_next, unsent_of}
 use Rattle.wl_node.specs.Extremes.{phase_totals}
 use Rattle.wl_node.specs.Kept.{IsProgress}
 use Rattle.wl_node.specs.Queues.{unsent_by}
@@ -33,7 +33,7 @@ use Rattle.wl_node.proofs.Gone.{joined}
 use Rattle.wl_node.proofs.Heard.{heard_drive, heard_history, up_to, up_to_long}
 use Rattle.wl_node.proofs.Rested.{counts_same, history_is, rested, stretch_on}
 use Rattle.wl_node.proofs.RunsOfSamples.{from_none, from_suc, length_from}
-use Rattle.wl_node.proofs.Sends.{count_append}
+use Rattle.wl_node.proofs.Unsents.{count_append}
 
 -- what holds of one sample that is only kept
 pub record KeepsOne (level : Level) (mid new : Machine) : Type 0 where
@@ -260,7 +260,7 @@ module _ (setup : NodeSetup) (level : Level) (old : NodeProgress) (before bit n 
               counters = counters ∙ was.place.traffic.counters ∙ sym is.counts;
               pending = pending ∙ was.place.traffic.pending ∙ kept.drives h.inputs h.inputs 0 (omega arith) some was.place.traffic.machine refl
                   ∙ sym (kept.drives h.inputs g.inputs n (omega arith) some was.place.traffic.machine is.more);
-              unsent = subst (λ u. IsUnsent setup u _) (sym unsent) (subst (IsUnsent setup old.traffic.unsent) (sym is.frames) was.place.traffic.unsent);
+              unsent = subst (λ u. IsUnsent setup u (staying_history setup (at n)).frames) (sym unsent) (subst (IsUnsent setup old.traffic.unsent) (sym is.frames) was.place.traffic.unsent);
               errors = errors ∙ was.place.traffic.errors ∙ sym is.errors;
               samples = λ on.
                   (let kept_on = sym keeps ∙ on in

@@ -1,7 +1,5 @@
 -- Samples that are stored, and of which nothing else comes: those that a receiver's machine only keeps, and a recessive one of a free bus, with no frame ready.
-use Rattle.std.proofs.Common.{◌≡◌, ◌∙◌, ℕ, ◌+◌, [], ◌∷◌, ◌++◌, length, Option, None, Some, true, false, refl, sym, ap, subst, append-nil, add-zero, length-append}
-use Rattle.std.specs.Prelude.{count_by, is_some}
-use Rattle.std.specs.Option.{option_map}
+use Rattle.std.proofs.Common.{◌≡◌, ◌∙◌, ℕ, ◌+◌, [], ◌∷◌, ◌++◌, length, None, Some, true, refl, sym, ap, subst, append-nil, add-zero, length-append}
 use Rattle.std.proofs.lemmas.List.Sums.{fold-append}
 use Rattle.wl_level.specs.declared.Level.{Level}
 use Rattle.wl_level.specs.declared.Level.TheVariants.{Recessive}

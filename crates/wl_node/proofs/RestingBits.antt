@@ -1,5 +1,5 @@
 -- Bits of recessive quanta on a free bus, in which no frame is ready: of all their quanta only the samples are kept.
-use Rattle.std.proofs.Common.{◌≡◌, ◌∙◌, ℕ, zero, suc, ◌+◌, ◌-◌, ◌*◌, ◌<◌, ◌≤◌, inl, inr, List, [], ◌∷◌, ◌++◌, drop, length, None, true, replicate, refl, sym, ap, subst, arith, append-nil, append_assoc, length-append}
+use Rattle.std.proofs.Common.{◌≡◌, ◌∙◌, ℕ, zero, suc, ◌+◌, ◌-◌, ◌*◌, ◌<◌, ◌≤◌, inl, inr, List, [], ◌∷◌, ◌++◌, length, None, true, replicate, refl, sym, ap, subst, arith, append-nil, append_assoc, length-append}
 use Rattle.std.proofs.lemmas.Bool.{cases_lt}
 use Rattle.std.proofs.lemmas.List.{length-replicate}
 use Rattle.wl_level.specs.declared.Level.{Level}
@@ -216,7 +216,7 @@ module _ (setup : NodeSetup) (kept : NodeProgress) (n : ℕ) (some : 0 < n) (res
               machine = subst (λ m. IsMachine m (staying_history setup (at k)).inputs) (sym machine) a.machine;
               counters = counters ∙ a.counters;
               pending = pending ∙ a.pending;
-              unsent = subst (λ u. IsUnsent setup u _) (sym unsent) a.unsent;
+              unsent = subst (λ u. IsUnsent setup u (staying_history setup (at k)).frames) (sym unsent) a.unsent;
               errors = errors ∙ a.errors;
               samples = λ on.
                   (let kept_on = sym keeps ∙ on in
@@ -225,7 +225,7 @@ module _ (setup : NodeSetup) (kept : NodeProgress) (n : ℕ) (some : 0 < n) (res
                   ∙ sym (ap length is.samples ∙ length-append (staying_history setup levels).samples (samples_from (kept.quanta + n - 1) n Recessive k)
                   ∙ ap (λ m. length (staying_history setup levels).samples + m) (length_from (kept.quanta + n - 1) n Recessive k));
               frames = ap (λ f. f.items) frames ∙ a.frames;
-              sends = a.sends;
+              sends = λ frame e. subst (λ u. IsChosen setup.order (unsent_of setup (staying_history setup (at k))) frame u.place) (sym unsent) (a.sends frame e);
             };
           };
         }

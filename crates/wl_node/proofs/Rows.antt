@@ -6,7 +6,7 @@ use Rattle.wl_level.specs.declared.Level.TheVariants.{Dominant, Recessive}
 use Rattle.wl_frame.specs.Grammar.{bits_of, number_bits}
 use Rattle.wl_segments.specs.declared.SyncRules.TheVariants.{After, Book}
 use Rattle.wl_node.specs.declared.setup.NodeSetup.{NodeSetup}
-use Rattle.wl_node.specs.declared.setup.QueueOrder.TheVariants.{Fifo, Priority}
+use Rattle.wl_node.specs.declared.setup.QueueOrder.TheVariants.{Fifo}
 use Rattle.wl_node.specs.History.{History, history_of, staying_history, hards_of, unsent_count}
 
 abbrev setup : NodeSetup

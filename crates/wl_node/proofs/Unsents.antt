@@ -16,7 +16,7 @@ use Rattle.wl_node.specs.declared.setup.Passed.{Passed}
 use Rattle.wl_node.specs.declared.unsent.Unsent.{Unsent}
 use Rattle.wl_node.specs.declared.setup.QueueOrder.{QueueOrder}
 use Rattle.wl_node.specs.declared.setup.QueueOrder.TheVariants.{Fifo, Priority}
-use Rattle.wl_node.specs.Queues.{field_number, first_frame, head_by, is_sent, least_frame, lesser_frame, queue_after, queue_without, ready_head, unsent_by, waiting_frames}
+use Rattle.wl_node.specs.Queues.{field_number, head_by, is_sent, least_frame, lesser_frame, queue_after, queue_without, ready_head, unsent_by, waiting_frames}
 use Rattle.wl_node.specs.Unsent.{IsHeadAt, IsLeastAt, IsUnsent, is_first_ready, left_in, line_by, next_place, place_of}
 
 pub count_append : {X : Type 0} (p : X → Bool) (xs ys : List X) → count_by p (xs ++ ys) ≡ count_by p xs + count_by p ys
@@ -327,3 +327,7 @@ pub place_found : (order : QueueOrder) (unsent : List Queued) (quantum : ℕ) (p
     → MatchOption place (head_by order unsent quantum ≡ None) (IsHeadAt order unsent quantum)
 place_found order unsent quantum None e ready none = absurd (some_waiting unsent quantum ready none)
 place_found order unsent quantum (Some place) e ready at = subst (λ o. IsHeadAt o unsent quantum place) (sym e) (least_head unsent quantum place at)
+
+-- the place of the frame that was chosen decides nothing of those that are left
+pub moved : {setup : NodeSetup} {kept : Unsent} {place : ℕ} {passed : List Passed} → IsUnsent setup kept passed → IsUnsent setup (record kept { place = place }) passed
+moved is = record { left = is.left; sent = is.sent; long = is.long }

@@ -1,9 +1,8 @@
 -- A node that is on the bus, which never leaves it as far as its levels go: where they put it, and what it does. As `Reached` says it of any node.
-use Rattle.std.specs.Prelude.{◌≡◌, ◌≢◌, ℕ, ◌+◌, ◌<◌, List, [], ◌∷◌, ◌++◌, replicate}
+use Rattle.std.specs.Prelude.{◌≡◌, ◌≢◌, ℕ, ◌+◌, ◌<◌, List, ◌++◌, replicate}
 use Rattle.wl_level.specs.declared.Level.{Level}
-use Rattle.wl_node.specs.declared.setup.NodeSetup.{NodeSetup}
 use Rattle.wl_node.specs.declared.staying_node.StayingNode.{StayingNode}
-use Rattle.wl_node.specs.History.{History, staying_history}
+use Rattle.wl_node.specs.History.{staying_history}
 use Rattle.wl_node.specs.Kept.{IsProgress}
 
 -- the node is where these levels put it, one for each quantum that it has run, the oldest first

@@ -78,7 +78,8 @@ impl Node {
         ensures stopped { OnErr result (HasStopped level most self.old self.new) }
         ensures quanta { IfOk result (λ n. self.new.staying.progress.quanta ≡ self.old.staying.progress.quanta + n) }
     {
-        self.staying.go(level, most)
+        let ran = self.staying.go(level, most)?;
+        Ok(ran)
     }
 
     /// Runs such quanta of a node that leaves with the first of them, or has left: at its first one it drives recessive.
@@ -91,8 +92,11 @@ impl Node {
         ensures few { result ≤ most }
         ensures turned { result < most → TurnsAfter self.old level result }
     {
-        let ran = if self.drive().is_dominant() { 1 } else { most };
-        self.away += ran;
-        ran
+        if self.drive().is_dominant() {
+            self.away += 1;
+            return 1;
+        }
+        self.away += most;
+        most
     }
 }

@@ -23,7 +23,7 @@ mod traffic;
 mod unsent;
 
 pub use integration::integrates;
-pub use laws::{drive_laws, extremes_are_extreme, node_laws};
+pub use laws::{drive_laws, extremes_are_extreme, node_laws, staying_laws};
 pub use limits::MOST_QUIET;
 pub use mark::Mark;
 pub use node::{Node, NodeLists};

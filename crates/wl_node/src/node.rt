@@ -1,12 +1,14 @@
 //! A node, quantum by quantum, which may leave the bus.
 
-ghost use Rattle.std.specs.Prelude.{◌≤◌, ◌+◌, List};
+ghost use Rattle.std.specs.Prelude.{◌≡◌, ◌≤◌, ◌+◌, List, length};
 ghost use Rattle.wl_level.specs.declared.Level.{Level};
 ghost use Rattle.wl_node.specs.History.{levels_away, levels_there};
 ghost use Rattle.wl_node.specs.Limits.{most_run_quanta};
+ghost use Rattle.wl_node.specs.Staying.{IsStaying};
 
 use crate::limits::MOST_QUIET;
 use crate::phase_totals::PhaseTotals;
+use crate::progress::NodeProgress;
 use crate::samples::{SampleList, Samples};
 use crate::setup::{NodeSetup, Passed};
 use crate::staying_node::StayingNode;
@@ -27,6 +29,8 @@ pub struct Node {
     /// How many quanta it has run since it left.
     pub(crate) away: u64,
     ghost few: { staying.progress.quanta + away ≤ most_run_quanta },
+    ghost reached: { ∥ ((levels : List Level) × IsStaying (levels_there staying.setup.until levels) staying
+        × (away ≡ length (levels_away staying.setup.until levels))) ∥₁ },
 }
 
 /// What a node stored, given up by it.
@@ -155,7 +159,7 @@ impl Node {
         if 0 < self.away {
             return Level::Recessive;
         }
-        self.staying.progress.drive
+        self.staying.drive()
     }
 
     /// Returns for how many quanta more the node is sure to keep its drive, whatever levels it sees: at most
@@ -173,8 +177,9 @@ impl Node {
         }
         let quiet = self.staying.quiet();
         match self.staying.setup.until {
-            Some(until) if self.staying.progress.drive.is_dominant() => (quiet as u64)
-                .min(until.saturating_sub(self.staying.progress.quanta)) as u32,
+            Some(until) if self.staying.progress.drive.is_dominant() => (quiet as u64).min(
+                until.saturating_sub(self.staying.progress.quanta),
+            ) as u32,
             _ => quiet,
         }
     }
@@ -193,6 +198,7 @@ impl Node {
         ensures free { Shows self.now (λ h. free_stay (node_setup self.now) h ≤ result) }
         ensures most { result ≤ most_run_quanta }
     {
+        crate::laws::drive_laws();
         if 0 < self.away {
             return MOST_RUN_QUANTA;
         }
@@ -291,10 +297,12 @@ impl Node {
         ensures frames { Shows self (λ h. result.frames ≡ h.frames) }
         ensures phases { keeps_lists self ≡ true → Shows self (λ h. result.phases ≡ phases_of h) }
     {
+        let StayingNode { progress, .. } = self.staying;
+        let NodeProgress { traffic, syncs, .. } = progress;
         NodeLists {
-            samples: self.staying.progress.traffic.samples.into_list(),
-            frames: Listed::from_vec(self.staying.progress.traffic.frames),
-            phases: Listed::from_vec(self.staying.progress.syncs.phases),
+            samples: traffic.samples.into_list(),
+            frames: Listed::from_vec(traffic.frames),
+            phases: Listed::from_vec(syncs.phases),
         }
     }
 }

@@ -18,9 +18,9 @@ ghost use Rattle.wl_node.specs.Kept.{HasProgressedBy, FitsQuanta, IsRoomy, Keeps
 ghost use Rattle.wl_node.specs.Limits.{most_run_quanta};
 ghost use Rattle.wl_node.specs.Unsent.{left_in};
 
-use crate::staying_node::StayingNode;
 use crate::progress::NodeProgress;
 use crate::setup::NodeSetup;
+use crate::staying_node::StayingNode;
 use std::alloc::AllocError;
 use wl_level::Level;
 use wl_sync::Beat;
@@ -70,11 +70,11 @@ impl StayingNode {
         ensures turned { IfOk result (λ n. n < most → StayingTurns self.old level n) }
         ensures stopped { OnErr result (StayingHasStopped level most self.old self.new) }
     {
-        let before = self.progress.drive;
+        let before = self.drive();
         let mut done = 0;
         while done < most {
             done += self.to_sample_or_event(level, most - done)?;
-            if !self.progress.drive.is(before) {
+            if !self.drive().is(before) {
                 return Ok(done);
             }
         }

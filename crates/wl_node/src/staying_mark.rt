@@ -1,10 +1,13 @@
 //! A mark of where a node on the bus is, and the ways back and on to it.
 
-ghost use Rattle.std.specs.Prelude.{◌+◌, ◌≤◌};
+ghost use Rattle.std.specs.Prelude.{◌≡◌, ◌+◌, ◌≤◌, take, count_by};
+ghost use Rattle.wl_node.specs.Queues.{is_sent};
+ghost use Rattle.wl_node.specs.Unsent.{IsUnsent};
 
-use crate::setup::NodeSetup;
-use crate::staying_node::StayingNode;
 use crate::phase_totals::PhaseTotals;
+use crate::setup::{NodeSetup, Passed, QueueOrder};
+use crate::staying_node::StayingNode;
+use crate::unsent::Unsent;
 use wl_confine::Counters;
 use wl_level::Level;
 use wl_machine::Machine;
@@ -41,6 +44,7 @@ impl StayingNode {
     /// Returns a mark of where the node is.
     pub fn keep(&self) -> StayingMark
         ensures mark { (levels : List Level) → IsStaying levels self.now → IsStayingMark self.now.setup levels result }
+        ensures quanta { result.quanta ≡ self.now.progress.quanta }
     {
         let traffic = &self.progress.traffic;
         StayingMark {
@@ -66,6 +70,7 @@ impl StayingNode {
         ensures node { (levels more : List Level) → IsStayingMark self.old.setup levels mark.now → IsStaying (levels ++ more) self.old
             → IsStaying levels self.new }
         ensures setup { self.new.setup ≡ self.old.setup }
+        ensures quanta { self.new.progress.quanta ≡ mark.now.quanta }
         ensures keeps { self.new.progress.traffic.samples.keeps ≡ self.old.progress.traffic.samples.keeps }
     {
         self.progress.back(&self.setup, mark);
@@ -78,6 +83,7 @@ impl StayingNode {
         ensures node { result ≡ true → (levels more : List Level) → IsStaying levels self.old
             → IsStayingMark self.old.setup (levels ++ more) mark.now → IsStaying (levels ++ more) self.new }
         ensures setup { self.new.setup ≡ self.old.setup }
+        ensures quanta { result ≡ true → self.new.progress.quanta ≡ mark.now.quanta }
         ensures keeps { self.new.progress.traffic.samples.keeps ≡ self.old.progress.traffic.samples.keeps }
         ensures same { result ≡ false → self.new ≡ self.old }
         ensures goes { self.old.progress.traffic.samples.keeps ≡ false → (levels more : List Level) → IsStaying levels self.old
@@ -120,7 +126,12 @@ impl crate::progress::NodeProgress {
         self.traffic.pending = mark.pending;
         self.traffic.errors = mark.errors;
         self.traffic.samples.truncate(mark.samples);
-        self.traffic.unpass(setup, mark);
+        unpass(
+            &mut self.traffic.frames,
+            &mut self.traffic.unsent,
+            setup,
+            mark,
+        );
     }
 
     /// Takes the progress of a node that lists neither samples nor phase errors on to a mark up to which no frame came to its end.
@@ -148,27 +159,18 @@ impl crate::progress::NodeProgress {
     }
 }
 
-impl crate::traffic::Traffic {
-    ghost use Rattle.std.specs.Prelude.{◌≡◌, List, take, count_by};
-    ghost use Rattle.wl_node.specs.declared.setup.Passed.{Passed};
-    ghost use Rattle.wl_node.specs.declared.setup.QueueOrder.TheVariants.{Fifo};
-    ghost use Rattle.wl_node.specs.Queues.{is_sent};
-    ghost use Rattle.wl_node.specs.Unsent.{IsUnsent};
-
-    /// Drops the frames that passed since a mark. Those of them that were sent are not sent any more.
-    fn unpass(&mut self, setup: &NodeSetup, mark: &StayingMark)
-        ensures frames { self.new.frames.items ≡ take mark.now.frames self.old.frames.items }
-        ensures unsent { IsUnsent setup.now self.old.unsent self.old.frames.items
-            → (setup.now.order ≡ Fifo → mark.now.sent ≡ count_by is_sent (take mark.now.frames self.old.frames.items))
-            → IsUnsent setup.now self.new.unsent (take mark.now.frames self.old.frames.items) }
-        ensures place { self.new.unsent.place ≡ mark.now.place }
-        ensures same { self.new ≡ record self.old { frames = self.new.frames; unsent = self.new.unsent } }
-    {
-        self.unsent.place = mark.place;
-        if self.frames.len() <= mark.frames {
-            return;
-        }
-        self.frames.truncate(mark.frames);
-        self.unsent.back(setup, mark.sent, self.frames.as_slice());
+/// Drops the frames that passed since a mark. Those of them that were sent are not sent any more.
+fn unpass(frames: &mut Vec<Passed>, unsent: &mut Unsent, setup: &NodeSetup, mark: &StayingMark)
+    ensures frames { frames.new.items ≡ take mark.now.frames frames.old.items }
+    ensures unsent { IsUnsent setup.now unsent.old frames.old.items
+        → (setup.now.order ≡ QueueOrder.Fifo → mark.now.sent ≡ count_by is_sent (take mark.now.frames frames.old.items))
+        → IsUnsent setup.now unsent.new (take mark.now.frames frames.old.items) }
+    ensures place { unsent.new.place ≡ mark.now.place }
+{
+    unsent.place = mark.place;
+    if frames.len() <= mark.frames {
+        return;
     }
+    frames.truncate(mark.frames);
+    unsent.back(setup, mark.sent, frames.as_slice());
 }

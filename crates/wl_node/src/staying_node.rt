@@ -73,6 +73,13 @@ impl StayingNode {
         self.progress.run(&self.setup, level);
     }
 
+    /// Returns the level that the node drives since its last quantum.
+    pub fn drive(&self) -> Level
+        ensures { (levels : List Level) → IsStaying levels self.now → result ≡ (staying_history self.now.setup levels).drive }
+    {
+        self.progress.drive
+    }
+
     /// Returns for how many quanta more the node is sure to keep its drive, whatever it sees.
     pub fn quiet(&self) -> u32
         ensures value { (levels : List Level) → IsStaying levels self.now

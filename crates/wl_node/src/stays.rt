@@ -22,7 +22,7 @@ impl NodeProgress {
             → free_stay setup.now (staying_history setup.now levels) ≤ result }
         ensures most { result ≤ most_run_quanta }
     {
-        crate::laws::drive_laws();
+        crate::laws::staying_laws();
         wl_machine::laws::a_rest_is_kept();
         if self.drive.is_dominant() {
             return 0;

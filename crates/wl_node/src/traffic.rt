@@ -58,7 +58,8 @@ fn looks_at_head(doing: Doing) -> bool
     ensures { result ≡ looks_at_head doing }
 {
     match doing {
-        Doing::Integrating | Doing::Idle | Doing::Intermission | Doing::Suspended | Doing::OffBus => true,
+        Doing::Integrating | Doing::Idle | Doing::Intermission | Doing::Suspended | Doing::OffBus =>
+            true,
         _ => false,
     }
 }
@@ -295,7 +296,13 @@ impl Traffic {
         let turn = self.machine.bit(level, head.as_ref(), mode);
         self.samples.push(quantum, level);
         self.pending = turn.drive;
-        pass(&mut self.frames, &mut self.unsent, turn.done, setup, quantum);
+        pass(
+            &mut self.frames,
+            &mut self.unsent,
+            turn.done,
+            setup,
+            quantum,
+        );
         count(&mut self.errors, turn.happened);
         self.counters.apply(turn.happened);
         let after = self.counters.mode();

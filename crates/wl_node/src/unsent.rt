@@ -112,7 +112,8 @@ impl Unsent {
     /// Puts them back to where these frames had left them, so many of which were sent.
     pub fn back(&mut self, setup: &NodeSetup, sent: usize, passed: &[Passed])
         ensures place { self.new.place ≡ self.old.place }
-        ensures passed { (all : List PassedFrame) → IsUnsent setup.now self.old all → sent ≡ count_by is_sent passed.now
+        ensures passed { (all : List PassedFrame) → IsUnsent setup.now self.old all
+            → (setup.now.order ≡ QueueOrder.Fifo → sent ≡ count_by is_sent passed.now)
             → IsUnsent setup.now self.new passed.now }
     {
         match setup.order {

@@ -1,18 +1,10 @@
-use Rattle.wl_sync.specs.SampleLaws.{SampleLaws}
-use Rattle.wl_machine.specs.Silence.{SilenceLaws}
-use Rattle.wl_node.proofs.Drives.{settled, quiet, floor, most, few_changes}
-use Rattle.wl_node.proofs.Standing.{stands_at}
+use Rattle.wl_node.proofs.LeavingDrives.{few_changes, most, quiet, stays}
 use Rattle.wl_node.proofs.laws.drive_laws.Goals as goal
 
 pub returns : goal.returns
-returns c =
-    let ways : SampleLaws = c.the_sample_comes_near.ensures in
-    let silences : SilenceLaws = c.a_silence_is_kept.ensures in
-    record {
-      settled = settled ways;
-      quiet = λ setup. quiet silences ways setup c.a_sent_frame_is_the_head_that_began_its_stretch.ensures;
-      stays = stands_at c.a_rest_is_kept.ensures silences ways c.recessive_samples_are_bits_apart.ensures c.a_sent_frame_is_the_head_that_began_its_stretch.ensures;
-      floor = floor ways;
-      most = most ways;
-      few_changes = few_changes c.place_laws.ensures.counted_below ways;
-    }
+returns c = record {
+  quiet = quiet c.staying_laws.ensures;
+  stays = stays c.staying_laws.ensures;
+  most = most;
+  few_changes = few_changes c.place_laws.ensures.counted_below c.the_sample_comes_near.ensures;
+}

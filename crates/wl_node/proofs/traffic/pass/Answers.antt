@@ -1,4 +1,4 @@
-use Rattle.std.proofs.Common.{◌≡◌, ◌∙◌, ℕ, List, [], ◌∷◌, ◌++◌, Option, None, Some, true, sym, ap, subst, refl}
+use Rattle.std.proofs.Common.{◌≡◌, ◌∙◌, [], ◌∷◌, ◌++◌, Some, true, sym, ap, subst, refl}
 use Rattle.wl_frame.specs.Grammar.{Content}
 use Rattle.wl_machine.specs.declared.Done.{Done}
 use Rattle.wl_machine.specs.declared.Done.TheVariants as dones
@@ -19,9 +19,10 @@ pub returns-in-Some-clause-passed : goal.returns-in-Some-clause-passed
 returns-in-Some-clause-passed c ended past e was chosen =
     let is = sent_ended c.args.done ended c.in-Sent.is e in
     let made = c.send.ensures.sent past is.0 c.args.quantum was (chosen is.0 is.1) in
-    let frame : c.in-Some.frame ≡ is.0 = (let both : Some c.in-Some.frame ≡ Some is.0 = sym c.in-Some.is ∙ made.0 in cc) in
-    (c.push_reserved.ensures.items ∙ ap (λ f. c.args.frames.now.items ++ record { sent = true; quantum = c.args.quantum; frame = f } ∷ []) frame ∙ ap (λ d. c.args.frames.now.items ++ passed_frames c.args.quantum d) (sym is.1),
-    subst (λ d. IsUnsent c.args.setup.now c.send.new.self (past ++ passed_frames c.args.quantum d)) (sym is.1) made.1)
+    let frame : c.in-Some.frame ≡ is.0 = (let both : Some c.in-Some.frame ≡ Some is.0 = sym c.in-Some.is ∙ made.0 in cc) in (
+      c.push_reserved.ensures.items ∙ ap (λ f. c.args.frames.now.items ++ record { sent = true; quantum = c.args.quantum; frame = f } ∷ []) frame ∙ ap (λ d. c.args.frames.now.items ++ passed_frames c.args.quantum d) (sym is.1),
+      subst (λ d. IsUnsent c.args.setup.now c.send.new.self (past ++ passed_frames c.args.quantum d)) (sym is.1) made.1,
+    )
 
 pub returns-in_default-clause-passed : goal.returns-in_default-clause-passed
 returns-in_default-clause-passed c ended past e was chosen =

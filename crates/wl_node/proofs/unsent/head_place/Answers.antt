@@ -1,8 +1,5 @@
 use Rattle.std.specs.Option.{MatchOption}
-use Rattle.std.proofs.Common.{◌≡◌, ◌∙◌, ℕ, [], sym, ap, subst, refl}
-use Rattle.wl_node.specs.declared.setup.QueueOrder.{QueueOrder}
-use Rattle.wl_node.specs.declared.setup.QueueOrder.TheVariants.{Fifo, Priority}
-use Rattle.wl_node.specs.Queues.{head_by, waiting_frames}
+use Rattle.std.proofs.Common.{◌≡◌, ◌∙◌, [], sym, subst}
 use Rattle.wl_node.specs.Unsent.{IsHeadAt, IsLeastAt}
 use Rattle.wl_node.proofs.Unsents.{no_head, first_head, place_found}
 use Rattle.wl_node.proofs.unsent.head_place.Goals as goal

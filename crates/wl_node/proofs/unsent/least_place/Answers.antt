@@ -1,5 +1,4 @@
-use Rattle.std.proofs.Common.{◌≡◌, ◌-◌, ◌≤◌, suc, length, sym, subst, arith}
-use Rattle.std.proofs.lemmas.Bool.{leb-true, leb-false}
+use Rattle.std.proofs.Common.{◌≡◌, ◌-◌, suc, length, sym, subst, arith}
 use Rattle.wl_node.proofs.Unsents.{Found, found_first, found_last, found_later}
 use Rattle.wl_node.proofs.unsent.least_place.Goals as goal
 

@@ -1,4 +1,4 @@
-use Rattle.std.proofs.Common.{◌≡◌, ◌+◌, ◌≤◌, ℕ, Some, None, length, drop}
+use Rattle.std.proofs.Common.{◌≡◌, ◌+◌, ℕ, Some, None, drop}
 use Rattle.wl_node.specs.Unsent.{place_of}
 use Rattle.wl_node.proofs.unsent.place_of.Given as goal
 

@@ -20,8 +20,8 @@ returns-clause-place c levels more marked was =
     let kept = was.place in
     let front : take c.args.mark.now.frames c.args.self.now.traffic.frames.items ≡ h.frames =
     ap (λ n. take n c.args.self.now.traffic.frames.items) at.frames ∙ (ap (take (length h.frames)) kept.traffic.frames ∙ front_of h.frames g.frames on.frames) in
-    let unsent : IsUnsent setup c.unpass.new.self.unsent h.frames =
-    subst (IsUnsent setup c.unpass.new.self.unsent) front
+    let unsent : IsUnsent setup c.unpass.new.unsent h.frames =
+    subst (IsUnsent setup c.unpass.new.unsent) front
     (c.unpass.ensures.unsent (subst (IsUnsent setup c.args.self.now.traffic.unsent) (sym kept.traffic.frames) kept.traffic.unsent)
     (λ fifo. at.sent fifo ∙ ap (count_by is_sent) (sym front))) in
     record {

@@ -64,7 +64,7 @@ module _ (c : goal.After-self-1) (setup : NodeSetup) (levels : List Level) (old 
       machine = old.place.traffic.machine;
       counters = old.place.traffic.counters;
       pending = old.place.traffic.pending;
-      sent = old.place.traffic.sent;
+      unsent = old.place.traffic.unsent;
       errors = old.place.traffic.errors;
       samples = old.place.traffic.samples;
       sampled = old.place.traffic.sampled;

@@ -1,4 +1,4 @@
-use Rattle.std.proofs.Common.{[], length, refl, sym, ap, subst}
+use Rattle.std.proofs.Common.{length, refl, sym, ap, subst}
 use Rattle.wl_node.specs.declared.setup.NodeSetup.{NodeSetup}
 use Rattle.wl_node.specs.History.{History, no_history}
 use Rattle.wl_node.specs.Kept.{FitsHistory}
@@ -13,15 +13,15 @@ returns-clause-place c =
       drive = refl;
       quanta = refl;
       syncs = record { phases = λ on. c.in_ok-with_capacity.ensures.items; totals = c.none.ensures; hards = refl };
-      same = sym c.in_ok-new.ensures.keeps;
+      same = sym c.in_ok-new-2.ensures.keeps;
       traffic = record {
         machine = c.new-2.ensures;
         counters = c.new-3.ensures;
         pending = refl;
-        unsent = c.in_ok-new-2.ensures;
+        unsent = c.in_ok-new.ensures;
         errors = refl;
-        samples = λ on. c.in_ok-new.ensures.samples;
-        sampled = c.in_ok-new.ensures.none;
+        samples = λ on. c.in_ok-new-2.ensures.samples;
+        sampled = c.in_ok-new-2.ensures.none;
         frames = c.in_ok-with_capacity-2.ensures.items;
         sends = λ frame h. cc;
       };

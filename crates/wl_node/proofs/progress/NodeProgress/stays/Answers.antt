@@ -35,4 +35,4 @@ stay_is c levels old =
 
 pub returns-clause-stands : goal.returns-clause-stands
 returns-clause-stands c m less levels old =
-    c.drive_laws.ensures.stays c.args.setup.now levels m (let e = stay_is (goal.at.returns-clause-stands c).After-max levels old in omega arith)
+    c.staying_laws.ensures.stays c.args.setup.now levels m (let e = stay_is (goal.at.returns-clause-stands c).After-max levels old in omega arith)

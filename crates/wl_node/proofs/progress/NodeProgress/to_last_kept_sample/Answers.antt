@@ -1,10 +1,11 @@
 -- The quanta up to some samples that the machine only keeps, or none.
 use Rattle.std.proofs.Common.{◌≡◌, ◌∙◌, ℕ, suc, ◌+◌, ◌-◌, ◌*◌, ◌<◌, ◌≤◌, ◌++◌, replicate, refl, sym, ap, subst, arith, append-nil}
 use Rattle.std.proofs.Math.Nat.{mul-le-mul_left}
+use Rattle.wl_node.specs.Unsent.{IsChosen, IsUnsent}
 use Rattle.wl_sync.specs.Running.{Running}
 use Rattle.wl_sync.specs.Skips.{sampled_bits, SamplesAfter}
 use Rattle.wl_node.specs.declared.progress.NodeProgress.{NodeProgress}
-use Rattle.wl_node.specs.History.{staying_history}
+use Rattle.wl_node.specs.History.{staying_history, unsent_of}
 use Rattle.wl_node.specs.Kept.{IsProgress}
 use Rattle.wl_node.specs.KeptBits.{AreMore}
 use Rattle.wl_node.specs.Runs.{samples_by, samples_from}
@@ -37,7 +38,7 @@ returns-then-bits-eq0-clause-place c setup levels was =
               (subst (λ k. AreMore (staying_history setup levels).inputs c.args.level k (staying_history setup levels).inputs) (sym none) refl);
           counters = e.counters ∙ kept.counters;
           pending = e.pending ∙ kept.pending;
-          sent = e.sent ∙ kept.sent;
+          unsent = subst (λ u. IsUnsent setup u (staying_history setup levels).frames) (sym e.unsent) kept.unsent;
           errors = e.errors ∙ kept.errors;
           samples = λ on.
               e.samples (sym e.keeps ∙ on)
@@ -46,7 +47,7 @@ returns-then-bits-eq0-clause-place c setup levels was =
               ∙ append-nil (samples_by c.args.self.now.traffic.samples.runs.items) ∙ kept.samples (sym e.keeps ∙ on);
           sampled = (let n = e.count in let k = kept.sampled in omega (arith, n, none, k));
           frames = ap (λ f. f.items) e.frames ∙ kept.frames;
-          sends = kept.sends;
+          sends = λ frame f. subst (λ u. IsChosen setup.order (unsent_of setup (staying_history setup levels)) frame u.place) (sym e.unsent) (kept.sends frame f);
         };
       };
     })
@@ -89,7 +90,7 @@ returns-clause-place c setup levels was =
     subst (λ (q : ℕ). IsProgress setup now (levels ++ replicate q c.args.level)) (quanta c)
     (kept_place setup c.args.level c.args.self.now c.args.before (bit c) (n c) (after c) c.keep_bits-bits.new.self.machine (wide c) (some c) c.requires.recessive (clocks c) e.kept levels was now
     (c.sample_bits.ensures.clock ∙ sym (clock_some c.args.self.now.clock (after c) (n c) (some c))) refl (ap (λ q. c.args.self.now.quanta + q) (sym (quanta c))) refl
-    refl e.counters e.pending e.sent e.errors e.frames e.keeps e.samples e.count)
+    refl e.counters e.pending e.unsent e.errors e.frames e.keeps e.samples e.count)
 
 pub returns-clause-drive : goal.returns-clause-drive
 returns-clause-drive c setup m less levels was =

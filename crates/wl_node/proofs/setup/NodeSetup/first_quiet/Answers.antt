@@ -1,23 +1,23 @@
-use Rattle.std.proofs.Common.{◌≡◌, ◌∙◌, suc, ◌+◌, ap, sym, refl, arith, min, [], ℕ, false, true}
+use Rattle.std.proofs.Common.{◌≡◌, ◌∙◌, suc, ◌+◌, ap, sym, refl, arith, min, cond, [], ℕ, Option, None, Some, false, true}
+use Rattle.std.proofs.lemmas.Bool.{le-ltb}
 use Rattle.wl_segments.specs.Lengths.{least_way}
 use Rattle.wl_node.specs.declared.setup.NodeSetup.{NodeSetup}
 use Rattle.wl_node.specs.History.{staying_history, no_history}
 use Rattle.wl_node.specs.Limits.{most_quiet}
-use Rattle.wl_node.specs.Quiet.{floor_by, floor_and_silence, is_waiting, promise_by, quiet_of}
+use Rattle.wl_node.specs.Quiet.{floor_by, floor_and_silence, is_waiting, promise_by, quiet_at, quiet_of, quiet_until}
 use Rattle.wl_node.proofs.setup.NodeSetup.first_quiet.Goals as goal
 
 -- A node that has run nothing drives recessive, and promises the same whether it may be handed a head or not.
 both : (setup : NodeSetup) (longer least : ℕ) → longer ≡ promise_by false setup no_history → least ≡ min longer most_quiet → least ≡ quiet_of setup []
 unfolding quiet_of staying_history
-both setup longer least e f = by setup.until setup.order refl
+both setup longer least e f = by setup.until
   where
-    waits : (order : QueueOrder) → setup.order ≡ order → promise_by (is_waiting setup no_history) setup no_history ≡ promise_by false setup no_history
-    waits Fifo g = ?
-    waits Priority g = ?
+    here : least ≡ quiet_at setup no_history
+    here = (let g : promise_by (is_waiting setup no_history) setup no_history ≡ promise_by false setup no_history = refl in omega arith)
 
-    by : (until : Option ℕ) (order : QueueOrder) → setup.order ≡ order → least ≡ quiet_until until setup []
-    by None order g = (let w = waits order g in omega arith)
-    by (Some n) order g = (let w = waits order g in omega arith)
+    by : (until : Option ℕ) → least ≡ quiet_until until setup []
+    by None = here
+    by (Some n) = here ∙ sym (ap (λ b. cond b most_quiet (quiet_at setup no_history)) (le-ltb n 0 (omega arith)))
 
 pub returns-clause-value : goal.returns-clause-value
 unfolding most_quiet

@@ -5,5 +5,5 @@ use Rattle.wl_node.proofs.staying_node.StayingNode.back.Goals as goal
 pub invariant_of-self : goal.invariant_of-self
 invariant_of-self c = record {
   fits = c.back.ensures.fits;
-  reached = ∥∥₁_map c.requires (λ (levels, more, on). (levels, c.back.ensures.place c.args.self.now.setup levels more on.marked on.stands));
+  reached = ∥∥₁_map c.requires (λ (levels, more, marked, stands). (levels, c.back.ensures.place levels more marked stands));
 }

@@ -6,5 +6,5 @@ use Rattle.wl_node.proofs.staying_node.StayingNode.forth.Goals as goal
 pub invariant_of-self : goal.invariant_of-self
 invariant_of-self c = record {
   fits = c.forth.ensures.fits;
-  reached = ∥∥₁_map c.requires (λ (levels, more, ahead). (levels ++ more, c.forth.ensures.place c.args.self.now.setup levels more ahead.marked ahead.stands));
+  reached = ∥∥₁_map c.requires (λ (levels, more, stands, marked). (levels ++ more, c.forth.ensures.place c.args.self.now.setup levels more marked stands));
 }

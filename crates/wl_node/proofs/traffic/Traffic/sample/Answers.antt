@@ -27,7 +27,7 @@ returns-then-not-is_first_ready-clause-traffic c h n old =
     let unsent : c.frames.result.now ≡ unsent_of setup h = c.frames.ensures ∙ old.unsent.left in
     let head : head_at_next setup h ≡ None =
     no_head setup.order (unsent_of setup h) (length h.seen)
-    (ap (is_first_ready (unsent_of setup h)) n ∙ ap (λ u. is_first_ready u c.args.quantum) (sym unsent) ∙ sym c.is_first_ready.ensures ∙ c.if-is_first_ready.false) in
+    (ap (is_first_ready (unsent_of setup h)) n ∙ ap (λ u. is_first_ready u c.args.quantum) (sym unsent) ∙ sym c.is_first_ready.ensures ∙ c.if-not-is_first_ready.true) in
     subst (λ l. IsTraffic setup now (history_after_sample setup h l)) (sym level)
     (rests setup h head (sym (c.is_free.ensures.sort h.inputs old.machine) ∙ c.if-is_free.true) c.args.self.now now old refl refl refl refl refl refl
     (record {

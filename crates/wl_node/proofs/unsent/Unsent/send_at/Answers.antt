@@ -1,5 +1,4 @@
-use Rattle.std.proofs.Common.{◌≡◌, ◌∙◌, ◌+◌, ◌<◌, ◌++◌, suc, Some, length, take, drop, ap, sym, arith, add-one}
-use Rattle.std.proofs.Math.ListN.{get_or}
+use Rattle.std.proofs.Common.{◌∙◌, ◌++◌, Some, take, drop, ap, sym, arith, add-one}
 use Rattle.std.proofs.lemmas.List.{length-drop, get_or-drop}
 use Rattle.std.proofs.lemmas.Option.{get_or_from_slice_get}
 use Rattle.wl_node.proofs.Unsents.{IsTakenAt, taken_at}
@@ -20,6 +19,7 @@ returns-clause-sent c frame e =
     let line = c.args.self.now.line.items in
     let at : IsTakenAt frame (drop c.args.self.now.sent line) c.args.place = taken_at frame (drop c.args.self.now.sent line) c.args.place e in
     let entry = get_or_from_slice_get (drop c.args.self.now.sent line) c.args.place at.entry c.index.result.now at.there in
-    let is = c.index.ensures ∙ (sym (get_or-drop c.args.self.now.sent line c.args.place c.index.result.now) ∙ entry) in
-    (ap (λ q. Some q.frame) is ∙ ap Some at.is,
-    c.take_out.ensures.left ∙ (ap (λ n. take c.args.place (drop c.args.self.now.sent line) ++ drop n (drop c.args.self.now.sent line)) (add-one c.args.place) ∙ sym at.left))
+    let is = c.index.ensures ∙ (sym (get_or-drop c.args.self.now.sent line c.args.place c.index.result.now) ∙ entry) in (
+      ap (λ q. Some q.frame) is ∙ ap Some at.is,
+      c.take_out.ensures.left ∙ (ap (λ n. take c.args.place (drop c.args.self.now.sent line) ++ drop n (drop c.args.self.now.sent line)) (add-one c.args.place) ∙ sym at.left),
+    )
