@@ -1,5 +1,6 @@
 -- The plans that the law on one sender covers, if their clocks have one rate each. This project's.
 use Rattle.std.specs.Prelude.{ℕ, ◌==◌, ◌&&◌, ◌||◌, nat_lt, not, Bool, false, length, if◌then◌else◌}
+use Rattle.std.specs.Option.{is_some}
 use Rattle.wl_topology.specs.Driven.{any_below}
 use Rattle.wl_plan.specs.declared.plan.Plan.{Plan}
 use Rattle.wl_plan.specs.PlanLine.{setup_at}
@@ -12,9 +13,13 @@ finds_one_busy plan i =
     any_below (length plan.nodes)
     (λ j. not (j == i) && not (is_ready_from (setup_at plan i) (setup_at plan i).queue (idle_at (setup_at plan j))))
 
+-- the node leaves the bus at some quantum
+abbrev pub leaves : Plan → ℕ → Bool
+leaves plan i = is_some (setup_at plan i).until
+
 -- a node for the sake of which the law says nothing of the plan
 abbrev pub is_uncovered : Plan → ℕ → Bool
-is_uncovered plan i = only_listens plan.topology i || finds_one_busy plan i
+is_uncovered plan i = only_listens plan.topology i || (leaves plan i || finds_one_busy plan i)
 
 -- two nodes or more, none of which is so, and no disturbance
 abbrev pub is_covered : Plan → Bool

@@ -21,7 +21,7 @@ mod terms;
 mod verdict;
 
 pub use condition::{Failure, Inequality, Senders, Sides};
-pub use covered::{all_speak, finds_one_busy, is_covered};
+pub use covered::{all_speak, finds_one_busy, is_covered, leaves};
 pub use family::{Change, Family, Member, Setting, Source, only_listens};
 pub use lack::{Lack, Shortage};
 pub use laws::{condition_laws, room_law, search_laws};

@@ -1,4 +1,5 @@
 pub mod Beginning
+pub mod Deciding
 pub mod Going
 pub mod Lasts
 pub mod Plans

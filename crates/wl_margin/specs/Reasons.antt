@@ -8,7 +8,7 @@ use Rattle.wl_plan.specs.declared.plan.Plan.{Plan}
 use Rattle.wl_plan.specs.PlanLine.{setup_at}
 use Rattle.wl_setup.specs.declared.bus.Deviation.{Deviation}
 use Rattle.wl_setup.specs.Names.{name_of}
-use Rattle.wl_bound.specs.Covered.{finds_one_busy}
+use Rattle.wl_bound.specs.Covered.{finds_one_busy, leaves}
 use Rattle.wl_bound.specs.Families.{Buses, only_listens}
 use Rattle.wl_bound.specs.Oscillators.{Pace}
 use Rattle.wl_bound.specs.Terms.{greatest}
@@ -24,7 +24,7 @@ use Rattle.wl_margin.specs.declared.paces.Stray.{Stray}
 use Rattle.wl_margin.specs.declared.reasons.Asked.{Asked}
 use Rattle.wl_margin.specs.declared.reasons.Asked.TheVariants.{ThisPlan, AllNodes}
 use Rattle.wl_margin.specs.declared.reasons.Cause.{Cause}
-use Rattle.wl_margin.specs.declared.reasons.Cause.TheVariants.{Turning, Disturbed, Listening, Lacking, Waiting}
+use Rattle.wl_margin.specs.declared.reasons.Cause.TheVariants.{Turning, Disturbed, Leaving, Listening, Lacking, Waiting}
 
 -- the line of a clock beyond its tolerance: the ticks of some quanta, and the ticks that are within it
 abbrev pub beyond_words : List ℕ → ℕ → List ℕ
@@ -46,13 +46,17 @@ astray_line a p (Some stray) = astray_words a p stray
 abbrev pub first_listener : Plan → Option ℕ
 first_listener plan = if nat_lt (length plan.nodes) 2 then None else first_place (only_listens plan.topology) (length plan.nodes)
 
+-- the first node that leaves the bus
+abbrev pub first_leaver : Plan → Option ℕ
+first_leaver plan = first_place (leaves plan) (length plan.nodes)
+
 -- The first cause that there is. The plan's own disturbances and times count if it alone is asked about; what a bus lacks goes before these times.
 abbrev pub cause_at : Option ℕ → (ℕ → Cause) → Cause → Cause
 cause_at None cause other = other
 cause_at (Some i) cause other = cause i
 
 abbrev pub of_line : Asked → Plan → Cause → Cause
-of_line ThisPlan plan other = if nat_lt 0 (length plan.disturbances) then Disturbed else other
+of_line ThisPlan plan other = if nat_lt 0 (length plan.disturbances) then Disturbed else cause_at (first_leaver plan) Leaving other
 of_line AllNodes plan other = other
 
 abbrev pub of_room : Option Lack → Cause
@@ -146,6 +150,7 @@ lack_words tick f names lack = lack_sentence (measure_of tick f lack.node) names
 abbrev pub cause_words : ℕ → Buses → Plan → List (List ℕ) → Cause → List ℕ
 cause_words tick f plan names (Turning i) = joined (codes "the clock of " ∷ name_of names i ∷ codes " has several rates" ∷ [])
 cause_words tick f plan names Disturbed = codes "the plan has a disturbance"
+cause_words tick f plan names (Leaving i) = joined (name_of names i ∷ codes " leaves the bus" ∷ [])
 cause_words tick f plan names (Listening i) = joined (name_of names i ∷ codes " only listens" ∷ [])
 cause_words tick f plan names (Lacking lack) = lack_words tick f names lack
 cause_words tick f plan names Waiting = waiting_words plan names

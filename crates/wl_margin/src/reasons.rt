@@ -5,14 +5,15 @@ ghost use Rattle.wl_topology.specs.Driven.{any_below};
 ghost use Rattle.wl_bound.specs.Covered.{finds_one_busy};
 ghost use Rattle.wl_margin.specs.Pieces.{each_below};
 ghost use Rattle.wl_margin.specs.Sentences.{amount_words};
-ghost use Rattle.wl_margin.specs.Reasons.{any_cause, cause_before, cause_words, chase_words, first_listener, idle_but, idle_quantum, is_kept_by, kept_words, lack_sentence, look_words, one_cause, quantum_words, ready_words, resting_words, astray_line, astray_words, beyond_words, taken_words, waiting_words};
+ghost use Rattle.wl_margin.specs.Reasons.{any_cause, cause_before, cause_words, chase_words, first_leaver, first_listener, idle_but, idle_quantum, is_kept_by, kept_words, lack_sentence, look_words, of_line, one_cause, quantum_words, ready_words, resting_words, astray_line, astray_words, beyond_words, taken_words, waiting_words};
 
 use crate::paces::{Stray, first_turning, least_ticks, most_ticks};
 use crate::sentences::{Amount, push_drift, push_late, push_loop};
 use crate::units::{Units, units_at};
 use std::alloc::AllocError;
 use wl_bound::{
-    Family, Lack, Oscillator, Shortage, finds_one_busy, idle_at, is_ready_from, listens,
+    Family, Lack, Oscillator, Shortage, finds_one_busy, idle_at, is_ready_from, leaves,
+    listens,
 };
 use wl_plan::CheckedPlan;
 use wl_setup::{Deviation, Names};
@@ -33,6 +34,8 @@ pub(crate) enum Cause {
     Turning(u8),
     /// A disturbance is in the plan.
     Disturbed,
+    /// This node leaves the bus.
+    Leaving(u8),
     /// This node only listens.
     Listening(u8),
     /// The bus has no room.
@@ -57,6 +60,35 @@ fn first_listener(plan: &CheckedPlan) -> Option<u8>
     first
 }
 
+/// Returns the first node that leaves the bus.
+fn first_leaver(plan: &CheckedPlan) -> Option<u8>
+    ensures { result ≡ first_leaver plan.now }
+{
+    let mut first = None;
+    for i in 0..plan.nodes() {
+        if first.is_none() && leaves(plan, i) {
+            first = Some(i);
+        }
+    }
+    first
+}
+
+/// Returns the first cause that lies in the plan's own line and times, if it alone is asked about, else the other one.
+fn of_line(asked: Asked, plan: &CheckedPlan, other: Cause) -> Cause
+    ensures { result ≡ of_line asked plan.now other }
+{
+    if asked == Asked::AllNodes {
+        return other;
+    }
+    if plan.disturbances.len() > 0 {
+        return Cause::Disturbed;
+    }
+    match first_leaver(plan) {
+        Some(i) => Cause::Leaving(i),
+        None => other,
+    }
+}
+
 /// Returns the first cause that lies in the plan's nodes and on its line, else the other one.
 fn cause_before(asked: Asked, deviations: &[Deviation], plan: &CheckedPlan, other: Cause) -> Cause
     requires deviations { length deviations.now ≡ length plan.now.nodes }
@@ -65,13 +97,11 @@ fn cause_before(asked: Asked, deviations: &[Deviation], plan: &CheckedPlan, othe
     if let Some(i) = first_turning(deviations, plan) {
         return Cause::Turning(i);
     }
-    if asked == Asked::ThisPlan && plan.disturbances.len() > 0 {
-        return Cause::Disturbed;
-    }
-    match first_listener(plan) {
+    let listening = match first_listener(plan) {
         Some(i) => Cause::Listening(i),
         None => other,
-    }
+    };
+    of_line(asked, plan, listening)
 }
 
 /// Returns why it isn't proved for any senders.
@@ -303,6 +333,10 @@ pub(crate) fn push_cause(
             write!(text, "the clock of {a} has several rates")
         }
         Cause::Disturbed => text.push_str("the plan has a disturbance"),
+        Cause::Leaving(i) => {
+            let a = names.name_of(i as usize);
+            write!(text, "{a} leaves the bus")
+        }
         Cause::Listening(i) => {
             let a = names.name_of(i as usize);
             write!(text, "{a} only listens")

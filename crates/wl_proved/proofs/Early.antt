@@ -1,22 +1,22 @@
 -- On a plan that ends late enough a lone sender has no frame left.
-use Rattle.std.proofs.Common.{◌≡◌, refl, sym, ap, subst, inl, inr, ℕ, zero, suc, ◌+◌, ◌*◌, ◌<◌, ◌≤◌, List, [], ◌∷◌, All, get_or, length, drop, cond, arith}
-use Rattle.std.specs.Prelude.{count_by}
+use Rattle.std.proofs.Common.{◌≡◌, ◌≢◌, ◌∙◌, refl, sym, ap, subst, inl, inr, ℕ, zero, suc, ◌+◌, ◌*◌, ◌<◌, ◌≤◌, List, All, length, drop, cond, arith}
 use Rattle.std.proofs.lemmas.Bool.{cases_eq, cases_lt, eq-eqb}
-use Rattle.std.proofs.lemmas.List.{length-drop, length-map}
+use Rattle.std.proofs.lemmas.List.{length-map}
 use Rattle.std.proofs.Math.Nat.{mul-le-mul_right}
 use Rattle.wl_level.specs.declared.Level.{Level}
 use Rattle.wl_segments.specs.Lengths.{bit_quanta}
 use Rattle.wl_node.specs.declared.setup.Queued.{Queued}
-use Rattle.wl_node.specs.History.{history_of, is_sent}
+use Rattle.wl_node.specs.History.{history_of, staying_history, unsent_of}
+use Rattle.wl_node.proofs.Callers.{stays_on}
 use Rattle.wl_plan.specs.declared.plan.Plan.{Plan}
 use Rattle.wl_plan.specs.PlanLine.{line_of, setup_at}
 use Rattle.wl_plan.specs.Simulation.{AreInside, ran, seen}
 use Rattle.wl_plan.specs.SimulationLaws.{SimulationLaws}
 use Rattle.wl_plan.specs.Sound.{IsCausal}
 use Rattle.wl_phase.specs.Clocks.{Steady}
-use Rattle.wl_serial.specs.Outcome.{history_at_end, node_outcome_of, outcome_of}
+use Rattle.wl_serial.specs.Outcome.{node_outcome_of, outcome_of}
 use Rattle.wl_buses.specs.OneSender.Clean.{HasOneSender, bus_with}
-use Rattle.wl_buses.specs.OneSender.Through.{AreFrames, GetThrough, due_quantum}
+use Rattle.wl_buses.specs.OneSender.Through.{GetThrough, due_quantum}
 use Rattle.wl_buses.specs.BothProofs.Queues.{first_ready}
 use Rattle.wl_buses.specs.OneFrame.Plans.{IsPlanOf}
 use Rattle.wl_buses.specs.OneFrame.Stations.{Stations}
@@ -24,13 +24,7 @@ use Rattle.wl_proved.specs.LateEnds.{EndsLate, frames_below}
 use Rattle.wl_proved.specs.PlansOfFamily.{SendsAlone}
 use Rattle.wl_proved.proofs.Ends.{none_unsent}
 use Rattle.wl_proved.proofs.Lasting as lasting
-use Rattle.wl_proved.proofs.Queues.{no_frame}
-
--- a queue goes on with this frame
-drop_here : (queue : List Queued) (n : ℕ) → n < length queue → (more : List Queued) × (drop n queue ≡ get_or queue n no_frame ∷ more)
-drop_here [] n h = absurd (omega arith)
-drop_here (q ∷ more) zero h = (more, refl)
-drop_here (q ∷ more) (suc n) h = drop_here more n (omega arith)
+use Rattle.wl_frame.specs.Grammar.{Content}
 
 -- the frames of one node are some of all
 one_of_all : (plan : Plan) (i m : ℕ) → i < m → length (setup_at plan i).queue ≤ frames_below plan m
@@ -41,8 +35,8 @@ one_of_all plan i (suc m) h = elim (cases_eq i m) [
 ]
 
 module _ (laws : SimulationLaws) (plan : Plan) (s : Stations) (of : IsPlanOf plan s) (late : EndsLate plan) (causal : IsCausal (line_of plan)) (clocks : ℕ → Steady) (sender : ℕ)
-    (one : HasOneSender plan sender) (alone : SendsAlone plan sender) (stuffed : ℕ → List Level) (frames : AreFrames (bus_with plan clocks sender one stuffed) stuffed)
-    (through : GetThrough (bus_with plan clocks sender one stuffed) stuffed) where
+    (one : HasOneSender plan sender) (alone : SendsAlone plan sender) (stuffed : Content → List Level)
+    (through : GetThrough (bus_with plan clocks sender one stuffed) (λ n. late.bits)) where
   abbrev T : ℕ → ℕ → ℕ
   T i k = lasting.T plan s of late causal i k
 
@@ -53,7 +47,7 @@ module _ (laws : SimulationLaws) (plan : Plan) (s : Stations) (of : IsPlanOf pla
   queue = (setup_at plan sender).queue
 
   abbrev due : ℕ → ℕ
-  due n = due_quantum (bus_with plan clocks sender one stuffed) stuffed n
+  due n = due_quantum (bus_with plan clocks sender one stuffed) (λ n. late.bits) n
 
   abbrev B : ℕ
   B = bit_quanta (setup_at plan sender).segments
@@ -74,10 +68,6 @@ module _ (laws : SimulationLaws) (plan : Plan) (s : Stations) (of : IsPlanOf pla
   due_by (suc n) h =
       let before = due_by n (omega arith) in
       let ready = lasting.ready_by plan s of late causal sender n there (omega arith) in
-      let here = drop_here queue n (omega arith) in
-      let frame = frames n (get_or queue n no_frame) here.0 here.1 in
-      let long = late.frames sender (stuffed n) one.inside n no_frame (omega arith) frame.1 in
-      let all : (length (stuffed n) + 15) * B ≤ (late.bits + 15) * B = mul-le-mul_right B (let r : length (stuffed n) + 15 ≤ late.bits + 15 = omega arith in r) in
       let wide : B * (late.bits + 15) ≤ late.width * (late.bits + 15) = mul-le-mul_right (late.bits + 15) narrow in
       elim (cases_lt (due n) (first_ready (drop n queue))) [
         | inl waits ↦
@@ -125,22 +115,37 @@ module _ (laws : SimulationLaws) (plan : Plan) (s : Stations) (of : IsPlanOf pla
     | inr late_enough ↦ late_enough
   ]
 
+  -- what a node has left at the end
+  at_end : (i : ℕ) → i < s.count → (node_outcome_of plan i).unsent ≡ length (unsent_of (setup_at plan i) (staying_history (setup_at plan i) (seen (line_of plan) i (ran (line_of plan) i plan.end))))
+  at_end i ni =
+      let inside : i < length plan.nodes = let e = of.count in omega arith in
+      ap (λ levels. length (unsent_of (setup_at plan i) (history_of (setup_at plan i) levels))) (laws.history_seen (line_of plan) i plan.end causal inside)
+      ∙ ap (λ h. length (unsent_of (setup_at plan i) h)) (stays_on (setup_at plan i) (seen (line_of plan) i (ran (line_of plan) i plan.end)) (of.stays i ni))
+
   -- what the sender has sent
   own_left : (node_outcome_of plan sender).unsent ≡ 0
   own_left =
       let sent = through.sent (length queue) k (let r : length queue ≤ length queue = omega arith in r) run in_time in
       let role = through.roles sender k one.inside run in
-      let own = ap (λ b. cond b (length (history_of (setup_at plan sender) (seen (line_of plan) sender k)).frames) 0) (eq-eqb sender sender refl) in
-      let long = length-map (history_of (setup_at plan sender) (seen (line_of plan) sender k)).frames (λ p. p.frame) in
-      let same = ap (λ levels. count_by is_sent (history_of (setup_at plan sender) levels).frames) (laws.history_seen (line_of plan) sender plan.end causal one.inside) in
-      let left = length-drop (count_by is_sent (history_at_end plan sender).frames) queue in
+      let own = ap (λ b. cond b (length (staying_history (setup_at plan sender) (seen (line_of plan) sender k)).frames) 0) (eq-eqb sender sender refl) in
+      let long = length-map (staying_history (setup_at plan sender) (seen (line_of plan) sender k)).frames (λ p. p.frame) in
+      let same = at_end sender there in
+      let left = through.unsent sender k one.inside run in
       omega arith
 
-  none_left : (i : ℕ) → (node_outcome_of plan i).unsent ≡ 0
-  none_left i = elim (cases_eq i sender) [
+  -- and what any other node has left, of no frames
+  other_left : (i : ℕ) → i < length plan.nodes → i ≢ sender → (node_outcome_of plan i).unsent ≡ 0
+  other_left i inside other =
+      let empty = ap length (alone i other) in
+      let left = through.unsent i (ran (line_of plan) i plan.end) inside (laws.ran_inside (line_of plan) i plan.end causal inside) in
+      let same = at_end i (let e = of.count in omega arith) in
+      omega arith
+
+  none_left : (i : ℕ) → i < length plan.nodes → (node_outcome_of plan i).unsent ≡ 0
+  none_left i inside = elim (cases_eq i sender) [
     | inl own ↦ subst (λ j. (node_outcome_of plan j).unsent ≡ 0) (sym own) own_left
-    | inr other ↦ (let empty = ap length (alone i other) in let left = length-drop (count_by is_sent (history_at_end plan i).frames) (setup_at plan i).queue in omega arith)
+    | inr other ↦ other_left i inside other
   ]
 
   pub all_empty : All (λ node. node.unsent ≡ 0) (outcome_of plan).nodes
-  all_empty = none_unsent plan (λ i inside. none_left i)
+  all_empty = none_unsent plan none_left

@@ -1,22 +1,18 @@
 -- On a plan that ends late enough no frame is left.
-use Rattle.std.proofs.Common.{◌≡◌, ◌∙◌, sym, ap, subst, inl, inr, ℕ, suc, ◌+◌, ◌-◌, ◌*◌, ◌<◌, ◌≤◌, ◌==◌, List, All, get_or, map, length, Bool, true, false, Some, option_map, cond, arith}
+use Rattle.std.proofs.Common.{◌≡◌, ◌∙◌, ap, subst, inl, inr, ℕ, suc, ◌+◌, ◌-◌, ◌*◌, ◌<◌, ◌≤◌, ◌==◌, All, length, Bool, true, false, Some, cond, arith}
 use Rattle.std.specs.Prelude.{count_by, slice_get}
 use Rattle.std.proofs.lemmas.Bool.{cases_lt}
-use Rattle.std.proofs.lemmas.List.{length-drop, length-map}
-use Rattle.std.proofs.lemmas.Option.{slice_get-get_or, slice_get_within, get_or_from_slice_get}
-use Rattle.std.proofs.lemmas.Option.{slice_get-map}
 use Rattle.std.proofs.Math.Nat.{mul-le-mul_right}
-use Rattle.wl_frame.specs.Grammar.{Content, bits_of}
+use Rattle.wl_frame.specs.Grammar.{bits_of}
 use Rattle.wl_frame.specs.Stuffing.{Stuffs}
-use Rattle.wl_node.specs.declared.setup.Queued.{Queued}
-use Rattle.wl_node.specs.History.{history_of, is_sent}
+use Rattle.wl_node.specs.History.{history_of, is_sent, unsent_of}
 use Rattle.wl_plan.specs.declared.plan.Plan.{Plan}
 use Rattle.wl_plan.specs.PlanLine.{line_of, setup_at}
 use Rattle.wl_plan.specs.Simulation.{AreInside, ran}
 use Rattle.wl_plan.specs.SimulationLaws.{SimulationLaws}
 use Rattle.wl_plan.specs.Sound.{IsCausal}
 use Rattle.wl_phase.specs.Clocks.{steady_tick}
-use Rattle.wl_serial.specs.Outcome.{history_at_end, outcome_of}
+use Rattle.wl_serial.specs.Outcome.{history_at_end, node_outcome_of, outcome_of}
 use Rattle.wl_buses.specs.OneFrame.Expected.{expected_bits, expected_sample}
 use Rattle.wl_buses.specs.OneFrame.Machines.{bus_levels}
 use Rattle.wl_buses.specs.OneFrame.Plans.{IsPlanOf}
@@ -24,31 +20,18 @@ use Rattle.wl_buses.specs.OneFrame.Stations.{Stations}
 use Rattle.wl_buses.specs.FirstFrame.FirstFrames.{HasFirstFrames, queues_of}
 use Rattle.wl_buses.specs.FrameEnd.Rests.{passing_bit}
 use Rattle.wl_buses.specs.NextFrames.Frames.{third_sample}
-use Rattle.wl_buses.specs.SentFrames.Winners.{won_by}
+use Rattle.wl_buses.specs.SentFrames.Winners.{passed_with, won_by}
+use Rattle.wl_buses.specs.SentFrames.Sending.{unsent_with}
 use Rattle.wl_buses.specs.CleanPlans.Clean.{AllGetThrough, plan_history}
-use Rattle.wl_buses.specs.CleanPlans.PlanFrames.{EmptyAllQueues}
-use Rattle.wl_buses.proofs.Callers.{levels_length}
+use Rattle.wl_buses.specs.CleanPlans.PlanFrames.{EmptyAllQueues, plan_decision_of}
+use Rattle.wl_buses.proofs.Callers.{count_sent, head_in, left_is, levels_length, many, unsent_in}
+use Rattle.wl_proved.proofs.Any as any
 use Rattle.wl_proved.specs.LateEnds.{EndsLate, frames_below}
-use Rattle.wl_proved.proofs.Counting.{few_frames, passed_long, sent_is_won}
+use Rattle.wl_proved.proofs.Counting.{few_frames}
 use Rattle.wl_proved.proofs.Ends.{none_unsent}
 use Rattle.wl_proved.proofs.Lasting as lasting
-use Rattle.wl_proved.proofs.Queues.{no_frame}
+use Rattle.wl_proved.proofs.Queues.{of_each}
 use Rattle.wl_proved.proofs.Starting.{place_low}
-
--- a frame of a queue, by its place
-queued_frame : (queue : List Queued) (n : ℕ) (c : Content) → slice_get (map (λ q. q.frame) queue) n ≡ Some c → (n < length queue) × ((get_or queue n no_frame).frame ≡ c)
-queued_frame queue n c is =
-    let within = slice_get_within (map (λ q. q.frame) queue) n c is in
-    let long = length-map queue (λ q. q.frame) in
-    let inside : n < length queue = omega arith in
-    (inside, get_frame (slice_get-get_or queue n no_frame inside))
-  where
-    get_frame : slice_get queue n ≡ Some (get_or queue n no_frame) → (get_or queue n no_frame).frame ≡ c
-    get_frame e =
-        let mapped : slice_get (map (λ q. q.frame) queue) n ≡ Some (get_or queue n no_frame).frame =
-        slice_get-map (λ q. q.frame) queue n ∙ ap (option_map (λ q. q.frame)) e in
-        sym (get_or_from_slice_get (map (λ q. q.frame) queue) n (get_or queue n no_frame).frame c mapped)
-        ∙ get_or_from_slice_get (map (λ q. q.frame) queue) n c c is
 
 module _ (laws : SimulationLaws) (plan : Plan) (s : Stations) (of : IsPlanOf plan s) (late : EndsLate plan) (causal : IsCausal (line_of plan)) (all : AllGetThrough plan s)
     (has : HasFirstFrames plan (queues_of plan) s)
@@ -56,25 +39,40 @@ module _ (laws : SimulationLaws) (plan : Plan) (s : Stations) (of : IsPlanOf pla
   winner_is : (n : ℕ) → n < all.bus.count → all.bus.by.winner n < s.count
   winner_is n less = subst (λ w. w < s.count) (all.bus.by.wins n less) (all.bus.are.each n less).won.inside
 
+  -- its frame is one of its queue
+  place_of : (n : ℕ) → n < all.bus.count → (place : ℕ) × (slice_get (queues_of plan (all.bus.by.winner n)) place ≡ Some (all.bus.by.content n))
+  place_of n less =
+      let h = all.handed n less in
+      let left = head_in (setup_at plan (all.bus.by.winner n)) (unsent_with s (setup_at plan) all.bus.frames all.bus.by.winner all.bus.by.content (all.bus.by.winner n) n)
+      (plan_decision_of plan s all.bus n less) (all.bus.by.content n) h in
+      unsent_in (setup_at plan (all.bus.by.winner n)) (passed_with s all.bus.frames all.bus.by.winner all.bus.by.content (all.bus.by.winner n) n) left.0 (all.bus.by.content n) left.1
+
   -- no frame has more bits
   few_bits : (n : ℕ) → n < all.bus.count → (all.bus.frames n).bits ≤ late.bits
   few_bits n less =
       let won = (all.bus.are.each n less).won in
-      let w = all.bus.by.winner n in
-      let queued = queued_frame (setup_at plan (all.bus.by.winner n)).queue (won_by all.bus.by.winner (all.bus.by.winner n) n) (all.bus.by.content n) (all.order n less) in
+      let place = place_of n less in
       let count = of.count in
       let inside = winner_is n less in
-      let stuffs : Stuffs (bus_levels s (expected_bits s (all.bus.frames n).outset) (all.bus.frames n).bits) (bits_of (get_or (setup_at plan (all.bus.by.winner n)).queue (won_by all.bus.by.winner (all.bus.by.winner n) n) no_frame).frame) =
-      subst (λ c. Stuffs (bus_levels s (expected_bits s (all.bus.frames n).outset) (all.bus.frames n).bits) (bits_of c)) (all.bus.by.wins_with n less ∙ sym queued.1) won.stuffs in
-      let most = late.frames (all.bus.by.winner n) (bus_levels s (expected_bits s (all.bus.frames n).outset) (all.bus.frames n).bits) (omega arith) (won_by all.bus.by.winner (all.bus.by.winner n) n) no_frame queued.0 stuffs in
+      let stuffs : Stuffs (bus_levels s (expected_bits s (all.bus.frames n).outset) (all.bus.frames n).bits) (bits_of (all.bus.by.content n)) =
+      subst (λ c. Stuffs (bus_levels s (expected_bits s (all.bus.frames n).outset) (all.bus.frames n).bits) (bits_of c)) (all.bus.by.wins_with n less) won.stuffs in
+      let most =
+      of_each (λ c. Stuffs (bus_levels s (expected_bits s (all.bus.frames n).outset) (all.bus.frames n).bits) (bits_of c)
+      → length (bus_levels s (expected_bits s (all.bus.frames n).outset) (all.bus.frames n).bits) ≤ late.bits) (setup_at plan (all.bus.by.winner n)).queue
+      (late.frames (all.bus.by.winner n) (bus_levels s (expected_bits s (all.bus.frames n).outset) (all.bus.frames n).bits) (omega arith)) place.0 (all.bus.by.content n) place.1 stuffs in
       let long = levels_length s (expected_bits s (all.bus.frames n).outset) (all.bus.frames n).bits in
+      omega arith
+
+  won_few : (i : ℕ) → won_by all.bus.by.winner i all.bus.count ≤ length (setup_at plan i).queue
+  won_few i =
+      let left = left_is s all.bus.frames all.bus.by.winner all.bus.by.content i (setup_at plan i) all.bus.count (any.own_handed plan s all i) all.bus.count (omega arith) in
       omega arith
 
   gone : (n i : ℕ) → n < all.bus.count → i < s.count → steady_tick (s.clocks i) (suc (third_sample s (all.bus.frames n) i)) < plan.end
   gone n i less ni =
       let by = lasting.gone_by plan s of late causal all has grows few_bits n less i ni in
       let count = of.count in
-      let total = few_frames all.bus.by.winner plan all.bus.by.content all.bus.count all.order (λ m h. (let inside = winner_is m h in omega arith)) in
+      let total = few_frames all.bus.by.winner plan all.bus.count won_few (λ m h. (let inside = winner_is m h in omega arith)) in
       let most : suc n * lasting.one_frame plan s of late causal ≤ frames_below plan (length plan.nodes) * lasting.one_frame plan s of late causal =
       mul-le-mul_right (lasting.one_frame plan s of late causal) (let r : suc n ≤ frames_below plan (length plan.nodes) = omega arith in r) in
       let end = late.late in
@@ -128,18 +126,18 @@ module _ (laws : SimulationLaws) (plan : Plan) (s : Stations) (of : IsPlanOf pla
         by_role true = omega arith
         by_role false = omega arith
 
-    pub none_left : count_by is_sent (history_at_end plan i).frames ≡ length (setup_at plan i).queue
+    pub none_left : (node_outcome_of plan i).unsent ≡ 0
     none_left =
         let x = all.passed i k inside run in
         let some = all.bus.some in
         let last = passed_by (all.bus.count - 1) (omega arith) in
-        let long = ap length x.2 ∙ passed_long s all.bus.frames all.bus.by.winner all.bus.by.content i x.0 in
+        let long = ap length x.2 ∙ many s all.bus.frames all.bus.by.winner all.bus.by.content i x.0 in
         let few = x.1 in
         let whole : x.0 ≡ all.bus.count = omega arith in
-        let same : (history_at_end plan i).frames ≡ (plan_history plan i k).frames = ap (λ levels. (history_of (setup_at plan i) levels).frames) (laws.history_seen (line_of plan) i plan.end causal ni) in
-        ap (count_by is_sent) (same ∙ x.2) ∙ sent_is_won s all.bus.frames all.bus.by.winner all.bus.by.content i x.0 ∙ ap (won_by all.bus.by.winner i) whole ∙ emptied i inside
+        let same : history_at_end plan i ≡ plan_history plan i k = ap (history_of (setup_at plan i)) (laws.history_seen (line_of plan) i plan.end causal ni) in
+        let sent = ap (count_by is_sent) x.2 ∙ count_sent s all.bus.frames all.bus.by.winner all.bus.by.content i x.0 ∙ ap (won_by all.bus.by.winner i) whole ∙ emptied i inside in
+        let left = any.unsent_at plan s all i k inside run in
+        ap (λ h. length (unsent_of (setup_at plan i) h)) same ∙ omega arith
 
   pub all_empty : All (λ node. node.unsent ≡ 0) (outcome_of plan).nodes
-  all_empty =
-      none_unsent plan
-      (λ i ni. (let sent = none_left i ni in let left = length-drop (count_by is_sent (history_at_end plan i).frames) (setup_at plan i).queue in omega arith))
+  all_empty = none_unsent plan none_left

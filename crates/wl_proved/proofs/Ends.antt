@@ -1,13 +1,12 @@
 -- What the outcome of a plan shows, by what each node was after its last quantum.
-use Rattle.std.proofs.Common.{◌≡◌, ◌∙◌, sym, subst, ℕ, ◌<◌, ◌≤◌, List, ◌++◌, All, get_or, length, map, Bool, Some, arith}
+use Rattle.std.proofs.Common.{◌≡◌, ◌∙◌, sym, subst, ℕ, ◌+◌, ◌<◌, List, ◌++◌, All, get_or, length, map, Bool, Some, arith}
 use Rattle.std.specs.Prelude.{count_by, slice_get}
-use Rattle.std.proofs.lemmas.List.{length-drop}
 use Rattle.std.proofs.lemmas.List.Elements.{All-map}
 use Rattle.std.proofs.lemmas.List.FromFn.{get_or-map-range_with_len, length-map-range_with_len}
 use Rattle.std.proofs.lemmas.Option.{get_or_from_slice_get, slice_get-get_or, slice_get_within}
 use Rattle.wl_confine.specs.Counts.{no_counts}
 use Rattle.wl_frame.specs.Grammar.{Content}
-use Rattle.wl_node.specs.History.{History, counters_of, error_count, history_of, is_sent}
+use Rattle.wl_node.specs.History.{History, counters_of, error_count, history_of, is_sent, unsent_of}
 use Rattle.wl_plan.specs.declared.plan.Plan.{Plan}
 use Rattle.wl_plan.specs.PlanLine.{line_of, setup_at}
 use Rattle.wl_plan.specs.Simulation.{AreInside, ran, seen}
@@ -16,6 +15,7 @@ use Rattle.wl_plan.specs.Sound.{IsCausal}
 use Rattle.wl_serial.specs.declared.outcome.NodeOutcome.{NodeOutcome}
 use Rattle.wl_serial.specs.Outcome.{history_at_end, node_outcome_of, node_totals, outcome_of, totals_of}
 use Rattle.wl_serial.specs.declared.outcome.NodeTotals.{NodeTotals}
+use Rattle.wl_buses.specs.BothProofs.Queues.{ComeFrom}
 use Rattle.wl_report.specs.Verdict.{CleanIsClean}
 use Rattle.wl_proved.specs.CleanRuns.{IsCleanNode, IsCleanRun, as_passing, frames_from, passing_of}
 
@@ -24,7 +24,7 @@ pub record IsCleanAt (plan : Plan) (bus : List (ℕ × Content)) (i : ℕ) (h : 
   pub errors : error_count h ≡ 0
   pub counters : counters_of h ≡ no_counts
   pub passed : (later : List (Bool × Content)) × (map as_passing h.frames ++ later ≡ map (passing_of i) bus)
-  pub few : count_by is_sent h.frames ≤ length (setup_at plan i).queue
+  pub unsent : count_by is_sent h.frames + length (unsent_of (setup_at plan i) h) ≡ length (setup_at plan i).queue
 
 -- no node has a frame left
 pub none_unsent : (plan : Plan) → ((i : ℕ) → i < length plan.nodes → (node_outcome_of plan i).unsent ≡ 0) → All (λ node. node.unsent ≡ 0) (outcome_of plan).nodes
@@ -65,14 +65,12 @@ module _ (laws : SimulationLaws) (verdicts : CleanIsClean) (plan : Plan) (causal
   own : (i : ℕ) → i < length plan.nodes → IsCleanNode plan bus i (node_outcome_of plan i)
   own i inside =
       let h = at_end i inside in
-      let few = h.few in
-      let left = length-drop (count_by is_sent (history_at_end plan i).frames) (setup_at plan i).queue in
-      record { errors = h.errors; counters = h.counters; passed = h.passed; unsent = omega arith }
+      record { errors = h.errors; counters = h.counters; passed = h.passed; unsent = h.unsent }
 
   node_clean : (i : ℕ) (node : NodeOutcome) → slice_get (outcome_of plan).nodes i ≡ Some node → IsCleanNode plan bus i node
   node_clean i node is = let x = node_is i node is in subst (IsCleanNode plan bus i) x.1 (own i x.0)
 
-  pub ends_clean : ((i : ℕ) → (later : List Content) × (frames_from i bus ++ later ≡ map (λ q. q.frame) (setup_at plan i).queue)) → IsCleanRun plan
+  pub ends_clean : ((i : ℕ) → (later : List Content) × ComeFrom (setup_at plan i) (frames_from i bus) later) → IsCleanRun plan
   ends_clean order = record {
     bus = bus;
     order = order;

@@ -1,12 +1,16 @@
 -- The frames on a bus as one list: its first parts, and of these what passes a node and what comes from a queue.
-use Rattle.std.proofs.Common.{◌≡◌, ◌∙◌, refl, sym, ap, inl, inr, ℕ, zero, suc, ◌+◌, ◌<◌, ◌≤◌, ◌==◌, cond, Bool, true, false, List, [], ◌∷◌, ◌++◌, take, drop, map, Some, arith, append-nil, append_assoc}
-use Rattle.std.specs.Prelude.{filter, slice_get}
+use Rattle.std.proofs.Common.{◌≡◌, ◌∙◌, refl, sym, ap, inl, inr, ℕ, zero, suc, ◌≤◌, ◌==◌, cond, Bool, true, false, List, [], ◌∷◌, ◌++◌, map, arith, append-nil, append_assoc}
+use Rattle.std.specs.Prelude.{filter}
 use Rattle.std.proofs.lemmas.Bool.{cases_eq}
-use Rattle.std.proofs.lemmas.List.{map-append, take-append-drop}
+use Rattle.std.proofs.lemmas.List.{map-append}
 use Rattle.std.proofs.lemmas.List.Elements.{filter-append}
 use Rattle.wl_frame.specs.Grammar.{Content}
-use Rattle.wl_buses.specs.SentFrames.Winners.{won_by}
-use Rattle.wl_buses.proofs.Callers.{won_next}
+use Rattle.wl_buses.specs.OneFrame.Stations.{Stations}
+use Rattle.wl_buses.specs.FrameEnd.Rests.{passed_frame}
+use Rattle.wl_buses.specs.NextFrames.Frames.{Frame}
+use Rattle.wl_buses.specs.SentFrames.Winners.{passed_with}
+use Rattle.wl_buses.specs.CleanPlans.Clean.{sent_contents}
+use Rattle.wl_buses.proofs.Callers.{sent_both, sent_one}
 use Rattle.wl_proved.specs.CleanRuns.{frames_from}
 
 module _ (winner : ℕ → ℕ) (content : ℕ → Content) where
@@ -33,15 +37,11 @@ module _ (winner : ℕ → ℕ) (content : ℕ → Content) where
     from_one true x = refl
     from_one false x = refl
 
-    module _ (queue : List Content) (count : ℕ) (order : (n : ℕ) → n < count → i ≡ winner n → slice_get queue (won_by winner i n) ≡ Some (content n)) where
-      pub from_queue : (n : ℕ) → n ≤ count → frames_from i (first_frames n) ≡ take (won_by winner i n) queue
-      from_queue zero few = refl
-      from_queue (suc n) few =
-          from_both (first_frames n) ((winner n, content n) ∷ []) ∙ ap (λ l. l ++ frames_from i ((winner n, content n) ∷ [])) (from_queue n (omega arith))
-          ∙ ap (λ l. take (won_by winner i n) queue ++ l) (from_one (i == winner n) (winner n, content n)) ∙ won_next winner content i queue n (order n few) (i == winner n) refl
-
-      pub left_in_queue : (later : List Content) × (frames_from i (first_frames count) ++ later ≡ queue)
-      left_in_queue = (
-        drop (won_by winner i count) queue,
-        ap (λ l. l ++ drop (won_by winner i count) queue) (from_queue count (omega arith)) ∙ take-append-drop (won_by winner i count) queue,
-      )
+    -- those of node i are what it has sent, as they have passed it
+    pub from_sent : (s : Stations) (frames : ℕ → Frame) (n : ℕ) → frames_from i (first_frames n) ≡ sent_contents (passed_with s frames winner content i n)
+    from_sent s frames zero = refl
+    from_sent s frames (suc n) =
+        from_both (first_frames n) ((winner n, content n) ∷ []) ∙ ap (λ l. l ++ frames_from i ((winner n, content n) ∷ [])) (from_sent s frames n)
+        ∙ ap (λ l. sent_contents (passed_with s frames winner content i n) ++ l) (from_one (i == winner n) (winner n, content n)
+        ∙ sym (sent_one s frames winner content i (i == winner n) (passed_frame s (frames n).outset (frames n).bits i (winner n) (content n))))
+        ∙ sym (sent_both s frames winner content i (passed_with s frames winner content i n) (passed_frame s (frames n).outset (frames n).bits i (winner n) (content n) ∷ []))

@@ -1,9 +1,8 @@
 -- By which tick the frames of a plan have gone.
-use Rattle.std.proofs.Common.{◌≡◌, ◌⊎◌, refl, sym, ap, subst, inl, inr, ℕ, zero, suc, ◌+◌, ◌-◌, ◌*◌, ◌<◌, ◌≤◌, max, List, [], ◌∷◌, get_or, length, drop, true, Some, arith}
+use Rattle.std.proofs.Common.{◌≡◌, ◌∙◌, ◌⊎◌, refl, sym, ap, subst, inl, inr, ℕ, zero, suc, ◌+◌, ◌-◌, ◌*◌, ◌<◌, ◌≤◌, max, List, [], ◌∷◌, get_or, length, drop, true, Some, arith}
 use Rattle.std.specs.Int.{div_ceil}
-use Rattle.std.proofs.lemmas.Bool.{cases_eq, cases_lt, lt-ltb, ltb-true}
+use Rattle.std.proofs.lemmas.Bool.{cases_eq, cases_lt, ltb-true}
 use Rattle.std.proofs.lemmas.Grind.{div_ceil_times}
-use Rattle.std.proofs.lemmas.List.{length-map}
 use Rattle.std.proofs.lemmas.List.Elements.{All-get_or}
 use Rattle.std.proofs.Math.Nat.{mul-le-mul_right, mul_assoc}
 use Rattle.wl_clock.specs.Timing.{tick_of}
@@ -25,6 +24,9 @@ use Rattle.wl_buses.specs.NextFrames.Frames.{resting_of, third_sample}
 use Rattle.wl_buses.specs.NextFrames.NextStarts.{Resting, due_next, edge_next, has_next, looks_next}
 use Rattle.wl_buses.specs.NextFrames.Queues.{decides_after}
 use Rattle.wl_buses.specs.CleanPlans.Clean.{AllGetThrough}
+use Rattle.wl_buses.specs.SentFrames.Sending.{unsent_with}
+use Rattle.wl_buses.specs.SentFrames.Winners.{passed_with}
+use Rattle.wl_buses.proofs.Callers.{has_is, has_none, wakes_one}
 use Rattle.wl_proved.specs.LateEnds.{EndsLate}
 use Rattle.wl_proved.proofs.Queues.{no_frame}
 use Rattle.wl_proved.proofs.Starting.{begins_by, place_high}
@@ -186,9 +188,7 @@ module _ (plan : Plan) (s : Stations) (of : IsPlanOf plan s) (late : EndsLate pl
         let k = has.has.some.0 in
         let nk = has.has.some.1 in
         let some = has.has.some.2 in
-        let queue = length-map (setup_at plan k).queue (λ q. q.frame) in
-        let long = ltb-true 0 (length (setup_at plan k).queue) some in
-        let sends : has_first w k ≡ true = lt-ltb 0 (length (queues_of plan k)) (omega arith) in
+        let sends : has_first w k ≡ true = has_is (setup_at plan) (queues_of plan) s of.lengths (λ j nj. (let e = ap bit_quanta (of.lengths j nj) in let some_j = some_bit j in omega arith)) has.has.begin k nk ∙ some in
         let zero_first : T i 0 ≤ T k (due_first w k) + s.delay k i =
         elim (cases_eq i k) [
           | inl own ↦ (let before = up k 0 (due_first w k) nk (omega arith) in let e = ap (λ j. T j 0) own in omega arith)
@@ -210,17 +210,21 @@ module _ (plan : Plan) (s : Stations) (of : IsPlanOf plan s) (late : EndsLate pl
       next_due k nk some =
           let q = all.bus.by.queues k n less nk in
           let wide_k = wide k nk in
-          let left = ltb-true (r.sent k) (length (r.frames k)) some in
-          let same = ap length q.frames in
-          let queue = length-map (setup_at plan k).queue (λ q. q.frame) in
-          let inside : r.sent k < length (setup_at plan k).queue = omega arith in
-          let due : due_next r k ≡ r.place k + suc (decides_after (s.lengths k) (r.place k) (first_ready (drop (r.sent k) (setup_at plan k).queue))) * bit_quanta (s.lengths k) =
-          ap (λ d. r.place k + suc d * bit_quanta (s.lengths k)) q.decides in
-          elim (due_soon (s.lengths k) (r.place k) (first_ready (drop (r.sent k) (setup_at plan k).queue)) (some_bit k)) [
+          let one = wakes_one (setup_at plan k) (passed_with s all.bus.frames all.bus.by.winner all.bus.by.content k (suc n)) (some_left k nk some) in
+          let due : due_next r k ≡ r.place k + suc (decides_after (s.lengths k) (r.place k) (first_ready (drop one.0 (setup_at plan k).queue))) * bit_quanta (s.lengths k) =
+          ap (λ d. r.place k + suc d * bit_quanta (s.lengths k)) (q.decides ∙ ap (decides_after (s.lengths k) (r.place k)) one.2) in
+          elim (due_soon (s.lengths k) (r.place k) (first_ready (drop one.0 (setup_at plan k).queue)) (some_bit k)) [
             | inl soon ↦ bits_later k (r.place k) (due_next r k) 11 x nk (omega arith) (rested_by k nk)
             | inr soon ↦
-                bits_later k (first_ready (drop (r.sent k) (setup_at plan k).queue)) (due_next r k) 11 x nk (omega arith) (let by = ready_by k (r.sent k) nk inside in omega arith)
+                bits_later k (first_ready (drop one.0 (setup_at plan k).queue)) (due_next r k) 11 x nk (omega arith) (let by = ready_by k one.0 nk one.1 in omega arith)
           ]
+        where
+          some_left : (k : ℕ) → k < s.count → has_next r k ≡ true → 0 < length (unsent_with s (setup_at plan) all.bus.frames all.bus.by.winner all.bus.by.content k (suc n))
+          some_left k nk some = by (unsent_with s (setup_at plan) all.bus.frames all.bus.by.winner all.bus.by.content k (suc n)) refl
+            where
+              by : (u : List Queued) → unsent_with s (setup_at plan) all.bus.frames all.bus.by.winner all.bus.by.content k (suc n) ≡ u → 0 < length (unsent_with s (setup_at plan) all.bus.frames all.bus.by.winner all.bus.by.content k (suc n))
+              by [] e = (let none = has_none r k (setup_at plan k) (unsent_with s (setup_at plan) all.bus.frames all.bus.by.winner all.bus.by.content k (suc n)) (all.bus.by.queues k n less nk) (some_bit k) e in cc)
+              by (q ∷ more) e = (let l = ap length e in omega arith)
 
       next_gone : (i : ℕ) → i < s.count → T i (suc (third_sample s (all.bus.frames (suc n)) i)) ≤ x + one_frame
       next_gone i ni =

@@ -1,7 +1,10 @@
 -- The frames of a queue with their stuff bits.
-use Rattle.std.proofs.Common.{◌≡◌, subst, false, ℕ, zero, suc, ◌<◌, List, [], ◌∷◌, All, get_or, length, drop, arith}
+use Rattle.std.proofs.Common.{◌≡◌, ◌∙◌, sym, ap, subst, false, ℕ, ◌<◌, List, [], All, get_or, length, map, Some, option_map, arith}
+use Rattle.std.specs.Prelude.{slice_get}
+use Rattle.std.proofs.lemmas.List.{length-map}
+use Rattle.std.proofs.lemmas.Option.{get_or_from_slice_get, slice_get-get_or, slice_get-map, slice_get_within}
 use Rattle.wl_level.specs.declared.Level.{Level}
-use Rattle.wl_frame.specs.Grammar.{IsContent, bits_of}
+use Rattle.wl_frame.specs.Grammar.{Content, bits_of}
 use Rattle.wl_frame.specs.Stuffing.{Stuffs}
 use Rattle.wl_node.specs.declared.setup.Queued.{Queued}
 use Rattle.wl_proved.proofs.Stuffings.{stuffing_of}
@@ -9,20 +12,28 @@ use Rattle.wl_proved.proofs.Stuffings.{stuffing_of}
 abbrev pub no_frame : Queued
 no_frame = record { frame = record { extended = false; id = 0; remote = false; dlc = 0; bytes = [] }; ready = 0 }
 
--- the n-th
-abbrev pub stuffed_of : List Queued → ℕ → List Level
-stuffed_of queue n = (stuffing_of (bits_of (get_or queue n no_frame).frame)).0
+-- a frame of a queue, by its place
+pub queued_frame : (queue : List Queued) (n : ℕ) (c : Content) → slice_get (map (λ q. q.frame) queue) n ≡ Some c → (n < length queue) × ((get_or queue n no_frame).frame ≡ c)
+queued_frame queue n c is =
+    let within = slice_get_within (map (λ q. q.frame) queue) n c is in
+    let long = length-map queue (λ q. q.frame) in
+    let inside : n < length queue = omega arith in
+    (inside, get_frame (slice_get-get_or queue n no_frame inside))
+  where
+    get_frame : slice_get queue n ≡ Some (get_or queue n no_frame) → (get_or queue n no_frame).frame ≡ c
+    get_frame e =
+        let mapped : slice_get (map (λ q. q.frame) queue) n ≡ Some (get_or queue n no_frame).frame =
+        slice_get-map (λ q. q.frame) queue n ∙ ap (option_map (λ q. q.frame)) e in
+        sym (get_or_from_slice_get (map (λ q. q.frame) queue) n (get_or queue n no_frame).frame c mapped)
+        ∙ get_or_from_slice_get (map (λ q. q.frame) queue) n c c is
 
-at_front : (queue more : List Queued) (n : ℕ) (q : Queued) → drop n queue ≡ q ∷ more → (n < length queue) × (get_or queue n no_frame ≡ q)
-at_front [] more zero q is = cc
-at_front [] more (suc n) q is = cc
-at_front (x ∷ later) more zero q is = (omega arith, cc)
-at_front (x ∷ later) more (suc n) q is = let rest = at_front later more n q is in let few = rest.0 in (omega arith, rest.1)
+-- what holds of each frame of a queue
+pub of_each : (P : Content → Type 0) (queue : List Queued) → All (λ q. P q.frame) queue → (n : ℕ) (c : Content) → slice_get (map (λ q. q.frame) queue) n ≡ Some c → P c
+of_each P queue each n c is = (let here = queued_frame queue n c is in subst P here.1 (each n no_frame here.0))
 
-pub frames_stuffed : (queue : List Queued) → All (λ q. IsContent q.frame) queue → (n : ℕ) (q : Queued) (more : List Queued) → drop n queue ≡ q ∷ more
-    → IsContent q.frame × Stuffs (stuffed_of queue n) (bits_of q.frame)
-frames_stuffed queue each n q more is =
-    let here = at_front queue more n q is in (
-      subst (λ x. IsContent x.frame) here.1 (each n no_frame here.0),
-      subst (λ x. Stuffs (stuffed_of queue n) (bits_of x.frame)) here.1 (stuffing_of (bits_of (get_or queue n no_frame).frame)).1,
-    )
+-- a frame with its stuff bits
+abbrev pub stuffed_of : Content → List Level
+stuffed_of c = (stuffing_of (bits_of c)).0
+
+pub stuffs_of : (c : Content) → Stuffs (stuffed_of c) (bits_of c)
+stuffs_of c = (stuffing_of (bits_of c)).1

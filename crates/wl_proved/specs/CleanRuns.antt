@@ -6,6 +6,7 @@ use Rattle.wl_node.specs.declared.setup.Passed.{Passed}
 use Rattle.wl_node.specs.History.{is_sent}
 use Rattle.wl_plan.specs.declared.plan.Plan.{Plan}
 use Rattle.wl_plan.specs.PlanLine.{setup_at}
+use Rattle.wl_buses.specs.BothProofs.Queues.{ComeFrom}
 use Rattle.wl_serial.specs.declared.outcome.NodeOutcome.{NodeOutcome}
 use Rattle.wl_serial.specs.Outcome.{outcome_of, totals_of}
 use Rattle.wl_report.specs.Lines.{line}
@@ -39,8 +40,8 @@ SaysClean plan = verdict_line (totals_of (outcome_of plan)) ≡ line (codes "ver
 -- The outcome of a plan's run. There are frames on the bus such that:
 pub record IsCleanRun (plan : Plan) : Type 0 where
   pub bus : List (ℕ × Content)
-  -- those of each sender are the first of its queue, in their order, and no other node has sent any,
-  pub order : (i : ℕ) → (later : List Content) × (frames_from i bus ++ later ≡ map (λ q. q.frame) (setup_at plan i).queue)
+  -- those of each sender are of its queue, each once, and the first in its order if that is first in, first out; no other node has sent any,
+  pub order : (i : ℕ) → (later : List Content) × ComeFrom (setup_at plan i) (frames_from i bus) later
   -- each node is clean,
   pub nodes : (i : ℕ) (node : NodeOutcome) → slice_get (outcome_of plan).nodes i ≡ Some node → IsCleanNode plan bus i node
   -- and the report's verdict is `clean` if the plan ends late enough that no frame is left.

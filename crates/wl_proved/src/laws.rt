@@ -33,6 +33,7 @@ pub fn plans_of_a_family_run_clean()
     wl_buses::one_sender::laws::a_covered_plan_is_one_of_these();
     wl_buses::one_sender::laws::one_sender_is_clean();
     wl_buses::clean_plans::laws::any_senders_are_clean();
+    no_frame_has_more_bits();
 }
 
 /// Law: a plan of such a family that ends late enough leaves no frame unsent.
@@ -76,7 +77,8 @@ pub fn no_frame_has_more_bits()
 
 /// Law: if the first line of a bus's margin says 'proved', the bus works. Let it say so for any senders. Then each plan of the family runs
 /// clean: in the outcome of its simulation no node has found an error, and all error counters are 0. What has passed each node are the first
-/// frames of one list, each sent by the node whose queue it is of, and received by all others. The report says `clean` if no frame is left,
+/// frames of one list, each sent by the node whose queue it is of, and received by all others. A node sends each frame of its queue once, and a
+/// queue that is first in, first out in its order. The report says `clean` if no frame is left,
 /// and none is left if the plan ends late enough. If the line says so for one sender at a time, it is so on each plan on which one node alone
 /// has frames. The plan that was judged is of its family.
 pub fn proved_means_clean()

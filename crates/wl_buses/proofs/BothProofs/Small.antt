@@ -1,7 +1,8 @@
 -- Small lemmas that both proofs use: of tests and numbers, of cables and clocks, and of a dominant sample.
-use Rattle.std.proofs.Common.{◌≡◌, ◌≢◌, refl, ap, ℕ, suc, ◌+◌, ◌*◌, ◌<◌, ◌≤◌, Bool, true, false, cond, not, ◌&&◌, ◌||◌, arith, length, subst}
+use Rattle.std.proofs.Common.{◌≡◌, ◌≢◌, refl, ap, ℕ, suc, ◌+◌, ◌*◌, ◌<◌, ◌≤◌, Bool, true, false, cond, not, ◌&&◌, ◌||◌, Option, Some, None, arith, length, subst}
 use Rattle.std.specs.Prelude.{◌==◌, nat_lt}
 use Rattle.std.specs.Int.{abs_diff}
+use Rattle.std.specs.Option.{is_some}
 use Rattle.std.proofs.lemmas.Bool.{and_right, eq-eqb, false_from_ne_true, not-true, or_parts}
 use Rattle.std.proofs.lemmas.List.Elements.{All-get_or}
 use Rattle.std.proofs.Math.Nat.{lt_of_mul-lt-mul_left, mul-le-mul_left, mul-le-mul_right}
@@ -20,7 +21,7 @@ use Rattle.wl_plan.specs.Checked.{IsChecked}
 use Rattle.wl_plan.specs.PlanLine.{no_setup, setup_at}
 use Rattle.wl_phase.specs.Clocks.{IsSteady, Steady, steady_tick, steady_timing}
 use Rattle.wl_phase.proofs.Callers.{floor_high}
-use Rattle.wl_bound.specs.Covered.{finds_one_busy, is_covered, is_uncovered}
+use Rattle.wl_bound.specs.Covered.{finds_one_busy, is_covered, is_uncovered, leaves}
 use Rattle.wl_bound.specs.Families.{only_listens}
 use Rattle.wl_bound.specs.Terms.{greatest}
 use Rattle.wl_bound.proofs.Greatest.{bounds_each}
@@ -90,9 +91,19 @@ pub passed : (v w : Bool) → cond v false (not w) ≡ true → (v ≡ false) ×
 passed false w e = (refl, not-true w e)
 passed true w e = cc
 
--- and each node of it speaks, and finds no other one busy
-pub covered_each : (plan : Plan) → is_covered plan ≡ true → (i : ℕ) → i < length plan.nodes → (only_listens plan.topology i ≡ false) × (finds_one_busy plan i ≡ false)
+-- and each node of it speaks, stays on the bus, and finds no other one busy
+pub covered_each : (plan : Plan) → is_covered plan ≡ true → (i : ℕ) → i < length plan.nodes
+    → (only_listens plan.topology i ≡ false) × (leaves plan i ≡ false) × (finds_one_busy plan i ≡ false)
 covered_each plan covered i less =
-    or_parts (only_listens plan.topology i) (finds_one_busy plan i)
-    (none_below (length plan.nodes) (is_uncovered plan)
-    (passed (nat_lt (length plan.nodes) 2 || nat_lt 0 (length plan.disturbances)) (any_below (length plan.nodes) (is_uncovered plan)) covered).1 i less)
+    let refusals = passed (nat_lt (length plan.nodes) 2 || nat_lt 0 (length plan.disturbances)) (any_below (length plan.nodes) (is_uncovered plan)) covered in
+    let each = or_parts (only_listens plan.topology i) (leaves plan i || finds_one_busy plan i) (none_below (length plan.nodes) (is_uncovered plan) refusals.1 i less) in
+    let rest = or_parts (leaves plan i) (finds_one_busy plan i) each.1 in
+    (each.0, rest.0, rest.1)
+
+-- without a quantum at which it leaves
+no_quantum : (until : Option ℕ) → is_some until ≡ false → until ≡ None
+no_quantum None e = refl
+no_quantum (Some n) e = cc
+
+pub covered_stays : (plan : Plan) → is_covered plan ≡ true → (i : ℕ) → i < length plan.nodes → (setup_at plan i).until ≡ None
+covered_stays plan covered i less = no_quantum (setup_at plan i).until (covered_each plan covered i less).1

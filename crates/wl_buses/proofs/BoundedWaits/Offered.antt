@@ -1,25 +1,32 @@
 -- What stations have to send before each frame of a line, by their queues, and when each decides to.
-use Rattle.std.proofs.Common.{◌≡◌, ◌≢◌, ◌∙◌, ◌⊎◌, inl, inr, refl, sym, ap, subst, ℕ, zero, suc, ◌+◌, ◌-◌, ◌*◌, ◌<◌, ◌≤◌, ◌&&◌, not, Bool, true, false, length, arith}
-use Rattle.std.specs.Prelude.{◌==◌, nat_lt}
+use Rattle.std.proofs.Common.{◌≡◌, ◌≢◌, ◌∙◌, ◌⊎◌, inl, inr, sym, ap, subst, ℕ, zero, suc, ◌+◌, ◌-◌, ◌*◌, ◌<◌, ◌≤◌, ◌&&◌, not, Bool, true, false, length, arith}
+use Rattle.std.specs.Prelude.{◌==◌, drop, nat_lt}
 use Rattle.std.specs.Int.{div_ceil}
-use Rattle.std.proofs.lemmas.Bool.{and_from, and_parts, both_ways, cases_Bool, cases_eq, cases_lt, eq-eqb, eqb-true, lt-ltb}
+use Rattle.std.proofs.lemmas.Bool.{and_from, and_parts, both_ways, cases_Bool, cases_eq, cases_lt, eq-eqb, eqb-true, le-ltb, lt-ltb}
+use Rattle.std.proofs.lemmas.List.{drop_all, length-drop}
 use Rattle.std.proofs.lemmas.Grind.{div_ceil_times}
 use Rattle.wl_segments.specs.Lengths.{Lengths, bit_quanta, sample_at}
 use Rattle.wl_topology.specs.Driven.{any_below}
 use Rattle.wl_topology.proofs.Callers.{any_from, any_one}
 use Rattle.wl_node.specs.declared.setup.NodeSetup.{NodeSetup}
-use Rattle.wl_buses.specs.BothProofs.Queues.{decides_at, queued_contents, ready_at}
+use Rattle.wl_buses.specs.BothProofs.Queues.{decides_at, queued_contents, ready_at, wakes_at}
+use Rattle.wl_buses.proofs.BothProofs.Heads.{fifo_unsent, same_length}
+use Rattle.wl_buses.proofs.FirstFrame.Deciding as waiting
+use Rattle.wl_buses.proofs.FirstFrame.Deciding.{whole_begins}
 use Rattle.wl_buses.specs.OneFrame.Expected.{expected_bits}
 use Rattle.wl_buses.specs.OneFrame.Starts.{Start}
 use Rattle.wl_buses.specs.OneFrame.Stations.{AreOnALine, AreStations, Stations}
-use Rattle.wl_buses.specs.FirstFrame.FirstStarts.{AreIdle, Waiting, first_start}
+use Rattle.wl_buses.specs.FirstFrame.FirstStarts.{AreIdle, Waiting, first_start, has_first}
 use Rattle.wl_buses.specs.NextFrames.Frames.{resting_of}
 use Rattle.wl_buses.specs.NextFrames.NextStarts.{AreResting, Resting, begins_next, has_next, start_next}
 use Rattle.wl_buses.specs.NextFrames.Queues.{decides_after}
-use Rattle.wl_buses.specs.SentFrames.Winners.{won_by}
+use Rattle.wl_buses.proofs.NextFrames.Queueing.{has_none, has_some}
+use Rattle.wl_buses.specs.SentFrames.Sending.{unsent_with}
+use Rattle.wl_buses.specs.SentFrames.Winners.{passed_with, won_by}
+use Rattle.wl_buses.proofs.SentFrames.Counting.{sent_by}
 use Rattle.wl_buses.specs.CleanLines.Lines.{FramesOfLine, HaveSegments, waiting_with}
 use Rattle.wl_buses.specs.TakesPart.Takes.{Offers, TakePart, first_offers, next_offers}
-use Rattle.wl_buses.specs.BoundedWaits.Messages.{AreReadyLate, entries}
+use Rattle.wl_buses.specs.BoundedWaits.Messages.{AreFifo, AreReadyLate, entries}
 
 -- the bit of a decision
 ceil_low : (x b : ℕ) → 0 < b → x ≤ div_ceil x b * b
@@ -111,7 +118,7 @@ module _ (setups : ℕ → NodeSetup) (s : Stations) (bus : FramesOfLine setups 
     pub ready : (i : ℕ) → i < s.count → turn i n < count_of i → ready_entry i (turn i n) ≤ offers.decision i
     pub soon : (i : ℕ) → i < s.count → turn i n < count_of i → ((start_of n).drives i ≡ false) ⊎ (gap_before n ≡ true) → offers.decision i < ready_entry i (turn i n) + bit_quanta (s.lengths i)
 
-  module _ (of : HaveSegments setups s) (are : AreStations s) where
+  module _ (of : HaveSegments setups s) (are : AreStations s) (fifo : AreFifo s setups) where
     abbrev pub Readies : Type 0
     Readies = (r : Resting) → AreOnALine r.stations → AreResting r → (i : ℕ) → i < r.stations.count → has_next r i ≡ true → r.decides i ≡ 0 → begins_next r i ≡ true
 
@@ -126,6 +133,11 @@ module _ (setups : ℕ → NodeSetup) (s : Stations) (bus : FramesOfLine setups 
 
     -- the first frame
     module _ (first : FirstParts) (idle : AreIdle (waiting_with setups s)) (late : AreReadyLate s setups) where
+      has_is_first : (i : ℕ) → i < s.count → has_first (waiting_with setups s) i ≡ has_entry i 0
+      has_is_first i inside =
+          waiting.has_is setups (λ i. queued_contents (setups i).queue) s of (λ i inside. (let e = ap bit_quanta (of i inside) in let some = long i inside in omega arith)) (λ i. whole_begins (setups i)) i inside
+          ∙ ap (nat_lt 0) (sym (same_length (setups i).queue))
+
       decides_first : (i : ℕ) → i < s.count → decides_at (setups i).segments (ready_entry i 0) ≡ decides_at (s.lengths i) (ready_entry i 0)
       decides_first i inside = ap (λ l. decides_at l (ready_entry i 0)) (sym (of i inside))
 
@@ -133,7 +145,7 @@ module _ (setups : ℕ → NodeSetup) (s : Stations) (bus : FramesOfLine setups 
       offered_first = record {
         offers = first_offers (waiting_with setups s);
         part = subst (λ o. TakePart s (first_offers (waiting_with setups s)) o.start) (sym bus.first) (first (waiting_with setups s) are.line idle);
-        has = λ i inside. refl;
+        has = has_is_first;
         frames = λ i inside. ap (λ o. o.frames i) bus.first;
         due = λ i inside. omega arith;
         ready = λ i inside some.
@@ -157,17 +169,32 @@ module _ (setups : ℕ → NodeSetup) (s : Stations) (bus : FramesOfLine setups 
       pub start_is : start_of (suc n) ≡ start_next r
       start_is = ap (λ o. o.start) (bus.are.next n less).is
 
-      sent_is : (i : ℕ) → i < s.count → r.sent i ≡ turn i (suc n)
-      sent_is i inside = bus.by.sent i n less inside
+      -- what is left of a queue
+      left_is : (i : ℕ) → i < s.count → unsent_with s setups bus.frames bus.by.winner bus.by.content i (suc n) ≡ drop (turn i (suc n)) (setups i).queue
+      left_is i inside =
+          fifo_unsent (setups i) (passed_with s bus.frames bus.by.winner bus.by.content i (suc n)) (fifo i inside)
+          ∙ ap (λ k. drop k (setups i).queue) (sent_by s bus.frames bus.by.winner bus.by.content i (suc n))
 
       frames_are : (i : ℕ) → i < s.count → r.frames i ≡ queued_contents (setups i).queue
       frames_are i inside = (bus.by.queues i n less inside).frames
 
       pub has_is : (i : ℕ) → i < s.count → has_next r i ≡ has_entry i (suc n)
-      has_is i inside = ap (λ k. nat_lt k (length (r.frames i))) (sent_is i inside) ∙ ap (λ f. nat_lt (turn i (suc n)) (length f)) (frames_are i inside)
+      has_is i inside =
+          let left = ap length (left_is i inside) in
+          let cut = length-drop (turn i (suc n)) (setups i).queue in
+          let whole = same_length (setups i).queue in
+          elim (cases_lt (turn i (suc n)) (count_of i)) [
+            | inl some ↦
+                has_some r i (setups i) (unsent_with s setups bus.frames bus.by.winner bus.by.content i (suc n)) (bus.by.queues i n less inside) (long i inside) (omega arith)
+                ∙ sym (lt-ltb (turn i (suc n)) (count_of i) some)
+            | inr past ↦
+                has_none r i (setups i) (unsent_with s setups bus.frames bus.by.winner bus.by.content i (suc n)) (bus.by.queues i n less inside) (long i inside)
+                (left_is i inside ∙ drop_all (turn i (suc n)) (setups i).queue (omega arith))
+                ∙ sym (le-ltb (turn i (suc n)) (count_of i) past)
+          ]
 
       pub decides_is : (i : ℕ) → i < s.count → r.decides i ≡ decides_then i n
-      decides_is i inside = (bus.by.queues i n less inside).decides ∙ ap (λ k. decides_after (s.lengths i) (r.place i) (ready_entry i k)) (sent_is i inside)
+      decides_is i inside = (bus.by.queues i n less inside).decides ∙ ap (λ u. decides_after (s.lengths i) (r.place i) (wakes_at (setups i) u)) (left_is i inside)
 
       pub bits_are : (i : ℕ) → i < s.count → r.decides i * bit_quanta (s.lengths i) ≡ decides_then i n * bit_quanta (s.lengths i)
       bits_are i inside = ap (λ d. d * bit_quanta (s.lengths i)) (decides_is i inside)

@@ -66,7 +66,7 @@ frames_on setups s bus t ms = record {
 
 module _ (setups : ℕ → NodeSetup) (s : Stations) (bus : FramesOfLine setups (waiting_with setups s)) (t : Times) (ms : Messages) (d : Delays) (of : HaveSegments setups s) (are : AreStations s) (room : HaveRoom s)
     (idle_at : AreIdle (waiting_with setups s)) (late_enough : AreReadyLate s setups) (have : HaveMessages s setups ms) (delays : DelayNoLonger s t ms d)
-    (ordered : Ordered setups s bus) (rests : Rests) (readies : Readies setups s bus of are) (parts : Parts setups s bus of are) (first : FirstParts setups s bus of are)
+    (ordered : Ordered setups s bus) (rests : Rests) (readies : Readies setups s bus of are have.fifo) (parts : Parts setups s bus of are have.fifo) (first : FirstParts setups s bus of are have.fifo)
     (chase : ℕ → ℕ) (for_all : HasRoomForAll s chase) (decide : AllMayDecide s chase) (once : Once) (forward : ForwardLaws) (lasts : LastNoLonger s t) (passing : PassNoLonger s t) where
   abbrev D : ℕ
   D = parts_of s
@@ -93,9 +93,9 @@ module _ (setups : ℕ → NodeSetup) (s : Stations) (bus : FramesOfLine setups 
   turns n less = slice_get_within (queued_contents (setups (w n)).queue) (turn setups s bus (w n) n) (bus.by.content n) (ordered n less)
 
   offered : (n : ℕ) → n < bus.count → IsOffered setups s bus n
-  offered zero less = offered_first setups s bus of are first idle_at late_enough
+  offered zero less = offered_first setups s bus of are have.fifo first idle_at late_enough
   offered (suc n) less =
-      offered_next setups s bus of are readies parts n less
+      offered_next setups s bus of are have.fifo readies parts n less
       (rests s (bus.frames n) (bus.frames (suc n)) are room (bus.are.each n (omega arith)) (bus.are.next n less))
 
   drives : (n : ℕ) → n < bus.count → (start_of setups s bus n).drives (w n) ≡ true
@@ -277,12 +277,12 @@ module _ (setups : ℕ → NodeSetup) (s : Stations) (bus : FramesOfLine setups 
       let was = bus.are.each n (omega arith) in
       let next = bus.are.next n less in
       let rested = rests s (bus.frames n) (bus.frames (suc n)) are room was next in
-      let k = one_prompt setups s bus of are readies parts n less rested none in
+      let k = one_prompt setups s bus of are have.fifo readies parts n less rested none in
       let own : begins_next (resting_of s (bus.frames n) (bus.frames (suc n)) next) (w (suc n)) ≡ true =
-      ap (λ b. b.drives (w (suc n))) (sym (start_is setups s bus of are readies parts n less rested)) ∙ drives (suc n) less in
+      ap (λ b. b.drives (w (suc n))) (sym (start_is setups s bus of are have.fifo readies parts n less rested)) ∙ drives (suc n) less in
       let zero_is = once s (bus.frames n) (bus.frames (suc n)) chase are room for_all decide was next (w (suc n)) k.0 (wins (suc n) less) k.2 k.3 own in
       let low : start_place s (bus.frames (suc n)) (w (suc n)) ≤ following_place s (bus.frames n) (w (suc n)) =
-      prompt_place setups s bus of are readies parts n less rested (w (suc n)) (wins (suc n) less) (turns (suc n) less) zero_is in
+      prompt_place setups s bus of are have.fifo readies parts n less rested (w (suc n)) (wins (suc n) less) (turns (suc n) less) zero_is in
       let up = parts_up s are t (w (suc n)) (start_place s (bus.frames (suc n)) (w (suc n))) (following_place s f (w (suc n))) low in
       let h = lasts (bus.frames n) was (w (suc n)) (wins (suc n) less) in
       let g : ComesWithin s t (frame_time t f.bits) (w (suc n)) (following_place s f (w (suc n))) (w n) (start_place s f (w n)) =

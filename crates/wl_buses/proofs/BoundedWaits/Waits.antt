@@ -32,7 +32,7 @@ own_parts u b offset num den q p x d some e h =
 
 module _ (setups : ℕ → NodeSetup) (s : Stations) (bus : FramesOfLine setups (waiting_with setups s)) (t : Times) (ms : Messages) (d : Delays) (of : HaveSegments setups s) (are : AreStations s) (room : HaveRoom s)
     (idle_at : AreIdle (waiting_with setups s)) (late_enough : AreReadyLate s setups) (have : HaveMessages s setups ms) (delays : DelayNoLonger s t ms d)
-    (ordered : Ordered setups s bus) (rests : Rests) (readies : Readies setups s bus of are) (parts : Parts setups s bus of are) (first : FirstParts setups s bus of are)
+    (ordered : Ordered setups s bus) (rests : Rests) (readies : Readies setups s bus of are have.fifo) (parts : Parts setups s bus of are have.fifo) (first : FirstParts setups s bus of are have.fifo)
     (chase : ℕ → ℕ) (for_all : HasRoomForAll s chase) (decide : AllMayDecide s chase) (once : Once) (forward : ForwardLaws) (lasts : LastNoLonger s t) (passing : PassNoLonger s t)
     (curve : Curve) (no_longer : NoLonger) (blocking w r : ℕ → ℕ) (blocks : BlockNoLonger (terms_of t ms d) blocking) (enough : AreEnough (table_by (terms_of t ms d) blocking r) w r) where
   abbrev D : ℕ

@@ -48,7 +48,7 @@ module _ (m : MachineLaws) (after : AfterNext) (rest : RestNext) (s : Stations) 
       let next = frames.next n less in
       let r = resting_of s (fs n) (fs (suc n)) next in
       let at : AreResting (resting_of s (fs n) (fs (suc n)) next) =
-      rest s (fs n).outset (fs n).bits f.chase next.sent next.decides are room f.outset f.ends f.won f.answer f.room next.more in
+      rest s (fs n).outset (fs n).bits f.chase next.which next.decides are room f.outset f.ends f.won f.answer f.room next.more in
       let begins = after (resting_of s (fs n) (fs (suc n)) next) (past_at s (fs n).outset ((fs n).bits + 12)) are.line at i inside in
       let l = (are.line.book i inside).lengths in
       let low = l.low in

@@ -1,11 +1,11 @@
 -- A node at each of its quanta: what has passed it, and that it has found nothing that isn't fine.
 use Rattle.std.proofs.Common.{◌≡◌, ◌∙◌, ◌⊎◌, inl, inr, sym, ap, subst, ℕ, zero, suc, ◌-◌, ◌<◌, ◌≤◌, List, [], ◌∷◌, ◌++◌, length, arith, append-nil}
-use Rattle.std.specs.Prelude.{count_by}
-use Rattle.std.proofs.lemmas.List.{drop_all, length-append}
+use Rattle.std.proofs.lemmas.List.{length-append}
 use Rattle.wl_level.specs.declared.Level.{Level}
 use Rattle.wl_node.specs.declared.setup.NodeSetup.{NodeSetup}
 use Rattle.wl_node.specs.declared.setup.Passed.{Passed}
-use Rattle.wl_node.specs.History.{History, is_sent, unsent_of}
+use Rattle.wl_node.specs.History.{History, unsent_of}
+use Rattle.wl_buses.specs.BothProofs.Queues.{unsent_after}
 use Rattle.wl_buses.specs.OneFrame.Expected.{expected_sample}
 use Rattle.wl_buses.specs.OneFrame.Nodes.{IsRun}
 use Rattle.wl_buses.specs.OneFrame.Stations.{Stations}
@@ -15,8 +15,8 @@ use Rattle.wl_buses.specs.NextFrames.Runs.{GoesThroughOne}
 use Rattle.wl_buses.specs.FirstFrame.Faults.{fault_count}
 use Rattle.wl_buses.specs.NextFrames.Silence.{StillRests}
 use Rattle.wl_buses.specs.SentFrames.Sending.{ByQueues, PassesAll}
-use Rattle.wl_buses.specs.SentFrames.Winners.{passed_with, won_by}
-use Rattle.wl_buses.proofs.CleanPlans.Passed.{count_sent, many}
+use Rattle.wl_buses.specs.SentFrames.Winners.{passed_with}
+use Rattle.wl_buses.proofs.CleanPlans.Passed.{many}
 
 -- the laws that this rests on
 abbrev pub FaultsStay : Type 0
@@ -65,12 +65,10 @@ module _ (faults : FaultsStay) (stay : FramesStay) (s : Stations) (setups : ℕ 
   known k (inl early) = known_early k early
   known k (inr rests) = known_late k rests
 
-  -- if the node has won with all frames of its queue, none is left
-  module _ (emptied : won_by by.winner i count ≡ length (setups i).queue) where
+  -- if nothing of its queue is left after all frames
+  module _ (emptied : unsent_after (setups i) (P count) ≡ []) where
     unsent_none : (q : ℕ) → (node q).frames ≡ P count → unsent_of (setups i) (node q) ≡ []
-    unsent_none q passed =
-        let sent : count_by is_sent (node q).frames ≡ won_by by.winner i count = ap (count_by is_sent) passed ∙ count_sent s frames by.winner by.content i count in
-        drop_all (count_by is_sent (node q).frames) (setups i).queue (omega arith)
+    unsent_none q passed = ap (unsent_after (setups i)) passed ∙ emptied
 
     pub none_before : (n : ℕ) → suc n ≡ count → unsent_of (setups i) (node (T n)) ≡ []
     none_before n e = unsent_none (T n) (has.third n (omega arith) ∙ ap P e)

@@ -28,6 +28,7 @@ module _ (f : Buses) (plan : Plan) (clocks : ℕ → Steady) (of : IsOfFamily f 
     lengths = lengths_are;
     book = steady.book;
     delays = λ i k ni nk. refl;
+    stays = steady.stays;
     speaks = speak;
   }
 

@@ -27,6 +27,7 @@ use Rattle.wl_buses.specs.OneFrame.Stations.{Stations}
 use Rattle.wl_buses.specs.FirstFrame.FirstFrames.{AreIdleWhenReady, HasFrames, queues_of}
 use Rattle.wl_buses.specs.FamilyPlans.FamilyStations.{AreContents, NoneListens, SendAsFamily, stations_of}
 use Rattle.wl_buses.proofs.BothProofs.Small.{none_below, covered_each}
+use Rattle.wl_buses.proofs.FirstFrame.Deciding.{whole_begins}
 
 pub no_cause : (v : Bool) (cause : Outside) (o : Option Outside) → cond v (Some cause) o ≡ None → (v ≡ false) × (o ≡ None)
 no_cause false cause o e = (refl, e)
@@ -43,7 +44,7 @@ module _ (plan : Plan) (covered : is_covered plan ≡ true) where
   pub idle : (s : Stations) → s.count ≡ length plan.nodes → AreIdleWhenReady plan s
   idle s count i k ni nk apart =
       let busy = none_below (length plan.nodes) (λ j. not (j == k) && not (is_ready_from (setup_at plan k) (setup_at plan k).queue (idle_at (setup_at plan j))))
-      (covered_each plan covered k (omega arith)).1 i (omega arith) in
+      (covered_each plan covered k (omega arith)).2 i (omega arith) in
       let other : not (i == k) ≡ true = ap not (ne_eqb i k apart) in
       not-false (is_ready_from (setup_at plan k) (setup_at plan k).queue (idle_at (setup_at plan i)))
       (ap (λ v. v && not (is_ready_from (setup_at plan k) (setup_at plan k).queue (idle_at (setup_at plan i)))) (sym other) ∙ busy)
@@ -149,7 +150,7 @@ frames f plan clocks outside are send =
     let none = no_cause_of plan outside in
     let some = any_one (length plan.nodes) (sends_something plan) none.some in
     record {
-      begin = λ i. refl;
+      begin = λ i. whole_begins (setup_at plan i);
       frames = sound plan none are;
       may = λ i ni has. sends_is f i ∙ send i ni has;
       some = (some.0, some.1, some.2);

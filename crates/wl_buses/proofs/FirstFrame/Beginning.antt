@@ -1,7 +1,7 @@
 -- The first frame as one of machines that begin it together, and after which bit each begins it.
 use Rattle.std.proofs.Common.{◌≡◌, ◌∙◌, inl, inr, refl, sym, ap, ℕ, suc, ◌+◌, ◌-◌, ◌*◌, ◌/◌, ◌<◌, ◌≤◌, cond, true, false, List, [], ◌∷◌, ◌++◌, length, replicate, Some, None, arith, max, subst}
 use Rattle.std.specs.Prelude.{nat_lt, slice_get}
-use Rattle.std.proofs.lemmas.Bool.{cases_Bool, cases_lt}
+use Rattle.std.proofs.lemmas.Bool.{cases_Bool, cases_lt, ltb-true}
 use Rattle.std.proofs.Math.Nat.{lt_of_mul-lt-mul_right}
 use Rattle.wl_level.specs.declared.Level.TheVariants.{Dominant, Recessive}
 use Rattle.wl_level.specs.Levels.{is_dominant}
@@ -27,6 +27,7 @@ use Rattle.wl_buses.proofs.FirstFrame.Lasts as lasts
 use Rattle.wl_buses.proofs.FirstFrame.Reaching as reaching
 use Rattle.wl_buses.proofs.FirstFrame.Reaching.{IsSilence, Silence}
 use Rattle.wl_buses.proofs.FirstFrame.Silent.{IsQuiet, none_driven_after, quiet_after}
+use Rattle.wl_buses.proofs.BothProofs.Heads.{some_at}
 
 abbrev pub MayTogether : Type 0
 MayTogether = (count : ℕ) (frames : ℕ → List Content) (past : ℕ → List Input) → ((k : ℕ) → k < count → HasIdled frames k (past k)) → MayBeginTogether count frames past
@@ -40,9 +41,8 @@ idle_if frames s q (inr due) = elim q.sort [
 ]
 
 -- a list with a first element
-pub first_some : (cs : List Content) → nat_lt 0 (length cs) ≡ true → (c : Content) × (slice_get cs 0 ≡ Some c)
-first_some [] e = cc
-first_some (c ∷ cs) e = (c, refl)
+pub first_some : (cs : List Content) (n : ℕ) → nat_lt n (length cs) ≡ true → (c : Content) × (slice_get cs n ≡ Some c)
+first_some cs n e = some_at cs n (ltb-true n (length cs) e)
 
 -- it is idle after eleven samples without a frame
 pub idle_by : MayTogether → (n : ℕ) → 10 < n → (stretch_of (replicate n no_frame_sample)).sort ≡ Idle
@@ -140,18 +140,18 @@ module _ (w : Waiting) (line : AreOnALine w.stations) (are : AreIdle w) where
       }
 
   -- what each machine has sampled
-  past_begins : (k : ℕ) → begins_first w k ≡ true → o.past k ≡ silent_past true (w.frames k) (w.decides k)
-  past_begins k e = ap (λ c. silent_past c (w.frames k) (last_before w k)) e ∙ ap (silent_past true (w.frames k)) (last_is w k e)
+  past_begins : (k : ℕ) → begins_first w k ≡ true → o.past k ≡ silent_past true (w.frames k) (w.which k) (w.decides k)
+  past_begins k e = ap (λ c. silent_past c (w.frames k) (w.which k) (last_before w k)) e ∙ ap (silent_past true (w.frames k) (w.which k)) (last_is w k e)
 
   past_follows : (k : ℕ) → begins_first w k ≡ false → o.past k ≡ replicate (suc (last_before w k)) no_frame_sample
-  past_follows k e = ap (λ c. silent_past c (w.frames k) (last_before w k)) e
+  past_follows k e = ap (λ c. silent_past c (w.frames k) (w.which k) (last_before w k)) e
 
   idled : (k : ℕ) → k < s.count → HasIdled w.frames k (o.past k)
   idled k inside = elim (cases_Bool (begins_first w k)) [
     | inl own ↦
         (let n : max 11 (w.decides k) ≡ 11 + (max 11 (w.decides k) - 11) = omega arith in (
           max 11 (w.decides k) - 11,
-          inr (handed_first, past_begins k own ∙ ap (λ m. replicate m no_frame_sample ++ Sample (sampled Recessive (w.frames k) handed_first) ∷ []) n),
+          inr (handed_first (w.which k), past_begins k own ∙ ap (λ m. replicate m no_frame_sample ++ Sample (sampled Recessive (w.frames k) (handed_first (w.which k))) ∷ []) n),
         ))
     | inr other ↦
         (let ten = many k inside in
@@ -169,12 +169,12 @@ module _ (together : MayTogether) (w : Waiting) (line : AreOnALine w.stations) (
   begun : (k : ℕ) → begins_first w k ≡ true → drive_of (stretch_of ((first_outset w).past k)) ≡ Dominant
   begun k e =
       let has = reaching.begins_has (silence_of w) line (silent_of w line are) k e in
-      let c = first_some (w.frames k) has in
+      let c = first_some (w.frames k) (w.which k) has in
       ap (λ p. drive_of (stretch_of p)) (past_begins w line are k e)
       ∙ ap (λ h. drive_of (stretch_of (replicate (max 11 (w.decides k)) no_frame_sample ++ Sample (sample_of Recessive h Active) ∷ []))) c.1
       ∙ ap drive_of (stretch_next (replicate (max 11 (w.decides k)) no_frame_sample) (Sample (sample_of Recessive (Some c.0) Active)))
       ∙ ap drive_of (decided together (max 11 (w.decides k)) c.0 (omega arith))
-      ∙ first_drive c.0 (are.frames.content k c.0 (are.inside k has) (0, c.1))
+      ∙ first_drive c.0 (are.frames.content k c.0 (are.inside k has) (w.which k, c.1))
 
   drives_as : (k : ℕ) → begins_first w k ≡ is_dominant (drive_of (stretch_of ((first_outset w).past k)))
   drives_as k = elim (cases_Bool (begins_first w k)) [

@@ -1,80 +1,35 @@
 -- The nodes of a plan are idle when the first frame of any becomes ready, and each is handed its first frame.
-use Rattle.std.proofs.Common.{◌≡◌, ◌≢◌, ◌∙◌, inl, inr, refl, sym, ap, ℕ, zero, suc, ◌+◌, ◌-◌, ◌*◌, ◌<◌, ◌≤◌, length, not, cond, Bool, true, false, List, [], ◌∷◌, Some, None, arith}
+use Rattle.std.proofs.Common.{◌≡◌, ◌≢◌, ◌∙◌, inl, inr, sym, ap, ℕ, zero, suc, ◌+◌, ◌*◌, ◌<◌, ◌≤◌, length, not, true, false, List, [], ◌∷◌, Option, Some, None, arith}
 use Rattle.std.specs.Prelude.{nat_lt, slice_get}
-use Rattle.std.specs.Int.{div_ceil}
-use Rattle.std.proofs.lemmas.Bool.{cases_lt, le-leb, lt-leb, lt-ltb}
-use Rattle.std.proofs.lemmas.Grind.{div_ceil_times}
+use Rattle.std.proofs.lemmas.Bool.{cases_lt, lt-ltb}
 use Rattle.std.proofs.lemmas.List.{get_or_past}
-use Rattle.std.proofs.Math.Nat.{mul-le-mul_right}
 use Rattle.wl_clock.specs.Timing.{tick_of}
 use Rattle.wl_segments.specs.Lengths.{Lengths, bit_quanta, sample_at}
 use Rattle.wl_frame.specs.Grammar.{Content}
 use Rattle.wl_node.specs.declared.setup.NodeSetup.{NodeSetup}
 use Rattle.wl_node.specs.declared.setup.Queued.{Queued}
-use Rattle.wl_node.specs.History.{ready_head}
 use Rattle.wl_phase.specs.Clocks.{steady_tick}
 use Rattle.wl_phase.proofs.Callers.{tick_up}
 use Rattle.wl_plan.specs.declared.plan.Plan.{Plan}
 use Rattle.wl_plan.specs.PlanLine.{line_of, no_setup, setup_at}
 use Rattle.wl_plan.specs.Sound.{IsCausal}
 use Rattle.wl_bound.specs.Verdicts.{idle_at, is_ready_from}
-use Rattle.wl_buses.specs.BothProofs.Queues.{decides_at, first_ready, queued_contents}
+use Rattle.wl_buses.specs.BothProofs.Queues.{first_head, place_of, wakes_at}
+use Rattle.wl_buses.proofs.FirstFrame.Deciding as waiting
+use Rattle.wl_buses.proofs.FirstFrame.Deciding.{alone_begins, decided_after}
 use Rattle.wl_wire.specs.InStep.{Has}
 use Rattle.wl_buses.specs.OneFrame.Plans.{IsPlanOf}
 use Rattle.wl_buses.specs.OneFrame.Stations.{AreOnALine, Stations}
-use Rattle.wl_buses.specs.FirstFrame.FirstFrames.{AreIdleWhenReady, BeginAsQueues, HasFirstFrames, HasFrames, first_content, first_frames_of, waiting_of}
-use Rattle.wl_buses.specs.FirstFrame.FirstStarts.{AreIdle, HandTheFirst, Waiting, decision_quantum, due_first, eleventh, has_first}
-
--- lists that begin as a queue does
-abbrev Begins : List Content → List Queued → Type 0
-Begins list q = slice_get list 0 ≡ slice_get (queued_contents q) 0
-
-pub first_begins : (q : List Queued) → Begins (first_content q) q
-first_begins [] = refl
-first_begins (x ∷ more) = refl
-
-same_has : (list : List Content) (q : List Queued) → Begins list q → nat_lt 0 (length list) ≡ nat_lt 0 (length q)
-same_has [] [] b = refl
-same_has [] (x ∷ more) b = cc
-same_has (c ∷ list) [] b = cc
-same_has (c ∷ list) (x ∷ more) b =
-    lt-ltb 0 (length (c ∷ list)) (let h : 0 < suc (length list) = omega arith in h) ∙ sym (lt-ltb 0 (length (x ∷ more)) (let h : 0 < suc (length more) = omega arith in h))
-
-none_has : (q : List Queued) → nat_lt 0 (length q) ≡ false → q ≡ []
-none_has [] e = refl
-none_has (x ∷ more) e = (let h = lt-ltb 0 (length (x ∷ more)) (let h : 0 < suc (length more) = omega arith in h) in cc)
-
-ready_then : (list : List Content) (q : List Queued) (k : ℕ) → Begins list q → first_ready q ≤ k → ready_head q k ≡ slice_get list 0
-ready_then list [] k b less = sym b
-ready_then list (x ∷ more) k b less = ap (λ c. cond c (Some x.frame) None) (le-leb x.ready k less) ∙ sym b
-
-pub unready_then : (q : List Queued) (k : ℕ) → k < first_ready q → ready_head q k ≡ None
-unready_then [] k less = refl
-unready_then (x ∷ more) k less = ap (λ c. cond c (Some x.frame) None) (lt-leb x.ready k less)
+use Rattle.wl_buses.specs.FirstFrame.FirstFrames.{AreIdleWhenReady, BeginAsQueues, HasFirstFrames, HasFrames, content_alone, first_frames_of, waiting_of}
+use Rattle.wl_buses.specs.FirstFrame.FirstStarts.{AreIdle, HandTheFirst, Waiting, due_first, eleventh, has_first}
 
 -- a frame that becomes ready from a tick on
-ready_after : (setup : NodeSetup) (q : List Queued) (t : ℕ) → nat_lt 0 (length q) ≡ true → is_ready_from setup q t ≡ true → t ≤ tick_of setup.clock (first_ready q)
+ready_after : (setup : NodeSetup) (q : List Queued) (t : ℕ) → nat_lt 0 (length q) ≡ true → is_ready_from setup q t ≡ true → t ≤ tick_of setup.clock (wakes_at setup q)
 ready_after setup [] t e h = cc
 ready_after setup (x ∷ more) t e h = elim (cases_lt (tick_of setup.clock x.ready) t) [
   | inl early ↦ (let f = ap not (lt-ltb (tick_of setup.clock x.ready) t early) in cc)
   | inr late ↦ late
 ]
-
--- the bit with whose sample it decides
-module _ (l : Lengths) (ready : ℕ) (some : 0 < bit_quanta l) where
-  pub decided_after : ready ≤ decides_at l ready * bit_quanta l + sample_at l
-  decided_after =
-      let ceil = (div_ceil_times (ready - sample_at l) (bit_quanta l) (omega arith)).0 in
-      let above : div_ceil (ready - sample_at l) (bit_quanta l) * bit_quanta l ≤ decides_at l ready * bit_quanta l = mul-le-mul_right (bit_quanta l) (omega arith) in
-      omega arith
-
-  pub undecided : (n : ℕ) → 10 ≤ n → n < decides_at l ready → n * bit_quanta l + sample_at l < ready
-  undecided n many less =
-      let under : suc n ≤ div_ceil (ready - sample_at l) (bit_quanta l) = omega arith in
-      let up : suc n * bit_quanta l ≤ div_ceil (ready - sample_at l) (bit_quanta l) * bit_quanta l = mul-le-mul_right (bit_quanta l) under in
-      let more : suc n * bit_quanta l ≡ n * bit_quanta l + bit_quanta l = omega arith in
-      let ceil = (div_ceil_times (ready - sample_at l) (bit_quanta l) (omega arith)).1 in
-      omega arith
 
 module _ (plan : Plan) (queues : ℕ → List Content) (s : Stations) (of : IsPlanOf plan s) (begin : BeginAsQueues plan queues) (line : AreOnALine s) (causal : IsCausal (line_of plan)) where
   abbrev w : Waiting
@@ -87,7 +42,7 @@ module _ (plan : Plan) (queues : ℕ → List Content) (s : Stations) (of : IsPl
   l_of i = (setup_at plan i).segments
 
   abbrev ready : ℕ → ℕ
-  ready i = first_ready (q_of i)
+  ready i = wakes_at (setup_at plan i) (q_of i)
 
   long : (i : ℕ) → i < s.count → (0 < bit_quanta (l_of i)) × (sample_at (l_of i) < bit_quanta (l_of i))
   long i inside =
@@ -112,7 +67,13 @@ module _ (plan : Plan) (queues : ℕ → List Content) (s : Stations) (of : IsPl
       omega arith
 
   has_is : (i : ℕ) → has_first w i ≡ nat_lt 0 (length (q_of i))
-  has_is i = same_has (queues i) (q_of i) (begin i)
+  has_is i = elim (cases_lt i s.count) [
+    | inl inside ↦ waiting.has_is (setup_at plan) queues s of.lengths (λ i inside. (long i inside).0) begin i inside
+    | inr past ↦
+        (let count = of.count in
+        let none : q_of i ≡ [] = ap (λ x. x.queue) (get_or_past plan.nodes i no_setup (omega arith)) in
+        waiting.none_first (setup_at plan) queues s of.lengths (λ i inside. (long i inside).0) begin i none ∙ sym (ap (λ q. nat_lt 0 (length q)) none))
+  ]
 
   in_plan : (i : ℕ) → has_first w i ≡ true → i < s.count
   in_plan i e = elim (cases_lt i s.count) [
@@ -125,25 +86,7 @@ module _ (plan : Plan) (queues : ℕ → List Content) (s : Stations) (of : IsPl
   ]
 
   pub hands : HandTheFirst w (setup_at plan)
-  hands = record {
-    none = λ i q inside e. ap (λ x. ready_head x q) (none_has (q_of i) (sym (has_is i) ∙ e));
-    unready = λ i n inside more less. unready i n inside more less;
-    ready = λ i inside e.
-        ready_then (queues i) (q_of i) (decision_quantum w i) (begin i)
-        (let l = of.lengths i inside in
-        let x : decision_quantum w i ≡ w.decides i * bit_quanta (l_of i) + sample_at (l_of i) = ap (λ k. w.decides i * bit_quanta k + sample_at k) l in
-        let h = decided_after (l_of i) (ready i) (long i inside).0 in
-        omega arith);
-  }
-    where
-      by_frames : (i n : ℕ) → i < s.count → 10 ≤ n → n < w.decides i → (c : Bool) → has_first w i ≡ c → ready_head (q_of i) (n * bit_quanta (l_of i) + sample_at (l_of i)) ≡ None
-      by_frames i n inside more less true e =
-          unready_then (q_of i) (n * bit_quanta (l_of i) + sample_at (l_of i)) (undecided (l_of i) (ready i) (long i inside).0 n more less)
-      by_frames i n inside more less false e = ap (λ x. ready_head x (n * bit_quanta (l_of i) + sample_at (l_of i))) (none_has (q_of i) (sym (has_is i) ∙ e))
-
-      unready : (i n : ℕ) → i < s.count → 10 ≤ n → n < w.decides i → ready_head (q_of i) (n * bit_quanta (s.lengths i) + sample_at (s.lengths i)) ≡ None
-      unready i n inside more less =
-          ap (λ k. ready_head (q_of i) (n * bit_quanta k + sample_at k)) (of.lengths i inside) ∙ by_frames i n inside more less (has_first w i) refl
+  hands = waiting.hands (setup_at plan) queues s of.lengths (λ i inside. (long i inside).0) begin
 
   pub idle : HasFirstFrames plan queues s → AreIdle w
   idle first = record {
@@ -187,21 +130,18 @@ module _ (plan : Plan) (queues : ℕ → List Content) (s : Stations) (of : IsPl
     }
 
 -- the first frames alone
-has_first_of : (list : List Content) (q : List Queued) (c : Content) → Begins list q → (n : ℕ) × (slice_get (first_content q) n ≡ Some c) → (n : ℕ) × (slice_get list n ≡ Some c)
-has_first_of list q c b (n, e) = (0, b ∙ at_first q n e)
-  where
-    at_first : (q : List Queued) (n : ℕ) → slice_get (first_content q) n ≡ Some c → slice_get (queued_contents q) 0 ≡ Some c
-    at_first [] n e = cc
-    at_first (x ∷ more) zero e = e
-    at_first (x ∷ more) (suc n) e = cc
+has_first_of : (list : List Content) (h : Option Content) (c : Content) → slice_get list (place_of h list) ≡ h → (n : ℕ) × (slice_get (content_alone h) n ≡ Some c) → (n : ℕ) × (slice_get list n ≡ Some c)
+has_first_of list None c b (n, e) = cc
+has_first_of list (Some d) c b (zero, e) = (place_of (Some d) list, b ∙ e)
+has_first_of list (Some d) c b (suc n, e) = cc
 
 pub alone : (plan : Plan) (queues : ℕ → List Content) (s : Stations) → HasFirstFrames plan queues s → HasFirstFrames plan (first_frames_of plan) s
 alone plan queues s first =
     let fs = first.has.frames in
-    let has : (k : ℕ) (c : Content) → Has (first_frames_of plan) k c → Has queues k c = λ k c h. has_first_of (queues k) (setup_at plan k).queue c (first.has.begin k) h in
+    let has : (k : ℕ) (c : Content) → Has (first_frames_of plan) k c → Has queues k c = λ k c h. has_first_of (queues k) (first_head (setup_at plan k)) c (first.has.begin k) h in
     record {
       has = record {
-        begin = λ i. first_begins (setup_at plan i).queue;
+        begin = λ i. alone_begins (first_head (setup_at plan i));
         frames = record {
           two = fs.two;
           content = λ k c less h. fs.content k c less (has k c h);

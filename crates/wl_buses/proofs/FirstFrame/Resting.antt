@@ -90,15 +90,15 @@ module _ (together : MayTogether) (nothing : NothingFound) (ways : WayLaws) (cal
       (nothing s o total i q on room outset valid inside (omega arith)
       (reaching.unfound_before (silence_of w) on.line (silent_of w on.line are) i q inside (unreached q less (edge_first w i) refl) (due_or_none q less (edge_first w i) refl)))
 
-  past_is : (c : Bool) → begins_first w i ≡ c → next_after m (head_by (w.frames i) c) ≡ stretch_of (o.past i)
+  past_is : (c : Bool) → begins_first w i ≡ c → next_after m (head_by (w.frames i) (w.which i) c) ≡ stretch_of (o.past i)
   past_is true e =
-      let c = first_some (w.frames i) (reaching.begins_has (silence_of w) on.line (silent_of w on.line are) i e) in
+      let c = first_some (w.frames i) (w.which i) (reaching.begins_has (silence_of w) on.line (silent_of w on.line are) i e) in
       ap (next_after m) c.1 ∙ decided together m c.0 (many w on.line are i inside)
-      ∙ sym (ap (λ b. stretch_of (silent_past b (w.frames i) m)) e
+      ∙ sym (ap (λ b. stretch_of (silent_past b (w.frames i) (w.which i) m)) e
       ∙ ap (λ h. stretch_of (replicate (max 11 m) no_frame_sample ++ Sample (sample_of Recessive h Active) ∷ [])) c.1
       ∙ stretch_next (replicate (max 11 m) no_frame_sample) (Sample (sample_of Recessive (Some c.0) Active))
       ∙ decided together (max 11 m) c.0 (omega arith))
-  past_is false e = silence.next_of m ∙ sym (ap (λ b. stretch_of (silent_past b (w.frames i) m)) e)
+  past_is false e = silence.next_of m ∙ sym (ap (λ b. stretch_of (silent_past b (w.frames i) (w.which i) m)) e)
 
   pub rests_first : RestsBefore s o i levels node (rest_first w i)
   rests_first =

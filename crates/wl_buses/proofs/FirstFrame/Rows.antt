@@ -14,7 +14,7 @@ decide n zero = n
 decide n (suc k) = 11
 
 abbrev both : ℕ → Waiting
-both n = record { stations = s; frames = λ k. c ∷ []; decides = decide n }
+both n = record { stations = s; frames = λ k. c ∷ []; which = λ k. 0; decides = decide n }
 
 due_there : due_first (both 12) 1 ≡ 120
 due_there = refl
@@ -63,7 +63,7 @@ frames_of zero = []
 frames_of (suc k) = c ∷ []
 
 abbrev one : Waiting
-one = record { stations = s; frames = frames_of; decides = decide 10 }
+one = record { stations = s; frames = frames_of; which = λ k. 0; decides = decide 10 }
 
 listens : edge_first one 0 ≡ Some 128
 unfolding tick_of
@@ -77,13 +77,13 @@ alone = refl
 tenth_bit : eleventh (both 10) 0 ≡ 107
 tenth_bit = refl
 
-to_begin : stretch_of (silent_past true (c ∷ []) 10) ≡ stretch_by (Framing (Some c)) []
+to_begin : stretch_of (silent_past true (c ∷ []) 0 10) ≡ stretch_by (Framing (Some c)) []
 to_begin = refl
 
 -- An edge that comes just when a station would decide: station 1 has quanta of 10 ticks and begins at tick 1, and its start of frame reaches station 0 at tick 1210, the tick of the
 -- sample of bit 11 but for three quanta, at tick 1170. With a frame of that bit station 0 begins by itself at tick 1200; with one of the next bit it follows.
 abbrev near : ℕ → Waiting
-near n = record { stations = record s { clocks = λ k. record { offset = k; num = 10; den = 1 } }; frames = λ k. c ∷ []; decides = decide n }
+near n = record { stations = record s { clocks = λ k. record { offset = k; num = 10; den = 1 } }; frames = λ k. c ∷ []; which = λ k. 0; decides = decide n }
 
 both_alone : edge_first (near 11) 0 ≡ None
 unfolding tick_of

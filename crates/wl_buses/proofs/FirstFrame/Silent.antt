@@ -1,6 +1,6 @@
 -- A node on a silent line, from its power-up on: what it has sampled, and that nothing counts.
 use Rattle.std.proofs.Common.{◌≡◌, ◌≢◌, ◌∙◌, ◌⊎◌, inl, inr, refl, sym, ap, subst, ℕ, zero, suc, ◌+◌, ◌-◌, ◌*◌, ◌<◌, ◌≤◌, cond, Bool, true, false, List, [], ◌∷◌, ◌++◌, length, replicate, Option, None, arith, add-one}
-use Rattle.std.specs.Prelude.{◌==◌, count_by, drop}
+use Rattle.std.specs.Prelude.{◌==◌, count_by}
 use Rattle.std.proofs.lemmas.Bool.{cases_eq, cases_lt, lt-leb, ne_eqb}
 use Rattle.std.proofs.Math.Nat.{lt_of_mul-lt-mul_right}
 use Rattle.wl_level.specs.declared.Level.{Level}
@@ -27,7 +27,7 @@ use Rattle.wl_machine.specs.Judged.{drive_by, drive_of, judged, judged_by, or_ne
 use Rattle.wl_machine.specs.States.{sample_of, stretch_by}
 use Rattle.wl_machine.proofs.Callers.{stretch_next}
 use Rattle.wl_node.specs.declared.setup.NodeSetup.{NodeSetup}
-use Rattle.wl_node.specs.History.{History, error_count, handed, is_sent, ready_head, sampled_next, unsent_of}
+use Rattle.wl_node.specs.History.{History, error_count, handed, sampled_next, unsent_of}
 use Rattle.wl_phase.specs.InStep.{seen_before}
 use Rattle.wl_phase.specs.Ways.{ByTheBook, WayLaws, sample_way, way_after}
 use Rattle.wl_phase.proofs.Callers.{IsSilent, first_silent}
@@ -39,6 +39,8 @@ use Rattle.wl_buses.proofs.OneFrame.TakenOn as taken
 use Rattle.wl_buses.proofs.OneFrame.Nodes.{drive_by as driven_by, happened_by, inputs_by, seen_are, frames_by}
 use Rattle.wl_buses.proofs.OneFrame.Waited.{one_more}
 use Rattle.wl_buses.proofs.OneFrame.TakenOn.{TakesOn, goes_idle}
+use Rattle.wl_buses.specs.BothProofs.Queues.{head_at, unsent_after}
+use Rattle.wl_buses.proofs.BothProofs.Heads.{unsent_first}
 
 -- a machine between frames
 pub record IsQuiet (s : Stretch) : Type 0 where
@@ -213,15 +215,15 @@ module _ (ways : WayLaws) (calm : NoEdgeLaws) (edges : EdgeLaws) (setup : NodeSe
     passes apart (beats.Sample level) e = absurd (apart (ways.only l (seen_before sees q) (sees q) level book e).1)
 
     -- a sample, with which it may be handed a frame
-    module _ (now : way q ≡ 0) (head : Option Content) (ready : ready_head setup.queue q ≡ head) where
+    module _ (now : way q ≡ 0) (head : Option Content) (ready : head_at setup setup.queue q ≡ head) where
       pub beat : beat_of l (seen_before sees q) (sees q) ≡ beats.Sample (levels q)
       beat = ways.sample l (seen_before sees q) (sees q) book none now
 
       pub head_is : (sampled_next setup (node q) (levels q)).head ≡ head
       head_is =
-          ap (λ v. handed v setup.segments.sync (ready_head (unsent_of setup (node q)) (length (node q).seen))) silent
-          ∙ ap (λ fs. ready_head (drop (count_by is_sent fs) setup.queue) (length (node q).seen)) a.frames
-          ∙ ap (ready_head setup.queue) (ap length (seen_are setup levels node run q) ∙ seen_length sees q) ∙ ready
+          ap (λ v. handed v setup.segments.sync (head_at setup (unsent_of setup (node q)) (length (node q).seen))) silent
+          ∙ ap (λ fs. head_at setup (unsent_after setup fs) (length (node q).seen)) a.frames
+          ∙ ap (λ u. head_at setup u (length (node q).seen)) (unsent_first setup) ∙ ap (head_at setup setup.queue) (ap length (seen_are setup levels node run q) ∙ seen_length sees q) ∙ ready
 
       abbrev before : Stretch
       before = stretch_of (replicate c no_frame_sample)
@@ -247,7 +249,7 @@ module _ (ways : WayLaws) (calm : NoEdgeLaws) (edges : EdgeLaws) (setup : NodeSe
       pub drive_then : (node (suc q)).drive ≡ Recessive
       drive_then = taken.drive_there setup levels node run q beat_recessive silent before a.stretch a.counts head head_is takes ∙ a.drive
 
-    samples : way q ≡ 0 → (c < 10) ⊎ (ready_head setup.queue q ≡ None) → IsStill (suc q) (suc c)
+    samples : way q ≡ 0 → (c < 10) ⊎ (head_at setup setup.queue q ≡ None) → IsStill (suc q) (suc c)
     samples now unready =
         let near = a.near in
         let here = a.way in
@@ -257,23 +259,23 @@ module _ (ways : WayLaws) (calm : NoEdgeLaws) (edges : EdgeLaws) (setup : NodeSe
         record {
           way = omega arith;
           near = omega arith;
-          stretch = stretch_then now (ready_head setup.queue q) refl ∙ any_head c (ready_head setup.queue q) unready;
-          counts = counts_then now (ready_head setup.queue q) refl;
-          frames = frames_then now (ready_head setup.queue q) refl;
-          found = found_then now (ready_head setup.queue q) refl;
-          drive = drive_then now (ready_head setup.queue q) refl;
+          stretch = stretch_then now (head_at setup setup.queue q) refl ∙ any_head c (head_at setup setup.queue q) unready;
+          counts = counts_then now (head_at setup setup.queue q) refl;
+          frames = frames_then now (head_at setup setup.queue q) refl;
+          found = found_then now (head_at setup setup.queue q) refl;
+          drive = drive_then now (head_at setup setup.queue q) refl;
         }
 
   -- all its quanta
-  module _ (m : ℕ) (silent : (q : ℕ) → q ≤ m * B + S → levels q ≡ Recessive) (unready : (n : ℕ) → 10 ≤ n → n < m → ready_head setup.queue (n * B + S) ≡ None) where
+  module _ (m : ℕ) (silent : (q : ℕ) → q ≤ m * B + S → levels q ≡ Recessive) (unready : (n : ℕ) → 10 ≤ n → n < m → head_at setup setup.queue (n * B + S) ≡ None) where
     record Still (q : ℕ) : Type 0 where
       count : ℕ
       is : IsStill q count
 
-    unready_at : (c q : ℕ) → q ≡ c * B + S → c < m → (c < 10) ⊎ (ready_head setup.queue q ≡ None)
+    unready_at : (c q : ℕ) → q ≡ c * B + S → c < m → (c < 10) ⊎ (head_at setup setup.queue q ≡ None)
     unready_at c q place few = elim (cases_lt c 10) [
       | inl less ↦ inl less
-      | inr more ↦ inr (ap (ready_head setup.queue) place ∙ unready c more few)
+      | inr more ↦ inr (ap (head_at setup setup.queue) place ∙ unready c more few)
     ]
 
     still_on : (q : ℕ) → q < m * B + S → Still q → Still (suc q)
@@ -311,27 +313,27 @@ module _ (ways : WayLaws) (calm : NoEdgeLaws) (edges : EdgeLaws) (setup : NodeSe
     silent_last : levels (m * B + S) ≡ Recessive
     silent_last = silent (m * B + S) (omega arith)
 
-    pub sampled_last : (head : Option Content) → ready_head setup.queue (m * B + S) ≡ head → SamplesBy l sees (m * B + S) Recessive
+    pub sampled_last : (head : Option Content) → head_at setup setup.queue (m * B + S) ≡ head → SamplesBy l sees (m * B + S) Recessive
     sampled_last head ready = beat_recessive (m * B + S) m silent_last still_last way_last head ready
 
-    pub stretch_last : (head : Option Content) → ready_head setup.queue (m * B + S) ≡ head
+    pub stretch_last : (head : Option Content) → head_at setup setup.queue (m * B + S) ≡ head
         → stretch_of (node (suc (m * B + S))).inputs ≡ stretch_after (stretch_of (replicate m no_frame_sample)) (Sample (sample_of Recessive head Active))
     stretch_last head ready = stretch_then (m * B + S) m silent_last still_last way_last head ready
 
-    pub counts_last : (head : Option Content) → ready_head setup.queue (m * B + S) ≡ head → counts_of (node (suc (m * B + S))).happened ≡ no_counts
+    pub counts_last : (head : Option Content) → head_at setup setup.queue (m * B + S) ≡ head → counts_of (node (suc (m * B + S))).happened ≡ no_counts
     counts_last head ready = counts_then (m * B + S) m silent_last still_last way_last head ready
 
-    pub drive_last : (head : Option Content) → ready_head setup.queue (m * B + S) ≡ head → (node (suc (m * B + S))).drive ≡ Recessive
+    pub drive_last : (head : Option Content) → head_at setup setup.queue (m * B + S) ≡ head → (node (suc (m * B + S))).drive ≡ Recessive
     drive_last head ready = drive_then (m * B + S) m silent_last still_last way_last head ready
 
-    pub drive_up_to : (head : Option Content) → ready_head setup.queue (m * B + S) ≡ head → (q : ℕ) → q ≤ suc (m * B + S) → (node q).drive ≡ Recessive
+    pub drive_up_to : (head : Option Content) → head_at setup setup.queue (m * B + S) ≡ head → (q : ℕ) → q ≤ suc (m * B + S) → (node q).drive ≡ Recessive
     drive_up_to head ready q less = elim (cases_lt (m * B + S) q) [
       | inl last ↦ (let e : suc (m * B + S) ≡ q = omega arith in subst (λ k. (node k).drive ≡ Recessive) e (drive_last head ready))
       | inr before ↦ still_drive q before
     ]
 
     -- no frame has passed it, and nothing has happened that isn't fine
-    pub nothing_up_to : (head : Option Content) → ready_head setup.queue (m * B + S) ≡ head → (q : ℕ) → q ≤ suc (m * B + S) → IsUntouched (node q)
+    pub nothing_up_to : (head : Option Content) → head_at setup setup.queue (m * B + S) ≡ head → (q : ℕ) → q ≤ suc (m * B + S) → IsUntouched (node q)
     nothing_up_to head ready q less = elim (cases_lt (m * B + S) q) [
       | inl last ↦
           (let e : suc (m * B + S) ≡ q = omega arith in
@@ -344,13 +346,13 @@ module _ (ways : WayLaws) (calm : NoEdgeLaws) (edges : EdgeLaws) (setup : NodeSe
     ]
 
   -- its bit clock after the second bit or a later one
-  module _ (n : ℕ) (silent : (q : ℕ) → q ≤ suc n * B + S → levels q ≡ Recessive) (unready : (k : ℕ) → 10 ≤ k → k < suc n → ready_head setup.queue (k * B + S) ≡ None) where
+  module _ (n : ℕ) (silent : (q : ℕ) → q ≤ suc n * B + S → levels q ≡ Recessive) (unready : (k : ℕ) → 10 ≤ k → k < suc n → head_at setup setup.queue (k * B + S) ≡ None) where
     next_bit : n * B + B + S ≡ suc n * B + S
     next_bit = omega arith
 
     pub steady_last : clock_after l (seen_before sees (suc (suc n * B + S))) ≡ steady_clock l
     steady_last =
-        let before = sampled_last n (λ q less. silent q (let e = next_bit in omega arith)) (λ k more less. unready k more (omega arith)) (ready_head setup.queue (n * B + S)) refl in
+        let before = sampled_last n (λ q less. silent q (let e = next_bit in omega arith)) (λ k more less. unready k more (omega arith)) (head_at setup setup.queue (n * B + S)) refl in
         subst (λ q. clock_after l (seen_before sees (suc q)) ≡ steady_clock l) next_bit
         (edges.steady l sees (n * B) Recessive book before
         (λ i after inside. calm.recessive l (seen_before sees i) (sees i) book (silent i (let e = next_bit in omega arith)))

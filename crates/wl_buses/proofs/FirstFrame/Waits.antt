@@ -15,7 +15,7 @@ use Rattle.wl_machine.specs.Stretch.Input.{Sample}
 use Rattle.wl_machine.specs.Judged.{stretch_after, stretch_of}
 use Rattle.wl_machine.specs.States.{sample_of}
 use Rattle.wl_node.specs.declared.setup.NodeSetup.{NodeSetup}
-use Rattle.wl_node.specs.History.{History, ready_head}
+use Rattle.wl_node.specs.History.{History}
 use Rattle.wl_phase.specs.InStep.{seen_before}
 use Rattle.wl_phase.specs.Ways.{ByTheBook, WayLaws}
 use Rattle.wl_buses.specs.OneFrame.Stations.{AreOnALine, Stations}
@@ -26,11 +26,12 @@ use Rattle.wl_buses.specs.FirstFrame.FirstStarts.{AreIdle, HandTheFirst, Waiting
 use Rattle.wl_buses.proofs.FirstFrame.Beginning.{IsLast, last_at, last_is, many, silence_of, silent_of}
 use Rattle.wl_buses.proofs.FirstFrame.Reaching as reaching
 use Rattle.wl_buses.proofs.FirstFrame.Silent as silence
+use Rattle.wl_buses.specs.BothProofs.Queues.{head_at}
 
 -- what it is handed with its last sample before, and the stretch of its machine then
-abbrev pub head_by : List Content → Bool → Option Content
-head_by frames true = slice_get frames 0
-head_by frames false = None
+abbrev pub head_by : List Content → (which : ℕ) → Bool → Option Content
+head_by frames which true = slice_get frames which
+head_by frames which false = None
 
 abbrev pub next_after : ℕ → Option Content → Stretch
 next_after n head = stretch_after (stretch_of (replicate n no_frame_sample)) (Sample (sample_of Recessive head Active))
@@ -67,7 +68,7 @@ module _ (ways : WayLaws) (calm : NoEdgeLaws) (edges : EdgeLaws) (setups : ℕ �
       let before = last.before in
       lt_of_mul-lt-mul_right B (let h : m * B < w.decides i * B = omega arith in h))
 
-  none_up_to : begins_first w i ≡ false → (n : ℕ) → 10 ≤ n → n ≤ m → ready_head (setups i).queue (n * B + S) ≡ None
+  none_up_to : begins_first w i ≡ false → (n : ℕ) → 10 ≤ n → n ≤ m → head_at (setups i) (setups i).queue (n * B + S) ≡ None
   none_up_to e n more less = elim (cases_Bool (has_first w i)) [
     | inl own ↦ (let h = few e own (edge_first w i) refl in hand.unready i n inside more (omega arith))
     | inr none ↦ hand.none i (n * B + S) inside none
@@ -76,51 +77,51 @@ module _ (ways : WayLaws) (calm : NoEdgeLaws) (edges : EdgeLaws) (setups : ℕ �
   own_bits : begins_first w i ≡ true → m ≡ w.decides i
   own_bits e = last_is w i e
 
-  unready : (n : ℕ) → 10 ≤ n → n < m → ready_head (setups i).queue (n * B + S) ≡ None
+  unready : (n : ℕ) → 10 ≤ n → n < m → head_at (setups i) (setups i).queue (n * B + S) ≡ None
   unready n more less = elim (cases_Bool (begins_first w i)) [
     | inl own ↦ (let h = own_bits own in hand.unready i n inside more (omega arith))
     | inr other ↦ none_up_to other n more (omega arith)
   ]
 
-  handed_last : (c : Bool) → begins_first w i ≡ c → ready_head (setups i).queue (m * B + S) ≡ head_by (w.frames i) c
+  handed_last : (c : Bool) → begins_first w i ≡ c → head_at (setups i) (setups i).queue (m * B + S) ≡ head_by (w.frames i) (w.which i) c
   handed_last true e =
-      ap (λ n. ready_head (setups i).queue (n * B + S)) (own_bits e) ∙ hand.ready i inside (reaching.begins_has (silence_of w) line (silent_of w line are) i e)
+      ap (λ n. head_at (setups i) (setups i).queue (n * B + S)) (own_bits e) ∙ hand.ready i inside (reaching.begins_has (silence_of w) line (silent_of w line are) i e)
   handed_last false e = none_up_to e m (many w line are i inside) (omega arith)
 
   -- by its segments
   abbrev Unready : Lengths → Type 0
-  Unready k = (n : ℕ) → 10 ≤ n → n < m → ready_head (setups i).queue (n * bit_quanta k + sample_at k) ≡ None
+  Unready k = (n : ℕ) → 10 ≤ n → n < m → head_at (setups i) (setups i).queue (n * bit_quanta k + sample_at k) ≡ None
 
   abbrev Silent : Lengths → Type 0
   Silent k = (q : ℕ) → q ≤ m * bit_quanta k + sample_at k → levels q ≡ Recessive
 
   abbrev Handed : Lengths → Type 0
-  Handed k = ready_head (setups i).queue (m * bit_quanta k + sample_at k) ≡ head_by (w.frames i) (begins_first w i)
+  Handed k = head_at (setups i) (setups i).queue (m * bit_quanta k + sample_at k) ≡ head_by (w.frames i) (w.which i) (begins_first w i)
 
   -- it rests, by other words for its segments
   pub record Rests (k : Lengths) : Type 0 where
     pub sampled : SamplesBy k (clock_sees levels node) (m * bit_quanta k + sample_at k) Recessive
     pub clock : clock_after k (seen_before (clock_sees levels node) (suc (m * bit_quanta k + sample_at k))) ≡ steady_clock k
-    pub stretch : stretch_of (node (suc (m * bit_quanta k + sample_at k))).inputs ≡ next_after m (head_by (w.frames i) (begins_first w i))
+    pub stretch : stretch_of (node (suc (m * bit_quanta k + sample_at k))).inputs ≡ next_after m (head_by (w.frames i) (w.which i) (begins_first w i))
     pub counts : silence.NoneCounts (node (suc (m * bit_quanta k + sample_at k)))
     pub drive : (q : ℕ) → q ≤ suc (m * bit_quanta k + sample_at k) → (node q).drive ≡ Recessive
     pub nothing : (q : ℕ) → q ≤ suc (m * bit_quanta k + sample_at k) → silence.IsUntouched (node q)
 
   rests : Silent (setups i).segments → Unready (setups i).segments → Handed (setups i).segments → Rests (setups i).segments
   rests quiet none head = record {
-    sampled = silence.sampled_last ways calm edges (setups i) book levels node run m quiet none (head_by (w.frames i) (begins_first w i)) head;
+    sampled = silence.sampled_last ways calm edges (setups i) book levels node run m quiet none (head_by (w.frames i) (w.which i) (begins_first w i)) head;
     clock = steady (m - 1) (let ten = many w line are i inside in omega arith);
-    stretch = silence.stretch_last ways calm edges (setups i) book levels node run m quiet none (head_by (w.frames i) (begins_first w i)) head;
-    counts = silence.counts_last ways calm edges (setups i) book levels node run m quiet none (head_by (w.frames i) (begins_first w i)) head;
-    drive = silence.drive_up_to ways calm edges (setups i) book levels node run m quiet none (head_by (w.frames i) (begins_first w i)) head;
-    nothing = silence.nothing_up_to ways calm edges (setups i) book levels node run m quiet none (head_by (w.frames i) (begins_first w i)) head;
+    stretch = silence.stretch_last ways calm edges (setups i) book levels node run m quiet none (head_by (w.frames i) (w.which i) (begins_first w i)) head;
+    counts = silence.counts_last ways calm edges (setups i) book levels node run m quiet none (head_by (w.frames i) (w.which i) (begins_first w i)) head;
+    drive = silence.drive_up_to ways calm edges (setups i) book levels node run m quiet none (head_by (w.frames i) (w.which i) (begins_first w i)) head;
+    nothing = silence.nothing_up_to ways calm edges (setups i) book levels node run m quiet none (head_by (w.frames i) (w.which i) (begins_first w i)) head;
   }
     where
       steady : (n : ℕ) → suc n ≡ m → clock_after (setups i).segments (seen_before (clock_sees levels node) (suc (m * bit_quanta (setups i).segments + sample_at (setups i).segments)))
           ≡ steady_clock (setups i).segments
       steady n e =
           subst (λ j. ((q : ℕ) → q ≤ j * bit_quanta (setups i).segments + sample_at (setups i).segments → levels q ≡ Recessive)
-          → ((n : ℕ) → 10 ≤ n → n < j → ready_head (setups i).queue (n * bit_quanta (setups i).segments + sample_at (setups i).segments) ≡ None)
+          → ((n : ℕ) → 10 ≤ n → n < j → head_at (setups i) (setups i).queue (n * bit_quanta (setups i).segments + sample_at (setups i).segments) ≡ None)
           → clock_after (setups i).segments (seen_before (clock_sees levels node) (suc (j * bit_quanta (setups i).segments + sample_at (setups i).segments))) ≡ steady_clock (setups i).segments)
           e (λ q u. silence.steady_last ways calm edges (setups i) book levels node run n q u) quiet none
 

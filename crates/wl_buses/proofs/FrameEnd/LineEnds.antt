@@ -12,7 +12,7 @@ use Rattle.wl_topology.specs.Driven.{driven}
 use Rattle.wl_machine.specs.Frames.{stuffed_end}
 use Rattle.wl_machine.specs.Judged.{stretch_of}
 use Rattle.wl_node.specs.declared.setup.NodeSetup.{NodeSetup}
-use Rattle.wl_node.specs.History.{History, history_of, seen_next}
+use Rattle.wl_node.specs.History.{History, staying_history, seen_next}
 use Rattle.wl_phase.specs.Clocks.{instant, steady_tick}
 use Rattle.wl_phase.proofs.Callers.{floor_high, floor_low}
 use Rattle.std.proofs.Math.Nat.{lt_of_mul-lt-mul_left}
@@ -149,7 +149,7 @@ module _ (m : MachineLaws) (clocks : ClockLaws) (goes_on : GoesOn) (l : Line) (s
   same_levels i q inside by_end = same_finds i q inside by_end ∙ sym (finds_what_comes l setups s line o end i q inside)
 
   same_node : (i q : ℕ) → i < s.count → q ≤ suc (S end i) → node i q ≡ old i q
-  same_node i q inside by_end = ap (history_of (setups i)) (levels_agree (levels i) (was i) q (λ j less. same_levels i j inside (omega arith)))
+  same_node i q inside by_end = ap (staying_history (setups i)) (levels_agree (levels i) (was i) q (λ j less. same_levels i j inside (omega arith)))
 
   same_seen : (i q : ℕ) → i < s.count → q ≤ S end i → clock_sees (levels i) (node i) q ≡ clock_sees (was i) (old i) q
   same_seen i q inside by_end = ap (λ h. seen_next h (levels i q)) (same_node i q inside (omega arith)) ∙ ap (seen_next (old i q)) (same_levels i q inside by_end)
@@ -387,7 +387,7 @@ module _ (m : MachineLaws) (clocks : ClockLaws) (goes_on : GoesOn) (l : Line) (s
   pub line_ends : DriveExpected → FindLevels → (stop : ℕ) → IsBeforeEnd l s o (end + 13) stop → LineEnds l setups s o end won.station won.frame stop
   line_ends driven_is seen_is stop before = record {
     drives = driven_is l (λ i. stop) drove line.causal (is_expected stop before);
-    node = λ i k ni less. ap (history_of (setups i)) (seen_is l (λ i. stop) drove line.causal (is_expected stop before) i k ni less);
+    node = λ i k ni less. ap (staying_history (setups i)) (seen_is l (λ i. stop) drove line.causal (is_expected stop before) i k ni less);
     bits = bit_at;
     ends = ends_at;
   }
@@ -482,7 +482,7 @@ module _ (m : MachineLaws) (clocks : ClockLaws) (goes_on : GoesOn) (l : Line) (s
       → ((i : ℕ) → i < s.count → until i ≤ l.stop) → LineRests l setups s o end won.station won.frame
   line_rests driven_is seen_is early inside_stop = record {
     drives = driven_is l until drove line.causal (expected_until inside_stop);
-    node = λ i k ni less. ap (history_of (setups i)) (seen_is l until drove line.causal (expected_until inside_stop) i k ni less);
+    node = λ i k ni less. ap (staying_history (setups i)) (seen_is l until drove line.causal (expected_until inside_stop) i k ni less);
     in_time = λ i inside.
         (let low = (are.line.book i inside).lengths.ps2_low in
         let up = next_tick i (S (end + 12) i) (next_due s o end i) inside (omega arith) in

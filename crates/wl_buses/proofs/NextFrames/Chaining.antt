@@ -13,7 +13,6 @@ use Rattle.wl_frame.specs.Grammar.{Content}
 use Rattle.wl_machine.specs.Stretch.{Input}
 use Rattle.wl_machine.specs.Stretch.Input.{Sample}
 use Rattle.wl_node.specs.declared.setup.NodeSetup.{NodeSetup}
-use Rattle.wl_node.specs.declared.setup.Queued.{Queued}
 use Rattle.wl_node.specs.History.{History, unsent_of}
 use Rattle.wl_phase.specs.Clocks.{steady_tick}
 use Rattle.wl_wire.specs.Wire.{Handed, sampled}
@@ -32,6 +31,7 @@ use Rattle.wl_buses.specs.NextFrames.NextStarts.{AreFreeNext, AreResting, Restin
 use Rattle.wl_buses.specs.NextFrames.Runs.{GoesThroughOne, HandsBetween, quiet_by}
 use Rattle.wl_buses.proofs.NextFrames.Windows as windows
 use Rattle.wl_buses.proofs.NextFrames.Windows.{IsHeard, NothingFound, RestAfter}
+use Rattle.wl_buses.specs.BothProofs.Queues.{head_at}
 
 -- the laws that this rests on
 abbrev pub RestsLaw : Type 0
@@ -49,7 +49,7 @@ WaitLaw = (r : Resting) (before : ℕ → List Input) → AreOnALine r.stations 
     → (setup : NodeSetup) → setup.segments ≡ r.stations.lengths i → (levels : ℕ → Level) (node : ℕ → History) → IsRun setup levels node → (handed : Handed) → handed.mode ≡ Active → (since : ℕ)
     → since ≤ rested r i → RestsAgain r.stations (before i ++ Sample (sampled Recessive (r.frames i) handed) ∷ []) i levels node (r.place i) since
     → ((q : ℕ) → rested r i < q → q < (start_next r).from i → levels q ≡ Recessive)
-    → HandsNext r i (slice_get (r.frames i) handed.which) (unsent_of setup (node (suc (rested r i))))
+    → HandsNext r i (slice_get (r.frames i) handed.which) (head_at setup (unsent_of setup (node (suc (rested r i)))))
     → RestsAgain r.stations ((outset_next r before).past i) i levels node (rest_next r i) since
     × ((node (suc (rest_next r i + sample_at (r.stations.lengths i)))).frames ≡ (node (suc (rested r i))).frames)
 
@@ -63,17 +63,17 @@ ThroughLaw = (s : Stations) (o : Outset) (end : ℕ) (chase : ℕ → ℕ) → A
     → GoesThrough s o end won.station i won.frame setup levels node since
 
 -- Which of its frames a node is handed with the third bit of the intermission: the next one or none.
-given : (r : Resting) (i : ℕ) (first : Option Content) (unsent : List Queued) → HandsNext r i first unsent → (which : ℕ) × (slice_get (r.frames i) which ≡ first)
-given r i first unsent hands = elim (cases_eq (r.decides i) 0) [
+given : (r : Resting) (i : ℕ) (first : Option Content) (later : ℕ → Option Content) → HandsNext r i first later → (which : ℕ) × (slice_get (r.frames i) which ≡ first)
+given r i first later hands = elim (cases_eq (r.decides i) 0) [
   | inl now ↦ elim (cases_Bool (has_next r i)) [
-    | inl own ↦ (r.sent i, sym (hands.ready own) ∙ at_zero (r.decides i) now)
+    | inl own ↦ (r.which i, sym (hands.ready own) ∙ at_zero (r.decides i) now)
     | inr none ↦ (length (r.frames i), slice_get_past (r.frames i) (length (r.frames i)) (omega arith) ∙ sym (hands.none 0 none))
   ]
-  | inr later ↦ (length (r.frames i), slice_get_past (r.frames i) (length (r.frames i)) (omega arith) ∙ sym (hands.unready 0 (omega (arith, later))))
+  | inr not_yet ↦ (length (r.frames i), slice_get_past (r.frames i) (length (r.frames i)) (omega arith) ∙ sym (hands.unready 0 (omega (arith, not_yet))))
 ]
   where
-    at_zero : (n : ℕ) → n ≡ 0 → head_after r i first unsent n ≡ first
-    at_zero n e = ap (head_after r i first unsent) e
+    at_zero : (n : ℕ) → n ≡ 0 → head_after r i first later n ≡ first
+    at_zero n e = ap (head_after r i first later) e
 
 -- How a node goes from one frame to the next: it rests with the third bit of the intermission, handed a frame or none, goes on to rest on a silent line, and then goes through the next frame.
 pub record GoesOn (s : Stations) (fs : ℕ → Frame) (count : ℕ) (frames : FollowOneAnother s fs count) (i first_since : ℕ) (setup : NodeSetup) (levels : ℕ → Level) (node : ℕ → History) (n : ℕ)
@@ -85,7 +85,7 @@ pub record GoesOn (s : Stations) (fs : ℕ → Frame) (count : ℕ) (frames : Fo
   pub rests : RestsAgain s (past_at s (fs n).outset ((fs n).bits + 12) i ++ Sample (sampled Recessive ((fs n).outset.frames i) handed) ∷ []) i levels node
       ((resting_of s (fs n) (fs (suc n)) (frames.next n less)).place i) since
   pub silent : (q : ℕ) → third_sample s (fs n) i < q → q < (start_next (resting_of s (fs n) (fs (suc n)) (frames.next n less))).from i → levels q ≡ Recessive
-  pub hands : HandsNext (resting_of s (fs n) (fs (suc n)) (frames.next n less)) i (slice_get ((fs n).outset.frames i) handed.which) (unsent_of setup (node (suc (third_sample s (fs n) i))))
+  pub hands : HandsNext (resting_of s (fs n) (fs (suc n)) (frames.next n less)) i (slice_get ((fs n).outset.frames i) handed.which) (head_at setup (unsent_of setup (node (suc (third_sample s (fs n) i)))))
   pub begins : BeginsAfter s (fs (suc n)).outset i (rest_next (resting_of s (fs n) (fs (suc n)) (frames.next n less)) i)
   pub again : RestsAgain s ((fs (suc n)).outset.past i) i levels node (rest_next (resting_of s (fs n) (fs (suc n)) (frames.next n less)) i) (third_sample s (fs n) i)
   pub same : (node (suc (rest_next (resting_of s (fs n) (fs (suc n)) (frames.next n less)) i + sample_at (s.lengths i)))).frames ≡ (node (suc (third_sample s (fs n) i))).frames
@@ -120,7 +120,7 @@ module _ (m : MachineLaws) (nothing : NothingFound) (is_heard : IsHeard) (rest_a
 
   -- from one frame to the next, if the node is handed what that asks
   module _ (n : ℕ) (less : suc n < count) (x : Goes n (omega arith))
-      (hands : HandsNext (resting_of s (fs n) (fs (suc n)) (frames.next n less)) i (waiting_frame setup (node (T n))) (unsent_of setup (node (suc (T n))))) where
+      (hands : HandsNext (resting_of s (fs n) (fs (suc n)) (frames.next n less)) i (waiting_frame setup (node (T n))) (head_at setup (unsent_of setup (node (suc (T n)))))) where
     abbrev f : IsBegun s (fs n)
     f = frames.each n (omega arith)
 
@@ -134,7 +134,7 @@ module _ (m : MachineLaws) (nothing : NothingFound) (is_heard : IsHeard) (rest_a
     before = past_at s (fs n).outset ((fs n).bits + 12)
 
     abbrev which : (w : ℕ) × (slice_get (r.frames i) w ≡ waiting_frame setup (node (T n)))
-    which = given r i (waiting_frame setup (node (T n))) (unsent_of setup (node (suc (T n)))) hands
+    which = given r i (waiting_frame setup (node (T n))) (head_at setup (unsent_of setup (node (suc (T n))))) hands
 
     abbrev handed : Handed
     handed = record { which = which.0; mode = Active }
@@ -153,8 +153,8 @@ module _ (m : MachineLaws) (nothing : NothingFound) (is_heard : IsHeard) (rest_a
         finds_alone (suc n) q less (λ j e. (let same : j ≡ n = omega (arith, e) in let f : T j ≡ T n = ap T same in omega arith)) (windows.by_third m nothing is_heard rest_after s are room fs count frames n less i inside q below)
         ∙ ap level_of (windows.silent_before m nothing is_heard rest_after s are room fs count frames n less i inside q below)
 
-    hands_then : HandsNext r i (slice_get (r.frames i) which.0) (unsent_of setup (node (suc (T n))))
-    hands_then = subst (λ h. HandsNext r i h (unsent_of setup (node (suc (T n))))) (sym which.1) hands
+    hands_then : HandsNext r i (slice_get (r.frames i) which.0) (head_at setup (unsent_of setup (node (suc (T n)))))
+    hands_then = subst (λ h. HandsNext r i h (head_at setup (unsent_of setup (node (suc (T n)))))) (sym which.1) hands
 
     waits : RestsAgain s ((outset_next r before).past i) i levels node (rest_next r i) since × ((node (suc (rest_next r i + sample_at (s.lengths i)))).frames ≡ (node (suc (T n))).frames)
     waits =

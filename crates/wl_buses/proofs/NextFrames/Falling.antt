@@ -13,7 +13,7 @@ use Rattle.wl_machine.specs.Stretch.{Input, free}
 use Rattle.wl_machine.specs.Judged.{stretch_of}
 use Rattle.wl_machine.specs.States.{stretch_by}
 use Rattle.wl_node.specs.declared.setup.NodeSetup.{NodeSetup}
-use Rattle.wl_node.specs.History.{History, history_of, ready_head, unsent_of}
+use Rattle.wl_node.specs.History.{History, staying_history, unsent_of}
 use Rattle.wl_phase.specs.Clocks.{steady_tick}
 use Rattle.wl_plan.specs.Line.{Line}
 use Rattle.wl_wire.specs.Wire.{Handed}
@@ -37,6 +37,8 @@ use Rattle.wl_buses.proofs.NextFrames.LineGoing as going
 use Rattle.wl_buses.proofs.NextFrames.LineGoing.{AskedLaw, NodeLaw}
 use Rattle.wl_buses.proofs.NextFrames.Windows as windows
 use Rattle.wl_buses.proofs.NextFrames.Windows.{IsHeard, NothingFound, RestAfter}
+use Rattle.wl_buses.specs.BothProofs.Queues.{head_at}
+use Rattle.wl_buses.proofs.BothProofs.Heads.{head_none}
 
 -- the law that this rests on
 abbrev pub QuietLaw : Type 0
@@ -81,7 +83,7 @@ module _ (m : MachineLaws) (nothing : NothingFound) (is_heard : IsHeard) (rest_a
     none = slice_get_past ((fs n).outset.frames i) which (omega arith)
 
     waits_none : waiting_frame (setups i) (node i (T n i)) ≡ None
-    waits_none = ap (λ v. ready_head v (length (node i (T n i)).seen)) (sent.before i n inside is)
+    waits_none = ap (λ v. head_at (setups i) v (length (node i (T n i)).seen)) (sent.before i n inside is) ∙ head_none (setups i) (length (node i (T n i)).seen)
 
     abbrev since : ℕ
     since = (expected_bits s (fs n).outset (suc (suc (fs n).bits))).from i
@@ -147,7 +149,7 @@ module _ (m : MachineLaws) (nothing : NothingFound) (is_heard : IsHeard) (rest_a
     falls_silent driven_is seen_is = record {
       goes = record {
         drives = driven_is l (λ i. stop) drove line.causal is_expected;
-        node = λ i k ni less. ap (history_of (setups i)) (seen_is l (λ i. stop) drove line.causal is_expected i k ni less);
+        node = λ i k ni less. ap (staying_history (setups i)) (seen_is l (λ i. stop) drove line.causal is_expected i k ni less);
         goes = going.goes m nothing is_heard rest_after asked node_law l setups s line are room fs count frames some begin;
       };
       rests = λ i n q inside is more. still n i is inside q more;

@@ -7,7 +7,7 @@ use Rattle.wl_sync.specs.Bits.{beat_of}
 use Rattle.wl_sync.specs.Running.{clock_after}
 use Rattle.wl_machine.specs.Judged.{stretch_of}
 use Rattle.wl_node.specs.declared.setup.NodeSetup.{NodeSetup}
-use Rattle.wl_node.specs.History.{history_of, seen_next}
+use Rattle.wl_node.specs.History.{staying_history, seen_next}
 use Rattle.wl_phase.specs.InStep.{seen_before}
 use Rattle.wl_buses.specs.OneFrame.Stations.{Stations}
 use Rattle.wl_buses.specs.OneFrame.Expected.{Outset}
@@ -22,7 +22,7 @@ module _ (s : Stations) (o : Outset) (i : ℕ) (setup : NodeSetup) (new old : �
   R = rest + sample_at (s.lengths i)
 
   same_node : (q : ℕ) → q ≤ suc R → node_after setup new q ≡ node_after setup old q
-  same_node q by = ap (history_of setup) (levels_agree new old q (λ j less. same j (omega arith)))
+  same_node q by = ap (staying_history setup) (levels_agree new old q (λ j less. same j (omega arith)))
 
   same_sees : (q : ℕ) → q ≤ R → clock_sees new (node_after setup new) q ≡ clock_sees old (node_after setup old) q
   same_sees q by = ap (λ h. seen_next h (new q)) (same_node q (omega arith)) ∙ ap (seen_next (node_after setup old q)) (same q by)

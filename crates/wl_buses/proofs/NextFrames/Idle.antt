@@ -1,6 +1,6 @@
 -- A node that rests on a silent line, bit by bit: what it has sampled, and that nothing counts.
 use Rattle.std.proofs.Common.{◌≡◌, ◌∙◌, inl, inr, refl, sym, ap, subst, ℕ, zero, suc, ◌+◌, ◌<◌, ◌≤◌, Bool, false, List, length, Option, arith, ◌-◌}
-use Rattle.std.specs.Prelude.{count_by, drop}
+use Rattle.std.specs.Prelude.{count_by}
 use Rattle.std.proofs.lemmas.Bool.{cases_eq, cases_lt}
 use Rattle.wl_level.specs.declared.Level.{Level}
 use Rattle.wl_level.specs.declared.Level.TheVariants.{Recessive}
@@ -23,7 +23,7 @@ use Rattle.wl_machine.specs.Judged.{drive_by, drive_of, judged, judged_by, stret
 use Rattle.wl_machine.specs.States.{sample_of}
 use Rattle.wl_node.specs.declared.setup.NodeSetup.{NodeSetup}
 use Rattle.wl_node.specs.declared.setup.Passed.{Passed}
-use Rattle.wl_node.specs.History.{History, is_sent, ready_head, sampled_next, unsent_of}
+use Rattle.wl_node.specs.History.{History, sampled_next, unsent_of}
 use Rattle.wl_phase.specs.InStep.{seen_before}
 use Rattle.wl_phase.specs.Ways.{ByTheBook}
 use Rattle.wl_buses.specs.OneFrame.Clocked.{BitIs, EdgeLaws, NoEdgeLaws, SamplesBy}
@@ -32,6 +32,7 @@ use Rattle.wl_buses.proofs.OneFrame.TakenOn as taken
 use Rattle.wl_buses.proofs.FirstFrame.Silent.{seen_length}
 use Rattle.wl_buses.proofs.OneFrame.Nodes.{drive_by as driven_by, happened_by, inputs_by, seen_are, frames_by}
 use Rattle.wl_buses.proofs.OneFrame.TakenOn.{TakesOn, goes_idle}
+use Rattle.wl_buses.specs.BothProofs.Queues.{head_at, unsent_after}
 
 takes_on : (s : Stretch) (head : Option Content) → s.sort ≡ Idle → TakesOn (judged s (sample_of Recessive head Active))
 takes_on s head idle = subst (λ k. TakesOn (judged_by k s.own (sample_of Recessive head Active))) (sym idle) (goes_idle head)
@@ -119,12 +120,12 @@ module _ (edges : EdgeLaws) (calm : NoEdgeLaws) (setup : NodeSetup) (l : Lengths
 
     -- what it is handed with the sample
     abbrev head : Option Content
-    head = ready_head (drop (count_by is_sent passed) setup.queue) next
+    head = head_at setup (unsent_after setup passed) next
 
-    pub waiting_is : ready_head (unsent_of setup (node next)) (length (node next).seen) ≡ head
+    pub waiting_is : head_at setup (unsent_of setup (node next)) (length (node next).seen) ≡ head
     waiting_is =
-        ap (λ fs. ready_head (drop (count_by is_sent fs) setup.queue) (length (node next).seen)) last.frames
-        ∙ ap (ready_head (drop (count_by is_sent passed) setup.queue)) (ap length (seen_are setup levels node run next) ∙ seen_length sees next)
+        ap (λ fs. head_at setup (unsent_after setup fs) (length (node next).seen)) last.frames
+        ∙ ap (head_at setup (unsent_after setup passed)) (ap length (seen_are setup levels node run next) ∙ seen_length sees next)
 
     head_is : (sampled_next setup (node next) (levels next)).head ≡ head
     head_is = ap (λ v. (sampled_next setup (node next) v).head) silent_next ∙ waiting_is

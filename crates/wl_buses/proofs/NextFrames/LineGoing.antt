@@ -7,7 +7,7 @@ use Rattle.wl_segments.specs.Lengths.{sample_at}
 use Rattle.wl_topology.specs.Driven.{driven}
 use Rattle.wl_topology.proofs.Callers.{any_none}
 use Rattle.wl_node.specs.declared.setup.NodeSetup.{NodeSetup}
-use Rattle.wl_node.specs.History.{History, history_of}
+use Rattle.wl_node.specs.History.{History, staying_history}
 use Rattle.wl_phase.specs.Clocks.{steady_tick}
 use Rattle.wl_plan.specs.Line.{Line}
 use Rattle.wl_buses.specs.BothProofs.Expected.{IsExpected}
@@ -160,6 +160,6 @@ module _ (m : MachineLaws) (nothing : NothingFound) (is_heard : IsHeard) (rest_a
   pub line_goes : DriveExpected → FindLevels → (stop : ℕ) → IsBeforeLast l s fs count stop → LineGoes l setups s fs count frames stop
   line_goes driven_is seen_is stop before = record {
     drives = driven_is l (λ i. stop) drove line.causal (is_expected stop before);
-    node = λ i k ni less. ap (history_of (setups i)) (seen_is l (λ i. stop) drove line.causal (is_expected stop before) i k ni less);
+    node = λ i k ni less. ap (staying_history (setups i)) (seen_is l (λ i. stop) drove line.causal (is_expected stop before) i k ni less);
     goes = goes;
   }

@@ -24,12 +24,7 @@ use Rattle.wl_buses.proofs.OneFrame.Waited.{idle_after, none_is, none_of, one_mo
 use Rattle.wl_buses.specs.NextFrames.NextStarts.{AreFreeNext, AreResting, Resting, begins_next, handed_next, last_next, outset_next, past_next, waiting_past}
 use Rattle.wl_buses.proofs.FirstFrame.Reaching as reaching
 use Rattle.wl_buses.proofs.NextFrames.Lasting.{silence_of, silent_of}
-
--- an element of a list
-pub some_at : (cs : List Content) (n : ℕ) → n < length cs → (c : Content) × (slice_get cs n ≡ Some c)
-some_at [] n less = absurd (omega arith)
-some_at (c ∷ cs) zero less = (c, refl)
-some_at (c ∷ cs) (suc n) less = some_at cs n (omega arith)
+use Rattle.wl_buses.proofs.BothProofs.Heads.{some_at}
 
 -- what it is handed with the sample with which it rests
 abbrev pub first_handed : (frames : ℕ → List Content) (k sent : ℕ) → Bool → ℕ → Handed
@@ -114,18 +109,18 @@ module _ (wait : MayWait) (w : Resting) (before : ℕ → List Input) (line : Ar
   free_at k lt h e = rests.free k h lt e
 
   abbrev handed : ℕ → Handed
-  handed k = first_handed w.frames k (w.sent k) (begins_next w k) (last_next w k)
+  handed k = first_handed w.frames k (w.which k) (begins_next w k) (last_next w k)
 
   abbrev with_one : ℕ → List Input
   with_one k = before k ++ Sample (sampled Recessive (w.frames k) (handed k)) ∷ []
 
   together : MayBeginTogether s.count w.frames with_one
-  together = rests.together handed (λ k lt. first_active w.frames k (w.sent k) (begins_next w k) (last_next w k))
+  together = rests.together handed (λ k lt. first_active w.frames k (w.which k) (begins_next w k) (last_next w k))
 
   may : MayBeginTogether s.count w.frames (past_next w before)
   may =
       wait s.count w.frames with_one (past_next w before) together
-      (λ k lt. waited w.frames k (before k) (free_at k lt) (w.sent k) (begins_next w k) (last_next w k))
+      (λ k lt. waited w.frames k (before k) (free_at k lt) (w.which k) (begins_next w k) (last_next w k))
 
   pub past_inside : (k : ℕ) → k < s.count → o.past k ≡ past_next w before k
   past_inside k lt = ap (λ c. cond c (past_next w before k) []) (lt-ltb k s.count lt)
@@ -134,29 +129,29 @@ module _ (wait : MayWait) (w : Resting) (before : ℕ → List Input) (line : Ar
   past_outside k more = ap (λ c. cond c (past_next w before k) []) (le-ltb k s.count more)
 
   -- a machine that is handed its frame drives its start
-  frame_of : (k : ℕ) → begins_next w k ≡ true → (c : Content) × (slice_get (w.frames k) (w.sent k) ≡ Some c)
-  frame_of k e = some_at (w.frames k) (w.sent k) (ltb-true (w.sent k) (length (w.frames k)) (reaching.begins_has (silence_of w) line (silent_of w line are) k e))
+  frame_of : (k : ℕ) → begins_next w k ≡ true → (c : Content) × (slice_get (w.frames k) (w.which k) ≡ Some c)
+  frame_of k e = some_at (w.frames k) (w.which k) (ltb-true (w.which k) (length (w.frames k)) (reaching.begins_has (silence_of w) line (silent_of w line are) k e))
 
-  pub begun : (k : ℕ) → begins_next w k ≡ true → (c : Content) × (slice_get (w.frames k) (w.sent k) ≡ Some c) × (stretch_of (o.past k) ≡ stretch_by (Framing (Some c)) [])
+  pub begun : (k : ℕ) → begins_next w k ≡ true → (c : Content) × (slice_get (w.frames k) (w.which k) ≡ Some c) × (stretch_of (o.past k) ≡ stretch_by (Framing (Some c)) [])
   begun k e =
       let lt = are.inside k (reaching.begins_has (silence_of w) line (silent_of w line are) k e) in
       let c = frame_of k e in (
         c.0,
         c.1,
-        ap stretch_of (past_inside k lt) ∙ ap (λ b. stretch_of (before k ++ waiting_past b (w.frames k) (w.sent k) (last_next w k))) e
-            ∙ begins_by w.frames k (before k) (free_at k lt) (w.sent k) (last_next w k) c.0 c.1,
+        ap stretch_of (past_inside k lt) ∙ ap (λ b. stretch_of (before k ++ waiting_past b (w.frames k) (w.which k) (last_next w k))) e
+            ∙ begins_by w.frames k (before k) (free_at k lt) (w.which k) (last_next w k) c.0 c.1,
       )
 
   pub follows : (k : ℕ) → k < s.count → begins_next w k ≡ false → (stretch_of (o.past k)).sort ≡ Idle
   follows k lt e =
-      ap (λ p. (stretch_of p).sort) (past_inside k lt) ∙ ap (λ b. (stretch_of (before k ++ waiting_past b (w.frames k) (w.sent k) (last_next w k))).sort) e
-      ∙ stays_idle w.frames k (before k) (free_at k lt) (w.sent k) (last_next w k)
+      ap (λ p. (stretch_of p).sort) (past_inside k lt) ∙ ap (λ b. (stretch_of (before k ++ waiting_past b (w.frames k) (w.which k) (last_next w k))).sort) e
+      ∙ stays_idle w.frames k (before k) (free_at k lt) (w.which k) (last_next w k)
 
   drives_begun : (k : ℕ) → begins_next w k ≡ true → drive_of (stretch_of (o.past k)) ≡ Dominant
   drives_begun k e =
       let lt = are.inside k (reaching.begins_has (silence_of w) line (silent_of w line are) k e) in
       let c = begun k e in
-      ap drive_of c.2 ∙ first_drive c.0 (are.frames.content k c.0 lt (w.sent k, c.1))
+      ap drive_of c.2 ∙ first_drive c.0 (are.frames.content k c.0 lt (w.which k, c.1))
 
   drives_none : (k : ℕ) → begins_next w k ≡ false → drive_of (stretch_of (o.past k)) ≡ Recessive
   drives_none k e = elim (cases_lt k s.count) [

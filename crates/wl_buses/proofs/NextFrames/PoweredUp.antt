@@ -3,7 +3,7 @@ use Rattle.std.proofs.Common.{◌≡◌, sym, ap, subst, ℕ, suc, ◌+◌, ◌<
 use Rattle.wl_segments.specs.Lengths.{sample_at}
 use Rattle.wl_machine.specs.Frames.{stuffed_end}
 use Rattle.wl_node.specs.declared.setup.NodeSetup.{NodeSetup}
-use Rattle.wl_node.specs.History.{history_of}
+use Rattle.wl_node.specs.History.{staying_history}
 use Rattle.wl_plan.specs.Line.{Line}
 use Rattle.wl_buses.specs.OneFrame.Expected.{Outset, expected_bits}
 use Rattle.wl_buses.specs.OneFrame.Lines.{BeginsAfter, IsLineOf, RestsBefore, finds_expected, node_after}
@@ -76,4 +76,4 @@ module _ (m : MachineLaws) (nothing : NothingFound) (is_heard : IsHeard) (rest_a
   pub nothing_passed : (q : ℕ) → q ≤ suc (rest_first w i + sample_at (s.lengths i)) → IsUntouched (node_after (setups i) (finds_frames l s fs count i) q)
   nothing_passed q by =
       subst IsUntouched
-      (sym (ap (history_of (setups i)) (levels_agree (finds_frames l s fs count i) (finds_expected l s (fs 0).outset (fs 0).bits i) q (λ j less. finds_first m nothing is_heard rest_after l setups s line are room fs count frames some i (rest_first w i) j inside begins (omega arith))))) (none_first q by)
+      (sym (ap (staying_history (setups i)) (levels_agree (finds_frames l s fs count i) (finds_expected l s (fs 0).outset (fs 0).bits i) q (λ j less. finds_first m nothing is_heard rest_after l setups s line are room fs count frames some i (rest_first w i) j inside begins (omega arith))))) (none_first q by)

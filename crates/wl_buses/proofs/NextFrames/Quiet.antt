@@ -1,6 +1,6 @@
 -- A node that has sent its queue rests as long as its line is silent.
 use Rattle.std.proofs.Common.{◌≡◌, ◌∙◌, inl, inr, refl, sym, ap, subst, ℕ, zero, suc, ◌+◌, ◌-◌, ◌*◌, ◌<◌, ◌≤◌, cond, Bool, List, [], None, arith}
-use Rattle.std.specs.Prelude.{count_by, drop, nat_lt}
+use Rattle.std.specs.Prelude.{count_by, nat_lt}
 use Rattle.std.proofs.lemmas.Bool.{cases_lt, le-ltb, lt-ltb}
 use Rattle.wl_level.specs.declared.Level.{Level}
 use Rattle.wl_level.specs.declared.Level.TheVariants.{Recessive}
@@ -17,7 +17,7 @@ use Rattle.wl_machine.specs.Judged.{stretch_after, stretch_of}
 use Rattle.wl_machine.specs.States.{sample_of, stretch_by}
 use Rattle.wl_node.specs.declared.setup.NodeSetup.{NodeSetup}
 use Rattle.wl_node.specs.declared.setup.Passed.{Passed}
-use Rattle.wl_node.specs.History.{History, error_count, history_after, is_sent, ready_head, seen_next, unsent_of}
+use Rattle.wl_node.specs.History.{History, error_count, history_after, seen_next, unsent_of}
 use Rattle.wl_phase.specs.InStep.{seen_before}
 use Rattle.wl_buses.specs.OneFrame.Stations.{AreOnALine, Stations}
 use Rattle.wl_buses.specs.OneFrame.Clocked.{EdgeLaws, NoEdgeLaws}
@@ -30,6 +30,8 @@ use Rattle.wl_buses.specs.FirstFrame.Faults.{fault_count, is_fault}
 use Rattle.wl_buses.specs.FrameEnd.Again.{RestsAgain}
 use Rattle.wl_buses.specs.NextFrames.Silence.{StillRests}
 use Rattle.wl_buses.proofs.NextFrames.Idle as idle
+use Rattle.wl_buses.specs.BothProofs.Queues.{head_at, unsent_after}
+use Rattle.wl_buses.proofs.BothProofs.Heads.{head_none}
 
 -- on a line that is silent for ever
 module _ (edges : EdgeLaws) (calm : NoEdgeLaws) (s : Stations) (line : AreOnALine s) (past : List Input) (i : ℕ) (inside : i < s.count) (setup : NodeSetup) (segments : setup.segments ≡ s.lengths i)
@@ -86,8 +88,8 @@ module _ (edges : EdgeLaws) (calm : NoEdgeLaws) (s : Stations) (line : AreOnALin
   silent_bit n q low high = silent q (omega arith)
 
   -- it is handed no frame
-  none_at : (q : ℕ) → ready_head (drop (count_by is_sent passed) setup.queue) q ≡ None
-  none_at q = ap (λ v. ready_head v q) sent
+  none_at : (q : ℕ) → head_at setup (unsent_after setup passed) q ≡ None
+  none_at q = ap (λ v. head_at setup v q) sent ∙ head_none setup q
 
   idles_next : (n : ℕ) → Idles n → Idles (suc n)
   idles_next n a = record {

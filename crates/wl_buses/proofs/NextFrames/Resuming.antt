@@ -1,6 +1,6 @@
 -- A node that rests waits for the next frame.
 use Rattle.std.proofs.Common.{◌≡◌, ◌∙◌, inl, inr, refl, sym, ap, subst, ℕ, zero, suc, ◌+◌, ◌*◌, ◌<◌, ◌≤◌, Bool, true, false, List, [], ◌∷◌, ◌++◌, length, replicate, Option, Some, None, arith, append-nil}
-use Rattle.std.specs.Prelude.{count_by, drop, slice_get}
+use Rattle.std.specs.Prelude.{count_by, slice_get}
 use Rattle.std.proofs.lemmas.Bool.{cases_Bool, cases_lt}
 use Rattle.std.proofs.lemmas.List.{append_assoc}
 use Rattle.std.proofs.lemmas.Option.{slice_get_past}
@@ -19,7 +19,7 @@ use Rattle.wl_machine.specs.States.{sample_of, stretch_by}
 use Rattle.wl_machine.proofs.Callers.{stretch_next}
 use Rattle.wl_node.specs.declared.setup.NodeSetup.{NodeSetup}
 use Rattle.wl_node.specs.declared.setup.Passed.{Passed}
-use Rattle.wl_node.specs.History.{History, is_sent, ready_head, unsent_of}
+use Rattle.wl_node.specs.History.{History, unsent_of}
 use Rattle.wl_wire.specs.Wire.{Handed, sampled}
 use Rattle.wl_buses.specs.OneFrame.Stations.{AreOnALine, Stations}
 use Rattle.wl_buses.specs.OneFrame.Clocked.{EdgeLaws, NoEdgeLaws}
@@ -35,6 +35,7 @@ use Rattle.wl_buses.specs.NextFrames.NextNodes.{HandsNext, head_after}
 use Rattle.wl_buses.proofs.NextFrames.Idle as idle
 use Rattle.wl_buses.proofs.NextFrames.Lasting.{IsLast, last_at, last_is, silence_of, silent_of}
 use Rattle.wl_buses.proofs.NextFrames.Outset.{MayWait, begun, past_inside}
+use Rattle.wl_buses.specs.BothProofs.Queues.{head_at, unsent_after}
 
 -- the stretch of a machine that is free, and has sampled so many recessive bits more, with these heads
 abbrev stretches : (head : ℕ → Option Content) → ℕ → Stretch
@@ -46,7 +47,7 @@ module _ (wait : MayWait) (edges : EdgeLaws) (calm : NoEdgeLaws) (w : Resting) (
     (levels : ℕ → Level) (node : ℕ → History) (run : IsRun setup levels node) (handed : Handed) (active : handed.mode ≡ Active) (since : ℕ)
     (first : RestsAgain w.stations (before i ++ Sample (sampled Recessive (w.frames i) handed) ∷ []) i levels node (w.place i) since)
     (since_before : since ≤ rested w i) (silent : (q : ℕ) → rested w i < q → q < (start_next w).from i → levels q ≡ Recessive)
-    (hands : HandsNext w i (slice_get (w.frames i) handed.which) (unsent_of setup (node (suc (rested w i))))) where
+    (hands : HandsNext w i (slice_get (w.frames i) handed.which) (head_at setup (unsent_of setup (node (suc (rested w i)))))) where
   abbrev s : Stations
   s = w.stations
 
@@ -75,7 +76,7 @@ module _ (wait : MayWait) (edges : EdgeLaws) (calm : NoEdgeLaws) (w : Resting) (
   wrong test = count_by test (node (suc (rested w i))).happened
 
   abbrev head : ℕ → Option Content
-  head = head_after w i (slice_get (w.frames i) handed.which) (unsent_of setup (node (suc (rested w i))))
+  head = head_after w i (slice_get (w.frames i) handed.which) (head_at setup (unsent_of setup (node (suc (rested w i)))))
 
   -- what it is handed up to its last bit before the frame
   few : begins_next w i ≡ false → has_next w i ≡ true → (op : Option ℕ) → edge_next w i ≡ op → m < w.decides i
@@ -99,7 +100,7 @@ module _ (wait : MayWait) (edges : EdgeLaws) (calm : NoEdgeLaws) (w : Resting) (
     | inr other ↦ none_up_to other n (omega arith)
   ]
 
-  head_last : begins_next w i ≡ true → head m ≡ slice_get (w.frames i) (w.sent i)
+  head_last : begins_next w i ≡ true → head m ≡ slice_get (w.frames i) (w.which i)
   head_last e = ap head (last_is w i e) ∙ hands.ready (reaching.begins_has (silence_of w) line (silent_of w line are) i e)
 
   -- the stretch of its machine
@@ -135,7 +136,7 @@ module _ (wait : MayWait) (edges : EdgeLaws) (calm : NoEdgeLaws) (w : Resting) (
   -- as is expected
   past_follows : begins_next w i ≡ false → stretch_of (o.past i) ≡ stretch_of (resting ++ replicate m no_frame_sample)
   past_follows e =
-      ap stretch_of (past_inside wait w before line are frees i inside ∙ ap (λ b. before i ++ waiting_past b (w.frames i) (w.sent i) m) e
+      ap stretch_of (past_inside wait w before line are frees i inside ∙ ap (λ b. before i ++ waiting_past b (w.frames i) (w.which i) m) e
       ∙ sym (append_assoc (before i) (no_frame_sample ∷ []) (replicate m no_frame_sample)))
 
   x_last : x m ≡ stretch_of (o.past i)
@@ -180,8 +181,8 @@ module _ (wait : MayWait) (edges : EdgeLaws) (calm : NoEdgeLaws) (w : Resting) (
       silent q (omega arith) (omega arith)
 
   -- the head by its place
-  head_is : (n : ℕ) → ready_head (drop (count_by is_sent passed) setup.queue) (p n + B + S) ≡ head (suc n)
-  head_is n = ap (ready_head (drop (count_by is_sent passed) setup.queue)) (let e : p n + B + S ≡ w.place i + suc n * B + S = omega arith in e)
+  head_is : (n : ℕ) → head_at setup (unsent_after setup passed) (p n + B + S) ≡ head (suc n)
+  head_is n = ap (head_at setup (unsent_after setup passed)) (let e : p n + B + S ≡ w.place i + suc n * B + S = omega arith in e)
 
   rests_next_by : (n : ℕ) → n < m → Rests n → Rests (suc n)
   rests_next_by n less r =

@@ -11,6 +11,7 @@ use Rattle.wl_buses.specs.NextFrames.NextNodes.{head_after}
 use Rattle.wl_buses.specs.BothProofs.Queues.{queued_contents}
 use Rattle.wl_buses.specs.NextFrames.Queues.{decides_after}
 use Rattle.wl_buses.proofs.BothProofs.Rows.{c, l, s}
+use Rattle.wl_node.specs.History.{ready_head}
 
 -- Place 0 of the third bit of the intermission is at quantum 100 of station 0 and at quantum 95 of station 1. Station 1 decides with the sample of the bit after it.
 abbrev place_of : ℕ → ℕ
@@ -22,7 +23,7 @@ decide n zero = n
 decide n (suc k) = 1
 
 abbrev after : ℕ → Resting
-after n = record { stations = s; frames = λ k. c ∷ []; sent = λ k. 0; place = place_of; decides = decide n }
+after n = record { stations = s; frames = λ k. c ∷ []; which = λ k. 0; place = place_of; decides = decide n }
 
 -- it rests with that sample, and begins no earlier than a bit later
 rests_by : rested (after 0) 0 ≡ 107
@@ -82,7 +83,7 @@ last_before = refl
 
 -- a station that has sent its frames has none left
 abbrev over : Resting
-over = record { stations = s; frames = λ k. c ∷ []; sent = λ k. 1; place = place_of; decides = decide 0 }
+over = record { stations = s; frames = λ k. c ∷ []; which = λ k. 1; place = place_of; decides = decide 0 }
 
 done : has_next over 0 ≡ false
 done = refl
@@ -95,10 +96,10 @@ none_left : waiting_past false (c ∷ []) 1 1 ≡ no_frame_sample ∷ no_frame_s
 none_left = refl
 
 -- a frame that becomes ready at quantum 110, between the samples of the third bit and of the next
-ready_between : head_after (after 1) 0 None (record { frame = c; ready = 110 } ∷ []) 1 ≡ Some c
+ready_between : head_after (after 1) 0 None (ready_head (record { frame = c; ready = 110 } ∷ [])) 1 ≡ Some c
 ready_between = refl
 
-not_ready : head_after (after 1) 0 None (record { frame = c; ready = 118 } ∷ []) 1 ≡ None
+not_ready : head_after (after 1) 0 None (ready_head (record { frame = c; ready = 118 } ∷ [])) 1 ≡ None
 not_ready = refl
 
 -- With a frame that is ready by quantum 107 a node decides with its third bit of the intermission, with one of quantum 108 a bit later, and with one of quantum 118 two bits later.

@@ -88,5 +88,5 @@ another m left course same part begins rest free s a chase sent decides are room
     let b = begun_by m left course same part s (outset_next (resting_after s a.outset a.bits sent decides) (past_at s a.outset (a.bits + 12))) chase are room enough out in (
       record { outset = outset_next (resting_after s a.outset a.bits sent decides) (past_at s a.outset (a.bits + 12)); bits = b.0 },
       b.1,
-      record { sent = sent; decides = decides; more = more; is = refl },
+      record { which = sent; decides = decides; more = more; is = refl },
     )

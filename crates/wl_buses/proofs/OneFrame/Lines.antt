@@ -10,7 +10,7 @@ use Rattle.wl_topology.proofs.Callers.{any_same}
 use Rattle.wl_machine.specs.Stretch.Input.{Sample}
 use Rattle.wl_machine.specs.Frames.{stuffed_end}
 use Rattle.wl_node.specs.declared.setup.NodeSetup.{NodeSetup}
-use Rattle.wl_node.specs.History.{History, history_after, history_of, no_history}
+use Rattle.wl_node.specs.History.{History, history_after, staying_history, no_history}
 use Rattle.wl_phase.specs.Clocks.{steady_tick}
 use Rattle.wl_plan.specs.Line.{Line}
 use Rattle.wl_plan.specs.Simulation.{level, seen}
@@ -36,7 +36,7 @@ no_or false c e = e
 
 -- a node after the levels that are expected
 pub run_of : (setup : NodeSetup) (levels : ℕ → Level) → IsRun setup levels (node_after setup levels)
-unfolding history_of
+unfolding staying_history
 run_of setup levels = record { first = refl; next = λ q. fold-append (history_after setup) no_history (levels_before levels q) (levels q ∷ []) }
 
 -- what it finds is what reaches it
@@ -208,7 +208,7 @@ module _ (steps : StayInStep) (errors : FindNoErrors) (winner : LeastWins) (stuf
   pub does : DrivesExpected → SeesLevels → (end : ℕ) → IsBeforeEnd l s o total end → DoesAsExpected l setups s o total end
   does driven_is seen_is end before = record {
     drives = driven_is l (λ i. end) drove line.causal (is_expected end before);
-    node = λ i k ni less. ap (history_of (setups i)) (seen_is l (λ i. end) drove line.causal (is_expected end before) i k ni less);
+    node = λ i k ni less. ap (staying_history (setups i)) (seen_is l (λ i. end) drove line.causal (is_expected end before) i k ni less);
     bits = bit_at;
     won = left;
   }

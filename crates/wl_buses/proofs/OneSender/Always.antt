@@ -1,6 +1,6 @@
 -- A bus with one sender from its power-up to its end: frame after frame, or silence.
-use Rattle.std.proofs.Common.{◌≡◌, ◌∙◌, ◌⊎◌, inl, inr, refl, sym, ap, subst, ℕ, zero, suc, ◌+◌, ◌-◌, ◌*◌, ◌<◌, ◌≤◌, min, max, length, List, Bool, true, false, cond, Option, Some, None, arith}
-use Rattle.std.specs.Prelude.{◌==◌, drop}
+use Rattle.std.proofs.Common.{◌≡◌, ◌∙◌, ◌⊎◌, inl, inr, refl, sym, ap, subst, ℕ, zero, suc, ◌+◌, ◌-◌, ◌*◌, ◌<◌, ◌≤◌, min, max, length, List, [], ◌∷◌, ◌++◌, Bool, true, false, cond, Option, Some, None, append-nil, append_assoc, length-append, arith}
+use Rattle.std.specs.Prelude.{◌==◌, count_by, slice_get}
 use Rattle.std.proofs.lemmas.Bool.{cases_lt, cases_eq, cases_order, eq-eqb, ne_eqb}
 use Rattle.std.proofs.Math.Bridge.{le_prop}
 use Rattle.std.proofs.Math.Nat.{mul-le-mul_right, mul-le-mul_left}
@@ -9,24 +9,25 @@ use Rattle.wl_level.specs.declared.Level.{Level}
 use Rattle.wl_level.specs.declared.Level.TheVariants.{Recessive}
 use Rattle.wl_segments.specs.Lengths.{sample_at, bit_quanta}
 use Rattle.wl_confine.specs.Counts.{no_counts}
-use Rattle.wl_frame.specs.Stuffing.{Stuffs}
-use Rattle.wl_frame.specs.Grammar.{Content, IsContent, bits_of}
+use Rattle.wl_frame.specs.Grammar.{Content}
 use Rattle.wl_machine.specs.Stretch.{Stretch}
 use Rattle.wl_node.specs.declared.setup.Passed.{Passed}
-use Rattle.wl_node.specs.History.{history_of, counters_of, error_count, ready_head}
+use Rattle.wl_node.specs.declared.setup.Queued.{Queued}
+use Rattle.wl_node.specs.History.{staying_history, counters_of, error_count, is_sent}
 use Rattle.wl_phase.specs.Clocks.{steady_tick}
 use Rattle.wl_plan.specs.Line.{Line}
 use Rattle.wl_plan.specs.Simulation.{seen, AreInside}
 use Rattle.wl_buses.specs.BothProofs.Levels.{levels_before}
 use Rattle.wl_buses.specs.OneSender.OneSender.{SenderBus, IsBus, IsListener, IsInStepWithAll, SendsFirst, lengths_of}
-use Rattle.wl_buses.specs.OneSender.Through.{AreFrames, GetThrough, EndsInSlots, history_at, sender_queue, due_quantum}
-use Rattle.wl_buses.specs.BothProofs.Queues.{queued_contents, ready_at}
+use Rattle.wl_buses.specs.OneSender.Through.{AreFrames, GetThrough, EndsInSlots, MaySend, history_at, sender_queue, due_quantum}
+use Rattle.wl_buses.specs.BothProofs.Queues.{ComeFrom, head_at, queued_contents, ready_at, unsent_after, wakes_at}
+use Rattle.wl_buses.proofs.BothProofs.Heads.{awake_by, awake_later, come_first, come_length, come_next, fifo_next, handed_some, head_in, same_length, unsent_first, unsent_in, unsent_none}
 use Rattle.wl_buses.proofs.OneSender.Calm as calm
 use Rattle.wl_buses.proofs.BothProofs.Expecting.{seen_by_quanta}
 use Rattle.wl_buses.proofs.OneSender.Following as following
 use Rattle.wl_buses.proofs.OneSender.Nodes.{Does}
 use Rattle.wl_buses.proofs.OneSender.Leasts.{split}
-use Rattle.wl_buses.proofs.OneSender.Passing.{IsNext, IsPassed, contents_long, next_is, none_passed, ready_late, ready_not}
+use Rattle.wl_buses.proofs.OneSender.Passing.{IsPassed, contents_long, none_passed, still_passed}
 use Rattle.wl_buses.proofs.OneSender.Planned.{Laws}
 use Rattle.wl_buses.proofs.OneSender.Replies as replies
 use Rattle.wl_buses.proofs.OneSender.Choosing.{StayLaws}
@@ -44,7 +45,7 @@ cases_head (Some h) = inr (h, refl)
 none_or_some : {A : Type 0} (o : Option Content) (h : Content) → o ≡ None → o ≡ Some h → A
 none_or_some o h e f = absurd (none-some h (sym e ∙ f))
 
-module _ (laws : Laws) (stay : StayLaws) (b : SenderBus) (stuffed : ℕ → List Level) (is : IsBus b) (sends : SendsFirst b) (frames : AreFrames b stuffed) (meets : IsInStepWithAll b)
+module _ (laws : Laws) (stay : StayLaws) (b : SenderBus) (stuffed : Content → List Level) (lengths : ℕ → ℕ) (is : IsBus b) (sends : SendsFirst b) (frames : AreFrames b stuffed lengths) (meets : IsInStepWithAll b)
     (slots : EndsInSlots b) where
   abbrev l : Line
   l = b.line
@@ -62,33 +63,46 @@ module _ (laws : Laws) (stay : StayLaws) (b : SenderBus) (stuffed : ℕ → List
   tick i k = steady_tick (b.clocks i) k
 
   -- a node after its first k quanta
-  pub record IsGood (i k : ℕ) : Type 0 where
+  pub record IsGood (line : List Content) (i k : ℕ) : Type 0 where
     pub fine : error_count (history_at b i k) ≡ 0
     pub counters : counters_of (history_at b i k) ≡ no_counts
     pub count : ℕ
-    pub passed : IsPassed (sender_queue b) (i == b.sender) count (history_at b i k).frames
+    pub passed : IsPassed (b.setups a) line (i == b.sender) count (history_at b i k).frames
 
-  good_from : (i k : ℕ) (inside : i < l.nodes) (levels : ℕ → Level) (passed : List Passed) (s : Stretch) (v : Level) → Does laws.clocks (b.setups i) (is.book i inside) levels passed k s v
-      → seen l i k ≡ levels_before levels k → (n : ℕ) × IsPassed (sender_queue b) (i == b.sender) n passed → IsGood i k
-  good_from i k inside levels passed s v d e p = record {
-    fine = ap (λ ls. error_count (history_of (b.setups i) ls)) e ∙ d.errors;
-    counters = ap (λ ls. counters_of (history_of (b.setups i) ls)) e ∙ d.counts;
+  good_from : (line : List Content) (i k : ℕ) (inside : i < l.nodes) (levels : ℕ → Level) (passed : List Passed) (s : Stretch) (v : Level) → Does laws.clocks (b.setups i) (is.book i inside) levels passed k s v
+      → seen l i k ≡ levels_before levels k → (n : ℕ) × IsPassed (b.setups a) line (i == b.sender) n passed → IsGood line i k
+  good_from line i k inside levels passed s v d e p = record {
+    fine = ap (λ ls. error_count (staying_history (b.setups i) ls)) e ∙ d.errors;
+    counters = ap (λ ls. counters_of (staying_history (b.setups i) ls)) e ∙ d.counts;
     count = p.0;
-    passed = subst (IsPassed (sender_queue b) (i == b.sender) p.0) (sym (ap (λ ls. (history_of (b.setups i) ls).frames) e ∙ d.frames)) p.1;
+    passed = subst (IsPassed (b.setups a) line (i == b.sender) p.0) (sym (ap (λ ls. (staying_history (b.setups i) ls).frames) e ∙ d.frames)) p.1;
+  }
+
+  -- so it is of a longer line
+  still_good : (line more longer : List Content) (i k : ℕ) → line ++ more ≡ longer → IsGood line i k → IsGood longer i k
+  still_good line more longer i k e is = record {
+    fine = is.fine;
+    counters = is.counters;
+    count = is.count;
+    passed = subst (λ x. IsPassed (b.setups a) x (i == b.sender) is.count (history_at b i k).frames) e (still_passed (b.setups a) line more (i == b.sender) is.count (history_at b i k).frames is.passed);
   }
 
   -- the frames of the sender are sent, and those of another node received
-  of_node : (v : ℕ) (sent : Bool) (n : ℕ) (found passed : List Passed) → (v == b.sender) ≡ sent → found ≡ passed → IsPassed (sender_queue b) sent n passed
-      → IsPassed (sender_queue b) (v == b.sender) n found
-  of_node v sent n found passed h e p =
-      subst (λ w. IsPassed (sender_queue b) w n found) (sym h) (subst (IsPassed (sender_queue b) sent n) (sym e) p)
+  of_node : (line : List Content) (v : ℕ) (sent : Bool) (n : ℕ) (found passed : List Passed) → (v == b.sender) ≡ sent → found ≡ passed → IsPassed (b.setups a) line sent n passed
+      → IsPassed (b.setups a) line (v == b.sender) n found
+  of_node line v sent n found passed h e p =
+      subst (λ w. IsPassed (b.setups a) line w n found) (sym h) (subst (IsPassed (b.setups a) line sent n) (sym e) p)
 
   -- at rest after n frames
   pub record Epoch (t n : ℕ) : Type 0 where
     pub rest : Rests laws.clocks b is t
-    pub kept : (i : ℕ) → (inside : i < l.nodes) → (c : ℕ) → (k : ℕ) × IsPassed (sender_queue b) (i == b.sender) k ((rest.node i inside).waits.passed c)
-    pub sent : IsPassed (sender_queue b) true n ((rest.node a is.sender).waits.passed 10)
-    pub received : (j : ℕ) → (p : IsListener b j) → IsPassed (sender_queue b) false n ((rest.node j p.0).waits.passed 10)
+    -- the frames that the sender has begun, and those that its queue still has
+    pub line : List Content
+    pub whole : length line ≡ n
+    pub from : ComeFrom (b.setups a) line (queued_contents (left_of (b.setups a) ((rest.node a is.sender).waits.passed 10)))
+    pub kept : (i : ℕ) → (inside : i < l.nodes) → (c : ℕ) → (k : ℕ) × IsPassed (b.setups a) line (i == b.sender) k ((rest.node i inside).waits.passed c)
+    pub sent : IsPassed (b.setups a) line true n ((rest.node a is.sender).waits.passed 10)
+    pub received : (j : ℕ) → (p : IsListener b j) → IsPassed (b.setups a) line false n ((rest.node j p.0).waits.passed 10)
     pub spaced : (m : ℕ) (head : Content) → Decides (b.setups a) ((rest.node a is.sender).waits.passed 10) (rest.node a is.sender).base (S a) (B a) head m
         → (j : ℕ) → (p : IsListener b j)
         → tick j ((rest.node j p.0).base + ((rest.node j p.0).waits.enough - 1) * B j + S j) < tick a ((rest.node a is.sender).base + suc m * B a) + l.delay a j
@@ -99,7 +113,7 @@ module _ (laws : Laws) (stay : StayLaws) (b : SenderBus) (stuffed : ℕ → List
     pub late_other : (j : ℕ) → (p : IsListener b j) → (c : ℕ) → 6 < c → n ≤ length ((rest.node j p.0).waits.passed c)
     pub order : 0 < n → (j : ℕ) → (p : IsListener b j)
         → tick j ((rest.node j p.0).base + 6 * B j + S j) ≤ tick a ((rest.node a is.sender).base + 7 * B a + S a)
-    pub due : (rest.node a is.sender).base + 7 * B a + S a < due_quantum b stuffed n
+    pub due : (rest.node a is.sender).base + 7 * B a + S a < due_quantum b lengths n
 
   -- a clock goes on by a tick at least
   far : (i k : ℕ) → i < l.nodes → k ≤ l.instant i k
@@ -111,7 +125,7 @@ module _ (laws : Laws) (stay : StayLaws) (b : SenderBus) (stuffed : ℕ → List
 
   frames_are : (i k : ℕ) (inside : i < l.nodes) (levels : ℕ → Level) (passed : List Passed) (s : Stretch) (v : Level) → Does laws.clocks (b.setups i) (is.book i inside) levels passed k s v
       → seen l i k ≡ levels_before levels k → (history_at b i k).frames ≡ passed
-  frames_are i k inside levels passed s v d e = ap (λ ls. (history_of (b.setups i) ls).frames) e ∙ d.frames
+  frames_are i k inside levels passed s v d e = ap (λ ls. (staying_history (b.setups i) ls).frames) e ∙ d.frames
 
   strict : (i k m : ℕ) → i < l.nodes → k < m → tick i k < tick i m
   strict i k m inside less =
@@ -121,10 +135,10 @@ module _ (laws : Laws) (stay : StayLaws) (b : SenderBus) (stuffed : ℕ → List
       let rise = resting.up laws.clocks b is i inside (suc k) m less in
       omega arith
 
-  sent_later : (m k : ℕ) → m ≤ k → due_quantum b stuffed m ≤ due_quantum b stuffed k
-  sent_later m zero h = let e : m ≡ 0 = omega arith in subst (λ x. due_quantum b stuffed x ≤ due_quantum b stuffed 0) (sym e) (omega arith)
+  sent_later : (m k : ℕ) → m ≤ k → due_quantum b lengths m ≤ due_quantum b lengths k
+  sent_later m zero h = let e : m ≡ 0 = omega arith in subst (λ x. due_quantum b lengths x ≤ due_quantum b lengths 0) (sym e) (omega arith)
   sent_later m (suc k) h = elim (cases_eq m (suc k)) [
-    | inl here ↦ subst (λ x. due_quantum b stuffed x ≤ due_quantum b stuffed (suc k)) (sym here) (omega arith)
+    | inl here ↦ subst (λ x. due_quantum b lengths x ≤ due_quantum b lengths (suc k)) (sym here) (omega arith)
     | inr less ↦ (let e = sent_later m k (omega arith) in omega arith)
   ]
 
@@ -135,8 +149,33 @@ module _ (laws : Laws) (stay : StayLaws) (b : SenderBus) (stuffed : ℕ → List
     abbrev gone : List Passed
     gone = (ep.rest.node a is.sender).waits.passed 10
 
+    abbrev left : List Queued
+    left = left_of (b.setups a) gone
+
     abbrev ready : ℕ → Option Content
-    ready c = ready_head (left_of (b.setups a) gone) (base + c * B a + S a)
+    ready c = head_at (b.setups a) left (base + c * B a + S a)
+
+    -- how many are left, and when one is ready
+    left_length : n + length left ≡ length (sender_queue b)
+    left_length =
+        let all = come_length (b.setups a) ep.line (queued_contents left) ep.from in
+        let whole = ep.whole in
+        let same = same_length left in
+        omega arith
+
+    ready_before : (j m : ℕ) → j < m → ready_at (sender_queue b) j ≤ due_quantum b lengths m
+    ready_before j zero less = absurd (omega arith)
+    ready_before j (suc m) less = elim (cases_eq j m) [
+      | inl last ↦ (let e = ap (ready_at (sender_queue b)) last in omega arith)
+      | inr other ↦ (let before = ready_before j m (omega (arith, other)) in omega arith)
+    ]
+
+    wakes : wakes_at (b.setups a) left ≤ max (due_quantum b lengths n) (ready_at (sender_queue b) n)
+    wakes =
+        awake_by (b.setups a) gone (max (due_quantum b lengths n) (ready_at (sender_queue b) n)) (λ j few. elim (cases_eq j n) [
+          | inl last ↦ (let e = ap (ready_at (sender_queue b)) last in omega arith)
+          | inr other ↦ (let count = ep.sent.count in let before = ready_before j n (omega (arith, other)) in omega arith)
+        ])
 
     -- the first bit after which a frame is ready
     find : (most : ℕ) → ((m : ℕ) × (head : Content) × Decides (b.setups a) gone base (S a) (B a) head m) ⊎ ((c : ℕ) → 10 ≤ c → c < most → ready c ≡ None)
@@ -212,7 +251,7 @@ module _ (laws : Laws) (stay : StayLaws) (b : SenderBus) (stuffed : ℕ → List
     ]
 
     -- and what was due was sent, unless that is one more
-    due_by : (k m : ℕ) → OwnCount k → due_quantum b stuffed m ≤ k → (due_quantum b stuffed (suc n) ≤ k → m ≤ n) → m ≤ long a k
+    due_by : (k m : ℕ) → OwnCount k → due_quantum b lengths m ≤ k → (due_quantum b lengths (suc n) ≤ k → m ≤ n) → m ≤ long a k
     due_by k m own by unless = elim (cases_lt (base + 7 * B a + S a) k) [
       | inr early ↦
           (let d = ep.due in
@@ -238,14 +277,6 @@ module _ (laws : Laws) (stay : StayLaws) (b : SenderBus) (stuffed : ℕ → List
         (frames_are a r.start is.sender (resting.actual laws.clocks b is a) (r.waits.passed (min r.state.count 10)) r.state.stretch Recessive r.state.going.does (seen_by_quanta l a r.start))
         (counts_to laws.clocks (b.setups a) (is.book a is.sender) (resting.actual laws.clocks b is a) r.base r.waits r.start r.state))
 
-    -- where it has come to by the rest
-    good_start : (i k : ℕ) → (inside : i < l.nodes) → k ≡ (ep.rest.node i inside).start → IsGood i k
-    good_start i k inside e =
-        let r = ep.rest.node i inside in
-        subst (IsGood i) (sym e)
-        (good_from i r.start inside (resting.actual laws.clocks b is i) (r.waits.passed (min r.state.count 10)) r.state.stretch Recessive r.state.going.does
-        (seen_by_quanta l i r.start) (ep.kept i inside (min r.state.count 10)))
-
     -- no frame is ready up to the end
     module _ (none : (c : ℕ) → 10 ≤ c → c < l.stop → ready c ≡ None) where
       never : (c : ℕ) → 10 ≤ c → tick a (base + c * B a + S a) < l.stop → ready c ≡ None
@@ -256,11 +287,11 @@ module _ (laws : Laws) (stay : StayLaws) (b : SenderBus) (stuffed : ℕ → List
           let bits : c * 1 ≤ c * B a = mul-le-mul_left c (let h : 1 ≤ B a = omega arith in h) in
           none c many (omega arith)
 
-      good_calm : (i k : ℕ) → (inside : i < l.nodes) → (ep.rest.node i inside).start ≤ k → AreInside l i k → IsGood i k
+      good_calm : (i k : ℕ) → (inside : i < l.nodes) → (ep.rest.node i inside).start ≤ k → AreInside l i k → IsGood ep.line i k
       good_calm i k inside late soon =
           let r = ep.rest.node i inside in
           let s = calm.still laws b is t ep.rest sends.alone never i inside k late (λ q less. (let e = is.ticks i q inside in let f = soon q less in omega arith)) in
-          good_from i k inside (calm.lv laws b is t ep.rest sends.alone never i) (r.waits.passed (min s.count 10)) s.stretch Recessive s.going.does
+          good_from ep.line i k inside (calm.lv laws b is t ep.rest sends.alone never i) (r.waits.passed (min s.count 10)) s.stretch Recessive s.going.does
           (calm.lists_then laws b is t ep.rest sends.alone never i k inside soon) (ep.kept i inside (min s.count 10))
 
       own_calm : (k : ℕ) → (ep.rest.node a is.sender).start ≤ k → AreInside l a k → OwnCount k
@@ -282,128 +313,152 @@ module _ (laws : Laws) (stay : StayLaws) (b : SenderBus) (stuffed : ℕ → List
           (counts_to laws.clocks (b.setups j) (is.book j p.0) (calm.lv laws b is t ep.rest sends.alone never j) r.base r.waits k s)
 
       -- it would have been ready by then
-      calm_due : (k : ℕ) → AreInside l a k → n < length (sender_queue b) → due_quantum b stuffed (suc n) ≤ k → ⊥
+      calm_due : (k : ℕ) → AreInside l a k → n < length (sender_queue b) → due_quantum b lengths (suc n) ≤ k → ⊥
       calm_due k soon more by =
           let d = ep.due in
           let some = (is.book a is.sender).lengths.low in
-          let r = split (ready_at (sender_queue b) n - (base + 10 * B a + S a)) (B a) (omega arith) in
+          let w = wakes in
+          let r = split (wakes_at (b.setups a) left - (base + 10 * B a + S a)) (B a) (omega arith) in
           let cut = r.3 in
           let inside = r.2 in
           let bits : (10 + suc r.0) * B a ≡ 10 * B a + r.0 * B a + B a = omega arith in
-          let weight : 15 * B a ≤ (length (stuffed n) + 15) * B a = mul-le-mul_right (B a) (omega arith) in
+          let weight : 15 * B a ≤ (lengths n + 15) * B a = mul-le-mul_right (B a) (omega arith) in
           let here : base + (10 + suc r.0) * B a + S a < k = omega arith in
-          let ready_then : ready_at (sender_queue b) n ≤ base + (10 + suc r.0) * B a + S a = omega arith in
+          let ready_then : wakes_at (b.setups a) left ≤ base + (10 + suc r.0) * B a + S a = omega arith in
           let never_then = never (10 + suc r.0) (omega arith)
           (let f = soon (base + (10 + suc r.0) * B a + S a) here in let e = is.ticks a (base + (10 + suc r.0) * B a + S a) is.sender in omega arith) in
-          let so = ap (λ c. ready_head (drop c (sender_queue b)) (base + (10 + suc r.0) * B a + S a)) (sym ep.sent.count) ∙ never_then in
-          ready_not (sender_queue b) n (base + (10 + suc r.0) * B a + S a) more ready_then so
+          let more_left = left_length in
+          let asleep = awake_later (b.setups a) left (base + (10 + suc r.0) * B a + S a) (omega arith) never_then in
+          omega arith
 
     -- a frame begins after bit m
     module _ (m : ℕ) (head : Content) (decides : Decides (b.setups a) gone base (S a) (B a) head m) where
       abbrev from : ℕ
       from = base + suc m * B a
 
-      next : IsNext (sender_queue b) n head
-      next = next_is (sender_queue b) true n (base + m * B a + S a) gone head ep.sent decides.ready
+      -- it is one of the queue
+      place : (k : ℕ) × (slice_get (queued_contents (sender_queue b)) k ≡ Some head)
+      place = let k = head_in (b.setups a) left (base + m * B a + S a) head decides.ready in unsent_in (b.setups a) gone k.0 head k.1
 
-      sends_next : SendsNext laws.clocks b is t ep.rest head (stuffed n) from m
+      may_send : MaySend b n head
+      may_send = record {
+        some = place;
+        order = λ fifo. ap (slice_get (queued_contents (sender_queue b))) (sym ep.sent.count) ∙ fifo_next (b.setups a) gone (base + m * B a + S a) head fifo decides.ready;
+      }
+
+      short : length (stuffed head) ≤ lengths n
+      short = frames.short n head may_send
+
+      sends_next : SendsNext laws.clocks b is t ep.rest head (stuffed head) from m
       sends_next =
-          let f = frames n next.queued next.more next.left in
+          let k = place in
           record {
-            content = subst IsContent next.frame f.0;
-            stuffs = subst (λ c. Stuffs (stuffed n) (bits_of c)) next.frame f.1;
+            content = frames.content k.0 head k.1;
+            stuffs = frames.stuffs k.0 head k.1;
             decides = decides;
             from_is = refl;
             alone = sends.alone;
             spaced = ep.spaced m head decides;
           }
 
-      first : (i : ℕ) × through.IsFirst laws stay b is meets slots t ep.rest head (stuffed n) from m sends_next i
-      first = through.the_first laws stay b is meets slots t ep.rest head (stuffed n) from m sends_next
+      first : (i : ℕ) × through.IsFirst laws stay b is meets slots t ep.rest head (stuffed head) from m sends_next i
+      first = through.the_first laws stay b is meets slots t ep.rest head (stuffed head) from m sends_next
 
-      at_slot : through.SlotSample laws stay b is meets slots t ep.rest head (stuffed n) from m sends_next first.0 first.1
-      at_slot = through.slot_sampled_at laws stay b is meets slots t ep.rest head (stuffed n) from m sends_next first.0 first.1
+      at_slot : through.SlotSample laws stay b is meets slots t ep.rest head (stuffed head) from m sends_next first.0 first.1
+      at_slot = through.slot_sampled_at laws stay b is meets slots t ep.rest head (stuffed head) from m sends_next first.0 first.1
 
       abbrev after_it : ℕ
-      after_it = through.next_rest laws stay b is meets slots t ep.rest head (stuffed n) from m sends_next first.0 first.1 at_slot
+      after_it = through.next_rest laws stay b is meets slots t ep.rest head (stuffed head) from m sends_next first.0 first.1 at_slot
 
       abbrev cut : ℕ
-      cut = through.cut laws stay b is meets slots t ep.rest head (stuffed n) from m sends_next first.0 first.1 at_slot
+      cut = through.cut laws stay b is meets slots t ep.rest head (stuffed head) from m sends_next first.0 first.1 at_slot
 
       later : t < after_it
       later =
-          let before = speaking.rest_before laws.clocks laws.frame b is meets t ep.rest head (stuffed n) from m sends_next in
-          let low = through.q_late laws stay b is meets slots t ep.rest head (stuffed n) from m sends_next first.0 first.1 at_slot in
+          let before = speaking.rest_before laws.clocks laws.frame b is meets t ep.rest head (stuffed head) from m sends_next in
+          let low = through.q_late laws stay b is meets slots t ep.rest head (stuffed head) from m sends_next first.0 first.1 at_slot in
           let some = (is.book a is.sender).lengths.low in
           let next_tick = is.causal.clocks a from is.sender in
           let e = is.ticks a from is.sender in
           let g = is.ticks a (suc from) is.sender in
-          let zero_bits = speaking.begins_from laws.clocks laws.frame b is meets t ep.rest head (stuffed n) from m sends_next in
+          let zero_bits = speaking.begins_from laws.clocks laws.frame b is meets t ep.rest head (stuffed head) from m sends_next in
           let rise = resting.up laws.clocks b is a is.sender (suc from) (at_slot.quantum + 5 * B a) (omega arith) in
           omega arith
 
-      good_frame : (i k : ℕ) → (inside : i < l.nodes) → (ep.rest.node i inside).start ≤ k → ((q : ℕ) → q < k → l.instant i q < cut) → IsGood i k
+      abbrev longer : List Content
+      longer = ep.line ++ head ∷ []
+
+      -- with the frame the line comes from the queue
+      come_on : (p : Passed) → p.sent ≡ true → p.frame ≡ head → ComeFrom (b.setups a) longer (queued_contents (left_of (b.setups a) (gone ++ p ∷ [])))
+      come_on p own same =
+          subst (λ c. ComeFrom (b.setups a) (ep.line ++ c ∷ []) (queued_contents (left_of (b.setups a) (gone ++ p ∷ [])))) same
+          (come_next (b.setups a) gone p (base + m * B a + S a) ep.line own (decides.ready ∙ ap Some (sym same)) ep.from)
+
+      good_frame : (i k : ℕ) → (inside : i < l.nodes) → (ep.rest.node i inside).start ≤ k → ((q : ℕ) → q < k → l.instant i q < cut) → IsGood longer i k
       good_frame i k inside late soon = elim (cases_eq i a) [
         | inl here ↦
-            subst (λ v. (h : v < l.nodes) → (ep.rest.node v h).start ≤ k → ((q : ℕ) → q < k → l.instant v q < cut) → IsGood v k) (sym here)
-            (λ h. subst (λ h. (ep.rest.node a h).start ≤ k → ((q : ℕ) → q < k → l.instant a q < cut) → IsGood a k) (le_prop is.sender h) own) inside late soon
+            subst (λ v. (h : v < l.nodes) → (ep.rest.node v h).start ≤ k → ((q : ℕ) → q < k → l.instant v q < cut) → IsGood longer v k) (sym here)
+            (λ h. subst (λ h. (ep.rest.node a h).start ≤ k → ((q : ℕ) → q < k → l.instant a q < cut) → IsGood longer a k) (le_prop is.sender h) own) inside late soon
         | inr apart ↦ other (inside, apart) late soon
       ]
         where
-          own : (ep.rest.node a is.sender).start ≤ k → ((q : ℕ) → q < k → l.instant a q < cut) → IsGood a k
+          own : (ep.rest.node a is.sender).start ≤ k → ((q : ℕ) → q < k → l.instant a q < cut) → IsGood longer a k
           own late soon =
               let few : k ≤ at_slot.quantum + 11 * B a = elim (cases_lt (at_slot.quantum + 5 * B a) k) [
                 | inl over ↦ (let f = soon (at_slot.quantum + 5 * B a) over in let e = is.ticks a (at_slot.quantum + 5 * B a) is.sender in absurd (omega arith))
                 | inr fits ↦ omega arith
               ] in
-              let d = through.doing_own laws stay b is meets slots t ep.rest head (stuffed n) from m sends_next first.0 first.1 at_slot k late few in
-              good_from a k is.sender (replies.lv laws stay b is meets slots t ep.rest head (stuffed n) from m sends_next a) d.passed d.stretch d.drive d.does
-              (through.lists_then laws stay b is meets slots t ep.rest head (stuffed n) from m sends_next first.0 first.1 at_slot a k is.sender soon)
+              let d = through.doing_own laws stay b is meets slots t ep.rest head (stuffed head) from m sends_next first.0 first.1 at_slot k late few in
+              good_from longer a k is.sender (replies.lv laws stay b is meets slots t ep.rest head (stuffed head) from m sends_next a) d.passed d.stretch d.drive d.does
+              (through.lists_then laws stay b is meets slots t ep.rest head (stuffed head) from m sends_next first.0 first.1 at_slot a k is.sender soon)
               (elim d.gone [
                 | inl e ↦
                     (let r = ep.kept a is.sender (min d.count 10) in
-                    (r.0, subst (IsPassed (sender_queue b) (a == b.sender) r.0) (sym e.0) r.1))
+                    (r.0, subst (IsPassed (b.setups a) longer (a == b.sender) r.0) (sym e.0) (still_passed (b.setups a) ep.line (head ∷ []) (a == b.sender) r.0 ((ep.rest.node a is.sender).waits.passed (min d.count 10)) r.1)))
                 | inr e ↦ elim (cases_lt 7 (min d.count 10)) [
                   | inl over ↦ (
                     suc n,
-                    of_node a true (suc n) d.passed ((through.after_own laws stay b is meets slots t ep.rest head (stuffed n) from m sends_next first.0 first.1 at_slot).passed (min d.count 10)) (eq-eqb a a refl) e.0
-                        (following.own_late laws stay b is meets slots t ep.rest head (stuffed n) from m sends_next first.0 first.1 at_slot (sender_queue b) n next ep.sent ep.received (min d.count 10) over),
+                    of_node longer a true (suc n) d.passed ((through.after_own laws stay b is meets slots t ep.rest head (stuffed head) from m sends_next first.0 first.1 at_slot).passed (min d.count 10)) (eq-eqb a a refl) e.0
+                        (following.own_late laws stay b is meets slots t ep.rest head (stuffed head) from m sends_next first.0 first.1 at_slot ep.line n ep.whole ep.sent ep.received (min d.count 10) over),
                   )
                   | inr early ↦ (
                     n,
-                    of_node a true n d.passed ((through.after_own laws stay b is meets slots t ep.rest head (stuffed n) from m sends_next first.0 first.1 at_slot).passed (min d.count 10)) (eq-eqb a a refl) e.0
-                        (following.own_early laws stay b is meets slots t ep.rest head (stuffed n) from m sends_next first.0 first.1 at_slot (sender_queue b) n next ep.sent ep.received (min d.count 10) early),
+                    of_node longer a true n d.passed ((through.after_own laws stay b is meets slots t ep.rest head (stuffed head) from m sends_next first.0 first.1 at_slot).passed (min d.count 10)) (eq-eqb a a refl) e.0
+                        (following.own_early laws stay b is meets slots t ep.rest head (stuffed head) from m sends_next first.0 first.1 at_slot ep.line n ep.whole ep.sent ep.received (min d.count 10) early),
                   )
                 ]
               ])
 
-          other : (p : IsListener b i) → (ep.rest.node i p.0).start ≤ k → ((q : ℕ) → q < k → l.instant i q < cut) → IsGood i k
+          other : (p : IsListener b i) → (ep.rest.node i p.0).start ≤ k → ((q : ℕ) → q < k → l.instant i q < cut) → IsGood longer i k
           other p late soon =
-              let w = replies.plan_of laws stay b is meets slots t ep.rest head (stuffed n) from m sends_next i p in
+              let w = replies.plan_of laws stay b is meets slots t ep.rest head (stuffed head) from m sends_next i p in
               let start : (ep.rest.node i w.nat.heard.listener.0).start ≤ k = subst (λ h. (ep.rest.node i h).start ≤ k) (le_prop p.0 w.nat.heard.listener.0) late in
-              let d = replies.doing laws stay b is meets slots t ep.rest head (stuffed n) from m sends_next i w k start in
-              good_from i k w.nat.heard.listener.0 (replies.lv laws stay b is meets slots t ep.rest head (stuffed n) from m sends_next i) d.passed d.stretch d.drive d.does
-              (through.lists_then laws stay b is meets slots t ep.rest head (stuffed n) from m sends_next first.0 first.1 at_slot i k w.nat.heard.listener.0 soon)
+              let d = replies.doing laws stay b is meets slots t ep.rest head (stuffed head) from m sends_next i w k start in
+              good_from longer i k w.nat.heard.listener.0 (replies.lv laws stay b is meets slots t ep.rest head (stuffed head) from m sends_next i) d.passed d.stretch d.drive d.does
+              (through.lists_then laws stay b is meets slots t ep.rest head (stuffed head) from m sends_next first.0 first.1 at_slot i k w.nat.heard.listener.0 soon)
               (elim d.gone [
                 | inl e ↦
-                    (let r = ep.kept i w.nat.heard.listener.0 (min d.count 10) in
-                    (r.0, subst (IsPassed (sender_queue b) (i == b.sender) r.0) (sym e.0) r.1))
+                    (let r = ep.kept i w.nat.heard.listener.0 (min d.count 10) in (
+                      r.0,
+                      subst (IsPassed (b.setups a) longer (i == b.sender) r.0) (sym e.0)
+                          (still_passed (b.setups a) ep.line (head ∷ []) (i == b.sender) r.0 ((ep.rest.node i w.nat.heard.listener.0).waits.passed (min d.count 10)) r.1),
+                    ))
                 | inr e ↦ elim (cases_lt 6 (min d.count 10)) [
                   | inl over ↦ (
                     suc n,
-                    of_node i false (suc n) d.passed ((through.after laws stay b is meets slots t ep.rest head (stuffed n) from m sends_next i w).passed (min d.count 10)) (ne_eqb i a w.nat.heard.listener.1) e
-                        (following.other_late laws stay b is meets slots t ep.rest head (stuffed n) from m sends_next first.0 first.1 at_slot (sender_queue b) n next ep.sent ep.received i w (min d.count 10) over),
+                    of_node longer i false (suc n) d.passed ((through.after laws stay b is meets slots t ep.rest head (stuffed head) from m sends_next i w).passed (min d.count 10)) (ne_eqb i a w.nat.heard.listener.1) e
+                        (following.other_late laws stay b is meets slots t ep.rest head (stuffed head) from m sends_next first.0 first.1 at_slot ep.line n ep.whole ep.sent ep.received i w (min d.count 10) over),
                   )
                   | inr early ↦ (
                     n,
-                    of_node i false n d.passed ((through.after laws stay b is meets slots t ep.rest head (stuffed n) from m sends_next i w).passed (min d.count 10)) (ne_eqb i a w.nat.heard.listener.1) e
-                        (following.other_early laws stay b is meets slots t ep.rest head (stuffed n) from m sends_next first.0 first.1 at_slot (sender_queue b) n next ep.sent ep.received i w (min d.count 10) early),
+                    of_node longer i false n d.passed ((through.after laws stay b is meets slots t ep.rest head (stuffed head) from m sends_next i w).passed (min d.count 10)) (ne_eqb i a w.nat.heard.listener.1) e
+                        (following.other_early laws stay b is meets slots t ep.rest head (stuffed head) from m sends_next first.0 first.1 at_slot ep.line n ep.whole ep.sent ep.received i w (min d.count 10) early),
                   )
                 ]
               ])
 
       -- it begins soon after it is ready
-      from_soon : from ≤ max (base + 11 * B a) (ready_at (sender_queue b) n + 2 * B a)
+      from_soon : from ≤ max (base + 11 * B a) (wakes_at (b.setups a) left + 2 * B a)
       from_soon =
           let bits : suc m * B a ≡ m * B a + B a = omega arith in
           elim (cases_eq m 10) [
@@ -411,13 +466,13 @@ module _ (laws : Laws) (stay : StayLaws) (b : SenderBus) (stuffed : ℕ → List
             | inr more ↦
                 (let many = decides.idle in
                 let none = decides.unready (m - 1) (omega arith) (omega arith) in
-                let so = ap (λ c. ready_head (drop c (sender_queue b)) (base + (m - 1) * B a + S a)) (sym ep.sent.count) ∙ none in
-                let less : base + (m - 1) * B a + S a < ready_at (sender_queue b) n = ready_late (sender_queue b) n (base + (m - 1) * B a + S a) next.queued next.more next.left so in
+                let less =
+                awake_later (b.setups a) left (base + (m - 1) * B a + S a) (handed_some (b.setups a) left (base + m * B a + S a) head decides.ready) none in
                 let one : (m - 1) * B a + B a ≡ m * B a = (let e : m - 1 + 1 ≡ m = omega arith in let f : (m - 1 + 1) * B a ≡ m * B a = ap (λ x. x * B a) e in omega arith) in
                 omega arith)
           ]
 
-      due_next : at_slot.quantum + (lengths_of b a).ps2 + 7 * B a + S a < due_quantum b stuffed (suc n)
+      due_next : at_slot.quantum + (lengths_of b a).ps2 + 7 * B a + S a < due_quantum b lengths (suc n)
       due_next =
           let soon = from_soon in
           let high = at_slot.high in
@@ -425,8 +480,10 @@ module _ (laws : Laws) (stay : StayLaws) (b : SenderBus) (stuffed : ℕ → List
           let jump = (is.book a is.sender).lengths.sjw_half in
           let many = (is.book a is.sender).lengths.low in
           let few = (is.book a is.sender).lengths.ps2_low in
-          let bits : suc (length (stuffed n)) * B a ≡ length (stuffed n) * B a + B a = omega arith in
-          let weight : (length (stuffed n) + 15) * B a ≡ length (stuffed n) * B a + 15 * B a = omega arith in
+          let w = wakes in
+          let bits : suc (length (stuffed head)) * B a ≡ length (stuffed head) * B a + B a = omega arith in
+          let weight : (lengths n + 15) * B a ≡ lengths n * B a + 15 * B a = omega arith in
+          let few_bits : length (stuffed head) * B a ≤ lengths n * B a = mul-le-mul_right (B a) short in
           omega arith
 
       own_frame : (k : ℕ) → (ep.rest.node a is.sender).start ≤ k → ((q : ℕ) → q < k → l.instant a q < cut) → OwnCount k
@@ -436,8 +493,8 @@ module _ (laws : Laws) (stay : StayLaws) (b : SenderBus) (stuffed : ℕ → List
             | inr fits ↦ fits
           ] in
           let bits : 5 * B a ≤ 11 * B a = mul-le-mul_right (B a) (omega arith) in
-          let d = through.doing_own laws stay b is meets slots t ep.rest head (stuffed n) from m sends_next first.0 first.1 at_slot k late (omega arith) in
-          let e = frames_are a k is.sender (replies.lv laws stay b is meets slots t ep.rest head (stuffed n) from m sends_next a) d.passed d.stretch d.drive d.does (through.lists_then laws stay b is meets slots t ep.rest head (stuffed n) from m sends_next first.0 first.1 at_slot a k is.sender soon) in
+          let d = through.doing_own laws stay b is meets slots t ep.rest head (stuffed head) from m sends_next first.0 first.1 at_slot k late (omega arith) in
+          let e = frames_are a k is.sender (replies.lv laws stay b is meets slots t ep.rest head (stuffed head) from m sends_next a) d.passed d.stretch d.drive d.does (through.lists_then laws stay b is meets slots t ep.rest head (stuffed head) from m sends_next first.0 first.1 at_slot a k is.sender soon) in
           elim d.gone [
             | inl g ↦ own_by k d.count (e ∙ g.0) g.1
             | inr g ↦
@@ -446,7 +503,7 @@ module _ (laws : Laws) (stay : StayLaws) (b : SenderBus) (stuffed : ℕ → List
                   | inl over ↦ (let past = g.1.less 7 (omega arith) over in absurd (omega arith))
                   | inr fits ↦ fits
                 ] in
-                let p = (following.own_early laws stay b is meets slots t ep.rest head (stuffed n) from m sends_next first.0 first.1 at_slot (sender_queue b) n next ep.sent ep.received (min d.count 10) (omega arith)).long in
+                let p = (following.own_early laws stay b is meets slots t ep.rest head (stuffed head) from m sends_next first.0 first.1 at_slot ep.line n ep.whole ep.sent ep.received (min d.count 10) (omega arith)).long in
                 let f = ap length (e ∙ g.0) in
                 let past = g.2 in
                 let begun : 11 * B a ≤ suc m * B a = mul-le-mul_right (B a) (omega arith) in
@@ -455,27 +512,27 @@ module _ (laws : Laws) (stay : StayLaws) (b : SenderBus) (stuffed : ℕ → List
 
       other_frame : (j : ℕ) (p : IsListener b j) (k : ℕ) → (ep.rest.node j p.0).start ≤ k → ((q : ℕ) → q < k → l.instant j q < cut) → OtherCount j p k
       other_frame j p k late soon =
-          let w = replies.plan_of laws stay b is meets slots t ep.rest head (stuffed n) from m sends_next j p in
+          let w = replies.plan_of laws stay b is meets slots t ep.rest head (stuffed head) from m sends_next j p in
           subst (λ h. OtherCount j (h, p.1) k) (le_prop w.nat.heard.listener.0 p.0)
           (let start : (ep.rest.node j w.nat.heard.listener.0).start ≤ k = subst (λ h. (ep.rest.node j h).start ≤ k) (le_prop p.0 w.nat.heard.listener.0) late in
-          let d = replies.doing laws stay b is meets slots t ep.rest head (stuffed n) from m sends_next j w k start in
-          let e = frames_are j k w.nat.heard.listener.0 (replies.lv laws stay b is meets slots t ep.rest head (stuffed n) from m sends_next j) d.passed d.stretch d.drive d.does (through.lists_then laws stay b is meets slots t ep.rest head (stuffed n) from m sends_next first.0 first.1 at_slot j k w.nat.heard.listener.0 soon) in
+          let d = replies.doing laws stay b is meets slots t ep.rest head (stuffed head) from m sends_next j w k start in
+          let e = frames_are j k w.nat.heard.listener.0 (replies.lv laws stay b is meets slots t ep.rest head (stuffed head) from m sends_next j) d.passed d.stretch d.drive d.does (through.lists_then laws stay b is meets slots t ep.rest head (stuffed head) from m sends_next first.0 first.1 at_slot j k w.nat.heard.listener.0 soon) in
           elim d.gone [
             | inl g ↦ other_by j (w.nat.heard.listener.0, p.1) k d.count (e ∙ g.0) g.1
             | inr g ↦ elim (cases_lt 6 (min d.count 10)) [
               | inl over ↦
-                  (let x = (following.other_late laws stay b is meets slots t ep.rest head (stuffed n) from m sends_next first.0 first.1 at_slot (sender_queue b) n next ep.sent ep.received j w (min d.count 10) over).long in
+                  (let x = (following.other_late laws stay b is meets slots t ep.rest head (stuffed head) from m sends_next first.0 first.1 at_slot ep.line n ep.whole ep.sent ep.received j w (min d.count 10) over).long in
                   let f = ap length (e ∙ g) in
                   record { late = λ z. omega arith; low = omega arith })
               | inr early ↦
-                  (let x = (following.other_early laws stay b is meets slots t ep.rest head (stuffed n) from m sends_next first.0 first.1 at_slot (sender_queue b) n next ep.sent ep.received j w (min d.count 10) early).long in
+                  (let x = (following.other_early laws stay b is meets slots t ep.rest head (stuffed head) from m sends_next first.0 first.1 at_slot ep.line n ep.whole ep.sent ep.received j w (min d.count 10) early).long in
                   let f = ap length (e ∙ g) in
                   record { late = λ z. omega arith; low = omega arith })
             ]
           ])
 
       -- before the next rest that one isn't due
-      too_early : (k : ℕ) → ((q : ℕ) → q < k → l.instant a q < cut) → due_quantum b stuffed (suc n) ≤ k → ⊥
+      too_early : (k : ℕ) → ((q : ℕ) → q < k → l.instant a q < cut) → due_quantum b lengths (suc n) ≤ k → ⊥
       too_early k soon by =
           let d = due_next in
           let many = (is.book a is.sender).lengths.low in
@@ -484,12 +541,12 @@ module _ (laws : Laws) (stay : StayLaws) (b : SenderBus) (stuffed : ℕ → List
           omega arith
 
       module _ (in_time : after_it ≤ l.stop) where
-        abbrev node : (v : ℕ) → (inside : v < l.nodes) → following.NextNode laws stay b is meets slots t ep.rest head (stuffed n) from m sends_next first.0 first.1 at_slot in_time v inside
-        node = following.next_node laws stay b is meets slots t ep.rest head (stuffed n) from m sends_next first.0 first.1 at_slot in_time
+        abbrev node : (v : ℕ) → (inside : v < l.nodes) → following.NextNode laws stay b is meets slots t ep.rest head (stuffed head) from m sends_next first.0 first.1 at_slot in_time v inside
+        node = following.next_node laws stay b is meets slots t ep.rest head (stuffed head) from m sends_next first.0 first.1 at_slot in_time
 
         next_rests : Rests laws.clocks b is after_it
         next_rests = record {
-          quiet = following.quiet_then laws stay b is meets slots t ep.rest head (stuffed n) from m sends_next first.0 first.1 at_slot in_time;
+          quiet = following.quiet_then laws stay b is meets slots t ep.rest head (stuffed head) from m sends_next first.0 first.1 at_slot in_time;
           node = λ v inside. (node v inside).rests;
           soon =
               (let base_is = (node a is.sender).own_base refl in
@@ -498,20 +555,20 @@ module _ (laws : Laws) (stay : StayLaws) (b : SenderBus) (stuffed : ℕ → List
         }
 
         next_kept : (v : ℕ) → (inside : v < l.nodes) → (c : ℕ)
-            → (k : ℕ) × IsPassed (sender_queue b) (v == b.sender) k ((node v inside).rests.waits.passed c)
+            → (k : ℕ) × IsPassed (b.setups a) longer (v == b.sender) k ((node v inside).rests.waits.passed c)
         next_kept v inside c = elim (cases_eq v a) [
           | inl here ↦
               (let e = ap (λ f. f c) ((node v inside).own_gone here) in
               elim (cases_lt 7 c) [
                 | inl over ↦ (
                   suc n,
-                  of_node v true (suc n) ((node v inside).rests.waits.passed c) ((through.after_own laws stay b is meets slots t ep.rest head (stuffed n) from m sends_next first.0 first.1 at_slot).passed c) (eq-eqb v a here) e
-                      (following.own_late laws stay b is meets slots t ep.rest head (stuffed n) from m sends_next first.0 first.1 at_slot (sender_queue b) n next ep.sent ep.received c over),
+                  of_node longer v true (suc n) ((node v inside).rests.waits.passed c) ((through.after_own laws stay b is meets slots t ep.rest head (stuffed head) from m sends_next first.0 first.1 at_slot).passed c) (eq-eqb v a here) e
+                      (following.own_late laws stay b is meets slots t ep.rest head (stuffed head) from m sends_next first.0 first.1 at_slot ep.line n ep.whole ep.sent ep.received c over),
                 )
                 | inr early ↦ (
                   n,
-                  of_node v true n ((node v inside).rests.waits.passed c) ((through.after_own laws stay b is meets slots t ep.rest head (stuffed n) from m sends_next first.0 first.1 at_slot).passed c) (eq-eqb v a here) e
-                      (following.own_early laws stay b is meets slots t ep.rest head (stuffed n) from m sends_next first.0 first.1 at_slot (sender_queue b) n next ep.sent ep.received c early),
+                  of_node longer v true n ((node v inside).rests.waits.passed c) ((through.after_own laws stay b is meets slots t ep.rest head (stuffed head) from m sends_next first.0 first.1 at_slot).passed c) (eq-eqb v a here) e
+                      (following.own_early laws stay b is meets slots t ep.rest head (stuffed head) from m sends_next first.0 first.1 at_slot ep.line n ep.whole ep.sent ep.received c early),
                 )
               ])
           | inr apart ↦
@@ -520,13 +577,13 @@ module _ (laws : Laws) (stay : StayLaws) (b : SenderBus) (stuffed : ℕ → List
               elim (cases_lt 6 c) [
                 | inl over ↦ (
                   suc n,
-                  of_node v false (suc n) ((node v inside).rests.waits.passed c) ((through.after laws stay b is meets slots t ep.rest head (stuffed n) from m sends_next v g.0).passed c) (ne_eqb v a apart) e
-                      (following.other_late laws stay b is meets slots t ep.rest head (stuffed n) from m sends_next first.0 first.1 at_slot (sender_queue b) n next ep.sent ep.received v g.0 c over),
+                  of_node longer v false (suc n) ((node v inside).rests.waits.passed c) ((through.after laws stay b is meets slots t ep.rest head (stuffed head) from m sends_next v g.0).passed c) (ne_eqb v a apart) e
+                      (following.other_late laws stay b is meets slots t ep.rest head (stuffed head) from m sends_next first.0 first.1 at_slot ep.line n ep.whole ep.sent ep.received v g.0 c over),
                 )
                 | inr early ↦ (
                   n,
-                  of_node v false n ((node v inside).rests.waits.passed c) ((through.after laws stay b is meets slots t ep.rest head (stuffed n) from m sends_next v g.0).passed c) (ne_eqb v a apart) e
-                      (following.other_early laws stay b is meets slots t ep.rest head (stuffed n) from m sends_next first.0 first.1 at_slot (sender_queue b) n next ep.sent ep.received v g.0 c early),
+                  of_node longer v false n ((node v inside).rests.waits.passed c) ((through.after laws stay b is meets slots t ep.rest head (stuffed head) from m sends_next v g.0).passed c) (ne_eqb v a apart) e
+                      (following.other_early laws stay b is meets slots t ep.rest head (stuffed head) from m sends_next first.0 first.1 at_slot ep.line n ep.whole ep.sent ep.received v g.0 c early),
                 )
               ])
         ]
@@ -536,30 +593,40 @@ module _ (laws : Laws) (stay : StayLaws) (b : SenderBus) (stuffed : ℕ → List
           | inl here ↦
               (let e = ap (λ f. length (f c)) ((node v inside).own_gone here) in
               elim (cases_lt 7 c) [
-                | inl over ↦ (let h = (following.own_late laws stay b is meets slots t ep.rest head (stuffed n) from m sends_next first.0 first.1 at_slot (sender_queue b) n next ep.sent ep.received c over).long in omega arith)
-                | inr early ↦ (let h = (following.own_early laws stay b is meets slots t ep.rest head (stuffed n) from m sends_next first.0 first.1 at_slot (sender_queue b) n next ep.sent ep.received c early).long in omega arith)
+                | inl over ↦ (let h = (following.own_late laws stay b is meets slots t ep.rest head (stuffed head) from m sends_next first.0 first.1 at_slot ep.line n ep.whole ep.sent ep.received c over).long in omega arith)
+                | inr early ↦ (let h = (following.own_early laws stay b is meets slots t ep.rest head (stuffed head) from m sends_next first.0 first.1 at_slot ep.line n ep.whole ep.sent ep.received c early).long in omega arith)
               ])
           | inr apart ↦
               (let g = (node v inside).gone apart in
               let e = ap (λ f. length (f c)) g.1 in
               elim (cases_lt 6 c) [
-                | inl over ↦ (let h = (following.other_late laws stay b is meets slots t ep.rest head (stuffed n) from m sends_next first.0 first.1 at_slot (sender_queue b) n next ep.sent ep.received v g.0 c over).long in omega arith)
-                | inr early ↦ (let h = (following.other_early laws stay b is meets slots t ep.rest head (stuffed n) from m sends_next first.0 first.1 at_slot (sender_queue b) n next ep.sent ep.received v g.0 c early).long in omega arith)
+                | inl over ↦ (let h = (following.other_late laws stay b is meets slots t ep.rest head (stuffed head) from m sends_next first.0 first.1 at_slot ep.line n ep.whole ep.sent ep.received v g.0 c over).long in omega arith)
+                | inr early ↦ (let h = (following.other_early laws stay b is meets slots t ep.rest head (stuffed head) from m sends_next first.0 first.1 at_slot ep.line n ep.whole ep.sent ep.received v g.0 c early).long in omega arith)
               ])
         ]
+
+        next_from : ComeFrom (b.setups a) longer (queued_contents (left_of (b.setups a) ((node a is.sender).rests.waits.passed 10)))
+        next_from =
+            subst (λ f. ComeFrom (b.setups a) longer (queued_contents (left_of (b.setups a) f)))
+            (sym (ap (λ f. f 10) ((node a is.sender).own_gone refl)
+            ∙ following.own_more laws stay b is meets slots t ep.rest head (stuffed head) from m sends_next first.0 first.1 at_slot ep.line n ep.whole ep.sent ep.received 10 (omega arith)))
+            (come_on (following.own_frame laws stay b is meets slots t ep.rest head (stuffed head) from m sends_next first.0 first.1 at_slot ep.line n ep.whole ep.sent ep.received) refl refl)
 
         next_epoch : Epoch after_it (suc n)
         unfolding next_rests
         next_epoch = record {
           rest = next_rests;
+          line = longer;
+          whole = (let whole = ep.whole in let sum = length-append ep.line (head ∷ []) in omega arith);
+          from = next_from;
           kept = next_kept;
           sent =
-              subst (IsPassed (sender_queue b) true (suc n)) (sym (ap (λ f. f 10) ((node a is.sender).own_gone refl)))
-              (following.own_late laws stay b is meets slots t ep.rest head (stuffed n) from m sends_next first.0 first.1 at_slot (sender_queue b) n next ep.sent ep.received 10 (omega arith));
+              subst (IsPassed (b.setups a) longer true (suc n)) (sym (ap (λ f. f 10) ((node a is.sender).own_gone refl)))
+              (following.own_late laws stay b is meets slots t ep.rest head (stuffed head) from m sends_next first.0 first.1 at_slot ep.line n ep.whole ep.sent ep.received 10 (omega arith));
           received = λ j p.
               (let g = (node j p.0).gone p.1 in
-              subst (IsPassed (sender_queue b) false (suc n)) (sym (ap (λ f. f 10) g.1))
-              (following.other_late laws stay b is meets slots t ep.rest head (stuffed n) from m sends_next first.0 first.1 at_slot (sender_queue b) n next ep.sent ep.received j g.0 10 (omega arith)));
+              subst (IsPassed (b.setups a) longer false (suc n)) (sym (ap (λ f. f 10) g.1))
+              (following.other_late laws stay b is meets slots t ep.rest head (stuffed head) from m sends_next first.0 first.1 at_slot ep.line n ep.whole ep.sent ep.received j g.0 10 (omega arith)));
           spaced = λ k h d j p.
               (let e = (node a is.sender).own_base refl in
               let s = (node j p.0).spaced p.1 k d.idle in
@@ -567,67 +634,56 @@ module _ (laws : Laws) (stay : StayLaws) (b : SenderBus) (stuffed : ℕ → List
           low = λ i inside c. next_low i inside c;
           early_own = λ c early.
               (let e = ap (λ f. f c) ((node a is.sender).own_gone refl) in
-              let p = (following.own_early laws stay b is meets slots t ep.rest head (stuffed n) from m sends_next first.0 first.1 at_slot (sender_queue b) n next ep.sent ep.received c early).long in
+              let p = (following.own_early laws stay b is meets slots t ep.rest head (stuffed head) from m sends_next first.0 first.1 at_slot ep.line n ep.whole ep.sent ep.received c early).long in
               let f = ap length e in
               omega arith);
           late_own = λ c late.
               (let e = ap (λ f. f c) ((node a is.sender).own_gone refl) in
-              ap length e ∙ (following.own_late laws stay b is meets slots t ep.rest head (stuffed n) from m sends_next first.0 first.1 at_slot (sender_queue b) n next ep.sent ep.received c late).long);
+              ap length e ∙ (following.own_late laws stay b is meets slots t ep.rest head (stuffed head) from m sends_next first.0 first.1 at_slot ep.line n ep.whole ep.sent ep.received c late).long);
           late_other = λ j p c late.
               (let g = (node j p.0).gone p.1 in
               let e = ap (λ f. length (f c)) g.1 in
-              let h = (following.other_late laws stay b is meets slots t ep.rest head (stuffed n) from m sends_next first.0 first.1 at_slot (sender_queue b) n next ep.sent ep.received j g.0 c late).long in
+              let h = (following.other_late laws stay b is meets slots t ep.rest head (stuffed head) from m sends_next first.0 first.1 at_slot ep.line n ep.whole ep.sent ep.received j g.0 c late).long in
               omega arith);
           order = λ some j p.
               (let e = (node a is.sender).own_base refl in
               let g = (node j p.0).base_is p.1 in
-              let before = through.received_before laws stay b is meets slots t ep.rest head (stuffed n) from m sends_next first.0 first.1 at_slot j g.0 in
+              let before = through.received_before laws stay b is meets slots t ep.rest head (stuffed head) from m sends_next first.0 first.1 at_slot j g.0 in
               subst (λ x. tick j (x + 6 * B j + S j) ≤ tick a ((node a is.sender).rests.base + 7 * B a + S a)) (sym g.1)
-              (subst (λ x. tick j (through.sample laws stay b is meets slots t ep.rest head (stuffed n) from m sends_next j g.0 + (lengths_of b j).ps2 + 6 * B j + S j) ≤ tick a (x + 7 * B a + S a)) (sym e) before));
+              (subst (λ x. tick j (through.sample laws stay b is meets slots t ep.rest head (stuffed head) from m sends_next j g.0 + (lengths_of b j).ps2 + 6 * B j + S j) ≤ tick a (x + 7 * B a + S a)) (sym e) before));
           due = (let e = (node a is.sender).own_base refl in let d = due_next in omega arith);
         }
 
-  -- from a rest to the end
-  goes_on : (fuel t n : ℕ) (ep : Epoch t n) → l.stop ≤ t + fuel → (i k : ℕ) → (inside : i < l.nodes) → (ep.rest.node i inside).start ≤ k → AreInside l i k → IsGood i k
-  goes_on zero t n ep over i k inside late soon = elim (cases_eq k (ep.rest.node i inside).start) [
-    | inl here ↦ good_start t n ep i k inside here
-    | inr past ↦
-        (let f = soon (ep.rest.node i inside).start (omega arith) in
-        let after = (ep.rest.node i inside).after in
-        let e = is.ticks i (ep.rest.node i inside).start inside in
-        absurd (omega arith))
-  ]
-  goes_on (suc fuel) t n ep over i k inside late soon = elim (find t n ep l.stop) [
-    | inr none ↦ good_calm t n ep none i k inside late soon
-    | inl found ↦ elim (cases_lt l.stop (after_it t n ep found.0 found.1 found.2)) [
-      | inl beyond ↦ good_frame t n ep found.0 found.1 found.2 i k inside late (λ q less. (let f = soon q less in omega arith))
-      | inr in_time ↦
-          (let next = next_epoch t n ep found.0 found.1 found.2 in_time in
-          let up = later t n ep found.0 found.1 found.2 in
-          elim (cases_lt k (next.rest.node i inside).start) [
-            | inl before ↦ good_frame t n ep found.0 found.1 found.2 i k inside late (λ q less.
-                (let f = (next.rest.node i inside).before q (omega arith) in let e = is.ticks i q inside in let g = soon q less in omega arith))
-            | inr after ↦ goes_on fuel (after_it t n ep found.0 found.1 found.2) (suc n) next (omega arith) i k inside after soon
-          ])
-    ]
-  ]
-
   -- what holds from a rest on
   pub record Later (t n : ℕ) (ep : Epoch t n) : Type 0 where
+    -- all frames that the sender begins up to the end, and those that its queue has then
+    pub line : List Content
+    pub more : List Content
+    pub on : ep.line ++ more ≡ line
+    pub left : List Content
+    pub from : ComeFrom (b.setups a) line left
+    pub good : (i k : ℕ) → (inside : i < l.nodes) → (ep.rest.node i inside).start ≤ k → AreInside l i k → IsGood line i k
     pub low : (i k : ℕ) → (inside : i < l.nodes) → (ep.rest.node i inside).start ≤ k → AreInside l i k → n ≤ suc (long i k)
     pub pair : (j : ℕ) (p : IsListener b j) (k q : ℕ) → (ep.rest.node a is.sender).start ≤ k → (ep.rest.node j p.0).start ≤ q → AreInside l a k → AreInside l j q
         → l.instant a k ≤ l.instant j q → long a k ≤ long j q
-    pub due : (k m : ℕ) → (ep.rest.node a is.sender).start ≤ k → AreInside l a k → m ≤ length (sender_queue b) → due_quantum b stuffed m ≤ k → m ≤ long a k
+    pub due : (k m : ℕ) → (ep.rest.node a is.sender).start ≤ k → AreInside l a k → m ≤ length (sender_queue b) → due_quantum b lengths m ≤ k → m ≤ long a k
 
   -- by the counts of the sender and of the others, where one more frame isn't due
-  later_by : (t n : ℕ) (ep : Epoch t n) → ((k : ℕ) → (ep.rest.node a is.sender).start ≤ k → AreInside l a k → OwnCount t n ep k)
+  later_by : (t n : ℕ) (ep : Epoch t n) (more left : List Content) → ComeFrom (b.setups a) (ep.line ++ more) left
+      → ((i k : ℕ) → (inside : i < l.nodes) → (ep.rest.node i inside).start ≤ k → AreInside l i k → IsGood (ep.line ++ more) i k) → ((k : ℕ) → (ep.rest.node a is.sender).start ≤ k → AreInside l a k → OwnCount t n ep k)
       → ((j : ℕ) (p : IsListener b j) (k : ℕ) → (ep.rest.node j p.0).start ≤ k → AreInside l j k → OtherCount t n ep j p k)
-      → ((k : ℕ) → (ep.rest.node a is.sender).start ≤ k → AreInside l a k → n < length (sender_queue b) → due_quantum b stuffed (suc n) ≤ k → ⊥) → Later t n ep
-  later_by t n ep own other none = record {
+      → ((k : ℕ) → (ep.rest.node a is.sender).start ≤ k → AreInside l a k → n < length (sender_queue b) → due_quantum b lengths (suc n) ≤ k → ⊥) → Later t n ep
+  later_by t n ep more left from good own other none = record {
+    line = ep.line ++ more;
+    more = more;
+    on = refl;
+    left = left;
+    from = from;
+    good = good;
     low = λ i k inside late soon. low_by t n ep own other i k inside late soon;
     pair = λ j p k q late later soon sooner after. pair_by t n ep j p k q (own k late soon) (other j p q later sooner) after;
     due = λ k m late soon few by. due_by t n ep k m (own k late soon) by (λ one_more. elim (cases_lt n m) [
-      | inl more ↦ absurd (none k late soon (omega arith) one_more)
+      | inl later ↦ absurd (none k late soon (omega arith) one_more)
       | inr fits ↦ fits
     ]);
   }
@@ -656,8 +712,24 @@ module _ (laws : Laws) (stay : StayLaws) (b : SenderBus) (stuffed : ℕ → List
         let g = soon q few in
         omega arith
 
+    -- its line goes on
+    next_on : longer t n ep m head decides ++ then.more ≡ then.line
+    unfolding next_epoch
+    next_on = then.on
+
     later_next : Later t n ep
     later_next = record {
+      line = then.line;
+      more = head ∷ then.more;
+      on = sym (append_assoc ep.line (head ∷ []) then.more) ∙ next_on;
+      left = then.left;
+      from = then.from;
+      good = λ i k inside late soon. elim (cases_lt k (next_one.rest.node i inside).start) [
+        | inl early ↦
+            still_good (longer t n ep m head decides) then.more then.line i k next_on
+            (good_frame t n ep m head decides i k inside late (before_cut i k inside early soon))
+        | inr past ↦ then.good i k inside past soon
+      ];
       low = λ i k inside late soon. elim (cases_lt k (next_one.rest.node i inside).start) [
         | inl early ↦ low_early i k inside late early soon
         | inr past ↦ (let e = then.low i k inside past soon in omega arith)
@@ -700,11 +772,15 @@ module _ (laws : Laws) (stay : StayLaws) (b : SenderBus) (stuffed : ℕ → List
   later_all : (fuel t n : ℕ) (ep : Epoch t n) → l.stop ≤ t + fuel → Later t n ep
   later_all zero t n ep over = elim (find t n ep l.stop) [
     | inr none ↦
-        later_by t n ep (λ k late soon. own_calm t n ep none k late soon) (λ j p k late soon. other_calm t n ep none j p k late soon)
-        (λ k late soon more by. calm_due t n ep none k soon more by)
+        later_by t n ep [] (queued_contents (left t n ep)) (subst (λ x. ComeFrom (b.setups a) x (queued_contents (left t n ep))) (sym (append-nil ep.line)) ep.from)
+        (λ i k inside late soon. subst (λ x. IsGood x i k) (sym (append-nil ep.line)) (good_calm t n ep none i k inside late soon)) (λ k late soon. own_calm t n ep none k late soon)
+        (λ j p k late soon. other_calm t n ep none j p k late soon) (λ k late soon more by. calm_due t n ep none k soon more by)
     | inl found ↦ elim (cases_lt l.stop (after_it t n ep found.0 found.1 found.2)) [
       | inl beyond ↦
-          later_by t n ep
+          later_by t n ep (found.1 ∷ [])
+          (queued_contents (left_of (b.setups a) (gone t n ep ++ record { sent = true; quantum = 0; frame = found.1 } ∷ [])))
+          (come_on t n ep found.0 found.1 found.2 (record { sent = true; quantum = 0; frame = found.1 }) refl refl)
+          (λ i k inside late soon. good_frame t n ep found.0 found.1 found.2 i k inside late (λ q less. (let f = soon q less in omega arith)))
           (λ k late soon. own_frame t n ep found.0 found.1 found.2 k late (λ q less. (let f = soon q less in omega arith)))
           (λ j p k late soon. other_frame t n ep found.0 found.1 found.2 j p k late (λ q less. (let f = soon q less in omega arith)))
           (λ k late soon more by. too_early t n ep found.0 found.1 found.2 k (λ q less. (let f = soon q less in omega arith)) by)
@@ -713,11 +789,15 @@ module _ (laws : Laws) (stay : StayLaws) (b : SenderBus) (stuffed : ℕ → List
   ]
   later_all (suc fuel) t n ep over = elim (find t n ep l.stop) [
     | inr none ↦
-        later_by t n ep (λ k late soon. own_calm t n ep none k late soon) (λ j p k late soon. other_calm t n ep none j p k late soon)
-        (λ k late soon more by. calm_due t n ep none k soon more by)
+        later_by t n ep [] (queued_contents (left t n ep)) (subst (λ x. ComeFrom (b.setups a) x (queued_contents (left t n ep))) (sym (append-nil ep.line)) ep.from)
+        (λ i k inside late soon. subst (λ x. IsGood x i k) (sym (append-nil ep.line)) (good_calm t n ep none i k inside late soon)) (λ k late soon. own_calm t n ep none k late soon)
+        (λ j p k late soon. other_calm t n ep none j p k late soon) (λ k late soon more by. calm_due t n ep none k soon more by)
     | inl found ↦ elim (cases_lt l.stop (after_it t n ep found.0 found.1 found.2)) [
       | inl beyond ↦
-          later_by t n ep
+          later_by t n ep (found.1 ∷ [])
+          (queued_contents (left_of (b.setups a) (gone t n ep ++ record { sent = true; quantum = 0; frame = found.1 } ∷ [])))
+          (come_on t n ep found.0 found.1 found.2 (record { sent = true; quantum = 0; frame = found.1 }) refl refl)
+          (λ i k inside late soon. good_frame t n ep found.0 found.1 found.2 i k inside late (λ q less. (let f = soon q less in omega arith)))
           (λ k late soon. own_frame t n ep found.0 found.1 found.2 k late (λ q less. (let f = soon q less in omega arith)))
           (λ j p k late soon. other_frame t n ep found.0 found.1 found.2 j p k late (λ q less. (let f = soon q less in omega arith)))
           (λ k late soon more by. too_early t n ep found.0 found.1 found.2 k (λ q less. (let f = soon q less in omega arith)) by)
@@ -731,16 +811,21 @@ module _ (laws : Laws) (stay : StayLaws) (b : SenderBus) (stuffed : ℕ → List
   unfolding rests_first integrating
   first_epoch = record {
     rest = rests_first laws.clocks b is;
-    kept = λ i inside c. (0, none_passed (sender_queue b) (i == b.sender));
-    sent = none_passed (sender_queue b) true;
-    received = λ j p. none_passed (sender_queue b) false;
+    line = [];
+    whole = refl;
+    from = come_first (b.setups a);
+    kept = λ i inside c. (0, none_passed (b.setups a) [] (i == b.sender));
+    sent = none_passed (b.setups a) [] true;
+    received = λ j p. none_passed (b.setups a) [] false;
     spaced = λ m head d j p.
         (let here : m ≡ b.decides = elim (cases_order m b.decides) [
           | inl e ↦ e
           | inr o ↦ elim o [
-            | inl less ↦ none_or_some (ready_head (sender_queue b) (m * B a + S a)) head (sends.unready m d.idle less) (ap (ready_head (sender_queue b)) (sym (zero_first (m * B a) (S a))) ∙ d.ready)
-            | inr more ↦ none_or_some (ready_head (sender_queue b) (b.decides * B a + S a)) b.frame
-                (ap (ready_head (sender_queue b)) (sym (zero_first (b.decides * B a) (S a))) ∙ d.unready b.decides sends.idle more) sends.ready
+            | inl less ↦ none_or_some (head_at (b.setups a) (sender_queue b) (m * B a + S a)) head (sends.unready m d.idle less)
+                (ap (head_at (b.setups a) (sender_queue b)) (sym (zero_first (m * B a) (S a))) ∙ ap (λ u. head_at (b.setups a) u (0 + m * B a + S a)) (sym (unsent_first (b.setups a))) ∙ d.ready)
+            | inr more ↦ none_or_some (head_at (b.setups a) (sender_queue b) (b.decides * B a + S a)) b.frame
+                (ap (head_at (b.setups a) (sender_queue b)) (sym (zero_first (b.decides * B a) (S a))) ∙ ap (λ u. head_at (b.setups a) u (0 + b.decides * B a + S a)) (sym (unsent_first (b.setups a)))
+                ∙ d.unready b.decides sends.idle more) sends.ready
           ]
         ] in
         let e = sends.others j p in
@@ -761,27 +846,51 @@ module _ (laws : Laws) (stay : StayLaws) (b : SenderBus) (stuffed : ℕ → List
   unfolding first_epoch rests_first
   start_first i inside = omega arith
 
-  good : (i k : ℕ) → i < l.nodes → AreInside l i k → IsGood i k
-  good i k inside soon = let e = start_first i inside in goes_on l.stop 0 0 first_epoch (omega arith) i k inside (omega arith) soon
+  all : Later 0 0 first_epoch
+  all = later_all l.stop 0 0 first_epoch (omega arith)
 
-  pub gets_through : GetThrough b stuffed
+  good : (i k : ℕ) → i < l.nodes → AreInside l i k → IsGood all.line i k
+  good i k inside soon = let e = start_first i inside in all.good i k inside (omega arith) soon
+
+  pub gets_through : GetThrough b lengths
   gets_through = record {
     fine = λ i k inside soon. (good i k inside soon).fine;
     counters = λ i k inside soon. (good i k inside soon).counters;
-    frames = λ i k inside soon. (let g = good i k inside soon in (queued_contents (drop g.count (sender_queue b)), g.passed.whole));
+    line = all.line;
+    left = all.left;
+    queue = all.from;
+    frames = λ i k inside soon. (let g = good i k inside soon in (g.passed.rest, g.passed.whole));
     roles = λ i k inside soon.
         (let g = good i k inside soon in
         g.passed.count ∙ ap (λ n. cond (i == b.sender) n 0) (sym g.passed.long));
     sent = λ n k few soon by.
         (let e = start_first a is.sender in
-        let d = (later_all l.stop 0 0 first_epoch (omega arith)).due k n (omega arith) soon few by in
+        let d = all.due k n (omega arith) soon few by in
         let f = contents_long (history_at b a k).frames in
         omega arith);
+    unsent = λ i k inside soon. elim (cases_eq i a) [
+      | inl own ↦ unsent_own i k inside soon own
+      | inr other ↦
+          (let g = good i k inside soon in
+          let none = ap length (unsent_none (b.setups i) (history_at b i k).frames (sends.alone i (inside, other))) in
+          let empty = ap length (sends.alone i (inside, other)) in
+          let count = g.passed.count ∙ ap (λ v. cond v g.count 0) (ne_eqb i a other) in
+          omega arith)
+    ];
     received = λ j k q p soon sooner after.
         (let e = start_first a is.sender in
         let g = start_first j p.0 in
-        let d = (later_all l.stop 0 0 first_epoch (omega arith)).pair j p k q (omega arith) (omega arith) soon sooner after in
+        let d = all.pair j p k q (omega arith) (omega arith) soon sooner after in
         let f = contents_long (history_at b a k).frames in
         let h = contents_long (history_at b j q).frames in
         omega arith);
   }
+    where
+      unsent_own : (i k : ℕ) → i < l.nodes → AreInside l i k → i ≡ a → length (unsent_after (b.setups i) (history_at b i k).frames) + count_by is_sent (history_at b i k).frames ≡ length (b.setups i).queue
+      unsent_own i k inside soon own =
+          let g = good i k inside soon in
+          let left = g.passed.left (eq-eqb i a own) in
+          let count = g.passed.count ∙ ap (λ v. cond v g.count 0) (eq-eqb i a own) in
+          let same = ap (λ v. length (unsent_after (b.setups v) (history_at b i k).frames)) own in
+          let long = ap (λ v. length (b.setups v).queue) own in
+          omega arith

@@ -6,7 +6,8 @@ use Rattle.wl_level.specs.declared.Level.{Level}
 use Rattle.wl_level.specs.declared.Level.TheVariants.{Recessive}
 use Rattle.wl_level.specs.Levels.{is_dominant}
 use Rattle.wl_segments.specs.Lengths.{sample_at, bit_quanta}
-use Rattle.wl_node.specs.History.{ready_head}
+use Rattle.wl_buses.specs.BothProofs.Queues.{head_at}
+use Rattle.wl_buses.proofs.BothProofs.Heads.{head_none}
 use Rattle.wl_phase.specs.Clocks.{steady_tick}
 use Rattle.wl_plan.specs.Line.{Line}
 use Rattle.wl_plan.specs.Simulation.{level, seen, AreInside}
@@ -22,7 +23,7 @@ use Rattle.wl_buses.proofs.OneSender.Silence.{IsSilentAt, left_none, left_of, si
 
 module _ (laws : Laws) (b : SenderBus) (is : IsBus b) (t : ℕ) (rest : Rests laws.clocks b is t) (alone : (j : ℕ) → IsListener b j → (b.setups j).queue ≡ [])
     (never : (c : ℕ) → 10 ≤ c → steady_tick (b.clocks b.sender) ((rest.node b.sender is.sender).base + c * bit_quanta (lengths_of b b.sender) + sample_at (lengths_of b b.sender)) < b.line.stop
-    → ready_head (left_of (b.setups b.sender) ((rest.node b.sender is.sender).waits.passed 10))
+    → head_at (b.setups b.sender) (left_of (b.setups b.sender) ((rest.node b.sender is.sender).waits.passed 10))
     ((rest.node b.sender is.sender).base + c * bit_quanta (lengths_of b b.sender) + sample_at (lengths_of b b.sender)) ≡ None) where
   abbrev l : Line
   l = b.line
@@ -68,15 +69,15 @@ module _ (laws : Laws) (b : SenderBus) (is : IsBus b) (t : ℕ) (rest : Rests la
     silent k late = all_drove.silent_then b t none_driven laws.clocks laws.simulation laws.lines is rest i inside k late (λ j inside_j come from_then. refl)
 
     unready : (k : ℕ) → ((n : ℕ) → n < k → tick i n < l.stop) → (c : ℕ) → 10 ≤ c → at_rest.base + c * B i + S i < k
-        → ready_head (left_of (b.setups i) (at_rest.waits.passed 10)) (at_rest.base + c * B i + S i) ≡ None
+        → head_at (b.setups i) (left_of (b.setups i) (at_rest.waits.passed 10)) (at_rest.base + c * B i + S i) ≡ None
     unready k soon c many less = elim (cases_eq i a) [
       | inl here ↦
           subst (λ n. (h : n < l.nodes) → tick n ((rest.node n h).base + c * B n + S n) < l.stop
-          → ready_head (left_of (b.setups n) ((rest.node n h).waits.passed 10)) ((rest.node n h).base + c * B n + S n) ≡ None) (sym here)
+          → head_at (b.setups n) (left_of (b.setups n) ((rest.node n h).waits.passed 10)) ((rest.node n h).base + c * B n + S n) ≡ None) (sym here)
           (λ h. subst (λ h. tick a ((rest.node a h).base + c * B a + S a) < l.stop
-          → ready_head (left_of (b.setups a) ((rest.node a h).waits.passed 10)) ((rest.node a h).base + c * B a + S a) ≡ None) (le_prop is.sender h) (never c many)) inside
+          → head_at (b.setups a) (left_of (b.setups a) ((rest.node a h).waits.passed 10)) ((rest.node a h).base + c * B a + S a) ≡ None) (le_prop is.sender h) (never c many)) inside
           (soon (at_rest.base + c * B i + S i) less)
-      | inr apart ↦ ap (λ v. ready_head v (at_rest.base + c * B i + S i)) (left_none (b.setups i) (at_rest.waits.passed 10) (alone i (inside, apart)))
+      | inr apart ↦ ap (λ v. head_at (b.setups i) v (at_rest.base + c * B i + S i)) (left_none (b.setups i) (at_rest.waits.passed 10) (alone i (inside, apart))) ∙ head_none (b.setups i) (at_rest.base + c * B i + S i)
     ]
 
     pub still : (k : ℕ) → at_rest.start ≤ k → ((n : ℕ) → n < k → tick i n < l.stop)

@@ -1,16 +1,13 @@
 -- From a family to the bus of one of its plans.
-use Rattle.std.proofs.Common.{◌≡◌, ◌∙◌, inl, inr, refl, sym, ap, ℕ, suc, ◌+◌, ◌-◌, ◌*◌, ◌<◌, ◌≤◌, List, length, true, cond, not, ◌&&◌, Some, None, arith}
+use Rattle.std.proofs.Common.{◌≡◌, ◌∙◌, inl, inr, refl, sym, ap, ℕ, suc, ◌+◌, ◌*◌, ◌<◌, ◌≤◌, List, length, true, cond, not, ◌&&◌, arith}
 use Rattle.std.specs.Prelude.{◌==◌, nat_lt}
-use Rattle.std.specs.Int.{div_ceil}
-use Rattle.std.proofs.lemmas.Bool.{both_ways, cases_eq, cases_lt, le-leb, lt-leb, lt-ltb, eq-eqb, ne_eqb}
-use Rattle.std.proofs.lemmas.Grind.{div_ceil_times}
+use Rattle.std.proofs.lemmas.Bool.{both_ways, cases_eq, cases_lt, lt-ltb, eq-eqb, ne_eqb}
 use Rattle.std.proofs.lemmas.List.{get_or_past}
-use Rattle.std.proofs.Math.Nat.{mul-le-mul_right, le_of_mul-le-mul_right}
+use Rattle.std.proofs.Math.Nat.{le_of_mul-le-mul_right}
 use Rattle.wl_level.specs.declared.Level.{Level}
 use Rattle.wl_clock.specs.Timing.{tick_of}
 use Rattle.wl_segments.specs.Lengths.{Lengths, sample_at, bit_quanta}
 use Rattle.wl_topology.specs.Delays.{delay_of, propagation_of}
-use Rattle.wl_node.specs.History.{ready_head}
 use Rattle.wl_plan.specs.declared.plan.Plan.{Plan}
 use Rattle.wl_plan.specs.PlanLine.{no_setup, setup_at}
 use Rattle.wl_phase.specs.Clocks.{Steady, steady_tick}
@@ -27,10 +24,14 @@ use Rattle.wl_buses.specs.OneSender.Tolerances.{IsWithinTolerance}
 use Rattle.wl_buses.specs.OneSender.Bounds.{IsBoundOf}
 use Rattle.wl_buses.specs.OneSender.Through.{AreFrames}
 use Rattle.wl_buses.specs.OneSender.Clean.{HasOneSender, bus_with, tolerance_of}
-use Rattle.wl_buses.specs.BothProofs.Queues.{decides_at}
+use Rattle.wl_buses.specs.BothProofs.Queues.{decided_by, decides_at, wakes_at}
+use Rattle.wl_buses.proofs.BothProofs.Heads.{head_early, head_in}
+use Rattle.wl_buses.proofs.FirstFrame.Deciding.{decided_after, undecided}
+use Rattle.wl_frame.specs.Grammar.{Content}
+use Rattle.wl_node.specs.declared.setup.NodeSetup.{NodeSetup}
 use Rattle.wl_buses.proofs.BothProofs.Small.{loop_over}
 
-module _ (f : Buses) (plan : Plan) (clocks : ℕ → Steady) (sender : ℕ) (one : HasOneSender plan sender) (stuffed : ℕ → List Level) (steady : IsSteadyPlan plan clocks)
+module _ (f : Buses) (plan : Plan) (clocks : ℕ → Steady) (sender : ℕ) (one : HasOneSender plan sender) (stuffed : Content → List Level) (steady : IsSteadyPlan plan clocks)
     (of : IsOfFamily f plan clocks) (is : IsBus (bus_with plan clocks sender one stuffed)) where
   abbrev b : SenderBus
   b = bus_with plan clocks sender one stuffed
@@ -103,55 +104,52 @@ module _ (f : Buses) (plan : Plan) (clocks : ℕ → Steady) (sender : ℕ) (one
   abbrev l : Lengths
   l = (setup_at plan sender).segments
 
-  abbrev decides : ℕ
-  decides = decides_at l one.first.ready
+  abbrev own : NodeSetup
+  own = setup_at plan sender
 
-  pub sends : AreFrames b stuffed → SendsFirst b
-  sends frames =
-      let first = frames 0 one.first one.later one.queue in
+  abbrev ready : ℕ
+  ready = wakes_at own own.queue
+
+  abbrev decides : ℕ
+  decides = decides_at l ready
+
+  pub sends : (lengths : ℕ → ℕ) → AreFrames b stuffed lengths → SendsFirst b
+  sends lengths frames =
+      let place = head_in own own.queue (decided_by own) one.frame one.decides in
       let some = (is.book sender one.inside).lengths.low in
-      let ceil = div_ceil_times (one.first.ready - sample_at l) (bit_quanta l) (omega arith) in
-      let above : div_ceil (one.first.ready - sample_at l) (bit_quanta l) * bit_quanta l ≤ decides * bit_quanta l = mul-le-mul_right (bit_quanta l) (omega arith) in
-      let ready_by : one.first.ready ≤ decides * bit_quanta l + sample_at l = let c = ceil.0 in omega arith in
+      let ready_by : ready ≤ decides * bit_quanta l + sample_at l = decided_after l ready (omega arith) in
       record {
-        content = first.0;
-        stuffs = first.1;
+        content = frames.content place.0 one.frame place.1;
+        stuffs = frames.stuffs place.0 one.frame place.1;
         idle = omega arith;
-        ready = ready_then (decides * bit_quanta l + sample_at l) ready_by;
-        unready = λ n many less. unready_then (n * bit_quanta l + sample_at l)
-            (let under : suc n ≤ div_ceil (one.first.ready - sample_at l) (bit_quanta l) = omega arith in
-            let up : suc n * bit_quanta l ≤ div_ceil (one.first.ready - sample_at l) (bit_quanta l) * bit_quanta l = mul-le-mul_right (bit_quanta l) under in
-            let more : suc n * bit_quanta l ≡ n * bit_quanta l + bit_quanta l = omega arith in
-            let c = ceil.1 in
-            omega arith);
+        ready = one.decides;
+        unready = λ n many less. head_early own own.queue (n * bit_quanta l + sample_at l) (undecided l ready (omega arith) n many less);
         alone = λ j p. one.alone j p.0 p.1;
         others = λ j p. others j p ready_by;
       }
     where
-      ready_then : (k : ℕ) → one.first.ready ≤ k → ready_head (setup_at plan sender).queue k ≡ Some one.first.frame
-      ready_then k h = ap (λ q. ready_head q k) one.queue ∙ ap (λ c. cond c (Some one.first.frame) None) (le-leb one.first.ready k h)
+      ready_is : ready ≡ one.first.ready
+      ready_is = ap (wakes_at own) one.queue
 
-      unready_then : (k : ℕ) → k < one.first.ready → ready_head (setup_at plan sender).queue k ≡ None
-      unready_then k h = ap (λ q. ready_head q k) one.queue ∙ ap (λ c. cond c (Some one.first.frame) None) (lt-leb one.first.ready k h)
-
-      idle_by : (j : ℕ) → IsListener b j → tick_of (setup_at plan j).clock (11 * bit_quanta (setup_at plan j).segments) ≤ tick_of (setup_at plan sender).clock one.first.ready
+      idle_by : (j : ℕ) → IsListener b j → tick_of (setup_at plan j).clock (11 * bit_quanta (setup_at plan j).segments) ≤ tick_of own.clock ready
       idle_by j p =
-          let h : not (nat_lt (tick_of (setup_at plan sender).clock one.first.ready) (idle_at (setup_at plan j))) ≡ true =
-          ap (λ q. is_ready_from (setup_at plan sender) q (idle_at (setup_at plan j))) (sym one.queue) ∙ one.idle j p.0 p.1 in
-          elim (cases_lt (tick_of (setup_at plan sender).clock one.first.ready) (idle_at (setup_at plan j))) [
-            | inl early ↦ (let e = lt-ltb (tick_of (setup_at plan sender).clock one.first.ready) (idle_at (setup_at plan j)) early in absurd (both_ways _ (ap not e) h))
-            | inr late ↦ late
+          let h : not (nat_lt (tick_of own.clock one.first.ready) (idle_at (setup_at plan j))) ≡ true =
+          ap (λ q. is_ready_from own q (idle_at (setup_at plan j))) (sym one.queue) ∙ one.idle j p.0 p.1 in
+          let same = ap (tick_of own.clock) ready_is in
+          elim (cases_lt (tick_of own.clock one.first.ready) (idle_at (setup_at plan j))) [
+            | inl early ↦ (let e = lt-ltb (tick_of own.clock one.first.ready) (idle_at (setup_at plan j)) early in absurd (both_ways _ (ap not e) h))
+            | inr late ↦ omega arith
           ]
 
-      others : (j : ℕ) → (p : IsListener b j) → one.first.ready ≤ decides * bit_quanta l + sample_at l
+      others : (j : ℕ) → (p : IsListener b j) → ready ≤ decides * bit_quanta l + sample_at l
           → steady_tick (clocks j) (10 * bit_quanta (lengths_of b j) + sample_at (lengths_of b j)) < arrival (sender_of b) (listener_of b j) 0
       others j p ready_by =
           let by = idle_by j p in
           let first_is = ap (λ t. tick_of t (11 * bit_quanta (setup_at plan j).segments)) (steady.rates j p.0) in
-          let own_is = ap (λ t. tick_of t one.first.ready) (steady.rates sender one.inside) in
+          let own_is = ap (λ t. tick_of t ready) (steady.rates sender one.inside) in
           let low = up_to j p.0 (10 * bit_quanta (lengths_of b j) + sample_at (lengths_of b j)) (11 * bit_quanta (setup_at plan j).segments) (omega arith) in
           let bits : suc decides * bit_quanta l ≡ decides * bit_quanta l + bit_quanta l = omega arith in
-          let high = up_to sender one.inside one.first.ready (suc decides * bit_quanta l + 0 * bit_quanta l) (omega arith) in
+          let high = up_to sender one.inside ready (suc decides * bit_quanta l + 0 * bit_quanta l) (omega arith) in
           let some = is.causal.delays sender j one.inside p.0 in
           omega arith
         where

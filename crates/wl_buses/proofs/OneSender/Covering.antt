@@ -13,7 +13,10 @@ use Rattle.wl_bound.specs.Covered.{is_covered, is_uncovered}
 use Rattle.wl_bound.specs.Verdicts.{idle_at, is_ready_from}
 use Rattle.wl_buses.specs.BothProofs.Plans.{IsSteadyPlan}
 use Rattle.wl_buses.specs.OneSender.Clean.{HasOneSender}
-use Rattle.wl_buses.proofs.BothProofs.Small.{none_below, covered_each, passed}
+use Rattle.wl_buses.proofs.BothProofs.Small.{none_below, covered_each, covered_stays, passed}
+use Rattle.wl_buses.specs.BothProofs.Queues.{decided_by, wakes_at}
+use Rattle.wl_buses.proofs.BothProofs.Heads.{IsHanded, head_late}
+use Rattle.wl_buses.proofs.FirstFrame.Deciding.{decided_after}
 
 neither : (v w : Bool) → (v || w) ≡ false → (v ≡ false) × (w ≡ false)
 neither false w e = (refl, e)
@@ -38,7 +41,7 @@ module _ (plan : Plan) (covered : is_covered plan ≡ true) where
 
   idle_then : (i j : ℕ) → i < length plan.nodes → j < length plan.nodes → j ≢ i → is_ready_from (setup_at plan i) (setup_at plan i).queue (idle_at (setup_at plan j)) ≡ true
   idle_then i j ni nj apart =
-      let busy = none_below (length plan.nodes) (λ j. not (j == i) && not (is_ready_from (setup_at plan i) (setup_at plan i).queue (idle_at (setup_at plan j)))) (covered_each plan covered i ni).1 j nj in
+      let busy = none_below (length plan.nodes) (λ j. not (j == i) && not (is_ready_from (setup_at plan i) (setup_at plan i).queue (idle_at (setup_at plan j)))) (covered_each plan covered i ni).2 j nj in
       let other : not (j == i) ≡ true = ap not (ne_eqb j i apart) in
       not-false (is_ready_from (setup_at plan i) (setup_at plan i).queue (idle_at (setup_at plan j)))
       (ap (λ v. v && not (is_ready_from (setup_at plan i) (setup_at plan i).queue (idle_at (setup_at plan j)))) (sym other) ∙ busy)
@@ -51,7 +54,15 @@ module _ (plan : Plan) (covered : is_covered plan ≡ true) where
     rates = rates;
     book = book;
     undisturbed = is_empty plan.disturbances (not_less 0 (length plan.disturbances) few.1);
+    stays = covered_stays plan covered;
   }
+
+  -- on which frame it decides after its power-up
+  decides_on : (sender : ℕ) (first : Queued) (later : List Queued) → (setup_at plan sender).queue ≡ first ∷ later → IsHanded (setup_at plan sender) (setup_at plan sender).queue (decided_by (setup_at plan sender))
+  decides_on sender first later queue =
+      let long = ap length queue in
+      head_late (setup_at plan sender) (setup_at plan sender).queue (decided_by (setup_at plan sender)) (omega arith)
+      (decided_after (setup_at plan sender).segments (wakes_at (setup_at plan sender) (setup_at plan sender).queue) (omega arith))
 
   pub one_sender : (sender : ℕ) (first : Queued) (later : List Queued) → sender < length plan.nodes → (setup_at plan sender).queue ≡ first ∷ later
       → ((j : ℕ) → j < length plan.nodes → j ≢ sender → (setup_at plan j).queue ≡ []) → HasOneSender plan sender
@@ -60,6 +71,8 @@ module _ (plan : Plan) (covered : is_covered plan ≡ true) where
     first = first;
     later = later;
     queue = queue;
+    frame = (decides_on sender first later queue).frame;
+    decides = (decides_on sender first later queue).is;
     alone = alone;
     answers = λ i less. (covered_each plan covered i less).0;
     idle = λ j less apart. idle_then sender j inside less apart;

@@ -8,7 +8,8 @@ use Rattle.wl_level.specs.Levels.{level_of}
 use Rattle.wl_segments.specs.Lengths.{sample_at, bit_quanta}
 use Rattle.wl_frame.specs.Grammar.{Content}
 use Rattle.wl_node.specs.declared.setup.Passed.{Passed}
-use Rattle.wl_node.specs.declared.setup.Queued.{Queued}
+use Rattle.wl_buses.specs.BothProofs.Queues.{unsent_after}
+use Rattle.wl_buses.proofs.BothProofs.Heads.{IsHandedBy}
 use Rattle.wl_phase.specs.Clocks.{steady_tick}
 use Rattle.wl_plan.specs.Line.{Line}
 use Rattle.wl_plan.specs.Simulation.{level}
@@ -19,7 +20,7 @@ use Rattle.wl_buses.specs.OneSender.Through.{EndsInSlots}
 use Rattle.wl_buses.proofs.OneSender.Alone.{sent, sent_after}
 use Rattle.wl_buses.proofs.OneSender.Choosing.{StayLaws}
 use Rattle.wl_buses.proofs.BothProofs.Expecting.{LastQuantum, last_quantum, levels_same}
-use Rattle.wl_buses.proofs.OneSender.Passing.{IsNext, IsPassed, one_passed}
+use Rattle.wl_buses.proofs.OneSender.Passing.{IsPassed, one_passed, still_passed}
 use Rattle.wl_buses.proofs.OneSender.Planned as planned
 use Rattle.wl_buses.proofs.OneSender.Planned.{Laws}
 use Rattle.wl_buses.proofs.OneSender.Replies as replies
@@ -254,39 +255,51 @@ module _ (laws : Laws) (stay : StayLaws) (b : SenderBus) (is : IsBus b) (meets :
     ]
 
   -- the frames that have passed by then
-  module _ (queue : List Queued) (n : ℕ) (is_next : IsNext queue n frame) (sent_so_far : IsPassed queue true n sent_frames)
-      (received_so_far : (j : ℕ) → (p : IsListener b j) → IsPassed queue false n (planned.frames_of laws b is meets t rest frame y from m sends j p)) where
-    one_more : (sent : Bool) (quantum : ℕ) (gone : List Passed) → IsPassed queue sent n gone
-        → IsPassed queue sent (suc n) (gone ++ record { sent = sent; quantum = quantum; frame = frame } ∷ [])
-    one_more sent quantum gone was =
-        subst (λ c. IsPassed queue sent (suc n) (gone ++ record { sent = sent; quantum = quantum; frame = c } ∷ [])) is_next.frame
-        (one_passed queue is_next.more is_next.queued sent n quantum gone was is_next.left)
+  module _ (line : List Content) (n : ℕ) (all : length line ≡ n) (sent_so_far : IsPassed (b.setups a) line true n sent_frames)
+      (received_so_far : (j : ℕ) → (p : IsListener b j) → IsPassed (b.setups a) line false n (planned.frames_of laws b is meets t rest frame y from m sends j p)) where
+    one_more : (sent : Bool) (quantum : ℕ) (gone : List Passed) → (sent ≡ true → IsHandedBy (b.setups a) (unsent_after (b.setups a) gone) frame) → IsPassed (b.setups a) line sent n gone
+        → IsPassed (b.setups a) (line ++ frame ∷ []) sent (suc n) (gone ++ record { sent = sent; quantum = quantum; frame = frame } ∷ [])
+    one_more sent quantum gone handed was = one_passed (b.setups a) line frame sent n quantum gone all handed was
 
-    pub own_late : (c : ℕ) → 7 < c → IsPassed queue true (suc n) (after_own.passed c)
+    own_handed : IsHandedBy (b.setups a) (unsent_after (b.setups a) sent_frames) frame
+    own_handed = ((rest.node a is.sender).base + m * B a + S a, sends.decides.ready)
+
+    not_own : {A : Type 0} → false ≡ true → A
+    not_own e = cc
+
+    -- what the sender has sent
+    abbrev pub own_frame : Passed
+    own_frame = record { sent = true; quantum = q + (lengths_of b a).ps2 + 7 * B a + S a; frame = frame }
+
+    pub own_more : (c : ℕ) → 7 < c → after_own.passed c ≡ sent_frames ++ own_frame ∷ []
+    own_more c over =
+        sent_passed laws.frame frame sends.content y sends.stuffs (q + (lengths_of b a).ps2) (S a) (B a) sent_frames c
+        ∙ ap (λ w. cond w sent_frames (sent_frames ++ kept laws.frame frame sends.content y sends.stuffs (q + (lengths_of b a).ps2) (S a) (B a) sent_frames true 7)) (lt-leb c 7 over)
+
+    pub own_late : (c : ℕ) → 7 < c → IsPassed (b.setups a) (line ++ frame ∷ []) true (suc n) (after_own.passed c)
     own_late c over =
-        subst (IsPassed queue true (suc n)) (sym (sent_passed laws.frame frame sends.content y sends.stuffs (q + (lengths_of b a).ps2) (S a) (B a) sent_frames c
-        ∙ ap (λ w. cond w sent_frames (sent_frames ++ kept laws.frame frame sends.content y sends.stuffs (q + (lengths_of b a).ps2) (S a) (B a) sent_frames true 7)) (lt-leb c 7 over)))
-        (one_more true (q + (lengths_of b a).ps2 + 7 * B a + S a) sent_frames sent_so_far)
+        subst (IsPassed (b.setups a) (line ++ frame ∷ []) true (suc n)) (sym (own_more c over)) (one_more true (q + (lengths_of b a).ps2 + 7 * B a + S a) sent_frames (λ own. own_handed) sent_so_far)
 
-    pub own_early : (c : ℕ) → c ≤ 7 → IsPassed queue true n (after_own.passed c)
+    pub own_early : (c : ℕ) → c ≤ 7 → IsPassed (b.setups a) (line ++ frame ∷ []) true n (after_own.passed c)
     own_early c early =
-        subst (IsPassed queue true n) (sym (sent_passed laws.frame frame sends.content y sends.stuffs (q + (lengths_of b a).ps2) (S a) (B a) sent_frames c
+        subst (IsPassed (b.setups a) (line ++ frame ∷ []) true n) (sym (sent_passed laws.frame frame sends.content y sends.stuffs (q + (lengths_of b a).ps2) (S a) (B a) sent_frames c
         ∙ ap (λ w. cond w sent_frames (sent_frames ++ kept laws.frame frame sends.content y sends.stuffs (q + (lengths_of b a).ps2) (S a) (B a) sent_frames true 7)) (le-leb c 7 early)))
-        sent_so_far
+        (still_passed (b.setups a) line (frame ∷ []) true n sent_frames sent_so_far)
 
     module _ (j : ℕ) (p : IsPlanned j) where
-      pub other_late : (c : ℕ) → 6 < c → IsPassed queue false (suc n) ((after j p).passed c)
+      pub other_late : (c : ℕ) → 6 < c → IsPassed (b.setups a) (line ++ frame ∷ []) false (suc n) ((after j p).passed c)
       other_late c over =
-          subst (IsPassed queue false (suc n))
+          subst (IsPassed (b.setups a) (line ++ frame ∷ []) false (suc n))
           (sym (received_passed laws.frame frame sends.content y sends.stuffs (sample j p + (lengths_of b j).ps2) (S j) (B j) (planned.frames_of laws b is meets t rest frame y from m sends j p.nat.heard.listener) c
           ∙ ap (λ w. cond w (planned.frames_of laws b is meets t rest frame y from m sends j p.nat.heard.listener) (planned.frames_of laws b is meets t rest frame y from m sends j p.nat.heard.listener
           ++ kept laws.frame frame sends.content y sends.stuffs (sample j p + (lengths_of b j).ps2) (S j) (B j) (planned.frames_of laws b is meets t rest frame y from m sends j p.nat.heard.listener) false 6)) (lt-leb c 6 over)))
-          (one_more false (sample j p + (lengths_of b j).ps2 + 6 * B j + S j) (planned.frames_of laws b is meets t rest frame y from m sends j p.nat.heard.listener) (received_so_far j p.nat.heard.listener))
+          (one_more false (sample j p + (lengths_of b j).ps2 + 6 * B j + S j) (planned.frames_of laws b is meets t rest frame y from m sends j p.nat.heard.listener)
+          (λ own. not_own own) (received_so_far j p.nat.heard.listener))
 
-      pub other_early : (c : ℕ) → c ≤ 6 → IsPassed queue false n ((after j p).passed c)
+      pub other_early : (c : ℕ) → c ≤ 6 → IsPassed (b.setups a) (line ++ frame ∷ []) false n ((after j p).passed c)
       other_early c early =
-          subst (IsPassed queue false n)
+          subst (IsPassed (b.setups a) (line ++ frame ∷ []) false n)
           (sym (received_passed laws.frame frame sends.content y sends.stuffs (sample j p + (lengths_of b j).ps2) (S j) (B j) (planned.frames_of laws b is meets t rest frame y from m sends j p.nat.heard.listener) c
           ∙ ap (λ w. cond w (planned.frames_of laws b is meets t rest frame y from m sends j p.nat.heard.listener) (planned.frames_of laws b is meets t rest frame y from m sends j p.nat.heard.listener
           ++ kept laws.frame frame sends.content y sends.stuffs (sample j p + (lengths_of b j).ps2) (S j) (B j) (planned.frames_of laws b is meets t rest frame y from m sends j p.nat.heard.listener) false 6)) (le-leb c 6 early)))
-          (received_so_far j p.nat.heard.listener)
+          (still_passed (b.setups a) line (frame ∷ []) false n (planned.frames_of laws b is meets t rest frame y from m sends j p.nat.heard.listener) (received_so_far j p.nat.heard.listener))

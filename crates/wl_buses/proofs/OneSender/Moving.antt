@@ -14,7 +14,7 @@ use Rattle.wl_sync.specs.Skips.{steady_clock}
 use Rattle.wl_frame.specs.Grammar.{Content}
 use Rattle.wl_machine.specs.Stretch.{Stretch}
 use Rattle.wl_node.specs.declared.setup.Passed.{Passed}
-use Rattle.wl_node.specs.History.{history_of}
+use Rattle.wl_node.specs.History.{staying_history}
 use Rattle.wl_phase.specs.Ways.{ByTheBook}
 use Rattle.wl_phase.specs.InStep.{Sender}
 use Rattle.wl_phase.specs.Answer.{FindsEarly, answer_begin, answer_end, moved_sample}
@@ -144,7 +144,7 @@ module _ (laws : Laws) (stay : StayLaws) (b : SenderBus) (is : IsBus b) (meets :
     pub steady_new : clock_at laws.clocks (b.setups j) book finds (suc k) ≡ steady_clock (lengths_of b j)
     steady_new =
         let after = early.1.after in
-        ap (λ ls. clock_after (lengths_of b j) (history_of (b.setups j) ls).seen) (sym (lists (suc k) (omega arith))) ∙ steady_old
+        ap (λ ls. clock_after (lengths_of b j) (staying_history (b.setups j) ls).seen) (sym (lists (suc k) (omega arith))) ∙ steady_old
 
     -- up to there it drives recessive
     silent_old : (q : ℕ) → k < q → q ≤ k + (lengths_of b j).ps2 → Does laws.clocks (b.setups j) book old gone q (Heard (suc last)) Recessive

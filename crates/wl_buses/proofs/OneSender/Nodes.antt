@@ -22,7 +22,7 @@ use Rattle.wl_machine.specs.Judged.{judged, stretch_of, stretch_after, drive_of}
 use Rattle.wl_machine.proofs.Callers.{stretch_next}
 use Rattle.wl_node.specs.declared.setup.NodeSetup.{NodeSetup}
 use Rattle.wl_node.specs.declared.setup.Passed.{Passed}
-use Rattle.wl_node.specs.History.{History, history_of, history_after, no_history, seen_next, sampled_next, by_beat, switched_off, passed_frames, error_count}
+use Rattle.wl_node.specs.History.{History, staying_history, history_after, no_history, seen_next, sampled_next, by_beat, switched_off, passed_frames, error_count}
 use Rattle.wl_phase.specs.Ways.{ByTheBook}
 use Rattle.wl_phase.specs.InStep.{seen_before}
 use Rattle.wl_phase.proofs.Callers.{Goes, IsValid, valid_after, before_dominant, now_recessive}
@@ -60,7 +60,7 @@ module _ (clocks : ClockGoes) (setup : NodeSetup) (book : ByTheBook setup.segmen
 
   -- the node before quantum k
   abbrev pub node : ℕ → History
-  node k = history_of setup (levels_before levels k)
+  node k = staying_history setup (levels_before levels k)
 
   abbrev pub sees_at : ℕ → Seen
   sees_at k = seen_next (node k) (levels k)
@@ -72,11 +72,11 @@ module _ (clocks : ClockGoes) (setup : NodeSetup) (book : ByTheBook setup.segmen
   beat_at k = beat_of l (node k).seen (sees_at k)
 
   pub node_first : node 0 ≡ no_history
-  unfolding history_of
+  unfolding staying_history
   node_first = refl
 
   pub node_next : (k : ℕ) → node (suc k) ≡ history_after setup (node k) (levels k)
-  unfolding history_of
+  unfolding staying_history
   node_next k = fold-append (history_after setup) no_history (levels_before levels k) (levels k ∷ [])
 
   pub seen_are : (k : ℕ) → (node k).seen ≡ seen_before sees_at k
@@ -275,16 +275,16 @@ module _ (clocks : ClockGoes) (setup : NodeSetup) (book : ByTheBook setup.segmen
 module _ (clocks : ClockGoes) (setup : NodeSetup) (book : ByTheBook setup.segments) (u v : ℕ → Level) (k : ℕ) (e : levels_before u k ≡ levels_before v k) where
   pub does_same : {passed : List Passed} (s : Stretch) (drive : Level) → Does clocks setup book u passed k s drive → Does clocks setup book v passed k s drive
   does_same s drive d = record {
-    stretch = ap (λ ls. stretch_of (history_of setup ls).inputs) (sym e) ∙ d.stretch;
-    drives = ap (λ ls. (history_of setup ls).drive) (sym e) ∙ d.drives;
-    frames = ap (λ ls. (history_of setup ls).frames) (sym e) ∙ d.frames;
-    errors = ap (λ ls. error_count (history_of setup ls)) (sym e) ∙ d.errors;
-    counts = ap (λ ls. counts_of (history_of setup ls).happened) (sym e) ∙ d.counts;
+    stretch = ap (λ ls. stretch_of (staying_history setup ls).inputs) (sym e) ∙ d.stretch;
+    drives = ap (λ ls. (staying_history setup ls).drive) (sym e) ∙ d.drives;
+    frames = ap (λ ls. (staying_history setup ls).frames) (sym e) ∙ d.frames;
+    errors = ap (λ ls. error_count (staying_history setup ls)) (sym e) ∙ d.errors;
+    counts = ap (λ ls. counts_of (staying_history setup ls).happened) (sym e) ∙ d.counts;
   }
 
   pub going_same : {passed : List Passed} (p longer : ℕ) (fresh : Bool) (s : Stretch) (drive : Level) → IsGoing clocks setup book u passed k p longer fresh s drive
       → IsGoing clocks setup book v passed k p longer fresh s drive
   going_same p longer fresh s drive g = record {
-    place = subst (λ ls. IsAt (clock_after setup.segments (history_of setup ls).seen) p longer fresh) e g.place;
+    place = subst (λ ls. IsAt (clock_after setup.segments (staying_history setup ls).seen) p longer fresh) e g.place;
     does = does_same s drive g.does;
   }

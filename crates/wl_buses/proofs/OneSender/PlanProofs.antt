@@ -11,11 +11,13 @@ use Rattle.wl_frame.specs.Grammar.{Content}
 use Rattle.wl_phase.specs.Clocks.{Steady}
 use Rattle.wl_plan.specs.declared.plan.Plan.{Plan}
 use Rattle.wl_plan.specs.Checked.{CheckedIsSound}
-use Rattle.wl_plan.specs.PlanLine.{is_at}
+use Rattle.wl_plan.specs.PlanLine.{is_at, setup_at}
 use Rattle.wl_buses.specs.OneSender.OneSender.{IsBus, IsListener}
 use Rattle.wl_buses.specs.BothProofs.Plans.{IsSteadyPlan}
 use Rattle.wl_buses.specs.OneSender.Plans.{sender_bus_of}
 use Rattle.wl_buses.proofs.BothProofs.Small.{lengths_at, loop_over, steady_at}
+use Rattle.wl_level.specs.Levels.{is_dominant}
+use Rattle.wl_node.proofs.Callers.{stays_on}
 
 -- on a cable a way over a third node is longer
 way_over : (cable : Cable) → IsTopology cable → (i j k : ℕ) → j < length cable.places → propagation_of cable i k < propagation_of cable i j + propagation_of cable j k
@@ -80,7 +82,7 @@ module _ (sound : CheckedIsSound) (plan : Plan) (clocks : ℕ → Steady) (is : 
     causal = (sound plan is.checked).causal;
     sender = inside;
     other = other;
-    drives = λ i levels less. refl;
+    drives = λ i levels less. ap (λ h. is_dominant h.drive) (stays_on (setup_at plan i) levels (is.stays i less));
     ticks = λ i k less. ap (λ t. tick_of t k) (is.rates i less);
     steady = λ i less. steady_at plan is.checked i less (clocks i) (is.rates i less);
     book = λ i less. record { lengths = lengths_at plan is.checked i less; book = is.book i less };

@@ -16,7 +16,8 @@ use Rattle.wl_machine.specs.Stretch.{Stretch}
 use Rattle.wl_machine.specs.Stretch.Sort.{Framing}
 use Rattle.wl_machine.specs.States.{stretch_by}
 use Rattle.wl_node.specs.declared.setup.Passed.{Passed}
-use Rattle.wl_node.specs.History.{ready_head}
+use Rattle.wl_buses.specs.BothProofs.Queues.{head_at}
+use Rattle.wl_buses.proofs.BothProofs.Heads.{head_none}
 use Rattle.wl_phase.specs.Clocks.{IsSteady, Finds, steady_tick}
 use Rattle.wl_phase.specs.Ways.{ByTheBook}
 use Rattle.wl_phase.specs.InStep.{Sender, Listener, ClocksAreNear, SamplesBit, arrival}
@@ -244,7 +245,7 @@ module _ (laws : Laws) (b : SenderBus) (is : IsBus b) (meets : IsInStepWithAll b
       λ k low high.
       silent_at laws.clocks (b.setups j) (is.book j listener.0) (levels j) r.base r.waits r.start (suc q.quantum)
       (λ i begun less. finds_early j inside i begun (finds.unseen i less))
-      (λ c many begun less. ap (λ v. ready_head v (r.base + c * B j + S j)) (left_none (b.setups j) (r.waits.passed 10) (sends.alone j listener)))
+      (λ c many begun less. ap (λ v. head_at (b.setups j) v (r.base + c * B j + S j)) (left_none (b.setups j) (r.waits.passed 10) (sends.alone j listener)) ∙ head_none (b.setups j) (r.base + c * B j + S j))
       (first j inside) k low high in
       let there = silent (suc q.quantum) late (omega arith) in
       let many = r.waits.many in

@@ -10,7 +10,9 @@ use Rattle.wl_sync.specs.Running.{clock_after}
 use Rattle.wl_frame.specs.Grammar.{Content}
 use Rattle.wl_machine.specs.Stretch.{Stretch}
 use Rattle.wl_node.specs.declared.setup.Passed.{Passed}
-use Rattle.wl_node.specs.History.{history_of, ready_head}
+use Rattle.wl_node.specs.History.{staying_history}
+use Rattle.wl_buses.specs.BothProofs.Queues.{head_at}
+use Rattle.wl_buses.proofs.BothProofs.Heads.{head_none}
 use Rattle.wl_phase.specs.Clocks.{steady_tick}
 use Rattle.wl_phase.specs.Ways.{ByTheBook}
 use Rattle.wl_phase.specs.InStep.{Sender}
@@ -591,7 +593,7 @@ module _ (laws : Laws) (stay : StayLaws) (b : SenderBus) (is : IsBus b) (meets :
             drive = z.drive;
             longer = z.longer;
             going = going_same laws.clocks (b.setups j) (is.book j p.nat.heard.listener.0) finds (lv j) (suc q) (lists_moved (suc q) (omega arith)) (suc (S j)) z.longer false (Hears (suc (suc last))) z.drive z.going;
-            slot = ap (λ ls. (clock_after (lengths_of b j) (history_of (b.setups j) ls).seen).sample) (sym (lists_moved (suc q) (omega arith))) ∙ z.slot;
+            slot = ap (λ ls. (clock_after (lengths_of b j) (staying_history (b.setups j) ls).seen).sample) (sym (lists_moved (suc q) (omega arith))) ∙ z.slot;
             after_quiet = z.if_not;
             after_loud = z.if_replied;
             kind = r.kind;
@@ -657,7 +659,8 @@ module _ (laws : Laws) (stay : StayLaws) (b : SenderBus) (is : IsBus b) (meets :
     rests_from k late =
         silent_at laws.clocks (b.setups j) (is.book j p.nat.heard.listener.0) (lv j) (sample + (lengths_of b j).ps2) after (suc (sample + B j)) k
         (λ i low high. silent_on i (omega arith))
-        (λ c many low high. ap (λ v. ready_head v (sample + (lengths_of b j).ps2 + c * B j + S j)) (left_none (b.setups j) (after.passed 10) (sends.alone j p.nat.heard.listener)))
+        (λ c many low high. ap (λ v. head_at (b.setups j) v (sample + (lengths_of b j).ps2 + c * B j + S j)) (left_none (b.setups j) (after.passed 10) (sends.alone j p.nat.heard.listener))
+        ∙ head_none (b.setups j) (sample + (lengths_of b j).ps2 + c * B j + S j))
         settled k late (omega arith)
 
     -- what it does at each quantum

@@ -1,8 +1,7 @@
 -- Worked clocks and delays: a sender and two listeners, one a hundredth faster and one a hundredth slower.
-use Rattle.std.proofs.Common.{◌≡◌, refl, ℕ, zero, suc, List, [], ◌∷◌, false, arith}
-use Rattle.wl_level.specs.declared.Level.{Level}
-use Rattle.wl_level.specs.declared.Level.TheVariants.{Dominant}
+use Rattle.std.proofs.Common.{◌≡◌, refl, ℕ, zero, suc, [], ◌∷◌, None, false, arith}
 use Rattle.wl_frame.specs.Grammar.{content_of}
+use Rattle.wl_node.specs.declared.setup.QueueOrder.TheVariants.{Fifo}
 use Rattle.wl_buses.specs.OneSender.OneSender.{SenderBus}
 use Rattle.wl_buses.specs.OneSender.Through.{due_quantum}
 use Rattle.wl_buses.specs.OneSender.Tolerances.{FitClocks, Tolerance}
@@ -82,6 +81,8 @@ cable_of way = record {
     clock = steady_timing s.clock;
     segments = l;
     queue = record { frame = content_of []; ready = 0 } ∷ record { frame = content_of []; ready = 500 } ∷ [];
+    order = Fifo;
+    until = None;
   };
   clocks = λ i. s.clock;
   sender = 0;
@@ -116,9 +117,9 @@ one_late : FitClocks crystals (cable_of 294) → ⊥
 one_late fit = let h = fit.ends_there 1 (omega arith, λ e. omega (arith, e)) in omega arith
 
 -- two frames of 3 and 4 bits, in bits of 10 quanta: 18 bits after the first 8, and 19 after quantum 500
-abbrev lists : ℕ → List Level
-lists zero = Dominant ∷ Dominant ∷ Dominant ∷ []
-lists (suc n) = Dominant ∷ Dominant ∷ Dominant ∷ Dominant ∷ []
+abbrev lists : ℕ → ℕ
+lists zero = 3
+lists (suc n) = 4
 
 first_due : due_quantum (cable_of 292) lists 1 ≡ 260
 first_due = refl

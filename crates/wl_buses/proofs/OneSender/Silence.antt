@@ -1,6 +1,6 @@
 -- A node on a silent line: until the bus is idle to it, and until it begins a frame of its own.
 use Rattle.std.proofs.Common.{◌≡◌, ◌≢◌, ◌∙◌, inl, inr, refl, sym, ap, subst, ℕ, zero, suc, ◌+◌, ◌-◌, ◌*◌, ◌<◌, ◌≤◌, min, List, [], ◌∷◌, ◌++◌, length, replicate, Bool, true, cond, Some, None, arith, append-nil}
-use Rattle.std.specs.Prelude.{◌==◌, drop, count_by}
+use Rattle.std.specs.Prelude.{◌==◌}
 use Rattle.std.proofs.lemmas.Bool.{cases_lt, cases_eq, cases_order, ne_eqb}
 use Rattle.std.proofs.Math.Nat.{mul-le-mul_right, lt_of_mul-lt-mul_right}
 use Rattle.wl_level.specs.declared.Level.{Level}
@@ -23,12 +23,15 @@ use Rattle.wl_machine.specs.States.{stretch_by}
 use Rattle.wl_node.specs.declared.setup.NodeSetup.{NodeSetup}
 use Rattle.wl_node.specs.declared.setup.Passed.{Passed}
 use Rattle.wl_node.specs.declared.setup.Queued.{Queued}
-use Rattle.wl_node.specs.History.{handed, history_of, is_sent, passed_frames, unsent_of, ready_head, sampled_next}
+use Rattle.wl_node.specs.History.{handed, staying_history, passed_frames, unsent_of, sampled_next}
 use Rattle.wl_phase.specs.Ways.{ByTheBook}
 use Rattle.wl_buses.specs.BothProofs.Levels.{levels_before}
 use Rattle.wl_phase.proofs.Callers.{IsSilent, first_silent, now_recessive}
 use Rattle.wl_buses.proofs.OneSender.Bits.{at_place, glide}
 use Rattle.wl_buses.proofs.OneSender.Nodes.{ClockGoes, IsGoing, IsCalm, Does, Completes, Takes, node, node_first, seen_length, clock_at, calm_nothing, mode_is, going_same, level_before, sample_before, sample_on, sample_start, does_first, beat_sample, step_complete, step_on, step_sample, step_start, unmoved_recessive, sees_at}
+use Rattle.wl_buses.specs.BothProofs.Queues.{head_at, unsent_after}
+use Rattle.wl_buses.proofs.BothProofs.Heads as heads
+use Rattle.wl_buses.proofs.BothProofs.Heads.{unsent_none}
 
 -- recessive samples in a row
 run_of : (c : ℕ) → run_at_end Recessive (replicate c Recessive) ≡ c
@@ -152,22 +155,18 @@ same_count B S base m c p less some low high early late = elim (cases_order c m)
 
 -- the frames that are left to send, if these have passed
 abbrev pub left_of : NodeSetup → List Passed → List Queued
-left_of setup passed = drop (count_by is_sent passed) setup.queue
+left_of setup passed = unsent_after setup passed
 
 -- A node begins a frame after bit m of those that begin with a quantum, as soon as one is ready and the bus is idle.
 pub record Decides (setup : NodeSetup) (passed : List Passed) (base S B : ℕ) (head : Content) (m : ℕ) : Type 0 where
   pub idle : 10 ≤ m
-  pub ready : ready_head (left_of setup passed) (base + m * B + S) ≡ Some head
-  pub unready : (n : ℕ) → 10 ≤ n → n < m → ready_head (left_of setup passed) (base + n * B + S) ≡ None
+  pub ready : head_at setup (left_of setup passed) (base + m * B + S) ≡ Some head
+  pub unready : (n : ℕ) → 10 ≤ n → n < m → head_at setup (left_of setup passed) (base + n * B + S) ≡ None
 
 -- how many bits were sampled by a quantum, as far as ten
 pub record CountsTo (base S B k count : ℕ) : Type 0 where
   pub more : (c : ℕ) → c < 10 → base + c * B + S < k → c < count
   pub less : (c : ℕ) → c < 10 → c < count → base + c * B + S < k
-
-drop_none : (n : ℕ) → drop {A = Queued} n [] ≡ []
-drop_none zero = refl
-drop_none (suc n) = refl
 
 pub ten_counted : (base S B k : ℕ) → base + 9 * B + S < k → CountsTo base S B k 10
 ten_counted base S B k past = record {
@@ -176,7 +175,7 @@ ten_counted base S B k past = record {
 }
 
 pub left_none : (setup : NodeSetup) (passed : List Passed) → setup.queue ≡ [] → left_of setup passed ≡ []
-left_none setup passed e = ap (drop (count_by is_sent passed)) e ∙ drop_none (count_by is_sent passed)
+left_none setup passed e = unsent_none setup passed e
 
 module _ (clocks : ClockGoes) (setup : NodeSetup) (book : ByTheBook setup.segments) (levels : ℕ → Level) where
   abbrev S : ℕ
@@ -213,18 +212,17 @@ module _ (clocks : ClockGoes) (setup : NodeSetup) (book : ByTheBook setup.segmen
 
   -- what is handed to a machine
   pub head_is : {passed : List Passed} (k : ℕ) (s : Stretch) (drive : Level) → Does clocks setup book levels passed k s drive → levels k ≡ Recessive
-      → (given k).head ≡ ready_head (left passed) k
+      → (given k).head ≡ head_at setup (left passed) k
   head_is {passed = passed} k s drive d e =
-      ap (λ l. handed l setup.segments.sync (ready_head (unsent_of setup (node clocks setup book levels k)) (length (node clocks setup book levels k).seen))) e
-      ∙ ap (λ fs. ready_head (drop (count_by is_sent fs) setup.queue) (length (node clocks setup book levels k).seen)) d.frames
-      ∙ ap (ready_head (left passed)) (seen_length clocks setup book levels k)
+      ap (λ l. handed l setup.segments.sync (head_at setup (unsent_of setup (node clocks setup book levels k)) (length (node clocks setup book levels k).seen))) e
+      ∙ ap (λ fs. head_at setup (unsent_after setup fs) (length (node clocks setup book levels k).seen)) d.frames
+      ∙ ap (head_at setup (left passed)) (seen_length clocks setup book levels k)
 
   -- and to one that has none to send
   pub head_none : (k : ℕ) → setup.queue ≡ [] → (given k).head ≡ None
   head_none k e =
-      ap (λ q. handed (levels k) setup.segments.sync (ready_head q (length (node clocks setup book levels k).seen)))
-      (ap (drop (count_by is_sent (node clocks setup book levels k).frames)) e ∙ drop_none (count_by is_sent (node clocks setup book levels k).frames))
-      ∙ none_handed (levels k) setup.segments.sync
+      ap (λ q. handed (levels k) setup.segments.sync (head_at setup q (length (node clocks setup book levels k).seen))) (unsent_none setup (node clocks setup book levels k).frames e)
+      ∙ ap (handed (levels k) setup.segments.sync) (heads.head_none setup (length (node clocks setup book levels k).seen)) ∙ none_handed (levels k) setup.segments.sync
     where
       none_handed : (v : Level) (s : SyncRules) → handed v s None ≡ None
       none_handed Recessive s = refl
@@ -284,7 +282,7 @@ module _ (clocks : ClockGoes) (setup : NodeSetup) (book : ByTheBook setup.segmen
     }
 
     module _ (start most : ℕ) (silent : (k : ℕ) → start ≤ k → k < most → levels k ≡ Recessive)
-        (unready : (c : ℕ) → 10 ≤ c → start ≤ base + c * B + S → base + c * B + S < most → ready_head (left (w.passed 10)) (base + c * B + S) ≡ None) where
+        (unready : (c : ℕ) → 10 ≤ c → start ≤ base + c * B + S → base + c * B + S < most → head_at setup (left (w.passed 10)) (base + c * B + S) ≡ None) where
       -- one more recessive sample
       samples_one : (k : ℕ) → start ≤ k → k < most → (a : IsSilentAt k) → a.p ≡ S
           → (next : Stretch) × (more : List Passed) × IsWaiting w.stretch (suc a.count) next × (w.passed (min (suc a.count) 10) ≡ w.passed (min a.count 10) ++ more)
@@ -317,8 +315,8 @@ module _ (clocks : ClockGoes) (setup : NodeSetup) (book : ByTheBook setup.segmen
                 let stay : w.passed (min (suc a.count) 10) ≡ w.passed (min a.count 10) ++ [] =
                 ap w.passed (ten_more ∙ sym ten) ∙ sym (append-nil (w.passed (min a.count 10))) in
                 let head : (given k).head ≡ None =
-                head_is k a.stretch Recessive a.going.does now ∙ ap (λ n. ready_head (left (w.passed n)) k) ten
-                ∙ ap (ready_head (left (w.passed 10))) place ∙ unready a.count many (omega arith) (omega arith) in
+                head_is k a.stretch Recessive a.going.does now ∙ ap (λ n. head_at setup (left (w.passed n)) k) ten
+                ∙ ap (head_at setup (left (w.passed 10))) place ∙ unready a.count many (omega arith) (omega arith) in
                 elim (cases_eq a.count 10) [
                   | inl at_ten ↦
                       (let is : a.stretch ≡ w.stretch 10 = a.waiting.counting (omega arith) ∙ ap w.stretch at_ten in (
@@ -420,7 +418,7 @@ module _ (clocks : ClockGoes) (setup : NodeSetup) (book : ByTheBook setup.segmen
       next_bit : base + suc m * B ≡ base + m * B + B
       next_bit = omega arith
 
-      unready_at : (n : ℕ) → 10 ≤ n → start ≤ base + n * B + S → base + n * B + S < base + m * B + S → ready_head (left (w.passed 10)) (base + n * B + S) ≡ None
+      unready_at : (n : ℕ) → 10 ≤ n → start ≤ base + n * B + S → base + n * B + S < base + m * B + S → head_at setup (left (w.passed 10)) (base + n * B + S) ≡ None
       unready_at n many late less = is.unready n many (lt_of_mul-lt-mul_right B (let f : n * B < m * B = omega arith in f))
 
       before_it : (k : ℕ) → start ≤ k → k ≤ base + m * B + S → IsSilentAt k
@@ -536,6 +534,6 @@ module _ (clocks : ClockGoes) (setup : NodeSetup) (book : ByTheBook setup.segmen
     stretch = a.stretch;
     waiting = a.waiting;
     going = going_same clocks setup book u v k e a.p 0 true a.stretch Recessive a.going;
-    sample = ap (λ ls. (clock_after setup.segments (history_of setup ls).seen).sample) (sym e) ∙ a.sample;
-    level = ap (λ ls. (clock_after setup.segments (history_of setup ls).seen).level) (sym e) ∙ a.level;
+    sample = ap (λ ls. (clock_after setup.segments (staying_history setup ls).seen).sample) (sym e) ∙ a.sample;
+    level = ap (λ ls. (clock_after setup.segments (staying_history setup ls).seen).level) (sym e) ∙ a.level;
   }

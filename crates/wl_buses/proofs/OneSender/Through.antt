@@ -16,7 +16,7 @@ use Rattle.wl_frame.specs.Grammar.{Content}
 use Rattle.wl_machine.specs.Stretch.{Stretch}
 use Rattle.wl_machine.specs.Judged.{awaits_start, drive_of}
 use Rattle.wl_node.specs.declared.setup.Passed.{Passed}
-use Rattle.wl_node.specs.History.{history_of}
+use Rattle.wl_node.specs.History.{staying_history}
 use Rattle.wl_phase.specs.Clocks.{Finds, steady_tick}
 use Rattle.wl_phase.specs.Ways.{ByTheBook}
 use Rattle.wl_phase.specs.InStep.{Sender, samples_from}
@@ -270,7 +270,7 @@ module _ (laws : Laws) (stay : StayLaws) (b : SenderBus) (is : IsBus b) (meets :
     hears = record {
       clock =
           ap (clock_after (lengths_of b a)) (sym (seen_are laws.clocks (b.setups a) (is.book a is.sender) (lv a) (suc delimiter)))
-          ∙ ap (λ ls. clock_after (lengths_of b a) (history_of (b.setups a) ls).seen) (sym (lists_delimited (suc delimiter) (omega arith)))
+          ∙ ap (λ ls. clock_after (lengths_of b a) (staying_history (b.setups a) ls).seen) (sym (lists_delimited (suc delimiter) (omega arith)))
           ∙ speaking.delimited_clock laws.clocks laws.frame b is meets t rest frame y from m sends alone (planned.own laws b is meets t rest frame y from m sends);
       silent = quiet_own;
       there = λ k low soon. (let e = nat.natural_is in let g = nat.natural_end_is in let x = it_begins in let z = it_ends in answered_then a k is.sender i plan (omega arith) (omega arith));
@@ -536,7 +536,7 @@ module _ (laws : Laws) (stay : StayLaws) (b : SenderBus) (is : IsBus b) (meets :
                 (let rise = up a is.sender (suc k) slot_sample (omega arith) in
                 sym (planned.sender_sends laws b is meets t rest frame y from m sends a u refl from_then)
                 ∙ planned.sender_drives laws b is meets t rest frame y from m sends (tick a slot_sample) (omega arith) k u from_then (omega arith) low high
-                ∙ ap (λ ls. is_dominant (history_of (b.setups a) ls).drive) (lists_delimited (suc k) (omega arith)))
+                ∙ ap (λ ls. is_dominant (staying_history (b.setups a) ls).drive) (lists_delimited (suc k) (omega arith)))
             | inr over ↦
                 (let d = doing_own (suc k) late soon in
                 let rise = up a is.sender (base last) k (omega arith) in

@@ -14,7 +14,9 @@ use Rattle.wl_frame.specs.Laws.{up_to_ack}
 use Rattle.wl_machine.specs.Judged.{awaits_start, stretch_of}
 use Rattle.wl_machine.specs.States.{stretch_by}
 use Rattle.wl_node.specs.declared.setup.Passed.{Passed}
-use Rattle.wl_node.specs.History.{history_of, error_count, ready_head}
+use Rattle.wl_node.specs.History.{staying_history, error_count}
+use Rattle.wl_buses.specs.BothProofs.Queues.{head_at}
+use Rattle.wl_buses.proofs.BothProofs.Heads.{unsent_first}
 use Rattle.wl_phase.specs.Clocks.{Finds, instant, steady_tick}
 use Rattle.wl_phase.proofs.Callers.{floor_low, floor_high}
 use Rattle.wl_phase.specs.Answer.{HearsAnswer, answer_begin, own_sample}
@@ -63,9 +65,11 @@ module _ (laws : Laws) (b : SenderBus) (is : IsBus b) (sends : SendsFirst b) (me
     stuffs = sends.stuffs;
     decides = record {
       idle = sends.idle;
-      ready = ap (ready_head (b.setups b.sender).queue) (zero_first (b.decides * bit_quanta (lengths_of b b.sender)) (sample_at (lengths_of b b.sender))) ∙ sends.ready;
+      ready = ap (λ u. head_at (b.setups b.sender) u (0 + b.decides * bit_quanta (lengths_of b b.sender) + sample_at (lengths_of b b.sender))) (unsent_first (b.setups b.sender))
+          ∙ ap (head_at (b.setups b.sender) (b.setups b.sender).queue) (zero_first (b.decides * bit_quanta (lengths_of b b.sender)) (sample_at (lengths_of b b.sender))) ∙ sends.ready;
       unready = λ n many less.
-          ap (ready_head (b.setups b.sender).queue) (zero_first (n * bit_quanta (lengths_of b b.sender)) (sample_at (lengths_of b b.sender))) ∙ sends.unready n many less;
+          ap (λ u. head_at (b.setups b.sender) u (0 + n * bit_quanta (lengths_of b b.sender) + sample_at (lengths_of b b.sender))) (unsent_first (b.setups b.sender))
+          ∙ ap (head_at (b.setups b.sender) (b.setups b.sender).queue) (zero_first (n * bit_quanta (lengths_of b b.sender)) (sample_at (lengths_of b b.sender))) ∙ sends.unready n many less;
     };
     from_is = omega arith;
     alone = sends.alone;
@@ -320,9 +324,9 @@ module _ (laws : Laws) (b : SenderBus) (is : IsBus b) (sends : SendsFirst b) (me
         quanta = suc p.heard.quantum;
         inside = λ k less. (let e = before k less in let f = until_stop j in omega arith);
         stretch =
-            ap (λ v. stretch_of (history_of (b.setups j) v).inputs) same ∙ place.1.does.stretch
+            ap (λ v. stretch_of (staying_history (b.setups j) v).inputs) same ∙ place.1.does.stretch
             ∙ ap (stretch_by (Framing None)) (frames.own_delimited laws.frame b.frame first_frame.content b.stuffed first_frame.stuffs);
-        fine = ap (λ v. error_count (history_of (b.setups j) v)) same ∙ place.1.does.errors;
+        fine = ap (λ v. error_count (staying_history (b.setups j) v)) same ∙ place.1.does.errors;
       }
 
   -- a node finds what another one drives
@@ -475,9 +479,9 @@ module _ (laws : Laws) (b : SenderBus) (is : IsBus b) (sends : SendsFirst b) (me
               let last_one = sample_inside in
               omega arith);
           stretch =
-              ap (λ v. stretch_of (history_of (b.setups i) v).inputs) same ∙ done.going.does.stretch
+              ap (λ v. stretch_of (staying_history (b.setups i) v).inputs) same ∙ done.going.does.stretch
               ∙ ap (stretch_by (Framing None)) (frames.own_all laws.frame b.frame first_frame.content b.stuffed first_frame.stuffs);
-          fine = ap (λ v. error_count (history_of (b.setups i) v)) same ∙ done.going.does.errors;
+          fine = ap (λ v. error_count (staying_history (b.setups i) v)) same ∙ done.going.does.errors;
         }
       where
         sample_inside : tick i (answer + sample_at (lengths_of b i)) < l.stop
@@ -548,7 +552,7 @@ module _ (laws : Laws) (b : SenderBus) (is : IsBus b) (sends : SendsFirst b) (me
     hears = record {
       clock =
           ap (clock_after (lengths_of b a)) (sym (seen_are laws.clocks (b.setups a) (is.book a is.sender) own_levels (suc delimiter)))
-          ∙ ap (λ ls. clock_after (lengths_of b a) (history_of (b.setups a) ls).seen) (sym (sender_lists (suc delimiter) delimiter_soon))
+          ∙ ap (λ ls. clock_after (lengths_of b a) (staying_history (b.setups a) ls).seen) (sym (sender_lists (suc delimiter) delimiter_soon))
           ∙ speaking.delimited_clock laws.clocks laws.frame b is meets 0 rest b.frame b.stuffed from b.decides first_frame (levels_found l drove a)
           (planned.own laws b is meets 0 rest b.frame b.stuffed from b.decides first_frame);
       silent = λ k low soon.
@@ -583,9 +587,9 @@ module _ (laws : Laws) (b : SenderBus) (is : IsBus b) (sends : SendsFirst b) (me
               let end = ends.sender in
               omega arith);
           stretch =
-              ap (λ v. stretch_of (history_of (b.setups a) v).inputs) same ∙ done.stretch
+              ap (λ v. stretch_of (staying_history (b.setups a) v).inputs) same ∙ done.stretch
               ∙ ap (stretch_by (Framing (Some b.frame))) (frames.own_all laws.frame b.frame first_frame.content b.stuffed first_frame.stuffs);
-          fine = ap (λ v. error_count (history_of (b.setups a) v)) same ∙ done.errors;
+          fine = ap (λ v. error_count (staying_history (b.setups a) v)) same ∙ done.errors;
         }
 
   pub acknowledged : IsAcknowledged b

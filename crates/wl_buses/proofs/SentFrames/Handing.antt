@@ -1,6 +1,6 @@
 -- A node hands its frames by its queue, as they are counted.
-use Rattle.std.proofs.Common.{◌≡◌, ◌∙◌, sym, ap, ℕ, zero, suc, ◌+◌, ◌<◌, ◌≤◌, List, [], ◌∷◌, ◌++◌, arith}
-use Rattle.std.specs.Prelude.{count_by, slice_get}
+use Rattle.std.proofs.Common.{◌≡◌, ◌∙◌, sym, ap, subst, ℕ, zero, suc, ◌+◌, ◌<◌, ◌≤◌, List, [], ◌∷◌, ◌++◌, arith}
+use Rattle.std.specs.Prelude.{slice_get}
 use Rattle.wl_level.specs.declared.Level.{Level}
 use Rattle.wl_level.specs.declared.Level.TheVariants.{Recessive}
 use Rattle.wl_level.specs.Levels.{level_of}
@@ -12,7 +12,7 @@ use Rattle.wl_machine.specs.Stretch.{Input}
 use Rattle.wl_machine.specs.Stretch.Input.{Sample}
 use Rattle.wl_node.specs.declared.setup.NodeSetup.{NodeSetup}
 use Rattle.wl_node.specs.declared.setup.Passed.{Passed}
-use Rattle.wl_node.specs.History.{History, counters_of, error_count, is_sent, unsent_of}
+use Rattle.wl_node.specs.History.{History, counters_of, error_count, unsent_of}
 use Rattle.wl_phase.specs.Clocks.{steady_tick}
 use Rattle.wl_wire.specs.Wire.{Handed, sampled}
 use Rattle.wl_buses.specs.OneFrame.Expected.{IsOutset, Outset, expected_bits, expected_drove, expected_sample, past_at}
@@ -35,7 +35,8 @@ use Rattle.wl_buses.proofs.NextFrames.Queueing.{hands_one}
 use Rattle.wl_buses.specs.PassedFrames.Passing.{PassesOne}
 use Rattle.wl_buses.specs.SentFrames.Sending.{ByQueues, PassesAll}
 use Rattle.wl_buses.specs.SentFrames.Winners.{passed_with}
-use Rattle.wl_buses.proofs.SentFrames.Counting.{sent_by}
+use Rattle.wl_buses.specs.BothProofs.Queues.{head_at, unsent_after}
+use Rattle.wl_buses.specs.NextFrames.Queues.{DecidesByQueue}
 
 -- the laws that this rests on
 abbrev pub PassLaw : Type 0
@@ -52,7 +53,7 @@ WaitFine = (r : Resting) (before : ℕ → List Input) → AreOnALine r.stations
     → (setup : NodeSetup) → setup.segments ≡ r.stations.lengths i → (levels : ℕ → Level) (node : ℕ → History) → IsRun setup levels node → (handed : Handed) → handed.mode ≡ Active → (since : ℕ)
     → since ≤ rested r i → RestsAgain r.stations (before i ++ Sample (sampled Recessive (r.frames i) handed) ∷ []) i levels node (r.place i) since
     → ((q : ℕ) → rested r i < q → q < (start_next r).from i → levels q ≡ Recessive)
-    → HandsNext r i (slice_get (r.frames i) handed.which) (unsent_of setup (node (suc (rested r i))))
+    → HandsNext r i (slice_get (r.frames i) handed.which) (head_at setup (unsent_of setup (node (suc (rested r i)))))
     → (error_count (node (suc (rest_next r i + sample_at (r.stations.lengths i)))) ≡ error_count (node (suc (rested r i))))
     × (fault_count (node (suc (rest_next r i + sample_at (r.stations.lengths i)))) ≡ fault_count (node (suc (rested r i))))
 
@@ -99,11 +100,11 @@ module _ (m : MachineLaws) (nothing : NothingFound) (is_heard : IsHeard) (rest_a
 
   -- what it is handed after a frame
   hand : (n : ℕ) (less : suc n < count) → Stage n (omega arith)
-      → HandsNext (resting_of s (fs n) (fs (suc n)) (frames.next n less)) i (waiting_frame (setups i) (node (T n))) (unsent_of (setups i) (node (suc (T n))))
+      → HandsNext (resting_of s (fs n) (fs (suc n)) (frames.next n less)) i (waiting_frame (setups i) (node (T n))) (head_at (setups i) (unsent_of (setups i) (node (suc (T n)))))
   hand n less x =
-      hands_one s fs count frames i (setups i) levels node run (omega arith) n less (by.queues i n less inside)
-      (ap (count_by is_sent) x.third ∙ sent_by s fs by.winner by.content i (suc n) ∙ sym (by.sent i n less inside))
-      (ap (count_by is_sent) x.passed ∙ sent_by s fs by.winner by.content i (suc n) ∙ sym (by.sent i n less inside))
+      hands_one s fs count frames i (setups i) levels node run (omega arith) n less
+      (subst (DecidesByQueue (resting_of s (fs n) (fs (suc n)) (frames.next n less)) i (setups i)) (sym (ap (unsent_after (setups i)) x.third)) (by.queues i n less inside))
+      (ap (unsent_after (setups i)) x.passed ∙ sym (ap (unsent_after (setups i)) x.third))
 
   goes_over : (n : ℕ) (less : suc n < count) → Stage n (omega arith) → GoesOn s fs count frames i first_since (setups i) levels node n less
   goes_over n less x =

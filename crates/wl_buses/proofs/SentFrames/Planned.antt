@@ -1,26 +1,25 @@
 -- The nodes of a plan send by their queues, from its first frame on.
-use Rattle.std.proofs.Common.{◌≡◌, ◌∙◌, sym, ap, subst, ℕ, zero, suc, ◌+◌, ◌<◌, [], Some, arith}
-use Rattle.std.specs.Prelude.{slice_get}
+use Rattle.std.proofs.Common.{◌≡◌, ℕ, zero, suc, ◌+◌, ◌<◌, [], Some, arith}
 use Rattle.wl_level.specs.declared.Level.{Level}
 use Rattle.wl_segments.specs.Lengths.{sample_at}
 use Rattle.wl_node.specs.declared.setup.NodeSetup.{NodeSetup}
 use Rattle.wl_plan.specs.Line.{Line}
-use Rattle.wl_buses.specs.BothProofs.Queues.{queued_contents}
+use Rattle.wl_buses.specs.BothProofs.Queues.{head_at, queued_contents}
 use Rattle.wl_buses.specs.OneFrame.Lines.{BeginsAfter, IsLineOf, RestsBefore, finds_expected, node_after}
 use Rattle.wl_buses.specs.OneFrame.Stations.{AreStations, HaveRoom, Stations}
 use Rattle.wl_buses.proofs.OneFrame.Lines.{finds_driven, run_of}
-use Rattle.wl_buses.specs.FirstFrame.FirstStarts.{AreIdle, HandTheFirst, Waiting, first_outset, rest_first}
+use Rattle.wl_buses.specs.FirstFrame.FirstStarts.{AreIdle, HandTheFirst, Waiting, decision_quantum, first_outset, rest_first}
 use Rattle.wl_buses.proofs.FrameEnd.Below.{MachineLaws}
 use Rattle.wl_buses.specs.FirstFrame.Faults.{fault_count}
-use Rattle.wl_buses.specs.NextFrames.Frames.{FollowOneAnother, Frame, IsBegun, frames_drove}
+use Rattle.wl_buses.specs.NextFrames.Frames.{FollowOneAnother, Frame, frames_drove, resting_of}
+use Rattle.wl_buses.specs.NextFrames.NextStarts.{decision_next}
 use Rattle.wl_buses.specs.NextFrames.Lines.{finds_frames}
 use Rattle.wl_buses.proofs.NextFrames.PoweredUp.{AfterFirst, RestFirst, begins_first, powered_up, rests_before}
 use Rattle.wl_buses.proofs.NextFrames.Windows.{IsHeard, NothingFound, RestAfter}
 use Rattle.wl_buses.proofs.NextFrames.LineResting.{rests_first}
-use Rattle.wl_buses.specs.SentFrames.Sending.{ByQueues, PassesAll, LineSends}
-use Rattle.wl_buses.specs.SentFrames.Winners.{won_by}
+use Rattle.wl_buses.specs.SentFrames.Sending.{ByQueues, PassesAll, LineSends, unsent_with}
 use Rattle.wl_buses.proofs.SentFrames.Handing.{HandLaw}
-use Rattle.wl_buses.proofs.SentFrames.Nexting.{FirstHanded, NextQueued}
+use Rattle.wl_buses.proofs.SentFrames.Nexting.{FirstHanded, NextQueued, first_queued}
 
 module _ (m : MachineLaws) (nothing : NothingFound) (is_heard : IsHeard) (rest_after : RestAfter) (after : AfterFirst) (rest : RestFirst) (hand_law : HandLaw) (first_law : FirstHanded)
     (next_law : NextQueued) (l : Line) (setups : ℕ → NodeSetup) (w : Waiting) (line : IsLineOf l setups w.stations) (are : AreStations w.stations) (room : HaveRoom w.stations) (idle : AreIdle w)
@@ -47,12 +46,9 @@ module _ (m : MachineLaws) (nothing : NothingFound) (is_heard : IsHeard) (rest_a
       (λ n q lt up. finds_driven l setups s line (frames_drove s fs count) i q inside) (rest_first w i) 0 (begins i inside)
       (rests_first m nothing is_heard rest_after l setups s line are room fs count frames some (rest_first w) begins rests i inside) (omega arith) x.0 x.1
 
-  sent_next : (n : ℕ) → n < count → slice_get (queued_contents (setups (by.winner n)).queue) (won_by by.winner (by.winner n) n) ≡ Some (by.content n)
-  sent_next zero less =
-      let b : IsBegun s (fs 0) = frames.each 0 less in
-      subst (λ k. slice_get (queued_contents (setups k).queue) 0 ≡ Some (by.content 0)) (by.wins 0 less)
-      (ap (λ c. slice_get c 0) (sym (queues (frames.each 0 less).won.station)) ∙ first_law w (fs 0) are room idle (frames.each 0 less) first ∙ ap Some (by.wins_with 0 less))
-  sent_next (suc n) less = next_law s setups fs count are room frames by n less
+  sent_next : (n : ℕ) → n < count → (quantum : ℕ) × (head_at (setups (by.winner n)) (unsent_with s setups fs by.winner by.content (by.winner n) n) quantum ≡ Some (by.content n))
+  sent_next zero less = (decision_quantum w (by.winner 0), first_queued first_law setups w are room idle hand fs count frames less first by)
+  sent_next (suc n) less = (decision_next (resting_of s (fs n) (fs (suc n)) (frames.next n less)) (by.winner (suc n)), next_law s setups fs count are room frames by n less)
 
   pub line_sends : LineSends l setups s fs count frames by
   line_sends = record {

@@ -74,7 +74,7 @@ LosesLaw = (s : Stations) (o : Outset) (end : ℕ) → AreStations s → HaveRoo
 -- the loser of a later frame
 module _ (wait : MayWait) (rest_after : RestAfter) (free : FreeLaw) (law : LosesLaw) (s : Stations) (are : AreStations s) (room : HaveRoom s) where
   pub next_loses : (a b : Frame) → IsBegun s a → (is : IsBegun s b) → (after : IsBegunAfter s a b) → (k : ℕ) → k < s.count → k ≢ is.won.station → b.outset.start.drives k ≡ true
-      → BeganWith a.outset.frames after.sent k is.won.frame
+      → BeganWith a.outset.frames after.which k is.won.frame
   next_loses a b was is after k inside apart drives =
       let begins : begins_next (resting_of s a b after) k ≡ true = sym (ap (λ o. o.start.drives k) after.is) ∙ drives in
       let x = outsets.begun wait (resting_of s a b after) (past_at s a.outset (a.bits + 12)) are.line (rest_after s a b are room was after) (free s a.outset a.bits are room was.outset was.ends was.won) k begins in

@@ -7,7 +7,7 @@ use Rattle.wl_frame.specs.Stuffing.{Stuffs}
 use Rattle.wl_node.specs.declared.setup.NodeSetup.{NodeSetup}
 use Rattle.wl_wire.specs.Winner.{Beats}
 use Rattle.wl_bound.specs.Families.{Bus}
-use Rattle.wl_buses.specs.BothProofs.Queues.{queued_contents, ready_at}
+use Rattle.wl_buses.specs.BothProofs.Queues.{IsFifo, queued_contents, ready_at}
 use Rattle.wl_buses.specs.FrameTimes.Times.{Times, frame_time, tail_time}
 use Rattle.wl_buses.specs.OneFrame.Stations.{Stations}
 use Rattle.wl_buses.specs.BoundedWaits.QueuedFrames.{Terms}
@@ -30,9 +30,14 @@ IsEntry setups i n frame = slice_get (queued_contents (setups i).queue) n ≡ So
 abbrev pub entries : (setups : ℕ → NodeSetup) → ℕ → ℕ
 entries setups i = length (queued_contents (setups i).queue)
 
--- The queues have these messages, in the order in which they become ready. Two frames of one message are a period apart at least. All messages of a node are within the level of each of them, and no frame
+-- the queues are first in, first out
+abbrev pub AreFifo : Stations → (setups : ℕ → NodeSetup) → Type 0
+AreFifo s setups = (i : ℕ) → i < s.count → IsFifo (setups i)
+
+-- The queues are first in, first out, and have these messages, in the order in which they become ready. Two frames of one message are a period apart at least. All messages of a node are within the level of each of them, and no frame
 -- beyond a level beats one within it (Bosch CAN 2.0 part B, section 3.1, arbitration).
 pub record HaveMessages (s : Stations) (setups : ℕ → NodeSetup) (ms : Messages) : Type 0 where
+  pub fifo : AreFifo s setups
   pub known : (i n : ℕ) → i < s.count → n < entries setups i → ms.of i n < ms.count
   pub node : (i n : ℕ) → i < s.count → n < entries setups i → ms.node (ms.of i n) ≡ i
   pub ordered : (i m n : ℕ) → i < s.count → m ≤ n → n < entries setups i → ready_at (setups i).queue m ≤ ready_at (setups i).queue n

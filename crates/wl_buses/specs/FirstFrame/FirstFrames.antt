@@ -1,13 +1,11 @@
 -- The first frame on the bus of a plan.
-use Rattle.std.specs.Prelude.{◌≡◌, ◌≢◌, ℕ, ◌+◌, ◌<◌, true, List, [], ◌∷◌, slice_get}
+use Rattle.std.specs.Prelude.{◌≡◌, ◌≢◌, ℕ, ◌+◌, ◌<◌, true, List, [], ◌∷◌, Option, Some, None, slice_get}
 use Rattle.wl_frame.specs.Grammar.{Content}
-use Rattle.wl_node.specs.declared.setup.Queued.{Queued}
 use Rattle.wl_plan.specs.declared.plan.Plan.{Plan}
 use Rattle.wl_plan.specs.PlanLine.{line_of, setup_at}
 use Rattle.wl_phase.specs.Clocks.{steady_tick}
 use Rattle.wl_bound.specs.Verdicts.{has_frames, idle_at, is_ready_from}
-use Rattle.wl_buses.specs.BothProofs.Queues.{decides_at}
-use Rattle.wl_buses.specs.BothProofs.Queues.{first_ready, queued_contents}
+use Rattle.wl_buses.specs.BothProofs.Queues.{decides_at, first_head, place_of, queued_contents, wakes_at}
 use Rattle.wl_wire.specs.InStep.{AreSoundFrames}
 use Rattle.wl_buses.specs.OneFrame.Stations.{Stations}
 use Rattle.wl_buses.specs.OneFrame.Expected.{Outset, expected_bits}
@@ -16,27 +14,32 @@ use Rattle.wl_buses.specs.OneFrame.Lines.{DoesAsExpected, IsBeforeEnd}
 use Rattle.wl_buses.specs.OneFrame.Machines.{HasWon}
 use Rattle.wl_buses.specs.FirstFrame.FirstStarts.{Waiting, due_first, eleventh, first_outset}
 
--- the frames of each node's queue, and the first of them alone, if there is one
+-- the frames of each node's queue, and the one alone that the node decides on after its power-up, if there is one
 abbrev pub queues_of : Plan → ℕ → List Content
 queues_of plan i = queued_contents (setup_at plan i).queue
 
-abbrev pub first_content : List Queued → List Content
-first_content [] = []
-first_content (q ∷ more) = q.frame ∷ []
+abbrev pub content_alone : Option Content → List Content
+content_alone None = []
+content_alone (Some frame) = frame ∷ []
 
 abbrev pub first_frames_of : Plan → ℕ → List Content
-first_frames_of plan i = first_content (setup_at plan i).queue
+first_frames_of plan i = content_alone (first_head (setup_at plan i))
 
--- Lists of frames that begin as the queues of a plan's nodes do: each with the first frame, and it is empty where the queue is. Whole queues are such lists, and so are the first frames alone.
+-- where that is in a list
+abbrev pub first_place_of : Plan → (queues : ℕ → List Content) → ℕ → ℕ
+first_place_of plan queues i = place_of (first_head (setup_at plan i)) (queues i)
+
+-- Lists of frames that have those on which the nodes of a plan decide first. Whole queues are such lists, and so are these frames alone.
 abbrev pub BeginAsQueues : Plan → (queues : ℕ → List Content) → Type 0
-BeginAsQueues plan queues = (i : ℕ) → slice_get (queues i) 0 ≡ slice_get (queues_of plan i) 0
+BeginAsQueues plan queues = (i : ℕ) → slice_get (queues i) (first_place_of plan queues i) ≡ first_head (setup_at plan i)
 
 -- the nodes of a plan, each with the frames that it may be handed
 abbrev pub waiting_of : Plan → (queues : ℕ → List Content) → Stations → Waiting
 waiting_of plan queues s = record {
   stations = s;
   frames = queues;
-  decides = λ i. decides_at (setup_at plan i).segments (first_ready (setup_at plan i).queue);
+  which = first_place_of plan queues;
+  decides = λ i. decides_at (setup_at plan i).segments (wakes_at (setup_at plan i) (setup_at plan i).queue);
 }
 
 -- Some node has frames. Those of any two differ in format, identifier or RTR bit, and each node that has some may send.

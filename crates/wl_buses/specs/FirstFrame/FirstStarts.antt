@@ -7,7 +7,7 @@ use Rattle.wl_frame.specs.Grammar.{Content}
 use Rattle.wl_machine.specs.Stretch.{Input}
 use Rattle.wl_machine.specs.Stretch.Input.{Sample}
 use Rattle.wl_node.specs.declared.setup.NodeSetup.{NodeSetup}
-use Rattle.wl_node.specs.History.{ready_head}
+use Rattle.wl_buses.specs.BothProofs.Queues.{head_at}
 use Rattle.wl_phase.specs.Clocks.{steady_tick}
 use Rattle.wl_wire.specs.Wire.{Handed, sampled}
 use Rattle.wl_wire.specs.InStep.{AreSoundFrames}
@@ -16,16 +16,17 @@ use Rattle.wl_buses.specs.OneFrame.Starts.{Start}
 use Rattle.wl_buses.specs.OneFrame.Expected.{Outset, found_before, is_reached, most}
 use Rattle.wl_buses.specs.OneFrame.Machines.{no_frame_sample}
 
--- Stations on a silent line from their power-up on, and the frames that each may be handed. Each decides to send the first of them with the sample of one of its bits, which count from its
--- power-up.
+-- Stations on a silent line from their power-up on, and the frames that each may be handed. Each decides with the sample of one of its bits, which count from its power-up, to send one of them.
+-- This has the place `which` in their list. A station that is to send none has no such place.
 pub record Waiting : Type 0 where
   pub stations : Stations
   pub frames : ℕ → List Content
+  pub which : ℕ → ℕ
   pub decides : ℕ → ℕ
 
--- it has a frame
+-- it has a frame to send
 abbrev pub has_first : Waiting → ℕ → Bool
-has_first w i = nat_lt 0 (length (w.frames i))
+has_first w i = nat_lt (w.which i) (length (w.frames i))
 
 -- The quantum by which it decides, if each bit takes its quanta from quantum 0 on, and that with which its start of frame is due. That is the beginning of the next bit (Bosch CAN 2.0
 -- part B, section 3.2.5, bus idle).
@@ -79,19 +80,19 @@ last_before w i =
 
 -- What a machine has sampled with so many bits and one: with the last one it is handed a frame if it begins one. It is in the same stretch whether that is the sample that ends its
 -- integration or the next one.
-abbrev pub handed_first : Handed
-handed_first = record { which = 0; mode = Active }
+abbrev pub handed_first : (which : ℕ) → Handed
+handed_first which = record { which = which; mode = Active }
 
-abbrev pub silent_past : (begins : Bool) → List Content → ℕ → List Input
-silent_past true frames n = replicate (max 11 n) no_frame_sample ++ Sample (sampled Recessive frames handed_first) ∷ []
-silent_past false frames n = replicate (suc n) no_frame_sample
+abbrev pub silent_past : (begins : Bool) → List Content → (which n : ℕ) → List Input
+silent_past true frames which n = replicate (max 11 n) no_frame_sample ++ Sample (sampled Recessive frames (handed_first which)) ∷ []
+silent_past false frames which n = replicate (suc n) no_frame_sample
 
 -- and the frame as one of several stations that begin it together
 abbrev pub first_outset : Waiting → Outset
 first_outset w = record {
   frames = w.frames;
-  handed = λ n k. handed_first;
-  past = λ k. silent_past (begins_first w k) (w.frames k) (last_before w k);
+  handed = λ n k. handed_first (w.which k);
+  past = λ k. silent_past (begins_first w k) (w.frames k) (w.which k) (last_before w k);
   start = first_start w;
 }
 
@@ -114,9 +115,9 @@ pub record AreIdle (w : Waiting) : Type 0 where
   pub idle : (i k : ℕ) → i < w.stations.count → i ≢ k → has_first w k ≡ true
       → steady_tick (w.stations.clocks i) (eleventh w i) < steady_tick (w.stations.clocks k) (due_first w k) + w.stations.delay k i
 
--- Nodes whose machines are handed these frames: from the eleventh bit on none before that with which a station decides to send, then the first one, and none at all if it has none.
+-- Nodes whose machines are handed these frames: from the eleventh bit on none before that with which a station decides to send, then the one that it decides on, and none at all if it has none.
 pub record HandTheFirst (w : Waiting) (setups : ℕ → NodeSetup) : Type 0 where
-  pub none : (i q : ℕ) → i < w.stations.count → has_first w i ≡ false → ready_head (setups i).queue q ≡ None
+  pub none : (i q : ℕ) → i < w.stations.count → has_first w i ≡ false → head_at (setups i) (setups i).queue q ≡ None
   pub unready : (i n : ℕ) → i < w.stations.count → 10 ≤ n → n < w.decides i
-      → ready_head (setups i).queue (n * bit_quanta (w.stations.lengths i) + sample_at (w.stations.lengths i)) ≡ None
-  pub ready : (i : ℕ) → i < w.stations.count → has_first w i ≡ true → ready_head (setups i).queue (decision_quantum w i) ≡ slice_get (w.frames i) 0
+      → head_at (setups i) (setups i).queue (n * bit_quanta (w.stations.lengths i) + sample_at (w.stations.lengths i)) ≡ None
+  pub ready : (i : ℕ) → i < w.stations.count → has_first w i ≡ true → head_at (setups i) (setups i).queue (decision_quantum w i) ≡ slice_get (w.frames i) (w.which i)

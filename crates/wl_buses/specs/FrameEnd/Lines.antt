@@ -5,7 +5,7 @@ use Rattle.wl_frame.specs.Grammar.{Content}
 use Rattle.wl_segments.specs.Lengths.{bit_quanta}
 use Rattle.wl_phase.specs.Clocks.{steady_tick}
 use Rattle.wl_node.specs.declared.setup.NodeSetup.{NodeSetup}
-use Rattle.wl_node.specs.History.{history_of}
+use Rattle.wl_node.specs.History.{staying_history}
 use Rattle.wl_plan.specs.Line.{Line}
 use Rattle.wl_plan.specs.Simulation.{level, seen}
 use Rattle.wl_buses.specs.OneFrame.Stations.{Stations}
@@ -22,7 +22,7 @@ finds_end l s o end i = finds_expected l s o (end + 13) i
 -- bit as it is on the bus, found no error, and counted nothing. The frame has passed it, and with that bit it rests.
 pub record LineEnds (l : Line) (setups : ℕ → NodeSetup) (s : Stations) (o : Outset) (end sender : ℕ) (frame : Content) (stop : ℕ) : Type 0 where
   pub drives : (i t : ℕ) → i < l.nodes → t < stop → level l i t ≡ expected_drove s o (end + 13) i t
-  pub node : (i k : ℕ) → i < l.nodes → ((j : ℕ) → j < k → l.instant i j < stop) → history_of (setups i) (seen l i k) ≡ node_after (setups i) (finds_end l s o end i) k
+  pub node : (i k : ℕ) → i < l.nodes → ((j : ℕ) → j < k → l.instant i j < stop) → staying_history (setups i) (seen l i k) ≡ node_after (setups i) (finds_end l s o end i) k
   pub bits : (i n : ℕ) → i < s.count → n < end + 12 → IsInBit s o i (finds_end l s o end i) (node_after (setups i) (finds_end l s o end i)) n
   pub ends : (i : ℕ) → i < s.count → NodeEnds s o end sender i frame (setups i) (finds_end l s o end i) (node_after (setups i) (finds_end l s o end i))
 
@@ -44,6 +44,6 @@ rests_until s o end i =
 pub record LineRests (l : Line) (setups : ℕ → NodeSetup) (s : Stations) (o : Outset) (end sender : ℕ) (frame : Content) : Type 0 where
   pub drives : (i t : ℕ) → i < l.nodes → t < rests_until s o end i → level l i t ≡ expected_drove s o (end + 13) i t
   pub node : (i k : ℕ) → i < l.nodes → ((j : ℕ) → j < k → l.instant i j < rests_until s o end i)
-      → history_of (setups i) (seen l i k) ≡ node_after (setups i) (finds_end l s o end i) k
+      → staying_history (setups i) (seen l i k) ≡ node_after (setups i) (finds_end l s o end i) k
   pub in_time : (i : ℕ) → i < s.count → steady_tick (s.clocks i) (expected_sample s o (end + 12) i) < rests_until s o end i
   pub ends : (i : ℕ) → i < s.count → NodeEnds s o end sender i frame (setups i) (finds_end l s o end i) (node_after (setups i) (finds_end l s o end i))

@@ -9,14 +9,15 @@ use Rattle.wl_machine.specs.States.{stretch_by}
 use Rattle.wl_machine.specs.Stretch.{free}
 use Rattle.wl_node.specs.declared.setup.NodeSetup.{NodeSetup}
 use Rattle.wl_node.specs.declared.setup.Passed.{Passed}
-use Rattle.wl_node.specs.History.{History, ready_head, unsent_of}
+use Rattle.wl_node.specs.History.{History, unsent_of}
+use Rattle.wl_buses.specs.BothProofs.Queues.{head_at}
 use Rattle.wl_buses.specs.OneFrame.Stations.{Stations}
 use Rattle.wl_buses.specs.OneFrame.Expected.{HasSampled, Outset, expected_sample}
 use Rattle.wl_buses.specs.OneFrame.Nodes.{GoesToNext, clock_sees}
 
 -- the frame of its queue that is ready
 abbrev pub waiting_frame : NodeSetup → History → Option Content
-waiting_frame setup h = ready_head (unsent_of setup h) (length h.seen)
+waiting_frame setup h = head_at setup (unsent_of setup h) (length h.seen)
 
 -- With its sample of the third bit of the intermission a node rests: it has sampled it recessive, nothing has counted, it drives recessive, and it begins a frame next if one is ready
 -- (Bosch CAN 2.0 part B, section 3.2.5).

@@ -24,12 +24,12 @@ pub record IsBegun (s : Stations) (f : Frame) : Type 0 where
   pub answer : CanBeAnswered s won.station chase
   pub room : HasRoomToRest s (chased_way s won.station chase)
 
--- Frame b is begun next after frame a, by stations that rest with the third bit of its intermission: how many frames each has sent, and with which later bit it decides to send.
+-- Frame b is begun next after frame a, by stations that rest with the third bit of its intermission: with which later bit each decides to send, and which of its frames.
 pub record IsBegunAfter (s : Stations) (a b : Frame) : Type 0 where
-  pub sent : ℕ → ℕ
+  pub which : ℕ → ℕ
   pub decides : ℕ → ℕ
-  pub more : HaveMore s a.outset.frames sent
-  pub is : b.outset ≡ outset_next (resting_after s a.outset a.bits sent decides) (past_at s a.outset (a.bits + 12))
+  pub more : HaveMore s a.outset.frames which
+  pub is : b.outset ≡ outset_next (resting_after s a.outset a.bits which decides) (past_at s a.outset (a.bits + 12))
 
 pub record FollowOneAnother (s : Stations) (frames : ℕ → Frame) (count : ℕ) : Type 0 where
   pub each : (n : ℕ) → n < count → IsBegun s (frames n)
@@ -37,7 +37,7 @@ pub record FollowOneAnother (s : Stations) (frames : ℕ → Frame) (count : ℕ
 
 -- the stations between two frames
 abbrev pub resting_of : (s : Stations) (a b : Frame) → IsBegunAfter s a b → Resting
-resting_of s a b next = resting_after s a.outset a.bits next.sent next.decides
+resting_of s a b next = resting_after s a.outset a.bits next.which next.decides
 
 -- the quantum by which station i samples the third bit of the intermission
 abbrev pub third_sample : Stations → Frame → ℕ → ℕ

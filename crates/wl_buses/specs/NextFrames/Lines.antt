@@ -2,7 +2,7 @@
 use Rattle.std.specs.Prelude.{◌≡◌, ℕ, suc, ◌<◌, ◌≤◌}
 use Rattle.wl_level.specs.declared.Level.{Level}
 use Rattle.wl_node.specs.declared.setup.NodeSetup.{NodeSetup}
-use Rattle.wl_node.specs.History.{history_of}
+use Rattle.wl_node.specs.History.{staying_history}
 use Rattle.wl_phase.specs.Clocks.{steady_tick}
 use Rattle.wl_plan.specs.Line.{Line}
 use Rattle.wl_plan.specs.Simulation.{level, seen}
@@ -33,6 +33,6 @@ pub record IsBeforeLast (l : Line) (s : Stations) (frames : ℕ → Frame) (coun
 -- as it is on the bus, finds no error, and has sent each frame with which it has won, and received each other one.
 pub record LineGoes (l : Line) (setups : ℕ → NodeSetup) (s : Stations) (frames : ℕ → Frame) (count : ℕ) (are : FollowOneAnother s frames count) (stop : ℕ) : Type 0 where
   pub drives : (i t : ℕ) → i < l.nodes → t < stop → level l i t ≡ frames_drove s frames count i t
-  pub node : (i k : ℕ) → i < l.nodes → ((j : ℕ) → j < k → l.instant i j < stop) → history_of (setups i) (seen l i k) ≡ node_after (setups i) (finds_frames l s frames count i) k
+  pub node : (i k : ℕ) → i < l.nodes → ((j : ℕ) → j < k → l.instant i j < stop) → staying_history (setups i) (seen l i k) ≡ node_after (setups i) (finds_frames l s frames count i) k
   pub goes : (i n : ℕ) (less : n < count) → i < s.count
       → GoesThroughOne s frames count are i 0 (setups i) (finds_frames l s frames count i) (node_after (setups i) (finds_frames l s frames count i)) n less

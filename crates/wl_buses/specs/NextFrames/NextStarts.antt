@@ -18,17 +18,17 @@ use Rattle.wl_buses.specs.OneFrame.Machines.{MayBeginTogether, no_frame_sample}
 use Rattle.wl_buses.specs.FirstFrame.FirstStarts.{hard_from, hard_place}
 
 -- Stations on a silent line, and the frames that each may be handed. Each counts its bits from one with whose sample it rests: after a frame that is the third bit of the intermission. Place 0
--- of that bit is at the quantum `place`. With the sample of bit `decides` it decides to send the next of its frames, if it has sent `sent` of them.
+-- of that bit is at the quantum `place`. With the sample of bit `decides` it decides to send one of its frames, which has the place `which` in their list. A station that is to send none has no such place.
 pub record Resting : Type 0 where
   pub stations : Stations
   pub frames : ℕ → List Content
-  pub sent : ℕ → ℕ
+  pub which : ℕ → ℕ
   pub place : ℕ → ℕ
   pub decides : ℕ → ℕ
 
--- it has a frame left
+-- it has a frame to send
 abbrev pub has_next : Resting → ℕ → Bool
-has_next r i = nat_lt (r.sent i) (length (r.frames i))
+has_next r i = nat_lt (r.which i) (length (r.frames i))
 
 -- The quantum by which it rests, and that by which it decides, if each bit takes its quanta; and that with which its start of frame is due, at the beginning of the bit after it (Bosch CAN 2.0
 -- part B, section 3.2.5, bus idle).
@@ -77,21 +77,21 @@ abbrev pub rest_next : Resting → ℕ → ℕ
 rest_next r i = r.place i + last_next r i * bit_quanta (r.stations.lengths i)
 
 -- What a machine has sampled with so many bits and one: with the last one it is handed a frame if it begins one.
-abbrev pub handed_next : (sent : ℕ) → Handed
-handed_next sent = record { which = sent; mode = Active }
+abbrev pub handed_next : (which : ℕ) → Handed
+handed_next which = record { which = which; mode = Active }
 
-abbrev pub waiting_past : (begins : Bool) → List Content → (sent n : ℕ) → List Input
-waiting_past true frames sent n = replicate n no_frame_sample ++ Sample (sampled Recessive frames (handed_next sent)) ∷ []
-waiting_past false frames sent n = replicate (suc n) no_frame_sample
+abbrev pub waiting_past : (begins : Bool) → List Content → (which n : ℕ) → List Input
+waiting_past true frames which n = replicate n no_frame_sample ++ Sample (sampled Recessive frames (handed_next which)) ∷ []
+waiting_past false frames which n = replicate (suc n) no_frame_sample
 
 abbrev pub past_next : Resting → (before : ℕ → List Input) → ℕ → List Input
-past_next r before k = before k ++ waiting_past (begins_next r k) (r.frames k) (r.sent k) (last_next r k)
+past_next r before k = before k ++ waiting_past (begins_next r k) (r.frames k) (r.which k) (last_next r k)
 
 -- and the frame as one of several stations that begin it together, if this has reached their machines before the sample with which they rest
 abbrev pub outset_next : Resting → (before : ℕ → List Input) → Outset
 outset_next r before = record {
   frames = r.frames;
-  handed = λ n k. handed_next (r.sent k);
+  handed = λ n k. handed_next (r.which k);
   past = λ k. if nat_lt k r.stations.count then past_next r before k else [];
   start = start_next r;
 }
@@ -114,12 +114,12 @@ pub record AreFreeNext (count : ℕ) (frames : ℕ → List Content) (before : �
       → stretch_of (before k ++ Sample (sampled Recessive (frames k) h) ∷ []) ≡ stretch_by (free (slice_get (frames k) h.which)) []
 
 -- stations after a frame, whose third bit of the intermission is bit `end + 12`
-abbrev pub resting_after : Stations → Outset → (end : ℕ) → (sent decides : ℕ → ℕ) → Resting
-resting_after s o end sent decides =
-    record { stations = s; frames = o.frames; sent = sent; place = (expected_bits s o (end + 12)).place; decides = decides }
+abbrev pub resting_after : Stations → Outset → (end : ℕ) → (which decides : ℕ → ℕ) → Resting
+resting_after s o end which decides =
+    record { stations = s; frames = o.frames; which = which; place = (expected_bits s o (end + 12)).place; decides = decides }
 
--- some of them have a frame left, and each that has one may send
-pub record HaveMore (s : Stations) (frames : ℕ → List Content) (sent : ℕ → ℕ) : Type 0 where
-  pub inside : (i : ℕ) → nat_lt (sent i) (length (frames i)) ≡ true → i < s.count
-  pub may : (i : ℕ) → nat_lt (sent i) (length (frames i)) ≡ true → s.may_send i ≡ true
-  pub some : (i : ℕ) × (nat_lt (sent i) (length (frames i)) ≡ true)
+-- some of them have a frame to send, and each that has one may send
+pub record HaveMore (s : Stations) (frames : ℕ → List Content) (which : ℕ → ℕ) : Type 0 where
+  pub inside : (i : ℕ) → nat_lt (which i) (length (frames i)) ≡ true → i < s.count
+  pub may : (i : ℕ) → nat_lt (which i) (length (frames i)) ≡ true → s.may_send i ≡ true
+  pub some : (i : ℕ) × (nat_lt (which i) (length (frames i)) ≡ true)

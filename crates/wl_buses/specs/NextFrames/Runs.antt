@@ -3,6 +3,7 @@ use Rattle.std.specs.Prelude.{ℕ, zero, suc, ◌<◌}
 use Rattle.wl_level.specs.declared.Level.{Level}
 use Rattle.wl_node.specs.declared.setup.NodeSetup.{NodeSetup}
 use Rattle.wl_node.specs.History.{History, unsent_of}
+use Rattle.wl_buses.specs.BothProofs.Queues.{head_at}
 use Rattle.wl_buses.specs.OneFrame.Stations.{Stations}
 use Rattle.wl_buses.specs.FrameEnd.Rests.{waiting_frame}
 use Rattle.wl_buses.specs.NextFrames.Frames.{FollowOneAnother, Frame, resting_of, third_sample}
@@ -12,7 +13,7 @@ use Rattle.wl_buses.specs.NextFrames.NextNodes.{GoesThrough, HandsNext}
 abbrev pub HandsBetween : (s : Stations) (frames : ℕ → Frame) (count : ℕ) → FollowOneAnother s frames count → (i : ℕ) → NodeSetup → (node : ℕ → History) → Type 0
 HandsBetween s frames count are i setup node =
     (n : ℕ) (less : suc n < count)
-    → HandsNext (resting_of s (frames n) (frames (suc n)) (are.next n less)) i (waiting_frame setup (node (third_sample s (frames n) i))) (unsent_of setup (node (suc (third_sample s (frames n) i))))
+    → HandsNext (resting_of s (frames n) (frames (suc n)) (are.next n less)) i (waiting_frame setup (node (third_sample s (frames n) i))) (head_at setup (unsent_of setup (node (suc (third_sample s (frames n) i)))))
 
 -- since when it has driven nothing before a frame: since the third bit of the intermission of the one before
 abbrev pub quiet_by : Stations → (frames : ℕ → Frame) → (i first : ℕ) → ℕ → ℕ

@@ -10,7 +10,7 @@ use Rattle.wl_sync.specs.Skips.{steady_clock}
 use Rattle.wl_machine.specs.Frames.{stuffed_end}
 use Rattle.wl_machine.specs.Judged.{stretch_of}
 use Rattle.wl_node.specs.declared.setup.NodeSetup.{NodeSetup}
-use Rattle.wl_node.specs.History.{History, history_of}
+use Rattle.wl_node.specs.History.{History, staying_history}
 use Rattle.wl_phase.specs.Clocks.{steady_tick}
 use Rattle.wl_phase.specs.InStep.{seen_before}
 use Rattle.wl_plan.specs.Line.{Line}
@@ -29,7 +29,7 @@ use Rattle.wl_buses.specs.OneFrame.Nodes.{IsInBit, clock_sees}
 pub record IsLineOf (l : Line) (setups : ℕ → NodeSetup) (s : Stations) : Type 0 where
   pub causal : IsCausal l
   pub nodes : s.count ≡ l.nodes
-  pub drives : (i : ℕ) (levels : List Level) → i < l.nodes → l.drives i levels ≡ is_dominant (history_of (setups i) levels).drive
+  pub drives : (i : ℕ) (levels : List Level) → i < l.nodes → l.drives i levels ≡ is_dominant (staying_history (setups i) levels).drive
   pub ticks : (i k : ℕ) → i < l.nodes → l.instant i k ≡ steady_tick (s.clocks i) k
   pub segments : (i : ℕ) → i < l.nodes → (setups i).segments ≡ s.lengths i
   pub delays : (i k : ℕ) → i < l.nodes → k < l.nodes → s.delay i k ≡ l.delay i k
@@ -40,7 +40,7 @@ abbrev pub finds_expected : (l : Line) (s : Stations) (o : Outset) (length i : �
 finds_expected l s o length i = levels_found l (expected_drove s o length) i
 
 abbrev pub node_after : (setup : NodeSetup) (levels : ℕ → Level) → ℕ → History
-node_after setup levels q = history_of setup (levels_before levels q)
+node_after setup levels q = staying_history setup (levels_before levels q)
 
 -- A node that finds what is expected begins the frame as is expected: it has driven nothing before its start of frame, and has sampled that.
 pub record BeginsAsExpected (l : Line) (setups : ℕ → NodeSetup) (s : Stations) (o : Outset) (length i : ℕ) : Type 0 where
@@ -58,7 +58,7 @@ pub record IsBeforeEnd (l : Line) (s : Stations) (o : Outset) (length end : ℕ)
 -- counts nothing. If the stuffed part ends with these bits, one frame is left.
 pub record DoesAsExpected (l : Line) (setups : ℕ → NodeSetup) (s : Stations) (o : Outset) (length end : ℕ) : Type 0 where
   pub drives : (i t : ℕ) → i < l.nodes → t < end → level l i t ≡ expected_drove s o length i t
-  pub node : (i k : ℕ) → i < l.nodes → ((j : ℕ) → j < k → l.instant i j < end) → history_of (setups i) (seen l i k) ≡ node_after (setups i) (finds_expected l s o length i) k
+  pub node : (i k : ℕ) → i < l.nodes → ((j : ℕ) → j < k → l.instant i j < end) → staying_history (setups i) (seen l i k) ≡ node_after (setups i) (finds_expected l s o length i) k
   pub bits : (i n : ℕ) → i < s.count → n < length → IsInBit s o i (finds_expected l s o length i) (node_after (setups i) (finds_expected l s o length i)) n
   pub won : stuffed_end (bus_levels s (expected_bits s o) length) ≡ Some length → HasWon s (expected_bits s o) o.frames length
 

@@ -1,6 +1,7 @@
 -- A plan on which one node alone sends, as one of the buses of a family that the condition for margins is about.
-use Rattle.std.specs.Prelude.{◌≡◌, ◌≢◌, ℕ, ◌+◌, ◌-◌, ◌*◌, ◌<◌, ◌≤◌, true, false, List, [], ◌∷◌, length}
+use Rattle.std.specs.Prelude.{◌≡◌, ◌≢◌, ℕ, ◌+◌, ◌-◌, ◌*◌, ◌<◌, ◌≤◌, true, false, List, [], ◌∷◌, length, Some}
 use Rattle.wl_level.specs.declared.Level.{Level}
+use Rattle.wl_frame.specs.Grammar.{Content}
 use Rattle.wl_node.specs.declared.setup.Queued.{Queued}
 use Rattle.wl_plan.specs.declared.plan.Plan.{Plan}
 use Rattle.wl_plan.specs.PlanLine.{setup_at}
@@ -12,7 +13,7 @@ use Rattle.wl_bound.specs.Verdicts.{idle_at, is_ready_from}
 use Rattle.wl_buses.specs.OneSender.OneSender.{SenderBus}
 use Rattle.wl_buses.specs.OneSender.Plans.{sender_bus_of}
 use Rattle.wl_buses.specs.OneSender.Tolerances.{Tolerance}
-use Rattle.wl_buses.specs.BothProofs.Queues.{decides_at}
+use Rattle.wl_buses.specs.BothProofs.Queues.{decides_at, first_head, wakes_at}
 
 -- what the clocks of a family may do, in the units of the condition for margins
 abbrev pub tolerance_of : Buses → Tolerance
@@ -31,18 +32,20 @@ pub record IsAlike (plan other : Plan) (clocks others : ℕ → Steady) : Type 0
   pub num : (i : ℕ) → i < length plan.nodes → (others i).num ≡ (clocks i).num
   pub den : (i : ℕ) → i < length plan.nodes → (others i).den ≡ (clocks i).den
 
--- This node has frames, and no other. None only listens (ISO 11898-1, bus monitoring). Each other node is idle when the first frame becomes ready (Bosch CAN 2.0
+-- This node has frames, on one of which it decides after its power-up, and no other has any. None only listens (ISO 11898-1, bus monitoring). Each other node is idle when the first frame becomes ready (Bosch CAN 2.0
 -- part B, section 2, wake-up).
 pub record HasOneSender (plan : Plan) (sender : ℕ) : Type 0 where
   pub inside : sender < length plan.nodes
   pub first : Queued
   pub later : List Queued
   pub queue : (setup_at plan sender).queue ≡ first ∷ later
+  pub frame : Content
+  pub decides : first_head (setup_at plan sender) ≡ Some frame
   pub alone : (j : ℕ) → j < length plan.nodes → j ≢ sender → (setup_at plan j).queue ≡ []
   pub answers : (i : ℕ) → i < length plan.nodes → only_listens plan.topology i ≡ false
   pub idle : (j : ℕ) → j < length plan.nodes → j ≢ sender
       → is_ready_from (setup_at plan sender) (setup_at plan sender).queue (idle_at (setup_at plan j)) ≡ true
 
-abbrev pub bus_with : (plan : Plan) (clocks : ℕ → Steady) (sender : ℕ) → HasOneSender plan sender → (stuffed : ℕ → List Level) → SenderBus
+abbrev pub bus_with : (plan : Plan) (clocks : ℕ → Steady) (sender : ℕ) → HasOneSender plan sender → (stuffed : Content → List Level) → SenderBus
 bus_with plan clocks sender one stuffed =
-    sender_bus_of plan clocks sender one.first.frame (stuffed 0) (decides_at (setup_at plan sender).segments one.first.ready)
+    sender_bus_of plan clocks sender one.frame (stuffed one.frame) (decides_at (setup_at plan sender).segments (wakes_at (setup_at plan sender) (setup_at plan sender).queue))

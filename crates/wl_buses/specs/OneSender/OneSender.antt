@@ -13,7 +13,7 @@ use Rattle.wl_machine.specs.Stretch.Sort.{Framing}
 use Rattle.wl_machine.specs.Judged.{stretch_of}
 use Rattle.wl_machine.specs.States.{stretch_by}
 use Rattle.wl_node.specs.declared.setup.NodeSetup.{NodeSetup}
-use Rattle.wl_node.specs.History.{history_of, ready_head, error_count}
+use Rattle.wl_node.specs.History.{staying_history, error_count}
 use Rattle.wl_phase.specs.Clocks.{Steady, IsSteady, steady_tick}
 use Rattle.wl_phase.specs.Ways.{ByTheBook}
 use Rattle.wl_phase.specs.InStep.{Sender, Listener, ClocksAreNear, arrival}
@@ -21,6 +21,7 @@ use Rattle.wl_phase.specs.Answer.{ComesInTime, ComesAfterSample, own_sample}
 use Rattle.wl_plan.specs.Line.{Line}
 use Rattle.wl_plan.specs.Simulation.{seen}
 use Rattle.wl_plan.specs.Sound.{IsCausal}
+use Rattle.wl_buses.specs.BothProofs.Queues.{head_at}
 
 -- A line and its nodes by number: their setups, and their clocks of one rate; the node that sends; its frame, and that with its stuff bits; and the bit, counted
 -- from its power-up, at whose sample it decides to send.
@@ -57,7 +58,7 @@ pub record IsBus (b : SenderBus) : Type 0 where
   pub causal : IsCausal b.line
   pub sender : b.sender < b.line.nodes
   pub other : (j : ℕ) × IsListener b j
-  pub drives : (i : ℕ) (levels : List Level) → i < b.line.nodes → b.line.drives i levels ≡ is_dominant (history_of (b.setups i) levels).drive
+  pub drives : (i : ℕ) (levels : List Level) → i < b.line.nodes → b.line.drives i levels ≡ is_dominant (staying_history (b.setups i) levels).drive
   pub ticks : (i k : ℕ) → i < b.line.nodes → b.line.instant i k ≡ steady_tick (b.clocks i) k
   pub steady : (i : ℕ) → i < b.line.nodes → IsSteady (b.clocks i)
   pub book : (i : ℕ) → i < b.line.nodes → ByTheBook (lengths_of b i)
@@ -70,9 +71,9 @@ pub record SendsFirst (b : SenderBus) : Type 0 where
   pub content : IsContent b.frame
   pub stuffs : Stuffs b.stuffed (bits_of b.frame)
   pub idle : 10 ≤ b.decides
-  pub ready : ready_head (b.setups b.sender).queue (b.decides * bit_quanta (lengths_of b b.sender) + sample_at (lengths_of b b.sender)) ≡ Some b.frame
+  pub ready : head_at (b.setups b.sender) (b.setups b.sender).queue (b.decides * bit_quanta (lengths_of b b.sender) + sample_at (lengths_of b b.sender)) ≡ Some b.frame
   pub unready : (n : ℕ) → 10 ≤ n → n < b.decides
-      → ready_head (b.setups b.sender).queue (n * bit_quanta (lengths_of b b.sender) + sample_at (lengths_of b b.sender)) ≡ None
+      → head_at (b.setups b.sender) (b.setups b.sender).queue (n * bit_quanta (lengths_of b b.sender) + sample_at (lengths_of b b.sender)) ≡ None
   pub alone : (j : ℕ) → IsListener b j → (b.setups j).queue ≡ []
   pub others : (j : ℕ) → IsListener b j
       → steady_tick (b.clocks j) (10 * bit_quanta (lengths_of b j) + sample_at (lengths_of b j)) < arrival (sender_of b) (listener_of b j) 0
@@ -98,8 +99,8 @@ pub record EndsAfterSlot (b : SenderBus) : Type 0 where
 pub record IsAtStretch (b : SenderBus) (i : ℕ) (s : Stretch) : Type 0 where
   pub quanta : ℕ
   pub inside : (k : ℕ) → k < quanta → b.line.instant i k < b.line.stop
-  pub stretch : stretch_of (history_of (b.setups i) (seen b.line i quanta)).inputs ≡ s
-  pub fine : error_count (history_of (b.setups i) (seen b.line i quanta)) ≡ 0
+  pub stretch : stretch_of (staying_history (b.setups i) (seen b.line i quanta)).inputs ≡ s
+  pub fine : error_count (staying_history (b.setups i) (seen b.line i quanta)) ≡ 0
 
 -- Each listener has sampled the frame's bits up to the CRC delimiter, and the sender those, and its acknowledgement. Some listener, as the first one, has driven and
 -- sampled it (Bosch CAN 2.0 part B, section 3.2.1, ACK field).

@@ -39,8 +39,8 @@ pub record TakePart (s : Stations) (f : Offers) (b : Start) : Type 0 where
       → steady_tick (s.clocks j) (b.place j) < steady_tick (s.clocks i) (f.due i) + s.delay i j
   pub missed : (i : ℕ) → i < s.count → f.has i ≡ true → b.drives i ≡ false → IsReachedFirst s f i
 
--- Station k has begun with the next of its frames, after those that count as sent, and the winner's frame beats it (Bosch CAN 2.0 part B, section 3.1, arbitration).
-pub record BeganWith (frames : ℕ → List Content) (sent : ℕ → ℕ) (k : ℕ) (winner : Content) : Type 0 where
+-- Station k has begun with the one of its frames that it decided on, and the winner's frame beats it (Bosch CAN 2.0 part B, section 3.1, arbitration).
+pub record BeganWith (frames : ℕ → List Content) (which : ℕ → ℕ) (k : ℕ) (winner : Content) : Type 0 where
   pub frame : Content
-  pub is : slice_get (frames k) (sent k) ≡ Some frame
+  pub is : slice_get (frames k) (which k) ≡ Some frame
   pub beaten : Beats winner frame

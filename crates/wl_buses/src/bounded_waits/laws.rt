@@ -23,7 +23,7 @@ ghost use Rattle.wl_buses.specs.FrameTimes.Times.{TakeNoLonger, Times};
 ghost use Rattle.wl_buses.specs.TakesPart.Decisions.{AllMayDecide, LeavesRoomToDecide};
 ghost use Rattle.wl_buses.specs.BoundedWaits.Bounds.{IsOnBus, PassInTime, WaitInQuanta, WaitNoLonger};
 ghost use Rattle.wl_buses.specs.BoundedWaits.Lasting.{LastNoLonger, PassNoLonger};
-ghost use Rattle.wl_buses.specs.BoundedWaits.Messages.{AreReadyLate, BusDelaysNoLonger, DelayNoLonger, Delays, HaveMessages, Messages, entries, terms_of};
+ghost use Rattle.wl_buses.specs.BoundedWaits.Messages.{AreFifo, AreReadyLate, BusDelaysNoLonger, DelayNoLonger, Delays, HaveMessages, Messages, entries, terms_of};
 ghost use Rattle.wl_buses.specs.BoundedWaits.QueuedFrames.{AreQueuedFrames, BlockNoLonger, QueuedFrames, Terms, frames_in, table_by};
 
 /// Law: each frame of a bus has its window. It goes back to the first frame after which all win without a gap, and within the level of the
@@ -36,11 +36,11 @@ pub fn a_busy_period_goes_back_to()
     wl_counts::laws::periods_give_a_curve();
 }
 
-/// Law: each entry of a queue is one of the frames that follow one another on the bus of a plan, if these go on until all queues are empty.
-/// So they do, whenever the plan ends.
+/// Law: each entry of a queue that is first in, first out, is one of the frames on the bus of a plan, if these go on until all queues are
+/// empty. So they do, whenever the plan ends.
 pub fn each_entry_comes_on_the_bus()
     ensures { (plan : Plan) (s : Stations) (chase : ℕ → ℕ) → IsPlanOf plan s → AreStations s → HaveRoom s
-        → HasRoomForAll s chase → HasFirstFrames plan (queues_of plan) s
+        → HasRoomForAll s chase → HasFirstFrames plan (queues_of plan) s → AreFifo s (setup_at plan)
         → (bus : FramesOfPlan plan s)
         × ((i a : ℕ) → i < s.count → a < entries (setup_at plan) i → IsOnBus plan s bus i a) }
 {

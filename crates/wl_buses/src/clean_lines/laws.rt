@@ -6,7 +6,7 @@ ghost use Rattle.wl_plan.specs.Line.{Line};
 ghost use Rattle.wl_plan.specs.Simulation.{AreInside};
 ghost use Rattle.wl_buses.specs.BothProofs.Queues.{queued_contents};
 ghost use Rattle.wl_buses.specs.OneFrame.Stations.{AreStations, HaveRoom};
-ghost use Rattle.wl_buses.specs.FirstFrame.FirstStarts.{AreIdle, Waiting};
+ghost use Rattle.wl_buses.specs.FirstFrame.FirstStarts.{AreIdle, HandTheFirst, Waiting};
 ghost use Rattle.wl_buses.specs.NextFrames.Frames.{HasRoomForAll};
 ghost use Rattle.wl_buses.specs.CleanLines.Lines.{FirstFramesOfLine, IsPoweredUp, LineGetsThrough, line_history};
 ghost use Rattle.wl_buses.specs.FrameTimes.Times.{TakeNoLonger, Times, start_place, tail_time, whole_instant};
@@ -16,16 +16,18 @@ ghost use Rattle.wl_buses.specs.FrameTimes.Times.{TakeNoLonger, Times, start_pla
 pub fn the_frames_of_a_line()
     ensures { (setups : ℕ → NodeSetup) (w : Waiting) (chase : ℕ → ℕ) (most : ℕ) → AreStations w.stations
         → HaveRoom w.stations → HasRoomForAll w.stations chase → AreIdle w
-        → ((i : ℕ) → w.frames i ≡ queued_contents (setups i).queue) → FirstFramesOfLine setups w most }
+        → HandTheFirst w setups → ((i : ℕ) → w.frames i ≡ queued_contents (setups i).queue)
+        → FirstFramesOfLine setups w most }
 {
     crate::first_frame::laws::idle_stations_begin_a_first_frame();
     crate::next_frames::laws::resting_stations_begin_the_next_frame();
     crate::next_frames::laws::stations_rest_after_a_frame();
     crate::next_frames::begun::another_frame_follows();
+    crate::sent_frames::winners::the_winner_sends_its_next_frame();
 }
 
 /// Law: all frames get through on each such line, from the power-up of all nodes to its end, whenever that is. No node ever finds an error, and
-/// all counters stay 0. What passes each are the first frames of one list, in which the frames of each queue are in their order.
+/// all counters stay 0. What passes each are the first frames of one list. Each is the one that its sender's queue handed it as it decided.
 pub fn all_frames_of_a_line_get_through()
     ensures { (l : Line) (setups : ℕ → NodeSetup) (w : Waiting) (chase : ℕ → ℕ) → IsPoweredUp l setups w
         → AreStations w.stations → HaveRoom w.stations → HasRoomForAll w.stations chase

@@ -64,12 +64,12 @@ pub fn a_plan_is_such_a_bus()
         → IsAcknowledged (sender_bus_of plan clocks sender frame stuffed decides) }
     ensures through { (plan : Plan) (clocks : ℕ → Steady) → IsSteadyPlan plan clocks
         → (sender : ℕ) → sender < length plan.nodes
-        → (frame : Content) (first : List Level) (decides : ℕ) (stuffed : ℕ → List Level)
+        → (frame : Content) (first : List Level) (decides : ℕ) (stuffed : Content → List Level) (lengths : ℕ → ℕ)
         → SendsFirst (sender_bus_of plan clocks sender frame first decides)
-        → AreFrames (sender_bus_of plan clocks sender frame first decides) stuffed
+        → AreFrames (sender_bus_of plan clocks sender frame first decides) stuffed lengths
         → IsInStepWithAll (sender_bus_of plan clocks sender frame first decides)
         → EndsInSlots (sender_bus_of plan clocks sender frame first decides)
-        → GetThrough (sender_bus_of plan clocks sender frame first decides) stuffed }
+        → GetThrough (sender_bus_of plan clocks sender frame first decides) lengths }
 {
     wl_plan::checked_is_sound();
     the_first_frame_is_acknowledged();
@@ -80,8 +80,8 @@ pub fn a_plan_is_such_a_bus()
 /// stay 0. Each frame is sent in time, and each listener has received it by then. An acknowledgement may be early, and is over
 /// in time.
 pub fn every_frame_gets_through()
-    ensures { (b : SenderBus) (stuffed : ℕ → List Level) → IsBus b → SendsFirst b → AreFrames b stuffed
-        → IsInStepWithAll b → EndsInSlots b → GetThrough b stuffed }
+    ensures { (b : SenderBus) (stuffed : Content → List Level) (lengths : ℕ → ℕ) → IsBus b → SendsFirst b
+        → AreFrames b stuffed lengths → IsInStepWithAll b → EndsInSlots b → GetThrough b lengths }
 {
     wl_sync::clock_goes_on();
     wl_frame::laws::stuffing_goes_on_bit_by_bit();
@@ -105,8 +105,8 @@ pub fn tolerances_are_enough()
     ensures in_step { (t : Tolerance) (b : SenderBus) → IsBus b → IsWithinTolerance t b → FitClocks t b
         → IsInStepWithAll b }
     ensures ends { (t : Tolerance) (b : SenderBus) → IsBus b → IsWithinTolerance t b → FitClocks t b → EndsInSlots b }
-    ensures through { (t : Tolerance) (b : SenderBus) (stuffed : ℕ → List Level) → IsBus b → SendsFirst b
-        → AreFrames b stuffed → IsWithinTolerance t b → FitClocks t b → GetThrough b stuffed }
+    ensures through { (t : Tolerance) (b : SenderBus) (stuffed : Content → List Level) (lengths : ℕ → ℕ) → IsBus b
+        → SendsFirst b → AreFrames b stuffed lengths → IsWithinTolerance t b → FitClocks t b → GetThrough b lengths }
 {
     every_frame_gets_through();
 }
@@ -119,7 +119,7 @@ pub fn a_sound_bus_fits()
 /// Law: a family's bus on which this node alone sends is that of each of its plans.
 pub fn a_plan_is_bound()
     ensures { (f : Buses) (plan : Plan) (clocks : ℕ → Steady) (sender : ℕ) (one : HasOneSender plan sender)
-        (stuffed : ℕ → List Level) → IsSteadyPlan plan clocks → IsOfFamily f plan clocks
+        (stuffed : Content → List Level) → IsSteadyPlan plan clocks → IsOfFamily f plan clocks
         → IsBoundOf (bus_of f (lone_sender sender)) (tolerance_of f) (bus_with plan clocks sender one stuffed) }
 {
     a_plan_is_such_a_bus();
@@ -141,9 +141,9 @@ pub fn a_family_has_all_such_plans()
 /// node alone has frames all frames get through: no node ever finds an error, and each receives every frame in time.
 pub fn one_sender_is_clean()
     ensures { (f : Buses) (plan : Plan) (clocks : ℕ → Steady) (sender : ℕ) (one : HasOneSender plan sender)
-        (stuffed : ℕ → List Level) → IsSteadyPlan plan clocks → IsOfFamily f plan clocks
-        → AreFrames (bus_with plan clocks sender one stuffed) stuffed
-        → IsSound (bus_of f (lone_sender sender)) → GetThrough (bus_with plan clocks sender one stuffed) stuffed }
+        (stuffed : Content → List Level) (lengths : ℕ → ℕ) → IsSteadyPlan plan clocks → IsOfFamily f plan clocks
+        → AreFrames (bus_with plan clocks sender one stuffed) stuffed lengths
+        → IsSound (bus_of f (lone_sender sender)) → GetThrough (bus_with plan clocks sender one stuffed) lengths }
 {
     a_plan_is_such_a_bus();
     tolerances_are_enough();

@@ -18,6 +18,7 @@ ghost use Rattle.wl_wire.specs.Wire.{Handed, sampled};
 ghost use Rattle.wl_buses.specs.OneFrame.Expected.{IsOutset, Outset, expected_bits, expected_drove, expected_sample};
 ghost use Rattle.wl_buses.specs.OneFrame.Lines.{BeginsAfter};
 ghost use Rattle.wl_buses.specs.OneFrame.Machines.{HasWon};
+ghost use Rattle.wl_buses.specs.BothProofs.Queues.{head_at};
 ghost use Rattle.wl_buses.specs.OneFrame.Nodes.{IsRun};
 ghost use Rattle.wl_buses.specs.OneFrame.Stations.{AreOnALine, AreStations, HaveRoom, Stations};
 ghost use Rattle.wl_buses.specs.FirstFrame.Faults.{fault_count};
@@ -54,7 +55,7 @@ pub fn nothing_passes_a_waiting_node()
         → RestsAgain r.stations (before i ++ Sample (sampled Recessive (r.frames i) handed)
         ∷ []) i levels node (r.place i) since
         → ((q : ℕ) → rested r i < q → q < (start_next r).from i → levels q ≡ Recessive)
-        → HandsNext r i (slice_get (r.frames i) handed.which) (unsent_of setup (node (suc (rested r i))))
+        → HandsNext r i (slice_get (r.frames i) handed.which) (head_at setup (unsent_of setup (node (suc (rested r i)))))
         → (error_count (node (suc (rest_next r i + sample_at (r.stations.lengths i))))
         ≡ error_count (node (suc (rested r i))))
         × (fault_count (node (suc (rest_next r i + sample_at (r.stations.lengths i))))

@@ -5,15 +5,15 @@ ghost use Rattle.wl_machine.specs.Stretch.Sort.{Framing};
 ghost use Rattle.wl_machine.specs.Judged.{stretch_of};
 ghost use Rattle.wl_machine.specs.States.{stretch_by};
 ghost use Rattle.wl_node.specs.declared.setup.NodeSetup.{NodeSetup};
-ghost use Rattle.wl_buses.specs.BothProofs.Queues.{queued_contents};
+ghost use Rattle.wl_buses.specs.BothProofs.Queues.{head_at};
 ghost use Rattle.wl_buses.specs.OneFrame.Expected.{IsOutset, Outset, expected_bits};
 ghost use Rattle.wl_buses.specs.OneFrame.Machines.{HasWon};
 ghost use Rattle.wl_buses.specs.OneFrame.Stations.{AreOnALine, AreStations, HaveRoom, Stations};
 ghost use Rattle.wl_buses.specs.FirstFrame.FirstStarts.{AreIdle, Waiting, first_outset};
 ghost use Rattle.wl_buses.specs.FrameEnd.Asked.{EndsBefore};
-ghost use Rattle.wl_buses.specs.NextFrames.Frames.{FollowOneAnother, Frame, IsBegun, IsBegunAfter};
-ghost use Rattle.wl_buses.specs.SentFrames.Sending.{ByQueues};
-ghost use Rattle.wl_buses.specs.SentFrames.Winners.{won_by};
+ghost use Rattle.wl_buses.specs.NextFrames.Frames.{FollowOneAnother, Frame, IsBegun, IsBegunAfter, resting_of};
+ghost use Rattle.wl_buses.specs.NextFrames.NextStarts.{decision_next};
+ghost use Rattle.wl_buses.specs.SentFrames.Sending.{ByQueues, unsent_with};
 
 /// Law: the frame that has won is the one with which the machine of its station has begun.
 pub fn the_winner_sends_the_frame_that_it_began()
@@ -33,19 +33,19 @@ pub fn the_winner_sends_the_frame_that_it_began()
     wl_frame::laws::ten_bits_have_an_edge();
 }
 
-/// Law: so it is the frame that its station was handed. If it is the first one on the line it is the first of the station's frames. Each later
-/// one is the first of them that is counted as not sent.
+/// Law: so it is the frame that its station decided on. By queues it is the one that the queue handed the station at its decision.
 pub fn the_winner_sends_its_next_frame()
     ensures first { (w : Waiting) (f : Frame) → AreStations w.stations → HaveRoom w.stations → AreIdle w
         → (is : IsBegun w.stations f) → f.outset ≡ first_outset w
-        → slice_get (w.frames is.won.station) 0 ≡ Some is.won.frame }
+        → slice_get (w.frames is.won.station) (w.which is.won.station) ≡ Some is.won.frame }
     ensures next { (s : Stations) (a b : Frame) → AreStations s → HaveRoom s → IsBegun s a → (is : IsBegun s b)
         → (after : IsBegunAfter s a b)
-        → slice_get (a.outset.frames is.won.station) (after.sent is.won.station) ≡ Some is.won.frame }
+        → slice_get (a.outset.frames is.won.station) (after.which is.won.station) ≡ Some is.won.frame }
     ensures queued { (s : Stations) (setups : ℕ → NodeSetup) (frames : ℕ → Frame) (count : ℕ) → AreStations s
         → HaveRoom s → (are : FollowOneAnother s frames count) → (by : ByQueues s setups frames count are) → (n : ℕ)
-        → suc n < count
-        → slice_get (queued_contents (setups (by.winner (suc n))).queue) (won_by by.winner (by.winner (suc n)) (suc n))
+        (less : suc n < count)
+        → head_at (setups (by.winner (suc n))) (unsent_with s setups frames by.winner by.content (by.winner (suc n)) (suc n))
+        (decision_next (resting_of s (frames n) (frames (suc n)) (are.next n less)) (by.winner (suc n)))
         ≡ Some (by.content (suc n)) }
 {
     crate::one_frame::laws::idle_machines_may_begin_together();

@@ -40,7 +40,7 @@ pub fn who_loses_has_begun_with_its_next_frame()
         → (d : Content) × (stretch_of (o.past k) ≡ stretch_by (Framing (Some d)) []) × Beats won.frame d }
     ensures next { (s : Stations) (a b : Frame) → AreStations s → HaveRoom s → IsBegun s a → (is : IsBegun s b)
         → (after : IsBegunAfter s a b) → (k : ℕ) → k < s.count → k ≢ is.won.station → b.outset.start.drives k ≡ true
-        → BeganWith a.outset.frames after.sent k is.won.frame }
+        → BeganWith a.outset.frames after.which k is.won.frame }
 {
     wl_topology::driven_laws();
     crate::one_frame::laws::machines_drive_as_a_course_asks();

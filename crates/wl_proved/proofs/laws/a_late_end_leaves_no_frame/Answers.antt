@@ -1,11 +1,15 @@
-use Rattle.std.proofs.Common.{arith}
+use Rattle.std.proofs.Common.{◌≤◌, length, arith}
 use Rattle.wl_bound.specs.Conditions.{plain}
 use Rattle.wl_bound.specs.Rooms.{plain_bus}
 use Rattle.wl_buses.specs.FamilyPlans.FamilyStations.{stations_of}
 use Rattle.wl_plan.specs.PlanLine.{setup_at}
 use Rattle.wl_proved.proofs.Early as early
 use Rattle.wl_proved.proofs.Emptied.{all_empty}
-use Rattle.wl_proved.proofs.Queues.{frames_stuffed, stuffed_of}
+use Rattle.wl_proved.proofs.Queues.{of_each, stuffed_of, stuffs_of}
+use Rattle.wl_frame.specs.Grammar.{IsContent, bits_of}
+use Rattle.wl_frame.specs.Stuffing.{Stuffs}
+use Rattle.wl_buses.specs.OneSender.Clean.{bus_with}
+use Rattle.wl_buses.specs.OneSender.Through.{AreFrames}
 use Rattle.wl_proved.proofs.Paced as paced
 use Rattle.wl_proved.proofs.laws.a_late_end_leaves_no_frame.Goals as goal
 
@@ -36,7 +40,14 @@ returns-clause-one c = λ f plan sender of lone sound late.
     let one = c.a_covered_plan_is_one_of_these.ensures.sender plan sender waiting.0 waiting.1 of.covered node waiting.2 (λ j inside other. lone j other) in
     let members = of.members in
     let bus = c.a_covered_plan_is_one_of_these.ensures.sound f sender sound (omega arith) (of.senders sender node (paced.has f plan of sender lone)) in
-    let frames = frames_stuffed (setup_at plan sender).queue (of.runs.frames sender node) in
-    let through = c.one_sender_is_clean.ensures f plan (paced.clocks f plan of) sender one (stuffed_of (setup_at plan sender).queue) steady family frames bus in
+    let contents = of.runs.frames sender node in
+    let frames : AreFrames (bus_with plan (paced.clocks f plan of) sender one stuffed_of) stuffed_of (λ n. late.bits) = record {
+      content = λ place frame is. of_each IsContent (setup_at plan sender).queue contents place frame is;
+      stuffs = λ place frame is. stuffs_of frame;
+      short = λ n frame may.
+          of_each (λ q. Stuffs (stuffed_of frame) (bits_of q) → length (stuffed_of frame) ≤ late.bits) (setup_at plan sender).queue (late.frames sender (stuffed_of frame) node) may.some.0 frame may.some.1
+          (stuffs_of frame);
+    } in
+    let through = c.one_sender_is_clean.ensures f plan (paced.clocks f plan of) sender one stuffed_of (λ n. late.bits) steady family frames bus in
     early.all_empty c.simulation_laws.ensures plan (stations_of f plan (paced.clocks f plan of)) is late (c.checked_is_sound.ensures plan of.runs.checked).causal (paced.clocks f plan of) sender one lone
-    (stuffed_of (setup_at plan sender).queue) frames through)
+    stuffed_of through)

@@ -20,8 +20,8 @@ bounded : goal.After-all_frames_of_a_line_get_through → (setups : ℕ → Node
     → LineWaitsNoLonger setups s bus t ms r
 bounded c setups s bus t ms d chase blocking w r of are room for_all decide idle take have late delays blocks enough =
     wait_no_longer setups s bus t ms d of are room idle late have delays
-    (in_turn c.the_winner_sends_its_next_frame.ensures.first c.the_winner_sends_its_next_frame.ensures.queued setups s bus are room idle)
-    (λ s a b are room was next. c.stations_rest_after_a_frame.ensures.rest s a.outset a.bits was.chase next.sent next.decides are room was.outset was.ends was.won was.answer was.room next.more)
+    (in_turn c.the_winner_sends_its_next_frame.ensures.first c.the_winner_sends_its_next_frame.ensures.queued setups s bus are room idle of have.fifo)
+    (λ s a b are room was next. c.stations_rest_after_a_frame.ensures.rest s a.outset a.bits was.chase next.which next.decides are room was.outset was.ends was.won was.answer was.room next.more)
     c.who_is_ready_takes_part.ensures.ready c.who_is_ready_takes_part.ensures.next c.who_is_ready_takes_part.ensures.first chase for_all decide c.nobody_decides_twice.ensures
     (record { own = c.a_frame_begins_before_later_ones.ensures.own; other = c.a_frame_begins_before_later_ones.ensures.other })
     (λ f b i inside. c.a_frame_lasts_no_longer.ensures.next s f t are room b take i inside) (λ f b i inside. c.a_frame_lasts_no_longer.ensures.passes s f t are room b take i inside)

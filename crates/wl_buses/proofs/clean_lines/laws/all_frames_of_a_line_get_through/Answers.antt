@@ -5,7 +5,7 @@ use Rattle.wl_buses.proofs.FrameEnd.Below.{MachineLaws}
 use Rattle.wl_buses.specs.NextFrames.Lines.{IsBeforeLast, LineGoes}
 use Rattle.wl_buses.specs.NextFrames.Silence.{LineFallsSilent}
 use Rattle.wl_buses.specs.CleanLines.Lines.{EmptyEachQueue}
-use Rattle.wl_buses.proofs.CleanLines.Through.{all_sent, through}
+use Rattle.wl_buses.proofs.CleanLines.Through.{all_sent, handed_as, through}
 use Rattle.wl_buses.proofs.NextFrames.PoweredUp.{nothing_passed}
 use Rattle.wl_buses.proofs.SentFrames.Planned.{line_sends}
 use Rattle.wl_buses.proofs.clean_lines.laws.all_frames_of_a_line_get_through.Goals as goal
@@ -23,16 +23,16 @@ returns c = λ l setups w chase up are room enough.
       driven = c.driven_laws.ensures;
     } in
     let found = c.what_is_found_stays.ensures in
-    let x = c.the_frames_of_a_line.ensures setups w chase l.stop are room enough up.idle up.queues in
+    let x = c.the_frames_of_a_line.ensures setups w chase l.stop are room enough up.idle up.hands up.queues in
     let f = x.bus in
     let sends =
     line_sends m c.nothing_is_found_before_a_frame.ensures c.what_is_expected_is_answered.ensures.heard
-    (λ s a b are room f next. c.stations_rest_after_a_frame.ensures.rest s a.outset a.bits f.chase next.sent next.decides are room f.outset f.ends f.won f.answer f.room next.more)
+    (λ s a b are room f next. c.stations_rest_after_a_frame.ensures.rest s a.outset a.bits f.chase next.which next.decides are room f.outset f.ends f.won f.answer f.room next.more)
     c.idle_stations_begin_a_first_frame.ensures.after c.nodes_rest_before_a_first_frame.ensures c.a_queue_hands_all_its_frames.ensures c.the_winner_sends_its_next_frame.ensures.first
     c.the_winner_sends_its_next_frame.ensures.queued l setups w up.line are room up.idle up.hands up.queues f.frames f.count f.are f.some f.first f.by
     (λ i inside. (let none =
     nothing_passed m c.nothing_is_found_before_a_frame.ensures c.what_is_expected_is_answered.ensures.heard
-    (λ s a b are room f next. c.stations_rest_after_a_frame.ensures.rest s a.outset a.bits f.chase next.sent next.decides are room f.outset f.ends f.won f.answer f.room next.more)
+    (λ s a b are room f next. c.stations_rest_after_a_frame.ensures.rest s a.outset a.bits f.chase next.which next.decides are room f.outset f.ends f.won f.answer f.room next.more)
     c.idle_stations_begin_a_first_frame.ensures.after c.nothing_passes_before_a_first_frame.ensures.line l setups w up.line are room up.idle up.hands f.frames f.count f.are f.some f.first i inside
     (suc (rest_first w i + sample_at (w.stations.lengths i))) (omega arith) in
     (none.0, none.2))) in
@@ -46,10 +46,11 @@ returns c = λ l setups w chase up are room enough.
     ] in
     let silent : EmptyEachQueue setups w f → LineFallsSilent l setups w.stations f.frames f.count f.are l.stop =
     λ emptied. c.a_line_rests_after_its_frames.ensures l setups w.stations f.frames f.count l.stop up.line are room f.are f.some sends.begins
-    (all_sent found.faults found.frames found.counters c.each_frame_ends_later.ensures.grows l setups w up.line are room f sends.passes emptied) (omega arith) in
+    (all_sent found.faults found.frames found.counters c.each_frame_ends_later.ensures.grows l setups w up.line are room f sends.passes sends.order emptied) (omega arith) in
     let goes : LineGoes l setups w.stations f.frames f.count f.are l.stop =
     elim ends [
       | inl before ↦ c.a_line_goes_from_frame_to_frame.ensures l setups w.stations f.frames f.count l.stop up.line are room f.are f.some sends.begins before
       | inr emptied ↦ (silent emptied).goes
     ] in
-    through found.faults found.frames found.counters c.each_frame_ends_later.ensures.grows l setups w up.line are room f sends.passes goes ends silent sends.order)
+    through found.faults found.frames found.counters c.each_frame_ends_later.ensures.grows l setups w up.line are room f sends.passes goes ends silent
+    (handed_as c.the_winner_sends_its_next_frame.ensures.first c.the_winner_sends_its_next_frame.ensures.queued setups w are room up.idle up.hands f))

@@ -2,7 +2,7 @@ use Rattle.wl_buses.proofs.OneSender.Always.{gets_through}
 use Rattle.wl_buses.proofs.one_sender.laws.every_frame_gets_through.Goals as goal
 
 pub returns : goal.returns
-returns c = λ b stuffed is sends frames meets slots.
+returns c = λ b stuffed lengths is sends frames meets slots.
     gets_through (record {
       clocks = record {
         goes = record { clock = c.clock_goes_on.ensures.clock; beat = c.clock_goes_on.ensures.beat; sync = c.clock_goes_on.ensures.sync };
@@ -32,4 +32,4 @@ returns c = λ b stuffed is sends frames meets slots.
       later = c.an_early_acknowledgement_moves_a_node.ensures.later;
       sampled = c.an_early_acknowledgement_moves_a_node.ensures.sampled;
       next = c.the_next_sample_is_dominant.ensures;
-    }) b stuffed is sends frames meets slots
+    }) b stuffed lengths is sends frames meets slots

@@ -5,6 +5,6 @@ pub returns : goal.returns
 returns c = record {
   in_step = λ t b is within fit. in_step t b is within fit;
   ends = λ t b is within fit. ends_in_slots t b is within fit;
-  through = λ t b stuffed is sends frames within fit.
-      c.every_frame_gets_through.ensures b stuffed is sends frames (in_step t b is within fit) (ends_in_slots t b is within fit);
+  through = λ t b stuffed lengths is sends frames within fit.
+      c.every_frame_gets_through.ensures b stuffed lengths is sends frames (in_step t b is within fit) (ends_in_slots t b is within fit);
 }

@@ -7,11 +7,11 @@ returns-clause-first c = λ w f are room idle is first. first_handed c.idle_mach
 pub returns-clause-next : goal.returns-clause-next
 returns-clause-next c = λ s a b are room was is after.
     next_handed c.idle_machines_may_wait.ensures
-    (λ s a b are room f next. c.stations_rest_after_a_frame.ensures.rest s a.outset a.bits f.chase next.sent next.decides are room f.outset f.ends f.won f.answer f.room next.more)
+    (λ s a b are room f next. c.stations_rest_after_a_frame.ensures.rest s a.outset a.bits f.chase next.which next.decides are room f.outset f.ends f.won f.answer f.room next.more)
     c.stations_rest_after_a_frame.ensures.free c.the_winner_sends_the_frame_that_it_began.ensures s are room a b was is after
 
 pub returns-clause-queued : goal.returns-clause-queued
 returns-clause-queued c = λ s setups frames count are room all by n less.
     next_queued c.idle_machines_may_wait.ensures
-    (λ s a b are room f next. c.stations_rest_after_a_frame.ensures.rest s a.outset a.bits f.chase next.sent next.decides are room f.outset f.ends f.won f.answer f.room next.more)
+    (λ s a b are room f next. c.stations_rest_after_a_frame.ensures.rest s a.outset a.bits f.chase next.which next.decides are room f.outset f.ends f.won f.answer f.room next.more)
     c.stations_rest_after_a_frame.ensures.free c.the_winner_sends_the_frame_that_it_began.ensures s are room setups frames count all by n less

@@ -20,6 +20,6 @@ returns c = λ s a b chase are room for_all decide was next i k inside has now b
     let won = was.won in
     let may = was.outset.allowed won.station won.inside (has_begun s (expected_bits s a.outset) a.bits won.station won.sends) in
     let can = for_all won.station won.inside may in
-    let rests = c.stations_rest_after_a_frame.ensures.rest s a.outset a.bits chase next.sent next.decides are room was.outset was.ends won can.0 can.1 next.more in
+    let rests = c.stations_rest_after_a_frame.ensures.rest s a.outset a.bits chase next.which next.decides are room was.outset was.ends won can.0 can.1 next.more in
     decide_once (resting_of s a b next) are.line rests
     (comes_by m s are room a.outset was.outset a.bits was.ends.none was.ends.there won chase can.0.catch can.0.room can.1 (decide won.station won.inside may)) i k inside has now begins)

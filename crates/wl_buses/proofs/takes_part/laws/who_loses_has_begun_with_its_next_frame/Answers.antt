@@ -23,5 +23,5 @@ returns-clause-begun c = law c
 pub returns-clause-next : goal.returns-clause-next
 returns-clause-next c = λ s a b are room was is after k inside apart drives.
     next_loses c.idle_machines_may_wait.ensures
-    (λ s a b are room f next. c.stations_rest_after_a_frame.ensures.rest s a.outset a.bits f.chase next.sent next.decides are room f.outset f.ends f.won f.answer f.room next.more)
+    (λ s a b are room f next. c.stations_rest_after_a_frame.ensures.rest s a.outset a.bits f.chase next.which next.decides are room f.outset f.ends f.won f.answer f.room next.more)
     c.stations_rest_after_a_frame.ensures.free (law c) s are room a b was is after k inside apart drives
