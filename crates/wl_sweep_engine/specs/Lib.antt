@@ -2,7 +2,6 @@ pub mod Faults
 pub mod Asked
 pub mod Payload
 pub mod Said
-pub mod Written
 pub mod Printed
 pub mod Ran
 pub mod Sweeping

@@ -6,7 +6,7 @@ use Rattle.wl_sweep.specs.declared.sweep.Sweep.{Sweep}
 use Rattle.wl_sweep.specs.Sweeps.{member_at}
 use Rattle.wl_sweep_engine.specs.declared.fault.SweepFault.{SweepFault}
 use Rattle.wl_sweep_engine.specs.declared.fault.SweepFault.TheVariants.{Member}
-use Rattle.wl_sweep_engine.specs.Written.{plan_words}
+use Rattle.wl_print.specs.Written.{plan_words}
 
 -- what a member changes, as a comment, and its plan
 abbrev pub member_text : ℕ → List ℕ → PlanText → List ℕ

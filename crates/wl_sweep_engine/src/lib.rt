@@ -10,7 +10,6 @@ mod map;
 mod payload;
 mod print;
 mod run;
-mod written;
 
 pub use asked::Asked;
 pub use fault::SweepFault;

@@ -6,9 +6,9 @@ ghost use Rattle.wl_sweep_engine.specs.Sweeping.{Prints};
 
 use crate::asked::{Asked, check_options, read_sweep};
 use crate::fault::SweepFault;
-use crate::written::push_plan;
 use std::alloc::{AllocError, Global};
 use wl_device::{Sink, Source, write_all};
+use wl_print::push_plan;
 use wl_setup::{PlanText, Text, read_text};
 use wl_sweep::Sweep;
 

@@ -1,10 +1,10 @@
 //! A plan text as TOML.
-ghost use Rattle.std.specs.Prelude.{◌≡◌, OnOk};
+ghost use Rattle.std.specs.Prelude.{◌≡◌, IfOk, OnOk, string_bytes};
 ghost use Rattle.std.specs.List.{flat_map};
 ghost use Rattle.wl_report.specs.Lines.{GrowsBy};
-ghost use Rattle.wl_sweep_engine.specs.Written.{byte_words, clock_lines, data_line, disturbance_lines, flag_line, frame_keys, frame_lines, from_line, header_line, interval_lines, is_one, is_own, later_words, name_lines, node_keys, node_lines, number_line, own_clock_lines, place_lines, plan_words, rate_clock_lines, rate_lines, rate_tables, segment_lines, spot_line, sync_word, top_lines};
+ghost use Rattle.wl_print.specs.Written.{byte_words, clock_lines, data_line, disturbance_lines, flag_line, frame_keys, frame_lines, from_line, header_line, interval_lines, is_one, is_own, later_words, name_lines, node_keys, node_lines, number_line, own_clock_lines, place_lines, plan_words, rate_clock_lines, rate_lines, rate_tables, segment_lines, spot_line, sync_word, top_lines};
 
-use std::alloc::AllocError;
+use std::alloc::{AllocError, Global};
 use wl_segments::SyncRules;
 use wl_setup::{
     ClockText, DisturbanceText, FrameText, NodeText, PlanText, RateText, SegmentsText, Text,
@@ -346,11 +346,20 @@ fn push_disturbances(text: &mut String, disturbances: &[DisturbanceText]) -> Res
     Ok(())
 }
 
-/// Adds a plan text as TOML.
-pub(crate) fn push_plan(text: &mut String, plan: &PlanText) -> Result<(), AllocError>
+/// Adds a plan text as TOML, key by key in the order of the format. Refused only when out of memory.
+pub fn push_plan(text: &mut String, plan: &PlanText) -> Result<(), AllocError>
     ensures { OnOk result (GrowsBy text.old text.new (plan_words plan.now)) }
 {
     push_top(text, plan)?;
     push_nodes(text, plan.version, plan.node.as_slice())?;
     push_disturbances(text, plan.disturbance.as_slice())
+}
+
+/// Returns a plan text as TOML, as `push_plan` adds it.
+pub fn plan_text(alloc: Global, plan: &PlanText) -> Result<String, AllocError>
+    ensures { IfOk result (λ text. string_bytes text ≡ plan_words plan.now) }
+{
+    let mut text = String::new(alloc);
+    push_plan(&mut text, plan)?;
+    Ok(text)
 }

@@ -1,7 +1,7 @@
 use Rattle.std.proofs.Common.{◌∙◌, ◌++◌, ap, codes, string_bytes, append_assoc, List, ℕ}
 use Rattle.std.proofs.lemmas.Result.{IfOk-equal}
-use Rattle.wl_sweep_engine.specs.Written.{disturbance_lines, header_line, interval_lines, spot_line}
-use Rattle.wl_sweep_engine.proofs.written.push_disturbance.Goals as goal
+use Rattle.wl_print.specs.Written.{disturbance_lines, header_line, interval_lines, spot_line}
+use Rattle.wl_print.proofs.written.push_disturbance.Goals as goal
 
 pub returns : goal.returns
 returns c =

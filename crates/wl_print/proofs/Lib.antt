@@ -1,0 +1,9 @@
+mod Words
+mod Lines
+mod Bytes
+mod Sorted
+mod Documents
+mod Rows
+mod Tables
+mod PlanRows
+mod Entries

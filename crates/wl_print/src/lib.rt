@@ -1,0 +1,10 @@
+//! `wl_print`: prints plan texts, and writes any plan as one of version 4.
+#![tactic(auto)]
+
+mod fault;
+mod format;
+mod written;
+
+pub use fault::PrintFault;
+pub use format::format_run;
+pub use written::{plan_text, push_plan};
