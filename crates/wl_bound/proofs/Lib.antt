@@ -8,3 +8,4 @@ pub mod Nodes
 pub mod Sound
 pub mod WayRows
 pub mod RoomsLemmas
+pub mod FieldsLemmas

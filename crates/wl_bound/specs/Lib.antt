@@ -16,3 +16,6 @@ pub mod Rooms
 pub mod SearchTests
 pub mod RoomLaws
 pub mod Lacks
+pub mod BusTimes
+pub mod Fields
+pub mod Decides

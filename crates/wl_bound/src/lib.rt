@@ -9,8 +9,10 @@ mod asked;
 mod bus;
 mod condition;
 mod covered;
+mod decide;
 mod evaluated;
 mod family;
+mod field;
 mod help;
 mod lack;
 mod laws;
@@ -18,15 +20,18 @@ mod oscillator;
 mod room;
 mod search;
 mod terms;
+mod times;
 mod verdict;
 
 pub use condition::{Failure, Inequality, Senders, Sides};
 pub use covered::{all_speak, finds_one_busy, is_covered, leaves};
 pub use family::{Change, Family, Member, Setting, Source, only_listens};
+pub use field::field_of;
 pub use lack::{Lack, Shortage};
 pub use laws::{condition_laws, room_law, search_laws};
 pub use oscillator::Oscillator;
 pub use search::Growth;
+pub use times::BusTimes;
 pub use verdict::{
     Outside, Verdict, cause_outside, first_without_book, idle_at, is_ready_from, judge, judge_all,
     listens,

@@ -1,5 +1,7 @@
 pub mod Entries
+pub mod Deciding
 pub mod Families
+pub mod Fields
 pub mod Measure
 pub mod Offered
 pub mod Ordering

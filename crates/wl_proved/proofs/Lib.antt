@@ -9,9 +9,11 @@ mod Instance
 mod Early
 mod Emptied
 mod Ends
+mod Entries
 mod Paced
 mod Queues
 mod Rows
 mod Starting
+mod Tables
 mod Stuffings
 mod Texts

@@ -2,3 +2,4 @@ pub mod CleanRuns
 pub mod LateEnds
 pub mod PlansOfFamily
 pub mod Words
+pub mod Waits

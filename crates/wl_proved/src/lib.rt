@@ -5,3 +5,4 @@
 
 pub mod laws;
 pub mod plans;
+pub mod waits;

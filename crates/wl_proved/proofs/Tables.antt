@@ -1,0 +1,215 @@
+-- A table of messages that passes its test has bounds that are enough.
+use Rattle.std.proofs.Common.{◌≡◌, ◌≢◌, ◌∙◌, refl, sym, ap, ap₂, subst, inl, inr, ℕ, zero, suc, ◌+◌, ◌-◌, ◌*◌, ◌<◌, ◌≤◌, Bool, true, false, cond, not, max, min, ◌&&◌, List, [], ◌∷◌, length, map, arith}
+use Rattle.std.specs.Prelude.{◌==◌, nat_le, nat_lt}
+use Rattle.std.proofs.lemmas.Bool.{and_parts, cases_lt, eqb-true, leb-true, lt-ltb, ltb-true, not-false, not-true}
+use Rattle.std.proofs.lemmas.List.{get_or-map, length-map}
+use Rattle.wl_segments.specs.Lengths.{bit_quanta}
+use Rattle.wl_counts.specs.Counts.{one_if, periods_in, sum_below}
+use Rattle.wl_counts.specs.Waits.{AreEnough}
+use Rattle.wl_plan.specs.declared.plan.Plan.{Plan}
+use Rattle.wl_bound.specs.BusTimes.{greatest_delay, greatest_lead, greatest_wake, times_of}
+use Rattle.wl_bound.specs.Families.{Bus}
+use Rattle.wl_bound.specs.Terms.{greatest}
+use Rattle.wl_bound.proofs.Greatest.{bounds_each}
+use Rattle.wl_respond.specs.declared.message.MessageWait.{MessageWait}
+use Rattle.wl_respond.specs.Inequalities.{are_enough, blocked_for, head_start, is_enough, is_wait_enough, is_window_enough, lacks_enough, top_field, window_demand, window_share}
+use Rattle.wl_respond.specs.Rows.{MessageTerms, no_row, row_at, wait_limit}
+use Rattle.wl_respond.specs.Tests.{are_fair, cost_of, is_fair, message_at, no_message, pass, period_of, row_for, tail_of}
+use Rattle.wl_buses.specs.FrameTimes.BusTimes.{bus_times}
+use Rattle.wl_buses.specs.BoundedWaits.Messages.{BusDelaysNoLonger, Delays, terms_of}
+use Rattle.wl_buses.specs.BoundedWaits.QueuedFrames.{BlockNoLonger, Terms, early_by, table_by}
+use Rattle.wl_buses.proofs.Callers.{none_below}
+use Rattle.wl_proved.specs.Waits.{messages_in, top_of, wait_of}
+
+-- each is the greatest at most
+pub greatest_each : (n : ℕ) (test : ℕ → Bool) (f : ℕ → ℕ) (k : ℕ) → k < n → test k ≡ true → f k ≤ greatest n test f
+greatest_each n test f k less e = bounds_each n test f (greatest n test f) (let r : greatest n test f ≤ greatest n test f = omega arith in r) k less e
+
+-- sums and greatest numbers of the same
+sum_same : (f g : ℕ → ℕ) (n : ℕ) → ((k : ℕ) → k < n → f k ≡ g k) → sum_below f n ≡ sum_below g n
+sum_same f g zero h = refl
+sum_same f g (suc n) h = ap₂ (λ x y. x + y) (sum_same f g n (λ k below. h k (omega arith))) (h n (omega arith))
+
+pub greatest_same : (n : ℕ) (t u : ℕ → Bool) (f g : ℕ → ℕ) → ((k : ℕ) → k < n → t k ≡ u k) → ((k : ℕ) → k < n → f k ≡ g k) → greatest n t f ≡ greatest n u g
+greatest_same zero t u f g e h = refl
+greatest_same (suc n) t u f g e h =
+    ap₂ max (greatest_same n t u f g (λ k below. e k (omega arith)) (λ k below. h k (omega arith))) (ap₂ (λ x y. cond x y 0) (e n (omega arith)) (h n (omega arith)))
+
+fair_each : (b : Bus) (messages : List MessageWait) → are_fair b messages ≡ true → (e : ℕ) → e < length messages → is_fair b (message_at messages e) ≡ true
+fair_each b [] fair e less = absurd (omega arith)
+fair_each b (x ∷ later) fair zero less = (and_parts (is_fair b x) (are_fair b later) fair).0
+fair_each b (x ∷ later) fair (suc e) less = fair_each b later (and_parts (is_fair b x) (are_fair b later) fair).1 e (omega arith)
+
+share_by : (j : Bool) (p c : ℕ) → cond j (p * c) 0 ≡ one_if j * p * c
+share_by true p c = ap (λ x. x * c) (let e : p ≡ 1 * p = omega arith in e)
+share_by false p c = omega arith
+
+other_than : (i k : ℕ) → i ≢ k → not (k == i) ≡ true
+other_than i k apart = elim_not (k == i) (λ e. apart (sym (eqb-true k i e)))
+  where
+    elim_not : (x : Bool) → (x ≡ true → ⊥) → not x ≡ true
+    elim_not true h = absurd (h refl)
+    elim_not false h = refl
+
+module _ (b : Bus) (plan : Plan) (messages : List MessageWait) (passes : pass b messages ≡ true) (nodes : b.nodes ≡ length plan.nodes) where
+  abbrev lead : ℕ
+  lead = greatest_lead b
+
+  abbrev wake : ℕ
+  wake = greatest_wake b
+
+  abbrev x : ℕ → MessageWait
+  x e = message_at messages e
+
+  abbrev rows : List MessageTerms
+  rows = map (row_for b (times_of b)) messages
+
+  rows_length : length rows ≡ length messages
+  rows_length = length-map messages (row_for b (times_of b))
+
+  parts : (are_fair b messages ≡ true) × (are_enough lead wake rows ≡ true)
+  parts = and_parts (are_fair b messages) (are_enough lead wake rows) passes
+
+  fair : (e : ℕ) → e < length messages → ((x e).node < b.nodes) × (0 < period_of b (x e)) × ((x e).window < wait_limit) × ((x e).wait < wait_limit)
+  fair e less =
+      let all = fair_each b messages parts.0 e less in
+      let halves = and_parts (nat_lt (x e).node b.nodes && nat_lt 0 (period_of b (x e))) (nat_lt (x e).window wait_limit && nat_lt (x e).wait wait_limit) all in
+      let there = and_parts (nat_lt (x e).node b.nodes) (nat_lt 0 (period_of b (x e))) halves.0 in
+      let short = and_parts (nat_lt (x e).window wait_limit) (nat_lt (x e).wait wait_limit) halves.1 in
+      (ltb-true _ _ there.0, ltb-true _ _ there.1, ltb-true _ _ short.0, ltb-true _ _ short.1)
+
+  -- a row as it is
+  abbrev exact : ℕ → MessageTerms
+  exact e = record {
+    node = (x e).node;
+    field = (x e).field;
+    level = (x e).level;
+    cost = cost_of (times_of b) (x e);
+    tail = tail_of (times_of b) (x e);
+    period = max 1 (period_of b (x e));
+    window = (x e).window;
+    wait = (x e).wait;
+  }
+
+  is_least : (n : ℕ) → n < wait_limit → min n (wait_limit - 1) ≡ n
+  is_least n less = omega arith
+
+  row_is : (e : ℕ) → e < length messages → row_at rows e ≡ exact e
+  row_is e less =
+      let f = fair e less in
+      let window = is_least (x e).window f.2 in
+      let wait = is_least (x e).wait f.3 in
+      let same : row_for b (times_of b) (x e) ≡ exact e = λ k. record {
+        node = (x e).node;
+        field = (x e).field;
+        level = (x e).level;
+        cost = cost_of (times_of b) (x e);
+        tail = tail_of (times_of b) (x e);
+        period = max 1 (period_of b (x e));
+        window = window k;
+        wait = wait k;
+      } in
+      get_or-map (row_for b (times_of b)) messages e no_message no_row less ∙ same
+
+  enough_at : (m : ℕ) → m < length messages → is_enough lead wake rows (exact m) ≡ true
+  enough_at m less =
+      let lacks = none_below (length rows) (lacks_enough lead wake rows) (not-true _ parts.1) m (let e = rows_length in omega arith) in
+      ap (is_enough lead wake rows) (sym (row_is m less)) ∙ not-false _ lacks
+
+  top_is : (i : ℕ) → top_field lead wake rows i ≡ top_of messages i
+  top_is i =
+      ap (λ n. greatest n (λ e. (row_at rows e).node == i) (λ e. (row_at rows e).field)) rows_length
+      ∙ greatest_same (length messages) (λ e. (row_at rows e).node == i) (λ e. (x e).node == i) (λ e. (row_at rows e).field) (λ e. (x e).field)
+      (λ e less. ap (λ r. r.node == i) (row_is e less)) (λ e less. ap (λ r. r.field) (row_is e less))
+
+  pub node_is : (e : ℕ) → e < length messages → (messages_in plan messages).node e ≡ (x e).node
+  node_is e less = ap (λ v. cond v (x e).node (length plan.nodes)) (lt-ltb e (length messages) less)
+
+  -- the level of a message is the greatest field of its node's
+  pub level_is : (e : ℕ) → e < length messages → (x e).level ≡ top_of messages ((messages_in plan messages).node e)
+  level_is e less =
+      let all = and_parts ((x e).level == top_field lead wake rows (x e).node) (is_window_enough lead wake rows (exact e) && is_wait_enough lead wake rows (exact e)) (enough_at e less) in
+      eqb-true (x e).level (top_field lead wake rows (x e).node) all.0 ∙ top_is (x e).node ∙ ap (top_of messages) (sym (node_is e less))
+
+  pub both : (m : ℕ) → m < length messages → (blocked_for lead wake rows (exact m) + window_demand lead wake rows (exact m) ≤ (x m).window)
+      × (head_start lead (exact m) (exact m) + (x m).window + tail_of (times_of b) (x m) ≤ (x m).wait + cost_of (times_of b) (x m))
+  both m less =
+      let all = and_parts ((x m).level == top_field lead wake rows (x m).node) (is_window_enough lead wake rows (exact m) && is_wait_enough lead wake rows (exact m)) (enough_at m less) in
+      let two = and_parts (is_window_enough lead wake rows (exact m)) (is_wait_enough lead wake rows (exact m)) all.1 in
+      (leb-true _ _ two.0, leb-true _ _ two.1)
+
+  abbrev pub delays : Delays
+  delays = record { lead = lead; wake = wake; period = λ e. max 1 (period_of b (x e)) }
+
+  period_at : (e : ℕ) → e < length messages → max 1 (period_of b (x e)) ≤ (x e).every * b.shortest (x e).node
+  period_at e less =
+      let f = fair e less in
+      let is : period_of b (x e) ≡ (x e).every * b.shortest (x e).node =
+      ap (λ v. (x e).every * cond v (b.shortest (x e).node) 0) (lt-ltb (x e).node b.nodes f.0) in
+      let some = f.1 in
+      omega arith
+
+  pub bus_delays : BusDelaysNoLonger b (messages_in plan messages) delays
+  bus_delays = record {
+    own = λ i there.
+        (let each = greatest_each b.nodes (λ i. true) (λ i. (bit_quanta (b.lengths i) - 1) * b.longest i + greatest_delay b i) i there refl in omega arith);
+    others = λ i k there other apart.
+        (let each = greatest_each b.nodes (λ i. true) (λ i. (bit_quanta (b.lengths i) - 1) * b.longest i + greatest_delay b i) i there refl in
+        let way = greatest_each b.nodes (λ k. not (k == i)) (b.delay i) k other (other_than i k apart) in
+        omega arith);
+    wakes = λ i there. greatest_each b.nodes (λ i. true) (λ i. (b.lengths i).ps2 * b.longest i) i there refl;
+    positive = λ e. omega arith;
+    periods = λ i e there same. elim (cases_lt e (length messages)) [
+      | inl less ↦ subst (λ j. max 1 (period_of b (x e)) ≤ (x e).every * b.shortest j) (sym (node_is e less) ∙ same) (period_at e less)
+      | inr past ↦
+          (let none : nat_lt e (length messages) ≡ false = none_less e (length messages) past in
+          let last : length plan.nodes ≡ i = sym (ap (λ v. cond v (x e).node (length plan.nodes)) none) ∙ same in
+          absurd (omega (arith, nodes)))
+    ];
+  }
+    where
+      none_less : (e n : ℕ) → n ≤ e → nat_lt e n ≡ false
+      none_less e n past = not_less (nat_lt e n) (λ h. (let less = ltb-true e n h in omega arith))
+        where
+          not_less : (v : Bool) → (v ≡ true → ⊥) → v ≡ false
+          not_less true h = absurd (h refl)
+          not_less false h = refl
+
+  abbrev pub terms : Terms
+  terms = terms_of (bus_times b) (messages_in plan messages) delays
+
+  abbrev pub blocking : ℕ → ℕ
+  blocking m = blocked_for lead wake rows (exact m)
+
+  pub block : BlockNoLonger terms blocking
+  block = record {
+    lesser = λ m e lm le no_join.
+        (let beyond : not (nat_le (row_at rows e).field (x m).level) ≡ true = ap (λ r. not (nat_le r.field (x m).level)) (row_is e le) ∙ ap not no_join in
+        let each = greatest_each (length rows) (λ e. not (nat_le (row_at rows e).field (x m).level)) (λ e. (row_at rows e).cost) e (let r = rows_length in omega arith) beyond in
+        let cost : (row_at rows e).cost ≡ cost_of (times_of b) (x e) = ap (λ r. r.cost) (row_is e le) in
+        omega arith);
+    wakes = λ m lm. omega arith;
+  }
+
+  abbrev pub window : ℕ → ℕ
+  window m = (x m).window
+
+  early_is : (m e : ℕ) → e < length messages → head_start lead (exact m) (exact e) ≡ early_by terms (wait_of messages) m e
+  early_is m e less = ap (λ l. lead + cond (nat_lt (x m).level l) (x e).wait 0) (level_is e less)
+
+  share_is : (m e : ℕ) → e < length messages → window_share lead (exact m) (row_at rows e)
+      ≡ one_if (nat_le (x e).field (x m).level) * periods_in (early_by terms (wait_of messages) m e + (x m).window) (max 1 (period_of b (x e))) * cost_of (times_of b) (x e)
+  share_is m e less =
+      ap (window_share lead (exact m)) (row_is e less)
+      ∙ ap (λ l. cond (nat_le (x e).field (x m).level) (periods_in (l + (x m).window) (max 1 (period_of b (x e))) * cost_of (times_of b) (x e)) 0) (early_is m e less)
+      ∙ share_by (nat_le (x e).field (x m).level) (periods_in (early_by terms (wait_of messages) m e + (x m).window) (max 1 (period_of b (x e)))) (cost_of (times_of b) (x e))
+
+  demand_is : (m : ℕ) → window_demand lead wake rows (exact m)
+      ≡ sum_below (λ e. one_if (nat_le (x e).field (x m).level) * periods_in (early_by terms (wait_of messages) m e + (x m).window) (max 1 (period_of b (x e))) * cost_of (times_of b) (x e)) (length messages)
+  demand_is m = ap (sum_below (λ e. window_share lead (exact m) (row_at rows e))) rows_length ∙ sum_same _ _ (length messages) (λ e less. share_is m e less)
+
+  pub enough : AreEnough (table_by terms blocking (wait_of messages)) window (wait_of messages)
+  enough = record {
+    window = λ m less. (let h = (both m less).0 in let e = demand_is m in omega arith);
+    wait = λ m less. (let h = (both m less).1 in let e = early_is m m less in omega arith);
+  }

@@ -1,0 +1,43 @@
+-- How long the messages of a plan wait at most. This project's.
+use Rattle.std.specs.Prelude.{◌≡◌, ℕ, ◌<◌, ◌==◌, nat_le, nat_lt, List, length, unwrap_or, if◌then◌else◌}
+use Rattle.wl_phase.specs.Clocks.{Steady, steady_timing}
+use Rattle.wl_plan.specs.declared.plan.Plan.{Plan}
+use Rattle.wl_plan.specs.PlanLine.{setup_at}
+use Rattle.wl_bound.specs.Families.{Buses}
+use Rattle.wl_bound.specs.Rooms.{plain_bus}
+use Rattle.wl_bound.specs.Terms.{greatest}
+use Rattle.wl_respond.specs.declared.message.MessageWait.{MessageWait}
+use Rattle.wl_respond.specs.Plans.{entry_at, message_of}
+use Rattle.wl_respond.specs.Tests.{message_at}
+use Rattle.wl_buses.specs.FamilyPlans.FamilyStations.{stations_of}
+use Rattle.wl_buses.specs.CleanPlans.Clean.{AllGetThrough}
+use Rattle.wl_buses.specs.BoundedWaits.Bounds.{PassInTime, WaitInQuanta}
+use Rattle.wl_buses.specs.BoundedWaits.Messages.{Messages}
+
+-- the greatest field of the messages of node i
+abbrev pub top_of : List MessageWait → ℕ → ℕ
+top_of messages i = greatest (length messages) (λ e. (message_at messages e).node == i) (λ e. (message_at messages e).field)
+
+-- A table of messages as the laws on waits have it: entry n of the queue of node i is of the first message with its field.
+abbrev pub messages_in : Plan → List MessageWait → Messages
+messages_in plan messages = record {
+  count = length messages;
+  of = λ i n. unwrap_or (message_of messages i (entry_at (setup_at plan i).queue n).frame) 0;
+  node = λ e. if nat_lt e (length messages) then (message_at messages e).node else length plan.nodes;
+  bits = λ e. (message_at messages e).bits;
+  every = λ e. (message_at messages e).every;
+  joins = λ m e. nat_le (message_at messages e).field (message_at messages m).level;
+  mixed = λ m i. nat_lt (message_at messages m).level (top_of messages i);
+}
+
+abbrev pub wait_of : List MessageWait → ℕ → ℕ
+wait_of messages e = (message_at messages e).wait
+
+-- All frames of a plan get through, and none waits longer than its message says, from `ready` to the sample with which it is sent: in quanta of its node, each of which takes no less than the shortest. If
+-- a node has been for longer than that after its frame was ready, it has sent it.
+pub record HasBoundedWaits (f : Buses) (plan : Plan) (messages : List MessageWait) : Type 0 where
+  pub clocks : ℕ → Steady
+  pub rates : (i : ℕ) → i < length plan.nodes → (setup_at plan i).clock ≡ steady_timing (clocks i)
+  pub all : AllGetThrough plan (stations_of f plan clocks)
+  pub waits : WaitInQuanta plan (stations_of f plan clocks) all.bus (messages_in plan messages) (plain_bus f).shortest (wait_of messages)
+  pub passes : PassInTime plan (stations_of f plan clocks) all (messages_in plan messages) (plain_bus f).shortest (wait_of messages)

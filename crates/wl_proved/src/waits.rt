@@ -1,0 +1,28 @@
+//! What the test of a table of messages promises, proved as the contract of a function that does nothing.
+
+ghost use Rattle.std.specs.Prelude.{◌≡◌, true, List, None};
+ghost use Rattle.wl_plan.specs.declared.plan.Plan.{Plan};
+ghost use Rattle.wl_bound.specs.Conditions.{first_failure_of, plain};
+ghost use Rattle.wl_bound.specs.Decides.{leaves_room_to_decide};
+ghost use Rattle.wl_bound.specs.Families.{Buses};
+ghost use Rattle.wl_bound.specs.Rooms.{leaves_room, plain_bus};
+ghost use Rattle.wl_bound.specs.declared.condition.Senders.TheVariants.{Any};
+ghost use Rattle.wl_respond.specs.declared.message.MessageWait.{MessageWait};
+ghost use Rattle.wl_respond.specs.Plans.{KeepsTable};
+ghost use Rattle.wl_respond.specs.Tests.{pass};
+ghost use Rattle.wl_proved.specs.PlansOfFamily.{IsPlanOfFamily};
+ghost use Rattle.wl_proved.specs.Waits.{HasBoundedWaits};
+
+/// Law: if a table of messages passes its test, no frame waits longer than its message says, on each plan of the family whose queues have frames
+/// of these messages. So it is whatever the offsets are, however many instances come, and wherever within its tolerance each clock lies. The
+/// condition for margins has to hold for any senders, and the bus to have room for them and that nobody decides twice.
+pub fn respond_law()
+    ensures { (f : Buses) (plan : Plan) (messages : List MessageWait) → IsPlanOfFamily f plan
+        → first_failure_of f plain Any ≡ None → leaves_room f ≡ true → leaves_room_to_decide f ≡ true
+        → pass (plain_bus f) messages ≡ true → KeepsTable plan messages → HasBoundedWaits f plan messages }
+{
+    wl_buses::one_sender::laws::a_covered_plan_is_one_of_these();
+    wl_buses::bounded_waits::tests::a_winner_has_the_lesser_field();
+    wl_buses::bounded_waits::tests::a_tested_bus_has_room_to_decide();
+    wl_buses::bounded_waits::laws::waits_are_bounded();
+}

@@ -1,0 +1,7 @@
+use Rattle.std.proofs.Common.{◌≡◌}
+use Rattle.wl_topology.specs.Driven.{any_below}
+use Rattle.wl_respond.specs.Inequalities.{lacks_enough}
+use Rattle.wl_respond.proofs.inequality.are_enough.Given as goal
+
+abbrev pub invariant-loop-m : goal.invariant-loop-m
+invariant-loop-m l = l.lacks ≡ any_below l.m (lacks_enough l.common.lead l.common.wake l.rows)

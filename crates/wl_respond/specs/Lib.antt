@@ -1,0 +1,4 @@
+pub mod Rows
+pub mod Inequalities
+pub mod Tests
+pub mod Plans
