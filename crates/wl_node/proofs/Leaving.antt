@@ -6,7 +6,8 @@ use Rattle.std.proofs.lemmas.List.{drop_all, drop-append-le, length-drop, length
 use Rattle.wl_level.specs.declared.Level.{Level}
 use Rattle.wl_level.specs.declared.Level.TheVariants.{Recessive}
 use Rattle.wl_node.specs.declared.setup.NodeSetup.{NodeSetup}
-use Rattle.wl_node.specs.History.{History, staying_history, left_history, levels_there, levels_away, history_of, is_after, quanta_before, has_left}
+use Rattle.wl_node.specs.History.{History, no_history, staying_history, left_history, levels_there, levels_away, history_of, is_after, quanta_before, has_left}
+use Rattle.wl_node.proofs.Turns.{history_first}
 
 -- what a node that has left keeps of its history
 pub record IsSamePast (h past : History) : Type 0 where
@@ -128,3 +129,7 @@ there_and_away (Some n) levels = (let t = length-take n levels in let d = length
 -- what a node that hasn't left promises
 pub not_left_is : (until : Option ℕ) (levels : List Level) → length (levels_away until levels) ≡ 0 → has_left until levels ≡ false
 not_left_is until levels e = left_is until levels ∙ le-ltb 0 (length (levels_away until levels)) (omega (arith, e))
+
+-- before any level a node of any setup is as it was at first
+pub history_begins : (setup : NodeSetup) → history_of setup [] ≡ no_history
+history_begins setup = (let yet = none_yet setup.until in history_there setup [] yet.there yet.away ∙ history_first setup)

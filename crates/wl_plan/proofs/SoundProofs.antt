@@ -1,12 +1,12 @@
 -- The line of a checked plan is sound.
-use Rattle.std.proofs.Common.{◌≡◌, ℕ, zero, suc, ◌+◌, ◌*◌, ◌/◌, ◌<◌, ◌≤◌, List, [], ◌++◌, length, refl, ap, arith, Bool, true, false, cond, inl, inr, nat_lt}
+use Rattle.std.proofs.Common.{◌≡◌, ℕ, zero, suc, ◌+◌, ◌*◌, ◌/◌, ◌<◌, ◌≤◌, List, [], ◌++◌, length, refl, ap, arith, Bool, true, false, cond, None, ◌⊎◌, inl, inr, nat_lt}
 use Rattle.std.proofs.Math.Nat.{div-mul-le_self, mul-le-mul_left}
 use Rattle.wl_level.specs.declared.Level.{Level}
 use Rattle.wl_level.specs.Levels.{is_dominant}
 use Rattle.wl_level.specs.Places.{PlaceLaws}
 use Rattle.wl_segments.specs.declared.SyncRules.{SyncRules}
 use Rattle.wl_segments.specs.declared.SyncRules.TheVariants.{After, Book}
-use Rattle.wl_segments.specs.Lengths.{Lengths, least_way, found_by}
+use Rattle.wl_segments.specs.Lengths.{AreLengths, Lengths, least_way, found_by}
 use Rattle.std.proofs.lemmas.Bool.{ltb-false}
 use Rattle.wl_topology.proofs.Callers.{delay_positive}
 use Rattle.wl_clock.specs.Timing.{Timing, IsTiming, tick_of, slowest_rate}
@@ -14,7 +14,8 @@ use Rattle.wl_limits.specs.declared.Limits.TheVariants.{Wide}
 use Rattle.wl_limits.specs.Limits.{offset_limit}
 use Rattle.wl_record_core.specs.Limits.{most_nodes-is, most_edges, most_edges-is, tick_end, tick_end-is}
 use Rattle.wl_node.specs.declared.setup.NodeSetup.{NodeSetup}
-use Rattle.wl_node.specs.History.{history_of}
+use Rattle.wl_node.specs.History.{History, history_of}
+use Rattle.wl_node.proofs.Callers.{history_begins}
 use Rattle.wl_node.specs.Quiet.{quiet_of, changes_of}
 use Rattle.wl_node.specs.declared.limits.TheConstants.{MOST_QUIET}
 use Rattle.wl_plan.specs.declared.plan.Plan.{Plan}
@@ -37,12 +38,11 @@ pub record QuietLaws : Type 0 where
   pub stays : (setup : NodeSetup) (levels more : List Level) → length more ≤ quiet_of setup levels
       → (history_of setup (levels ++ more)).drive ≡ (history_of setup levels).drive
   pub most : (setup : NodeSetup) (levels : List Level) → quiet_of setup levels ≤ most_quiet
-  pub few : (setup : NodeSetup) (levels : List Level) → changes_of setup levels ≤ length levels / suc (least_way setup.segments) + 1
+  pub few : (setup : NodeSetup) (levels : List Level) → (setup.until ≡ None) ⊎ AreLengths setup.segments → changes_of setup levels ≤ length levels / suc (least_way setup.segments) + 1
 
 -- a node that has seen nothing drives recessive
 begins : (setup : NodeSetup) → is_dominant (history_of setup []).drive ≡ false
-unfolding history_of
-begins setup = refl
+begins setup = ap (λ (h : History). is_dominant h.drive) (history_begins setup)
 
 -- so many quanta give room for so many parts of bits from a start to its sample: of four quanta at least, or of three where a node has fewer quanta
 few_parts : (n way : ℕ) → n ≤ cond (nat_lt way 3) most_short_quanta most_quanta → 2 ≤ way → n / suc way + 1 ≤ most_edges
@@ -102,7 +102,7 @@ module _ (places : PlaceLaws) (clocks : ClockLaws) (drives : QuietLaws) (laws : 
       let lengths = h.segments i no_setup b in
       let least : 2 ≤ least_way (setup_at plan i).segments = (let p = lengths.prop_low in let q = lengths.ps1_low in let s = found_near (setup_at plan i).segments.sync in omega arith) in
       let room = few_parts n (least_way (setup_at plan i).segments) (quanta_few i n b inside) least in
-      let few_here = changes_few places drives.few laws plan causal i b n inside past in
+      let few_here = changes_few places drives.few laws plan causal i b lengths n inside past in
       omega arith
 
   -- the ticks that a silence can name

@@ -8,6 +8,7 @@ use Rattle.wl_segments.specs.declared.SyncRules.TheVariants.{After}
 use Rattle.wl_record_core.specs.declared.record.Record.{Record}
 use Rattle.wl_record_core.specs.Truth.{IsTrueOf, is_true_of}
 use Rattle.wl_node.specs.declared.setup.NodeSetup.{NodeSetup}
+use Rattle.wl_node.specs.declared.setup.QueueOrder.TheVariants.{Fifo}
 use Rattle.wl_node.specs.History.{history_of}
 use Rattle.wl_node.specs.Quiet.{quiet_of}
 use Rattle.wl_plan.specs.declared.plan.Disturbance.{Disturbance}
@@ -21,6 +22,8 @@ no_setup = record {
   clock = record { offset = 0; rates = record { from = 0; num = 1; den = 1 } ∷ [] };
   segments = record { prop = 1; ps1 = 1; ps2 = 2; sjw = 1; sync = After };
   queue = [];
+  order = Fifo;
+  until = None;
 }
 
 abbrev pub setup_at : Plan → ℕ → NodeSetup
