@@ -22,7 +22,7 @@ mod syncs;
 mod traffic;
 mod unsent;
 
-pub use integration::integrates;
+pub use integration::{integrates, looks_at_head};
 pub use laws::{drive_laws, extremes_are_extreme, node_laws, staying_laws};
 pub use limits::MOST_QUIET;
 pub use mark::Mark;

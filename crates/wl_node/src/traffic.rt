@@ -19,6 +19,7 @@ ghost use Rattle.wl_node.specs.Runs.{samples_by, samples_from};
 ghost use Rattle.wl_node.specs.Unsent.{IsChosen, IsUnsent, left_in};
 ghost use Rattle.wl_machine.specs.Doing.{doing_of};
 
+use crate::integration::looks_at_head;
 use crate::samples::Samples;
 use crate::setup::{NodeSetup, Passed};
 use crate::unsent::{Unsent, is_first_ready};
@@ -26,7 +27,7 @@ use std::alloc::AllocError;
 use wl_confine::{Counters, Happened, Mode};
 use wl_frame::frame::Frame;
 use wl_level::Level;
-use wl_machine::{Doing, Done, Machine};
+use wl_machine::{Done, Machine};
 use wl_segments::SyncRules;
 
 /// What a node keeps of its samples, and of what came of them.
@@ -51,17 +52,6 @@ fn handed(level: Level, rules: SyncRules, head: Option<Frame>) -> Option<Frame>
         return None;
     }
     head
-}
-
-/// True if a machine that does this looks at the head that it is handed.
-fn looks_at_head(doing: Doing) -> bool
-    ensures { result ≡ looks_at_head doing }
-{
-    match doing {
-        Doing::Integrating | Doing::Idle | Doing::Intermission | Doing::Suspended | Doing::OffBus =>
-            true,
-        _ => false,
-    }
 }
 
 /// Keeps the frame that a sample completed: one that was sent is the one that was chosen.

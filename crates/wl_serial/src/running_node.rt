@@ -64,6 +64,7 @@ impl Running {
     {
         plan.laws();
         wl_plan::simulation_laws();
+        wl_node::node_laws();
         let setup = plan.node(i);
         let next = setup.clock.at(0);
         Ok(Running {

@@ -11,7 +11,7 @@ use Rattle.wl_node.specs.History.{History, no_history, history_after, seen_next}
 use Rattle.wl_trace.specs.declared.event.NodeEvent.{NodeEvent}
 use Rattle.wl_trace.specs.declared.event.Noted.{Noted}
 use Rattle.wl_trace.proofs.Syncing.{one_more}
-use Rattle.wl_trace.specs.Events.{noted, beat_events, events_at, traced_after, events_of}
+use Rattle.wl_trace.specs.Events.{noted, beat_events, events_at, traced_after, staying_events}
 
 abbrev Before : ℕ → List Noted → Type 0
 Before n es = All (λ e. e.quantum < n) es
@@ -43,8 +43,8 @@ module _ (setup : NodeSetup) where
       (let e = one_more setup h level in let f : length (history_after setup h level).seen + length levels ≡ length h.seen + suc (length levels) = omega arith in f)
       (fold_before levels (history_after setup h level) (es ++ events_at setup h level) (after_before h es level b))
 
-  pub quanta_in_time : (levels : List Level) → Before (length levels) (events_of setup levels)
-  unfolding events_of
+  pub quanta_in_time : (levels : List Level) → Before (length levels) (staying_events setup levels)
+  unfolding staying_events
   quanta_in_time levels =
       subst (λ n. Before n (fold (traced_after setup) (no_history, []) levels).1) (zero-add (length levels))
       (fold_before levels no_history [] (All-nil (λ (e : Noted). e.quantum < 0)))

@@ -14,16 +14,19 @@ use Rattle.wl_confine.specs.Counts.{Counts, counts_after, counts_of, mode_of, no
 use Rattle.wl_frame.specs.Grammar.{Content}
 use Rattle.wl_machine.specs.declared.state.Role.{Role}
 use Rattle.wl_machine.specs.declared.state.Role.TheVariants.{Tx, Rx}
-use Rattle.wl_machine.specs.Stretch.{Sort, Stretch, Sampled, continues}
+use Rattle.wl_machine.specs.Stretch.{Judgement, Sort, Stretch, Sampled, continues}
 use Rattle.wl_machine.specs.Stretch.Input.{Sample}
 use Rattle.wl_machine.specs.Stretch.Sort.{Integration, Idle, Framing, Flagging, Waiting, Delimiting, Intermission, Suspension, OffBus}
 use Rattle.wl_machine.specs.Frames.{frame_role, is_lost, stuffed_end}
-use Rattle.wl_machine.specs.Judged.{drive_of, role_by, stretch_of}
+use Rattle.wl_machine.specs.Judged.{drive_of, head_of, or_next, role_by, stretch_of}
+use Rattle.wl_machine.proofs.Callers.{stretch_next}
 use Rattle.wl_machine.specs.Keeps.{keeps, keeps_by, keeps_in_frame}
 use Rattle.wl_machine.specs.Reached.{IsMachine}
 use Rattle.wl_machine.specs.Roles.{loses_by}
 use Rattle.wl_node.specs.declared.setup.NodeSetup.{NodeSetup}
 use Rattle.wl_node.specs.History.{switched_off}
+use Rattle.wl_node.specs.Queues.{unsent_by}
+use Rattle.wl_node.specs.Unsent.{IsChosen, IsUnsent}
 use Rattle.wl_trace.specs.declared.sampled_node.SampledNode.{SampledNode}
 use Rattle.wl_trace.specs.declared.event.NodeEvent.{NodeEvent}
 use Rattle.wl_trace.specs.declared.event.NodeEvent.TheVariants.{ArbitrationLost}
@@ -67,14 +70,14 @@ none_lost OffBus own level lost e = refl
 pub lost_none : (s : Stretch) (level : Level) → keeps s level ≡ true → lost_events s level ≡ []
 lost_none s level e = none_lost s.sort s.own level (ArbitrationLost (next_place s) ∷ []) e
 
-stays_on : (m n : Mode) → n ≡ m → switched_off m n ≡ []
-stays_on Active Active e = refl
-stays_on Active Passive e = refl
-stays_on Active Off e = cc
-stays_on Passive Active e = refl
-stays_on Passive Passive e = refl
-stays_on Passive Off e = cc
-stays_on Off n e = refl
+never_turns : (m n : Mode) → n ≡ m → switched_off m n ≡ []
+never_turns Active Active e = refl
+never_turns Active Passive e = refl
+never_turns Active Off e = cc
+never_turns Passive Active e = refl
+never_turns Passive Passive e = refl
+never_turns Passive Off e = cc
+never_turns Off n e = refl
 
 same_mode : (m : Mode) → is_same_mode m m ≡ true
 same_mode Active = refl
@@ -102,7 +105,7 @@ module _ (setup : NodeSetup) (p : SampledPast) (quantum : ℕ) (level : Level) (
   counts_same = fold-append counts_after no_counts p.happened (Nothing ∷ [])
 
   off : switched_off x.mode (mode_of (counts_of (p.happened ++ Nothing ∷ []))) ≡ []
-  off = stays_on x.mode (mode_of (counts_of (p.happened ++ Nothing ∷ []))) (ap mode_of counts_same)
+  off = never_turns x.mode (mode_of (counts_of (p.happened ++ Nothing ∷ []))) (ap mode_of counts_same)
 
   abbrev kept_past : SampledPast
   kept_past = record {
@@ -122,14 +125,20 @@ module _ (setup : NodeSetup) (p : SampledPast) (quantum : ℕ) (level : Level) (
         samples = p.samples ++ (quantum, level) ∷ [];
       }
 
-  pub kept : (old new : SampledNode) → IsSampledNode old p → new.counters ≡ old.counters → new.pending ≡ old.pending → new.sent ≡ old.sent
+  stretch_on : stretch_of (p.inputs ++ Sample x ∷ []) ≡ record { sort = (stretch_of p.inputs).sort; own = (stretch_of p.inputs).own ++ level ∷ [] }
+  stretch_on = stretch_next p.inputs (Sample x) ∙ ap (λ (j : Judgement). or_next j.next (record { sort = (stretch_of p.inputs).sort; own = (stretch_of p.inputs).own ++ level ∷ [] })) judged_is
+
+  pub kept : (old new : SampledNode) → IsSampledNode setup old p → new.counters ≡ old.counters → new.pending ≡ old.pending → new.unsent ≡ old.unsent
       → drive_of (stretch_of p.inputs) ≡ drive_of (stretch_of (p.inputs ++ Sample x ∷ [])) → IsMachine new.machine (p.inputs ++ Sample x ∷ [])
-      → IsSampledNode new (past_after setup p (quantum, level))
-  kept old new is counters pending sent drive machine = subst (IsSampledNode new) (sym past_is) (record {
+      → IsSampledNode setup new (past_after setup p (quantum, level))
+  kept old new is counters pending unsent drive machine = subst (IsSampledNode setup new) (sym past_is) (record {
     machine = machine;
     counters = counters ∙ is.counters ∙ sym counts_same;
     pending = pending ∙ is.pending ∙ drive;
-    sent = sent ∙ is.sent;
+    unsent = subst (λ u. IsUnsent setup u p.frames) (sym unsent) is.unsent;
+    sends = λ frame e.
+        subst (λ u. IsChosen setup.order (unsent_by setup.order setup.queue p.frames) frame u.place) (sym unsent)
+        (is.sends frame (sym (ap (λ (r : Stretch). head_of r.sort) stretch_on) ∙ e));
   })
 
   pub nothing_noted : lost_events (stretch_of p.inputs) level ≡ [] → then_events setup p quantum level ≡ []

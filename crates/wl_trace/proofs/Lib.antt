@@ -13,3 +13,4 @@ mod Kept
 mod RunOver
 mod Skipping
 mod Sampling
+mod Leaving

@@ -9,10 +9,10 @@ use Rattle.wl_sync.specs.Bits.{beat_of}
 use Rattle.wl_sync.specs.Skips.{IsPlain}
 use Rattle.wl_machine.specs.Judged.{stretch_of}
 use Rattle.wl_node.specs.declared.setup.NodeSetup.{NodeSetup}
-use Rattle.wl_node.specs.History.{History, history_of, seen_next}
+use Rattle.wl_node.specs.History.{History, staying_history, seen_next}
 use Rattle.wl_trace.specs.Replay.{SampledPast}
-use Rattle.wl_trace.specs.Snapshot.{mark, snapshot_of}
-use Rattle.wl_trace.specs.Starts.{is_start, starts_of, with_start}
+use Rattle.wl_trace.specs.Snapshot.{mark, staying_snapshot}
+use Rattle.wl_trace.specs.Starts.{is_start, staying_starts, with_start}
 use Rattle.wl_confine.specs.Counts.{counts_of}
 use Rattle.wl_trace.specs.declared.snapshot.NodeState.{NodeState}
 use Rattle.wl_trace.specs.States.{state_by}
@@ -22,7 +22,7 @@ use Rattle.wl_trace.proofs.Starting.{starts_more}
 -- the history of more levels is this one, that has seen more, and begun no bit
 pub record IsPassed (setup : NodeSetup) (levels : List Level) (level : Level) (m : ℕ) : Type 0 where
   pub same : IsSkipped setup levels level m
-  pub starts : starts_of setup (levels ++ replicate m level) ≡ starts_of setup levels
+  pub starts : staying_starts setup (levels ++ replicate m level) ≡ staying_starts setup levels
 
 -- plain quanta are no samples, and begin no bit
 pub plain_skippable : (setup : NodeSetup) (h : History) (level : Level) (n : ℕ) → IsPlain setup.segments h.seen (seen_next h level) n → IsSkippable setup h level n
@@ -32,26 +32,26 @@ plain_skippable setup h level n plain = record {
 }
 
 module _ (setup : NodeSetup) (levels : List Level) (level : Level) where
-  pub all_passed : (n m : ℕ) → n ≤ m → IsPlain setup.segments (history_of setup levels).seen (seen_next (history_of setup levels) level) m → IsPassed setup levels level n
+  pub all_passed : (n m : ℕ) → n ≤ m → IsPlain setup.segments (staying_history setup levels).seen (seen_next (staying_history setup levels) level) m → IsPassed setup levels level n
   all_passed zero m less plain = record {
-    same = all_skipped setup levels level zero m less (plain_skippable setup (history_of setup levels) level m plain);
-    starts = ap (starts_of setup) (append-nil levels);
+    same = all_skipped setup levels level zero m less (plain_skippable setup (staying_history setup levels) level m plain);
+    starts = ap (staying_starts setup) (append-nil levels);
   }
   all_passed (suc n) m less plain =
-      let able = plain_skippable setup (history_of setup levels) level m plain in
+      let able = plain_skippable setup (staying_history setup levels) level m plain in
       let is = all_skipped setup levels level n m (omega arith) able in
       let more : List Level = levels ++ replicate n level in
-      let h : History = history_of setup levels in
-      let g : History = history_of setup more in
+      let h : History = staying_history setup levels in
+      let g : History = staying_history setup more in
       let same : seen_next g level ≡ seen_next h level = seen_same g h level is.past is.drive in
       let beat : beat_of setup.segments g.seen (seen_next g level) ≡ Plain =
       ap₂ (λ (s : List Seen) (y : Seen). beat_of setup.segments s y) is.seen same ∙ plain n (omega arith) in
       record {
         same = all_skipped setup levels level (suc n) m less able;
         starts =
-            ap (starts_of setup) (snoc levels level n) ∙ starts_more setup more level
-            ∙ ap (λ (b : Beat). with_start (starts_of setup more) (length g.seen) (is_start b)) beat
-            ∙ append-nil (starts_of setup more) ∙ (all_passed n m (omega arith) plain).starts;
+            ap (staying_starts setup) (snoc levels level n) ∙ starts_more setup more level
+            ∙ ap (λ (b : Beat). with_start (staying_starts setup more) (length g.seen) (is_start b)) beat
+            ∙ append-nil (staying_starts setup more) ∙ (all_passed n m (omega arith) plain).starts;
       }
 
 -- what a node is at, by its past
@@ -59,7 +59,7 @@ abbrev state_past : SampledPast → NodeState
 state_past p = state_by (counts_of p.happened) (stretch_of p.inputs)
 
 pub shown_same : (setup : NodeSetup) (levels : List Level) (level : Level) (m : ℕ) → IsPassed setup levels level m
-    → snapshot_of setup (levels ++ replicate m level) ≡ snapshot_of setup levels
+    → staying_snapshot setup (levels ++ replicate m level) ≡ staying_snapshot setup levels
 shown_same setup levels level m is i = record {
   drive = is.same.drive i;
   sampled = ap (λ (p : SampledPast). mark (length p.samples)) is.same.past i;

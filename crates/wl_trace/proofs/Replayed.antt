@@ -7,9 +7,9 @@ use Rattle.wl_sync.specs.declared.Beat.{Beat}
 use Rattle.wl_sync.specs.declared.Beat.TheVariants as beats
 use Rattle.wl_sync.specs.Bits.{beat_of}
 use Rattle.wl_node.specs.declared.setup.NodeSetup.{NodeSetup}
-use Rattle.wl_node.specs.History.{History, no_history, history_of, history_after, by_beat, seen_next}
+use Rattle.wl_node.specs.History.{History, no_history, staying_history, history_after, by_beat, seen_next}
 use Rattle.wl_trace.specs.declared.event.Noted.{Noted}
-use Rattle.wl_trace.specs.Events.{noted, beat_events, events_at, traced_after, events_of}
+use Rattle.wl_trace.specs.Events.{noted, beat_events, events_at, traced_after, staying_events}
 use Rattle.wl_trace.specs.Replay.{IsReplay, SampledPast, no_past, past_after, past_of, then_events}
 use Rattle.wl_trace.specs.declared.notes.Notes.{Notes}
 use Rattle.wl_trace.specs.declared.replay.Replay.{Replay}
@@ -48,8 +48,8 @@ module _ (setup : NodeSetup) where
       fold_replayed levels (history_after setup h level) (es ++ events_at setup h level)
       (beat_replayed h es level (beat_of setup.segments h.seen (seen_next h level)) e)
 
-  pub events_replayed : (levels : List Level) → (replay_of setup (history_of setup levels).samples).1 ≡ events_of setup levels
-  unfolding history_of events_of
+  pub events_replayed : (levels : List Level) → (replay_of setup (staying_history setup levels).samples).1 ≡ staying_events setup levels
+  unfolding staying_history staying_events
   events_replayed levels = ap (λ (r : SampledPast × List Noted). r.1) (fold_replayed levels no_history [] replay_first)
 
   -- how many samples a past has
@@ -66,8 +66,8 @@ module _ (setup : NodeSetup) (samples : List (ℕ × Level)) (bit : ℕ) (d : �
   one_more : replay_of setup (take (bit + 1) samples) ≡ replayed_after setup front (get_or samples bit d)
   one_more = ap (replay_of setup) (take_more samples bit d below) ∙ replay_next setup (take bit samples) (get_or samples bit d)
 
-  pub past_more : (kept : Replay) → IsReplay kept (past_after setup front.0 (get_or samples bit d)) → IsReplay kept (replay_of setup (take (bit + 1) samples)).0
-  past_more kept h = subst (λ (r : SampledPast × List Noted). IsReplay kept r.0) (sym one_more) h
+  pub past_more : (kept : Replay) → IsReplay setup kept (past_after setup front.0 (get_or samples bit d)) → IsReplay setup kept (replay_of setup (take (bit + 1) samples)).0
+  past_more kept h = subst (λ (r : SampledPast × List Noted). IsReplay setup kept r.0) (sym one_more) h
 
   pub events_more : (old new : Notes) → old.quantum ≡ (get_or samples bit d).0 → old.bit ≡ bit → old.events.items ≡ front.1 → length front.0.samples ≡ bit
       → Adds old new (then_events setup front.0 (get_or samples bit d).0 (get_or samples bit d).1) → new.events.items ≡ (replay_of setup (take (bit + 1) samples)).1

@@ -5,9 +5,9 @@ use Rattle.wl_level.specs.declared.Level.{Level}
 use Rattle.wl_level.proofs.Callers.{snoc}
 use Rattle.wl_node.specs.declared.setup.NodeSetup.{NodeSetup}
 use Rattle.wl_trace.specs.declared.event.Noted.{Noted}
-use Rattle.wl_trace.specs.declared.rerun.Rerun.{Rerun}
-use Rattle.wl_trace.specs.Rerun.{RunsAgain, RunsOver}
-use Rattle.wl_trace.specs.Synced.{syncs_of}
+use Rattle.wl_trace.specs.declared.staying_rerun.StayingRerun.{StayingRerun}
+use Rattle.wl_trace.specs.StayingRerun.{RunsStaying, StaysOver}
+use Rattle.wl_trace.specs.Synced.{staying_syncs}
 
 -- so many more quanta have been seen
 pub longer : (levels : List Level) (level : Level) (quantum n : ℕ) → length levels ≡ quantum → length (levels ++ replicate n level) ≡ quantum + n
@@ -18,22 +18,22 @@ longer levels level quantum n e =
 pub one_more : (levels : List Level) (level : Level) (n : ℕ) → levels ++ replicate (n + 1) level ≡ (levels ++ replicate n level) ++ level ∷ []
 one_more levels level n = ap (λ (k : ℕ). levels ++ replicate k level) (add-one n) ∙ snoc levels level n
 
-pub over_none : (setup : NodeSetup) (quantum : ℕ) (level : Level) (node : Rerun) (syncs : List Noted) → RunsOver setup quantum 0 level node node syncs syncs
+pub over_none : (setup : NodeSetup) (quantum : ℕ) (level : Level) (node : StayingRerun) (syncs : List Noted) → StaysOver setup quantum 0 level node node syncs syncs
 over_none setup quantum level node syncs = record {
-  run = λ levels n is. subst (λ more. RunsAgain setup more node) (sym (append-nil levels)) is;
-  syncs = λ levels n is e. e ∙ ap (syncs_of setup) (sym (append-nil levels));
+  run = λ levels n is. subst (λ more. RunsStaying setup more node) (sym (append-nil levels)) is;
+  syncs = λ levels n is e. e ∙ ap (staying_syncs setup) (sym (append-nil levels));
 }
 
-module _ (setup : NodeSetup) (quantum a b : ℕ) (level : Level) (old mid new : Rerun) (first second third : List Noted)
-    (left : RunsOver setup quantum a level old mid first second) (right : RunsOver setup (quantum + a) b level mid new second third) where
+module _ (setup : NodeSetup) (quantum a b : ℕ) (level : Level) (old mid new : StayingRerun) (first second third : List Noted)
+    (left : StaysOver setup quantum a level old mid first second) (right : StaysOver setup (quantum + a) b level mid new second third) where
   together : (levels : List Level) → (levels ++ replicate a level) ++ replicate b level ≡ levels ++ replicate (a + b) level
   together levels = append_assoc levels (replicate a level) (replicate b level) ∙ ap (λ more. levels ++ more) (replicate-append-replicate a b level)
 
-  pub over_more : RunsOver setup quantum (a + b) level old new first third
+  pub over_more : StaysOver setup quantum (a + b) level old new first third
   over_more = record {
-    run = λ levels n is. subst (λ more. RunsAgain setup more new) (together levels)
+    run = λ levels n is. subst (λ more. RunsStaying setup more new) (together levels)
         (right.run (levels ++ replicate a level) (longer levels level quantum a n) (left.run levels n is));
     syncs = λ levels n is e.
         right.syncs (levels ++ replicate a level) (longer levels level quantum a n) (left.run levels n is) (left.syncs levels n is e)
-        ∙ ap (syncs_of setup) (together levels);
+        ∙ ap (staying_syncs setup) (together levels);
   }

@@ -10,30 +10,30 @@ use Rattle.wl_sync.specs.declared.Seen.{Seen}
 use Rattle.wl_sync.specs.Bits.{beat_of, sync_of}
 use Rattle.wl_sync.specs.Skips.{IsSampledAfter}
 use Rattle.wl_node.specs.declared.setup.NodeSetup.{NodeSetup}
-use Rattle.wl_node.specs.History.{History, by_beat, history_of, history_after, history_after_sample, seen_next}
+use Rattle.wl_node.specs.History.{History, by_beat, staying_history, history_after, history_after_sample, seen_next}
 use Rattle.wl_node.specs.Quiet.{pending_of}
-use Rattle.wl_trace.specs.declared.rerun.Rerun.{Rerun}
+use Rattle.wl_trace.specs.declared.staying_rerun.StayingRerun.{StayingRerun}
 use Rattle.wl_trace.specs.Events.{noted}
 use Rattle.wl_trace.specs.Replay.{IsSampledNode, SampledPast}
-use Rattle.wl_trace.specs.Rerun.{RunsTo}
+use Rattle.wl_trace.specs.StayingRerun.{RunsTo}
 use Rattle.wl_trace.specs.Snapshot.{mark}
-use Rattle.wl_trace.specs.Synced.{sync_event, syncs_of, with_next}
+use Rattle.wl_trace.specs.Synced.{sync_event, staying_syncs, with_next}
 use Rattle.wl_trace.proofs.RunOver.{one_more}
 use Rattle.wl_trace.proofs.Skipping.{IsSkippable, IsSkipped, all_skipped, none_synced, seen_same}
 use Rattle.wl_trace.proofs.Syncing.{history_more, syncs_more}
 
 module _ (setup : NodeSetup) (levels : List Level) (level : Level) (n : ℕ)
-    (is : IsSampledAfter setup.segments (history_of setup levels).seen (seen_next (history_of setup levels) level) n)
-    (settled : (history_of setup levels).drive ≡ pending_of (history_of setup levels)) where
+    (is : IsSampledAfter setup.segments (staying_history setup levels).seen (seen_next (staying_history setup levels) level) n)
+    (settled : (staying_history setup levels).drive ≡ pending_of (staying_history setup levels)) where
   abbrev h : History
-  h = history_of setup levels
+  h = staying_history setup levels
 
   abbrev x : Seen
   x = seen_next h level
 
   -- up to the sample
   abbrev pub up_to : History
-  up_to = history_of setup (levels ++ replicate n level)
+  up_to = staying_history setup (levels ++ replicate n level)
 
   able : IsSkippable setup h level n
   able = record { unsampled = is.unsampled; starts = λ m less e. settled }
@@ -50,19 +50,19 @@ module _ (setup : NodeSetup) (levels : List Level) (level : Level) (n : ℕ)
   none : sync_of setup.segments up_to.seen (seen_next up_to level) ≡ None
   none = ap₂ (λ (s : List Seen) (y : Seen). sync_of setup.segments s y) skipped.seen same ∙ is.unmoved n (omega arith)
 
-  after_is : history_of setup (levels ++ replicate (n + 1) level) ≡ history_after setup up_to level
-  after_is = ap (history_of setup) (one_more levels level n) ∙ history_more setup (levels ++ replicate n level) level
+  after_is : staying_history setup (levels ++ replicate (n + 1) level) ≡ history_after setup up_to level
+  after_is = ap (staying_history setup) (one_more levels level n) ∙ history_more setup (levels ++ replicate n level) level
 
-  pub sampled_seen : h.seen ++ replicate (suc n) x ≡ (history_of setup (levels ++ replicate (n + 1) level)).seen
+  pub sampled_seen : h.seen ++ replicate (suc n) x ≡ (staying_history setup (levels ++ replicate (n + 1) level)).seen
   sampled_seen =
       snoc h.seen x n
       ∙ ap₂ (λ (s : List Seen) (y : Seen). s ++ y ∷ []) (sym skipped.seen) (sym same)
       ∙ ap (λ (g : History). g.seen) (sym after_is)
 
   -- what is kept up to the sample is what was kept before
-  pub kept_up_to : (kept : Rerun) (starts : ℕ) → RunsTo kept h starts → RunsTo kept up_to starts
+  pub kept_up_to : (kept : StayingRerun) (starts : ℕ) → RunsTo setup kept h starts → RunsTo setup kept up_to starts
   kept_up_to kept starts r = record {
-    sampled_node = subst (IsSampledNode kept.sampled_node) (sym skipped.past) r.sampled_node;
+    sampled_node = subst (IsSampledNode setup kept.sampled_node) (sym skipped.past) r.sampled_node;
     drive = r.drive ∙ sym skipped.drive;
     bits = r.bits ∙ ap (λ (p : SampledPast). length p.samples) (sym skipped.past);
     sampled = r.sampled ∙ ap (λ (p : SampledPast). mark (length p.samples)) (sym skipped.past);
@@ -70,17 +70,17 @@ module _ (setup : NodeSetup) (levels : List Level) (level : Level) (n : ℕ)
   }
 
   -- and with the sample it is that of all these levels
-  pub runs_sampled : (kept : Rerun) (starts : ℕ) → RunsTo kept (history_after_sample setup up_to level) starts
-      → RunsTo kept (history_of setup (levels ++ replicate (n + 1) level)) starts
+  pub runs_sampled : (kept : StayingRerun) (starts : ℕ) → RunsTo setup kept (history_after_sample setup up_to level) starts
+      → RunsTo setup kept (staying_history setup (levels ++ replicate (n + 1) level)) starts
   runs_sampled kept starts r =
-      let so : RunsTo kept (by_beat setup up_to level (beat_of setup.segments up_to.seen (seen_next up_to level))) starts =
-      subst (λ (b : Beat). RunsTo kept (by_beat setup up_to level b) starts) (sym sampled) r in
-      let after : RunsTo kept (history_after setup up_to level) starts =
+      let so : RunsTo setup kept (by_beat setup up_to level (beat_of setup.segments up_to.seen (seen_next up_to level))) starts =
+      subst (λ (b : Beat). RunsTo setup kept (by_beat setup up_to level b) starts) (sym sampled) r in
+      let after : RunsTo setup kept (history_after setup up_to level) starts =
       record { sampled_node = so.sampled_node; drive = so.drive; bits = so.bits; sampled = so.sampled; started = so.started } in
-      subst (λ (g : History). RunsTo kept g starts) (sym after_is) after
+      subst (λ (g : History). RunsTo setup kept g starts) (sym after_is) after
 
-  pub none_sampled : syncs_of setup (levels ++ replicate (n + 1) level) ≡ syncs_of setup levels
+  pub none_sampled : staying_syncs setup (levels ++ replicate (n + 1) level) ≡ staying_syncs setup levels
   none_sampled =
-      ap (syncs_of setup) (one_more levels level n) ∙ syncs_more setup (levels ++ replicate n level) level
-      ∙ ap (λ (o : Option Sync). with_next (syncs_of setup (levels ++ replicate n level)) (option_map (λ sync. noted (length up_to.seen) (length up_to.samples) (sync_event sync)) o)) none
+      ap (staying_syncs setup) (one_more levels level n) ∙ syncs_more setup (levels ++ replicate n level) level
+      ∙ ap (λ (o : Option Sync). with_next (staying_syncs setup (levels ++ replicate n level)) (option_map (λ sync. noted (length up_to.seen) (length up_to.samples) (sync_event sync)) o)) none
       ∙ none_synced setup levels level n n (omega arith) able (λ m less. is.unmoved m (omega arith))

@@ -10,10 +10,10 @@ use Rattle.wl_sync.specs.declared.Seen.{Seen}
 use Rattle.wl_sync.specs.Bits.{beat_of, sync_of}
 use Rattle.wl_sync.specs.Skips.{IsPlain, IsUnmoved, IsUnsampled}
 use Rattle.wl_node.specs.declared.setup.NodeSetup.{NodeSetup}
-use Rattle.wl_node.specs.History.{History, history_of, history_after, by_beat, is_integration, seen_next}
+use Rattle.wl_node.specs.History.{History, staying_history, history_after, by_beat, is_integration, seen_next}
 use Rattle.wl_node.specs.Quiet.{pending_of}
 use Rattle.wl_trace.specs.Events.{noted}
-use Rattle.wl_trace.specs.Synced.{sync_event, syncs_of, with_next}
+use Rattle.wl_trace.specs.Synced.{sync_event, staying_syncs, with_next}
 use Rattle.wl_level.specs.Levels.{is_dominant}
 use Rattle.wl_machine.specs.Judged.{awaits_start, drive_of, is_idle_sort, stretch_of}
 use Rattle.wl_trace.specs.Replay.{SampledPast, past_of}
@@ -35,9 +35,9 @@ seen_same g h level p d i = record {
 
 -- the history of more levels is this one, that has seen more
 pub record IsSkipped (setup : NodeSetup) (levels : List Level) (level : Level) (m : ℕ) : Type 0 where
-  pub seen : (history_of setup (levels ++ replicate m level)).seen ≡ (history_of setup levels).seen ++ replicate m (seen_next (history_of setup levels) level)
-  pub past : past_of (history_of setup (levels ++ replicate m level)) ≡ past_of (history_of setup levels)
-  pub drive : (history_of setup (levels ++ replicate m level)).drive ≡ (history_of setup levels).drive
+  pub seen : (staying_history setup (levels ++ replicate m level)).seen ≡ (staying_history setup levels).seen ++ replicate m (seen_next (staying_history setup levels) level)
+  pub past : past_of (staying_history setup (levels ++ replicate m level)) ≡ past_of (staying_history setup levels)
+  pub drive : (staying_history setup (levels ++ replicate m level)).drive ≡ (staying_history setup levels).drive
 
 -- none of so many quanta samples, and a start of a bit leaves the drive
 pub record IsSkippable (setup : NodeSetup) (h : History) (level : Level) (n : ℕ) : Type 0 where
@@ -59,14 +59,14 @@ module _ (setup : NodeSetup) (levels : List Level) (level : Level) where
   one g Start unsampled starts = (refl, sym (starts refl))
   one g (Sample v) unsampled starts = absurd (unsampled v refl)
 
-  skipped : (n m : ℕ) → IsSkippable setup (history_of setup levels) level m → n < m → IsSkipped setup levels level n → IsSkipped setup levels level (suc n)
+  skipped : (n m : ℕ) → IsSkippable setup (staying_history setup levels) level m → n < m → IsSkipped setup levels level n → IsSkipped setup levels level (suc n)
   skipped n m able less is =
       let more : List Level = levels ++ replicate n level in
-      let h : History = history_of setup levels in
-      let g : History = history_of setup more in
+      let h : History = staying_history setup levels in
+      let g : History = staying_history setup more in
       let x : Seen = seen_next h level in
       let next : levels ++ replicate (suc n) level ≡ more ++ level ∷ [] = snoc levels level n in
-      let after : history_of setup (levels ++ replicate (suc n) level) ≡ history_after setup g level = ap (history_of setup) next ∙ history_more setup more level in
+      let after : staying_history setup (levels ++ replicate (suc n) level) ≡ history_after setup g level = ap (staying_history setup) next ∙ history_more setup more level in
       let same : seen_next g level ≡ x = seen_same g h level is.past is.drive in
       let beat : beat_of setup.segments g.seen (seen_next g level) ≡ beat_of setup.segments (h.seen ++ replicate n x) x =
       ap₂ (λ (s : List Seen) (y : Seen). beat_of setup.segments s y) is.seen same in
@@ -83,26 +83,26 @@ module _ (setup : NodeSetup) (levels : List Level) (level : Level) where
         drive = ap (λ (k : History). k.drive) after ∙ step.1 ∙ is.drive;
       }
 
-  pub all_skipped : (n m : ℕ) → n ≤ m → IsSkippable setup (history_of setup levels) level m → IsSkipped setup levels level n
+  pub all_skipped : (n m : ℕ) → n ≤ m → IsSkippable setup (staying_history setup levels) level m → IsSkipped setup levels level n
   all_skipped zero m less able = record {
-    seen = ap (λ (ls : List Level). (history_of setup ls).seen) (append-nil levels) ∙ sym (append-nil (history_of setup levels).seen);
-    past = ap (λ (ls : List Level). past_of (history_of setup ls)) (append-nil levels);
-    drive = ap (λ (ls : List Level). (history_of setup ls).drive) (append-nil levels);
+    seen = ap (λ (ls : List Level). (staying_history setup ls).seen) (append-nil levels) ∙ sym (append-nil (staying_history setup levels).seen);
+    past = ap (λ (ls : List Level). past_of (staying_history setup ls)) (append-nil levels);
+    drive = ap (λ (ls : List Level). (staying_history setup ls).drive) (append-nil levels);
   }
   all_skipped (suc n) m less able = skipped n m able (omega arith) (all_skipped n m (omega arith) able)
 
   -- and where no edge synchronises it, none is added
-  pub none_synced : (n m : ℕ) → n ≤ m → IsSkippable setup (history_of setup levels) level m
-      → IsUnmoved setup.segments (history_of setup levels).seen (seen_next (history_of setup levels) level) m → syncs_of setup (levels ++ replicate n level) ≡ syncs_of setup levels
-  none_synced zero m less able unmoved = ap (syncs_of setup) (append-nil levels)
+  pub none_synced : (n m : ℕ) → n ≤ m → IsSkippable setup (staying_history setup levels) level m
+      → IsUnmoved setup.segments (staying_history setup levels).seen (seen_next (staying_history setup levels) level) m → staying_syncs setup (levels ++ replicate n level) ≡ staying_syncs setup levels
+  none_synced zero m less able unmoved = ap (staying_syncs setup) (append-nil levels)
   none_synced (suc n) m less able unmoved =
       let is = all_skipped n m (omega arith) able in
       let more : List Level = levels ++ replicate n level in
-      let g : History = history_of setup more in
-      let x : Seen = seen_next (history_of setup levels) level in
-      let same : seen_next g level ≡ x = seen_same g (history_of setup levels) level is.past is.drive in
+      let g : History = staying_history setup more in
+      let x : Seen = seen_next (staying_history setup levels) level in
+      let same : seen_next g level ≡ x = seen_same g (staying_history setup levels) level is.past is.drive in
       let none : sync_of setup.segments g.seen (seen_next g level) ≡ None =
       ap₂ (λ (s : List Seen) (y : Seen). sync_of setup.segments s y) is.seen same ∙ unmoved n (omega arith) in
-      ap (syncs_of setup) (snoc levels level n) ∙ syncs_more setup more level
-      ∙ ap (λ (o : Option Sync). with_next (syncs_of setup more) (option_map (λ sync. noted (length g.seen) (length g.samples) (sync_event sync)) o)) none
+      ap (staying_syncs setup) (snoc levels level n) ∙ syncs_more setup more level
+      ∙ ap (λ (o : Option Sync). with_next (staying_syncs setup more) (option_map (λ sync. noted (length g.seen) (length g.samples) (sync_event sync)) o)) none
       ∙ none_synced n m (omega arith) able unmoved

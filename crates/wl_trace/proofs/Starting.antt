@@ -3,26 +3,26 @@ use Rattle.std.proofs.Common.{◌≡◌, ◌∙◌, refl, ap, ℕ, List, [], ◌
 use Rattle.std.proofs.lemmas.List.Sums.{fold-append}
 use Rattle.wl_level.specs.declared.Level.{Level}
 use Rattle.wl_node.specs.declared.setup.NodeSetup.{NodeSetup}
-use Rattle.wl_node.specs.History.{History, no_history, history_of, history_after}
-use Rattle.wl_trace.specs.Starts.{starts_next, starts_of, started_after, with_start}
+use Rattle.wl_node.specs.History.{History, no_history, staying_history, history_after}
+use Rattle.wl_trace.specs.Starts.{starts_next, staying_starts, started_after, with_start}
 
 module _ (setup : NodeSetup) where
   fold_first : (levels : List Level) (h : History) (qs : List ℕ) → (fold (started_after setup) (h, qs) levels).0 ≡ fold (history_after setup) h levels
   fold_first [] h qs = refl
   fold_first (level ∷ levels) h qs = fold_first levels (history_after setup h level) (with_start qs (length h.seen) (starts_next setup h level))
 
-  pub history_first : history_of setup [] ≡ no_history
-  unfolding history_of
+  pub history_first : staying_history setup [] ≡ no_history
+  unfolding staying_history
   history_first = refl
 
-  pub starts_first : starts_of setup [] ≡ []
-  unfolding starts_of
+  pub starts_first : staying_starts setup [] ≡ []
+  unfolding staying_starts
   starts_first = refl
 
   pub starts_more : (levels : List Level) (level : Level)
-      → starts_of setup (levels ++ level ∷ [])
-      ≡ with_start (starts_of setup levels) (length (history_of setup levels).seen) (starts_next setup (history_of setup levels) level)
-  unfolding starts_of history_of
+      → staying_starts setup (levels ++ level ∷ [])
+      ≡ with_start (staying_starts setup levels) (length (staying_history setup levels).seen) (starts_next setup (staying_history setup levels) level)
+  unfolding staying_starts staying_history
   starts_more levels level =
       ap (λ (r : History × List ℕ). r.1) (fold-append (started_after setup) (no_history, []) levels (level ∷ []))
       ∙ ap (λ (h : History). with_start (fold (started_after setup) (no_history, []) levels).1 (length h.seen) (starts_next setup h level)) (fold_first levels no_history [])

@@ -11,11 +11,11 @@ use Rattle.wl_sync.specs.declared.Sync.{Sync}
 use Rattle.wl_sync.specs.declared.Sync.TheVariants.{Hard, Error}
 use Rattle.wl_sync.specs.Bits.{sync_of}
 use Rattle.wl_node.specs.declared.setup.NodeSetup.{NodeSetup}
-use Rattle.wl_node.specs.History.{History, no_history, history_of, history_after, seen_next, syncs_at, is_hard, phase_of, hards_of, phases_of}
+use Rattle.wl_node.specs.History.{History, no_history, staying_history, history_after, seen_next, syncs_at, is_hard, phase_of, hards_of, phases_of}
 use Rattle.wl_trace.specs.declared.event.NodeEvent.TheVariants as events
 use Rattle.wl_trace.specs.declared.event.Noted.{Noted}
 use Rattle.wl_trace.specs.Events.{noted}
-use Rattle.wl_trace.specs.Synced.{sync_event, sync_next, with_next, synced_after, syncs_of}
+use Rattle.wl_trace.specs.Synced.{sync_event, sync_next, with_next, synced_after, staying_syncs}
 use Rattle.wl_trace.specs.Laws.{tells_hard, told_phases}
 
 hards_in : List (ℕ × Sync) → ℕ
@@ -81,8 +81,8 @@ module _ (setup : NodeSetup) where
   synced_fold [] h es s = s
   synced_fold (level ∷ levels) h es s = synced_fold levels (history_after setup h level) (with_next es (sync_next setup h level)) (synced_next h es level s)
 
-  synced : (levels : List Level) → IsSynced (history_of setup levels) (syncs_of setup levels)
-  unfolding history_of syncs_of
+  synced : (levels : List Level) → IsSynced (staying_history setup levels) (staying_syncs setup levels)
+  unfolding staying_history staying_syncs
   synced levels = synced_fold levels no_history [] (record { hards = refl; phases = refl; quanta = All-nil (λ (e : Noted). e.quantum < 0) })
 
   seen_fold : (levels : List Level) (h : History) → length (fold (history_after setup) h levels).seen ≡ length h.seen + length levels
@@ -92,34 +92,34 @@ module _ (setup : NodeSetup) where
       ∙ (let e = one_more h level in let f : length (history_after setup h level).seen + length levels ≡ length h.seen + suc (length levels) = omega arith in f)
 
   -- each level was seen
-  pub all_seen : (levels : List Level) → length (history_of setup levels).seen ≡ length levels
-  unfolding history_of
+  pub all_seen : (levels : List Level) → length (staying_history setup levels).seen ≡ length levels
+  unfolding staying_history
   all_seen levels = seen_fold levels no_history ∙ zero-add (length levels)
 
-  pub history_more : (levels : List Level) (level : Level) → history_of setup (levels ++ level ∷ []) ≡ history_after setup (history_of setup levels) level
-  unfolding history_of
+  pub history_more : (levels : List Level) (level : Level) → staying_history setup (levels ++ level ∷ []) ≡ history_after setup (staying_history setup levels) level
+  unfolding staying_history
   history_more levels level = fold-append (history_after setup) no_history levels (level ∷ [])
 
   fold_first : (levels : List Level) (h : History) (es : List Noted) → (fold (synced_after setup) (h, es) levels).0 ≡ fold (history_after setup) h levels
   fold_first [] h es = refl
   fold_first (level ∷ levels) h es = fold_first levels (history_after setup h level) (with_next es (sync_next setup h level))
 
-  pub syncs_first : syncs_of setup [] ≡ []
-  unfolding syncs_of
+  pub syncs_first : staying_syncs setup [] ≡ []
+  unfolding staying_syncs
   syncs_first = refl
 
   pub syncs_more : (levels : List Level) (level : Level)
-      → syncs_of setup (levels ++ level ∷ []) ≡ with_next (syncs_of setup levels) (sync_next setup (history_of setup levels) level)
-  unfolding syncs_of history_of
+      → staying_syncs setup (levels ++ level ∷ []) ≡ with_next (staying_syncs setup levels) (sync_next setup (staying_history setup levels) level)
+  unfolding staying_syncs staying_history
   syncs_more levels level =
       ap (λ (r : History × List Noted). r.1) (fold-append (synced_after setup) (no_history, []) levels (level ∷ []))
       ∙ ap (λ (h : History). with_next (fold (synced_after setup) (no_history, []) levels).1 (sync_next setup h level)) (fold_first levels no_history [])
 
-pub hards_told : (setup : NodeSetup) (levels : List Level) → count_by tells_hard (syncs_of setup levels) ≡ hards_of (history_of setup levels)
+pub hards_told : (setup : NodeSetup) (levels : List Level) → count_by tells_hard (staying_syncs setup levels) ≡ hards_of (staying_history setup levels)
 hards_told setup levels = (synced setup levels).hards
 
-pub phases_told : (setup : NodeSetup) (levels : List Level) → flat_map told_phases (syncs_of setup levels) ≡ phases_of (history_of setup levels)
+pub phases_told : (setup : NodeSetup) (levels : List Level) → flat_map told_phases (staying_syncs setup levels) ≡ phases_of (staying_history setup levels)
 phases_told setup levels = (synced setup levels).phases
 
-pub sync_quanta_in_time : (setup : NodeSetup) (levels : List Level) → All (λ n. n.quantum < length levels) (syncs_of setup levels)
-sync_quanta_in_time setup levels = subst (λ n. All (λ (e : Noted). e.quantum < n) (syncs_of setup levels)) (all_seen setup levels) (synced setup levels).quanta
+pub sync_quanta_in_time : (setup : NodeSetup) (levels : List Level) → All (λ n. n.quantum < length levels) (staying_syncs setup levels)
+sync_quanta_in_time setup levels = subst (λ n. All (λ (e : Noted). e.quantum < n) (staying_syncs setup levels)) (all_seen setup levels) (synced setup levels).quanta

@@ -22,12 +22,12 @@ use Rattle.wl_machine.specs.Judged.{judged, stretch_of, role_of}
 use Rattle.wl_machine.specs.Roles.{loses}
 use Rattle.wl_node.specs.declared.setup.NodeSetup.{NodeSetup}
 use Rattle.wl_node.specs.declared.setup.Passed.{Passed}
-use Rattle.wl_node.specs.History.{History, no_history, history_of, history_after, by_beat, sampled_next, seen_next, passed_frames, error_count}
+use Rattle.wl_node.specs.History.{History, no_history, staying_history, history_after, by_beat, sampled_next, seen_next, passed_frames, error_count}
 use Rattle.wl_trace.specs.declared.event.NodeEvent.{NodeEvent}
 use Rattle.wl_trace.specs.declared.event.NodeEvent.TheVariants as events
 use Rattle.wl_trace.specs.declared.event.Noted.{Noted}
 use Rattle.wl_trace.specs.Places.{next_place}
-use Rattle.wl_trace.specs.Events.{lost_events, error_events, flag_in, flag_events, frame_events, is_same_mode, mode_events, judged_events, noted, sample_events, beat_events, events_at, traced_after, events_of}
+use Rattle.wl_trace.specs.Events.{lost_events, error_events, flag_in, flag_events, frame_events, is_same_mode, mode_events, judged_events, noted, sample_events, beat_events, events_at, traced_after, staying_events}
 use Rattle.wl_trace.specs.Laws.{tells_error, told_frames}
 
 -- a list of events tells so many errors, and these frames
@@ -152,12 +152,12 @@ module _ (setup : NodeSetup) where
   told_fold [] h es t = t
   told_fold (level ∷ levels) h es t = told_fold levels (history_after setup h level) (es ++ events_at setup h level) (told_after h es level t)
 
-  told : (levels : List Level) → IsTold (history_of setup levels) (events_of setup levels)
-  unfolding history_of events_of
+  told : (levels : List Level) → IsTold (staying_history setup levels) (staying_events setup levels)
+  unfolding staying_history staying_events
   told levels = told_fold levels no_history [] (record { errors = refl; frames = refl })
 
-pub errors_told : (setup : NodeSetup) (levels : List Level) → count_by tells_error (events_of setup levels) ≡ error_count (history_of setup levels)
+pub errors_told : (setup : NodeSetup) (levels : List Level) → count_by tells_error (staying_events setup levels) ≡ error_count (staying_history setup levels)
 errors_told setup levels = (told setup levels).errors
 
-pub frames_told : (setup : NodeSetup) (levels : List Level) → flat_map told_frames (events_of setup levels) ≡ (history_of setup levels).frames
+pub frames_told : (setup : NodeSetup) (levels : List Level) → flat_map told_frames (staying_events setup levels) ≡ (staying_history setup levels).frames
 frames_told setup levels = (told setup levels).frames

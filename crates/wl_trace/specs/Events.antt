@@ -21,7 +21,7 @@ use Rattle.wl_machine.specs.Frames.{stuffed_end}
 use Rattle.wl_machine.specs.Judged.{judged, stretch_of, role_of}
 use Rattle.wl_machine.specs.Roles.{loses}
 use Rattle.wl_node.specs.declared.setup.NodeSetup.{NodeSetup}
-use Rattle.wl_node.specs.History.{History, no_history, history_after, sampled_next, seen_next}
+use Rattle.wl_node.specs.History.{History, no_history, history_after, sampled_next, seen_next, levels_there}
 use Rattle.wl_trace.specs.declared.event.NodeEvent.{NodeEvent}
 use Rattle.wl_trace.specs.declared.event.NodeEvent.TheVariants as events
 use Rattle.wl_trace.specs.declared.event.FlagForm.{FlagForm}
@@ -120,6 +120,10 @@ events_at setup h level = beat_events setup h level (beat_of setup.segments h.se
 abbrev pub traced_after : NodeSetup → History × List Noted → Level → History × List Noted
 traced_after setup (h, before) level = (history_after setup h level, before ++ events_at setup h level)
 
--- the events of a node that saw these levels, the oldest first
-unfoldable pub events_of : NodeSetup → List Level → List Noted
-events_of setup levels = (fold (traced_after setup) (no_history, []) levels).1
+-- the events of a node that never leaves and saw these levels, the oldest first
+unfoldable pub staying_events : NodeSetup → List Level → List Noted
+staying_events setup levels = (fold (traced_after setup) (no_history, []) levels).1
+
+-- the events of a node that saw these levels, which may leave the bus: nothing happens after it has
+abbrev pub events_of : NodeSetup → List Level → List Noted
+events_of setup levels = staying_events setup (levels_there setup.until levels)

@@ -8,4 +8,5 @@ pub mod Notes
 pub mod States
 pub mod Starts
 pub mod Snapshot
+pub mod StayingRerun
 pub mod Rerun

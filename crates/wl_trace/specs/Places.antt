@@ -1,5 +1,5 @@
 -- The fields of a frame by places: which field, and which bit of it, a sample falls on (Bosch CAN 2.0 part B, section 3.2.1).
-use Rattle.std.specs.Prelude.{ℕ, ◌-◌, nat_lt, true, false, Bool, List, length, Option, Some, None, if◌then◌else◌}
+use Rattle.std.specs.Prelude.{ℕ, ◌-◌, false, Bool, List, length, Option, Some, None, if◌then◌else◌}
 use Rattle.wl_level.specs.declared.Level.{Level}
 use Rattle.wl_frame.specs.Stuffing.{is_stuff, destuffed_bits}
 use Rattle.wl_frame.specs.declared.field.FrameField.TheVariants.{FlagDelimiter}

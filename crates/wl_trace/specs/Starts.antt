@@ -6,7 +6,7 @@ use Rattle.wl_sync.specs.declared.Beat.{Beat}
 use Rattle.wl_sync.specs.declared.Beat.TheVariants as beats
 use Rattle.wl_sync.specs.Bits.{beat_of}
 use Rattle.wl_node.specs.declared.setup.NodeSetup.{NodeSetup}
-use Rattle.wl_node.specs.History.{History, no_history, history_after, seen_next}
+use Rattle.wl_node.specs.History.{History, no_history, history_after, seen_next, levels_there}
 
 abbrev pub is_start : Beat → Bool
 is_start beats.Start = true
@@ -25,6 +25,10 @@ with_start before quantum starts = before ++ (if starts then quantum ∷ [] else
 abbrev pub started_after : NodeSetup → History × List ℕ → Level → History × List ℕ
 started_after setup (h, before) level = (history_after setup h level, with_start before (length h.seen) (starts_next setup h level))
 
--- the quanta that begin a bit, of a node that saw these levels, the first one first
-unfoldable pub starts_of : NodeSetup → List Level → List ℕ
-starts_of setup levels = (fold (started_after setup) (no_history, []) levels).1
+-- the quanta that begin a bit, of a node that never leaves and saw these levels, the first one first
+unfoldable pub staying_starts : NodeSetup → List Level → List ℕ
+staying_starts setup levels = (fold (started_after setup) (no_history, []) levels).1
+
+-- the quanta that begin a bit, of a node that saw these levels, which may leave the bus
+abbrev pub starts_of : NodeSetup → List Level → List ℕ
+starts_of setup levels = staying_starts setup (levels_there setup.until levels)

@@ -5,7 +5,7 @@ use Rattle.wl_sync.specs.declared.Sync.{Sync}
 use Rattle.wl_sync.specs.declared.Sync.TheVariants.{Hard, Error}
 use Rattle.wl_sync.specs.Bits.{sync_of}
 use Rattle.wl_node.specs.declared.setup.NodeSetup.{NodeSetup}
-use Rattle.wl_node.specs.History.{History, no_history, history_after, seen_next}
+use Rattle.wl_node.specs.History.{History, no_history, history_after, seen_next, levels_there}
 use Rattle.wl_trace.specs.declared.event.NodeEvent.{NodeEvent}
 use Rattle.wl_trace.specs.declared.event.NodeEvent.TheVariants as events
 use Rattle.wl_trace.specs.declared.event.Noted.{Noted}
@@ -29,6 +29,10 @@ with_next before (Some next) = before ++ next ∷ []
 abbrev pub synced_after : NodeSetup → History × List Noted → Level → History × List Noted
 synced_after setup (h, before) level = (history_after setup h level, with_next before (sync_next setup h level))
 
--- the synchronisations of a node that saw these levels, the oldest first
-unfoldable pub syncs_of : NodeSetup → List Level → List Noted
-syncs_of setup levels = (fold (synced_after setup) (no_history, []) levels).1
+-- the synchronisations of a node that never leaves and saw these levels, the oldest first
+unfoldable pub staying_syncs : NodeSetup → List Level → List Noted
+staying_syncs setup levels = (fold (synced_after setup) (no_history, []) levels).1
+
+-- the synchronisations of a node that saw these levels, which may leave the bus: it looks no more after it has
+abbrev pub syncs_of : NodeSetup → List Level → List Noted
+syncs_of setup levels = staying_syncs setup (levels_there setup.until levels)

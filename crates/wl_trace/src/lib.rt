@@ -8,6 +8,7 @@ mod replay;
 mod rerun;
 mod sampled_node;
 mod snapshot;
+mod staying_rerun;
 mod stretch;
 
 pub use event::{FlagForm, NodeEvent, Noted};

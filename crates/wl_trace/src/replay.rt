@@ -1,5 +1,5 @@
 //! A node's machine and counters, run again over its samples.
-ghost use Rattle.std.specs.Prelude.{◌≡◌, ℕ, true, false, [], ◌+◌, ◌<◌, ◌≤◌, ◌^◌, ◌-◌, ◌++◌, OnOk, IfOk, List};
+ghost use Rattle.std.specs.Prelude.{◌≡◌, ℕ, true, false, [], ◌++◌, OnOk, IfOk, List};
 ghost use Rattle.wl_level.specs.declared.Level.{Level};
 ghost use Rattle.wl_machine.specs.Stretch.{Input};
 ghost use Rattle.wl_machine.specs.Judged.{stretch_of};
@@ -12,7 +12,7 @@ ghost use Rattle.wl_trace.specs.Replay.{IsReplay, SampledPast, no_past, past_aft
 
 use crate::event::Noted;
 use crate::notes::Notes;
-use crate::sampled_node::{SampledNode, goes_off, head_at};
+use crate::sampled_node::{SampledNode, goes_off};
 use crate::stretch::RunningStretch;
 use std::alloc::{AllocError, Global};
 use wl_confine::Mode;
@@ -28,14 +28,13 @@ pub(crate) struct Replay {
 
 impl Replay {
     /// Returns what is kept before the first sample.
-    pub(crate) fn new(alloc: Global) -> Replay
-        ensures past { IsReplay result no_past }
-        ensures sent { result.sampled_node.sent ≡ 0 }
+    pub(crate) fn new(alloc: Global, setup: &NodeSetup) -> Result<Replay, AllocError>
+        ensures { IfOk result (λ replay. IsReplay setup.now replay no_past) }
     {
-        Replay {
-            sampled_node: SampledNode::new(),
+        Ok(Replay {
+            sampled_node: SampledNode::new(alloc, setup)?,
             stretch: RunningStretch::new(alloc),
-        }
+        })
     }
 
     /// Takes the sample at which `notes` is, of this level.
@@ -45,12 +44,10 @@ impl Replay {
         level: Level,
         notes: &mut Notes,
     ) -> Result<(), AllocError>
-        requires { self.old.sampled_node.sent < 2 ^ 64 - 1 }
-        ensures past { (p : SampledPast) → IsReplay self.old p
-            → OnOk result (IsReplay self.new (past_after setup.now p (notes.old.quantum, level))) }
-        ensures notes { (p : SampledPast) → IsReplay self.old p
+        ensures past { (p : SampledPast) → IsReplay setup.now self.old p
+            → OnOk result (IsReplay setup.now self.new (past_after setup.now p (notes.old.quantum, level))) }
+        ensures notes { (p : SampledPast) → IsReplay setup.now self.old p
             → OnOk result (Adds notes.old notes.new (then_events setup.now p notes.old.quantum level)) }
-        ensures sent { self.new.sampled_node.sent ≤ self.old.sampled_node.sent + 1 }
     {
         if self.keep(level)? {
             return Ok(());
@@ -61,12 +58,11 @@ impl Replay {
     /// Takes a sample of this level if nothing comes of it but that the running stretch has it: nothing is noted then. Returns whether it did.
     fn keep(&mut self, level: Level) -> Result<bool, AllocError>
         ensures past { IfOk result (λ kept. kept ≡ true → (setup : NodeSetup) (p : SampledPast) (quantum : ℕ)
-            → IsReplay self.old p → IsReplay self.new (past_after setup p (quantum, level))) }
+            → IsReplay setup self.old p → IsReplay setup self.new (past_after setup p (quantum, level))) }
         ensures none { IfOk result (λ kept. kept ≡ true → (setup : NodeSetup) (p : SampledPast) (quantum : ℕ)
-            → IsReplay self.old p → then_events setup p quantum level ≡ []) }
-        ensures same { IfOk result (λ kept. kept ≡ false → (p : SampledPast)
-            → IsReplay self.old p → IsReplay self.new p) }
-        ensures sent { self.new.sampled_node.sent ≡ self.old.sampled_node.sent }
+            → IsReplay setup self.old p → then_events setup p quantum level ≡ []) }
+        ensures same { IfOk result (λ kept. kept ≡ false → (setup : NodeSetup) (p : SampledPast)
+            → IsReplay setup self.old p → IsReplay setup self.new p) }
     {
         if !self.sampled_node.keep(level) {
             return Ok(false);
@@ -82,20 +78,19 @@ impl Replay {
         level: Level,
         notes: &mut Notes,
     ) -> Result<(), AllocError>
-        requires { self.old.sampled_node.sent < 2 ^ 64 - 1 }
-        ensures past { (p : SampledPast) → IsReplay self.old p
-            → OnOk result (IsReplay self.new (past_after setup.now p (notes.old.quantum, level))) }
-        ensures notes { (p : SampledPast) → IsReplay self.old p
+        ensures past { (p : SampledPast) → IsReplay setup.now self.old p
+            → OnOk result (IsReplay setup.now self.new (past_after setup.now p (notes.old.quantum, level))) }
+        ensures notes { (p : SampledPast) → IsReplay setup.now self.old p
             → OnOk result (Adds notes.old notes.new (then_events setup.now p notes.old.quantum level)) }
-        ensures sent { self.new.sampled_node.sent ≤ self.old.sampled_node.sent + 1 }
     {
         wl_machine::laws::a_sent_frame_is_the_head_that_began_its_stretch();
         let old = self.sampled_node.counters;
         let mode = old.mode();
-        let head = head_at(setup, self.sampled_node.sent, notes.quantum, level);
-        let turn = self.sampled_node.sample(level, head);
+        let head = self.sampled_node.next_head(setup, notes.quantum, level);
+        let given = head.as_ref();
+        let turn = self.sampled_node.sample(setup, level, given);
         let new = self.sampled_node.counters;
-        let next = self.stretch.next(level, head, mode, turn.happened);
+        let next = self.stretch.next(level, given, mode, turn.happened);
         notes.push_sample(
             &self.stretch,
             level,
@@ -131,7 +126,7 @@ pub fn node_events(
     ensures { IfOk result (λ events. (levels : List Level) → samples.now ≡ (history_of setup.now levels).samples
         → events.items ≡ events_of setup.now levels) }
 {
-    let mut replay = Replay::new(alloc);
+    let mut replay = Replay::new(alloc, setup)?;
     let mut notes = Notes {
         quantum: 0,
         bit: 0,

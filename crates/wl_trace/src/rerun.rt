@@ -1,101 +1,61 @@
-//! A node that runs again over the levels that it saw, quantum by quantum.
-ghost use Rattle.std.specs.Prelude.{◌≡◌, ℕ, ◌+◌, ◌-◌, ◌<◌, ◌≤◌, ◌^◌, ◌++◌, [], ◌∷◌, List, OnOk, IfOk, length, min, option_map, replicate};
+//! A node that runs again over the levels that it saw, quantum by quantum, and that may leave the bus.
+ghost use Rattle.std.specs.Prelude.{◌≡◌, ℕ, ◌+◌, ◌-◌, ◌<◌, ◌≤◌, ◌^◌, ◌++◌, [], ◌∷◌, List, OnOk, IfOk, length, replicate, true};
 ghost use Rattle.wl_level.specs.declared.Level.{Level};
 ghost use Rattle.wl_node.specs.declared.setup.NodeSetup.{NodeSetup};
-ghost use Rattle.wl_node.specs.History.{History, by_beat, history_after_sample, history_of};
-ghost use Rattle.wl_trace.specs.Events.{noted};
-ghost use Rattle.wl_trace.specs.Rerun.{IsRerun, RunsAgain, RunsOver, RunsTo, starts_with};
-ghost use Rattle.wl_trace.specs.Snapshot.{plain_quanta, snapshot_of};
-ghost use Rattle.wl_trace.specs.Synced.{sync_event, sync_next, syncs_of, with_next};
+ghost use Rattle.wl_node.specs.History.{is_after, quanta_before};
+ghost use Rattle.wl_trace.specs.Rerun.{IsRerun, RunsAgain, RunsOver, sync_at_next};
+ghost use Rattle.wl_trace.specs.declared.event.Noted.{Noted as GivenNoted};
+ghost use Rattle.wl_trace.specs.Snapshot.{snapshot_of};
+ghost use Rattle.wl_trace.specs.Synced.{syncs_of};
 
-use crate::event::{NodeEvent, Noted};
-use crate::sampled_node::SampledNode;
-use crate::snapshot::{NodeSnapshot, NodeState};
-use std::alloc::AllocError;
+use crate::event::Noted;
+use crate::snapshot::NodeSnapshot;
+use crate::staying_rerun::StayingRerun;
+use std::alloc::{AllocError, Global};
 use wl_level::Level;
-use wl_node::{NodeSetup, integrates};
-use wl_segments::Segments;
-use wl_sync::{Beat, BitClock, Seen, Sync};
+use wl_node::NodeSetup;
 
 /// A node that runs again over the levels that it saw, one for each quantum: its bit clock, its machine, counters and queue, and what it drives
-/// (Bosch CAN 2.0 part B, sections 3, 8 and 10). It knows no ticks. No call takes memory or is refused.
+/// (Bosch CAN 2.0 part B, sections 3, 8 and 10). It knows no ticks. Only its begin takes memory. From the quantum `until` of its setup on, if
+/// there is one, it has left the bus.
 #[derive(Drop)]
 pub struct Rerun {
-    pub(crate) clock: BitClock,
-    pub(crate) sampled_node: SampledNode,
-    pub(crate) drive: Level,
-    /// How many samples it has had.
-    pub(crate) bits: u64,
-    /// Turns at each sample.
-    pub(crate) sampled: bool,
-    /// Turns at each start of a bit.
-    pub(crate) started: bool,
+    pub(crate) staying: StayingRerun,
+    /// True if a quantum has come at which it had left.
+    pub(crate) left: bool,
 }
 
-/// Returns the event of an edge.
-fn sync_event(sync: Sync) -> NodeEvent
-    ensures { result ≡ sync_event sync }
+/// True if a node of this setup has left the bus at this quantum, or leaves with it.
+fn is_away(setup: &NodeSetup, quantum: u64) -> bool
+    ensures { result ≡ is_after setup.now.until quantum }
 {
-    match sync {
-        Sync::Hard => NodeEvent::HardSynchronised,
-        Sync::Error(error) => NodeEvent::Resynchronised(error),
+    match setup.until {
+        Some(until) => until <= quantum,
+        None => false,
     }
 }
 
-/// Returns how an edge that this quantum finds synchronises the node, after this many samples.
-fn noted_sync(quantum: u64, bit: u64, sync: Option<Sync>) -> Option<Noted>
-    ensures { result ≡ option_map (λ s. noted quantum bit (sync_event s)) sync }
+/// Returns how many of these quanta, from this one on, come before a node of this setup leaves the bus.
+fn quanta_there(setup: &NodeSetup, quantum: u64, most: u64) -> u64
+    ensures value { result ≡ quanta_before setup.now.until quantum most }
+    ensures most { result ≤ most }
 {
-    match sync {
-        Some(sync) => Some(Noted {
-            quantum,
-            bit,
-            event: sync_event(sync),
-        }),
-        None => None,
-    }
-}
-
-/// Adds an event at this quantum.
-fn push_noted(
-    events: &mut Vec<Noted>,
-    quantum: u64,
-    bit: u64,
-    event: NodeEvent,
-) -> Result<(), AllocError>
-    ensures { OnOk result (events.new.items ≡ events.old.items ++ noted quantum bit event ∷ []) }
-{
-    events.push(Noted {
-        quantum,
-        bit,
-        event,
-    })?;
-    Ok(())
-}
-
-/// Adds a synchronisation, if there is one.
-fn push_sync(syncs: &mut Vec<Noted>, sync: Option<Noted>) -> Result<(), AllocError>
-    ensures { OnOk result (syncs.new.items ≡ with_next syncs.old.items sync) }
-{
-    match sync {
-        Some(one) => push_noted(syncs, one.quantum, one.bit, one.event),
-        None => Ok(()),
+    match setup.until {
+        Some(until) => most.min(until.saturating_sub(quantum)),
+        None => most,
     }
 }
 
 impl Rerun {
-    /// Returns a node of these segments before its first quantum: it drives recessive.
-    pub fn new(segments: Segments) -> Rerun
-        ensures { (setup : NodeSetup) → setup.segments ≡ segments → IsRerun setup [] result }
+    /// Returns a node of this setup before its first quantum: it drives recessive. Refused only if memory runs out.
+    pub fn new(alloc: Global, setup: &NodeSetup) -> Result<Rerun, AllocError>
+        ensures node { IfOk result (λ kept. IsRerun setup.now [] kept) }
+        ensures runs { IfOk result (λ kept. RunsAgain setup.now [] kept) }
     {
-        Rerun {
-            clock: BitClock::new(segments),
-            sampled_node: SampledNode::new(),
-            drive: Level::Recessive,
-            bits: 0,
-            sampled: false,
-            started: false,
-        }
+        Ok(Rerun {
+            staying: StayingRerun::new(alloc, setup)?,
+            left: false,
+        })
     }
 
     /// Returns what a waveform shows of it after the quanta that it has seen.
@@ -103,18 +63,14 @@ impl Rerun {
         ensures { (setup : NodeSetup) (levels : List Level) → IsRerun setup levels self.now
             → result ≡ snapshot_of setup levels }
     {
-        let kept = &self.sampled_node;
-        NodeSnapshot {
-            drive: self.drive,
-            sampled: self.sampled,
-            started: self.started,
-            state: NodeState {
-                tec: kept.counters.tec(),
-                rec: kept.counters.rec(),
-                mode: kept.counters.mode(),
-                doing: kept.machine.doing(),
-            },
+        let shown = self.staying.snapshot();
+        if self.left {
+            return NodeSnapshot {
+                drive: Level::Recessive,
+                ..shown
+            };
         }
+        shown
     }
 
     /// Runs its next quantum, which has this number, counted from 0, and at which it sees this level; `setup` is what it was made of.
@@ -122,98 +78,33 @@ impl Rerun {
     pub fn quantum(&mut self, setup: &NodeSetup, quantum: u64, level: Level) -> Option<Noted>
         requires few { quantum < 2 ^ 64 - 1 }
         ensures sync { (levels : List Level) → length levels ≡ quantum
-            → RunsAgain setup.now levels self.old → result ≡ sync_next setup.now (history_of setup.now levels) level }
-        ensures running { (levels : List Level) → length levels ≡ quantum
-            → RunsAgain setup.now levels self.old → RunsAgain setup.now (levels ++ level ∷ []) self.new }
+            → IsRerun setup.now levels self.old → result ≡ sync_at_next setup.now levels level }
         ensures run { (levels : List Level) → length levels ≡ quantum
             → IsRerun setup.now levels self.old → IsRerun setup.now (levels ++ level ∷ []) self.new }
     {
-        let bit = self.bits;
-        let idle = self.sampled_node.machine.idle();
-        let awaits = self.sampled_node.machine.awaits_start();
-        let integrates = integrates(&self.sampled_node.machine);
-        let driving = self.drive.is_dominant();
-        let (beat, sync) = self.clock.see(Seen {
-            level,
-            idle,
-            awaits,
-            integrates,
-            driving,
-        });
-        self.obey(setup, quantum, level, beat);
-        noted_sync(quantum, bit, sync)
-    }
-
-    /// Does what the quantum of this number does by its beat, if it is of this level.
-    fn obey(&mut self, setup: &NodeSetup, quantum: u64, level: Level, beat: Beat)
-        ensures run { (h : History) (starts : ℕ) → quantum ≡ length h.seen
-            → self.old.sampled_node.sent < 2 ^ 64 - 1 → self.old.bits < 2 ^ 64 - 1 → RunsTo self.old h starts
-            → RunsTo self.new (by_beat setup.now h level beat) (starts_with beat starts) }
-        ensures clock { self.new.clock ≡ self.old.clock }
-        ensures sent { self.new.sampled_node.sent ≤ self.old.sampled_node.sent + 1 }
-        ensures bits { self.new.bits ≤ self.old.bits + 1 }
-    {
-        match beat {
-            Beat::Plain => {}
-            Beat::Start => {
-                self.drive = self.sampled_node.pending;
-                self.started = !self.started;
-            }
-            Beat::Sample(_) => self.sample(setup, quantum, level),
+        if is_away(setup, quantum) {
+            self.left = true;
+            return None;
         }
-    }
-
-    /// Takes the sample of the quantum of this number, which has this level.
-    fn sample(&mut self, setup: &NodeSetup, quantum: u64, level: Level)
-        ensures run { (h : History) (starts : ℕ) → quantum ≡ length h.seen
-            → self.old.sampled_node.sent < 2 ^ 64 - 1 → self.old.bits < 2 ^ 64 - 1 → RunsTo self.old h starts
-            → RunsTo self.new (history_after_sample setup.now h level) starts }
-        ensures clock { self.new.clock ≡ self.old.clock }
-        ensures sent { self.new.sampled_node.sent ≤ self.old.sampled_node.sent + 1 }
-        ensures bits { self.new.bits ≤ self.old.bits + 1 }
-    {
-        self.sampled_node.sample_at(setup, quantum, level);
-        self.bits = self.bits.saturating_add(1);
-        self.sampled = !self.sampled;
+        self.staying.quantum(setup, quantum, level)
     }
 
     /// Goes over quanta of this level that neither sample nor begin a bit, so that nothing shown changes and no edge synchronises: all that
-    /// come, but at most 384, and at most `most`. Returns how many they were; 0 if the next one samples or begins a bit, or finds an edge.
-    pub fn pass(&mut self, level: Level, most: u64) -> u64
-        ensures quanta { (setup : NodeSetup) (levels : List Level) → IsRerun setup levels self.old
-            → result ≡ min most (plain_quanta setup levels level) }
-        ensures run { (setup : NodeSetup) (levels : List Level) → IsRerun setup levels self.old
-            → IsRerun setup (levels ++ replicate result level) self.new }
-        ensures same { (setup : NodeSetup) (levels : List Level) → IsRerun setup levels self.old
-            → (m : ℕ) → m ≤ result → snapshot_of setup (levels ++ replicate m level) ≡ snapshot_of setup levels }
-        ensures syncs { (setup : NodeSetup) (levels : List Level) → IsRerun setup levels self.old
-            → syncs_of setup (levels ++ replicate result level) ≡ syncs_of setup levels }
+    /// come, but at most 384 before it leaves the bus, and at most `most`. The first one has this number; `setup` is what it was made of.
+    /// Returns how many they were; 0 if the next one samples or begins a bit, or finds an edge, or if it leaves with that.
+    pub fn pass(&mut self, setup: &NodeSetup, quantum: u64, level: Level, most: u64) -> u64
+        ensures run { (levels : List Level) → length levels ≡ quantum → IsRerun setup.now levels self.old
+            → IsRerun setup.now (levels ++ replicate result level) self.new }
+        ensures same { (levels : List Level) → length levels ≡ quantum → IsRerun setup.now levels self.old
+            → (m : ℕ) → m ≤ result → snapshot_of setup.now (levels ++ replicate m level) ≡ snapshot_of setup.now levels }
+        ensures syncs { (levels : List Level) → length levels ≡ quantum → IsRerun setup.now levels self.old
+            → syncs_of setup.now (levels ++ replicate result level) ≡ syncs_of setup.now levels }
         ensures few { result ≤ most }
     {
-        let free = self.clock.free_quanta(level, false);
-        let quanta = most.min(free as u64);
-        if 0 < quanta {
-            self.clock.skip(level, quanta as u16);
+        if self.left {
+            return most;
         }
-        quanta
-    }
-
-    /// Goes over quanta of this level that don't sample and find no edge: all that come, but at most 384, and at most `most`. It stops before a
-    /// bit's start that changes what it drives. The mark of starts isn't kept. Returns how many they were.
-    fn skip(&mut self, level: Level, most: u64) -> u64
-        ensures running { (setup : NodeSetup) (levels : List Level) → RunsAgain setup levels self.old
-            → RunsAgain setup (levels ++ replicate result level) self.new }
-        ensures syncs { (setup : NodeSetup) (levels : List Level) → RunsAgain setup levels self.old
-            → syncs_of setup (levels ++ replicate result level) ≡ syncs_of setup levels }
-        ensures few { result ≤ most }
-    {
-        let settled = self.drive.is(self.sampled_node.pending);
-        let free = self.clock.free_quanta(level, settled);
-        let quanta = most.min(free as u64);
-        if 0 < quanta {
-            self.clock.skip(level, quanta as u16);
-        }
-        quanta
+        self.staying.pass(level, quanta_there(setup, quantum, most))
     }
 
     /// Runs this many quanta of this level, and adds how edges synchronise it to `syncs`. `quantum` is the number of the first, counted from
@@ -230,61 +121,41 @@ impl Rerun {
         ensures { OnOk result
             (RunsOver setup.now quantum most level self.old self.new syncs.old.items syncs.new.items) }
     {
-        let mut done = 0;
-        while done < most {
-            done += self.leap(setup, quantum + done, level, most - done, syncs)?;
-        }
+        let there = quanta_there(setup, quantum, most);
+        self.go_there(setup, quantum, level, there, syncs)?;
+        self.go_away(setup, quantum + there, level, most - there);
         Ok(())
     }
 
-    /// Runs the quanta of this level up to and including the next sample. It runs none if the sample comes later than `most` quanta, if an
-    /// edge comes up to it, or if a bit's start before it changes what the node drives. The mark of starts isn't kept. Returns how many.
-    fn sample_ahead(&mut self, setup: &NodeSetup, quantum: u64, level: Level, most: u64) -> u64
-        requires few { quantum + most < 2 ^ 64 }
-        ensures ran { (syncs : List Noted) → RunsOver setup.now quantum result level self.old self.new syncs syncs }
-        ensures none { result ≡ 0 → self.new ≡ self.old }
-        ensures few { result ≤ most }
-    {
-        if !self.drive.is(self.sampled_node.pending) {
-            return 0;
-        }
-        match self.clock.until_sample(level) {
-            Some(before) if (before as u64) < most => {
-                self.clock.sample(level);
-                self.sample(setup, quantum + before as u64, level);
-                before as u64 + 1
-            }
-            _ => 0,
-        }
-    }
-
-    /// Runs the quanta of this level up to and including a sample, or those that sample nothing and one more: at least one quantum, and at
-    /// most `most`. Returns how many.
-    fn leap(
+    /// Runs such quanta before it leaves the bus.
+    fn go_there(
         &mut self,
         setup: &NodeSetup,
         quantum: u64,
         level: Level,
         most: u64,
         syncs: &mut Vec<Noted>,
-    ) -> Result<u64, AllocError>
-        requires some { 0 < most }
+    ) -> Result<(), AllocError>
+        requires there { most ≤ quanta_before setup.now.until quantum most }
         requires few { quantum + most < 2 ^ 64 }
-        ensures ran { IfOk result (λ n.
-            RunsOver setup.now quantum n level self.old self.new syncs.old.items syncs.new.items) }
-        ensures some { IfOk result (λ n. 0 < n) }
-        ensures few { IfOk result (λ n. n ≤ most) }
+        ensures { OnOk result
+            (RunsOver setup.now quantum most level self.old self.new syncs.old.items syncs.new.items) }
     {
-        let sampled = self.sample_ahead(setup, quantum, level, most);
-        if 0 < sampled {
-            return Ok(sampled);
+        if most == 0 {
+            return Ok(());
         }
-        let passed = self.skip(level, most);
-        if passed == most {
-            return Ok(passed);
+        self.staying.go(setup, quantum, level, most, syncs)?;
+        Ok(())
+    }
+
+    /// Runs such quanta with the first of which it leaves the bus, or has left it.
+    fn go_away(&mut self, setup: &NodeSetup, quantum: u64, level: Level, most: u64)
+        requires { 0 < most → is_after setup.now.until quantum ≡ true }
+        ensures { (syncs : List GivenNoted) → RunsOver setup.now quantum most level self.old self.new syncs syncs }
+    {
+        if most == 0 {
+            return;
         }
-        let sync = self.quantum(setup, quantum + passed, level);
-        push_sync(syncs, sync)?;
-        Ok(passed + 1)
+        self.left = true;
     }
 }

@@ -3,6 +3,8 @@ use Rattle.std.proofs.lemmas.List.{take_all}
 use Rattle.wl_level.specs.declared.Level.{Level}
 use Rattle.wl_level.specs.declared.Level.TheVariants.{Dominant}
 use Rattle.wl_node.specs.declared.setup.NodeSetup.{NodeSetup}
+use Rattle.wl_node.specs.History.{levels_there}
+use Rattle.wl_node.proofs.Callers.{same_past}
 use Rattle.wl_trace.specs.declared.event.Noted.{Noted}
 use Rattle.wl_trace.specs.Replay.{IsReplay, SampledPast}
 use Rattle.wl_trace.proofs.Replayed.{replay_of, replay_first, events_replayed, past_more, events_more, count_more}
@@ -12,10 +14,9 @@ pub loop-bit-init : goal.loop-bit-init
 loop-bit-init c =
     let first = sym (replay_first c.args.setup.now) in
     record {
-      past = subst (λ (r : SampledPast × List Noted). IsReplay c.new-replay.result r.0) first c.new-replay.ensures.past;
-      events = c.new.ensures.items ∙ ap (λ (r : SampledPast × List Noted). r.1) first;
+      past = subst (λ (r : SampledPast × List Noted). IsReplay c.args.setup.now c.in_ok-replay.replay r.0) first c.in_ok-replay.ensures;
+      events = c.new-2.ensures.items ∙ ap (λ (r : SampledPast × List Noted). r.1) first;
       counted = ap (λ (r : SampledPast × List Noted). length r.0.samples) (sym first);
-      sent = omega (arith, c.new-replay.ensures.sent);
     }
 
 pub loop-bit-preserved : goal.loop-bit-preserved
@@ -31,7 +32,6 @@ loop-bit-preserved c =
           events_more setup samples bit d c.loop-bit-test.true _ c.sample.new.notes refl refl c.loop-bit.invariant.events c.loop-bit.invariant.counted
           (c.in_ok-sample.ensures.notes p c.loop-bit.invariant.past);
       counted = count_more setup samples bit d c.loop-bit-test.true c.loop-bit.invariant.counted;
-      sent = omega (arith, c.in_ok-sample.ensures.sent, c.loop-bit.invariant.sent);
     }
 
 pub returns : goal.returns
@@ -39,5 +39,5 @@ returns c levels e =
     let setup : NodeSetup = c.args.setup.now in
     let samples : List (ℕ × Level) = c.args.samples.now in
     c.loop-bit.invariant.events
-    ∙ ap (λ (xs : List (ℕ × Level)). (replay_of setup xs).1) (take_all c.loop-bit.bit samples (omega (arith, c.loop-bit-test.false)) ∙ e)
-    ∙ events_replayed setup levels
+    ∙ ap (λ (xs : List (ℕ × Level)). (replay_of setup xs).1) (take_all c.loop-bit.bit samples (omega (arith, c.loop-bit-test.false)) ∙ (e ∙ (same_past setup levels).samples))
+    ∙ events_replayed setup (levels_there setup.until levels)

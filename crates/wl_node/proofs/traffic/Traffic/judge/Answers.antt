@@ -20,7 +20,7 @@ use Rattle.wl_node.specs.History.{History, handed, head_at_next, sampled_next, h
 use Rattle.wl_node.specs.Deciding.{looks_at_head}
 use Rattle.wl_node.specs.Kept.{IsTraffic}
 use Rattle.wl_node.specs.Unsent.{IsChosen, IsUnsent}
-use Rattle.wl_node.proofs.Deciding.{unlooked}
+use Rattle.wl_node.proofs.Deciding.{same_judged, same_stretch}
 use Rattle.wl_node.proofs.Sends.{sends_next}
 use Rattle.wl_node.proofs.Unsents.{count_append}
 use Rattle.wl_node.proofs.traffic.Traffic.judge.Goals as goal
@@ -51,27 +51,6 @@ restretched setup kept h inputs same is = record {
   frames = is.frames;
   sends = λ frame e. is.sends frame (ap (λ s. head_of s.sort) same ∙ e);
 }
-
--- a sample by which the machine does the same leaves it at the same, also if it is switched off then
-same_stretch : (past : List Input) (x y : Sampled) (off : List Input) → x.level ≡ y.level → judged (stretch_of past) x ≡ judged (stretch_of past) y
-    → stretch_of ((past ++ Sample x ∷ []) ++ off) ≡ stretch_of ((past ++ Sample y ∷ []) ++ off)
-same_stretch past x y off level same =
-    fold-append stretch_after _ (past ++ Sample x ∷ []) off
-    ∙ ap (λ s. fold stretch_after s off)
-    (stretch_next past (Sample x)
-    ∙ ap (λ j. or_next j.next (record { sort = (stretch_of past).sort; own = (stretch_of past).own ++ x.level ∷ [] })) same
-    ∙ ap (λ l. or_next (judged (stretch_of past) y).next (record { sort = (stretch_of past).sort; own = (stretch_of past).own ++ l ∷ [] })) level
-    ∙ sym (stretch_next past (Sample y)))
-    ∙ sym (fold-append stretch_after _ (past ++ Sample y ∷ []) off)
-
--- what a sample does where the machine looks at the head that it is handed, and where it doesn't
-same_judged : (s : Stretch) (level : Level) (a b : Option Content) (mode : Mode) → (looks_at_head (doing_of s) ≡ true → a ≡ b) → (looks_at_head (doing_of s) ≡ false → a ≡ None)
-    → judged s (sample_of level a mode) ≡ judged s (sample_of level b mode)
-same_judged s level a b mode handed none = by (looks_at_head (doing_of s)) refl
-  where
-    by : (t : Bool) → looks_at_head (doing_of s) ≡ t → judged s (sample_of level a mode) ≡ judged s (sample_of level b mode)
-    by true e = ap (λ o. judged s (sample_of level o mode)) (handed e)
-    by false e = unlooked level a b mode s.sort s.own e
 
 pub returns-clause-traffic : goal.returns-clause-traffic
 returns-clause-traffic c h n was =

@@ -28,7 +28,7 @@ returns-clause-past c e setup p quantum r =
 pub returns-clause-none : goal.returns-clause-none
 returns-clause-none c e setup p quantum r =
     nothing_noted setup p quantum c.args.level
-    (c.keep.ensures.judged c.if-not-keep.false setup p quantum r.sampled_node) (c.keep.ensures.lost c.if-not-keep.false p r.sampled_node)
+    (c.keep.ensures.judged c.if-not-keep.false setup p quantum r.sampled_node) (c.keep.ensures.lost c.if-not-keep.false setup p r.sampled_node)
 
 pub returns-then-not-keep-clause-same : goal.returns-then-not-keep-clause-same
-returns-then-not-keep-clause-same c e p r = record { sampled_node = c.keep.ensures.same c.if-not-keep.true p r.sampled_node; stretch = r.stretch }
+returns-then-not-keep-clause-same c e setup p r = record { sampled_node = c.keep.ensures.same c.if-not-keep.true setup p r.sampled_node; stretch = r.stretch }

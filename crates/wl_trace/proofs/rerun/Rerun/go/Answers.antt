@@ -1,23 +1,26 @@
-use Rattle.std.proofs.Common.{◌≡◌, ℕ, subst, arith}
+use Rattle.std.proofs.Common.{◌≡◌, ◌∙◌, ◌+◌, ◌-◌, ◌≤◌, sym, ap, subst, arith}
+use Rattle.wl_node.specs.History.{is_after, quanta_before}
 use Rattle.wl_trace.specs.Rerun.{RunsOver}
-use Rattle.wl_trace.proofs.RunOver.{over_more, over_none}
+use Rattle.wl_trace.proofs.Leaving.{away_then, over_more, there_few}
 use Rattle.wl_trace.proofs.rerun.Rerun.go.Goals as goal
 
-pub loop-done-init : goal.loop-done-init
-loop-done-init c = record {
-  ran = over_none c.args.setup.now c.args.quantum c.args.level c.args.self.now c.args.syncs.now.items;
-  few = omega arith;
+pub go_there-requires : goal.go_there-requires
+go_there-requires c = record {
+  there =
+      (let f = there_few c.args.setup.now.until c.args.quantum c.args.most in
+      subst (λ n. n ≤ quanta_before c.args.setup.now.until c.args.quantum n) (sym c.quanta_there-there.ensures.value) f);
+  few = (let f = c.requires.few in let m = c.quanta_there-there.ensures.most in omega (arith, f, m));
 }
 
-pub loop-done-preserved : goal.loop-done-preserved
-loop-done-preserved c = record {
-  ran = over_more c.args.setup.now c.args.quantum c.loop-done.done c.in_ok-done.field-0 c.args.level c.args.self.now c.loop-done.self c.leap.new.self
-      c.args.syncs.now.items c.loop-done.syncs.items c.leap.new.syncs.items c.loop-done.invariant.ran c.in_ok-done.ensures.ran;
-  few = omega (arith, c.in_ok-done.ensures.few);
-}
+pub go_away-requires : goal.go_away-requires
+go_away-requires c some =
+    (let v = c.quanta_there-there.ensures.value in
+    ap (λ n. is_after c.args.setup.now.until (c.args.quantum + n)) v ∙ away_then c.args.setup.now.until c.args.quantum c.args.most (omega (arith, some, v)))
 
 pub returns : goal.returns
 returns c =
-    let e : c.loop-done.done ≡ c.args.most = omega (arith, c.loop-done-test.false, c.loop-done.invariant.few) in
-    subst (λ (n : ℕ). RunsOver c.args.setup.now c.args.quantum n c.args.level c.args.self.now c.loop-done.self c.args.syncs.now.items c.loop-done.syncs.items) e
-    c.loop-done.invariant.ran
+    (let there = c.quanta_there-there.result in
+    let all : there + (c.args.most - there) ≡ c.args.most = (let m = c.quanta_there-there.ensures.most in omega (arith, m)) in
+    subst (λ n. RunsOver c.args.setup.now c.args.quantum n c.args.level c.args.self.now c.go_away.new.self c.args.syncs.now.items c.go_there.new.syncs.items) all
+    (over_more c.args.setup.now c.args.quantum there (c.args.most - there) c.args.level c.args.self.now c.go_there.new.self c.go_away.new.self
+    c.args.syncs.now.items c.go_there.new.syncs.items c.go_there.new.syncs.items c.in_ok-go_there.ensures (c.go_away.ensures c.go_there.new.syncs.items)))

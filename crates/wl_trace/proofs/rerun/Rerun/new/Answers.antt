@@ -1,25 +1,25 @@
-use Rattle.std.proofs.Common.{◌∙◌, refl, sym, ap, subst, arith, ℕ, false, List, [], length}
-use Rattle.wl_segments.specs.Lengths.{Lengths}
-use Rattle.wl_sync.specs.Running.{clock_after}
-use Rattle.wl_node.specs.History.{History, no_history}
-use Rattle.wl_level.specs.declared.Level.TheVariants.{Recessive}
-use Rattle.wl_trace.specs.declared.rerun.Rerun.{Rerun}
-use Rattle.wl_trace.specs.Rerun.{RunsTo}
-use Rattle.wl_trace.specs.Starts.{starts_of}
-use Rattle.wl_trace.proofs.Starting.{history_first, starts_first}
+use Rattle.std.proofs.Common.{[], length, sym, ap, subst}
+use Rattle.wl_node.proofs.Callers.{none_yet, not_left_is}
+use Rattle.wl_trace.specs.StayingRerun.{IsStayingRerun, RunsStaying}
+use Rattle.wl_trace.specs.Starts.{staying_starts}
 use Rattle.wl_trace.proofs.rerun.Rerun.new.Goals as goal
 
-pub returns : goal.returns
-returns c setup e =
-    let kept : Rerun = record { clock = c.new.result; sampled_node = c.new-2.result; drive = Recessive; bits = 0; sampled = false; started = false } in
+pub returns-clause-node : goal.returns-clause-node
+returns-clause-node c =
+    (let setup = c.args.setup.now in
+    let yet = none_yet setup.until in
     record {
-      clock =
-          c.new.ensures ∙ ap (λ (l : Lengths). clock_after l []) (sym e)
-          ∙ ap (λ (h : History). clock_after setup.segments h.seen) (sym (history_first setup));
-      run =
-          subst (λ (h : History). RunsTo kept h (length (starts_of setup []))) (sym (history_first setup))
-          (subst (λ (qs : List ℕ). RunsTo kept no_history (length qs)) (sym (starts_first setup))
-          (record { sampled_node = c.new-2.ensures.past; drive = refl; bits = refl; sampled = refl; started = refl }));
-      few = omega (arith, c.new-2.ensures.sent);
-      fewer = omega arith;
-    }
+      stayed = subst (λ ls. IsStayingRerun setup ls c.in_ok-new.field-0) (sym yet.there) c.in_ok-new.ensures;
+      left = sym (not_left_is setup.until [] (ap length yet.away));
+    })
+
+pub returns-clause-runs : goal.returns-clause-runs
+returns-clause-runs c =
+    (let setup = c.args.setup.now in
+    let yet = none_yet setup.until in
+    let is = c.in_ok-new.ensures in
+    let runs : RunsStaying setup [] c.in_ok-new.field-0 = record { starts = length (staying_starts setup []); clock = is.clock; run = is.run; fewer = is.fewer } in
+    record {
+      stayed = subst (λ ls. RunsStaying setup ls c.in_ok-new.field-0) (sym yet.there) runs;
+      left = sym (not_left_is setup.until [] (ap length yet.away));
+    })

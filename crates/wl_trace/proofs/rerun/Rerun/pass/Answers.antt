@@ -1,73 +1,47 @@
--- Quanta passed over are plain ones.
-use Rattle.std.proofs.Common.{◌≡◌, ◌∙◌, ◌≤◌, ◌++◌, refl, sym, ap, subst, arith, ℕ, false, List, length, replicate, append-nil, length-append}
-use Rattle.wl_level.specs.declared.Level.{Level}
-use Rattle.wl_sync.specs.declared.Seen.{Seen}
-use Rattle.wl_sync.specs.Running.{clock_after}
-use Rattle.wl_sync.specs.Skips.{IsPlain, free_quanta}
-use Rattle.wl_node.specs.History.{History, history_of, seen_next}
-use Rattle.wl_trace.specs.Replay.{IsSampledNode, SampledPast}
-use Rattle.wl_trace.specs.Rerun.{IsRerun}
-use Rattle.wl_trace.specs.Snapshot.{mark, snapshot_of}
-use Rattle.wl_trace.specs.Synced.{syncs_of}
-use Rattle.wl_trace.proofs.Passing.{all_passed, plain_skippable, shown_same}
-use Rattle.wl_trace.proofs.Skipping.{none_synced}
+use Rattle.std.proofs.Common.{◌∙◌, ◌++◌, length, replicate, refl, sym, ap, subst, arith}
+use Rattle.wl_level.specs.declared.Level.TheVariants.{Recessive}
+use Rattle.wl_node.specs.History.{levels_there, levels_away, quanta_before}
+use Rattle.wl_node.proofs.Callers.{have_left, left_is}
+use Rattle.wl_trace.specs.StayingRerun.{IsStayingRerun}
+use Rattle.std.proofs.lemmas.Bool.{ltb-true}
+use Rattle.wl_trace.specs.Snapshot.{staying_snapshot}
+use Rattle.wl_trace.specs.Synced.{staying_syncs}
+use Rattle.wl_trace.proofs.Leaving.{away_there, left_after, not_away, shown_away, shown_there, there_left, there_on}
 use Rattle.wl_trace.proofs.rerun.Rerun.pass.Goals as goal
 
-pub returns-then-quanta-gt0-clause-run : goal.returns-then-quanta-gt0-clause-run
-returns-then-quanta-gt0-clause-run c setup levels r =
-    let level : Level = c.args.level in
-    let n : ℕ = c.min-quanta.result in
-    let h : History = history_of setup levels in
-    let x : Seen = seen_next h level in
-    let few : n ≤ free_quanta false c.args.self.now.clock level = omega (arith, c.min-quanta.ensures, c.free_quanta-free.ensures) in
-    let plain : IsPlain setup.segments h.seen x n = c.skip.ensures.plain few setup.segments h.seen r.clock x refl in
-    let is = all_passed setup levels level n n (omega arith) plain in
-    let long = length-append levels (replicate n level) in
-    let sent = r.few in
-    let bits = r.fewer in
+pub returns-then-self-clause-same : goal.returns-then-self-clause-same
+returns-then-self-clause-same c levels long is m less =
+    (let setup = c.args.setup.now in
+    let left = sym is.left ∙ c.if-self.true in
+    let have = have_left setup.until levels (replicate m c.args.level) (length (levels_there setup.until levels)) refl (away_there setup.until levels ∙ left_after setup.until levels left) in
+    let some = ltb-true 0 (length (levels_away setup.until levels)) (sym (left_is setup.until levels) ∙ left) in
+    let a = have.away in
+    shown_away setup (levels ++ replicate m c.args.level) (omega (arith, a, some))
+    ∙ (ap (λ ls. record (staying_snapshot setup ls) { drive = Recessive }) have.there ∙ sym (shown_away setup levels some)))
+
+pub returns-clause-run : goal.returns-clause-run
+returns-clause-run c levels long is =
+    (let setup = c.args.setup.now in
+    let at = not_away setup.until levels (sym is.left ∙ c.if-self.false) in
+    let now = subst (λ ls. IsStayingRerun setup ls c.args.self.now.staying) at.there is.stayed in
+    let on = there_on setup.until levels c.args.level c.pass.result c.args.most at (omega (arith, c.pass.ensures.few, c.quanta_there.ensures.value, ap (λ q. quanta_before setup.until q c.args.most) long)) in
     record {
-      clock = c.skip.ensures.clock setup.segments h.seen r.clock x refl ∙ ap (clock_after setup.segments) (sym is.same.seen);
-      run = record {
-        sampled_node = subst (IsSampledNode c.args.self.now.sampled_node) (sym is.same.past) r.run.sampled_node;
-        drive = r.run.drive ∙ sym is.same.drive;
-        bits = r.run.bits ∙ ap (λ (p : SampledPast). length p.samples) (sym is.same.past);
-        sampled = r.run.sampled ∙ ap (λ (p : SampledPast). mark (length p.samples)) (sym is.same.past);
-        started = r.run.started ∙ ap (λ (qs : List ℕ). mark (length qs)) (sym is.starts);
-      };
-      few = omega arith;
-      fewer = omega arith;
-    }
+      stayed = subst (λ ls. IsStayingRerun setup ls c.pass.new.self) (sym on.there) (c.pass.ensures.run setup levels now);
+      left = is.left ∙ (there_left setup.until levels at ∙ sym (there_left setup.until (levels ++ replicate c.pass.result c.args.level) on));
+    })
 
-pub returns-then-quanta-gt0-clause-same : goal.returns-then-quanta-gt0-clause-same
-returns-then-quanta-gt0-clause-same c setup levels r m less =
-    let level : Level = c.args.level in
-    let n : ℕ = c.min-quanta.result in
-    let h : History = history_of setup levels in
-    let few : n ≤ free_quanta false c.args.self.now.clock level = omega (arith, c.min-quanta.ensures, c.free_quanta-free.ensures) in
-    let plain : IsPlain setup.segments h.seen (seen_next h level) n = c.skip.ensures.plain few setup.segments h.seen r.clock (seen_next h level) refl in
-    shown_same setup levels level m (all_passed setup levels level m n less plain)
+pub returns-clause-same : goal.returns-clause-same
+returns-clause-same c levels long is m less =
+    (let setup = c.args.setup.now in
+    let at = not_away setup.until levels (sym is.left ∙ c.if-self.false) in
+    let now = subst (λ ls. IsStayingRerun setup ls c.args.self.now.staying) at.there is.stayed in
+    let on = there_on setup.until levels c.args.level m c.args.most at (omega (arith, less, c.pass.ensures.few, c.quanta_there.ensures.value, ap (λ q. quanta_before setup.until q c.args.most) long)) in
+    shown_there setup (levels ++ replicate m c.args.level) on ∙ (c.pass.ensures.same setup levels now m less ∙ sym (shown_there setup levels at)))
 
-pub returns-else-quanta-gt0-clause-run : goal.returns-else-quanta-gt0-clause-run
-returns-else-quanta-gt0-clause-run c setup levels r =
-    let none : c.min-quanta.result ≡ 0 = omega (arith, c.if-quanta-gt0.false) in
-    subst (λ (k : ℕ). IsRerun setup (levels ++ replicate k c.args.level) c.args.self.now) (sym none)
-    (subst (λ (ls : List Level). IsRerun setup ls c.args.self.now) (sym (append-nil levels)) r)
-
-pub returns-else-quanta-gt0-clause-same : goal.returns-else-quanta-gt0-clause-same
-returns-else-quanta-gt0-clause-same c setup levels r m less =
-    let none : m ≡ 0 = omega (arith, c.if-quanta-gt0.false, less) in
-    ap (λ (k : ℕ). snapshot_of setup (levels ++ replicate k c.args.level)) none ∙ ap (snapshot_of setup) (append-nil levels)
-
-pub returns-then-quanta-gt0-clause-syncs : goal.returns-then-quanta-gt0-clause-syncs
-returns-then-quanta-gt0-clause-syncs c setup levels r =
-    let level : Level = c.args.level in
-    let n : ℕ = c.min-quanta.result in
-    let h : History = history_of setup levels in
-    let few : n ≤ free_quanta false c.args.self.now.clock level = omega (arith, c.min-quanta.ensures, c.free_quanta-free.ensures) in
-    let plain : IsPlain setup.segments h.seen (seen_next h level) n = c.skip.ensures.plain few setup.segments h.seen r.clock (seen_next h level) refl in
-    none_synced setup levels level n n (omega arith) (plain_skippable setup h level n plain) (c.skip.ensures.unmoved setup.segments h.seen r.clock (seen_next h level) refl)
-
-pub returns-else-quanta-gt0-clause-syncs : goal.returns-else-quanta-gt0-clause-syncs
-returns-else-quanta-gt0-clause-syncs c setup levels r =
-    let none : c.min-quanta.result ≡ 0 = omega (arith, c.if-quanta-gt0.false) in
-    ap (λ (k : ℕ). syncs_of setup (levels ++ replicate k c.args.level)) none ∙ ap (syncs_of setup) (append-nil levels)
+pub returns-clause-syncs : goal.returns-clause-syncs
+returns-clause-syncs c levels long is =
+    (let setup = c.args.setup.now in
+    let at = not_away setup.until levels (sym is.left ∙ c.if-self.false) in
+    let now = subst (λ ls. IsStayingRerun setup ls c.args.self.now.staying) at.there is.stayed in
+    let on = there_on setup.until levels c.args.level c.pass.result c.args.most at (omega (arith, c.pass.ensures.few, c.quanta_there.ensures.value, ap (λ q. quanta_before setup.until q c.args.most) long)) in
+    ap (staying_syncs setup) on.there ∙ (c.pass.ensures.syncs setup levels now ∙ sym (ap (staying_syncs setup) at.there)))

@@ -1,89 +1,35 @@
--- What the bit clock is given is what it sees, and the beat is that of the history.
-use Rattle.std.proofs.Common.{◌≡◌, ◌∙◌, ◌+◌, ap, ap₂, sym, subst, arith, Option, ℕ, suc, List, [], ◌∷◌, ◌++◌, length, length-append, append-nil}
-use Rattle.wl_level.specs.declared.Level.{Level}
-use Rattle.wl_sync.specs.declared.Beat.{Beat}
-use Rattle.wl_sync.specs.declared.Beat.TheVariants as beats
-use Rattle.std.specs.Prelude.{option_map}
-use Rattle.wl_sync.specs.declared.Sync.{Sync}
-use Rattle.wl_sync.specs.declared.Seen.{Seen}
-use Rattle.wl_sync.specs.Bits.{beat_of, sync_of}
-use Rattle.wl_sync.specs.Running.{clock_after}
-use Rattle.wl_node.specs.declared.setup.NodeSetup.{NodeSetup}
-use Rattle.wl_node.specs.History.{History, by_beat, history_after, history_of, seen_next}
-use Rattle.wl_trace.specs.Events.{noted}
-use Rattle.wl_trace.specs.Synced.{sync_event}
-use Rattle.wl_trace.specs.Rerun.{RunsTo, starts_with}
-use Rattle.wl_trace.specs.Starts.{is_start, starts_of, with_start}
-use Rattle.wl_trace.proofs.Starting.{starts_more}
-use Rattle.wl_trace.proofs.Syncing.{all_seen, history_more}
+use Rattle.std.proofs.Common.{◌≡◌, ◌∙◌, false, cond, [], ◌∷◌, ◌++◌, length, None, refl, sym, ap, subst, arith}
+use Rattle.wl_node.specs.History.{levels_there, is_after, staying_history}
+use Rattle.wl_node.proofs.Callers.{next_there}
+use Rattle.wl_trace.specs.StayingRerun.{IsStayingRerun}
+use Rattle.wl_trace.specs.Synced.{sync_next}
+use Rattle.wl_trace.proofs.Leaving.{away_there, left_on, runs_on, there_left}
 use Rattle.wl_trace.proofs.rerun.Rerun.quantum.Goals as goal
-use Rattle.wl_node.proofs.Callers.{seen_is}
 
--- one start more, or none
-counted : (before : List ℕ) (quantum : ℕ) (beat : Beat) → length (with_start before quantum (is_start beat)) ≡ starts_with beat (length before)
-counted before quantum beats.Start = length-append before (quantum ∷ []) ∙ (let e : length before + 1 ≡ suc (length before) = omega arith in e)
-counted before quantum beats.Plain = ap length (append-nil before)
-counted before quantum (beats.Sample _) = ap length (append-nil before)
-
-pub returns-clause-running : goal.returns-clause-running
-returns-clause-running c levels n r =
-    let setup : NodeSetup = c.args.setup.now in
-    let level : Level = c.args.level in
-    let h : History = history_of setup levels in
-    let x : Seen = seen_next h level in
-    let told : Seen = record { level = level; idle = c.idle-idle.result; awaits = c.awaits_start-awaits.result; integrates = c.integrates-integrates.result; driving = c.is_dominant-driving.result } in
-    let e : told ≡ x = seen_is h level c.args.self.now.drive c.idle-idle.result c.awaits_start-awaits.result c.integrates-integrates.result c.is_dominant-driving.result (c.idle-idle.ensures h.inputs r.run.sampled_node.machine)
-    (c.awaits_start-awaits.ensures h.inputs r.run.sampled_node.machine) (c.integrates-integrates.ensures h.inputs r.run.sampled_node.machine) c.is_dominant-driving.ensures r.run.drive in
-    let beat : c.see-beat.result.0 ≡ beat_of setup.segments h.seen x = c.see-beat.ensures.beat setup.segments h.seen r.clock ∙ ap (beat_of setup.segments h.seen) e in
-    let long : length levels ≡ length h.seen = sym (all_seen setup levels) in
-    let bound = r.few in
-    let bits = r.fewer in
-    let few = c.requires.few in
-    let size = length-append levels (level ∷ []) in
-    let ran : RunsTo c.obey.new.self (by_beat setup h level c.see-beat.result.0) (starts_with c.see-beat.result.0 r.starts) =
-    c.obey.ensures.run h r.starts (sym n ∙ long) (omega arith) (omega arith) (record { sampled_node = r.run.sampled_node; drive = r.run.drive; bits = r.run.bits; sampled = r.run.sampled; started = r.run.started }) in
-    let so = subst (λ (b : Beat). RunsTo c.obey.new.self (by_beat setup h level b) (starts_with b r.starts)) beat ran in
-    let after : RunsTo c.obey.new.self (history_after setup h level) (starts_with (beat_of setup.segments h.seen x) r.starts) =
-    record { sampled_node = so.sampled_node; drive = so.drive; bits = so.bits; sampled = so.sampled; started = so.started } in
+pub returns-then-is_away-clause-run : goal.returns-then-is_away-clause-run
+returns-then-is_away-clause-run c levels long is =
+    (let setup = c.args.setup.now in
+    let left = left_on setup.until levels c.args.level 1 (ap (is_after setup.until) long ∙ (sym c.is_away.ensures ∙ c.if-is_away.true)) (omega arith) in
     record {
-      starts = starts_with (beat_of setup.segments h.seen x) r.starts;
-      clock =
-          c.obey.ensures.clock ∙ c.see-beat.ensures.clock setup.segments h.seen r.clock
-          ∙ ap (λ (y : Seen). clock_after setup.segments (h.seen ++ y ∷ [])) e
-          ∙ ap (λ (g : History). clock_after setup.segments g.seen) (sym (history_more setup levels level));
-      run = subst (λ (g : History). RunsTo c.obey.new.self g (starts_with (beat_of setup.segments h.seen x) r.starts)) (sym (history_more setup levels level)) after;
-      few = omega (arith, c.obey.ensures.sent);
-      fewer = omega (arith, c.obey.ensures.bits);
-    }
-
--- where the starts are those of the levels, so they are one quantum later
-pub returns-clause-run : goal.returns-clause-run
-unfolding history_of returns-clause-running
-returns-clause-run c levels n r =
-    let setup : NodeSetup = c.args.setup.now in
-    let level : Level = c.args.level in
-    let h : History = history_of setup levels in
-    let x : Seen = seen_next h level in
-    let on = returns-clause-running c levels n (record { starts = length (starts_of setup levels); clock = r.clock; run = r.run; few = r.few; fewer = r.fewer }) in
-    let begun : starts_with (beat_of setup.segments h.seen x) (length (starts_of setup levels)) ≡ length (starts_of setup (levels ++ level ∷ [])) =
-    sym (counted (starts_of setup levels) (length h.seen) (beat_of setup.segments h.seen x)) ∙ ap (λ (qs : List ℕ). length qs) (sym (starts_more setup levels level)) in
-    record {
-      clock = on.clock;
-      run = subst (λ (k : ℕ). RunsTo c.obey.new.self (history_of setup (levels ++ level ∷ [])) k) begun on.run;
-      few = on.few;
-      fewer = on.fewer;
-    }
+      stayed = subst (λ ls. IsStayingRerun setup ls c.args.self.now.staying) (sym left.0.there) is.stayed;
+      left = sym left.1;
+    })
 
 pub returns-clause-sync : goal.returns-clause-sync
-returns-clause-sync c levels n r =
-    let setup : NodeSetup = c.args.setup.now in
-    let level : Level = c.args.level in
-    let h : History = history_of setup levels in
-    let x : Seen = seen_next h level in
-    let told : Seen = record { level = level; idle = c.idle-idle.result; awaits = c.awaits_start-awaits.result; integrates = c.integrates-integrates.result; driving = c.is_dominant-driving.result } in
-    let e : told ≡ x = seen_is h level c.args.self.now.drive c.idle-idle.result c.awaits_start-awaits.result c.integrates-integrates.result c.is_dominant-driving.result (c.idle-idle.ensures h.inputs r.run.sampled_node.machine)
-    (c.awaits_start-awaits.ensures h.inputs r.run.sampled_node.machine) (c.integrates-integrates.ensures h.inputs r.run.sampled_node.machine) c.is_dominant-driving.ensures r.run.drive in
-    let sync : c.see-beat.result.1 ≡ sync_of setup.segments h.seen x = c.see-beat.ensures.sync setup.segments h.seen r.clock ∙ ap (sync_of setup.segments h.seen) e in
-    c.noted_sync.ensures
-    ∙ ap (λ (o : Option Sync). option_map (λ s. noted c.args.quantum c.args.self.now.bits (sync_event s)) o) sync
-    ∙ ap₂ (λ (q b : ℕ). option_map (λ s. noted q b (sync_event s)) (sync_of setup.segments h.seen x)) (sym n ∙ sym (all_seen setup levels)) r.run.bits
+returns-clause-sync c levels long is =
+    (let setup = c.args.setup.now in
+    let before : is_after setup.until (length levels) ≡ false = ap (is_after setup.until) long ∙ (sym c.is_away.ensures ∙ c.if-is_away.false) in
+    let both = next_there setup.until levels c.args.level (length (levels_there setup.until levels)) refl (away_there setup.until levels ∙ before) in
+    c.quantum.ensures.sync levels long (runs_on (subst (λ ls. IsStayingRerun setup ls c.args.self.now.staying) both.0.there is.stayed))
+    ∙ sym (ap (λ b. cond b None (sync_next setup (staying_history setup levels) c.args.level)) before))
+
+pub returns-clause-run : goal.returns-clause-run
+returns-clause-run c levels long is =
+    (let setup = c.args.setup.now in
+    let before : is_after setup.until (length levels) ≡ false = ap (is_after setup.until) long ∙ (sym c.is_away.ensures ∙ c.if-is_away.false) in
+    let both = next_there setup.until levels c.args.level (length (levels_there setup.until levels)) refl (away_there setup.until levels ∙ before) in
+    record {
+      stayed = subst (λ ls. IsStayingRerun setup ls c.quantum.new.self) (sym both.1.there)
+          (c.quantum.ensures.run levels long (subst (λ ls. IsStayingRerun setup ls c.args.self.now.staying) both.0.there is.stayed));
+      left = is.left ∙ (there_left setup.until levels both.0 ∙ sym (there_left setup.until (levels ++ c.args.level ∷ []) both.1));
+    })

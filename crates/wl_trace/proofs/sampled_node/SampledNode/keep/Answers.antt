@@ -13,7 +13,7 @@ returns-clause-past c e setup p quantum old =
       machine = c.keep.new.self;
       counters = c.args.self.now.counters;
       pending = c.args.self.now.pending;
-      sent = c.args.self.now.sent;
+      unsent = c.args.self.now.unsent;
     } in
     kept setup p quantum c.args.level (c.keep.ensures.judged e p.inputs old.machine x.head x.mode) c.args.self.now now old refl refl refl
     (c.keep.ensures.before e p.inputs old.machine ∙ sym (c.keep.ensures.after e p.inputs old.machine x.head x.mode))
@@ -25,13 +25,14 @@ returns-clause-judged c e setup p quantum old =
     c.keep.ensures.judged e p.inputs old.machine x.head x.mode
 
 pub returns-clause-lost : goal.returns-clause-lost
-returns-clause-lost c e p old =
+returns-clause-lost c e setup p old =
     lost_none (stretch_of p.inputs) c.args.level (sym (c.keep.ensures.value p.inputs old.machine) ∙ e)
 
 pub returns-clause-same : goal.returns-clause-same
-returns-clause-same c e p old = record {
+returns-clause-same c e setup p old = record {
   machine = c.keep.ensures.stays e p.inputs old.machine;
   counters = old.counters;
   pending = old.pending;
-  sent = old.sent;
+  unsent = old.unsent;
+  sends = old.sends;
 }

@@ -5,20 +5,20 @@ use Rattle.wl_level.proofs.Callers.{same_equal}
 use Rattle.wl_sync.specs.declared.Seen.{Seen}
 use Rattle.wl_sync.specs.Running.{clock_after}
 use Rattle.wl_sync.specs.Skips.{IsPlain, free_quanta}
-use Rattle.wl_node.specs.History.{History, history_of, seen_next}
+use Rattle.wl_node.specs.History.{History, staying_history, seen_next}
 use Rattle.wl_node.specs.Quiet.{pending_of}
 use Rattle.wl_trace.specs.Replay.{IsSampledNode, SampledPast}
-use Rattle.wl_trace.specs.Rerun.{RunsAgain}
+use Rattle.wl_trace.specs.StayingRerun.{RunsStaying}
 use Rattle.wl_trace.specs.Snapshot.{mark}
-use Rattle.wl_trace.specs.Synced.{syncs_of}
+use Rattle.wl_trace.specs.Synced.{staying_syncs}
 use Rattle.wl_trace.proofs.Skipping.{IsSkippable, all_skipped, none_synced, settled_starts}
-use Rattle.wl_trace.proofs.rerun.Rerun.skip.Goals as goal
+use Rattle.wl_trace.proofs.staying_rerun.StayingRerun.skip.Goals as goal
 
 pub returns-then-quanta-gt0-clause-running : goal.returns-then-quanta-gt0-clause-running
 returns-then-quanta-gt0-clause-running c setup levels r =
     let level : Level = c.args.level in
     let n : ℕ = c.min-quanta.result in
-    let h : History = history_of setup levels in
+    let h : History = staying_history setup levels in
     let x : Seen = seen_next h level in
     let b : Bool = c.is-settled.result in
     let few : n ≤ free_quanta b c.args.self.now.clock level = omega (arith, c.min-quanta.ensures, c.free_quanta-free.ensures) in
@@ -32,19 +32,17 @@ returns-then-quanta-gt0-clause-running c setup levels r =
     } in
     let is = all_skipped setup levels level n n (omega arith) able in
     let long = length-append levels (replicate n level) in
-    let sent = r.few in
     let bits = r.fewer in
     record {
       starts = r.starts;
       clock = c.skip.ensures.clock setup.segments h.seen r.clock x refl ∙ ap (clock_after setup.segments) (sym is.seen);
       run = record {
-        sampled_node = subst (IsSampledNode c.args.self.now.sampled_node) (sym is.past) r.run.sampled_node;
+        sampled_node = subst (IsSampledNode setup c.args.self.now.sampled_node) (sym is.past) r.run.sampled_node;
         drive = r.run.drive ∙ sym is.drive;
         bits = r.run.bits ∙ ap (λ (p : SampledPast). length p.samples) (sym is.past);
         sampled = r.run.sampled ∙ ap (λ (p : SampledPast). mark (length p.samples)) (sym is.past);
         started = r.run.started;
       };
-      few = omega arith;
       fewer = omega arith;
     }
 
@@ -52,7 +50,7 @@ pub returns-then-quanta-gt0-clause-syncs : goal.returns-then-quanta-gt0-clause-s
 returns-then-quanta-gt0-clause-syncs c setup levels r =
     let level : Level = c.args.level in
     let n : ℕ = c.min-quanta.result in
-    let h : History = history_of setup levels in
+    let h : History = staying_history setup levels in
     let x : Seen = seen_next h level in
     let b : Bool = c.is-settled.result in
     let few : n ≤ free_quanta b c.args.self.now.clock level = omega (arith, c.min-quanta.ensures, c.free_quanta-free.ensures) in
@@ -69,10 +67,10 @@ returns-then-quanta-gt0-clause-syncs c setup levels r =
 pub returns-else-quanta-gt0-clause-running : goal.returns-else-quanta-gt0-clause-running
 returns-else-quanta-gt0-clause-running c setup levels r =
     let none : c.min-quanta.result ≡ 0 = omega (arith, c.if-quanta-gt0.false) in
-    subst (λ (k : ℕ). RunsAgain setup (levels ++ replicate k c.args.level) c.args.self.now) (sym none)
-    (subst (λ (ls : List Level). RunsAgain setup ls c.args.self.now) (sym (append-nil levels)) r)
+    subst (λ (k : ℕ). RunsStaying setup (levels ++ replicate k c.args.level) c.args.self.now) (sym none)
+    (subst (λ (ls : List Level). RunsStaying setup ls c.args.self.now) (sym (append-nil levels)) r)
 
 pub returns-else-quanta-gt0-clause-syncs : goal.returns-else-quanta-gt0-clause-syncs
 returns-else-quanta-gt0-clause-syncs c setup levels r =
     let none : c.min-quanta.result ≡ 0 = omega (arith, c.if-quanta-gt0.false) in
-    ap (λ (k : ℕ). syncs_of setup (levels ++ replicate k c.args.level)) none ∙ ap (syncs_of setup) (append-nil levels)
+    ap (λ (k : ℕ). staying_syncs setup (levels ++ replicate k c.args.level)) none ∙ ap (staying_syncs setup) (append-nil levels)

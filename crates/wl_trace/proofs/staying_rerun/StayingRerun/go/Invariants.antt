@@ -1,11 +1,11 @@
 use Rattle.std.proofs.Common.{◌≤◌, ◌-◌}
-use Rattle.wl_trace.specs.Rerun.{RunsOver}
-use Rattle.wl_trace.proofs.rerun.Rerun.go.Given as goal
+use Rattle.wl_trace.specs.StayingRerun.{StaysOver}
+use Rattle.wl_trace.proofs.staying_rerun.StayingRerun.go.Given as goal
 
 -- so many quanta have run
 abbrev pub invariant-loop-done : goal.invariant-loop-done
 invariant-loop-done l = record {
-  ran : RunsOver l.setup l.quantum l.done l.level l.initial.self l.self l.initial.syncs.items l.syncs.items;
+  ran : StaysOver l.setup l.quantum l.done l.level l.initial.self l.self l.initial.syncs.items l.syncs.items;
   few : l.done ≤ l.most;
 }
 

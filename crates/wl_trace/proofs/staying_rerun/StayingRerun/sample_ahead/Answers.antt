@@ -6,13 +6,13 @@ use Rattle.wl_sync.specs.declared.Seen.{Seen}
 use Rattle.wl_sync.specs.Running.{clock_after}
 use Rattle.wl_sync.specs.Skips.{IsSampledAfter, quanta_before_sample}
 use Rattle.wl_node.specs.declared.setup.NodeSetup.{NodeSetup}
-use Rattle.wl_node.specs.History.{History, history_of, seen_next}
+use Rattle.wl_node.specs.History.{History, staying_history, seen_next}
 use Rattle.wl_node.specs.Quiet.{pending_of}
-use Rattle.wl_trace.specs.Rerun.{RunsAgain, RunsTo}
+use Rattle.wl_trace.specs.StayingRerun.{RunsStaying, RunsTo}
 use Rattle.wl_trace.proofs.RunOver.{longer}
 use Rattle.wl_trace.proofs.Sampling.{kept_up_to, none_sampled, runs_sampled, sampled_seen, up_to}
 use Rattle.wl_trace.proofs.Syncing.{all_seen}
-use Rattle.wl_trace.proofs.rerun.Rerun.sample_ahead.Goals as goal
+use Rattle.wl_trace.proofs.staying_rerun.StayingRerun.sample_ahead.Goals as goal
 
 pub returns-in-Some-clause-ran : goal.returns-in-Some-clause-ran
 returns-in-Some-clause-ran c syncs =
@@ -20,27 +20,26 @@ returns-in-Some-clause-ran c syncs =
     let level : Level = c.args.level in
     let n : ℕ = c.in-Some.before in
     let ahead : n ≡ quanta_before_sample c.args.self.now.clock = c.until_sample.ensures.value n c.in-Some.is in
-    let settled : (levels : List Level) → RunsAgain setup levels c.args.self.now → (history_of setup levels).drive ≡ pending_of (history_of setup levels) =
+    let settled : (levels : List Level) → RunsStaying setup levels c.args.self.now → (staying_history setup levels).drive ≡ pending_of (staying_history setup levels) =
     λ levels r.
     sym r.run.drive ∙ same_equal c.args.self.now.drive c.args.self.now.sampled_node.pending (sym c.is.ensures ∙ c.if-not-is.false) ∙ r.run.sampled_node.pending in
-    let sampled : (levels : List Level) → RunsAgain setup levels c.args.self.now
-    → IsSampledAfter setup.segments (history_of setup levels).seen (seen_next (history_of setup levels) level) n =
+    let sampled : (levels : List Level) → RunsStaying setup levels c.args.self.now
+    → IsSampledAfter setup.segments (staying_history setup levels).seen (seen_next (staying_history setup levels) level) n =
     λ levels r.
-    subst (IsSampledAfter setup.segments (history_of setup levels).seen (seen_next (history_of setup levels) level)) (sym ahead)
-    (c.sample.ensures.sampled setup.segments (history_of setup levels).seen r.clock (seen_next (history_of setup levels) level) refl) in
+    subst (IsSampledAfter setup.segments (staying_history setup levels).seen (seen_next (staying_history setup levels) level)) (sym ahead)
+    (c.sample.ensures.sampled setup.segments (staying_history setup levels).seen r.clock (seen_next (staying_history setup levels) level) refl) in
     record {
       run = λ levels long r.
-          let h : History = history_of setup levels in
+          let h : History = staying_history setup levels in
           let x : Seen = seen_next h level in
           let is = sampled levels r in
           let rests = settled levels r in
-          let quantum : c.args.quantum + n ≡ length (history_of setup (levels ++ replicate n level)).seen =
+          let quantum : c.args.quantum + n ≡ length (staying_history setup (levels ++ replicate n level)).seen =
           sym (longer levels level c.args.quantum n long) ∙ sym (all_seen setup (levels ++ replicate n level)) in
-          let sent = r.few in
           let bits = r.fewer in
           let size = longer levels level c.args.quantum (n + 1) long in
           let few = c.requires.few in
-          let before : RunsTo (record c.args.self.now { clock = c.sample.new.self }) h r.starts =
+          let before : RunsTo setup (record c.args.self.now { clock = c.sample.new.self }) h r.starts =
           record { sampled_node = r.run.sampled_node; drive = r.run.drive; bits = r.run.bits; sampled = r.run.sampled; started = r.run.started } in
           record {
             starts = r.starts;
@@ -50,9 +49,8 @@ returns-in-Some-clause-ran c syncs =
                 ∙ ap (λ (k : ℕ). clock_after setup.segments (h.seen ++ replicate (suc k) x)) (sym ahead)
                 ∙ ap (clock_after setup.segments) (sampled_seen setup levels level n is rests);
             run = runs_sampled setup levels level n is rests c.sample-in-Some.new.self r.starts
-                (c.sample-in-Some.ensures.run (up_to setup levels level n is rests) r.starts quantum (omega arith) (omega arith)
+                (c.sample-in-Some.ensures.run (up_to setup levels level n is rests) r.starts quantum (omega arith)
                 (kept_up_to setup levels level n is rests (record c.args.self.now { clock = c.sample.new.self }) r.starts before));
-            few = omega (arith, c.sample-in-Some.ensures.sent);
             fewer = omega (arith, c.sample-in-Some.ensures.bits);
           };
       syncs = λ levels long r e. e ∙ sym (none_sampled setup levels level n (sampled levels r) (settled levels r));
