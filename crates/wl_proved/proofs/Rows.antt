@@ -9,6 +9,7 @@ use Rattle.wl_segments.specs.Lengths.{Lengths}
 use Rattle.wl_topology.specs.declared.Place.{Place}
 use Rattle.wl_frame.specs.Grammar.{Content}
 use Rattle.wl_node.specs.declared.setup.NodeSetup.{NodeSetup}
+use Rattle.wl_node.specs.declared.setup.QueueOrder.TheVariants.{Fifo}
 use Rattle.wl_plan.specs.declared.plan.Plan.{Plan}
 use Rattle.wl_bound.specs.Conditions.{first_failure_of, left_of, plain, right_of}
 use Rattle.wl_bound.specs.Covered.{is_covered}
@@ -36,6 +37,8 @@ node offset millionths id = record {
   clock = record { offset = offset; rates = rate millionths ∷ [] };
   segments = lengths;
   queue = record { frame = frame id; ready = 500 } ∷ [];
+  order = Fifo;
+  until = None;
 }
 
 abbrev pub place : ℕ → Place
