@@ -66,6 +66,10 @@ fn push_rate_text(shown: &mut String, rate: &RateText) -> Told {
     match rate.clock {
         ClockText::Rate { num, den } => push_numbers(shown, &[("num", num), ("den", den)]),
         ClockText::Ppm { quantum, ppm } => write!(shown, " quantum {quantum} ppm {ppm}"),
+        ClockText::Fraction { num, den, ppm } => {
+            push_numbers(shown, &[("num", num), ("den", den)])?;
+            write!(shown, " ppm {ppm}")
+        }
     }
 }
 

@@ -19,7 +19,7 @@ use Rattle.wl_setup.specs.declared.keys.Key.TheVariants as key
 use Rattle.wl_setup.specs.declared.fault.SetupFault.{SetupFault}
 use Rattle.wl_setup.specs.declared.fault.SetupFault.TheVariants as fault
 use Rattle.wl_setup.specs.declared.table_path.TablePath.{TablePath}
-use Rattle.wl_setup.specs.declared.table_path.TablePath.TheVariants.{Top, Node, Rate, Frame, Disturbance}
+use Rattle.wl_setup.specs.declared.table_path.TablePath.TheVariants.{Top, Controller, Node, Rate, Frame, Disturbance}
 use Rattle.wl_setup.specs.Keys.{key_text}
 use Rattle.wl_setup.specs.Kinds.{list_of, value_at}
 use Rattle.wl_setup.specs.Reading.{document_of}
@@ -81,6 +81,7 @@ frame_called node n = node ++ codes ", frame " ++ decimal n
 
 abbrev pub path_words : Members → TablePath → List ℕ
 path_words top Top = codes "the plan"
+path_words top (Controller n) = codes "controller " ++ decimal n
 path_words top (Node i) = node_called top i
 path_words top (Rate i n) = rate_called (node_called top i) n
 path_words top (Frame i n) = frame_called (node_called top i) n

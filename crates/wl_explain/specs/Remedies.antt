@@ -14,7 +14,7 @@ use Rattle.wl_plan.specs.declared.check.PlanFault.{PlanFault}
 use Rattle.wl_plan.specs.declared.check.PlanFault.TheVariants as plan
 use Rattle.wl_setup.specs.declared.fault.SetupFault.{SetupFault}
 use Rattle.wl_setup.specs.declared.fault.SetupFault.TheVariants as fault
-use Rattle.wl_explain.specs.declared.remedies.TheConstants.{CAUSES, CHANGES, CONTROLLER_CAUSES, CONTROLLER_CHANGES, KIND, KIND_OTHER, MISSING, MISSING_OTHER, UNKNOWN, UNKNOWN_OTHER, WIDE_CAUSES, WIDE_CHANGES, WIDE_UNKNOWN}
+use Rattle.wl_explain.specs.declared.remedies.TheConstants.{CAUSES, CHANGES, CONTROLLER_CAUSES, CONTROLLER_CHANGES, KIND, KIND_OTHER, MISSING, MISSING_OTHER, UNKNOWN, UNKNOWN_OTHER, WIDE_CAUSES, WIDE_CHANGES, WIDE_KIND, WIDE_MISSING, WIDE_UNKNOWN}
 use Rattle.wl_explain.specs.declared.remedies.TextForm.{TextForm}
 use Rattle.wl_explain.specs.declared.remedies.TextForm.TheVariants as form
 
@@ -95,9 +95,11 @@ cause_in form.Narrow f = cause f
 cause_in form.Wide f = listed (map (λ r. (r.0.now, r.1.now)) WIDE_CAUSES) (fault_name f) (cause f)
 cause_in form.Controller f = listed (map (λ r. (r.0.now, r.1.now)) CONTROLLER_CAUSES) (fault_name f) (cause f)
 
--- what to change by the limits of version 4; where a key has no place, by the key
+-- what to change by the limits of version 4; where a key has no place, is missing or has a wrong value, by the key
 abbrev pub wide_remedy : SetupFault → List ℕ
 wide_remedy (fault.Unknown k) = listed (map (λ r. (r.0.now, r.1.now)) WIDE_UNKNOWN) k (remedy (fault.Unknown k))
+wide_remedy (fault.Missing k) = listed (map (λ r. (r.0.now, r.1.now)) WIDE_MISSING) k (remedy (fault.Missing k))
+wide_remedy (fault.Kind k) = listed (map (λ r. (r.0.now, r.1.now)) WIDE_KIND) k (remedy (fault.Kind k))
 wide_remedy f = listed (map (λ r. (r.0.now, r.1.now)) WIDE_CHANGES) (fault_name f) (remedy f)
 
 -- what to change, by the words of a form

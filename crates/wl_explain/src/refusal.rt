@@ -184,6 +184,7 @@ fn path_words(alloc: Global, top: &Table, path: TablePath) -> Result<String, All
 {
     match path {
         TablePath::Top => String::from_str(alloc, "the plan"),
+        TablePath::Controller(n) => format!(in alloc; "controller {n}"),
         TablePath::Node(i) => node_called(alloc, top, i),
         TablePath::Rate(i, n) => {
             let node = node_called(alloc, top, i)?;

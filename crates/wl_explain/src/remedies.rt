@@ -179,10 +179,44 @@ const WIDE_CHANGES: [(&str, &str); 7] = [
 
 /// What to change in version 4 if a key has no place in its table, by the key, if it is something else then.
 #[rattlefmt::skip]
-const WIDE_UNKNOWN: [(&str, &str); 3] = [
+const WIDE_UNKNOWN: [(&str, &str); 14] = [
+    ("tick", "Put the key at the top, above the first table, or remove it."),
+    ("unit", "Put the key at the top, above the first table, or remove it."),
+    ("clock", "Put the key into a node or a `[controller.NAME]`, or remove it."),
+    ("prescaler", "Put the key into a node or a `[controller.NAME]`, or remove it."),
+    ("bitrate", "Put the key into a node or a `[controller.NAME]`, or remove it."),
+    ("queue", "Put the key into a node or a `[controller.NAME]`, or remove it."),
+    ("until", "Put the key right under `[[node]]`, or remove it."),
+    ("cycle", "Put the key into a frame, or remove it."),
+    ("at", "Put the key into a frame, or remove it."),
+    ("deadline", "Put the key into a frame, or remove it."),
+    ("jitter", "Put the key into a frame, or remove it."),
     ("prop", "Remove the key; a node has `tseg1` and `tseg2`, or `prop`, `ps1` and `ps2`, but not both."),
     ("ps1", "Remove the key; a node has `tseg1` and `tseg2`, or `prop`, `ps1` and `ps2`, but not both."),
     ("ps2", "Remove the key; a node has `tseg1` and `tseg2`, or `prop`, `ps1` and `ps2`, but not both."),
+];
+
+/// What to change in version 4 if a key is missing, by the key, if it is something else then.
+#[rattlefmt::skip]
+const WIDE_MISSING: [(&str, &str); 3] = [
+    ("tick", "Add the length of a tick at the top, as `tick = \"1ns\"`: a text with a unit asks for it."),
+    ("clock", "Give the frequency of the clock, as `clock = \"16MHz\"`, beside `prescaler` or `bitrate`."),
+    ("prescaler", "Give `prescaler`, or `bitrate` in its place."),
+];
+
+/// What to change in version 4 if the value of a key is of another kind, by the key, if it is something else then.
+#[rattlefmt::skip]
+const WIDE_KIND: [(&str, &str); 10] = [
+    ("tick", "Give `tick` as a text with a time up to 1 ms, as `tick = \"1ns\"` or `tick = \"12.5ns\"`."),
+    ("unit", "Give `unit` as a text with a length up to 100 m, as `unit = \"1m\"`, or leave it out."),
+    ("controller", "Write each controller under a header `[controller.NAME]`, and name one of them at the node."),
+    ("kind", "Name a known kind of controllers, or leave the key out."),
+    ("clock", "Give `clock` as a text with a whole number of Hz, as `clock = \"16MHz\"`."),
+    ("prescaler", "Give `prescaler` as a whole number from 1 on, which the kind of controllers takes."),
+    ("bitrate", "Give `bitrate` as a text, as `bitrate = \"500k\"`, with a rate that the clock gives exactly by these segments and prescaler."),
+    ("queue", "Set `queue = \"fifo\"` or `queue = \"priority\"`, or leave it out."),
+    ("cycle", "Give `cycle` as a time of one or more whole quanta of the node, which has one rate, or give `every`, but not both."),
+    ("at", "Give `at` as a time of the plan at a node with one rate, or give `ready`, but not both."),
 ];
 
 /// What is wrong with the segments of a controller, by the fault's name, if it is something else than with those that are set one by one.
@@ -360,9 +394,9 @@ fn wide_remedy(fault: &SetupFault) -> &'static str
 {
     match fault {
         SetupFault::Unknown(key) => listed(&WIDE_UNKNOWN, key.as_str(), remedy(fault)),
-        SetupFault::Missing(_)
-        | SetupFault::Kind(_)
-        | SetupFault::Toml
+        SetupFault::Missing(key) => listed(&WIDE_MISSING, key.as_str(), remedy(fault)),
+        SetupFault::Kind(key) => listed(&WIDE_KIND, key.as_str(), remedy(fault)),
+        SetupFault::Toml
         | SetupFault::Version
         | SetupFault::SameName
         | SetupFault::Size

@@ -12,6 +12,8 @@ mod records;
 mod remarks;
 mod scan;
 mod table;
+mod toml_remarks;
+mod units;
 
 pub use hint::{Hint, TextPlace};
 pub use plan::hint_of_plan;

@@ -173,3 +173,47 @@ pub(crate) fn place_of(text: &[u8], wanted: TablePath, word: &[u8]) -> Option<us
     }
     inside(text, header)
 }
+
+/// True if a header from one place to another is that of the controller of this name.
+fn is_controller(text: &[u8], from: usize, end: usize, name: &[u8]) -> bool {
+    let Some(said) = text.get(from..end) else {
+        return false;
+    };
+    match said.strip_prefix(b"controller.") {
+        Some(rest) => rest == name,
+        None => false,
+    }
+}
+
+/// Returns the place of a key under the header `[controller.NAME]`; that of the header if the table hasn't the key. `None` if there is no
+/// such header, as of a table that is written otherwise.
+pub(crate) fn place_under(text: &[u8], name: &str, word: &[u8]) -> Option<usize>
+    ensures { IfSome result (λ at. at ≤ length text.now) }
+{
+    let mut at = skip_blanks(text, 0);
+    let mut header = None;
+    let mut is_here = false;
+    for _ in 0..text.len() {
+        if at >= text.len() {
+            return inside(text, header);
+        }
+        if text[at] == b'[' {
+            let end = key_end(text, at.saturating_add(1));
+            is_here = is_controller(text, at.saturating_add(1), end, name.as_bytes());
+            if is_here {
+                header = Some(at);
+            }
+            at = skip_blanks(text, end.saturating_add(1).min(text.len()));
+            if at < text.len() && text[at] == b']' {
+                at = skip_blanks(text, at.saturating_add(1).min(text.len()));
+            }
+        } else {
+            let equals = key_end(text, at);
+            if is_here && is_key(text, at, equals, word) {
+                return inside(text, Some(at));
+            }
+            at = skip_blanks(text, value_end(text, value_behind(text, equals)));
+        }
+    }
+    inside(text, header)
+}

@@ -1,11 +1,13 @@
 //! Hints on plan texts.
-ghost use Rattle.std.specs.Prelude.{◌≤◌, IfOk, length, None, Some, option_map};
+ghost use Rattle.std.specs.Prelude.{◌≤◌, IfOk, IfSome, length, None, Some, option_map};
 ghost use Rattle.wl_hint.specs.Hints.{PointsInto};
 
 use crate::hint::{Hint, TextPlace};
-use crate::place::place_of;
+use crate::place::{place_of, place_under};
 use crate::remarks::remark;
 use crate::scan::{key_end, value_behind, value_end};
+use crate::toml_remarks::toml_remark;
+use crate::units::{controller_name, home_of};
 use std::alloc::{AllocError, Global};
 use std::str;
 use toml::Table;
@@ -160,7 +162,8 @@ fn no_document(alloc: Global, text: &[u8], at: usize) -> Result<Hint, AllocError
     ensures { IfOk result (PointsInto (Some text.now)) }
 {
     let (cause, remedy) = (cause(&SetupFault::Toml), remedy(&SetupFault::Toml));
-    let said = format!(in alloc; ": {cause}. {remedy}")?;
+    let remark = toml_remark(text, at);
+    let said = format!(in alloc; ": {cause}{remark}. {remedy}")?;
     Ok(Hint {
         place: Some(TextPlace::of(text, at)),
         said: Text::new(alloc, said.as_str())?,
@@ -183,6 +186,18 @@ fn said_of(
     Text::new(alloc, said.as_str())
 }
 
+/// Returns the place of a key of a table: of a node's in the table of its controller, if it has the key from there.
+fn place_in(text: &[u8], top: &Table, path: TablePath, key: &str) -> Option<usize>
+    ensures { IfSome result (λ at. at ≤ length text.now) }
+{
+    match home_of(top, path, key) {
+        TablePath::Controller(number) => {
+            place_under(text, controller_name(top, number)?, key.as_bytes())
+        }
+        home => place_of(text, home, key.as_bytes()),
+    }
+}
+
 /// Returns the hint on a fault in this table of a document.
 fn in_table(
     alloc: Global,
@@ -194,7 +209,7 @@ fn in_table(
     ensures { IfOk result (PointsInto (Some text.now)) }
 {
     let key = key_in(form_of(top, fault), fault);
-    match place_of(text, path, key.as_bytes()) {
+    match place_in(text, top, path, key) {
         Some(at) => {
             let written = written(alloc, text, at)?;
             Ok(Hint {

@@ -1,6 +1,7 @@
 //! What a plan's document adds to the words of its explanation.
 ghost use Rattle.std.specs.Prelude.{◌≡◌};
 
+use crate::units::of_value;
 use std::alloc::{AllocError, Global};
 use toml::{Table, Value};
 use wl_clock::{Clock, Rate};
@@ -18,10 +19,16 @@ const KNOWN: [&str; 35] = [
     "tolerance", "every", "count", "listen", "tseg1", "tseg2",
 ];
 
+/// The keys that plans of version 4 have besides.
+#[rattlefmt::skip]
+const KNOWN_WIDE: [&str; 13] = [
+    "tick", "unit", "controller", "kind", "clock", "prescaler", "bitrate", "queue", "until", "cycle", "at", "deadline", "jitter",
+];
+
 /// Returns the first key of a table that no table of a plan has, which may be a misspelt one.
-fn strange_key(table: &Table) -> Option<&str> {
+fn strange_key(is_wide: bool, table: &Table) -> Option<&str> {
     for key in table.keys() {
-        if !KNOWN.contains(&key.as_str()) {
+        if !KNOWN.contains(&key.as_str()) && !(is_wide && KNOWN_WIDE.contains(&key.as_str())) {
             return Some(key.as_str());
         }
     }
@@ -98,7 +105,12 @@ fn later_form(table: &Table, missing: &str) -> &'static str {
 }
 
 /// Returns what is remarked of a missing key.
-fn of_missing(alloc: Global, table: Option<&Table>, missing: &str) -> Result<String, AllocError> {
+fn of_missing(
+    alloc: Global,
+    is_wide: bool,
+    table: Option<&Table>,
+    missing: &str,
+) -> Result<String, AllocError> {
     let later = match table {
         Some(table) => later_form(table, missing),
         None => "",
@@ -106,7 +118,11 @@ fn of_missing(alloc: Global, table: Option<&Table>, missing: &str) -> Result<Str
     if !later.is_empty() {
         return String::from_str(alloc, later);
     }
-    match table.and_then(strange_key) {
+    let strange = match table {
+        Some(table) => strange_key(is_wide, table),
+        None => None,
+    };
+    match strange {
         Some(key) => {
             let key = Text::new(alloc, key)?;
             format!(in alloc; " (is `{key}` meant for it?)")
@@ -177,6 +193,20 @@ fn home_of(key: &str, path: TablePath) -> &'static str {
     }
 }
 
+/// Returns what is remarked of a key that has no place in its table: where it belongs, or what is there in its place.
+fn of_unknown(table: Option<&Table>, key: &str, path: TablePath) -> &'static str {
+    let has_clock = match table {
+        Some(table) => value_named(table, "clock").is_some(),
+        None => false,
+    };
+    match key {
+        "num" | "den" | "quantum" | "rates" if has_clock => {
+            " (the node has `clock` in its place)"
+        }
+        _ => home_of(key, path),
+    }
+}
+
 /// True of a table that is no frame and not the top one.
 fn is_beside_frames(path: TablePath) -> bool {
     matches!(
@@ -213,6 +243,21 @@ fn of_segments(table: Option<&Table>, form: TextForm, fault: SegmentsFault) -> &
     }
 }
 
+/// Returns what is remarked of a value of another kind.
+fn of_kind(
+    alloc: Global,
+    top: &Table,
+    path: TablePath,
+    key: &str,
+) -> Result<String, AllocError> {
+    if number(top, "version") == Some(4) {
+        if let Some(said) = of_value(alloc, top, path, key)? {
+            return Ok(said);
+        }
+    }
+    String::from_str(alloc, unit_of(key, path))
+}
+
 /// Returns what is remarked of a fault in the table where it is; nothing of most.
 pub(crate) fn remark(
     alloc: Global,
@@ -222,10 +267,12 @@ pub(crate) fn remark(
 ) -> Result<String, AllocError> {
     let table = table_at(top, path);
     match fault {
-        SetupFault::Missing(key) => of_missing(alloc, table, key.as_str()),
+        SetupFault::Missing(key) => {
+            of_missing(alloc, number(top, "version") == Some(4), table, key.as_str())
+        }
         SetupFault::Plan(PlanFault::Quanta(i)) => of_quanta(alloc, top, *i),
-        SetupFault::Kind(key) => String::from_str(alloc, unit_of(key.as_str(), path)),
-        SetupFault::Unknown(key) => String::from_str(alloc, home_of(key.as_str(), path)),
+        SetupFault::Kind(key) => of_kind(alloc, top, path, key.as_str()),
+        SetupFault::Unknown(key) => String::from_str(alloc, of_unknown(table, key.as_str(), path)),
         SetupFault::NodeSegments(_, segments) => {
             String::from_str(alloc, of_segments(table, form_of(top, fault), *segments))
         }

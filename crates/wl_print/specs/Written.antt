@@ -28,6 +28,8 @@ top_lines p =
 unfoldable pub clock_lines : ClockText → List ℕ
 clock_lines (text.Rate num den) = codes "num = " ++ decimal num ++ codes "\nden = " ++ decimal den ++ codes "\n"
 clock_lines (text.Ppm quantum ppm) = codes "quantum = " ++ decimal quantum ++ codes "\nppm = " ++ signed_decimal ppm ++ codes "\n"
+clock_lines (text.Fraction num den ppm) =
+    codes "num = " ++ decimal num ++ codes "\nden = " ++ decimal den ++ codes "\nppm = " ++ signed_decimal ppm ++ codes "\n"
 
 abbrev pub rate_clock_lines : RateText → List ℕ
 rate_clock_lines r = clock_lines r.clock

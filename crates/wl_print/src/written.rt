@@ -41,6 +41,9 @@ fn push_clock(text: &mut String, clock: ClockText) -> Result<(), AllocError>
     match clock {
         ClockText::Rate { num, den } => write!(text, "num = {num}\nden = {den}\n"),
         ClockText::Ppm { quantum, ppm } => write!(text, "quantum = {quantum}\nppm = {ppm}\n"),
+        ClockText::Fraction { num, den, ppm } => {
+            write!(text, "num = {num}\nden = {den}\nppm = {ppm}\n")
+        }
     }
 }
 

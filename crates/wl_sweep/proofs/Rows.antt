@@ -24,6 +24,7 @@ use Rattle.wl_sweep.specs.Findings.{finding_of_totals}
 use Rattle.wl_sweep.specs.Rows.{row_count}
 use Rattle.wl_sweep.specs.Tallies.{part_start, tally_of}
 use Rattle.wl_setup.specs.declared.plan_text.PlanText.{PlanText}
+use Rattle.wl_setup.specs.declared.plan_text.QueueText.TheVariants.{Fifo}
 use Rattle.wl_sweep.specs.declared.vary.RangeFault.TheVariants as range
 use Rattle.wl_sweep.specs.Vary.{ends_of, has_key, number_of, step_of, values_of}
 use Rattle.wl_sweep.specs.Worst.{last_ready, later_end, next_id}
@@ -43,6 +44,8 @@ node name clock = record {
   frame = [];
   tolerance = Some 250;
   listens = false;
+  queue = Fifo;
+  until = None;
 }
 
 abbrev engine : NodeText
@@ -149,7 +152,7 @@ new_tolerance = refl
 
 -- a value of a key of frames is one of the frames that have it
 abbrev periodic : Option ℕ → NodeText
-periodic every = record engine { frame = (record { id = 1; dlc = 0; remote = false; bytes = []; ready = 0; extended = false; every = every; count = None }) ∷ [] }
+periodic every = record engine { frame = (record { id = 1; dlc = 0; remote = false; bytes = []; ready = 0; extended = false; every = every; count = None; deadline = None; jitter = None }) ∷ [] }
 
 new_every : node_set key.Every (pos 99) (periodic (Some 16000)) ≡ periodic (Some 99)
 new_every = refl
@@ -266,7 +269,7 @@ too_many = refl
 
 -- frames that test the clocks have identifiers of their own, and come after the frames that wait
 abbrev sender : NodeText
-sender = record engine { frame = (record { id = 2031; dlc = 0; remote = false; bytes = []; ready = 480; extended = false; every = None; count = None }) ∷ [] }
+sender = record engine { frame = (record { id = 2031; dlc = 0; remote = false; bytes = []; ready = 480; extended = false; every = None; count = None; deadline = None; jitter = None }) ∷ [] }
 
 new_id : next_id (sender ∷ probe ∷ []) 2032 sender ≡ 2030
 new_id = refl

@@ -21,6 +21,9 @@ clock_with key.Num value (text.Rate num den) = text.Rate (unsigned_abs value) de
 clock_with key.Den value (text.Rate num den) = text.Rate num (unsigned_abs value)
 clock_with key.Quantum value (text.Ppm quantum ppm) = text.Ppm (unsigned_abs value) ppm
 clock_with key.Ppm value (text.Ppm quantum ppm) = text.Ppm quantum value
+clock_with key.Num value (text.Fraction num den ppm) = text.Fraction (unsigned_abs value) den ppm
+clock_with key.Den value (text.Fraction num den ppm) = text.Fraction num (unsigned_abs value) ppm
+clock_with key.Ppm value (text.Fraction num den ppm) = text.Fraction num den value
 clock_with k value clock = clock
 
 abbrev pub rate_with : SweptKey → ℤ → RateText → RateText
@@ -114,6 +117,8 @@ abbrev pub clock_on : Side → ClockText → ClockText
 clock_on side (text.Ppm quantum own) = text.Ppm quantum (ppm_on side own)
 clock_on Own (text.Rate num den) = text.Rate num den
 clock_on side (text.Rate num den) = refined side num den
+clock_on Own (text.Fraction num den own) = text.Fraction num den own
+clock_on side (text.Fraction num den own) = refined side num den
 
 abbrev pub rate_on : Side → RateText → RateText
 rate_on side rate = record rate { clock = clock_on side rate.clock }

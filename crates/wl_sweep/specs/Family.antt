@@ -31,6 +31,7 @@ drawn radix draws = if nat_lt radix 2 then (0, draws) else digit_of radix draws
 -- the ticks of a quantum at a rate, rounded down, at least one
 abbrev pub quantum_at : ClockText → ℕ
 quantum_at (text.Rate num den) = max (num / max den 1) 1
+quantum_at (text.Fraction num den ppm) = max (num / max den 1) 1
 quantum_at (text.Ppm quantum ppm) = max quantum 1
 
 abbrev pub quantum_of_rate : Option RateText → ℕ

@@ -102,6 +102,9 @@ clock_has key.Num (text.Rate num den) = true
 clock_has key.Den (text.Rate num den) = true
 clock_has key.Quantum (text.Ppm quantum ppm) = true
 clock_has key.Ppm (text.Ppm quantum ppm) = true
+clock_has key.Num (text.Fraction num den ppm) = true
+clock_has key.Den (text.Fraction num den ppm) = true
+clock_has key.Ppm (text.Fraction num den ppm) = true
 clock_has k clock = false
 
 abbrev pub is_clock : SweptKey → Bool

@@ -18,6 +18,8 @@ worst_frame id ready = record {
   extended = false;
   every = None;
   count = None;
+  deadline = None;
+  jitter = None;
 }
 
 -- a base identifier is one of a frame of a node, or of several nodes

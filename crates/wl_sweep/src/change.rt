@@ -77,6 +77,24 @@ fn clock_with(clock: ClockText, key: SweptKey, value: i64) -> ClockText
             SweptKey::Den => ClockText::Rate { num, den: size },
             _ => clock,
         },
+        ClockText::Fraction { num, den, ppm } => match key {
+            SweptKey::Num => ClockText::Fraction {
+                num: size,
+                den,
+                ppm,
+            },
+            SweptKey::Den => ClockText::Fraction {
+                num,
+                den: size,
+                ppm,
+            },
+            SweptKey::Ppm => ClockText::Fraction {
+                num,
+                den,
+                ppm: value,
+            },
+            _ => clock,
+        },
         ClockText::Ppm { quantum, ppm } => match key {
             SweptKey::Quantum => ClockText::Ppm { quantum: size, ppm },
             SweptKey::Ppm => ClockText::Ppm {
@@ -195,6 +213,8 @@ fn frame_again(alloc: Global, frame: &FrameText) -> Result<FrameText, AllocError
         extended: frame.extended,
         every: frame.every,
         count: frame.count,
+        deadline: frame.deadline,
+        jitter: frame.jitter,
     })
 }
 
@@ -274,6 +294,8 @@ fn node_made(
         frame,
         tolerance: node.tolerance,
         listens: node.listens,
+        queue: node.queue,
+        until: node.until,
     })
 }
 
@@ -354,6 +376,8 @@ pub(crate) fn text_again(
         node,
         disturbance: disturbances_again(alloc, text.disturbance.as_slice())?,
         sync: text.sync,
+        tick: text.tick,
+        unit: text.unit,
     })
 }
 
@@ -409,7 +433,7 @@ fn clock_on(side: Side, clock: ClockText) -> ClockText
             quantum,
             ppm: ppm_on(side, ppm),
         },
-        ClockText::Rate { num, den } => match side {
+        ClockText::Rate { num, den } | ClockText::Fraction { num, den, .. } => match side {
             Side::Own => clock,
             _ => refined(side, num, den),
         },

@@ -21,7 +21,8 @@ fn quantum_at(clock: ClockText) -> u64
     ensures { result ≡ quantum_at clock }
 {
     match clock {
-        ClockText::Rate { num, den } => (num / den.max(1)).max(1),
+        ClockText::Rate { num, den } | ClockText::Fraction { num, den, .. } => (num
+            / den.max(1)).max(1),
         ClockText::Ppm { quantum, .. } => quantum.max(1),
     }
 }

@@ -259,6 +259,10 @@ fn clock_has(key: SweptKey, clock: ClockText) -> bool
             SweptKey::Num | SweptKey::Den => true,
             _ => false,
         },
+        ClockText::Fraction { .. } => match key {
+            SweptKey::Num | SweptKey::Den | SweptKey::Ppm => true,
+            _ => false,
+        },
         ClockText::Ppm { .. } => match key {
             SweptKey::Quantum | SweptKey::Ppm => true,
             _ => false,

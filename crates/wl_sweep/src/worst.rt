@@ -35,6 +35,8 @@ fn worst_frame(alloc: Global, id: u32, ready: u64) -> Result<FrameText, AllocErr
         extended: false,
         every: None,
         count: None,
+        deadline: None,
+        jitter: None,
     })
 }
 
