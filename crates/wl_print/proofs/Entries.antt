@@ -8,7 +8,7 @@ use Rattle.wl_setup.specs.declared.keys.Key.{Key}
 use Rattle.wl_setup.specs.Faults.{fault_at_key, first_some, is_of_table, is_value_of, keys_in, least, table_fault}
 use Rattle.wl_setup.specs.Keys.{TableKeys, key_text}
 use Rattle.wl_setup.specs.Kinds.{value_at}
-use Rattle.wl_print.proofs.Sorted.{get_at, get_sorted, same_is, is_fresh, is_proper, is_proper_data, kept, keys_sorted, other_way, sorted}
+use Rattle.wl_print.proofs.Sorted.{get_at, get_sorted, same_is, is_fresh, is_proper, is_proper_data, kept, keys_sorted, not_parts, other_way, sorted}
 use Rattle.wl_print.proofs.Tables.{IsRow, AreRows, Row, tables_in_order, with_row, with_rows, with_tables}
 
 abbrev pub Entry : Type 0
@@ -43,10 +43,6 @@ abbrev pub AreProper : List Entry → Type 0
 AreProper [] = Unit {0}
 AreProper ((k, None) ∷ es) = AreProper es
 AreProper ((k, Some d) ∷ es) = (is_proper_data d ≡ true) × AreProper es
-
-not_parts : (b c : Bool) → (not b && c) ≡ true → (b ≡ false) × (c ≡ true)
-not_parts true c h = absurd (false≢true h)
-not_parts false c h = (refl, h)
 
 fresh_entries : (k : List ℕ) (es : List Entry) → is_apart k es ≡ true → is_fresh k (all_members es) ≡ true
 fresh_entries k [] h = refl
@@ -89,14 +85,22 @@ seen l es h proper = get_sorted (all_members es) l (proper_entries es h proper) 
 -- each key that is there passes a test
 abbrev pub all_there : (List ℕ → Bool) → List Entry → Bool
 all_there p [] = true
-all_there p ((k, o) ∷ es) = (is_none o || p k) && all_there p es
+all_there p ((k, o) ∷ es) = (p k || is_none o) && all_there p es
+
+or_left : (b : Bool) → (b || false) ≡ true → b ≡ true
+or_left true h = refl
+or_left false h = h
+
+there_false : (b c : Bool) → ((b || true) && c) ≡ c
+there_false true c = refl
+there_false false c = refl
 
 there_keys : (p : List ℕ → Bool) (es : List Entry) → all_there p es ≡ true → list_all p (keys_in (all_members es)) ≡ true
 there_keys p [] h = refl
-there_keys p ((k, None) ∷ es) h = there_keys p es h
+there_keys p ((k, None) ∷ es) h = there_keys p es (sym (there_false (p k) (all_there p es)) ∙ h)
 there_keys p ((k, Some d) ∷ es) h =
-    let (here, more) = and_parts (p k) (all_there p es) h in
-    rw here (there_keys p es more)
+    let (here, more) = and_parts (p k || false) (all_there p es) h in
+    rw (or_left (p k) here) (there_keys p es more)
 
 -- ---- a table without a fault
 

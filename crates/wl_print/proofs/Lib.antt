@@ -7,3 +7,6 @@ mod Rows
 mod Tables
 mod PlanRows
 mod Entries
+mod Readback
+mod NodeBack
+mod PlanBack

@@ -23,7 +23,7 @@ use Rattle.wl_setup.specs.Kinds.{is_name, is_name_letter, is_ppm}
 use Rattle.wl_setup.specs.Limits.{largest_byte, largest_number, largest_number-is, largest_ppm, largest_ppm-is, largest_small, largest_small-is, largest_tolerance, longest_name}
 use Rattle.wl_setup.specs.Names.{has_repeat, names_of}
 use Rattle.wl_setup.specs.Version.{has_controllers, has_traffic, is_known_version}
-use Rattle.wl_print.specs.Printable.{are_rates, are_segments, has_nodes, is_clock, is_disturbance, is_frame, is_node, is_number, is_positive, is_printable, is_rate, is_small, is_spot, is_tolerance}
+use Rattle.wl_print.specs.Printable.{are_rates, are_segments, has_nodes, is_clock_text, is_disturbance, is_frame_text, is_node, is_number_of_key, is_positive, is_printable, is_rate, is_small_number, is_spot, is_tolerance}
 use Rattle.wl_print.specs.Written.{clock_lines, data_line, disturbance_lines, flag_line, frame_keys, frame_lines, from_line, header_line, interval_lines, is_one, is_own, lines_of_segments, name_lines, node_keys, node_lines, number_line, own_clock_lines, place_lines, plan_words, rate_clock_lines, rate_lines, rate_tables, segment_lines, spot_line, sync_word, top_lines}
 use Rattle.wl_print.proofs.Bytes.{AllBytes, byte_items}
 use Rattle.wl_print.proofs.Lines.{AreLines, IsLine, each_lines, header_turn, join_lines, one_line}
@@ -252,7 +252,7 @@ more_text : (n : NodeText) → text_of (more_rows n) ≡ number_line (codes "tol
 more_text n = rw (tolerance_text n.tolerance, listen_text n.listens, append-nil (flag_line (codes "listen") n.listens)) refl
 
 -- rates that are keys of the node are one
-one_rate : (version : ℕ) (r s : RateText) (rs : List RateText) → are_rates version (r ∷ s ∷ rs) ≡ true → is_own version (r ∷ s ∷ rs) ≡ true → ⊥
+pub one_rate : (version : ℕ) (r s : RateText) (rs : List RateText) → are_rates version (r ∷ s ∷ rs) ≡ true → is_own version (r ∷ s ∷ rs) ≡ true → ⊥
 one_rate version r s rs h own = grind (arith, nat_tests)
 
 one_clock : (version : ℕ) (r : RateText) (rs : List RateText) → are_rates version (r ∷ rs) ≡ true → is_own version (r ∷ rs) ≡ true
@@ -320,10 +320,10 @@ top_text p = simp (append_assoc, append-nil) refl
 
 -- ---- bounds
 
-number_bound : (n : ℕ) → is_number n ≡ true → n < 2 ^ 63
+number_bound : (n : ℕ) → is_number_of_key n ≡ true → n < 2 ^ 63
 number_bound n h = omega (arith, leb-true n largest_number h, largest_number-is)
 
-small_bound : (n : ℕ) → is_small n ≡ true → n < 2 ^ 63
+small_bound : (n : ℕ) → is_small_number n ≡ true → n < 2 ^ 63
 small_bound n h = omega (arith, leb-true n largest_small h, largest_small-is)
 
 ppm_bound : (z : ℤ) → is_ppm z ≡ true → FitsSigned w64 z
@@ -348,12 +348,12 @@ bytes_row : (bs : List ℕ) → AllBytes bs → IsRow (bytes_of bs)
 bytes_row [] h = tt
 bytes_row (b ∷ bs) h = bytes_pair b bs h
 
-clock_are_rows : (c : ClockText) → is_clock c ≡ true → AreRows (clock_rows (Some c))
+clock_are_rows : (c : ClockText) → is_clock_text c ≡ true → AreRows (clock_rows (Some c))
 clock_are_rows (text.Rate num den) h =
-    let (a, b) = and_parts (is_number num) (is_number den) h in
+    let (a, b) = and_parts (is_number_of_key num) (is_number_of_key den) h in
     (number_pair num (number_bound num a), (number_pair den (number_bound den b), (tt, (tt, tt))))
 clock_are_rows (text.Ppm quantum ppm) h =
-    let (a, b) = and_parts (is_number quantum) (is_ppm ppm) h in
+    let (a, b) = and_parts (is_number_of_key quantum) (is_ppm ppm) h in
     (tt, (tt, (number_pair quantum (number_bound quantum a), (signed_pair ppm (ppm_bound ppm b), tt))))
 
 no_clock_rows : AreRows (clock_rows None)
@@ -363,21 +363,21 @@ join_rows : (xs ys : List Row) → AreRows xs → AreRows ys → AreRows (xs ++ 
 join_rows [] ys h more = more
 join_rows ((k, v) ∷ xs) ys h more = (h.0, join_rows xs ys h.1 more)
 
-bit_are_rows : (known : Bool) (s : SegmentsText) (sjw : ℕ) → are_segments known s ≡ true → is_number sjw ≡ true → AreRows (bit_rows s sjw)
+bit_are_rows : (known : Bool) (s : SegmentsText) (sjw : ℕ) → are_segments known s ≡ true → is_number_of_key sjw ≡ true → AreRows (bit_rows s sjw)
 bit_are_rows known (segments.Each prop ps1 ps2) sjw h w =
-    let (a, more) = and_parts (is_number prop) (is_number ps1 && is_number ps2) h in
-    let (b, c) = and_parts (is_number ps1) (is_number ps2) more in
+    let (a, more) = and_parts (is_number_of_key prop) (is_number_of_key ps1 && is_number_of_key ps2) h in
+    let (b, c) = and_parts (is_number_of_key ps1) (is_number_of_key ps2) more in
     (number_pair prop (number_bound prop a), (number_pair ps1 (number_bound ps1 b), (number_pair ps2 (number_bound ps2 c), (tt, (tt, (number_pair sjw (number_bound sjw w), tt))))))
 bit_are_rows known (segments.Controller tseg1 tseg2) sjw h w =
-    let (k, more) = and_parts known (is_number tseg1 && is_number tseg2) h in
-    let (a, b) = and_parts (is_number tseg1) (is_number tseg2) more in
+    let (k, more) = and_parts known (is_number_of_key tseg1 && is_number_of_key tseg2) h in
+    let (a, b) = and_parts (is_number_of_key tseg1) (is_number_of_key tseg2) more in
     (tt, (tt, (tt, (number_pair tseg1 (number_bound tseg1 a), (number_pair tseg2 (number_bound tseg2 b), (number_pair sjw (number_bound sjw w), tt))))))
 
 positive_row : (known : Bool) (o : Option ℕ) → is_positive known o ≡ true → IsRow (number_of o)
 positive_row known None h = tt
 positive_row known (Some n) h =
-    let (k, more) = and_parts known (nat_le 1 n && is_number n) h in
-    number_pair n (number_bound n (and_parts (nat_le 1 n) (is_number n) more).1)
+    let (k, more) = and_parts known (nat_le 1 n && is_number_of_key n) h in
+    number_pair n (number_bound n (and_parts (nat_le 1 n) (is_number_of_key n) more).1)
 
 tolerance_row : (o : Option ℕ) → is_tolerance o ≡ true → IsRow (number_of o)
 tolerance_row None h = tt
@@ -390,15 +390,15 @@ name_letters s h =
 -- ---- what a printable table keeps to
 
 pub record IsFrame (known : Bool) (f : FrameText) : Type 0 where
-  pub id : is_small f.id ≡ true
-  pub dlc : is_small f.dlc ≡ true
+  pub id : is_small_number f.id ≡ true
+  pub dlc : is_small_number f.dlc ≡ true
   pub bytes : list_all (λ b. nat_le b largest_byte) f.bytes ≡ true
-  pub ready : is_number f.ready ≡ true
+  pub ready : is_number_of_key f.ready ≡ true
   pub every : is_positive known f.every ≡ true
   pub count : is_positive known f.count ≡ true
   pub counted : (is_none f.count || is_some f.every) ≡ true
 
-pub frame_facts : (known : Bool) (f : FrameText) → is_frame known f ≡ true → IsFrame known f
+pub frame_facts : (known : Bool) (f : FrameText) → is_frame_text known f ≡ true → IsFrame known f
 frame_facts known f h =
     let (id, h1) = and_parts _ _ h in
     let (dlc, h2) = and_parts _ _ h1 in
@@ -410,16 +410,16 @@ frame_facts known f h =
 
 pub record IsNode (version : ℕ) (n : NodeText) : Type 0 where
   pub name : is_name n.name ≡ true
-  pub offset : is_number n.offset ≡ true
+  pub offset : is_number_of_key n.offset ≡ true
   pub rates : are_rates version n.rates ≡ true
   pub bit : are_segments (has_controllers version) n.segments ≡ true
-  pub sjw : is_number n.sjw ≡ true
-  pub x : is_small n.x ≡ true
-  pub out : is_number n.out_delay ≡ true
-  pub into : is_number n.in_delay ≡ true
+  pub sjw : is_number_of_key n.sjw ≡ true
+  pub x : is_small_number n.x ≡ true
+  pub out : is_number_of_key n.out_delay ≡ true
+  pub into : is_number_of_key n.in_delay ≡ true
   pub tolerance : is_tolerance n.tolerance ≡ true
   pub listens : (not n.listens || has_traffic version) ≡ true
-  pub frames : list_all (is_frame (has_traffic version)) n.frame ≡ true
+  pub frames : list_all (is_frame_text (has_traffic version)) n.frame ≡ true
 
 pub node_facts : (version : ℕ) (n : NodeText) → is_node version n ≡ true → IsNode version n
 node_facts version n h =
@@ -455,7 +455,7 @@ frame_are_rows known f h = (
 
 pub rate_are_rows : (r : RateText) → is_rate r ≡ true → AreRows (rate_rows r)
 rate_are_rows r h =
-    let (from, clock) = and_parts (is_number r.from) (is_clock r.clock) h in
+    let (from, clock) = and_parts (is_number_of_key r.from) (is_clock_text r.clock) h in
     (number_pair r.from (number_bound r.from from), clock_are_rows r.clock clock)
 
 spot_are_rows : (known : Bool) (d : DisturbanceText) (node : Option (List ℕ)) (x : ℕ) → is_spot known node x ≡ true → IsRow (number_of (place_of node x)) × IsRow (name_of node)
@@ -479,7 +479,7 @@ own_are_rows version [] h = absurd (false≢true h)
 own_are_rows version (r ∷ rs) h =
     let first = (and_parts _ _ (rates_first version r rs h)).0 in
     elim (cases_Bool (is_own version (r ∷ rs))) [
-      | inl own ↦ rw own (clock_are_rows r.clock (and_parts (is_number r.from) (is_clock r.clock) first).1)
+      | inl own ↦ rw own (clock_are_rows r.clock (and_parts (is_number_of_key r.from) (is_clock_text r.clock) first).1)
       | inr apart ↦ rw apart no_clock_rows
     ]
 
@@ -558,7 +558,7 @@ each_table es t test each (x ∷ xs) all =
     let (here, more) = and_parts (test x) (list_all test xs) all in
     join_lines (es x) (flat_map es xs) (t x) (flat_map t xs) (each x here) (each_table es t test each xs more)
 
-rates_all : (version : ℕ) (rates : List RateText) → are_rates version rates ≡ true → list_all is_rate rates ≡ true
+pub rates_all : (version : ℕ) (rates : List RateText) → are_rates version rates ≡ true → list_all is_rate rates ≡ true
 rates_all version [] h = refl
 rates_all version (r ∷ rs) h = rates_first version r rs h
 
@@ -624,7 +624,7 @@ node_table version n is =
     let body = body_lines (codes "node" ∷ []) (node_rows version n) rate_members (codes "rates") (rates_apart version n.rates) frame_members (codes "frame") n.frame
     (node_keys version n) (rate_tables version n.rates) (flat_map frame_lines n.frame)
     (node_are_rows version n h) (node_text version n h.rates) (rates_lines version n.rates h.rates)
-    (each_table (table_lines frame_members (codes "node" ∷ []) (codes "frame")) frame_lines (is_frame known) (λ f ok. frame_table known f (frame_facts known f ok)) n.frame h.frames) in
+    (each_table (table_lines frame_members (codes "node" ∷ []) (codes "frame")) frame_lines (is_frame_text known) (λ f ok. frame_table known f (frame_facts known f ok)) n.frame h.frames) in
     (header_line (codes "node"), node_keys version n ++ (rate_tables version n.rates ++ flat_map frame_lines n.frame), sym (node_whole version n), header_of_node, body)
 
 word_letters : (s : SyncRules) → list_all is_name_letter (sync_word s) ≡ true
@@ -633,8 +633,8 @@ word_letters sync.Book = refl
 
 pub record IsPlan (p : PlanText) : Type 0 where
   pub version : is_known_version p.version ≡ true
-  pub end : is_number p.end ≡ true
-  pub per : is_number p.per ≡ true
+  pub end : is_number_of_key p.end ≡ true
+  pub per : is_number_of_key p.per ≡ true
   pub some : has_nodes p.node ≡ true
   pub nodes : list_all (is_node p.version) p.node ≡ true
   pub disturbances : list_all (is_disturbance (has_traffic p.version)) p.disturbance ≡ true

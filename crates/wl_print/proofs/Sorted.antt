@@ -187,7 +187,7 @@ abbrev FreeArrays : Members → Nodes → Type 0
 FreeArrays no_members ns = Unit {0}
 FreeArrays (member k d ms) ns = (is_section d ≡ true → get_node k ns ≡ None) × FreeArrays ms ns
 
-not_parts : (b c : Bool) → (not b && c) ≡ true → (b ≡ false) × (c ≡ true)
+pub not_parts : (b c : Bool) → (not b && c) ≡ true → (b ≡ false) × (c ≡ true)
 not_parts true c h = absurd (false≢true h)
 not_parts false c h = (refl, h)
 

@@ -54,29 +54,23 @@ abbrev pub unless_early : Option (ℕ × ℕ) → PlanText → Result PlanText P
 unless_early None text = Ok (upgraded text)
 unless_early (Some (i, n)) text = Err (print.Order i n)
 
-abbrev pub formatted_by : Result Plan SetupFault → PlanText → Result PlanText PrintFault
-formatted_by (Err fault) text = Err (of_setup fault)
-formatted_by (Ok plan) text = unless_early (order_fault text) text
+abbrev pub rewritten_by : Result Plan SetupFault → PlanText → Result PlanText PrintFault
+rewritten_by (Err fault) text = Err (of_setup fault)
+rewritten_by (Ok plan) text = unless_early (order_fault text) text
 
-abbrev pub formatted : PlanText → Result PlanText PrintFault
-formatted text = formatted_by (plan_of_text text) text
-
--- an answer is this one, unless memory was refused
-abbrev pub IsFormatted : PlanText → Result PlanText PrintFault → Type 0
-IsFormatted text (Ok made) = formatted text ≡ Ok made
-IsFormatted text (Err print.Memory) = Unit {0}
-IsFormatted text (Err fault) = formatted text ≡ Err fault
+abbrev pub rewritten : PlanText → Result PlanText PrintFault
+rewritten text = rewritten_by (plan_of_text text) text
 
 module _ {S T : Type 0} (gives : S → Answer → S → Type 0) (takes : T → Answer → T → Type 0) (s s' : S) (t t' : T) where
   -- the plan that was read went out in version 4, as far as it went
   abbrev pub Wrote : Result (Unit {0}) WriteFault → Type 0
-  Wrote r = (text : PlanText) × (made : PlanText) × ReadsPlan gives s (Ok text) s' × (formatted text ≡ Ok made) × Writes takes t (plan_words made) r t'
+  Wrote r = (text : PlanText) × (made : PlanText) × ReadsPlan gives s (Ok text) s' × (rewritten text ≡ Ok made) × Writes takes t (plan_words made) r t'
 
   -- the first fault of what was read, or why its plan has no version 4
   abbrev pub Refuses : PrintFault → Type 0
   Refuses fault =
       ((refused : SetupFault) × ReadsPlan gives s (Err refused) s' × (fault ≡ print.Setup refused))
-      ⊎ ((text : PlanText) × ReadsPlan gives s (Ok text) s' × (formatted text ≡ Err fault))
+      ⊎ ((text : PlanText) × ReadsPlan gives s (Ok text) s' × (rewritten text ≡ Err fault))
 
   -- nothing was written: memory was refused, or the input
   abbrev pub WritesNone : PrintFault → Type 0

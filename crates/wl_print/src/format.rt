@@ -1,6 +1,6 @@
 //! Any plan as one of version 4.
 ghost use Rattle.std.specs.Prelude.{◌≡◌, ◌≢◌, Ok, Err, IfOk, IfErr, option_map, string_bytes};
-ghost use Rattle.wl_print.specs.Formats.{Formats, early_after, early_before, early_frame, early_in, formatted, order_fault, upgraded};
+ghost use Rattle.wl_print.specs.Formats.{Formats, early_after, early_before, early_frame, early_in, rewritten, order_fault, upgraded};
 ghost use Rattle.wl_print.specs.Written.{plan_words};
 ghost use Rattle.wl_print.specs.declared.fault.PrintFault.TheVariants.{Memory};
 
@@ -51,9 +51,9 @@ fn order_fault(text: &PlanText) -> Option<(u64, u64)>
 }
 
 /// Returns the plan of a text in version 4, or why there is none.
-fn formatted(alloc: Global, text: PlanText) -> Result<PlanText, PrintFault>
-    ensures ok { IfOk result (λ made. formatted text ≡ Ok made) }
-    ensures fault { IfErr result (λ e. e ≢ Memory → formatted text ≡ Err e) }
+fn rewritten(alloc: Global, text: PlanText) -> Result<PlanText, PrintFault>
+    ensures ok { IfOk result (λ made. rewritten text ≡ Ok made) }
+    ensures fault { IfErr result (λ e. e ≢ Memory → rewritten text ≡ Err e) }
 {
     text.plan(alloc)?;
     match order_fault(&text) {
@@ -76,7 +76,7 @@ pub fn format_run<R: Source, W: Sink>(
     ensures { Formats R.gives W.takes reader.old reader.new writer.old writer.new result }
 {
     let text = read_text(alloc, reader)?;
-    let made = formatted(alloc, text)?;
+    let made = rewritten(alloc, text)?;
     let words = plan_text(alloc, &made)?;
     write_all(words.as_bytes(), writer)?;
     Ok(())
