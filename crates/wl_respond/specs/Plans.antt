@@ -1,5 +1,5 @@
 -- Plans whose queues have the frames of a table of messages.
-use Rattle.std.specs.Prelude.{◌≡◌, ℕ, ◌+◌, ◌*◌, ◌==◌, ◌&&◌, ◌<◌, ◌≤◌, Bool, false, List, [], length, Option, Some, slice_index_or}
+use Rattle.std.specs.Prelude.{◌≡◌, ℕ, ◌+◌, ◌*◌, ◌==◌, ◌&&◌, ◌<◌, ◌≤◌, nat_le, Bool, true, false, List, [], ◌∷◌, length, Option, None, Some, slice_index_or, ⊤, if◌then◌else◌}
 use Rattle.wl_level.specs.declared.Level.{Level}
 use Rattle.wl_level.specs.Places.{first_place}
 use Rattle.wl_segments.specs.Lengths.{bit_quanta, sample_at}
@@ -50,6 +50,33 @@ pub record HasMessages (messages : List MessageWait) (i from : ℕ) (queue : Lis
 -- the quantum of a node's eleventh sample (ISO 11898-1, bus integration)
 abbrev pub eleventh_sample : Plan → ℕ → ℕ
 eleventh_sample plan i = 10 * bit_quanta (setup_at plan i).segments + sample_at (setup_at plan i).segments
+
+-- The same, entry by entry: the next one is ready no sooner, and the next one of its message a period later.
+abbrev pub starts_after : ℕ → List Queued → Bool
+starts_after ready [] = true
+starts_after ready (next ∷ later) = nat_le ready next.ready
+
+abbrev pub comes_from : (field earliest : ℕ) → List Queued → Bool
+comes_from field earliest [] = true
+comes_from field earliest (next ∷ later) = if field_of next.frame == field then nat_le earliest next.ready else comes_from field earliest later
+
+abbrev pub spaced_by : List MessageWait → Queued → List Queued → Option ℕ → Bool
+spaced_by messages entry later None = false
+spaced_by messages entry later (Some e) = comes_from (field_of entry.frame) (entry.ready + (message_at messages e).every) later
+
+abbrev pub is_spaced : List MessageWait → ℕ → Queued → List Queued → Bool
+is_spaced messages i entry later = spaced_by messages entry later (message_of messages i entry.frame)
+
+-- an entry, before those that follow
+pub record GoesBefore (messages : List MessageWait) (i from : ℕ) (entry : Queued) (later : List Queued) : Type 0 where
+  pub late : from ≤ entry.ready
+  pub known : HasMessage messages i entry
+  pub order : starts_after entry.ready later ≡ true
+  pub spaced : is_spaced messages i entry later ≡ true
+
+abbrev pub GoInOrder : List MessageWait → (i from : ℕ) → List Queued → Type 0
+GoInOrder messages i from [] = ⊤
+GoInOrder messages i from (entry ∷ later) = GoesBefore messages i from entry later × GoInOrder messages i from later
 
 -- So it is at each node of a plan, and no frame is ready before its node's eleventh sample.
 abbrev pub KeepsTable : Plan → List MessageWait → Type 0

@@ -6,6 +6,12 @@
 
 mod inequality;
 mod message;
+mod plan;
 mod row;
+mod search;
+mod table;
 
 pub use message::{MessageWait, pass};
+pub use plan::keeps_table;
+pub use search::{Found, bounds_of};
+pub use table::{ONCE, table_of};

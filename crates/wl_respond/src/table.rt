@@ -1,0 +1,110 @@
+//! The table of messages of a plan, without bounds.
+ghost use Rattle.std.specs.Prelude.{◌<◌, length, IfSome};
+
+use crate::message::MessageWait;
+use std::alloc::{AllocError, Global};
+use wl_bound::field_of;
+use wl_node::Queued;
+use wl_plan::CheckedPlan;
+
+/// The period of a message that comes once.
+pub const ONCE: u64 = u64::MAX;
+
+/// A message, and the quantum at which its last frame so far is ready.
+#[derive(Clone, Copy)]
+struct Seen {
+    message: MessageWait,
+    last: u64,
+}
+
+/// Returns the place of the message of node `i` with that field, if it has been seen.
+fn place_of(seen: &[Seen], i: u8, field: u64) -> Option<usize>
+    ensures { IfSome result (λ e. e < length seen.now) }
+{
+    let mut found = None;
+    for e in 0..seen.len() {
+        if seen[e].message.node == i && seen[e].message.field == field {
+            found = Some(e);
+        }
+    }
+    found
+}
+
+/// Returns a message with one more frame.
+fn with_entry(seen: Seen, entry: &Queued, bits: u8) -> Seen {
+    let gap = entry.ready.saturating_sub(seen.last);
+    let message = MessageWait {
+        bits: seen.message.bits.max(bits),
+        every: seen.message.every.min(gap),
+        ..seen.message
+    };
+    Seen {
+        message,
+        last: entry.ready,
+    }
+}
+
+/// Returns a message with one frame.
+fn first_entry(i: u8, entry: &Queued, field: u64, bits: u8) -> Seen {
+    let message = MessageWait {
+        node: i,
+        frame: entry.frame,
+        field,
+        level: field,
+        bits,
+        every: ONCE,
+        window: 0,
+        wait: 0,
+    };
+    Seen {
+        message,
+        last: entry.ready,
+    }
+}
+
+/// Adds an entry of node `i` to the messages. Refused only when out of memory.
+fn see(seen: &mut Vec<Seen>, i: u8, entry: &Queued) -> Result<(), AllocError> {
+    let field = field_of(&entry.frame);
+    let bits = entry.frame.stuffed().len() as u8;
+    match place_of(seen.as_slice(), i, field) {
+        Some(e) => {
+            seen[e] = with_entry(seen[e], entry, bits);
+            Ok(())
+        }
+        None => {
+            seen.push(first_entry(i, entry, field, bits))?;
+            Ok(())
+        }
+    }
+}
+
+/// Returns the greatest field of a message of node `i`.
+fn level_of(seen: &[Seen], i: u8) -> u64 {
+    let mut level = 0;
+    for one in seen {
+        if one.message.node == i {
+            level = one.message.field.max(level);
+        }
+    }
+    level
+}
+
+/// Returns the messages of a plan: the frames of one node with one field each, in the order of the first of them. The period of a message is the
+/// least number of quanta between two of its frames that follow one another, or `ONCE`. They have no bounds yet. Refused only when out of memory.
+pub fn table_of(alloc: Global, plan: &CheckedPlan) -> Result<Vec<MessageWait>, AllocError> {
+    let mut seen = Vec::new(alloc);
+    for i in 0..plan.nodes() {
+        for entry in plan.node(i).queue.as_slice() {
+            see(&mut seen, i, entry)?;
+        }
+    }
+    let mut messages = Vec::new(alloc);
+    for one in seen.as_slice() {
+        let level = level_of(seen.as_slice(), one.message.node);
+        messages.push(MessageWait {
+            level,
+            ..one.message
+        })?;
+    }
+    Ok(messages)
+}
