@@ -16,6 +16,7 @@ use Rattle.wl_plan.specs.Limits.{most_quanta, most_queued}
 use Rattle.wl_plan.specs.declared.check.PlanFault.TheVariants as refusal
 use Rattle.wl_node.specs.declared.setup.Queued.{Queued}
 use Rattle.wl_node.specs.declared.setup.NodeSetup.{NodeSetup}
+use Rattle.wl_node.specs.declared.setup.QueueOrder.TheVariants.{Fifo}
 use Rattle.wl_plan.specs.declared.plan.Plan.{Plan}
 use Rattle.std.specs.Fmt.{digits}
 use Rattle.std.specs.Char.{encode_utf8}
@@ -72,6 +73,8 @@ setup_with queue = record {
   clock = record { offset = 0; rates = record { from = 0; num = 100; den = 1 } ∷ [] };
   segments = record { prop = 3; ps1 = 3; ps2 = 3; sjw = 2; sync = After };
   queue = queue;
+  order = Fifo;
+  until = None;
 }
 
 abbrev cable : Cable

@@ -15,6 +15,7 @@ use Rattle.wl_frame.specs.Grammar.{Content, frame_of_numbers}
 use Rattle.wl_topology.specs.declared.Place.{Place}
 use Rattle.wl_topology.specs.Delays.{Cable, topology_within}
 use Rattle.wl_node.specs.declared.setup.Queued.{Queued}
+use Rattle.wl_node.specs.declared.setup.QueueOrder.TheVariants.{Fifo}
 use Rattle.wl_node.specs.declared.setup.NodeSetup.{NodeSetup}
 use Rattle.wl_plan.specs.declared.plan.Disturbance.{Disturbance}
 use Rattle.wl_plan.specs.declared.plan.Plan.{Plan}
@@ -134,7 +135,7 @@ setup_of text (i, node) =
     after (clock_in (limits_in text.version) i node)
     (λ clock. after (with_fault (fault.NodeSegments i) (segments_of_node text.sync node))
     (λ segments. after (each (queued_of i) (enumerate_from 0 node.frame))
-    (λ queue. Ok (record { clock = clock; segments = segments; queue = queue_in (has_traffic text.version) clock (min text.end latest_end) node.frame queue }))))
+    (λ queue. Ok (record { clock = clock; segments = segments; queue = queue_in (has_traffic text.version) clock (min text.end latest_end) node.frame queue; order = Fifo; until = None }))))
 
 -- where a node sits
 abbrev pub place_of : NodeText → Place

@@ -22,7 +22,7 @@ use wl_device::Source;
 use wl_frame::frame::Frame;
 use wl_level::Listed;
 use wl_limits::Limits;
-use wl_node::{NodeSetup, Queue, Queued};
+use wl_node::{NodeSetup, Queue, QueueOrder, Queued};
 use wl_plan::{CheckedPlan, Disturbance, Disturbances, LATEST_END, Nodes, Plan};
 use wl_segments::{Segments, SegmentsFault, SyncRules};
 use wl_topology::{Place, Topology};
@@ -140,6 +140,8 @@ impl NodeText {
             clock,
             segments,
             queue,
+            order: QueueOrder::Fifo,
+            until: None,
         })
     }
 
