@@ -16,6 +16,7 @@ import tomllib
 from bisect import bisect_left, bisect_right
 from fractions import Fraction
 from heapq import heapify, heapreplace
+from itertools import takewhile
 from typing import NamedTuple
 
 DOMINANT, RECESSIVE = 0, 1
@@ -221,6 +222,10 @@ class Frame(NamedTuple):
         head = [0] + sent_id + [int(self.remote), 0, 0] + bits_of(self.dlc, 4)
         body = head + [bit for byte in self.data for bit in bits_of(byte, 8)]
         return body + bits_of(crc15(body), 15)
+
+    def arbitration(self):
+        """Its arbitration field: of two different ones the lesser wins, a part before the whole (B 3.1)."""
+        return self.bits()[1:header(self.extended)[0] + 1]
 
     def fault(self):
         if self.id > 0x7FF and not self.extended: return "Id"
@@ -527,7 +532,14 @@ class Node:
     def next_tick(self):
         return self.setup.clock.at(self.quanta)
 
+    def leave(self):
+        """A quantum of a node that has left the bus: it drives recessive and looks no more (P)."""
+        if self.drive == DOMINANT: self.changes.append(self.next_tick())
+        self.drive = RECESSIVE
+        self.quanta += 1
+
     def quantum(self, level):
+        if self.setup.until is not None and self.quanta >= self.setup.until: return self.leave()
         stays = self.machine.idle(), self.machine.awaits_start(), self.drive == DOMINANT, self.machine.integrates()
         beat, sync = self.bit_clock.step(level, *stays)
         if sync == "Hard": self.hards += 1
@@ -549,10 +561,15 @@ class Node:
         if word == "flag": word = self.machine.flag_kind + "_flag"
         return self.counters.tec, self.counters.rec, self.counters.mode(), word
 
+    def head(self):
+        """The frame that it would send: its first one or, by priority, the one that wins arbitration among the first ones that are ready (P)."""
+        ready = (queued.frame for queued in takewhile(lambda queued: queued.ready <= self.quanta, self.waiting))
+        return min(ready, key=Frame.arbitration, default=None) if self.setup.by_priority else next(ready, None)
+
     def sample(self, level):
         self.samples += 1
         mode = self.counters.mode()
-        head = self.waiting[0].frame if self.waiting and self.waiting[0].ready <= self.quanta else None
+        head = self.head()
         if level == DOMINANT and not self.setup.segments.book: head = None  # a dominant bit is no start of frame of its own (P)
         where, state, role = self.machine.next_place(), self.machine.state, self.machine.role
         happened = self.machine.bit(level, head, mode)
@@ -563,8 +580,7 @@ class Node:
         if self.machine.done:
             what, frame = self.machine.done
             self.frames.append((what, self.quanta, frame))
-            if what == "sent": self.waiting.pop(0)
-
+            if what == "sent": self.waiting.pop(next(n for n, queued in enumerate(self.waiting) if queued.frame == frame))
 
     def note(self, where, state, role, happened, mode):
         """What the sample did, in the words of a trace."""
@@ -637,6 +653,8 @@ class Setup(NamedTuple):
     clock: Clock
     segments: Segments
     queue: list
+    by_priority: bool = False  # its queue is sent by priority, not in its order
+    until: int | None = None  # the quantum from which on it has left the bus
 
 
 class Plan(NamedTuple):

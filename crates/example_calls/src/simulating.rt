@@ -5,7 +5,7 @@ use std::alloc::Global;
 use wl_clock::Clock;
 use wl_frame::frame::Frame;
 use wl_level::Listed;
-use wl_node::{NodeSetup, Queue, Queued};
+use wl_node::{NodeSetup, Queue, QueueOrder, Queued};
 use wl_plan::Plan;
 use wl_report::report;
 use wl_segments::Segments;
@@ -18,6 +18,8 @@ fn node(queue: Queue) -> Result<NodeSetup> {
         clock: Clock::new(0, 100, 1).context("a clock of 100 ticks a quantum")?,
         segments: Segments::new(3, 3, 3, 2).context("bits of 10 quanta")?,
         queue,
+        order: QueueOrder::Fifo,
+        until: None,
     })
 }
 

@@ -14,7 +14,7 @@ use wl_clock::Clock;
 use wl_confine::Mode;
 use wl_frame::frame::Frame;
 use wl_level::{Level, Listed};
-use wl_node::{Node, NodeSetup, Queue, Queued, Samples};
+use wl_node::{Node, NodeSetup, Queue, QueueOrder, Queued, Samples};
 use wl_segments::Segments;
 
 /// More than any row runs.
@@ -77,6 +77,8 @@ fn node(alloc: Global, queue: Queue) -> Option<Node> {
         clock: Clock::new(0, 100, 1).ok()?,
         segments: Segments::new(3, 3, 3, 2).ok()?,
         queue,
+        order: QueueOrder::Fifo,
+        until: None,
     };
     Node::new(alloc, setup).ok()
 }

@@ -1,9 +1,10 @@
 -- Two nodes and their doubts, computed: 500 kbit/s by quanta of 125 ns, and the same 2 % slow.
-use Rattle.std.proofs.Common.{◌≡◌, ℕ, Bool, true, false, List, [], ◌∷◌, refl}
+use Rattle.std.proofs.Common.{◌≡◌, ℕ, Bool, true, false, List, [], ◌∷◌, None, refl}
 use Rattle.wl_clock.specs.Timing.{tick_of}
 use Rattle.wl_segments.specs.declared.SyncRules.TheVariants.{After}
 use Rattle.wl_frame.specs.Grammar.{Content}
 use Rattle.wl_node.specs.declared.setup.NodeSetup.{NodeSetup}
+use Rattle.wl_node.specs.declared.setup.QueueOrder.TheVariants.{Fifo}
 use Rattle.wl_plan.specs.Limits.{most_quanta}
 use Rattle.wl_bound.specs.Verdicts.{idle_at}
 use Rattle.wl_explain.specs.Doubts.{frame_bits, difference, borne, longest_round, begins_before, wanted_bits, has_no_room}
@@ -13,6 +14,8 @@ node offset num = record {
   clock = record { offset = offset; rates = record { from = 0; num = num; den = 1000 } ∷ [] };
   segments = record { prop = 8; ps1 = 4; ps2 = 3; sjw = 2; sync = After };
   queue = [];
+  order = Fifo;
+  until = None;
 }
 
 abbrev content : Bool → List ℕ → Content

@@ -14,8 +14,8 @@ impl Node {
     ghost use Rattle.wl_node.specs.Reached.{IsNode, node_setup};
 
     /// Returns how many bits of its frame a transmitter still has, without stuff bits, up to the end of the CRC sequence: at most 117. It
-    /// is 0 for a node that doesn't transmit or has left, before the start of frame is sampled, and after the CRC sequence (Bosch CAN 2.0 part B,
-    /// sections 3.2.1 and 5).
+    /// is 0 for a node that doesn't transmit, before the start of frame is sampled, and after the CRC sequence (Bosch CAN 2.0 part B,
+    /// sections 3.2.1 and 5). One that has left transmits nothing.
     pub fn to_send(&self) -> usize
         ensures { (levels : List Level) → IsNode levels self.now → result ≡ to_send_of (node_setup self.now) levels }
     {

@@ -67,8 +67,8 @@ impl StayingNode {
     /// Puts the node back to where it was at a mark.
     pub fn back(&mut self, mark: &StayingMark)
         requires { HasStayed mark.now self.old }
-        ensures node { (levels more : List Level) → IsStayingMark self.old.setup levels mark.now → IsStaying (levels ++ more) self.old
-            → IsStaying levels self.new }
+        ensures node { (levels more : List Level) → IsStayingMark self.old.setup levels mark.now
+            → IsStaying (levels ++ more) self.old → IsStaying levels self.new }
         ensures setup { self.new.setup ≡ self.old.setup }
         ensures quanta { self.new.progress.quanta ≡ mark.now.quanta }
         ensures keeps { self.new.progress.traffic.samples.keeps ≡ self.old.progress.traffic.samples.keeps }
@@ -86,8 +86,8 @@ impl StayingNode {
         ensures quanta { result ≡ true → self.new.progress.quanta ≡ mark.now.quanta }
         ensures keeps { self.new.progress.traffic.samples.keeps ≡ self.old.progress.traffic.samples.keeps }
         ensures same { result ≡ false → self.new ≡ self.old }
-        ensures goes { self.old.progress.traffic.samples.keeps ≡ false → (levels more : List Level) → IsStaying levels self.old
-            → IsStayingMark self.old.setup (levels ++ more) mark.now
+        ensures goes { self.old.progress.traffic.samples.keeps ≡ false → (levels more : List Level)
+            → IsStaying levels self.old → IsStayingMark self.old.setup (levels ++ more) mark.now
             → (staying_history self.old.setup (levels ++ more)).frames ≡ (staying_history self.old.setup levels).frames
             → result ≡ true }
     {

@@ -75,7 +75,8 @@ impl StayingNode {
 
     /// Returns the level that the node drives since its last quantum.
     pub fn drive(&self) -> Level
-        ensures { (levels : List Level) → IsStaying levels self.now → result ≡ (staying_history self.now.setup levels).drive }
+        ensures { (levels : List Level) → IsStaying levels self.now
+            → result ≡ (staying_history self.now.setup levels).drive }
     {
         self.progress.drive
     }

@@ -96,7 +96,8 @@ fn count(errors: &mut u64, happened: Happened)
 /// Takes the machine off the bus if a sample made the mode bus off: it drives recessive then.
 fn switch_off(machine: &mut Machine, pending: &mut Level, before: Mode, after: Mode)
     ensures { (past : List Input) → IsMachine machine.old past → pending.old ≡ drive_of (stretch_of past)
-        → IsMachine machine.new (past ++ switched_off before after) × (pending.new ≡ drive_of (stretch_of (past ++ switched_off before after))) }
+        → IsMachine machine.new (past ++ switched_off before after)
+        × (pending.new ≡ drive_of (stretch_of (past ++ switched_off before after))) }
 {
     if before != Mode::Off && after == Mode::Off {
         machine.bus_off();

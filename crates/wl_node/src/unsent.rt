@@ -109,7 +109,7 @@ impl Unsent {
         Some(frame)
     }
 
-    /// Puts them back to where these frames had left them, so many of which were sent.
+    /// Puts them back to where these frames had left them; `sent` says how many of these were sent.
     pub fn back(&mut self, setup: &NodeSetup, sent: usize, passed: &[Passed])
         ensures place { self.new.place ≡ self.old.place }
         ensures passed { (all : List PassedFrame) → IsUnsent setup.now self.old all
@@ -131,7 +131,8 @@ impl Unsent {
     /// Takes out of the whole queue those of these frames that were sent.
     fn send_again(&mut self, setup: &NodeSetup, passed: &[Passed])
         ensures place { self.new.place ≡ self.old.place }
-        ensures passed { setup.now.order ≡ QueueOrder.Priority → IsUnsent setup.now self.old [] → IsUnsent setup.now self.new passed.now }
+        ensures passed { setup.now.order ≡ QueueOrder.Priority → IsUnsent setup.now self.old []
+            → IsUnsent setup.now self.new passed.now }
     {
         for k in 0..passed.len() {
             if passed[k].sent {
@@ -143,8 +144,9 @@ impl Unsent {
     /// Takes out the first frame that carries this.
     fn send_frame(&mut self, setup: &NodeSetup, frame: &Frame)
         ensures place { self.new.place ≡ self.old.place }
-        ensures passed { setup.now.order ≡ QueueOrder.Priority → (passed : List PassedFrame) (quantum : ℕ) → IsUnsent setup.now self.old passed
-            → IsUnsent setup.now self.new (passed ++ record { sent = true; quantum = quantum; frame = frame.now } ∷ []) }
+        ensures passed { setup.now.order ≡ QueueOrder.Priority → (passed : List PassedFrame) (quantum : ℕ)
+            → IsUnsent setup.now self.old passed → IsUnsent setup.now self.new
+            (passed ++ record { sent = true; quantum = quantum; frame = frame.now } ∷ []) }
     {
         if let Some(place) = place_of(self.frames(setup), frame) {
             let _ = self.send_at(place);
@@ -245,7 +247,7 @@ fn take_out(line: &mut Vec<Queued>, sent: usize, place: usize)
     line[sent] = taken;
 }
 
-/// Puts a queue into a line of as many frames.
+/// Puts a queue into a line of the same length.
 fn fill(line: &mut Vec<Queued>, queue: &[Queued])
     ensures { length line.old.items ≡ length queue.now → line.new.items ≡ queue.now }
 {

@@ -96,7 +96,8 @@ impl Rerun {
         ensures run { (levels : List Level) → length levels ≡ quantum → IsRerun setup.now levels self.old
             → IsRerun setup.now (levels ++ replicate result level) self.new }
         ensures same { (levels : List Level) → length levels ≡ quantum → IsRerun setup.now levels self.old
-            → (m : ℕ) → m ≤ result → snapshot_of setup.now (levels ++ replicate m level) ≡ snapshot_of setup.now levels }
+            → (m : ℕ) → m ≤ result
+            → snapshot_of setup.now (levels ++ replicate m level) ≡ snapshot_of setup.now levels }
         ensures syncs { (levels : List Level) → length levels ≡ quantum → IsRerun setup.now levels self.old
             → syncs_of setup.now (levels ++ replicate result level) ≡ syncs_of setup.now levels }
         ensures few { result ≤ most }
@@ -148,7 +149,7 @@ impl Rerun {
         Ok(())
     }
 
-    /// Runs such quanta with the first of which it leaves the bus, or has left it.
+    /// Runs such quanta after it has left the bus, or leaves it with the first one.
     fn go_away(&mut self, setup: &NodeSetup, quantum: u64, level: Level, most: u64)
         requires { 0 < most → is_after setup.now.until quantum ≡ true }
         ensures { (syncs : List GivenNoted) → RunsOver setup.now quantum most level self.old self.new syncs syncs }

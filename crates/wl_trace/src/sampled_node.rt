@@ -51,7 +51,8 @@ fn handed(setup: &NodeSetup, level: Level, head: Option<Frame>) -> Option<Frame>
 
 /// Takes the frame out that a sample completed, if it was sent.
 fn pass(unsent: &mut Unsent, setup: &NodeSetup, done: Done)
-    ensures { (ended : Ended) (past : List Passed) (quantum : ℕ) → done ≡ done_of ended → IsUnsent setup.now unsent.old past
+    ensures { (ended : Ended) (past : List Passed) (quantum : ℕ) → done ≡ done_of ended
+        → IsUnsent setup.now unsent.old past
         → ((frame : Content) → ended ≡ SentFrame frame
         → IsChosen setup.now.order (unsent_by setup.now.order setup.now.queue past) frame unsent.old.place)
         → IsUnsent setup.now unsent.new (past ++ passed_frames quantum ended) × (unsent.new.place ≡ unsent.old.place) }
@@ -149,7 +150,8 @@ impl SampledNode {
     pub(crate) fn sample(&mut self, setup: &NodeSetup, level: Level, head: Option<&Frame>) -> Turn
         ensures past { (p : SampledPast) (quantum : ℕ)
             → IsGiven setup.now self.old p quantum level (option_copied head.entry)
-            → IsSampledNode setup.now self.old p → IsSampledNode setup.now self.new (past_after setup.now p (quantum, level)) }
+            → IsSampledNode setup.now self.old p
+            → IsSampledNode setup.now self.new (past_after setup.now p (quantum, level)) }
         ensures happened { (p : SampledPast) (quantum : ℕ)
             → IsGiven setup.now self.old p quantum level (option_copied head.entry)
             → IsSampledNode setup.now self.old p → result.happened ≡ (judged_then setup.now p quantum level).happened }

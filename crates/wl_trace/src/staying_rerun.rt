@@ -121,7 +121,8 @@ impl StayingRerun {
     pub fn quantum(&mut self, setup: &NodeSetup, quantum: u64, level: Level) -> Option<Noted>
         requires few { quantum < 2 ^ 64 - 1 }
         ensures sync { (levels : List Level) → length levels ≡ quantum
-            → RunsStaying setup.now levels self.old → result ≡ sync_next setup.now (staying_history setup.now levels) level }
+            → RunsStaying setup.now levels self.old
+            → result ≡ sync_next setup.now (staying_history setup.now levels) level }
         ensures running { (levels : List Level) → length levels ≡ quantum
             → RunsStaying setup.now levels self.old → RunsStaying setup.now (levels ++ level ∷ []) self.new }
         ensures run { (levels : List Level) → length levels ≡ quantum
@@ -182,7 +183,8 @@ impl StayingRerun {
         ensures run { (setup : NodeSetup) (levels : List Level) → IsStayingRerun setup levels self.old
             → IsStayingRerun setup (levels ++ replicate result level) self.new }
         ensures same { (setup : NodeSetup) (levels : List Level) → IsStayingRerun setup levels self.old
-            → (m : ℕ) → m ≤ result → staying_snapshot setup (levels ++ replicate m level) ≡ staying_snapshot setup levels }
+            → (m : ℕ) → m ≤ result
+            → staying_snapshot setup (levels ++ replicate m level) ≡ staying_snapshot setup levels }
         ensures syncs { (setup : NodeSetup) (levels : List Level) → IsStayingRerun setup levels self.old
             → staying_syncs setup (levels ++ replicate result level) ≡ staying_syncs setup levels }
         ensures few { result ≤ most }

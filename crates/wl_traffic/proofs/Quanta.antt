@@ -8,8 +8,9 @@ use Rattle.wl_sync.specs.declared.Beat.TheVariants as beats
 use Rattle.wl_sync.specs.Bits.{beat_of}
 use Rattle.wl_clock.specs.Timing.{tick_of}
 use Rattle.wl_node.specs.declared.setup.NodeSetup.{NodeSetup}
-use Rattle.wl_node.specs.History.{History, history_of, history_after, no_history, by_beat, seen_next}
+use Rattle.wl_node.specs.History.{History, history_of, staying_history, levels_there, history_after, no_history, by_beat, seen_next}
 use Rattle.wl_node.specs.Limits.{most_run_quanta}
+use Rattle.wl_node.proofs.Callers.{same_past, there_and_away}
 use Rattle.wl_plan.specs.declared.plan.Plan.{Plan}
 use Rattle.wl_plan.specs.PlanLine.{line_of, setup_at}
 use Rattle.wl_plan.specs.Limits.{latest_end, most_quanta}
@@ -54,11 +55,20 @@ module _ (setup : NodeSetup) where
       (let e = one_more setup h level in let f : length (history_after setup h level).seen + length levels ≡ length h.seen + suc (length levels) = omega arith in f)
       (fold_before levels (history_after setup h level) (after_before h level b))
 
-  samples_before : (levels : List Level) → Before (length levels) (history_of setup levels).samples
-  unfolding history_of
-  samples_before levels =
+  stays_before : (levels : List Level) → Before (length levels) (staying_history setup levels).samples
+  unfolding staying_history
+  stays_before levels =
       subst (λ n. Before n (fold (history_after setup) no_history levels).samples) (zero-add (length levels))
       (fold_before levels no_history (All-nil (λ s. s.0 < 0)))
+
+  -- those of a node that left are among the quanta before that
+  samples_before : (levels : List Level) → Before (length levels) (history_of setup levels).samples
+  samples_before levels =
+      subst (Before (length levels)) (sym (same_past setup levels).samples)
+      (λ k d b.
+      let q = stays_before (levels_there setup.until levels) k d b in
+      let few = there_and_away setup.until levels in
+      omega arith)
 
 module _ (plan : Plan) (checked : IsChecked plan) (sound : IsSound (line_of plan)) (laws : SimulationLaws) (in_time : SentInTime) (i : ℕ) (b : i < length plan.nodes) where
   samples_ran : Before (ran (line_of plan) i plan.end) (node_outcome_of plan i).samples

@@ -43,7 +43,7 @@ pub(crate) fn spans(
     requires { All (λ s. s.0 ≤ most_run_quanta) samples.now }
     ensures { IfOk result (λ spans. spans.items ≡ spans_of setup.now end samples.now) }
 {
-    let mut kept = SampledNode::new();
+    let mut kept = SampledNode::new(alloc, setup)?;
     let mut spans = Vec::new(alloc);
     for k in 0..samples.len() {
         let (quantum, level) = samples[k];

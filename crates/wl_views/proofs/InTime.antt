@@ -14,8 +14,9 @@ use Rattle.wl_machine.specs.Stretch.Ended.{NoFrame, Sent, Received}
 use Rattle.wl_machine.specs.Judged.{judged, stretch_of}
 use Rattle.wl_node.specs.declared.setup.NodeSetup.{NodeSetup}
 use Rattle.wl_node.specs.declared.setup.Passed.{Passed}
-use Rattle.wl_node.specs.History.{History, history_of, history_after, no_history, by_beat, passed_frames, sampled_next, seen_next, is_sent}
+use Rattle.wl_node.specs.History.{History, history_of, staying_history, levels_there, history_after, no_history, by_beat, passed_frames, sampled_next, seen_next, is_sent}
 use Rattle.wl_node.specs.Limits.{most_run_quanta}
+use Rattle.wl_node.proofs.Callers.{same_past, there_and_away}
 use Rattle.wl_serial.proofs.Callers.{all_below}
 use Rattle.wl_plan.specs.declared.plan.Plan.{Plan}
 use Rattle.wl_plan.specs.PlanLine.{line_of, setup_at}
@@ -63,11 +64,20 @@ module _ (setup : NodeSetup) where
       (let e = one_more setup h level in let f : length (history_after setup h level).seen + length levels ≡ length h.seen + suc (length levels) = omega arith in f)
       (fold_before levels (history_after setup h level) (after_before h level b))
 
-  frames_before : (levels : List Level) → Before (length levels) (history_of setup levels).frames
-  unfolding history_of
-  frames_before levels =
+  stays_before : (levels : List Level) → Before (length levels) (staying_history setup levels).frames
+  unfolding staying_history
+  stays_before levels =
       subst (λ n. Before n (fold (history_after setup) no_history levels).frames) (zero-add (length levels))
       (fold_before levels no_history (All-nil (λ p. p.quantum < 0)))
+
+  -- those of a node that left are among the quanta before that
+  frames_before : (levels : List Level) → Before (length levels) (history_of setup levels).frames
+  frames_before levels =
+      subst (Before (length levels)) (sym (same_past setup levels).frames)
+      (λ k d b.
+      let q = stays_before (levels_there setup.until levels) k d b in
+      let few = there_and_away setup.until levels in
+      omega arith)
 
 -- of each entry, node by node
 all_entries : (P : ℕ × Content → Type 0) (F : ℕ → NodeOutcome → List (ℕ × Content)) (f : ℕ → NodeOutcome) (a n : ℕ)

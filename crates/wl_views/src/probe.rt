@@ -1,5 +1,5 @@
-//! A probe of a node: the node runs again beside the line at its place, and takes no memory.
-ghost use Rattle.std.specs.Prelude.{◌≡◌, ℕ, ◌||◌, ◌+◌, ◌-◌, ◌<◌, ◌≤◌, List, length};
+//! A probe of a node: the node runs again beside the line at its place. Only its begin takes memory.
+ghost use Rattle.std.specs.Prelude.{◌≡◌, ℕ, ◌||◌, ◌+◌, ◌-◌, ◌<◌, ◌≤◌, IfOk, List, length};
 ghost use Rattle.wl_level.specs.declared.Level.{Level};
 ghost use Rattle.wl_level.specs.Levels.{level_of};
 ghost use Rattle.wl_topology.specs.Limits.{longest_delay};
@@ -18,6 +18,7 @@ ghost use Rattle.wl_views.specs.Probe.{Awaits, IsLimit, SawUpTo, Watches, next_o
 
 use crate::place_line::PlaceLine;
 use crate::signals::NodeSignals;
+use std::alloc::{AllocError, Global};
 use wl_clock::Clock;
 use wl_level::Level;
 use wl_plan::CheckedPlan;
@@ -64,18 +65,17 @@ fn next_tick(clock: &Clock, end: u64, quantum: u64) -> u64
 }
 
 impl Probe {
-    /// Returns the probe of node `i`, before its first quantum.
-    pub(crate) fn new(plan: &CheckedPlan, i: usize) -> Probe
+    /// Returns the probe of node `i`, before its first quantum. Refused only if memory runs out.
+    pub(crate) fn new(alloc: Global, plan: &CheckedPlan, i: usize) -> Result<Probe, AllocError>
         requires node { i < length plan.now.nodes }
-        ensures remembers { Remembers plan.now i 0 result.line }
-        ensures awaits { Awaits plan.now i 0 result }
-        ensures quanta { result.quanta ≡ 0 }
-        ensures limit { result.limit ≡ 0 }
+        ensures remembers { IfOk result (λ probe. Remembers plan.now i 0 probe.line) }
+        ensures awaits { IfOk result (λ probe. Awaits plan.now i 0 probe) }
+        ensures limit { IfOk result (λ probe. probe.limit ≡ 0) }
     {
         let (setup, end) = (&plan.nodes.as_slice()[i], plan.end);
-        let node = Rerun::new(setup.segments);
+        let node = Rerun::new(alloc, setup)?;
         let snapshot = node.snapshot();
-        Probe {
+        Ok(Probe {
             line: PlaceLine::new(),
             node,
             snapshot,
@@ -83,7 +83,7 @@ impl Probe {
             next: next_tick(&setup.clock, end, 0),
             limit: 0,
             until: 0,
-        }
+        })
     }
 
     /// Returns the signals.
@@ -172,10 +172,11 @@ impl Probe {
         plan.laws();
         wl_plan::simulation_laws();
         let line = self.line.found();
-        let (clock, end) = (&plan.nodes.as_slice()[i].clock, plan.end);
+        let (setup, end) = (&plan.nodes.as_slice()[i], plan.end);
         let most = self.limit.saturating_sub(self.quanta);
-        self.quanta += self.node.pass(level_of(line.dominant), most);
-        self.next = next_tick(clock, end, self.quanta);
+        let level = level_of(line.dominant);
+        self.quanta += self.node.pass(setup, self.quanta, level, most);
+        self.next = next_tick(&setup.clock, end, self.quanta);
         self.until = line.until.min(self.next);
     }
 }

@@ -121,7 +121,7 @@ pub(crate) fn all_probes(
     let nodes = plan.nodes.len();
     let mut probes = Vec::with_capacity(alloc, nodes)?;
     for i in 0..nodes {
-        let mut node = Probe::new(plan, i);
+        let mut node = Probe::new(alloc, plan, i)?;
         node.go(plan, outcome, i, 0);
         probes.push(node)?;
     }

@@ -228,7 +228,7 @@ fn syncs_at_end(
     wl_plan::simulation_laws();
     let (setup, end) = (&plan.nodes.as_slice()[i], plan.end);
     let mut line = PlaceLine::new();
-    let mut node = Rerun::new(setup.segments);
+    let mut node = Rerun::new(alloc, setup)?;
     let mut syncs = Vec::new(alloc);
     let mut quanta = 0;
     let mut t = 0;

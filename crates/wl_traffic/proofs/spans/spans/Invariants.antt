@@ -1,7 +1,5 @@
-use Rattle.std.proofs.Common.{◌≡◌, ◌≤◌, map, take}
-use Rattle.std.specs.Prelude.{count_by}
+use Rattle.std.proofs.Common.{◌≡◌, map, take}
 use Rattle.std.specs.List.{range_with_len}
-use Rattle.wl_node.specs.History.{is_sent}
 use Rattle.wl_trace.specs.Replay.{IsSampledNode}
 use Rattle.wl_traffic.specs.States.{past_of_samples, span_at}
 use Rattle.wl_traffic.proofs.spans.spans.Given as goal
@@ -10,6 +8,5 @@ use Rattle.wl_traffic.proofs.spans.spans.Given as goal
 abbrev pub invariant-loop-k : goal.invariant-loop-k
 invariant-loop-k l = record {
   spans : l.spans.items ≡ map (span_at l.setup l.end l.samples) (range_with_len 0 l.k);
-  past : IsSampledNode l.kept (past_of_samples l.setup (take l.k l.samples));
-  sent : count_by is_sent (past_of_samples l.setup (take l.k l.samples)).frames ≤ l.k;
+  past : IsSampledNode l.setup l.kept (past_of_samples l.setup (take l.k l.samples));
 }

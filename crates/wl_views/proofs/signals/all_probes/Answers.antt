@@ -18,4 +18,4 @@ loop-i-preserved c =
     }
 
 pub go-requires-clause-limit : goal.go-requires-clause-limit
-go-requires-clause-limit c later q below = absurd (omega (arith, c.new-node.ensures.limit))
+go-requires-clause-limit c later q below = absurd (omega (arith, c.in_ok-node.ensures.limit))

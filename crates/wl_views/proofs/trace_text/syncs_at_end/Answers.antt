@@ -1,16 +1,16 @@
 -- From one change of the line to the next, up to the end.
-use Rattle.std.proofs.Common.{◌≡◌, ◌∙◌, ◌+◌, ◌-◌, ◌<◌, ◌≤◌, ◌++◌, [], ap, sym, subst, arith, inl, inr, ℕ, List, length, replicate}
+use Rattle.std.proofs.Common.{◌≡◌, ◌∙◌, ◌+◌, ◌-◌, ◌<◌, ◌≤◌, ◌++◌, [], ap, sym, subst, arith, inl, inr, ℕ, List, Option, length, replicate}
 use Rattle.std.proofs.lemmas.Bool.{cases_lt}
 use Rattle.wl_level.specs.declared.Level.{Level}
 use Rattle.wl_clock.specs.Timing.{tick_of}
 use Rattle.wl_node.specs.declared.setup.NodeSetup.{NodeSetup}
+use Rattle.wl_node.proofs.Callers.{none_yet}
 use Rattle.wl_plan.specs.declared.plan.Plan.{Plan}
 use Rattle.wl_plan.specs.PlanLine.{line_of, setup_at}
 use Rattle.wl_plan.specs.Simulation.{seen}
 use Rattle.wl_pulse.specs.declared.pulse.Pulse.{Pulse}
 use Rattle.wl_trace.specs.Rerun.{RunsAgain, RunsOver}
-use Rattle.wl_trace.specs.Starts.{starts_of}
-use Rattle.wl_trace.specs.Synced.{syncs_of}
+use Rattle.wl_trace.specs.Synced.{staying_syncs, syncs_of}
 use Rattle.wl_trace.proofs.Callers.{syncs_first}
 use Rattle.wl_views.proofs.Going.{clock_later, same_seen, setup_is}
 use Rattle.wl_views.proofs.Seeing.{all_seen}
@@ -24,11 +24,12 @@ loop-t-init c =
     c.index-as_slice-i.is ∙ setup_is c.args.plan.now c.as_slice.result.now c.args.i c.index-as_slice-i.result
     (c.as_slice.ensures ∙ ap (λ (p : Plan). p.nodes) c.deref.ensures.0) c.requires.node
     in
-    let was = c.new-node.ensures (setup_at c.args.plan.now c.args.i) (ap (λ (s : NodeSetup). s.segments) (sym setup)) in
+    let until : Option ℕ = (setup_at c.args.plan.now c.args.i).until in
     record {
       remembers = c.new-line.ensures c.args.plan.now c.args.i;
-      node = record { starts = length (starts_of (setup_at c.args.plan.now c.args.i) []); clock = was.clock; run = was.run; few = was.few; fewer = was.fewer };
-      syncs = c.new-syncs.ensures.items ∙ sym (syncs_first (setup_at c.args.plan.now c.args.i));
+      node = subst (λ (s : NodeSetup). RunsAgain s [] c.in_ok-node.node) setup c.in_ok-node.ensures.runs;
+      syncs = c.new-syncs.ensures.items
+          ∙ sym (ap (staying_syncs (setup_at c.args.plan.now c.args.i)) (none_yet until).there ∙ syncs_first (setup_at c.args.plan.now c.args.i));
       before = λ q below. absurd (omega arith);
       next = omega arith;
       inside = omega arith;

@@ -1,8 +1,9 @@
-use Rattle.std.proofs.Common.{◌≡◌, ◌∙◌, ap, sym, arith, []}
+use Rattle.std.proofs.Common.{◌≡◌, ◌∙◌, ap, subst, arith, []}
 use Rattle.wl_node.specs.declared.setup.NodeSetup.{NodeSetup}
 use Rattle.wl_plan.specs.declared.plan.Plan.{Plan}
 use Rattle.wl_plan.specs.PlanLine.{setup_at}
 use Rattle.wl_plan.specs.Simulation.{seen}
+use Rattle.wl_trace.specs.Rerun.{IsRerun}
 use Rattle.wl_views.specs.Probe.{next_of}
 use Rattle.wl_views.proofs.Going.{setup_is}
 use Rattle.wl_views.proofs.probe.Probe.new.Goals as goal
@@ -14,10 +15,13 @@ returns-clause-awaits c =
     c.index-as_slice-i.is ∙ setup_is c.args.plan.now c.as_slice.result.now c.args.i c.index-as_slice-i.result
     (c.as_slice.ensures ∙ ap (λ (p : Plan). p.nodes) c.deref.ensures.0) c.requires.node
     in
+    let node : IsRerun (setup_at c.args.plan.now c.args.i) [] c.in_ok-node.node =
+    subst (λ (s : NodeSetup). IsRerun s [] c.in_ok-node.node) setup c.in_ok-node.ensures.node
+    in
     record {
       runs = record {
-        node = c.new-node.ensures (setup_at c.args.plan.now c.args.i) (ap (λ (s : NodeSetup). s.segments) (sym setup));
-        snapshot = c.snapshot-snapshot.ensures (setup_at c.args.plan.now c.args.i) [] (c.new-node.ensures (setup_at c.args.plan.now c.args.i) (ap (λ (s : NodeSetup). s.segments) (sym setup)));
+        node = node;
+        snapshot = c.snapshot-snapshot.ensures (setup_at c.args.plan.now c.args.i) [] node;
         inside = λ m below. absurd (omega arith);
       };
       next = c.next_tick.ensures ∙ ap (λ (s : NodeSetup). next_of s.clock c.deref-2.result.now.end 0) setup
@@ -27,4 +31,4 @@ returns-clause-awaits c =
     }
 
 pub returns-clause-remembers : goal.returns-clause-remembers
-returns-clause-remembers c = c.new.ensures c.args.plan.now c.args.i
+returns-clause-remembers c = c.new-2.ensures c.args.plan.now c.args.i

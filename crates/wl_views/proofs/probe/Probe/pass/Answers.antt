@@ -25,9 +25,9 @@ next_tick-self-requires c =
     let n : ℕ = c.pass.result in
     let b = c.requires.node in
     let h = c.requires.seen in
-    let setup = setup_is plan c.as_slice.result.now i c.index-as_slice-i.result (c.as_slice.ensures ∙ ap (λ (p : Plan). p.nodes) c.deref.ensures.0) b in
+    let setup = c.index-as_slice-i.is ∙ setup_is plan c.as_slice.result.now i c.index-as_slice-i.result (c.as_slice.ensures ∙ ap (λ (p : Plan). p.nodes) c.deref.ensures.0) b in
     let ends : c.deref-2.result.now.end ≡ plan.end = ap (λ (p : Plan). p.end) c.deref-2.ensures.0 in
-    let few : n ≤ c.saturating_sub-most.result = omega (arith, c.pass.ensures.quanta (setup_at plan i) (seen (line_of plan) i k) h.runs.node) in
+    let few : n ≤ c.saturating_sub-most.result = c.pass.ensures.few in
     let inside : AreInside (line_of plan) i (k + n) =
     λ q below. elim (cases_lt q k) [
       | inl low ↦ h.runs.inside q low
@@ -52,17 +52,26 @@ returns c =
     let whole = c.found-line.ensures.until in
     let laws = c.simulation_laws.ensures in
     let sound = c.laws.ensures.sound in
-    let setup = setup_is plan c.as_slice.result.now i c.index-as_slice-i.result (c.as_slice.ensures ∙ ap (λ (p : Plan). p.nodes) c.deref.ensures.0) b in
+    let setup = c.index-as_slice-i.is ∙ setup_is plan c.as_slice.result.now i c.index-as_slice-i.result (c.as_slice.ensures ∙ ap (λ (p : Plan). p.nodes) c.deref.ensures.0) b in
     let ends : c.deref-2.result.now.end ≡ plan.end = ap (λ (p : Plan). p.end) c.deref-2.ensures.0 in
-    let few : n ≤ c.saturating_sub-most.result = omega (arith, c.pass.ensures.quanta (setup_at plan i) (seen (line_of plan) i k) h.runs.node) in
+    let few : n ≤ c.saturating_sub-most.result = c.pass.ensures.few in
+    let long = laws.length_seen (line_of plan) i k in
+    let node : IsRerun c.index-as_slice-i.result (seen (line_of plan) i k) c.args.self.now.node =
+    subst (λ (s : NodeSetup). IsRerun s (seen (line_of plan) i k) c.args.self.now.node) (sym setup) h.runs.node
+    in
     let during : (q : ℕ) → k ≤ q → q < k + n → (tick_of (setup_at plan i).clock q < held.until) × (tick_of (setup_at plan i).clock q < plan.end) =
     λ q from below.
     (let less : q < c.args.self.now.limit = omega (arith, c.saturating_sub-most.ensures, few) in
     let early = c.requires.limit q less in
     (omega arith, omega arith))
     in
+    let same : (m : ℕ) → m ≤ n
+    → snapshot_of (setup_at plan i) (seen (line_of plan) i k ++ replicate m c.level_of-level.result) ≡ snapshot_of (setup_at plan i) (seen (line_of plan) i k) =
+    λ m less. subst (λ (s : NodeSetup). snapshot_of s (seen (line_of plan) i k ++ replicate m c.level_of-level.result) ≡ snapshot_of s (seen (line_of plan) i k)) setup
+    (c.pass.ensures.same (seen (line_of plan) i k) long node m less)
+    in
     let plain : (m : ℕ) → m ≤ n → snapshot_of (setup_at plan i) (seen (line_of plan) i k ++ replicate m (level_of held.dominant)) ≡ snapshot_of (setup_at plan i) (seen (line_of plan) i k) =
-    λ m less. ap (λ (l : Level). snapshot_of (setup_at plan i) (seen (line_of plan) i k ++ replicate m l)) (sym c.level_of.ensures) ∙ c.pass.ensures.same (setup_at plan i) (seen (line_of plan) i k) h.runs.node m less
+    λ m less. ap (λ (l : Level). snapshot_of (setup_at plan i) (seen (line_of plan) i k ++ replicate m l)) (sym c.level_of-level.ensures) ∙ same m less
     in
     let timely = in_time laws plan sound i b t held line k n h.runs.inside h.before h.later during plain in
     let next : c.next_tick-self.result ≡ next_of (setup_at plan i).clock plan.end (k + n) = c.next_tick-self.ensures
@@ -73,9 +82,9 @@ returns c =
       runs = record {
         node =
             subst (λ (ls : List Level). IsRerun (setup_at plan i) ls c.pass.new.self)
-            (ap (λ (l : Level). seen (line_of plan) i k ++ replicate n l) c.level_of.ensures
+            (ap (λ (l : Level). seen (line_of plan) i k ++ replicate n l) c.level_of-level.ensures
             ∙ sym (same_seen laws plan sound i b t held line k n timely))
-            (c.pass.ensures.run (setup_at plan i) (seen (line_of plan) i k) h.runs.node);
+            (subst (λ (s : NodeSetup). IsRerun s (seen (line_of plan) i k ++ replicate n c.level_of-level.result) c.pass.new.self) setup (c.pass.ensures.run (seen (line_of plan) i k) long node));
         snapshot = snapshot;
         inside = all_inside laws plan sound i b t held line k n h.runs.inside h.before h.later during plain;
       };
