@@ -16,7 +16,7 @@ use Rattle.wl_bound.specs.Terms.{jump}
 use Rattle.wl_bound.specs.Conditions.{IsSound, failure_at, failure_in, failure_of, fails, fails_at, first_failure_of, is_asked, left_by, left_of, or_else, right_of}
 use Rattle.wl_bound.proofs.Greatest.{bounded, bounds_each}
 
-is_none_of : (o : Option ℕ) → is_some o ≡ false → o ≡ None
+pub is_none_of : (o : Option ℕ) → is_some o ≡ false → o ≡ None
 is_none_of None h = refl
 is_none_of (Some k) h = cc
 

@@ -7,6 +7,7 @@ pub mod Bounded
 pub mod Calm
 pub mod Choosing
 pub mod Cleaning
+pub mod Counted
 pub mod Covering
 pub mod Drove
 pub mod Fitting

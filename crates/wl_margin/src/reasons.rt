@@ -12,8 +12,7 @@ use crate::sentences::{Amount, push_drift, push_late, push_loop};
 use crate::units::{Units, units_at};
 use std::alloc::AllocError;
 use wl_bound::{
-    Family, Lack, Oscillator, Shortage, finds_one_busy, idle_at, is_ready_from, leaves,
-    listens,
+    Family, Lack, Oscillator, Shortage, finds_one_busy, idle_at, is_ready_from, leaves, listens,
 };
 use wl_plan::CheckedPlan;
 use wl_setup::{Deviation, Names};

@@ -10,7 +10,7 @@ use Rattle.wl_node.specs.declared.setup.Passed.{Passed}
 use Rattle.wl_node.specs.declared.setup.Queued.{Queued}
 use Rattle.wl_node.specs.declared.setup.QueueOrder.TheVariants.{Fifo}
 use Rattle.wl_node.specs.Queues.{head_by, is_sent, unsent_by}
-use Rattle.wl_buses.specs.BothProofs.Queues.{ComeFrom, IsFifo, head_at, place_of, queued_contents, ready_at, unsent_after, wakes_at}
+use Rattle.wl_buses.specs.BothProofs.Queues.{ComeFrom, IsFifo, head_at, place_among, queued_contents, ready_at, unsent_after, wakes_at}
 use Rattle.wl_buses.proofs.BothProofs.Orders as orders
 
 pub same_length : (queue : List Queued) → length (queued_contents queue) ≡ length queue
@@ -18,10 +18,10 @@ same_length [] = refl
 same_length (q ∷ more) = ap suc (same_length more)
 
 -- the place of a frame in a list that has it
-pub place_is : (c : Content) (fs : List Content) (n : ℕ) → slice_get fs n ≡ Some c → slice_get fs (place_of (Some c) fs) ≡ Some c
+pub place_is : (c : Content) (fs : List Content) (n : ℕ) → slice_get fs n ≡ Some c → slice_get fs (place_among (Some c) fs) ≡ Some c
 place_is c [] n e = cc
 place_is c (f ∷ fs) zero e = elim (cases_Bool (same_content c f)) [
-  | inl alike ↦ ap (λ b. slice_get (f ∷ fs) (cond b 0 (suc (place_of (Some c) fs)))) alike ∙ e
+  | inl alike ↦ ap (λ b. slice_get (f ∷ fs) (cond b 0 (suc (place_among (Some c) fs)))) alike ∙ e
   | inr other ↦ absurd (both_ways (same_content c f) other ((content_decides c f).1 (same_some f c e)))
 ]
   where
@@ -31,8 +31,8 @@ place_is c (f ∷ fs) zero e = elim (cases_Bool (same_content c f)) [
     both_ways : (b : Bool) → b ≡ false → b ≡ true → ⊥
     both_ways b off on = cc
 place_is c (f ∷ fs) (suc n) e = elim (cases_Bool (same_content c f)) [
-  | inl alike ↦ ap (λ b. slice_get (f ∷ fs) (cond b 0 (suc (place_of (Some c) fs)))) alike ∙ ap Some (sym ((content_decides c f).0 alike))
-  | inr other ↦ ap (λ b. slice_get (f ∷ fs) (cond b 0 (suc (place_of (Some c) fs)))) other ∙ place_is c fs n e
+  | inl alike ↦ ap (λ b. slice_get (f ∷ fs) (cond b 0 (suc (place_among (Some c) fs)))) alike ∙ ap Some (sym ((content_decides c f).0 alike))
+  | inr other ↦ ap (λ b. slice_get (f ∷ fs) (cond b 0 (suc (place_among (Some c) fs)))) other ∙ place_is c fs n e
 ]
 
 -- an element of a list
@@ -125,18 +125,12 @@ unsent_none setup passed e = ap (λ q. unsent_by setup.order q passed) e ∙ ord
 pub awake_later : (setup : NodeSetup) (unsent : List Queued) (k : ℕ) → 0 < length unsent → head_at setup unsent k ≡ None → k < wakes_at setup unsent
 awake_later setup unsent k some none = elim (cases_lt k (wakes_at setup unsent)) [
   | inl early ↦ early
-  | inr late ↦ (let x = head_late setup unsent k some late in absurd (some_none x.frame (sym x.is ∙ none)))
+  | inr late ↦ (let x = head_late setup unsent k some late in absurd (let e : Some x.frame ≡ None = sym x.is ∙ none in cc))
 ]
-  where
-    some_none : (c : Content) → Some c ≡ None → ⊥
-    some_none c e = cc
 
 -- who is handed one has some
 pub handed_some : (setup : NodeSetup) (unsent : List Queued) (k : ℕ) (c : Content) → head_at setup unsent k ≡ Some c → 0 < length unsent
-handed_some setup [] k c e = absurd (none_some c (sym (head_none setup k) ∙ e))
-  where
-    none_some : (c : Content) → None ≡ Some c → ⊥
-    none_some c e = cc
+handed_some setup [] k c e = absurd (let h : None ≡ Some c = sym (head_none setup k) ∙ e in cc)
 handed_some setup (q ∷ more) k c e = omega arith
 
 -- it wakes by the time at which so many of the queue and one are ready

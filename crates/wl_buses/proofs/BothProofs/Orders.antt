@@ -12,6 +12,7 @@ use Rattle.wl_node.specs.declared.setup.QueueOrder.{QueueOrder}
 use Rattle.wl_node.specs.declared.setup.QueueOrder.TheVariants.{Fifo, Priority}
 use Rattle.wl_node.specs.Queues.{field_number, head_by, is_sent, least_frame, lesser_frame, queue_after, queue_without, ready_head, unsent_by, waiting_frames}
 use Rattle.wl_buses.specs.BothProofs.Queues.{first_ready, queued_contents, ready_at}
+use Rattle.wl_wire.proofs.Callers.{some_same}
 
 -- a frame is at a place of a queue
 abbrev pub IsIn : Content → List Queued → Type 0
@@ -36,10 +37,7 @@ late_by Priority (q ∷ more) k some late =
 
 -- it is one of them
 lesser_in : (c : Content) (f : Content) (o : Option Content) → Some (lesser_frame f o) ≡ Some c → (f ≡ c) ⊎ (o ≡ Some c)
-lesser_in c f None e = inl (same f c e)
-  where
-    same : (f c : Content) → Some f ≡ Some c → f ≡ c
-    same f c e = cc
+lesser_in c f None e = inl (some_same f c e)
 lesser_in c f (Some other) e = by (nat_le (field_number f) (field_number other)) e
   where
     by : (b : Bool) → Some (cond b f other) ≡ Some c → (f ≡ c) ⊎ (Some other ≡ Some c)
@@ -110,14 +108,11 @@ taken_out : (u : List Queued) (n : ℕ) (c : Content) → slice_get (queued_cont
 taken_out [] n c e = cc
 taken_out (q ∷ qs) n c e = by (λ m. taken_out qs m c) (same_content q.frame c) refl n e
   where
-    same : (f c : Content) → Some f ≡ Some c → f ≡ c
-    same f c e = cc
-
     by : ((m : ℕ) → slice_get (queued_contents qs) m ≡ Some c → IsPermutation (queued_contents qs) (c ∷ queued_contents (queue_without c qs))) → (b : Bool) → same_content q.frame c ≡ b → (n : ℕ) → slice_get (queued_contents (q ∷ qs)) n ≡ Some c
         → IsPermutation (q.frame ∷ queued_contents qs) (c ∷ queued_contents (cond b qs (q ∷ queue_without c qs)))
     by more true alike n e =
         subst (λ f. IsPermutation (q.frame ∷ queued_contents qs) (f ∷ queued_contents qs)) ((content_decides q.frame c).0 alike) (IsPermutation-refl (q.frame ∷ queued_contents qs))
-    by more false other zero e = (let alike = (content_decides q.frame c).1 (same q.frame c e) in cc)
+    by more false other zero e = (let alike = (content_decides q.frame c).1 (some_same q.frame c e) in cc)
     by more false other (suc n) e =
         IsPermutation-trans (q.frame ∷ queued_contents qs) (q.frame ∷ c ∷ queued_contents (queue_without c qs)) (c ∷ q.frame ∷ queued_contents (queue_without c qs))
         (IsPermutation-cons q.frame (queued_contents qs) (c ∷ queued_contents (queue_without c qs)) (more n e))

@@ -1,8 +1,7 @@
 -- Small lemmas that both proofs use: of tests and numbers, of cables and clocks, and of a dominant sample.
-use Rattle.std.proofs.Common.{◌≡◌, ◌≢◌, refl, ap, ℕ, suc, ◌+◌, ◌*◌, ◌<◌, ◌≤◌, Bool, true, false, cond, not, ◌&&◌, ◌||◌, Option, Some, None, arith, length, subst}
+use Rattle.std.proofs.Common.{◌≡◌, ◌≢◌, refl, ap, ℕ, suc, ◌+◌, ◌*◌, ◌<◌, ◌≤◌, Bool, true, false, cond, not, ◌&&◌, ◌||◌, None, arith, length, subst}
 use Rattle.std.specs.Prelude.{◌==◌, nat_lt}
 use Rattle.std.specs.Int.{abs_diff}
-use Rattle.std.specs.Option.{is_some}
 use Rattle.std.proofs.lemmas.Bool.{and_right, eq-eqb, false_from_ne_true, not-true, or_parts}
 use Rattle.std.proofs.lemmas.List.Elements.{All-get_or}
 use Rattle.std.proofs.Math.Nat.{lt_of_mul-lt-mul_left, mul-le-mul_left, mul-le-mul_right}
@@ -25,6 +24,7 @@ use Rattle.wl_bound.specs.Covered.{finds_one_busy, is_covered, is_uncovered, lea
 use Rattle.wl_bound.specs.Families.{only_listens}
 use Rattle.wl_bound.specs.Terms.{greatest}
 use Rattle.wl_bound.proofs.Greatest.{bounds_each}
+use Rattle.wl_bound.proofs.Sound.{is_none_of}
 use Rattle.wl_segments.specs.Lengths.{AreLengths}
 
 -- none passes where no number below n does
@@ -100,10 +100,5 @@ covered_each plan covered i less =
     let rest = or_parts (leaves plan i) (finds_one_busy plan i) each.1 in
     (each.0, rest.0, rest.1)
 
--- without a quantum at which it leaves
-no_quantum : (until : Option ℕ) → is_some until ≡ false → until ≡ None
-no_quantum None e = refl
-no_quantum (Some n) e = cc
-
 pub covered_stays : (plan : Plan) → is_covered plan ≡ true → (i : ℕ) → i < length plan.nodes → (setup_at plan i).until ≡ None
-covered_stays plan covered i less = no_quantum (setup_at plan i).until (covered_each plan covered i less).1
+covered_stays plan covered i less = is_none_of (setup_at plan i).until (covered_each plan covered i less).1

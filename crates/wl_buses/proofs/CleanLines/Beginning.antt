@@ -13,7 +13,6 @@ use Rattle.wl_buses.specs.NextFrames.Frames.{HasRoomForAll, IsBegun}
 use Rattle.wl_buses.specs.CleanLines.Lines.{FirstFramesOfLine}
 use Rattle.wl_buses.proofs.CleanPlans.Extending as extending
 use Rattle.wl_buses.proofs.CleanPlans.Extending.{BegunBy, FreeNext, Gone, NextHanded, OutsetNext, RestNext}
-use Rattle.wl_frame.specs.Grammar.{Content}
 use Rattle.wl_buses.proofs.SentFrames.Nexting.{FirstHanded}
 
 -- the laws that this rests on
@@ -58,11 +57,8 @@ module _ (begins : OutsetNext) (rest : RestNext) (free : FreeNext) (begun_by : B
     | inr none ↦
         (let x = head_late (setups i) (setups i).queue (wakes_at (setups i) (setups i).queue) some (omega arith) in
         let e = hand.none i (wakes_at (setups i) (setups i).queue) inside none in
-        absurd (both x.frame (sym x.is ∙ e)))
+        absurd (let h : Some x.frame ≡ None = sym x.is ∙ e in cc))
   ]
-    where
-      both : (c : Content) → Some c ≡ None → ⊥
-      both c e = cc
 
   pub first_frames : (most : ℕ) → FirstFramesOfLine setups w most
   first_frames most =

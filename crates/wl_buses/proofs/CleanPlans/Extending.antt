@@ -11,7 +11,7 @@ use Rattle.wl_machine.specs.Stretch.{Input}
 use Rattle.wl_node.specs.declared.setup.NodeSetup.{NodeSetup}
 use Rattle.wl_node.specs.declared.setup.Passed.{Passed}
 use Rattle.wl_node.specs.declared.setup.Queued.{Queued}
-use Rattle.wl_buses.specs.BothProofs.Queues.{head_at, place_of, queued_contents, unsent_after, wakes_at}
+use Rattle.wl_buses.specs.BothProofs.Queues.{head_at, place_among, queued_contents, unsent_after, wakes_at}
 use Rattle.wl_buses.proofs.BothProofs.Heads.{IsHandedBy, head_in, place_is, same_length, sent_length, unsent_first, unsent_in, unsent_received}
 use Rattle.wl_buses.specs.OneFrame.Acknowledged.{chased_way}
 use Rattle.wl_buses.specs.OneFrame.Expected.{IsOutset, Outset, expected_bits, past_at}
@@ -133,7 +133,7 @@ module _ (begins : OutsetNext) (rest : RestNext) (free : FreeNext) (begun_by : B
   head x i = head_at (setups i) (left x i) (decision x i)
 
   abbrev which : G → ℕ → ℕ
-  which x i = if nat_lt i s.count then place_of (head x i) (x.frame.outset.frames i) else length (x.frame.outset.frames i)
+  which x i = if nat_lt i s.count then place_among (head x i) (x.frame.outset.frames i) else length (x.frame.outset.frames i)
 
   abbrev r : G → Resting
   r x = resting_after s x.frame.outset x.frame.bits (which x) (decides x)
@@ -144,9 +144,9 @@ module _ (begins : OutsetNext) (rest : RestNext) (free : FreeNext) (begun_by : B
   -- it is one of its queue's
   which_is : (x : G) (i : ℕ) → i < s.count → slice_get (x.frame.outset.frames i) (which x i) ≡ head x i
   which_is x i inside =
-      ap (λ b. slice_get (x.frame.outset.frames i) (cond b (place_of (head x i) (x.frame.outset.frames i)) (length (x.frame.outset.frames i)))) (lt-ltb i s.count inside) ∙ by (head x i) refl
+      ap (λ b. slice_get (x.frame.outset.frames i) (cond b (place_among (head x i) (x.frame.outset.frames i)) (length (x.frame.outset.frames i)))) (lt-ltb i s.count inside) ∙ by (head x i) refl
     where
-      by : (h : Option Content) → head x i ≡ h → slice_get (x.frame.outset.frames i) (place_of h (x.frame.outset.frames i)) ≡ h
+      by : (h : Option Content) → head x i ≡ h → slice_get (x.frame.outset.frames i) (place_among h (x.frame.outset.frames i)) ≡ h
       by None e = slice_get_past (x.frame.outset.frames i) (length (x.frame.outset.frames i)) (omega arith)
       by (Some c) e =
           (let n = head_in (setups i) (left x i) (decision x i) c e in
@@ -163,7 +163,7 @@ module _ (begins : OutsetNext) (rest : RestNext) (free : FreeNext) (begun_by : B
         | inl inside ↦ inside
         | inr past ↦
             (let out : which x i ≡ length (x.frame.outset.frames i) =
-            ap (λ b. cond b (place_of (head x i) (x.frame.outset.frames i)) (length (x.frame.outset.frames i))) (le-ltb i s.count past) in
+            ap (λ b. cond b (place_among (head x i) (x.frame.outset.frames i)) (length (x.frame.outset.frames i))) (le-ltb i s.count past) in
             absurd (omega arith))
       ] in (
         there,

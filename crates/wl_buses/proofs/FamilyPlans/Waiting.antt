@@ -17,6 +17,7 @@ use Rattle.wl_plan.specs.declared.plan.Plan.{Plan}
 use Rattle.wl_plan.specs.PlanLine.{no_setup, setup_at}
 use Rattle.wl_phase.specs.Clocks.{Steady}
 use Rattle.wl_wire.specs.InStep.{AreSoundFrames, Has}
+use Rattle.wl_bound.proofs.Sound.{is_none_of}
 use Rattle.wl_bound.specs.declared.verdict.Outside.{Outside}
 use Rattle.wl_bound.specs.Covered.{is_covered}
 use Rattle.wl_bound.specs.Families.{Buses, family_of, member_at, members_of, no_member, sends_in}
@@ -63,10 +64,6 @@ no_sharer : (plan : Plan) (o : Option ℕ) → first_place (shares plan) (length
 no_sharer plan None same none = refl
 no_sharer plan (Some i) same none =
     absurd (no_pair plan i (first_place (shares_with plan i) (length plan.nodes)) ((first_is (shares plan) (length plan.nodes) i same).passes) none)
-
-is_none_of : (o : Option ℕ) → is_some o ≡ false → o ≡ None
-is_none_of None h = refl
-is_none_of (Some k) h = cc
 
 no_cause_of : (plan : Plan) → outside_of plan ≡ None → HasNoCause plan
 no_cause_of plan none =

@@ -10,31 +10,28 @@ use Rattle.wl_segments.specs.Lengths.{Lengths, bit_quanta, sample_at}
 use Rattle.wl_frame.specs.Grammar.{Content}
 use Rattle.wl_node.specs.declared.setup.NodeSetup.{NodeSetup}
 use Rattle.wl_node.specs.declared.setup.Queued.{Queued}
-use Rattle.wl_buses.specs.BothProofs.Queues.{decided_by, decides_at, first_head, head_at, place_of, queued_contents, wakes_at}
+use Rattle.wl_node.proofs.Callers.{none_left}
+use Rattle.wl_buses.specs.BothProofs.Queues.{first_decision, decides_at, first_head, head_at, place_among, queued_contents, wakes_at}
 use Rattle.wl_buses.proofs.BothProofs.Heads.{head_early, head_in, head_late, head_none, none_then, place_is, some_then}
 use Rattle.wl_buses.specs.OneFrame.Stations.{Stations}
 use Rattle.wl_buses.specs.FirstFrame.FirstFrames.{content_alone}
 use Rattle.wl_buses.specs.FirstFrame.FirstStarts.{HandTheFirst, Waiting, has_first}
-
-pub none_has : (q : List Queued) → nat_lt 0 (length q) ≡ false → q ≡ []
-none_has [] e = refl
-none_has (x ∷ more) e = (let h = lt-ltb 0 (length (x ∷ more)) (let h : 0 < suc (length more) = omega arith in h) in cc)
 
 some_has : (q : List Queued) → nat_lt 0 (length q) ≡ true → 0 < length q
 some_has q e = ltb-true 0 (length q) e
 
 -- the frame on which a node decides first, in a list that has it
 first_is_none : (setup : NodeSetup) → setup.queue ≡ [] → first_head setup ≡ None
-first_is_none setup e = ap (λ q. head_at setup q (decided_by setup)) e ∙ head_none setup (decided_by setup)
+first_is_none setup e = ap (λ q. head_at setup q (first_decision setup)) e ∙ head_none setup (first_decision setup)
 
-pub whole_begins : (setup : NodeSetup) → slice_get (queued_contents setup.queue) (place_of (first_head setup) (queued_contents setup.queue)) ≡ first_head setup
+pub whole_begins : (setup : NodeSetup) → slice_get (queued_contents setup.queue) (place_among (first_head setup) (queued_contents setup.queue)) ≡ first_head setup
 whole_begins setup = by (first_head setup) refl
   where
-    by : (h : Option Content) → first_head setup ≡ h → slice_get (queued_contents setup.queue) (place_of h (queued_contents setup.queue)) ≡ h
+    by : (h : Option Content) → first_head setup ≡ h → slice_get (queued_contents setup.queue) (place_among h (queued_contents setup.queue)) ≡ h
     by None e = slice_get_past (queued_contents setup.queue) (length (queued_contents setup.queue)) (omega arith)
-    by (Some c) e = (let n = head_in setup setup.queue (decided_by setup) c e in place_is c (queued_contents setup.queue) n.0 n.1)
+    by (Some c) e = (let n = head_in setup setup.queue (first_decision setup) c e in place_is c (queued_contents setup.queue) n.0 n.1)
 
-pub alone_begins : (h : Option Content) → slice_get (content_alone h) (place_of h (content_alone h)) ≡ h
+pub alone_begins : (h : Option Content) → slice_get (content_alone h) (place_among h (content_alone h)) ≡ h
 alone_begins None = refl
 alone_begins (Some c) = place_is c (c ∷ []) 0 refl
 
@@ -56,9 +53,9 @@ module _ (l : Lengths) (ready : ℕ) (some : 0 < bit_quanta l) where
 
 -- stations that are such nodes, with lists that have the frames on which these decide
 module _ (setups : ℕ → NodeSetup) (queues : ℕ → List Content) (s : Stations) (lengths : (i : ℕ) → i < s.count → s.lengths i ≡ (setups i).segments)
-    (some : (i : ℕ) → i < s.count → 0 < bit_quanta (setups i).segments) (begin : (i : ℕ) → slice_get (queues i) (place_of (first_head (setups i)) (queues i)) ≡ first_head (setups i)) where
+    (some : (i : ℕ) → i < s.count → 0 < bit_quanta (setups i).segments) (begin : (i : ℕ) → slice_get (queues i) (place_among (first_head (setups i)) (queues i)) ≡ first_head (setups i)) where
   abbrev place : ℕ → ℕ
-  place i = place_of (first_head (setups i)) (queues i)
+  place i = place_among (first_head (setups i)) (queues i)
 
   abbrev w : Waiting
   w = record { stations = s; frames = queues; which = place; decides = λ i. decides_at (setups i).segments (wakes_at (setups i) (setups i).queue) }
@@ -71,16 +68,16 @@ module _ (setups : ℕ → NodeSetup) (queues : ℕ → List Content) (s : Stati
 
   pub has_is : (i : ℕ) → i < s.count → has_first w i ≡ nat_lt 0 (length (q_of i))
   has_is i inside = elim (cases_Bool (nat_lt 0 (length (q_of i)))) [
-    | inr none ↦ none_first i (none_has (q_of i) none) ∙ sym none
+    | inr none ↦ none_first i (none_left (q_of i) none) ∙ sym none
     | inl more ↦
         (let late = decided_after (setups i).segments (wakes_at (setups i) (q_of i)) (some i inside) in
-        let x = head_late (setups i) (q_of i) (decided_by (setups i)) (some_has (q_of i) more) late in
+        let x = head_late (setups i) (q_of i) (first_decision (setups i)) (some_has (q_of i) more) late in
         lt-ltb (place i) (length (queues i)) (some_then (queues i) (place i) x.frame (begin i ∙ x.is)) ∙ sym more)
   ]
 
   pub hands : HandTheFirst w setups
   hands = record {
-    none = λ i q inside e. ap (λ x. head_at (setups i) x q) (none_has (q_of i) (sym (has_is i inside) ∙ e)) ∙ head_none (setups i) q;
+    none = λ i q inside e. ap (λ x. head_at (setups i) x q) (none_left (q_of i) (sym (has_is i inside) ∙ e)) ∙ head_none (setups i) q;
     unready = λ i n inside more less.
         ap (λ k. head_at (setups i) (q_of i) (n * bit_quanta k + sample_at k)) (lengths i inside)
         ∙ head_early (setups i) (q_of i) (n * bit_quanta (setups i).segments + sample_at (setups i).segments)

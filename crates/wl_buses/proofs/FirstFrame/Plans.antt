@@ -14,7 +14,7 @@ use Rattle.wl_plan.specs.declared.plan.Plan.{Plan}
 use Rattle.wl_plan.specs.PlanLine.{line_of, no_setup, setup_at}
 use Rattle.wl_plan.specs.Sound.{IsCausal}
 use Rattle.wl_bound.specs.Verdicts.{idle_at, is_ready_from}
-use Rattle.wl_buses.specs.BothProofs.Queues.{first_head, place_of, wakes_at}
+use Rattle.wl_buses.specs.BothProofs.Queues.{first_head, place_among, wakes_at}
 use Rattle.wl_buses.proofs.FirstFrame.Deciding as waiting
 use Rattle.wl_buses.proofs.FirstFrame.Deciding.{alone_begins, decided_after}
 use Rattle.wl_wire.specs.InStep.{Has}
@@ -130,9 +130,9 @@ module _ (plan : Plan) (queues : ℕ → List Content) (s : Stations) (of : IsPl
     }
 
 -- the first frames alone
-has_first_of : (list : List Content) (h : Option Content) (c : Content) → slice_get list (place_of h list) ≡ h → (n : ℕ) × (slice_get (content_alone h) n ≡ Some c) → (n : ℕ) × (slice_get list n ≡ Some c)
+has_first_of : (list : List Content) (h : Option Content) (c : Content) → slice_get list (place_among h list) ≡ h → (n : ℕ) × (slice_get (content_alone h) n ≡ Some c) → (n : ℕ) × (slice_get list n ≡ Some c)
 has_first_of list None c b (n, e) = cc
-has_first_of list (Some d) c b (zero, e) = (place_of (Some d) list, b ∙ e)
+has_first_of list (Some d) c b (zero, e) = (place_among (Some d) list, b ∙ e)
 has_first_of list (Some d) c b (suc n, e) = cc
 
 pub alone : (plan : Plan) (queues : ℕ → List Content) (s : Stations) → HasFirstFrames plan queues s → HasFirstFrames plan (first_frames_of plan) s

@@ -14,16 +14,16 @@ use Rattle.wl_buses.proofs.BothProofs.Rows.{c, l, s}
 use Rattle.wl_node.specs.History.{ready_head}
 
 -- Place 0 of the third bit of the intermission is at quantum 100 of station 0 and at quantum 95 of station 1. Station 1 decides with the sample of the bit after it.
-abbrev place_of : ℕ → ℕ
-place_of zero = 100
-place_of (suc k) = 95
+abbrev place_among : ℕ → ℕ
+place_among zero = 100
+place_among (suc k) = 95
 
 abbrev decide : ℕ → ℕ → ℕ
 decide n zero = n
 decide n (suc k) = 1
 
 abbrev after : ℕ → Resting
-after n = record { stations = s; frames = λ k. c ∷ []; which = λ k. 0; place = place_of; decides = decide n }
+after n = record { stations = s; frames = λ k. c ∷ []; which = λ k. 0; place = place_among; decides = decide n }
 
 -- it rests with that sample, and begins no earlier than a bit later
 rests_by : rested (after 0) 0 ≡ 107
@@ -83,7 +83,7 @@ last_before = refl
 
 -- a station that has sent its frames has none left
 abbrev over : Resting
-over = record { stations = s; frames = λ k. c ∷ []; which = λ k. 1; place = place_of; decides = decide 0 }
+over = record { stations = s; frames = λ k. c ∷ []; which = λ k. 1; place = place_among; decides = decide 0 }
 
 done : has_next over 0 ≡ false
 done = refl

@@ -1,31 +1,27 @@
 -- A bus with one sender from its power-up to its end: frame after frame, or silence.
-use Rattle.std.proofs.Common.{◌≡◌, ◌∙◌, ◌⊎◌, inl, inr, refl, sym, ap, subst, ℕ, zero, suc, ◌+◌, ◌-◌, ◌*◌, ◌<◌, ◌≤◌, min, max, length, List, [], ◌∷◌, ◌++◌, Bool, true, false, cond, Option, Some, None, append-nil, append_assoc, length-append, arith}
+use Rattle.std.proofs.Common.{◌≡◌, ◌∙◌, inl, inr, refl, sym, ap, subst, ℕ, zero, suc, ◌+◌, ◌-◌, ◌*◌, ◌<◌, ◌≤◌, min, max, length, List, [], ◌∷◌, ◌++◌, true, false, cond, Option, Some, None, append-nil, append_assoc, length-append, arith}
 use Rattle.std.specs.Prelude.{◌==◌, count_by, slice_get}
-use Rattle.std.proofs.lemmas.Bool.{cases_lt, cases_eq, cases_order, eq-eqb, ne_eqb}
+use Rattle.std.proofs.lemmas.Bool.{cases_lt, cases_eq, eq-eqb, ne_eqb}
 use Rattle.std.proofs.Math.Bridge.{le_prop}
 use Rattle.std.proofs.Math.Nat.{mul-le-mul_right, mul-le-mul_left}
-use Rattle.std.proofs.lemmas.Option.{none-some}
 use Rattle.wl_level.specs.declared.Level.{Level}
 use Rattle.wl_level.specs.declared.Level.TheVariants.{Recessive}
 use Rattle.wl_segments.specs.Lengths.{sample_at, bit_quanta}
-use Rattle.wl_confine.specs.Counts.{no_counts}
 use Rattle.wl_frame.specs.Grammar.{Content}
-use Rattle.wl_machine.specs.Stretch.{Stretch}
 use Rattle.wl_node.specs.declared.setup.Passed.{Passed}
 use Rattle.wl_node.specs.declared.setup.Queued.{Queued}
-use Rattle.wl_node.specs.History.{staying_history, counters_of, error_count, is_sent}
+use Rattle.wl_node.specs.History.{is_sent}
 use Rattle.wl_phase.specs.Clocks.{steady_tick}
 use Rattle.wl_plan.specs.Line.{Line}
-use Rattle.wl_plan.specs.Simulation.{seen, AreInside}
-use Rattle.wl_buses.specs.BothProofs.Levels.{levels_before}
+use Rattle.wl_plan.specs.Simulation.{AreInside}
 use Rattle.wl_buses.specs.OneSender.OneSender.{SenderBus, IsBus, IsListener, IsInStepWithAll, SendsFirst, lengths_of}
 use Rattle.wl_buses.specs.OneSender.Through.{AreFrames, GetThrough, EndsInSlots, MaySend, history_at, sender_queue, due_quantum}
 use Rattle.wl_buses.specs.BothProofs.Queues.{ComeFrom, head_at, queued_contents, ready_at, unsent_after, wakes_at}
-use Rattle.wl_buses.proofs.BothProofs.Heads.{awake_by, awake_later, come_first, come_length, come_next, fifo_next, handed_some, head_in, same_length, unsent_first, unsent_in, unsent_none}
+use Rattle.wl_buses.proofs.BothProofs.Heads.{awake_by, awake_later, come_first, come_length, come_next, fifo_next, handed_some, head_in, same_length, unsent_in, unsent_none}
 use Rattle.wl_buses.proofs.OneSender.Calm as calm
 use Rattle.wl_buses.proofs.BothProofs.Expecting.{seen_by_quanta}
+use Rattle.wl_buses.proofs.OneSender.Counted.{IsGood, decides_first, far, find, frames_are, good_from, of_node, ready_before, sent_later, still_good, strict}
 use Rattle.wl_buses.proofs.OneSender.Following as following
-use Rattle.wl_buses.proofs.OneSender.Nodes.{Does}
 use Rattle.wl_buses.proofs.OneSender.Leasts.{split}
 use Rattle.wl_buses.proofs.OneSender.Passing.{IsPassed, contents_long, none_passed, still_passed}
 use Rattle.wl_buses.proofs.OneSender.Planned.{Laws}
@@ -37,13 +33,6 @@ use Rattle.wl_buses.proofs.OneSender.Silence.{CountsTo, Decides, counts_to, inte
 use Rattle.wl_buses.proofs.OneSender.Speaking as speaking
 use Rattle.wl_buses.proofs.OneSender.Through as through
 use Rattle.wl_buses.proofs.BothProofs.Small.{zero_first}
-
-cases_head : (o : Option Content) → (o ≡ None) ⊎ ((h : Content) × (o ≡ Some h))
-cases_head None = inl refl
-cases_head (Some h) = inr (h, refl)
-
-none_or_some : {A : Type 0} (o : Option Content) (h : Content) → o ≡ None → o ≡ Some h → A
-none_or_some o h e f = absurd (none-some h (sym e ∙ f))
 
 module _ (laws : Laws) (stay : StayLaws) (b : SenderBus) (stuffed : Content → List Level) (lengths : ℕ → ℕ) (is : IsBus b) (sends : SendsFirst b) (frames : AreFrames b stuffed lengths) (meets : IsInStepWithAll b)
     (slots : EndsInSlots b) where
@@ -61,37 +50,6 @@ module _ (laws : Laws) (stay : StayLaws) (b : SenderBus) (stuffed : Content → 
 
   abbrev tick : ℕ → ℕ → ℕ
   tick i k = steady_tick (b.clocks i) k
-
-  -- a node after its first k quanta
-  pub record IsGood (line : List Content) (i k : ℕ) : Type 0 where
-    pub fine : error_count (history_at b i k) ≡ 0
-    pub counters : counters_of (history_at b i k) ≡ no_counts
-    pub count : ℕ
-    pub passed : IsPassed (b.setups a) line (i == b.sender) count (history_at b i k).frames
-
-  good_from : (line : List Content) (i k : ℕ) (inside : i < l.nodes) (levels : ℕ → Level) (passed : List Passed) (s : Stretch) (v : Level) → Does laws.clocks (b.setups i) (is.book i inside) levels passed k s v
-      → seen l i k ≡ levels_before levels k → (n : ℕ) × IsPassed (b.setups a) line (i == b.sender) n passed → IsGood line i k
-  good_from line i k inside levels passed s v d e p = record {
-    fine = ap (λ ls. error_count (staying_history (b.setups i) ls)) e ∙ d.errors;
-    counters = ap (λ ls. counters_of (staying_history (b.setups i) ls)) e ∙ d.counts;
-    count = p.0;
-    passed = subst (IsPassed (b.setups a) line (i == b.sender) p.0) (sym (ap (λ ls. (staying_history (b.setups i) ls).frames) e ∙ d.frames)) p.1;
-  }
-
-  -- so it is of a longer line
-  still_good : (line more longer : List Content) (i k : ℕ) → line ++ more ≡ longer → IsGood line i k → IsGood longer i k
-  still_good line more longer i k e is = record {
-    fine = is.fine;
-    counters = is.counters;
-    count = is.count;
-    passed = subst (λ x. IsPassed (b.setups a) x (i == b.sender) is.count (history_at b i k).frames) e (still_passed (b.setups a) line more (i == b.sender) is.count (history_at b i k).frames is.passed);
-  }
-
-  -- the frames of the sender are sent, and those of another node received
-  of_node : (line : List Content) (v : ℕ) (sent : Bool) (n : ℕ) (found passed : List Passed) → (v == b.sender) ≡ sent → found ≡ passed → IsPassed (b.setups a) line sent n passed
-      → IsPassed (b.setups a) line (v == b.sender) n found
-  of_node line v sent n found passed h e p =
-      subst (λ w. IsPassed (b.setups a) line w n found) (sym h) (subst (IsPassed (b.setups a) line sent n) (sym e) p)
 
   -- at rest after n frames
   pub record Epoch (t n : ℕ) : Type 0 where
@@ -115,32 +73,8 @@ module _ (laws : Laws) (stay : StayLaws) (b : SenderBus) (stuffed : Content → 
         → tick j ((rest.node j p.0).base + 6 * B j + S j) ≤ tick a ((rest.node a is.sender).base + 7 * B a + S a)
     pub due : (rest.node a is.sender).base + 7 * B a + S a < due_quantum b lengths n
 
-  -- a clock goes on by a tick at least
-  far : (i k : ℕ) → i < l.nodes → k ≤ l.instant i k
-  far i zero inside = omega arith
-  far i (suc k) inside = let e = far i k inside in let next = is.causal.clocks i k inside in omega arith
-
   abbrev long : ℕ → ℕ → ℕ
   long i k = length (history_at b i k).frames
-
-  frames_are : (i k : ℕ) (inside : i < l.nodes) (levels : ℕ → Level) (passed : List Passed) (s : Stretch) (v : Level) → Does laws.clocks (b.setups i) (is.book i inside) levels passed k s v
-      → seen l i k ≡ levels_before levels k → (history_at b i k).frames ≡ passed
-  frames_are i k inside levels passed s v d e = ap (λ ls. (staying_history (b.setups i) ls).frames) e ∙ d.frames
-
-  strict : (i k m : ℕ) → i < l.nodes → k < m → tick i k < tick i m
-  strict i k m inside less =
-      let next = is.causal.clocks i k inside in
-      let e = is.ticks i k inside in
-      let g = is.ticks i (suc k) inside in
-      let rise = resting.up laws.clocks b is i inside (suc k) m less in
-      omega arith
-
-  sent_later : (m k : ℕ) → m ≤ k → due_quantum b lengths m ≤ due_quantum b lengths k
-  sent_later m zero h = let e : m ≡ 0 = omega arith in subst (λ x. due_quantum b lengths x ≤ due_quantum b lengths 0) (sym e) (omega arith)
-  sent_later m (suc k) h = elim (cases_eq m (suc k)) [
-    | inl here ↦ subst (λ x. due_quantum b lengths x ≤ due_quantum b lengths (suc k)) (sym here) (omega arith)
-    | inr less ↦ (let e = sent_later m k (omega arith) in omega arith)
-  ]
 
   module _ (t n : ℕ) (ep : Epoch t n) where
     abbrev base : ℕ
@@ -163,36 +97,12 @@ module _ (laws : Laws) (stay : StayLaws) (b : SenderBus) (stuffed : Content → 
         let same = same_length left in
         omega arith
 
-    ready_before : (j m : ℕ) → j < m → ready_at (sender_queue b) j ≤ due_quantum b lengths m
-    ready_before j zero less = absurd (omega arith)
-    ready_before j (suc m) less = elim (cases_eq j m) [
-      | inl last ↦ (let e = ap (ready_at (sender_queue b)) last in omega arith)
-      | inr other ↦ (let before = ready_before j m (omega (arith, other)) in omega arith)
-    ]
-
     wakes : wakes_at (b.setups a) left ≤ max (due_quantum b lengths n) (ready_at (sender_queue b) n)
     wakes =
         awake_by (b.setups a) gone (max (due_quantum b lengths n) (ready_at (sender_queue b) n)) (λ j few. elim (cases_eq j n) [
           | inl last ↦ (let e = ap (ready_at (sender_queue b)) last in omega arith)
-          | inr other ↦ (let count = ep.sent.count in let before = ready_before j n (omega (arith, other)) in omega arith)
+          | inr other ↦ (let count = ep.sent.count in let before = ready_before b lengths j n (omega (arith, other)) in omega arith)
         ])
-
-    -- the first bit after which a frame is ready
-    find : (most : ℕ) → ((m : ℕ) × (head : Content) × Decides (b.setups a) gone base (S a) (B a) head m) ⊎ ((c : ℕ) → 10 ≤ c → c < most → ready c ≡ None)
-    find zero = inr (λ c many less. absurd (omega arith))
-    find (suc most) = elim (find most) [
-      | inl found ↦ inl found
-      | inr none ↦ elim (cases_lt most 10) [
-        | inl few ↦ inr (λ c many less. absurd (omega arith))
-        | inr many ↦ elim (cases_head (ready most)) [
-          | inl not_yet ↦ inr (λ c above less. elim (cases_eq c most) [
-            | inl here ↦ ap ready here ∙ not_yet
-            | inr apart ↦ none c above (omega arith)
-          ])
-          | inr some ↦ inl (most, some.0, record { idle = many; ready = some.1; unready = λ c above less. none c above less })
-        ]
-      ]
-    ]
 
     -- how many frames have passed the nodes by a quantum
     pub record OwnCount (k : ℕ) : Type 0 where
@@ -238,7 +148,7 @@ module _ (laws : Laws) (stay : StayLaws) (b : SenderBus) (stuffed : Content → 
         | inr some ↦
             (let e = own.high in
             let o = ep.order (omega arith) j p in
-            let rise = strict a (base + 7 * B a + S a) k is.sender late in
+            let rise = strict laws b is a (base + 7 * B a + S a) k is.sender late in
             let here = is.ticks a k is.sender in
             let there = is.ticks j q p.0 in
             let past : (ep.rest.node j p.0).base + 6 * B j + S j < q = elim (cases_lt ((ep.rest.node j p.0).base + 6 * B j + S j) q) [
@@ -257,14 +167,14 @@ module _ (laws : Laws) (stay : StayLaws) (b : SenderBus) (stuffed : Content → 
           (let d = ep.due in
           let less : m < n = elim (cases_lt m n) [
             | inl less ↦ less
-            | inr more ↦ (let mono = sent_later n m more in absurd (omega arith))
+            | inr more ↦ (let mono = sent_later b lengths n m more in absurd (omega arith))
           ] in
           let e = own.low in
           omega arith)
       | inl late ↦
           (let e = own.late late in
           elim (cases_lt n m) [
-            | inl more ↦ (let mono = sent_later (suc n) m more in let g = unless (omega arith) in omega arith)
+            | inl more ↦ (let mono = sent_later b lengths (suc n) m more in let g = unless (omega arith) in omega arith)
             | inr few ↦ omega arith
           ])
     ]
@@ -274,24 +184,24 @@ module _ (laws : Laws) (stay : StayLaws) (b : SenderBus) (stuffed : Content → 
         let r = ep.rest.node a is.sender in
         subst OwnCount (sym e)
         (own_by r.start r.state.count
-        (frames_are a r.start is.sender (resting.actual laws.clocks b is a) (r.waits.passed (min r.state.count 10)) r.state.stretch Recessive r.state.going.does (seen_by_quanta l a r.start))
+        (frames_are laws b is a r.start is.sender (resting.actual laws.clocks b is a) (r.waits.passed (min r.state.count 10)) r.state.stretch Recessive r.state.going.does (seen_by_quanta l a r.start))
         (counts_to laws.clocks (b.setups a) (is.book a is.sender) (resting.actual laws.clocks b is a) r.base r.waits r.start r.state))
 
     -- no frame is ready up to the end
     module _ (none : (c : ℕ) → 10 ≤ c → c < l.stop → ready c ≡ None) where
       never : (c : ℕ) → 10 ≤ c → tick a (base + c * B a + S a) < l.stop → ready c ≡ None
       never c many soon =
-          let far_off = far a (base + c * B a + S a) is.sender in
+          let far_off = far laws b is a (base + c * B a + S a) is.sender in
           let e = is.ticks a (base + c * B a + S a) is.sender in
           let some = (is.book a is.sender).lengths.low in
           let bits : c * 1 ≤ c * B a = mul-le-mul_left c (let h : 1 ≤ B a = omega arith in h) in
           none c many (omega arith)
 
-      good_calm : (i k : ℕ) → (inside : i < l.nodes) → (ep.rest.node i inside).start ≤ k → AreInside l i k → IsGood ep.line i k
+      good_calm : (i k : ℕ) → (inside : i < l.nodes) → (ep.rest.node i inside).start ≤ k → AreInside l i k → IsGood laws b is ep.line i k
       good_calm i k inside late soon =
           let r = ep.rest.node i inside in
           let s = calm.still laws b is t ep.rest sends.alone never i inside k late (λ q less. (let e = is.ticks i q inside in let f = soon q less in omega arith)) in
-          good_from ep.line i k inside (calm.lv laws b is t ep.rest sends.alone never i) (r.waits.passed (min s.count 10)) s.stretch Recessive s.going.does
+          good_from laws b is ep.line i k inside (calm.lv laws b is t ep.rest sends.alone never i) (r.waits.passed (min s.count 10)) s.stretch Recessive s.going.does
           (calm.lists_then laws b is t ep.rest sends.alone never i k inside soon) (ep.kept i inside (min s.count 10))
 
       own_calm : (k : ℕ) → (ep.rest.node a is.sender).start ≤ k → AreInside l a k → OwnCount k
@@ -299,7 +209,7 @@ module _ (laws : Laws) (stay : StayLaws) (b : SenderBus) (stuffed : Content → 
           let r = ep.rest.node a is.sender in
           let s = calm.still laws b is t ep.rest sends.alone never a is.sender k late (λ q less. (let e = is.ticks a q is.sender in let f = soon q less in omega arith)) in
           own_by k s.count
-          (frames_are a k is.sender (calm.lv laws b is t ep.rest sends.alone never a) (r.waits.passed (min s.count 10)) s.stretch Recessive s.going.does
+          (frames_are laws b is a k is.sender (calm.lv laws b is t ep.rest sends.alone never a) (r.waits.passed (min s.count 10)) s.stretch Recessive s.going.does
           (calm.lists_then laws b is t ep.rest sends.alone never a k is.sender soon))
           (counts_to laws.clocks (b.setups a) (is.book a is.sender) (calm.lv laws b is t ep.rest sends.alone never a) r.base r.waits k s)
 
@@ -308,7 +218,7 @@ module _ (laws : Laws) (stay : StayLaws) (b : SenderBus) (stuffed : Content → 
           let r = ep.rest.node j p.0 in
           let s = calm.still laws b is t ep.rest sends.alone never j p.0 k late (λ q less. (let e = is.ticks j q p.0 in let f = soon q less in omega arith)) in
           other_by j p k s.count
-          (frames_are j k p.0 (calm.lv laws b is t ep.rest sends.alone never j) (r.waits.passed (min s.count 10)) s.stretch Recessive s.going.does
+          (frames_are laws b is j k p.0 (calm.lv laws b is t ep.rest sends.alone never j) (r.waits.passed (min s.count 10)) s.stretch Recessive s.going.does
           (calm.lists_then laws b is t ep.rest sends.alone never j k p.0 soon))
           (counts_to laws.clocks (b.setups j) (is.book j p.0) (calm.lv laws b is t ep.rest sends.alone never j) r.base r.waits k s)
 
@@ -394,22 +304,22 @@ module _ (laws : Laws) (stay : StayLaws) (b : SenderBus) (stuffed : Content → 
           subst (λ c. ComeFrom (b.setups a) (ep.line ++ c ∷ []) (queued_contents (left_of (b.setups a) (gone ++ p ∷ [])))) same
           (come_next (b.setups a) gone p (base + m * B a + S a) ep.line own (decides.ready ∙ ap Some (sym same)) ep.from)
 
-      good_frame : (i k : ℕ) → (inside : i < l.nodes) → (ep.rest.node i inside).start ≤ k → ((q : ℕ) → q < k → l.instant i q < cut) → IsGood longer i k
+      good_frame : (i k : ℕ) → (inside : i < l.nodes) → (ep.rest.node i inside).start ≤ k → ((q : ℕ) → q < k → l.instant i q < cut) → IsGood laws b is longer i k
       good_frame i k inside late soon = elim (cases_eq i a) [
         | inl here ↦
-            subst (λ v. (h : v < l.nodes) → (ep.rest.node v h).start ≤ k → ((q : ℕ) → q < k → l.instant v q < cut) → IsGood longer v k) (sym here)
-            (λ h. subst (λ h. (ep.rest.node a h).start ≤ k → ((q : ℕ) → q < k → l.instant a q < cut) → IsGood longer a k) (le_prop is.sender h) own) inside late soon
+            subst (λ v. (h : v < l.nodes) → (ep.rest.node v h).start ≤ k → ((q : ℕ) → q < k → l.instant v q < cut) → IsGood laws b is longer v k) (sym here)
+            (λ h. subst (λ h. (ep.rest.node a h).start ≤ k → ((q : ℕ) → q < k → l.instant a q < cut) → IsGood laws b is longer a k) (le_prop is.sender h) own) inside late soon
         | inr apart ↦ other (inside, apart) late soon
       ]
         where
-          own : (ep.rest.node a is.sender).start ≤ k → ((q : ℕ) → q < k → l.instant a q < cut) → IsGood longer a k
+          own : (ep.rest.node a is.sender).start ≤ k → ((q : ℕ) → q < k → l.instant a q < cut) → IsGood laws b is longer a k
           own late soon =
               let few : k ≤ at_slot.quantum + 11 * B a = elim (cases_lt (at_slot.quantum + 5 * B a) k) [
                 | inl over ↦ (let f = soon (at_slot.quantum + 5 * B a) over in let e = is.ticks a (at_slot.quantum + 5 * B a) is.sender in absurd (omega arith))
                 | inr fits ↦ omega arith
               ] in
               let d = through.doing_own laws stay b is meets slots t ep.rest head (stuffed head) from m sends_next first.0 first.1 at_slot k late few in
-              good_from longer a k is.sender (replies.lv laws stay b is meets slots t ep.rest head (stuffed head) from m sends_next a) d.passed d.stretch d.drive d.does
+              good_from laws b is longer a k is.sender (replies.lv laws stay b is meets slots t ep.rest head (stuffed head) from m sends_next a) d.passed d.stretch d.drive d.does
               (through.lists_then laws stay b is meets slots t ep.rest head (stuffed head) from m sends_next first.0 first.1 at_slot a k is.sender soon)
               (elim d.gone [
                 | inl e ↦
@@ -418,23 +328,23 @@ module _ (laws : Laws) (stay : StayLaws) (b : SenderBus) (stuffed : Content → 
                 | inr e ↦ elim (cases_lt 7 (min d.count 10)) [
                   | inl over ↦ (
                     suc n,
-                    of_node longer a true (suc n) d.passed ((through.after_own laws stay b is meets slots t ep.rest head (stuffed head) from m sends_next first.0 first.1 at_slot).passed (min d.count 10)) (eq-eqb a a refl) e.0
+                    of_node laws b is longer a true (suc n) d.passed ((through.after_own laws stay b is meets slots t ep.rest head (stuffed head) from m sends_next first.0 first.1 at_slot).passed (min d.count 10)) (eq-eqb a a refl) e.0
                         (following.own_late laws stay b is meets slots t ep.rest head (stuffed head) from m sends_next first.0 first.1 at_slot ep.line n ep.whole ep.sent ep.received (min d.count 10) over),
                   )
                   | inr early ↦ (
                     n,
-                    of_node longer a true n d.passed ((through.after_own laws stay b is meets slots t ep.rest head (stuffed head) from m sends_next first.0 first.1 at_slot).passed (min d.count 10)) (eq-eqb a a refl) e.0
+                    of_node laws b is longer a true n d.passed ((through.after_own laws stay b is meets slots t ep.rest head (stuffed head) from m sends_next first.0 first.1 at_slot).passed (min d.count 10)) (eq-eqb a a refl) e.0
                         (following.own_early laws stay b is meets slots t ep.rest head (stuffed head) from m sends_next first.0 first.1 at_slot ep.line n ep.whole ep.sent ep.received (min d.count 10) early),
                   )
                 ]
               ])
 
-          other : (p : IsListener b i) → (ep.rest.node i p.0).start ≤ k → ((q : ℕ) → q < k → l.instant i q < cut) → IsGood longer i k
+          other : (p : IsListener b i) → (ep.rest.node i p.0).start ≤ k → ((q : ℕ) → q < k → l.instant i q < cut) → IsGood laws b is longer i k
           other p late soon =
               let w = replies.plan_of laws stay b is meets slots t ep.rest head (stuffed head) from m sends_next i p in
               let start : (ep.rest.node i w.nat.heard.listener.0).start ≤ k = subst (λ h. (ep.rest.node i h).start ≤ k) (le_prop p.0 w.nat.heard.listener.0) late in
               let d = replies.doing laws stay b is meets slots t ep.rest head (stuffed head) from m sends_next i w k start in
-              good_from longer i k w.nat.heard.listener.0 (replies.lv laws stay b is meets slots t ep.rest head (stuffed head) from m sends_next i) d.passed d.stretch d.drive d.does
+              good_from laws b is longer i k w.nat.heard.listener.0 (replies.lv laws stay b is meets slots t ep.rest head (stuffed head) from m sends_next i) d.passed d.stretch d.drive d.does
               (through.lists_then laws stay b is meets slots t ep.rest head (stuffed head) from m sends_next first.0 first.1 at_slot i k w.nat.heard.listener.0 soon)
               (elim d.gone [
                 | inl e ↦
@@ -446,12 +356,12 @@ module _ (laws : Laws) (stay : StayLaws) (b : SenderBus) (stuffed : Content → 
                 | inr e ↦ elim (cases_lt 6 (min d.count 10)) [
                   | inl over ↦ (
                     suc n,
-                    of_node longer i false (suc n) d.passed ((through.after laws stay b is meets slots t ep.rest head (stuffed head) from m sends_next i w).passed (min d.count 10)) (ne_eqb i a w.nat.heard.listener.1) e
+                    of_node laws b is longer i false (suc n) d.passed ((through.after laws stay b is meets slots t ep.rest head (stuffed head) from m sends_next i w).passed (min d.count 10)) (ne_eqb i a w.nat.heard.listener.1) e
                         (following.other_late laws stay b is meets slots t ep.rest head (stuffed head) from m sends_next first.0 first.1 at_slot ep.line n ep.whole ep.sent ep.received i w (min d.count 10) over),
                   )
                   | inr early ↦ (
                     n,
-                    of_node longer i false n d.passed ((through.after laws stay b is meets slots t ep.rest head (stuffed head) from m sends_next i w).passed (min d.count 10)) (ne_eqb i a w.nat.heard.listener.1) e
+                    of_node laws b is longer i false n d.passed ((through.after laws stay b is meets slots t ep.rest head (stuffed head) from m sends_next i w).passed (min d.count 10)) (ne_eqb i a w.nat.heard.listener.1) e
                         (following.other_early laws stay b is meets slots t ep.rest head (stuffed head) from m sends_next first.0 first.1 at_slot ep.line n ep.whole ep.sent ep.received i w (min d.count 10) early),
                   )
                 ]
@@ -494,7 +404,7 @@ module _ (laws : Laws) (stay : StayLaws) (b : SenderBus) (stuffed : Content → 
           ] in
           let bits : 5 * B a ≤ 11 * B a = mul-le-mul_right (B a) (omega arith) in
           let d = through.doing_own laws stay b is meets slots t ep.rest head (stuffed head) from m sends_next first.0 first.1 at_slot k late (omega arith) in
-          let e = frames_are a k is.sender (replies.lv laws stay b is meets slots t ep.rest head (stuffed head) from m sends_next a) d.passed d.stretch d.drive d.does (through.lists_then laws stay b is meets slots t ep.rest head (stuffed head) from m sends_next first.0 first.1 at_slot a k is.sender soon) in
+          let e = frames_are laws b is a k is.sender (replies.lv laws stay b is meets slots t ep.rest head (stuffed head) from m sends_next a) d.passed d.stretch d.drive d.does (through.lists_then laws stay b is meets slots t ep.rest head (stuffed head) from m sends_next first.0 first.1 at_slot a k is.sender soon) in
           elim d.gone [
             | inl g ↦ own_by k d.count (e ∙ g.0) g.1
             | inr g ↦
@@ -516,7 +426,7 @@ module _ (laws : Laws) (stay : StayLaws) (b : SenderBus) (stuffed : Content → 
           subst (λ h. OtherCount j (h, p.1) k) (le_prop w.nat.heard.listener.0 p.0)
           (let start : (ep.rest.node j w.nat.heard.listener.0).start ≤ k = subst (λ h. (ep.rest.node j h).start ≤ k) (le_prop p.0 w.nat.heard.listener.0) late in
           let d = replies.doing laws stay b is meets slots t ep.rest head (stuffed head) from m sends_next j w k start in
-          let e = frames_are j k w.nat.heard.listener.0 (replies.lv laws stay b is meets slots t ep.rest head (stuffed head) from m sends_next j) d.passed d.stretch d.drive d.does (through.lists_then laws stay b is meets slots t ep.rest head (stuffed head) from m sends_next first.0 first.1 at_slot j k w.nat.heard.listener.0 soon) in
+          let e = frames_are laws b is j k w.nat.heard.listener.0 (replies.lv laws stay b is meets slots t ep.rest head (stuffed head) from m sends_next j) d.passed d.stretch d.drive d.does (through.lists_then laws stay b is meets slots t ep.rest head (stuffed head) from m sends_next first.0 first.1 at_slot j k w.nat.heard.listener.0 soon) in
           elim d.gone [
             | inl g ↦ other_by j (w.nat.heard.listener.0, p.1) k d.count (e ∙ g.0) g.1
             | inr g ↦ elim (cases_lt 6 (min d.count 10)) [
@@ -562,12 +472,12 @@ module _ (laws : Laws) (stay : StayLaws) (b : SenderBus) (stuffed : Content → 
               elim (cases_lt 7 c) [
                 | inl over ↦ (
                   suc n,
-                  of_node longer v true (suc n) ((node v inside).rests.waits.passed c) ((through.after_own laws stay b is meets slots t ep.rest head (stuffed head) from m sends_next first.0 first.1 at_slot).passed c) (eq-eqb v a here) e
+                  of_node laws b is longer v true (suc n) ((node v inside).rests.waits.passed c) ((through.after_own laws stay b is meets slots t ep.rest head (stuffed head) from m sends_next first.0 first.1 at_slot).passed c) (eq-eqb v a here) e
                       (following.own_late laws stay b is meets slots t ep.rest head (stuffed head) from m sends_next first.0 first.1 at_slot ep.line n ep.whole ep.sent ep.received c over),
                 )
                 | inr early ↦ (
                   n,
-                  of_node longer v true n ((node v inside).rests.waits.passed c) ((through.after_own laws stay b is meets slots t ep.rest head (stuffed head) from m sends_next first.0 first.1 at_slot).passed c) (eq-eqb v a here) e
+                  of_node laws b is longer v true n ((node v inside).rests.waits.passed c) ((through.after_own laws stay b is meets slots t ep.rest head (stuffed head) from m sends_next first.0 first.1 at_slot).passed c) (eq-eqb v a here) e
                       (following.own_early laws stay b is meets slots t ep.rest head (stuffed head) from m sends_next first.0 first.1 at_slot ep.line n ep.whole ep.sent ep.received c early),
                 )
               ])
@@ -577,12 +487,12 @@ module _ (laws : Laws) (stay : StayLaws) (b : SenderBus) (stuffed : Content → 
               elim (cases_lt 6 c) [
                 | inl over ↦ (
                   suc n,
-                  of_node longer v false (suc n) ((node v inside).rests.waits.passed c) ((through.after laws stay b is meets slots t ep.rest head (stuffed head) from m sends_next v g.0).passed c) (ne_eqb v a apart) e
+                  of_node laws b is longer v false (suc n) ((node v inside).rests.waits.passed c) ((through.after laws stay b is meets slots t ep.rest head (stuffed head) from m sends_next v g.0).passed c) (ne_eqb v a apart) e
                       (following.other_late laws stay b is meets slots t ep.rest head (stuffed head) from m sends_next first.0 first.1 at_slot ep.line n ep.whole ep.sent ep.received v g.0 c over),
                 )
                 | inr early ↦ (
                   n,
-                  of_node longer v false n ((node v inside).rests.waits.passed c) ((through.after laws stay b is meets slots t ep.rest head (stuffed head) from m sends_next v g.0).passed c) (ne_eqb v a apart) e
+                  of_node laws b is longer v false n ((node v inside).rests.waits.passed c) ((through.after laws stay b is meets slots t ep.rest head (stuffed head) from m sends_next v g.0).passed c) (ne_eqb v a apart) e
                       (following.other_early laws stay b is meets slots t ep.rest head (stuffed head) from m sends_next first.0 first.1 at_slot ep.line n ep.whole ep.sent ep.received v g.0 c early),
                 )
               ])
@@ -662,7 +572,7 @@ module _ (laws : Laws) (stay : StayLaws) (b : SenderBus) (stuffed : Content → 
     pub on : ep.line ++ more ≡ line
     pub left : List Content
     pub from : ComeFrom (b.setups a) line left
-    pub good : (i k : ℕ) → (inside : i < l.nodes) → (ep.rest.node i inside).start ≤ k → AreInside l i k → IsGood line i k
+    pub good : (i k : ℕ) → (inside : i < l.nodes) → (ep.rest.node i inside).start ≤ k → AreInside l i k → IsGood laws b is line i k
     pub low : (i k : ℕ) → (inside : i < l.nodes) → (ep.rest.node i inside).start ≤ k → AreInside l i k → n ≤ suc (long i k)
     pub pair : (j : ℕ) (p : IsListener b j) (k q : ℕ) → (ep.rest.node a is.sender).start ≤ k → (ep.rest.node j p.0).start ≤ q → AreInside l a k → AreInside l j q
         → l.instant a k ≤ l.instant j q → long a k ≤ long j q
@@ -670,7 +580,7 @@ module _ (laws : Laws) (stay : StayLaws) (b : SenderBus) (stuffed : Content → 
 
   -- by the counts of the sender and of the others, where one more frame isn't due
   later_by : (t n : ℕ) (ep : Epoch t n) (more left : List Content) → ComeFrom (b.setups a) (ep.line ++ more) left
-      → ((i k : ℕ) → (inside : i < l.nodes) → (ep.rest.node i inside).start ≤ k → AreInside l i k → IsGood (ep.line ++ more) i k) → ((k : ℕ) → (ep.rest.node a is.sender).start ≤ k → AreInside l a k → OwnCount t n ep k)
+      → ((i k : ℕ) → (inside : i < l.nodes) → (ep.rest.node i inside).start ≤ k → AreInside l i k → IsGood laws b is (ep.line ++ more) i k) → ((k : ℕ) → (ep.rest.node a is.sender).start ≤ k → AreInside l a k → OwnCount t n ep k)
       → ((j : ℕ) (p : IsListener b j) (k : ℕ) → (ep.rest.node j p.0).start ≤ k → AreInside l j k → OtherCount t n ep j p k)
       → ((k : ℕ) → (ep.rest.node a is.sender).start ≤ k → AreInside l a k → n < length (sender_queue b) → due_quantum b lengths (suc n) ≤ k → ⊥) → Later t n ep
   later_by t n ep more left from good own other none = record {
@@ -726,7 +636,7 @@ module _ (laws : Laws) (stay : StayLaws) (b : SenderBus) (stuffed : Content → 
       from = then.from;
       good = λ i k inside late soon. elim (cases_lt k (next_one.rest.node i inside).start) [
         | inl early ↦
-            still_good (longer t n ep m head decides) then.more then.line i k next_on
+            still_good laws b is (longer t n ep m head decides) then.more then.line i k next_on
             (good_frame t n ep m head decides i k inside late (before_cut i k inside early soon))
         | inr past ↦ then.good i k inside past soon
       ];
@@ -769,43 +679,32 @@ module _ (laws : Laws) (stay : StayLaws) (b : SenderBus) (stuffed : Content → 
           | inr apart ↦ (other_frame t n ep m head decides i (inside, apart) k late (before_cut i k inside early soon)).low
         ]
 
+  -- from a rest on, if that holds from each next one
+  later_from : (t n : ℕ) (ep : Epoch t n)
+      → ((m : ℕ) (head : Content) (d : Decides (b.setups a) (gone t n ep) (base t n ep) (S a) (B a) head m) (in_time : after_it t n ep m head d ≤ l.stop)
+      → Later (after_it t n ep m head d) (suc n) (next_epoch t n ep m head d in_time)) → Later t n ep
+  later_from t n ep go = elim (find (b.setups a) (gone t n ep) (base t n ep) (S a) (B a) l.stop) [
+    | inr none ↦
+        later_by t n ep [] (queued_contents (left t n ep)) (subst (λ x. ComeFrom (b.setups a) x (queued_contents (left t n ep))) (sym (append-nil ep.line)) ep.from)
+        (λ i k inside late soon. subst (λ x. IsGood laws b is x i k) (sym (append-nil ep.line)) (good_calm t n ep none i k inside late soon)) (λ k late soon. own_calm t n ep none k late soon)
+        (λ j p k late soon. other_calm t n ep none j p k late soon) (λ k late soon more by. calm_due t n ep none k soon more by)
+    | inl found ↦ elim (cases_lt l.stop (after_it t n ep found.0 found.1 found.2)) [
+      | inl beyond ↦
+          later_by t n ep (found.1 ∷ [])
+          (queued_contents (left_of (b.setups a) (gone t n ep ++ record { sent = true; quantum = 0; frame = found.1 } ∷ [])))
+          (come_on t n ep found.0 found.1 found.2 (record { sent = true; quantum = 0; frame = found.1 }) refl refl)
+          (λ i k inside late soon. good_frame t n ep found.0 found.1 found.2 i k inside late (λ q less. (let f = soon q less in omega arith)))
+          (λ k late soon. own_frame t n ep found.0 found.1 found.2 k late (λ q less. (let f = soon q less in omega arith)))
+          (λ j p k late soon. other_frame t n ep found.0 found.1 found.2 j p k late (λ q less. (let f = soon q less in omega arith)))
+          (λ k late soon more by. too_early t n ep found.0 found.1 found.2 k (λ q less. (let f = soon q less in omega arith)) by)
+      | inr in_time ↦ later_next t n ep found.0 found.1 found.2 in_time (go found.0 found.1 found.2 in_time)
+    ]
+  ]
+
   later_all : (fuel t n : ℕ) (ep : Epoch t n) → l.stop ≤ t + fuel → Later t n ep
-  later_all zero t n ep over = elim (find t n ep l.stop) [
-    | inr none ↦
-        later_by t n ep [] (queued_contents (left t n ep)) (subst (λ x. ComeFrom (b.setups a) x (queued_contents (left t n ep))) (sym (append-nil ep.line)) ep.from)
-        (λ i k inside late soon. subst (λ x. IsGood x i k) (sym (append-nil ep.line)) (good_calm t n ep none i k inside late soon)) (λ k late soon. own_calm t n ep none k late soon)
-        (λ j p k late soon. other_calm t n ep none j p k late soon) (λ k late soon more by. calm_due t n ep none k soon more by)
-    | inl found ↦ elim (cases_lt l.stop (after_it t n ep found.0 found.1 found.2)) [
-      | inl beyond ↦
-          later_by t n ep (found.1 ∷ [])
-          (queued_contents (left_of (b.setups a) (gone t n ep ++ record { sent = true; quantum = 0; frame = found.1 } ∷ [])))
-          (come_on t n ep found.0 found.1 found.2 (record { sent = true; quantum = 0; frame = found.1 }) refl refl)
-          (λ i k inside late soon. good_frame t n ep found.0 found.1 found.2 i k inside late (λ q less. (let f = soon q less in omega arith)))
-          (λ k late soon. own_frame t n ep found.0 found.1 found.2 k late (λ q less. (let f = soon q less in omega arith)))
-          (λ j p k late soon. other_frame t n ep found.0 found.1 found.2 j p k late (λ q less. (let f = soon q less in omega arith)))
-          (λ k late soon more by. too_early t n ep found.0 found.1 found.2 k (λ q less. (let f = soon q less in omega arith)) by)
-      | inr in_time ↦ (let up = later t n ep found.0 found.1 found.2 in absurd (omega arith))
-    ]
-  ]
-  later_all (suc fuel) t n ep over = elim (find t n ep l.stop) [
-    | inr none ↦
-        later_by t n ep [] (queued_contents (left t n ep)) (subst (λ x. ComeFrom (b.setups a) x (queued_contents (left t n ep))) (sym (append-nil ep.line)) ep.from)
-        (λ i k inside late soon. subst (λ x. IsGood x i k) (sym (append-nil ep.line)) (good_calm t n ep none i k inside late soon)) (λ k late soon. own_calm t n ep none k late soon)
-        (λ j p k late soon. other_calm t n ep none j p k late soon) (λ k late soon more by. calm_due t n ep none k soon more by)
-    | inl found ↦ elim (cases_lt l.stop (after_it t n ep found.0 found.1 found.2)) [
-      | inl beyond ↦
-          later_by t n ep (found.1 ∷ [])
-          (queued_contents (left_of (b.setups a) (gone t n ep ++ record { sent = true; quantum = 0; frame = found.1 } ∷ [])))
-          (come_on t n ep found.0 found.1 found.2 (record { sent = true; quantum = 0; frame = found.1 }) refl refl)
-          (λ i k inside late soon. good_frame t n ep found.0 found.1 found.2 i k inside late (λ q less. (let f = soon q less in omega arith)))
-          (λ k late soon. own_frame t n ep found.0 found.1 found.2 k late (λ q less. (let f = soon q less in omega arith)))
-          (λ j p k late soon. other_frame t n ep found.0 found.1 found.2 j p k late (λ q less. (let f = soon q less in omega arith)))
-          (λ k late soon more by. too_early t n ep found.0 found.1 found.2 k (λ q less. (let f = soon q less in omega arith)) by)
-      | inr in_time ↦ (let up = later t n ep found.0 found.1 found.2 in
-          later_next t n ep found.0 found.1 found.2 in_time
-          (later_all fuel (after_it t n ep found.0 found.1 found.2) (suc n) (next_epoch t n ep found.0 found.1 found.2 in_time) (omega arith)))
-    ]
-  ]
+  later_all zero t n ep over = later_from t n ep (λ m head d in_time. (let up = later t n ep m head d in absurd (omega arith)))
+  later_all (suc fuel) t n ep over =
+      later_from t n ep (λ m head d in_time. (let up = later t n ep m head d in later_all fuel (after_it t n ep m head d) (suc n) (next_epoch t n ep m head d in_time) (omega arith)))
 
   first_epoch : Epoch 0 0
   unfolding rests_first integrating
@@ -818,16 +717,7 @@ module _ (laws : Laws) (stay : StayLaws) (b : SenderBus) (stuffed : Content → 
     sent = none_passed (b.setups a) [] true;
     received = λ j p. none_passed (b.setups a) [] false;
     spaced = λ m head d j p.
-        (let here : m ≡ b.decides = elim (cases_order m b.decides) [
-          | inl e ↦ e
-          | inr o ↦ elim o [
-            | inl less ↦ none_or_some (head_at (b.setups a) (sender_queue b) (m * B a + S a)) head (sends.unready m d.idle less)
-                (ap (head_at (b.setups a) (sender_queue b)) (sym (zero_first (m * B a) (S a))) ∙ ap (λ u. head_at (b.setups a) u (0 + m * B a + S a)) (sym (unsent_first (b.setups a))) ∙ d.ready)
-            | inr more ↦ none_or_some (head_at (b.setups a) (sender_queue b) (b.decides * B a + S a)) b.frame
-                (ap (head_at (b.setups a) (sender_queue b)) (sym (zero_first (b.decides * B a) (S a))) ∙ ap (λ u. head_at (b.setups a) u (0 + b.decides * B a + S a)) (sym (unsent_first (b.setups a)))
-                ∙ d.unready b.decides sends.idle more) sends.ready
-          ]
-        ] in
+        (let here = decides_first b sends m head d in
         let e = sends.others j p in
         let bits : suc m * B a ≡ suc b.decides * B a = ap (λ n. suc n * B a) here in
         let from : suc b.decides * B a + 0 * B a ≡ 0 + suc m * B a = omega arith in
@@ -849,7 +739,7 @@ module _ (laws : Laws) (stay : StayLaws) (b : SenderBus) (stuffed : Content → 
   all : Later 0 0 first_epoch
   all = later_all l.stop 0 0 first_epoch (omega arith)
 
-  good : (i k : ℕ) → i < l.nodes → AreInside l i k → IsGood all.line i k
+  good : (i k : ℕ) → i < l.nodes → AreInside l i k → IsGood laws b is all.line i k
   good i k inside soon = let e = start_first i inside in all.good i k inside (omega arith) soon
 
   pub gets_through : GetThrough b lengths

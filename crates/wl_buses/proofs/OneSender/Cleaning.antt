@@ -24,7 +24,7 @@ use Rattle.wl_buses.specs.OneSender.Tolerances.{IsWithinTolerance}
 use Rattle.wl_buses.specs.OneSender.Bounds.{IsBoundOf}
 use Rattle.wl_buses.specs.OneSender.Through.{AreFrames}
 use Rattle.wl_buses.specs.OneSender.Clean.{HasOneSender, bus_with, tolerance_of}
-use Rattle.wl_buses.specs.BothProofs.Queues.{decided_by, decides_at, wakes_at}
+use Rattle.wl_buses.specs.BothProofs.Queues.{first_decision, decides_at, wakes_at}
 use Rattle.wl_buses.proofs.BothProofs.Heads.{head_early, head_in}
 use Rattle.wl_buses.proofs.FirstFrame.Deciding.{decided_after, undecided}
 use Rattle.wl_frame.specs.Grammar.{Content}
@@ -115,7 +115,7 @@ module _ (f : Buses) (plan : Plan) (clocks : ℕ → Steady) (sender : ℕ) (one
 
   pub sends : (lengths : ℕ → ℕ) → AreFrames b stuffed lengths → SendsFirst b
   sends lengths frames =
-      let place = head_in own own.queue (decided_by own) one.frame one.decides in
+      let place = head_in own own.queue (first_decision own) one.frame one.decides in
       let some = (is.book sender one.inside).lengths.low in
       let ready_by : ready ≤ decides * bit_quanta l + sample_at l = decided_after l ready (omega arith) in
       record {

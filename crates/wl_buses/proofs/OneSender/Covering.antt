@@ -14,7 +14,7 @@ use Rattle.wl_bound.specs.Verdicts.{idle_at, is_ready_from}
 use Rattle.wl_buses.specs.BothProofs.Plans.{IsSteadyPlan}
 use Rattle.wl_buses.specs.OneSender.Clean.{HasOneSender}
 use Rattle.wl_buses.proofs.BothProofs.Small.{none_below, covered_each, covered_stays, passed}
-use Rattle.wl_buses.specs.BothProofs.Queues.{decided_by, wakes_at}
+use Rattle.wl_buses.specs.BothProofs.Queues.{first_decision, wakes_at}
 use Rattle.wl_buses.proofs.BothProofs.Heads.{IsHanded, head_late}
 use Rattle.wl_buses.proofs.FirstFrame.Deciding.{decided_after}
 
@@ -58,10 +58,10 @@ module _ (plan : Plan) (covered : is_covered plan ≡ true) where
   }
 
   -- on which frame it decides after its power-up
-  decides_on : (sender : ℕ) (first : Queued) (later : List Queued) → (setup_at plan sender).queue ≡ first ∷ later → IsHanded (setup_at plan sender) (setup_at plan sender).queue (decided_by (setup_at plan sender))
+  decides_on : (sender : ℕ) (first : Queued) (later : List Queued) → (setup_at plan sender).queue ≡ first ∷ later → IsHanded (setup_at plan sender) (setup_at plan sender).queue (first_decision (setup_at plan sender))
   decides_on sender first later queue =
       let long = ap length queue in
-      head_late (setup_at plan sender) (setup_at plan sender).queue (decided_by (setup_at plan sender)) (omega arith)
+      head_late (setup_at plan sender) (setup_at plan sender).queue (first_decision (setup_at plan sender)) (omega arith)
       (decided_after (setup_at plan sender).segments (wakes_at (setup_at plan sender) (setup_at plan sender).queue) (omega arith))
 
   pub one_sender : (sender : ℕ) (first : Queued) (later : List Queued) → sender < length plan.nodes → (setup_at plan sender).queue ≡ first ∷ later

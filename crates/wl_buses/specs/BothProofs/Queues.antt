@@ -43,17 +43,17 @@ abbrev pub unsent_after : NodeSetup → List Passed → List Queued
 unsent_after setup passed = unsent_by setup.order setup.queue passed
 
 -- the first place of a frame in a list; if there is no frame, or the list hasn't got it, a number that is no place
-abbrev pub place_of : Option Content → List Content → ℕ
-place_of None frames = length frames
-place_of (Some frame) [] = 0
-place_of (Some frame) (first ∷ more) = if same_content frame first then 0 else suc (place_of (Some frame) more)
+abbrev pub place_among : Option Content → List Content → ℕ
+place_among None frames = length frames
+place_among (Some frame) [] = 0
+place_among (Some frame) (first ∷ more) = if same_content frame first then 0 else suc (place_among (Some frame) more)
 
 -- the quantum by which a node decides after its power-up, and the frame on which it decides
-abbrev pub decided_by : NodeSetup → ℕ
-decided_by setup = decides_at setup.segments (wakes_at setup setup.queue) * bit_quanta setup.segments + sample_at setup.segments
+abbrev pub first_decision : NodeSetup → ℕ
+first_decision setup = decides_at setup.segments (wakes_at setup setup.queue) * bit_quanta setup.segments + sample_at setup.segments
 
 abbrev pub first_head : NodeSetup → Option Content
-first_head setup = head_at setup setup.queue (decided_by setup)
+first_head setup = head_at setup setup.queue (first_decision setup)
 
 -- Frames that a node has sent, and those that its queue still has: they are those of the queue, each once. If the queue is first in, first out, they are so in its order.
 pub record ComeFrom (setup : NodeSetup) (sent left : List Content) : Type 0 where

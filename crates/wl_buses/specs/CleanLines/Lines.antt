@@ -5,7 +5,7 @@ use Rattle.wl_node.specs.declared.setup.NodeSetup.{NodeSetup}
 use Rattle.wl_node.specs.History.{History, counters_of, error_count, staying_history, unsent_of}
 use Rattle.wl_plan.specs.Line.{Line}
 use Rattle.wl_plan.specs.Simulation.{AreInside, seen}
-use Rattle.wl_buses.specs.BothProofs.Queues.{ComeFrom, IsFifo, decides_at, first_head, head_at, place_of, queued_contents, wakes_at}
+use Rattle.wl_buses.specs.BothProofs.Queues.{ComeFrom, IsFifo, decides_at, first_head, head_at, place_among, queued_contents, wakes_at}
 use Rattle.wl_buses.specs.OneFrame.Lines.{IsLineOf}
 use Rattle.wl_buses.specs.OneFrame.Stations.{Stations}
 use Rattle.wl_buses.specs.FirstFrame.FirstStarts.{AreIdle, HandTheFirst, Waiting, decision_quantum, first_outset}
@@ -26,7 +26,7 @@ abbrev pub waiting_with : (setups : ℕ → NodeSetup) → Stations → Waiting
 waiting_with setups s = record {
   stations = s;
   frames = λ i. queued_contents (setups i).queue;
-  which = λ i. place_of (first_head (setups i)) (queued_contents (setups i).queue);
+  which = λ i. place_among (first_head (setups i)) (queued_contents (setups i).queue);
   decides = λ i. decides_at (setups i).segments (wakes_at (setups i) (setups i).queue);
 }
 

@@ -5,7 +5,7 @@ use Rattle.wl_plan.specs.declared.plan.Plan.{Plan}
 use Rattle.wl_plan.specs.PlanLine.{line_of, setup_at}
 use Rattle.wl_phase.specs.Clocks.{steady_tick}
 use Rattle.wl_bound.specs.Verdicts.{has_frames, idle_at, is_ready_from}
-use Rattle.wl_buses.specs.BothProofs.Queues.{decides_at, first_head, place_of, queued_contents, wakes_at}
+use Rattle.wl_buses.specs.BothProofs.Queues.{decides_at, first_head, place_among, queued_contents, wakes_at}
 use Rattle.wl_wire.specs.InStep.{AreSoundFrames}
 use Rattle.wl_buses.specs.OneFrame.Stations.{Stations}
 use Rattle.wl_buses.specs.OneFrame.Expected.{Outset, expected_bits}
@@ -27,7 +27,7 @@ first_frames_of plan i = content_alone (first_head (setup_at plan i))
 
 -- where that is in a list
 abbrev pub first_place_of : Plan → (queues : ℕ → List Content) → ℕ → ℕ
-first_place_of plan queues i = place_of (first_head (setup_at plan i)) (queues i)
+first_place_of plan queues i = place_among (first_head (setup_at plan i)) (queues i)
 
 -- Lists of frames that have those on which the nodes of a plan decide first. Whole queues are such lists, and so are these frames alone.
 abbrev pub BeginAsQueues : Plan → (queues : ℕ → List Content) → Type 0

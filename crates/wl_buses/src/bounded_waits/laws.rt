@@ -36,8 +36,8 @@ pub fn a_busy_period_goes_back_to()
     wl_counts::laws::periods_give_a_curve();
 }
 
-/// Law: each entry of a queue that is first in, first out, is one of the frames on the bus of a plan, if these go on until all queues are
-/// empty. So they do, whenever the plan ends.
+/// Law: let all queues of a plan be first in, first out, and its frames go on until all are empty. Then each entry of a queue is one of the
+/// frames on the bus. So they do, whenever the plan ends.
 pub fn each_entry_comes_on_the_bus()
     ensures { (plan : Plan) (s : Stations) (chase : ℕ → ℕ) → IsPlanOf plan s → AreStations s → HaveRoom s
         → HasRoomForAll s chase → HasFirstFrames plan (queues_of plan) s → AreFifo s (setup_at plan)

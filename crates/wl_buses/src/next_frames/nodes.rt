@@ -35,7 +35,8 @@ pub fn a_node_waits_for_the_next_frame()
         → RestsAgain r.stations (before i ++ Sample (sampled Recessive (r.frames i) handed)
         ∷ []) i levels node (r.place i) since
         → ((q : ℕ) → rested r i < q → q < (start_next r).from i → levels q ≡ Recessive)
-        → HandsNext r i (slice_get (r.frames i) handed.which) (head_at setup (unsent_of setup (node (suc (rested r i)))))
+        → HandsNext r i (slice_get (r.frames i) handed.which)
+        (head_at setup (unsent_of setup (node (suc (rested r i)))))
         → RestsAgain r.stations ((outset_next r before).past i) i levels node (rest_next r i) since
         × ((node (suc (rest_next r i + sample_at (r.stations.lengths i)))).frames ≡ (node (suc (rested r i))).frames) }
 {

@@ -19,7 +19,8 @@ ghost use Rattle.wl_buses.specs.NextFrames.Runs.{HandsBetween};
 /// its frames between those on the bus.
 pub fn a_queue_hands_its_next_frame()
     ensures next { (r : Resting) (i : ℕ) (setup : NodeSetup) (unsent : List Queued) → DecidesByQueue r i setup unsent
-        → 0 < bit_quanta (r.stations.lengths i) → HandsNext r i (head_at setup unsent (rested r i)) (head_at setup unsent) }
+        → 0 < bit_quanta (r.stations.lengths i)
+        → HandsNext r i (head_at setup unsent (rested r i)) (head_at setup unsent) }
     ensures between { (s : Stations) (frames : ℕ → Frame) (count : ℕ) (are : FollowOneAnother s frames count) (i : ℕ)
         (setup : NodeSetup) (levels : ℕ → Level) (node : ℕ → History) → IsRun setup levels node
         → 0 < bit_quanta (s.lengths i) → SendsByQueue s frames count are i setup node

@@ -44,7 +44,8 @@ pub fn the_winner_sends_its_next_frame()
     ensures queued { (s : Stations) (setups : ℕ → NodeSetup) (frames : ℕ → Frame) (count : ℕ) → AreStations s
         → HaveRoom s → (are : FollowOneAnother s frames count) → (by : ByQueues s setups frames count are) → (n : ℕ)
         (less : suc n < count)
-        → head_at (setups (by.winner (suc n))) (unsent_with s setups frames by.winner by.content (by.winner (suc n)) (suc n))
+        → head_at (setups (by.winner (suc n)))
+        (unsent_with s setups frames by.winner by.content (by.winner (suc n)) (suc n))
         (decision_next (resting_of s (frames n) (frames (suc n)) (are.next n less)) (by.winner (suc n)))
         ≡ Some (by.content (suc n)) }
 {
