@@ -164,8 +164,8 @@ abbrev pub top_keys : ℕ → Members → TableKeys
 top_keys version top = record { required = top_required (asks_tick_in version top); optional = top_optional (has_controllers version) }
 
 -- of a controller
-abbrev pub controller_fault : Data → Option SetupFault
-controller_fault d = option_and_then (table_fault controller_keys) (as_table d)
+abbrev pub fault_of_controller : Data → Option SetupFault
+fault_of_controller d = option_and_then (table_fault controller_keys) (as_table d)
 
 -- a version that is missing, of another kind, or not known
 abbrev pub version_fault : Members → Option SetupFault
