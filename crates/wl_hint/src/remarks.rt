@@ -194,12 +194,7 @@ fn home_of(key: &str, path: TablePath) -> &'static str {
 }
 
 /// Returns what is remarked of a key that has no place in its table: where it belongs, or what is there in its place.
-fn of_unknown(
-    is_wide: bool,
-    table: Option<&Table>,
-    key: &str,
-    path: TablePath,
-) -> &'static str {
+fn of_unknown(is_wide: bool, table: Option<&Table>, key: &str, path: TablePath) -> &'static str {
     let has_clock = match table {
         Some(table) => value_named(table, "clock").is_some(),
         None => false,

@@ -439,6 +439,10 @@ pub(crate) fn of_value(
         "bitrate" => Ok(Some(of_bit_rate(alloc, top, table)?)),
         "cycle" => Ok(Some(of_cycle(alloc, top, path, table)?)),
         "kind" => Ok(Some(of_kind(alloc)?)),
+        "controller" => Ok(Some(String::from_str(
+            alloc,
+            " (no `[controller.NAME]` has this name)",
+        )?)),
         _ if is_number(top, table, key) => of_part(alloc, top, table, key),
         _ => Ok(None),
     }

@@ -110,10 +110,15 @@ has_clock version table =
 abbrev pub is_by_bit_rate : Members → Bool
 is_by_bit_rate table = is_some (value_at key.BitRate table) && not (is_some (value_at key.Prescaler table))
 
+-- a node of a plain document that still names a controller names none that is there
+abbrev pub names_none : ℕ → Members → Bool
+names_none version table = has_controllers version && is_some (value_at key.Controller table)
+
 -- the keys of a node go by the version, by whether `rates` or `quantum` is there, and by whether `tseg1` or `tseg2` is
 abbrev pub node_required : ℕ → Members → List Key
 node_required version table =
-    if has_clock version table then required_by_clock (is_by_bit_rate table) (has_tseg version table)
+    if names_none version table then key.Controller ∷ []
+    else if has_clock version table then required_by_clock (is_by_bit_rate table) (has_tseg version table)
     else if has_rates version table then required_by_rates (has_tseg version table)
     else if is_some (value_at key.Quantum table) then required_by_ppm (has_tseg version table)
     else required_by_rate (has_tseg version table)
