@@ -50,7 +50,7 @@ def wide_remedies():
     """Returns what to change at each fault in version 4, if that is something else then."""
     text = source("wl_explain/src/remedies.rt")
     tables = tables_of(text)
-    found = {WITHIN["unknown"] % key: words for key, words in tables["WIDE_UNKNOWN"].items()}
+    found = {WITHIN[kind] % key: words for kind in ("missing", "kind", "unknown") for key, words in tables["WIDE_" + kind.upper()].items()}
     for fault, name in names_of(text):
         for table in ("WIDE_CHANGES", "CONTROLLER_CHANGES"):
             if name in tables[table]: found[fault] = tables[table][name]

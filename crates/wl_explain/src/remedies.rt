@@ -179,18 +179,7 @@ const WIDE_CHANGES: [(&str, &str); 7] = [
 
 /// What to change in version 4 if a key has no place in its table, by the key, if it is something else then.
 #[rattlefmt::skip]
-const WIDE_UNKNOWN: [(&str, &str); 14] = [
-    ("tick", "Put the key at the top, above the first table, or remove it."),
-    ("unit", "Put the key at the top, above the first table, or remove it."),
-    ("clock", "Put the key into a node or a `[controller.NAME]`, or remove it."),
-    ("prescaler", "Put the key into a node or a `[controller.NAME]`, or remove it."),
-    ("bitrate", "Put the key into a node or a `[controller.NAME]`, or remove it."),
-    ("queue", "Put the key into a node or a `[controller.NAME]`, or remove it."),
-    ("until", "Put the key right under `[[node]]`, or remove it."),
-    ("cycle", "Put the key into a frame, or remove it."),
-    ("at", "Put the key into a frame, or remove it."),
-    ("deadline", "Put the key into a frame, or remove it."),
-    ("jitter", "Put the key into a frame, or remove it."),
+const WIDE_UNKNOWN: [(&str, &str); 3] = [
     ("prop", "Remove the key; a node has `tseg1` and `tseg2`, or `prop`, `ps1` and `ps2`, but not both."),
     ("ps1", "Remove the key; a node has `tseg1` and `tseg2`, or `prop`, `ps1` and `ps2`, but not both."),
     ("ps2", "Remove the key; a node has `tseg1` and `tseg2`, or `prop`, `ps1` and `ps2`, but not both."),

@@ -194,7 +194,7 @@ fn home_of(key: &str, path: TablePath) -> &'static str {
 }
 
 /// Returns what is remarked of a key that has no place in its table: where it belongs, or what is there in its place.
-fn of_unknown(table: Option<&Table>, key: &str, path: TablePath) -> &'static str {
+fn of_unknown(is_wide: bool, table: Option<&Table>, key: &str, path: TablePath) -> &'static str {
     let has_clock = match table {
         Some(table) => value_named(table, "clock").is_some(),
         None => false,
@@ -203,6 +203,12 @@ fn of_unknown(table: Option<&Table>, key: &str, path: TablePath) -> &'static str
         "num" | "den" | "quantum" | "rates" if has_clock => {
             " (the node has `clock` in its place)"
         }
+        "tick" | "unit" if is_wide => " (it belongs above the first table)",
+        "clock" | "prescaler" | "bitrate" | "queue" | "kind" if is_wide => {
+            " (it belongs into a node or a `[controller.NAME]`)"
+        }
+        "until" if is_wide => " (it belongs right under `[[node]]`)",
+        "cycle" | "at" | "deadline" | "jitter" if is_wide => " (it belongs into a frame)",
         _ => home_of(key, path),
     }
 }
@@ -244,12 +250,7 @@ fn of_segments(table: Option<&Table>, form: TextForm, fault: SegmentsFault) -> &
 }
 
 /// Returns what is remarked of a value of another kind.
-fn of_kind(
-    alloc: Global,
-    top: &Table,
-    path: TablePath,
-    key: &str,
-) -> Result<String, AllocError> {
+fn of_kind(alloc: Global, top: &Table, path: TablePath, key: &str) -> Result<String, AllocError> {
     if number(top, "version") == Some(4) {
         if let Some(said) = of_value(alloc, top, path, key)? {
             return Ok(said);
@@ -268,11 +269,19 @@ pub(crate) fn remark(
     let table = table_at(top, path);
     match fault {
         SetupFault::Missing(key) => {
-            of_missing(alloc, number(top, "version") == Some(4), table, key.as_str())
+            of_missing(
+                alloc,
+                number(top, "version") == Some(4),
+                table,
+                key.as_str(),
+            )
         }
         SetupFault::Plan(PlanFault::Quanta(i)) => of_quanta(alloc, top, *i),
         SetupFault::Kind(key) => of_kind(alloc, top, path, key.as_str()),
-        SetupFault::Unknown(key) => String::from_str(alloc, of_unknown(table, key.as_str(), path)),
+        SetupFault::Unknown(key) => {
+            let is_wide = number(top, "version") == Some(4);
+            String::from_str(alloc, of_unknown(is_wide, table, key.as_str(), path))
+        }
         SetupFault::NodeSegments(_, segments) => {
             String::from_str(alloc, of_segments(table, form_of(top, fault), *segments))
         }

@@ -1,4 +1,5 @@
-//! What a hint adds on a text that is no TOML, of two mistakes that are often made.
+//! Two mistakes in texts that are no TOML, which a hint names.
+
 /// Returns the line of a text that a place is in.
 fn line_at(text: &[u8], at: usize) -> &[u8] {
     let mut from = at.min(text.len());

@@ -3,7 +3,7 @@ use std::alloc::{AllocError, Global};
 use toml::{Table, Value};
 use wl_kinds::{KINDS, Range, kind_named};
 use wl_setup::{TablePath, table_at, value_named};
-use wl_units::{MICROMETRES, Measure, Quantity, Scale, quantity_of, tick_of, unit_of};
+use wl_units::{MICROMETRES, Measure, Quantity, Scale, quantity_of, tick_said, unit_said};
 
 /// Returns the table of the controller that a node names, if there is one.
 fn controller_of<'a>(top: &'a Table, node: &Table) -> Option<&'a Table> {
@@ -74,13 +74,13 @@ fn whole_at(top: &Table, table: &Table, key: &str) -> Option<u64> {
 
 /// Returns the femtoseconds of a tick.
 fn tick_in(top: &Table) -> Option<u64> {
-    tick_of(value_named(top, "tick")?.as_str()?)
+    tick_said(value_named(top, "tick")?.as_str()?)
 }
 
 /// Returns the micrometres of a unit of length.
 fn unit_in(top: &Table) -> u64 {
     match value_named(top, "unit").and_then(Value::as_str) {
-        Some(text) => unit_of(text).unwrap_or(MICROMETRES),
+        Some(text) => unit_said(text).unwrap_or(MICROMETRES),
         None => MICROMETRES,
     }
 }
@@ -162,34 +162,30 @@ fn of_quantity(
     match measure {
         Measure::Time => near_times(alloc, below, above, over),
         Measure::PerLength => {
-            format!(in alloc; " (it is not whole in ticks a unit of length: the nearest are {below} and {above})")
+            format!(in alloc;
+                " (it is not whole in ticks a unit of length: the nearest are {below} and {above})"
+            )
         }
         _ => near_lengths(alloc, below, above, over),
     }
 }
 
-fn near_times(
-    alloc: Global,
-    below: u128,
-    above: u128,
-    tick: u64,
-) -> Result<String, AllocError> {
+fn near_times(alloc: Global, below: u128, above: u128, tick: u64) -> Result<String, AllocError> {
     let tick = u128::from(tick);
     let low = written(alloc, &TIMES, below.saturating_mul(tick))?;
     let high = written(alloc, &TIMES, above.saturating_mul(tick))?;
-    format!(in alloc; " (it is no whole number of ticks: the nearest are {low} and {high}, {below} and {above} ticks)")
+    format!(in alloc;
+        " (it is no whole number of ticks: the nearest are {low} and {high}, {below} and {above} ticks)"
+    )
 }
 
-fn near_lengths(
-    alloc: Global,
-    below: u128,
-    above: u128,
-    unit: u64,
-) -> Result<String, AllocError> {
+fn near_lengths(alloc: Global, below: u128, above: u128, unit: u64) -> Result<String, AllocError> {
     let unit = u128::from(unit);
     let low = written(alloc, &LENGTHS, below.saturating_mul(unit))?;
     let high = written(alloc, &LENGTHS, above.saturating_mul(unit))?;
-    format!(in alloc; " (it is no whole number of units of length: the nearest are {low} and {high}, {below} and {above} units)")
+    format!(in alloc;
+        " (it is no whole number of units of length: the nearest are {low} and {high}, {below} and {above} units)"
+    )
 }
 
 /// Returns how a text of a measure is written.
@@ -212,7 +208,16 @@ fn measure_at(path: TablePath, key: &str) -> Option<Measure> {
     match (key, path) {
         ("from", TablePath::Rate(_, _)) => None,
         (
-            "end" | "offset" | "out" | "in" | "quantum" | "until" | "from" | "to" | "deadline" | "jitter",
+            "end"
+            | "offset"
+            | "out"
+            | "in"
+            | "quantum"
+            | "until"
+            | "from"
+            | "to"
+            | "deadline"
+            | "jitter",
             _,
         ) => Some(Measure::Time),
         ("x", _) => Some(Measure::Length),
@@ -237,7 +242,7 @@ fn quanta_of(top: &Table, table: &Table) -> Option<u64> {
 /// Returns the number that a text of a frequency or of a bit rate says.
 fn rate_in(measure: Measure, text: &str) -> Option<u64> {
     let scale = Scale { tick: 1, unit: 1 };
-    scale.number_of(measure, text)
+    scale.number_said(measure, text)
 }
 
 /// Returns the prescaler below a bit rate, and the bit rates at it and at the next one.
@@ -261,7 +266,9 @@ fn of_bit_rate(alloc: Global, top: &Table, table: &Table) -> Result<String, Allo
     match near_rates(top, table) {
         Some((quanta, high, low, prescaler)) => {
             let next = prescaler.saturating_add(1);
-            format!(in alloc; " (with this clock and {quanta} quanta a bit the nearest are {high} bit/s with a prescaler of {prescaler} and {low} bit/s with {next})")
+            format!(in alloc;
+                " (with this clock and {quanta} quanta a bit the nearest are {high} bit/s with a prescaler of {prescaler} and {low} bit/s with {next})"
+            )
         }
         None => String::from_str(
             alloc,
@@ -284,7 +291,7 @@ fn quantum_of(top: &Table, node: &Table) -> Option<(u64, u64)> {
                 clock.checked_div(rate.checked_mul(quanta_of(top, node)?)?)?
             }
         };
-        return wl_units::quantum_of(clock, prescaler, tick_in(top)?);
+        return wl_units::ticks_of_quantum(clock, prescaler, tick_in(top)?);
     }
     match value_named(node, "quantum") {
         Some(quantum) => match quantum.as_str() {
@@ -293,7 +300,7 @@ fn quantum_of(top: &Table, node: &Table) -> Option<(u64, u64)> {
                     tick: tick_in(top)?,
                     unit: 1,
                 };
-                Some((scale.number_of(Measure::Time, text)?, 1))
+                Some((scale.number_said(Measure::Time, text)?, 1))
             }
             None => Some((u64::try_from(quantum.as_integer()?).ok()?, 1)),
         },
@@ -313,7 +320,9 @@ fn near_cycles(top: &Table, node: &Table, frame: &Table) -> Option<(u128, u128)>
         }
         None => {
             let ticks = u128::from(u64::try_from(cycle.as_integer()?).ok()?);
-            let below = ticks.checked_mul(u128::from(den))?.checked_div(u128::from(num))?;
+            let below = ticks
+                .checked_mul(u128::from(den))?
+                .checked_div(u128::from(num))?;
             Some((below, below.checked_add(1)?))
         }
     }
@@ -336,7 +345,9 @@ fn of_cycle(
     };
     match near {
         Some((below, above)) if value_named(frame, "every").is_none() => {
-            format!(in alloc; " (it is no whole number of quanta: the nearest are `every = {below}` and `every = {above}`)")
+            format!(in alloc;
+                " (it is no whole number of quanta: the nearest are `every = {below}` and `every = {above}`)"
+            )
         }
         _ => Ok(String::new(alloc)),
     }
@@ -428,6 +439,10 @@ pub(crate) fn of_value(
         "bitrate" => Ok(Some(of_bit_rate(alloc, top, table)?)),
         "cycle" => Ok(Some(of_cycle(alloc, top, path, table)?)),
         "kind" => Ok(Some(of_kind(alloc)?)),
+        "controller" => Ok(Some(String::from_str(
+            alloc,
+            " (no `[controller.NAME]` has this name)",
+        )?)),
         _ if is_number(top, table, key) => of_part(alloc, top, table, key),
         _ => Ok(None),
     }

@@ -10,14 +10,14 @@ use Rattle.toml.specs.Data.{Data, string, integer, float, boolean, datetime, arr
 use Rattle.toml.specs.declared.value.Value.{Value}
 use Rattle.toml.specs.View.{view, items_of, items_view, members_view}
 use Rattle.toml.proofs.Views.{Entry}
-use Rattle.wl_plain.specs.Tables.{data_of, elements, put, without}
+use Rattle.wl_plain.specs.Tables.{data_of, elements, with_member, without}
 
 of_cases : (o : Ordering) (a b c : List Entry) → members_view (match_ordering o a b c) ≡ match_ordering o (members_view a) (members_view b) (members_view c)
 of_cases Less a b c = refl
 of_cases Equal a b c = refl
 of_cases Greater a b c = refl
 
-pub inserted : (es : List Entry) (k : String Global) (v : Value) → members_view (insert_entry string_cmp es k v) ≡ put (string_bytes k) (view v) (members_view es)
+pub inserted : (es : List Entry) (k : String Global) (v : Value) → members_view (insert_entry string_cmp es k v) ≡ with_member (string_bytes k) (view v) (members_view es)
 inserted [] k v = refl
 inserted (e ∷ es) k v = of_cases (string_cmp k e.0) _ _ _ ∙ rw (inserted es k v)
 

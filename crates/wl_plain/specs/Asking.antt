@@ -7,22 +7,22 @@ use Rattle.wl_units.specs.declared.quantity.Measure.{Measure}
 use Rattle.wl_plain.specs.declared.measure.Row.{Row}
 use Rattle.wl_plain.specs.declared.measure.Row.TheVariants.{Top, Controller, Node, Rate, Frame, Disturbance}
 use Rattle.wl_plain.specs.Tables.{array_at}
-use Rattle.wl_plain.specs.Measures.{asks_tick as measure_asks, measure_of}
-use Rattle.wl_plain.specs.Documents.{controllers_at}
+use Rattle.wl_plain.specs.Measures.{asks_tick as measure_asks, measure_at_key}
+use Rattle.wl_plain.specs.Documents.{controllers_in}
 
 abbrev pub asks_measure : Option Measure → Bool
 asks_measure None = false
 asks_measure (Some measure) = measure_asks measure
 
 -- a clock by its frequency asks for it
-abbrev pub is_clock : Row → List ℕ → Bool
-is_clock Node key = bytes_eq key (codes "clock")
-is_clock Controller key = bytes_eq key (codes "clock")
-is_clock _ key = false
+abbrev pub is_clock_key : Row → List ℕ → Bool
+is_clock_key Node key = bytes_eq key (codes "clock")
+is_clock_key Controller key = bytes_eq key (codes "clock")
+is_clock_key _ key = false
 
 -- a text at the key of a time, and such a clock
 abbrev pub asks_at : Row → List ℕ → Data → Bool
-asks_at row key d = (is_some (as_str d) && asks_measure (measure_of row key)) || is_clock row key
+asks_at row key d = (is_some (as_str d) && asks_measure (measure_at_key row key)) || is_clock_key row key
 
 abbrev pub asks_row : Row → Members → Bool
 asks_row row no_members = false
@@ -54,5 +54,5 @@ asks_controllers (member k d ms) = asks_data Controller d || asks_controllers ms
 unfoldable pub asks_tick : Members → Bool
 asks_tick top =
     asks_row Top top
-    || (asks_controllers (controllers_at top)
+    || (asks_controllers (controllers_in top)
     || (asks_some asks_node_of (array_at (codes "node") top) || asks_some (asks_data Disturbance) (array_at (codes "disturbance") top)))

@@ -3,7 +3,7 @@ use Rattle.std.specs.Prelude.{ℕ, ◌≤◌, suc, ℤ, pos, negsuc, ◌+◌, �
 use Rattle.toml.specs.Data.{Data, integer, Members, get_member, as_integer}
 use Rattle.wl_units.specs.declared.quantity.Measure.TheVariants as measure
 use Rattle.wl_units.specs.declared.ratio.TheConstants.{LARGEST_WHOLE}
-use Rattle.wl_units.specs.Ratios.{quantum_of, whole}
+use Rattle.wl_units.specs.Ratios.{ticks_of_quantum, whole}
 use Rattle.wl_kinds.specs.declared.kinds.ControllerKind.{ControllerKind}
 use Rattle.wl_kinds.specs.declared.kinds.Part.{Part}
 use Rattle.wl_kinds.specs.declared.kinds.Part.TheVariants as part
@@ -15,7 +15,7 @@ use Rattle.wl_plain.specs.declared.clock.ClockKeys.{ClockKeys}
 use Rattle.wl_plain.specs.declared.clock.ClockKey.{ClockKey}
 use Rattle.wl_plain.specs.declared.clock.ClockKey.TheVariants.{Clock, Prescaler, BitRate}
 use Rattle.wl_plain.specs.declared.clock.ClockKeys.TheVariants.{Unresolved, Wrong, Resolved}
-use Rattle.wl_plain.specs.Tables.{has, has_any, no_value, positive, positive_at, put, text_at, whole_at, without, without_all}
+use Rattle.wl_plain.specs.Tables.{has, has_any, no_value, positive, positive_number_at, with_member, text_at, whole_number_at, without, without_all}
 use Rattle.wl_plain.specs.Measures.{said}
 
 -- the frequency of the clock in Hz, and the bit rate in bit/s
@@ -26,21 +26,21 @@ abbrev pub bit_rate_at : Units → Members → Option ℕ
 bit_rate_at u ms = option_and_then positive (option_and_then (said u measure.BitRate) (text_at (codes "bitrate") ms))
 
 -- the quanta of PROP_SEG and PHASE_SEG1, and of PHASE_SEG2, by either way of writing them
-abbrev pub sum_of : Option ℕ → Option ℕ → Option ℕ
-sum_of (Some a) (Some b) = Some (a + b)
-sum_of _ _ = None
+abbrev pub sum_if_known : Option ℕ → Option ℕ → Option ℕ
+sum_if_known (Some a) (Some b) = Some (a + b)
+sum_if_known _ _ = None
 
 abbrev pub tseg1_at : Members → Option ℕ
 tseg1_at ms =
-    if has (codes "tseg1") ms then whole_at (codes "tseg1") ms
-    else sum_of (whole_at (codes "prop") ms) (whole_at (codes "ps1") ms)
+    if has (codes "tseg1") ms then whole_number_at (codes "tseg1") ms
+    else sum_if_known (whole_number_at (codes "prop") ms) (whole_number_at (codes "ps1") ms)
 
 abbrev pub tseg2_at : Members → Option ℕ
-tseg2_at ms = if has (codes "tseg2") ms then whole_at (codes "tseg2") ms else whole_at (codes "ps2") ms
+tseg2_at ms = if has (codes "tseg2") ms then whole_number_at (codes "tseg2") ms else whole_number_at (codes "ps2") ms
 
 -- the quanta of a bit: SYNC_SEG and these
 abbrev pub bit_quanta_at : Members → Option ℕ
-bit_quanta_at ms = option_map (λ n. 1 + n) (sum_of (tseg1_at ms) (tseg2_at ms))
+bit_quanta_at ms = option_map (λ n. 1 + n) (sum_if_known (tseg1_at ms) (tseg2_at ms))
 
 -- the prescaler that gives a bit rate exactly
 abbrev pub prescaler_for : (hertz rate quanta : ℕ) → Option ℕ
@@ -51,13 +51,13 @@ abbrev pub with_fraction : ℕ → Option (ℕ × ℕ) → ClockKeys
 with_fraction p None = Wrong Prescaler
 with_fraction p (Some f) = Resolved (record { num = f.0; den = f.1; prescaler = p })
 
-abbrev pub by_prescaler : (tick hertz p : ℕ) → ClockKeys
-by_prescaler tick hertz p = with_fraction p (quantum_of hertz p tick)
+abbrev pub keys_by_prescaler : (tick hertz p : ℕ) → ClockKeys
+keys_by_prescaler tick hertz p = with_fraction p (ticks_of_quantum hertz p tick)
 
 -- The bit rate without a prescaler: if the quanta of a bit are not known, the keys that lack are those of the segments.
 abbrev pub by_found : (tick hertz : ℕ) → Option ℕ → ClockKeys
 by_found tick hertz None = Wrong BitRate
-by_found tick hertz (Some p) = by_prescaler tick hertz p
+by_found tick hertz (Some p) = keys_by_prescaler tick hertz p
 
 abbrev pub by_bit_rate : (tick hertz : ℕ) → Option ℕ → Option ℕ → ClockKeys
 by_bit_rate tick hertz rate None = Unresolved
@@ -78,13 +78,13 @@ abbrev pub by_both : Units → Members → (tick hertz : ℕ) → Option ℕ →
 by_both u ms tick hertz None = Wrong Prescaler
 by_both u ms tick hertz (Some p) =
     if has (codes "bitrate") ms && not (gives_rate hertz p (bit_rate_at u ms) (bit_quanta_at ms)) then Wrong BitRate
-    else by_prescaler tick hertz p
+    else keys_by_prescaler tick hertz p
 
 -- by a clock of this frequency
 abbrev pub by_hertz : Units → Members → (tick : ℕ) → Option ℕ → ClockKeys
 by_hertz u ms tick None = Wrong Clock
 by_hertz u ms tick (Some hertz) =
-    if has (codes "prescaler") ms then by_both u ms tick hertz (positive_at (codes "prescaler") ms)
+    if has (codes "prescaler") ms then by_both u ms tick hertz (positive_number_at (codes "prescaler") ms)
     else if has (codes "bitrate") ms then by_bit_rate tick hertz (bit_rate_at u ms) (bit_quanta_at ms)
     else Unresolved
 
@@ -97,14 +97,14 @@ IsSmall _ = Unit {0}
 abbrev pub other_clock_keys : List (List ℕ)
 other_clock_keys = codes "num" ∷ codes "den" ∷ codes "quantum" ∷ codes "rates" ∷ []
 
-abbrev pub by_tick : Units → Members → Option ℕ → ClockKeys
-by_tick u ms None = Unresolved
-by_tick u ms (Some tick) = by_hertz u ms tick (hertz_at u ms)
+abbrev pub keys_by_tick : Units → Members → Option ℕ → ClockKeys
+keys_by_tick u ms None = Unresolved
+keys_by_tick u ms (Some tick) = by_hertz u ms tick (hertz_at u ms)
 
 -- What the clock keys of a node make. Nothing without `clock`, without the length of a tick, or beside other keys of a clock: then the
 -- keys stay, and the reader names the one that is missing or in the wrong place.
 abbrev pub clock_keys_of : Units → Members → ClockKeys
-clock_keys_of u ms = if has (codes "clock") ms && not (has_any other_clock_keys ms) then by_tick u ms u.tick else Unresolved
+clock_keys_of u ms = if has (codes "clock") ms && not (has_any other_clock_keys ms) then keys_by_tick u ms u.tick else Unresolved
 
 -- the key as it is written
 abbrev pub clock_word : ClockKey → List ℕ
@@ -115,13 +115,13 @@ clock_word BitRate = codes "bitrate"
 -- `num` and `den` in the place of the keys
 abbrev pub settled_by : ClockKeys → Members → Members
 settled_by Unresolved ms = ms
-settled_by (Wrong k) ms = put (clock_word k) no_value ms
+settled_by (Wrong k) ms = with_member (clock_word k) no_value ms
 settled_by (Resolved q) ms =
-    put (codes "num") (integer (pos q.num)) (put (codes "den") (integer (pos q.den))
+    with_member (codes "num") (integer (pos q.num)) (with_member (codes "den") (integer (pos q.den))
     (without_all (codes "clock" ∷ codes "prescaler" ∷ codes "bitrate" ∷ []) ms))
 
-unfoldable pub settled : Units → Members → Members
-settled u ms = settled_by (clock_keys_of u ms) ms
+unfoldable pub with_quantum : Units → Members → Members
+with_quantum u ms = settled_by (clock_keys_of u ms) ms
 
 -- the prescaler, as far as it is known
 abbrev pub known_prescaler : ClockKeys → Option ℕ
@@ -134,7 +134,7 @@ taken_with p (Some tseg1) (Some tseg2) (Some sjw) = Some (record { prescaler = p
 taken_with p _ _ _ = None
 
 abbrev pub taken_of : Units → Members → Option Taken
-taken_of u ms = taken_with (known_prescaler (clock_keys_of u ms)) (tseg1_at ms) (tseg2_at ms) (whole_at (codes "sjw") ms)
+taken_of u ms = taken_with (known_prescaler (clock_keys_of u ms)) (tseg1_at ms) (tseg2_at ms) (whole_number_at (codes "sjw") ms)
 
 -- the key of a part
 abbrev pub part_word : Members → Part → List ℕ
@@ -158,7 +158,7 @@ wrong_key u ms = wrong_by u ms (option_and_then kind_named (text_at (codes "kind
 -- without `kind`, and without a value at the key that it forbids
 abbrev pub marked : Option (List ℕ) → Members → Members
 marked None ms = ms
-marked (Some k) ms = put k no_value ms
+marked (Some k) ms = with_member k no_value ms
 
 unfoldable pub of_kind : Units → Members → Members
 of_kind u ms = if has (codes "kind") ms then marked (wrong_key u ms) (without (codes "kind") ms) else ms

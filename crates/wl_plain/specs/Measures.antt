@@ -1,20 +1,16 @@
 -- Which key of which table may have a text with a unit, and what such a text says (this project's profile).
-use Rattle.std.specs.Prelude.{ℕ, pos, Bool, true, false, ◌||◌, ◌&&◌, not, if◌then◌else◌, List, [], ◌∷◌, Option, Some, None, is_some, unwrap_or, option_and_then, codes}
-use Rattle.std.specs.List.{list_any}
+use Rattle.std.specs.Prelude.{ℕ, pos, Bool, true, false, ◌||◌, ◌&&◌, not, if◌then◌else◌, List, Option, Some, None, is_some, unwrap_or, option_and_then, codes}
 use Rattle.std.specs.Str.{bytes_eq}
 use Rattle.toml.specs.Data.{Data, string, integer, table, Members, no_members, member}
 use Rattle.wl_units.specs.declared.quantity.Measure.{Measure}
 use Rattle.wl_units.specs.declared.quantity.Measure.TheVariants.{Time, Length, PerLength, Frequency, BitRate}
 use Rattle.wl_units.specs.declared.scale.Scale.{Scale}
 use Rattle.wl_units.specs.declared.scale.TheConstants.{MICROMETRES}
-use Rattle.wl_units.specs.Scales.{number_of, tick_of, unit_of}
+use Rattle.wl_units.specs.Scales.{number_said, tick_said, unit_said}
 use Rattle.wl_plain.specs.declared.measure.Row.{Row}
 use Rattle.wl_plain.specs.declared.measure.Row.TheVariants.{Top, Controller, Node, Rate, Frame, Disturbance}
 use Rattle.wl_plain.specs.declared.measure.Units.{Units}
-use Rattle.wl_plain.specs.Tables.{put, text_at}
-
-abbrev pub is_one_of : List (List ℕ) → List ℕ → Bool
-is_one_of words key = list_any (bytes_eq key) words
+use Rattle.wl_plain.specs.Tables.{with_member, text_at}
 
 -- the keys of each table that are times
 abbrev pub is_time : Row → List ℕ → Bool
@@ -26,25 +22,25 @@ is_time Frame key = bytes_eq key (codes "cycle") || bytes_eq key (codes "at") ||
 is_time Disturbance key = bytes_eq key (codes "from") || bytes_eq key (codes "to")
 
 -- those that are places
-abbrev pub is_place : Row → List ℕ → Bool
-is_place Node key = bytes_eq key (codes "x")
-is_place Disturbance key = bytes_eq key (codes "x")
-is_place _ key = false
+abbrev pub is_place_key : Row → List ℕ → Bool
+is_place_key Node key = bytes_eq key (codes "x")
+is_place_key Disturbance key = bytes_eq key (codes "x")
+is_place_key _ key = false
 
 -- a time along a length
 abbrev pub is_along : Row → List ℕ → Bool
 is_along Top key = bytes_eq key (codes "per")
 is_along _ key = false
 
-abbrev pub measure_of : Row → List ℕ → Option Measure
-measure_of row key =
-    if is_time row key then Some Time else if is_place row key then Some Length else if is_along row key then Some PerLength else None
+abbrev pub measure_at_key : Row → List ℕ → Option Measure
+measure_at_key row key =
+    if is_time row key then Some Time else if is_place_key row key then Some Length else if is_along row key then Some PerLength else None
 
 -- the lengths of a tick, if the top table says it, and of a unit: 1 m if it says no other
 abbrev pub units_of : Members → Units
 units_of top = record {
-  tick = option_and_then tick_of (text_at (codes "tick") top);
-  unit = unwrap_or (option_and_then unit_of (text_at (codes "unit") top)) MICROMETRES;
+  tick = option_and_then tick_said (text_at (codes "tick") top);
+  unit = unwrap_or (option_and_then unit_said (text_at (codes "unit") top)) MICROMETRES;
 }
 
 abbrev pub scale_of : Units → Scale
@@ -58,7 +54,7 @@ asks_tick _ = false
 
 -- the number that a text of a measure says, if it says one
 abbrev pub said : Units → Measure → List ℕ → Option ℕ
-said u measure text = if asks_tick measure && not (is_some u.tick) then None else number_of measure (scale_of u) text
+said u measure text = if asks_tick measure && not (is_some u.tick) then None else number_said measure (scale_of u) text
 
 -- a number, in the place of a text that says one; any other value as it is
 abbrev pub number_or : Data → Option ℕ → Data
@@ -70,13 +66,13 @@ said_by u None text = None
 said_by u (Some measure) text = said u measure text
 
 abbrev pub converted : Units → Row → List ℕ → Data → Data
-converted u row key (string text) = number_or (string text) (said_by u (measure_of row key) text)
+converted u row key (string text) = number_or (string text) (said_by u (measure_at_key row key) text)
 converted u row key d = d
 
 -- the members of a table put into others, each text with a unit as the number that it says
 abbrev pub put_row : Units → Row → Members → Members → Members
 put_row u row no_members into = into
-put_row u row (member k d ms) into = put_row u row ms (put k (converted u row k d) into)
+put_row u row (member k d ms) into = put_row u row ms (with_member k (converted u row k d) into)
 
 abbrev pub plain_row : Units → Row → Members → Members
 plain_row u row ms = put_row u row ms no_members

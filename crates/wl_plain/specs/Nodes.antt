@@ -1,13 +1,13 @@
 -- The plain form of a node's table and of those in it (this project's profile).
 use Rattle.std.specs.Prelude.{ℕ, suc, ℤ, pos, negsuc, ◌+◌, ◌-◌, ◌*◌, nat_le, unsigned_abs, Bool, true, not, ◌&&◌, if◌then◌else◌, List, [], ◌∷◌, Option, Some, None, is_some, option_map, option_and_then, unwrap_or, codes}
 use Rattle.toml.specs.Data.{Data, integer, table, Members, no_members, get_member, as_integer, as_table}
-use Rattle.wl_units.specs.Ratios.{quanta_in, quantum_from}
+use Rattle.wl_units.specs.Ratios.{whole_quanta, quantum_from}
 use Rattle.wl_plain.specs.declared.measure.Units.{Units}
 use Rattle.wl_plain.specs.declared.measure.Row.TheVariants.{Node, Rate, Frame}
 use Rattle.wl_plain.specs.declared.frame.Beat.{Beat}
-use Rattle.wl_plain.specs.Tables.{has, no_value, positive, positive_at, put, remade_at, text_at, whole_at, whole_of, without}
+use Rattle.wl_plain.specs.Tables.{has, no_value, positive, positive_number_at, with_member, remade_at, text_at, whole_number_at, whole_of, without}
 use Rattle.wl_plain.specs.Measures.{plain_row, plain_row_of, put_row}
-use Rattle.wl_plain.specs.Clocks.{of_kind, settled}
+use Rattle.wl_plain.specs.Clocks.{of_kind, with_quantum}
 
 -- A deviation, 0 where it is absent, and how many millionths of its length a quantum then lasts: a positive one is a slow clock.
 abbrev pub millionths_of : ℤ → Option ℕ
@@ -26,17 +26,17 @@ beat_with _ _ _ _ = None
 
 abbrev pub fraction_at : Members → Option ℕ × Option ℕ
 fraction_at ms =
-    if has (codes "quantum") ms then (positive_at (codes "quantum") ms, Some 1)
-    else (positive_at (codes "num") ms, positive_at (codes "den") ms)
+    if has (codes "quantum") ms then (positive_number_at (codes "quantum") ms, Some 1)
+    else (positive_number_at (codes "num") ms, positive_number_at (codes "den") ms)
 
-unfoldable pub beat_of : Members → Option Beat
-beat_of ms =
+unfoldable pub beat_at_node : Members → Option Beat
+beat_at_node ms =
     if has (codes "rates") ms then None
-    else beat_with (whole_at (codes "offset") ms) (fraction_at ms).0 (fraction_at ms).1 (millionths_said (get_member (codes "ppm") ms))
+    else beat_with (whole_number_at (codes "offset") ms) (fraction_at ms).0 (fraction_at ms).1 (millionths_said (get_member (codes "ppm") ms))
 
 -- how many quanta a time is, whole, and from 1 on
 abbrev pub every_of : Beat → ℕ → Option ℕ
-every_of beat ticks = option_and_then positive (quanta_in ticks beat.num beat.den)
+every_of beat ticks = option_and_then positive (whole_quanta ticks beat.num beat.den)
 
 -- the first quantum that begins at a tick or later
 abbrev pub ready_of : Beat → ℕ → Option ℕ
@@ -49,12 +49,12 @@ in_quanta make (Some beat) d = option_and_then (make beat) (whole_of d)
 
 -- a key with a number of quanta in the place of another with a time; if there is no such number, or both are there, the time is wrong
 abbrev pub quanta_or : (time quanta : List ℕ) → Option ℕ → Members → Members
-quanta_or time quanta None ms = put time no_value ms
-quanta_or time quanta (Some n) ms = put quanta (integer (pos n)) (without time ms)
+quanta_or time quanta None ms = with_member time no_value ms
+quanta_or time quanta (Some n) ms = with_member quanta (integer (pos n)) (without time ms)
 
 abbrev pub with_quanta : (time quanta : List ℕ) → (Data → Option ℕ) → Option Data → Members → Members
 with_quanta time quanta make None ms = ms
-with_quanta time quanta make (Some d) ms = if has quanta ms then put time no_value ms else quanta_or time quanta (make d) ms
+with_quanta time quanta make (Some d) ms = if has quanta ms then with_member time no_value ms else quanta_or time quanta (make d) ms
 
 unfoldable pub with_every : Option Beat → Members → Members
 with_every beat ms = with_quanta (codes "cycle") (codes "every") (in_quanta every_of beat) (get_member (codes "cycle") ms) ms
@@ -80,7 +80,7 @@ named_controller controllers ms = option_and_then as_table (named_value controll
 -- without `controller`, or without a value there if none has the name
 abbrev pub found_or : Option Members → Members → Members
 found_or (Some controller) ms = without (codes "controller") ms
-found_or None ms = put (codes "controller") no_value ms
+found_or None ms = with_member (codes "controller") no_value ms
 
 -- the keys of a node's table, and those of its controller that it lacks
 unfoldable pub with_controller : Units → Members → Members → Members
@@ -91,11 +91,11 @@ with_controller u controllers ms =
 
 -- with its rates and its clock plain
 unfoldable pub with_clock : Units → Members → Members
-with_clock u ms = settled u (of_kind u (remade_at (plain_row_of u Rate) (codes "rates") ms))
+with_clock u ms = with_quantum u (of_kind u (remade_at (plain_row_of u Rate) (codes "rates") ms))
 
 -- with its frames plain
 unfoldable pub with_frames : Units → Members → Members
-with_frames u ms = remade_at (plain_frame_of u (beat_of ms)) (codes "frame") ms
+with_frames u ms = remade_at (plain_frame_of u (beat_at_node ms)) (codes "frame") ms
 
 unfoldable pub plain_node : Units → Members → Members → Members
 plain_node u controllers ms = with_frames u (with_clock u (with_controller u controllers ms))

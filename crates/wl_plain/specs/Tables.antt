@@ -8,9 +8,9 @@ use Rattle.toml.specs.View.{items_of}
 use Rattle.wl_units.specs.declared.ratio.TheConstants.{LARGEST_WHOLE}
 
 -- with one more member, at its place in the order of keys; one with this key is replaced
-abbrev pub put : List ℕ → Data → Members → Members
-put k d no_members = member k d no_members
-put k d (member l e ms) = match_ordering (slice_cmp nat_cmp k l) (member k d (member l e ms)) (member l d ms) (member l e (put k d ms))
+abbrev pub with_member : List ℕ → Data → Members → Members
+with_member k d no_members = member k d no_members
+with_member k d (member l e ms) = match_ordering (slice_cmp nat_cmp k l) (member k d (member l e ms)) (member l d ms) (member l e (with_member k d ms))
 
 -- without the member of this key
 abbrev pub without : List ℕ → Members → Members
@@ -36,15 +36,15 @@ abbrev pub whole_of : Data → Option ℕ
 whole_of (integer (pos n)) = if nat_le n LARGEST_WHOLE then Some n else None
 whole_of _ = None
 
-abbrev pub whole_at : List ℕ → Members → Option ℕ
-whole_at k ms = option_and_then whole_of (get_member k ms)
+abbrev pub whole_number_at : List ℕ → Members → Option ℕ
+whole_number_at k ms = option_and_then whole_of (get_member k ms)
 
 -- one from 1 on
 abbrev pub positive : ℕ → Option ℕ
 positive n = if nat_lt 0 n then Some n else None
 
-abbrev pub positive_at : List ℕ → Members → Option ℕ
-positive_at k ms = option_and_then positive (whole_at k ms)
+abbrev pub positive_number_at : List ℕ → Members → Option ℕ
+positive_number_at k ms = option_and_then positive (whole_number_at k ms)
 
 -- A value that is wrong where it is, although it has the kind that its key asks for, is no value: the empty text is in its place.
 abbrev pub no_value : Data
@@ -65,7 +65,7 @@ array_at k ms = option_and_then elements (get_member k ms)
 -- with the elements of the array at a key made anew, if there is one
 abbrev pub put_each : (Data → Data) → List ℕ → Option (List Data) → Members → Members
 put_each make k None ms = ms
-put_each make k (Some ds) ms = put k (array (items_of (map make ds))) ms
+put_each make k (Some ds) ms = with_member k (array (items_of (map make ds))) ms
 
 abbrev pub remade_at : (Data → Data) → List ℕ → Members → Members
 remade_at make k ms = put_each make k (array_at k ms) ms

@@ -2,11 +2,11 @@
 ghost use Rattle.std.specs.Prelude.{◌≡◌, codes, map};
 ghost use Rattle.std.specs.List.{list_any};
 ghost use Rattle.toml.specs.View.{view, table_view};
-ghost use Rattle.wl_plain.specs.Asking.{asks_at, asks_controllers, asks_data, asks_measure, asks_node, asks_node_of, asks_row, asks_some, asks_tick, is_clock};
-ghost use Rattle.wl_plain.specs.Documents.{controllers_at};
+ghost use Rattle.wl_plain.specs.Asking.{asks_at, asks_controllers, asks_data, asks_measure, asks_node, asks_node_of, asks_row, asks_some, asks_tick, is_clock_key};
+ghost use Rattle.wl_plain.specs.Documents.{controllers_in};
 ghost use Rattle.wl_plain.specs.Tables.{array_at};
 
-use crate::measure::{Row, asks_tick as measure_asks, measure_of};
+use crate::measure::{Row, asks_tick as measure_asks, measure_at_key};
 use crate::tables::{array_at, value_at};
 use toml::{Table, Value};
 use wl_units::Measure;
@@ -21,8 +21,8 @@ fn asks_measure(measure: Option<Measure>) -> bool
 }
 
 /// True of the key of a clock by its frequency.
-fn is_clock(row: Row, key: &str) -> bool
-    ensures { result ≡ is_clock row key.now }
+fn is_clock_key(row: Row, key: &str) -> bool
+    ensures { result ≡ is_clock_key row key.now }
 {
     match row {
         Row::Node | Row::Controller => key == "clock",
@@ -34,7 +34,7 @@ fn is_clock(row: Row, key: &str) -> bool
 fn asks_at(row: Row, key: &str, value: &Value) -> bool
     ensures { result ≡ asks_at row key.now (view value.now) }
 {
-    value.as_str().is_some() && asks_measure(measure_of(row, key)) || is_clock(row, key)
+    value.as_str().is_some() && asks_measure(measure_at_key(row, key)) || is_clock_key(row, key)
 }
 
 /// True if a table has such a value.
@@ -127,9 +127,9 @@ fn any_controller(table: &Table) -> bool
 }
 
 /// True if a controller does.
-#[tactic(auto, unfolding(crate::specs::Documents::controllers_at))]
+#[tactic(auto, unfolding(crate::specs::Documents::controllers_in))]
 fn asks_controllers(top: &Table) -> bool
-    ensures { result ≡ asks_controllers (controllers_at (table_view top.now)) }
+    ensures { result ≡ asks_controllers (controllers_in (table_view top.now)) }
 {
     match value_at(top, "controller") {
         Some(value) => match value.as_table() {

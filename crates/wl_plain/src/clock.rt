@@ -1,15 +1,17 @@
 //! The clock of a node or a controller by its frequency, and what its kind allows.
 ghost use Rattle.std.specs.Prelude.{◌≡◌, ◌≤◌, IfSome, OnOk, Some, None, option_map, if◌then◌else◌};
 ghost use Rattle.toml.specs.View.{table_view};
-ghost use Rattle.wl_plain.specs.Clocks.{IsSmall, bit_quanta_at, bit_rate_at, by_bit_rate, by_both, by_hertz, by_prescaler, clock_keys_of, clock_word, gives_rate, hertz_at, is_it, known_prescaler, marked, of_kind, other_clock_keys, part_word, prescaler_for, settled, settled_by, sum_of, taken_of, taken_with, tseg1_at, tseg2_at, with_fraction, wrong_by, wrong_by_taken, wrong_key};
+ghost use Rattle.wl_plain.specs.Clocks.{IsSmall, bit_quanta_at, bit_rate_at, by_bit_rate, by_both, by_hertz, keys_by_prescaler, clock_keys_of, clock_word, gives_rate, hertz_at, is_it, known_prescaler, marked, of_kind, other_clock_keys, part_word, prescaler_for, with_quantum, settled_by, sum_if_known, taken_of, taken_with, tseg1_at, tseg2_at, with_fraction, wrong_by, wrong_by_taken, wrong_key};
 ghost use Rattle.wl_plain.specs.Tables.{has, has_any};
 
 use crate::measure::Units;
-use crate::tables::{has, positive, positive_at, put_none, put_number, text_at, whole_at, without};
+use crate::tables::{
+    has, positive, positive_number_at, put_none, put_number, text_at, whole_number_at, without,
+};
 use std::alloc::{AllocError, Global};
 use toml::Table;
 use wl_kinds::{ControllerKind, Part, Taken, kind_named};
-use wl_units::{LARGEST_WHOLE, Measure, quantum_of, whole};
+use wl_units::{LARGEST_WHOLE, Measure, ticks_of_quantum, whole};
 
 /// A key of a clock by its frequency.
 #[derive(Clone, Copy, Debug, PartialEq, Eq)]
@@ -71,10 +73,10 @@ pub(crate) fn bit_rate_at(units: Units, table: &Table) -> Option<u64>
 }
 
 /// Returns the sum of two numbers, if both are there.
-fn sum_of(a: Option<u64>, b: Option<u64>) -> Option<u64>
+fn sum_if_known(a: Option<u64>, b: Option<u64>) -> Option<u64>
     requires a { IfSome a (λ n. n ≤ 1125899906842624) }
     requires b { IfSome b (λ n. n ≤ 1125899906842624) }
-    ensures sum { result ≡ sum_of a b }
+    ensures sum { result ≡ sum_if_known a b }
     ensures most { IfSome result (λ n. n ≤ 2251799813685248) }
 {
     match (a, b) {
@@ -89,9 +91,12 @@ fn tseg1_at(table: &Table) -> Option<u64>
     ensures most { IfSome result (λ n. n ≤ 1125899906842624) }
 {
     if has(table, "tseg1") {
-        whole_at(table, "tseg1")
+        whole_number_at(table, "tseg1")
     } else {
-        sum_of(whole_at(table, "prop"), whole_at(table, "ps1"))
+        sum_if_known(
+            whole_number_at(table, "prop"),
+            whole_number_at(table, "ps1"),
+        )
     }
 }
 
@@ -101,9 +106,9 @@ fn tseg2_at(table: &Table) -> Option<u64>
     ensures most { IfSome result (λ n. n ≤ LARGEST_WHOLE) }
 {
     if has(table, "tseg2") {
-        whole_at(table, "tseg2")
+        whole_number_at(table, "tseg2")
     } else {
-        whole_at(table, "ps2")
+        whole_number_at(table, "ps2")
     }
 }
 
@@ -112,7 +117,7 @@ fn bit_quanta_at(table: &Table) -> Option<u64>
     ensures quanta { result ≡ bit_quanta_at (table_view table.now) }
     ensures most { IfSome result (λ n. n ≤ 4503599627370496) }
 {
-    match sum_of(tseg1_at(table), tseg2_at(table)) {
+    match sum_if_known(tseg1_at(table), tseg2_at(table)) {
         Some(quanta) => Some(1 + quanta),
         None => None,
     }
@@ -127,11 +132,11 @@ fn prescaler_for(hertz: u64, rate: u64, quanta: u64) -> Option<u64>
 }
 
 /// Returns what a prescaler makes of a clock in Hz, by the length of a tick.
-fn by_prescaler(tick: u64, hertz: u64, prescaler: u64) -> ClockKeys
-    ensures keys { result ≡ by_prescaler tick hertz prescaler }
+fn keys_by_prescaler(tick: u64, hertz: u64, prescaler: u64) -> ClockKeys
+    ensures keys { result ≡ keys_by_prescaler tick hertz prescaler }
     ensures small { IsSmall result }
 {
-    match quantum_of(hertz, prescaler, tick) {
+    match ticks_of_quantum(hertz, prescaler, tick) {
         Some((num, den)) => ClockKeys::Resolved(Quantum {
             num,
             den,
@@ -150,7 +155,7 @@ fn by_bit_rate(tick: u64, hertz: u64, rate: Option<u64>, quanta: Option<u64>) ->
         (_, None) => ClockKeys::Unresolved,
         (None, Some(_)) => ClockKeys::Wrong(ClockKey::BitRate),
         (Some(rate), Some(quanta)) => match prescaler_for(hertz, rate, quanta) {
-            Some(prescaler) => by_prescaler(tick, hertz, prescaler),
+            Some(prescaler) => keys_by_prescaler(tick, hertz, prescaler),
             None => ClockKeys::Wrong(ClockKey::BitRate),
         },
     }
@@ -190,7 +195,7 @@ fn by_both(units: Units, table: &Table, tick: u64, hertz: u64, prescaler: Option
     if has(table, "bitrate") && !gives_rate(hertz, prescaler, rate, quanta) {
         ClockKeys::Wrong(ClockKey::BitRate)
     } else {
-        by_prescaler(tick, hertz, prescaler)
+        keys_by_prescaler(tick, hertz, prescaler)
     }
 }
 
@@ -200,7 +205,13 @@ fn by_hertz(units: Units, table: &Table, tick: u64, hertz: u64) -> ClockKeys
     ensures small { IsSmall result }
 {
     if has(table, "prescaler") {
-        by_both(units, table, tick, hertz, positive_at(table, "prescaler"))
+        by_both(
+            units,
+            table,
+            tick,
+            hertz,
+            positive_number_at(table, "prescaler"),
+        )
     } else if has(table, "bitrate") {
         by_bit_rate(tick, hertz, bit_rate_at(units, table), bit_quanta_at(table))
     } else {
@@ -246,9 +257,9 @@ fn settle_by(alloc: Global, quantum: Quantum, table: &mut Table) -> Result<(), A
 }
 
 /// Puts `num` and `den` in the place of the clock keys, or no value at the one that is wrong.
-#[tactic(auto, unfolding(crate::specs::Clocks::settled))]
+#[tactic(auto, unfolding(crate::specs::Clocks::with_quantum))]
 pub(crate) fn settle(alloc: Global, units: Units, table: &mut Table) -> Result<(), AllocError>
-    ensures { OnOk result (table_view table.new ≡ settled units (table_view table.old)) }
+    ensures { OnOk result (table_view table.new ≡ with_quantum units (table_view table.old)) }
 {
     match clock_keys_of(units, table) {
         ClockKeys::Unresolved => Ok(()),
@@ -274,7 +285,11 @@ fn taken_of(units: Units, table: &Table) -> Option<Taken>
     ensures { result ≡ taken_of units (table_view table.now) }
 {
     let prescaler = clock_keys_of(units, table).known_prescaler();
-    match (tseg1_at(table), tseg2_at(table), whole_at(table, "sjw")) {
+    match (
+        tseg1_at(table),
+        tseg2_at(table),
+        whole_number_at(table, "sjw"),
+    ) {
         (Some(tseg1), Some(tseg2), Some(sjw)) => Some(Taken {
             prescaler,
             tseg1,

@@ -6,7 +6,7 @@ ghost use Rattle.wl_plain.specs.Documents.{is_kind, plain_controller, plain_cont
 
 use crate::clock::{bit_rate_at, hertz_at};
 use crate::measure::{Row, Units, plain_row};
-use crate::tables::{has, put, put_none, text_at};
+use crate::tables::{has, put_none, text_at, with_member};
 use std::alloc::{AllocError, Global};
 use toml::{Table, Value};
 use wl_kinds::kind_named;
@@ -38,10 +38,10 @@ fn plain_controller(alloc: Global, units: Units, table: &Table) -> Result<Table,
     ensures { IfOk result (λ t. table_view t ≡ plain_controller units (table_view table.now)) }
 {
     let mut plain = plain_row(alloc, units, Row::Controller, table)?;
-    let is_clock = hertz_at(units, &plain).is_some();
+    let is_clock_key = hertz_at(units, &plain).is_some();
     let is_rate = bit_rate_at(units, &plain).is_some();
     let is_kind = is_kind(&plain);
-    put_unless(alloc, &mut plain, "clock", is_clock)?;
+    put_unless(alloc, &mut plain, "clock", is_clock_key)?;
     put_unless(alloc, &mut plain, "bitrate", is_rate)?;
     put_unless(alloc, &mut plain, "kind", is_kind)?;
     Ok(plain)
@@ -68,7 +68,7 @@ pub(crate) fn plain_controllers(
     let mut plain = Table::new(alloc);
     for (name, value) in table.iter() {
         let controller = plain_value(alloc, units, value)?;
-        put(alloc, &mut plain, name.as_str(), controller)?;
+        with_member(alloc, &mut plain, name.as_str(), controller)?;
     }
     Ok(plain)
 }

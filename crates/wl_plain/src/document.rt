@@ -1,18 +1,18 @@
 //! The plain form of a plan's document.
 ghost use Rattle.std.specs.Prelude.{◌≡◌, IfOk, OnOk, option_map};
 ghost use Rattle.toml.specs.View.{table_view};
-ghost use Rattle.wl_plain.specs.Documents.{controllers_at, plain_document, plain_with, table_at, with_controllers, with_nodes};
+ghost use Rattle.wl_plain.specs.Documents.{controllers_in, plain_document, plain_with, member_table, with_controllers, with_nodes};
 
 use crate::controller::plain_controllers;
 use crate::measure::{Row, Units, plain_row, remake_rows};
 use crate::node::plain_nodes;
-use crate::tables::{array_at, put, table_copy, value_at};
+use crate::tables::{array_at, table_copy, value_at, with_member};
 use std::alloc::{AllocError, Global};
 use toml::{Table, Value};
 
 /// Returns the table at a key, if it has one.
-fn table_at<'a>(table: &'a Table, key: &str) -> Option<&'a Table>
-    ensures { option_map (λ t. table_view t.now) result ≡ table_at key.now (table_view table.now) }
+fn member_table<'a>(table: &'a Table, key: &str) -> Option<&'a Table>
+    ensures { option_map (λ t. table_view t.now) result ≡ member_table key.now (table_view table.now) }
 {
     match value_at(table, key) {
         Some(value) => value.as_table(),
@@ -25,17 +25,17 @@ fn table_at<'a>(table: &'a Table, key: &str) -> Option<&'a Table>
 fn remake_controllers(alloc: Global, units: Units, top: &mut Table) -> Result<(), AllocError>
     ensures { OnOk result (table_view top.new ≡ with_controllers units (table_view top.old)) }
 {
-    let all = match table_at(top, "controller") {
+    let all = match member_table(top, "controller") {
         Some(table) => plain_controllers(alloc, units, table)?,
         None => return Ok(()),
     };
-    put(alloc, top, "controller", Value::from(all))
+    with_member(alloc, top, "controller", Value::from(all))
 }
 
 /// Returns a copy of the tables of controllers, if there are any.
-#[tactic(auto, unfolding(crate::specs::Documents::controllers_at))]
+#[tactic(auto, unfolding(crate::specs::Documents::controllers_in))]
 fn controllers_of(alloc: Global, top: &Table) -> Result<Table, AllocError>
-    ensures { IfOk result (λ t. table_view t ≡ controllers_at (table_view top.now)) }
+    ensures { IfOk result (λ t. table_view t ≡ controllers_in (table_view top.now)) }
 {
     table_copy(alloc, value_at(top, "controller"))
 }
@@ -50,7 +50,7 @@ fn remake_nodes(alloc: Global, units: Units, top: &mut Table) -> Result<(), Allo
         Some(values) => plain_nodes(alloc, units, &controllers, values)?,
         None => return Ok(()),
     };
-    put(alloc, top, "node", Value::from(all))
+    with_member(alloc, top, "node", Value::from(all))
 }
 
 /// Returns the plain form of a document with these lengths of a tick and of a unit.

@@ -1,17 +1,17 @@
 //! Frames whose times are written as such: a cycle on the node's clock, and a tick of the plan.
 ghost use Rattle.std.specs.Prelude.{◌≡◌, ◌≤◌, IfOk, IfSome, OnOk, map, codes, option_map};
 ghost use Rattle.toml.specs.View.{view, table_view};
-ghost use Rattle.wl_plain.specs.Nodes.{beat_of, beat_with, every_of, fraction_at, in_quanta, millionths_of, millionths_said, plain_frame, plain_frame_of, quanta_or, ready_of, with_every, with_frames, with_quanta, with_ready};
+ghost use Rattle.wl_plain.specs.Nodes.{beat_at_node, beat_with, every_of, fraction_at, in_quanta, millionths_of, millionths_said, plain_frame, plain_frame_of, quanta_or, ready_of, with_every, with_frames, with_quanta, with_ready};
 ghost use Rattle.toml.specs.Data.{get_member};
 
 use crate::measure::{Row, Units, plain_row};
 use crate::tables::{
-    array_at, has, positive, positive_at, put, put_none, put_number, value_at, whole_at, whole_of,
-    without,
+    array_at, has, positive, positive_number_at, put_none, put_number, value_at, whole_number_at,
+    whole_of, with_member, without,
 };
 use std::alloc::{AllocError, Global};
 use toml::{Table, Value};
-use wl_units::{LARGEST_WHOLE, quanta_in, quantum_from};
+use wl_units::{LARGEST_WHOLE, quantum_from, whole_quanta};
 
 /// The quanta of a node with one rate.
 #[derive(Clone, Copy, Debug, PartialEq, Eq)]
@@ -54,22 +54,25 @@ fn fraction_at(table: &Table) -> (Option<u64>, Option<u64>)
     ensures { result ≡ fraction_at (table_view table.now) }
 {
     if has(table, "quantum") {
-        (positive_at(table, "quantum"), Some(1))
+        (positive_number_at(table, "quantum"), Some(1))
     } else {
-        (positive_at(table, "num"), positive_at(table, "den"))
+        (
+            positive_number_at(table, "num"),
+            positive_number_at(table, "den"),
+        )
     }
 }
 
 /// Returns the quanta of a node, if it has one rate.
-#[tactic(auto, unfolding(crate::specs::Nodes::beat_of))]
-fn beat_of(table: &Table) -> Option<Beat>
-    ensures { result ≡ beat_of (table_view table.now) }
+#[tactic(auto, unfolding(crate::specs::Nodes::beat_at_node))]
+fn beat_at_node(table: &Table) -> Option<Beat>
+    ensures { result ≡ beat_at_node (table_view table.now) }
 {
     if has(table, "rates") {
         return None;
     }
     let (num, den) = fraction_at(table);
-    let offset = whole_at(table, "offset")?;
+    let offset = whole_number_at(table, "offset")?;
     let (num, den) = (num?, den?);
     Some(Beat {
         offset,
@@ -85,7 +88,7 @@ impl Beat {
         ensures every { result ≡ every_of self ticks }
         ensures most { IfSome result (λ n. n ≤ LARGEST_WHOLE) }
     {
-        positive(quanta_in(ticks, self.num, self.den)?)
+        positive(whole_quanta(ticks, self.num, self.den)?)
     }
 
     /// Returns the first quantum that begins at a tick or later.
@@ -223,10 +226,10 @@ pub(crate) fn remake_frames(
 ) -> Result<(), AllocError>
     ensures { OnOk result (table_view table.new ≡ with_frames units (table_view table.old)) }
 {
-    let beat = beat_of(table);
+    let beat = beat_at_node(table);
     let all = match array_at(table, "frame") {
         Some(values) => plain_values(alloc, units, beat, values)?,
         None => return Ok(()),
     };
-    put(alloc, table, "frame", Value::from(all))
+    with_member(alloc, table, "frame", Value::from(all))
 }

@@ -1,5 +1,7 @@
-//! The plain form of a plan's document of version 4: each text with a unit as the number that it says, and each node with its own keys in the
-//! place of its controller's, its clock's frequency, its cycles and its times.
+//! The plain form of a plan's document of version 4: each text with a unit is the number that it says, and each node has all its keys.
+//!
+//! A node takes the keys that it lacks from its controller. `num` and `den` are in the place of a clock's frequency, `every` and `ready` in
+//! that of `cycle` and `at`.
 #![tactic(auto)]
 
 mod asking;

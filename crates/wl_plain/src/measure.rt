@@ -1,13 +1,13 @@
-//! Which key of which table may have a text with a unit, and what such a text says.
+//! The keys whose values may be texts with a unit, and what such a text says.
 ghost use Rattle.std.specs.Prelude.{◌≡◌, ◌≤◌, IfOk, IfSome, OnOk, map};
 ghost use Rattle.toml.specs.View.{view, table_view};
-ghost use Rattle.wl_plain.specs.Measures.{asks_tick, converted, is_along, is_place, is_time, measure_of, number_or, plain_row, plain_row_of, put_row, said, said_by, scale_of, units_of};
+ghost use Rattle.wl_plain.specs.Measures.{asks_tick, converted, is_along, is_place_key, is_time, measure_at_key, number_or, plain_row, plain_row_of, put_row, said, said_by, scale_of, units_of};
 ghost use Rattle.wl_plain.specs.Tables.{remade_at};
 
-use crate::tables::{array_at, put, text_at};
+use crate::tables::{array_at, text_at, with_member};
 use std::alloc::{AllocError, Global};
 use toml::{Table, Value};
-use wl_units::{LARGEST_WHOLE, MICROMETRES, Measure, Scale, tick_of, unit_of};
+use wl_units::{LARGEST_WHOLE, MICROMETRES, Measure, Scale, tick_said, unit_said};
 
 /// What a table of a plan describes.
 #[derive(Clone, Copy, Debug, PartialEq, Eq)]
@@ -52,8 +52,8 @@ fn is_time(row: Row, key: &str) -> bool
 }
 
 /// True if it is a place.
-fn is_place(row: Row, key: &str) -> bool
-    ensures { result ≡ is_place row key.now }
+fn is_place_key(row: Row, key: &str) -> bool
+    ensures { result ≡ is_place_key row key.now }
 {
     match row {
         Row::Node | Row::Disturbance => key == "x",
@@ -72,12 +72,12 @@ fn is_along(row: Row, key: &str) -> bool
 }
 
 /// Returns what a text with a unit measures at a key of such a table, if there may be one.
-pub(crate) fn measure_of(row: Row, key: &str) -> Option<Measure>
-    ensures { result ≡ measure_of row key.now }
+pub(crate) fn measure_at_key(row: Row, key: &str) -> Option<Measure>
+    ensures { result ≡ measure_at_key row key.now }
 {
     if is_time(row, key) {
         Some(Measure::Time)
-    } else if is_place(row, key) {
+    } else if is_place_key(row, key) {
         Some(Measure::Length)
     } else if is_along(row, key) {
         Some(Measure::PerLength)
@@ -102,11 +102,11 @@ impl Units {
         ensures { result ≡ units_of (table_view top.now) }
     {
         let tick = match text_at(top, "tick") {
-            Some(text) => tick_of(text),
+            Some(text) => tick_said(text),
             None => None,
         };
         let unit = match text_at(top, "unit") {
-            Some(text) => unit_of(text).unwrap_or(MICROMETRES),
+            Some(text) => unit_said(text).unwrap_or(MICROMETRES),
             None => MICROMETRES,
         };
         Units { tick, unit }
@@ -130,15 +130,15 @@ impl Units {
         if asks_tick(measure) && self.tick.is_none() {
             return None;
         }
-        self.scale().number_of(measure, text)
+        self.scale().number_said(measure, text)
     }
 
     /// Returns the number that the text at a key says, if it says one.
     fn said_at(self, row: Row, key: &str, text: &str) -> Option<u64>
-        ensures said { result ≡ said_by self (measure_of row key.now) text.now }
+        ensures said { result ≡ said_by self (measure_at_key row key.now) text.now }
         ensures most { IfSome result (λ n. n ≤ LARGEST_WHOLE) }
     {
-        match measure_of(row, key) {
+        match measure_at_key(row, key) {
             Some(measure) => self.said(measure, text),
             None => None,
         }
@@ -169,7 +169,7 @@ pub(crate) fn put_row(
 {
     for (key, value) in table.iter() {
         let plain = units.converted(row, key.as_str(), value)?;
-        put(alloc, into, key.as_str(), plain)?;
+        with_member(alloc, into, key.as_str(), plain)?;
     }
     Ok(())
 }
@@ -227,5 +227,5 @@ pub(crate) fn remake_rows(
         Some(values) => plain_values(alloc, units, row, values)?,
         None => return Ok(()),
     };
-    put(alloc, table, key, Value::from(all))
+    with_member(alloc, table, key, Value::from(all))
 }

@@ -2,20 +2,20 @@
 ghost use Rattle.std.specs.Prelude.{◌≡◌, ◌≤◌, pos, map, option_map, IfOk, IfSome, OnOk, option_and_then, unwrap_or};
 ghost use Rattle.toml.specs.Data.{as_table, get_member, integer, no_members};
 ghost use Rattle.toml.specs.View.{view, table_view};
-ghost use Rattle.wl_plain.specs.Tables.{array_at, elements, has, no_value, positive, positive_at, put, text_at, whole_at, whole_of, without};
+ghost use Rattle.wl_plain.specs.Tables.{array_at, elements, has, no_value, positive, positive_number_at, with_member, text_at, whole_number_at, whole_of, without};
 
 use std::alloc::{AllocError, Global};
 use toml::{Table, Value};
 use wl_units::LARGEST_WHOLE;
 
 /// Puts a value at a key, in the place of one that is there.
-pub(crate) fn put(
+pub(crate) fn with_member(
     alloc: Global,
     table: &mut Table,
     key: &str,
     value: Value,
 ) -> Result<(), AllocError>
-    ensures { OnOk result (table_view table.new ≡ put key.now (view value) (table_view table.old)) }
+    ensures { OnOk result (table_view table.new ≡ with_member key.now (view value) (table_view table.old)) }
 {
     let name = String::from_str(alloc, key)?;
     drop(table.insert(name, value)?);
@@ -30,16 +30,16 @@ pub(crate) fn put_number(
     n: u64,
 ) -> Result<(), AllocError>
     requires { n ≤ LARGEST_WHOLE }
-    ensures { OnOk result (table_view table.new ≡ put key.now (integer (pos n)) (table_view table.old)) }
+    ensures { OnOk result (table_view table.new ≡ with_member key.now (integer (pos n)) (table_view table.old)) }
 {
-    put(alloc, table, key, Value::from(n as i64))
+    with_member(alloc, table, key, Value::from(n as i64))
 }
 
 /// Puts the empty text at a key, in the place of a value that is wrong there.
 pub(crate) fn put_none(alloc: Global, table: &mut Table, key: &str) -> Result<(), AllocError>
-    ensures { OnOk result (table_view table.new ≡ put key.now no_value (table_view table.old)) }
+    ensures { OnOk result (table_view table.new ≡ with_member key.now no_value (table_view table.old)) }
 {
-    put(alloc, table, key, Value::from(String::new(alloc)))
+    with_member(alloc, table, key, Value::from(String::new(alloc)))
 }
 
 /// Takes away what is at a key.
@@ -85,8 +85,8 @@ pub(crate) fn whole_of(value: &Value) -> Option<u64>
 }
 
 /// Returns the whole number at a key, if it has one.
-pub(crate) fn whole_at(table: &Table, key: &str) -> Option<u64>
-    ensures whole { result ≡ whole_at key.now (table_view table.now) }
+pub(crate) fn whole_number_at(table: &Table, key: &str) -> Option<u64>
+    ensures whole { result ≡ whole_number_at key.now (table_view table.now) }
     ensures most { IfSome result (λ n. n ≤ LARGEST_WHOLE) }
 {
     match value_at(table, key) {
@@ -103,11 +103,11 @@ pub(crate) fn positive(n: u64) -> Option<u64>
 }
 
 /// Returns the whole number from 1 on at a key, if it has one.
-pub(crate) fn positive_at(table: &Table, key: &str) -> Option<u64>
-    ensures whole { result ≡ positive_at key.now (table_view table.now) }
+pub(crate) fn positive_number_at(table: &Table, key: &str) -> Option<u64>
+    ensures whole { result ≡ positive_number_at key.now (table_view table.now) }
     ensures most { IfSome result (λ n. n ≤ LARGEST_WHOLE) }
 {
-    positive(whole_at(table, key)?)
+    positive(whole_number_at(table, key)?)
 }
 
 /// Returns the elements of the array at a key, if it has one.

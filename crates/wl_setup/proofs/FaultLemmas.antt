@@ -11,13 +11,13 @@ use Rattle.wl_setup.specs.declared.tables.Wrong.TheVariants as wrong
 use Rattle.wl_setup.specs.declared.plan_text.PlanText.{PlanText}
 use Rattle.wl_setup.specs.Keys.{TableKeys, controller_keys}
 use Rattle.wl_setup.specs.Kinds.{number_at, tables_at}
-use Rattle.wl_setup.specs.Faults.{controller_fault, first_some, top_keys, required_fault, setup_fault, table_fault, node_keys, rate_keys, frame_keys, disturbance_keys, version_fault}
+use Rattle.wl_setup.specs.Faults.{fault_of_controller, first_some, top_keys, required_fault, setup_fault, table_fault, node_keys, rate_keys, frame_keys, disturbance_keys, version_fault}
 use Rattle.wl_setup.specs.Version.{is_known_version}
 use Rattle.wl_setup.specs.Names.{first_repeat, has_repeat, names_of, same_name_fault}
 use Rattle.wl_setup.specs.declared.table_path.PlacedFault.{PlacedFault}
 use Rattle.wl_setup.specs.declared.table_path.TablePath.{TablePath}
 use Rattle.wl_setup.specs.declared.table_path.TablePath.TheVariants.{Top, Controller, Node, Rate, Frame, Disturbance}
-use Rattle.wl_setup.specs.TablePaths.{controller_faults, controllers_at, fault_at, rate_fault_at, frame_fault_at, disturbance_fault_at, first_in, node_fault_at}
+use Rattle.wl_setup.specs.TablePaths.{controller_faults, controller_tables, fault_at, rate_fault_at, frame_fault_at, disturbance_fault_at, first_in, node_fault_at}
 use Rattle.wl_setup.specs.Texts.{plan_of}
 use Rattle.wl_setup.specs.Document.{document_fault, first_fault, head_fault, is_document_fault, plain_fault, read_form, unless, OnlyDocumentFaults}
 use Rattle.wl_setup.specs.Reading.{document_answer}
@@ -99,15 +99,15 @@ controller_of_document (Some t) = table_of_document controller_keys t
 controllers_of_document : (n : ℕ) (ms : Members) → IsPlaced (controller_faults n ms)
 controllers_of_document n no_members = tt
 controllers_of_document n (member k d ms) = first_some_of placed_has (
-    fault_at (Controller n) (controller_fault d) ∷ controller_faults (suc n) ms ∷ []
+    fault_at (Controller n) (fault_of_controller d) ∷ controller_faults (suc n) ms ∷ []
     ) (placed_of (Controller n) _ (controller_of_document (as_table d)), (controllers_of_document (suc n) ms, tt))
 
 head_of_document : (top : Members) → IsPlaced (head_fault top)
 head_of_document top =
     let keys = top_keys (number_at key.Version top) top in
     first_some_of placed_has (
-    fault_at Top (version_fault top) ∷ fault_at Top (table_fault keys top) ∷ controller_faults 0 (controllers_at top) ∷ []
-    ) (placed_of Top _ (version_of_document top), (placed_of Top _ (table_of_document keys top), (controllers_of_document 0 (controllers_at top), tt)))
+    fault_at Top (version_fault top) ∷ fault_at Top (table_fault keys top) ∷ controller_faults 0 (controller_tables top) ∷ []
+    ) (placed_of Top _ (version_of_document top), (placed_of Top _ (table_of_document keys top), (controllers_of_document 0 (controller_tables top), tt)))
 
 first_of_document : (top : Members) → IsPlaced (plain_fault top)
 first_of_document top =

@@ -14,7 +14,7 @@ use Rattle.wl_setup.specs.declared.table_path.PlacedFault.{PlacedFault}
 use Rattle.wl_setup.specs.declared.table_path.TablePath.{TablePath}
 use Rattle.wl_setup.specs.declared.table_path.TablePath.TheVariants.{Top, Node}
 use Rattle.wl_setup.specs.Faults.{first_some, top_keys, version_fault, table_fault}
-use Rattle.wl_setup.specs.TablePaths.{controller_faults, controllers_at, fault_at, first_in, node_fault_at, disturbance_fault_at}
+use Rattle.wl_setup.specs.TablePaths.{controller_faults, controller_tables, fault_at, first_in, node_fault_at, disturbance_fault_at}
 use Rattle.wl_setup.specs.Names.{first_repeat, names_of, same_name_fault}
 
 -- the first fault of a plain document's version, its top table and its controllers
@@ -23,7 +23,7 @@ head_fault top =
     first_some (
     fault_at Top (version_fault top)
     ∷ fault_at Top (table_fault (top_keys (number_at key.Version top) top) top)
-    ∷ controller_faults 0 (controllers_at top) ∷ [])
+    ∷ controller_faults 0 (controller_tables top) ∷ [])
 
 -- the first fault of a plain document and its place: of these, each node followed by its rates and its frames, the disturbances, the names
 abbrev pub plain_fault : Members → Option PlacedFault

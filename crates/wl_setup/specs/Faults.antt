@@ -110,10 +110,15 @@ has_clock version table =
 abbrev pub is_by_bit_rate : Members → Bool
 is_by_bit_rate table = is_some (value_at key.BitRate table) && not (is_some (value_at key.Prescaler table))
 
+-- a node of a plain document that still names a controller names none that is there
+abbrev pub names_none : ℕ → Members → Bool
+names_none version table = has_controllers version && is_some (value_at key.Controller table)
+
 -- the keys of a node go by the version, by whether `rates` or `quantum` is there, and by whether `tseg1` or `tseg2` is
 abbrev pub node_required : ℕ → Members → List Key
 node_required version table =
-    if has_clock version table then required_by_clock (is_by_bit_rate table) (has_tseg version table)
+    if names_none version table then key.Controller ∷ []
+    else if has_clock version table then required_by_clock (is_by_bit_rate table) (has_tseg version table)
     else if has_rates version table then required_by_rates (has_tseg version table)
     else if is_some (value_at key.Quantum table) then required_by_ppm (has_tseg version table)
     else required_by_rate (has_tseg version table)
@@ -164,8 +169,8 @@ abbrev pub top_keys : ℕ → Members → TableKeys
 top_keys version top = record { required = top_required (asks_tick_in version top); optional = top_optional (has_controllers version) }
 
 -- of a controller
-abbrev pub controller_fault : Data → Option SetupFault
-controller_fault d = option_and_then (table_fault controller_keys) (as_table d)
+abbrev pub fault_of_controller : Data → Option SetupFault
+fault_of_controller d = option_and_then (table_fault controller_keys) (as_table d)
 
 -- a version that is missing, of another kind, or not known
 abbrev pub version_fault : Members → Option SetupFault

@@ -5,7 +5,7 @@ use Rattle.toml.specs.Data.{Data, integer, array, Items, no_items, item, Members
 use Rattle.std.specs.Str.{bytes_eq}
 use Rattle.wl_segments.specs.declared.SyncRules.{SyncRules}
 use Rattle.wl_segments.specs.declared.SyncRules.TheVariants.{After, Book}
-use Rattle.wl_units.specs.Scales.{tick_of, unit_of}
+use Rattle.wl_units.specs.Scales.{tick_said, unit_said}
 use Rattle.wl_setup.specs.declared.plan_text.QueueText.{QueueText}
 use Rattle.wl_setup.specs.declared.plan_text.QueueText.TheVariants.{Fifo, Priority}
 use Rattle.wl_setup.specs.declared.keys.Key.{Key}
@@ -73,11 +73,11 @@ abbrev pub queue_in : Data → Option QueueText
 queue_in d = option_and_then queue_named (as_str d)
 
 -- the lengths of a tick in femtoseconds, and of a unit of length in micrometres
-abbrev pub tick_in : Data → Option ℕ
-tick_in d = option_and_then tick_of (as_str d)
+abbrev pub tick_value : Data → Option ℕ
+tick_value d = option_and_then tick_said (as_str d)
 
-abbrev pub unit_in : Data → Option ℕ
-unit_in d = option_and_then unit_of (as_str d)
+abbrev pub unit_value : Data → Option ℕ
+unit_value d = option_and_then unit_said (as_str d)
 
 -- a text that isn't empty
 abbrev pub is_filled : List ℕ → Bool
@@ -101,8 +101,8 @@ has_kind kind.Sync d = is_some (sync_in d)
 has_kind kind.Tolerance d = is_some (number_in largest_tolerance d)
 has_kind kind.Positive d = is_some (positive_in d)
 has_kind kind.Queue d = is_some (queue_in d)
-has_kind kind.Tick d = is_some (tick_in d)
-has_kind kind.Unit d = is_some (unit_in d)
+has_kind kind.Tick d = is_some (tick_value d)
+has_kind kind.Unit d = is_some (unit_value d)
 has_kind kind.Filled d = holds is_filled (as_str d)
 has_kind kind.Named d = holds are_all_tables (as_table d)
 
@@ -144,10 +144,10 @@ queue_at key table = unwrap_or (option_and_then queue_in (value_at key table)) F
 
 -- nor has a length of a tick or of a unit, and a number that may be absent
 abbrev pub tick_at : Key → Members → Option ℕ
-tick_at key table = option_and_then tick_in (value_at key table)
+tick_at key table = option_and_then tick_value (value_at key table)
 
 abbrev pub unit_at : Key → Members → Option ℕ
-unit_at key table = option_and_then unit_in (value_at key table)
+unit_at key table = option_and_then unit_value (value_at key table)
 
 abbrev pub some_number_at : Key → Members → Option ℕ
 some_number_at key table = option_and_then (number_in largest_number) (value_at key table)

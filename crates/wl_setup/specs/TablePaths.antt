@@ -9,7 +9,7 @@ use Rattle.wl_setup.specs.declared.table_path.PlacedFault.{PlacedFault}
 use Rattle.wl_setup.specs.declared.table_path.TablePath.{TablePath}
 use Rattle.wl_setup.specs.declared.table_path.TablePath.TheVariants.{Top, Controller, Node, Rate, Frame, Disturbance}
 use Rattle.wl_setup.specs.Kinds.{value_at, elements_at, tables_at}
-use Rattle.wl_setup.specs.Faults.{first_some, table_fault, node_keys, rate_fault, controller_fault, frame_fault, disturbance_fault}
+use Rattle.wl_setup.specs.Faults.{first_some, table_fault, node_keys, rate_fault, fault_of_controller, frame_fault, disturbance_fault}
 
 -- a fault of the table at a path
 abbrev pub placed : TablePath → SetupFault → PlacedFault
@@ -36,13 +36,13 @@ disturbance_fault_at version n table = fault_at (Disturbance n) (disturbance_fau
 -- of the controllers, by their numbers in the order of their names
 abbrev pub controller_faults : ℕ → Members → Option PlacedFault
 controller_faults n no_members = None
-controller_faults n (member k d ms) = first_some (fault_at (Controller n) (controller_fault d) ∷ controller_faults (suc n) ms ∷ [])
+controller_faults n (member k d ms) = first_some (fault_at (Controller n) (fault_of_controller d) ∷ controller_faults (suc n) ms ∷ [])
 
 abbrev pub controllers_said : Members → Option Members
 controllers_said top = option_and_then as_table (value_at key.Controllers top)
 
-abbrev pub controllers_at : Members → Members
-controllers_at top = unwrap_or (controllers_said top) no_members
+abbrev pub controller_tables : Members → Members
+controller_tables top = unwrap_or (controllers_said top) no_members
 
 -- the first fault of some tables, by their numbers
 abbrev pub first_in : (ℕ → Members → Option PlacedFault) → List Members → Option PlacedFault
@@ -69,7 +69,7 @@ table_in (suc n) (member k d ms) = table_in n ms
 -- the table at a path, if the document has it
 abbrev pub table_at : TablePath → Members → Option Members
 table_at Top top = Some top
-table_at (Controller n) top = table_in n (controllers_at top)
+table_at (Controller n) top = table_in n (controller_tables top)
 table_at (Node i) top = row_at key.Node i top
 table_at (Rate i n) top = option_and_then (row_at key.Rates n) (row_at key.Node i top)
 table_at (Frame i n) top = option_and_then (row_at key.Frame n) (row_at key.Node i top)

@@ -3,9 +3,9 @@ ghost use Rattle.std.specs.Prelude.{◌≡◌, map};
 ghost use Rattle.toml.specs.View.{view, table_view};
 ghost use Rattle.wl_setup.specs.declared.keys.Key.TheVariants as key;
 ghost use Rattle.wl_setup.specs.Kinds.{tables_at};
-ghost use Rattle.wl_setup.specs.Faults.{controller_fault, table_fault, version_fault};
+ghost use Rattle.wl_setup.specs.Faults.{fault_of_controller, table_fault, version_fault};
 ghost use Rattle.wl_setup.specs.Keys.{controller_keys};
-ghost use Rattle.wl_setup.specs.TablePaths.{controller_faults, controllers_at, disturbance_fault_at, first_in, frame_fault_at, node_fault_at, rate_fault_at};
+ghost use Rattle.wl_setup.specs.TablePaths.{controller_faults, controller_tables, disturbance_fault_at, first_in, frame_fault_at, node_fault_at, rate_fault_at};
 ghost use Rattle.wl_setup.specs.Texts.{frame_of, disturbance_of, clock_of, rate_of, rates_of, segments_text_of, node_text_of};
 ghost use Rattle.wl_setup.specs.Document.{AnswersAt, AnswersEach, Passes, first_fault, head_fault, named_plain, named_text_of, plain_fault};
 
@@ -260,7 +260,7 @@ fn check_controller_table(alloc: Global, table: &Table) -> Result<(), SetupFault
 
 /// Tests the value of a controller: what is no table has no fault.
 fn check_controller(alloc: Global, value: &Value) -> Result<(), SetupFault>
-    ensures { Passes (controller_fault (view value.now)) result }
+    ensures { Passes (fault_of_controller (view value.now)) result }
 {
     match value.as_table() {
         Some(table) => check_controller_table(alloc, table),
@@ -280,7 +280,7 @@ fn check_controllers(alloc: Global, table: &Table) -> Result<(), PlacedFault>
 
 /// Tests the controllers of a document.
 fn check_all_controllers(alloc: Global, top: &Table) -> Result<(), PlacedFault>
-    ensures { AnswersAt (controller_faults 0 (controllers_at (table_view top.now))) tt result }
+    ensures { AnswersAt (controller_faults 0 (controller_tables (table_view top.now))) tt result }
 {
     match controllers(top) {
         Some(table) => check_controllers(alloc, table),

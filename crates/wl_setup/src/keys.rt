@@ -3,7 +3,7 @@ ghost use Rattle.std.specs.Prelude.{◌≡◌, true, false, if◌then◌else◌}
 ghost use Rattle.toml.specs.View.{table_view};
 ghost use Rattle.wl_setup.specs.Keys.{controller_keys, key_text, kind_of, required_by_clock, required_by_rate, required_by_ppm, required_by_rates, node_optional, top_optional, top_required, wide_node_optional, wide_frame_optional, frame_required, frame_optional, disturbance_required};
 ghost use Rattle.wl_setup.specs.Version.{has_controllers, has_traffic};
-ghost use Rattle.wl_setup.specs.Faults.{asks_tick_in, has_clock, has_rates, has_tseg, is_by_bit_rate, is_fraction, node_required, node_keys, optional_in, rate_keys, frame_keys, disturbance_keys, top_keys};
+ghost use Rattle.wl_setup.specs.Faults.{asks_tick_in, has_clock, has_rates, has_tseg, is_by_bit_rate, is_fraction, names_none, node_required, node_keys, optional_in, rate_keys, frame_keys, disturbance_keys, top_keys};
 
 use crate::limits::VERSION_OF_RATES;
 use crate::tables::TableKey;
@@ -499,13 +499,22 @@ fn required_by_rates(tseg: bool) -> &'static [Key]
     }
 }
 
+/// True if a node of a plain document still names a controller, which is none that is there.
+fn names_none(version: u64, table: &Table) -> bool
+    ensures { result ≡ names_none version (table_view table.now) }
+{
+    has_controllers(version) && value_at(table, Key::Controller).is_some()
+}
+
 /// Returns the required keys of a node: they go by the version, by whether the keys of a clock, `rates` or `quantum` are there, and by
 /// whether `tseg1` or `tseg2` is.
 fn node_required(version: u64, table: &Table) -> &'static [Key]
     ensures { result.now ≡ node_required version (table_view table.now) }
 {
     let tseg = has_tseg(version, table);
-    if has_clock(version, table) {
+    if names_none(version, table) {
+        &[Key::Controller]
+    } else if has_clock(version, table) {
         required_by_clock(is_by_bit_rate(table), tseg)
     } else if has_rates(version, table) {
         required_by_rates(tseg)

@@ -3,7 +3,7 @@ ghost use Rattle.std.specs.Prelude.{◌≡◌, ◌≤◌, ◌^◌, ◌<◌, true
 ghost use Rattle.std.specs.List.{list_all};
 ghost use Rattle.toml.specs.Data.{as_table, get_member};
 ghost use Rattle.toml.specs.View.{view, table_view, items_view};
-ghost use Rattle.wl_setup.specs.Kinds.{are_all_tables, is_filled, is_wide_kind, queue_at, queue_in, queue_named, some_number_at, tick_at, tick_in, unit_at, unit_in, number_within, number_in, positive_in, positive_at, some_name_at, byte_in, is_name, is_name_letter, is_ppm, has_kind, number_at, small_at, tolerance_at, ppm_at, truth_at, name_said, elements_of, elements_said, bytes_at, sync_named, sync_in, sync_choice_at};
+ghost use Rattle.wl_setup.specs.Kinds.{are_all_tables, is_filled, is_wide_kind, queue_at, queue_in, queue_named, some_number_at, tick_at, tick_value, unit_at, unit_value, number_within, number_in, positive_in, positive_at, some_name_at, byte_in, is_name, is_name_letter, is_ppm, has_kind, number_at, small_at, tolerance_at, ppm_at, truth_at, name_said, elements_of, elements_said, bytes_at, sync_named, sync_in, sync_choice_at};
 
 use crate::keys::{Key, Kind};
 use crate::limits::{
@@ -16,7 +16,7 @@ use std::alloc::{AllocError, Global};
 use toml::{Table, Value};
 use wl_level::Listed;
 use wl_segments::SyncRules;
-use wl_units::{tick_of, unit_of};
+use wl_units::{tick_said, unit_said};
 
 /// Returns the value at a key of this name.
 pub fn value_named<'a>(table: &'a Table, name: &str) -> Option<&'a Value>
@@ -154,21 +154,21 @@ fn queue_in(value: &Value) -> Option<QueueText>
 }
 
 /// Returns the length of a tick in femtoseconds.
-fn tick_in(value: &Value) -> Option<u64>
-    ensures { result ≡ tick_in (view value.now) }
+fn tick_value(value: &Value) -> Option<u64>
+    ensures { result ≡ tick_value (view value.now) }
 {
     match value.as_str() {
-        Some(text) => tick_of(text),
+        Some(text) => tick_said(text),
         None => None,
     }
 }
 
 /// Returns the length of a unit of length in micrometres.
-fn unit_in(value: &Value) -> Option<u64>
-    ensures { result ≡ unit_in (view value.now) }
+fn unit_value(value: &Value) -> Option<u64>
+    ensures { result ≡ unit_value (view value.now) }
 {
     match value.as_str() {
-        Some(text) => unit_of(text),
+        Some(text) => unit_said(text),
         None => None,
     }
 }
@@ -198,8 +198,8 @@ fn has_wide_kind(kind: Kind, value: &Value) -> bool
 {
     match kind {
         Kind::Queue => queue_in(value).is_some(),
-        Kind::Tick => tick_in(value).is_some(),
-        Kind::Unit => unit_in(value).is_some(),
+        Kind::Tick => tick_value(value).is_some(),
+        Kind::Unit => unit_value(value).is_some(),
         Kind::Filled => value.as_str().is_some_and(is_filled),
         _ => match value.as_table() {
             Some(table) => are_all_tables(table),
@@ -300,14 +300,14 @@ pub(crate) fn some_number_at(table: &Table, key: Key) -> Option<u64>
 pub(crate) fn tick_at(table: &Table, key: Key) -> Option<u64>
     ensures { result ≡ tick_at key (table_view table.now) }
 {
-    tick_in(value_at(table, key)?)
+    tick_value(value_at(table, key)?)
 }
 
 /// Returns the length of a unit of length in micrometres at a key, if it has one.
 pub(crate) fn unit_at(table: &Table, key: Key) -> Option<u64>
     ensures { result ≡ unit_at key (table_view table.now) }
 {
-    unit_in(value_at(table, key)?)
+    unit_value(value_at(table, key)?)
 }
 
 /// Returns which frame a node sends first, at a key; the one that became ready first if it has none.

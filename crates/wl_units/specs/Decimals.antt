@@ -20,9 +20,9 @@ is_behind Point = true
 is_behind Fraction = true
 is_behind _ = false
 
-abbrev pub is_whole : Part → Bool
-is_whole Whole = true
-is_whole _ = false
+abbrev pub is_before_point : Part → Bool
+is_before_point Whole = true
+is_before_point _ = false
 
 -- whether a number may end there
 abbrev pub is_end : Part → Bool
@@ -35,31 +35,31 @@ abbrev pub no_digits : Decimal
 no_digits = record { mantissa = 0; divisor = 1; part = Start }
 
 -- whether there is room for one more digit
-abbrev pub has_room : Decimal → Bool
-has_room d = nat_lt d.mantissa 100000000000000 && nat_le d.divisor 100000000000000
+abbrev pub has_digit_room : Decimal → Bool
+has_digit_room d = nat_lt d.mantissa 100000000000000 && nat_le d.divisor 100000000000000
 
 -- with one more digit
-abbrev pub with_digit : Decimal → ℕ → Decimal
-with_digit d n = record { mantissa = d.mantissa * 10 + n; divisor = if is_behind d.part then d.divisor * 10 else d.divisor; part = after_digit d.part }
+abbrev pub with_one_digit : Decimal → ℕ → Decimal
+with_one_digit d n = record { mantissa = d.mantissa * 10 + n; divisor = if is_behind d.part then d.divisor * 10 else d.divisor; part = after_digit d.part }
 
 -- with one more character, if it belongs to the number
-abbrev pub step : Decimal → ℕ → Option Decimal
-step d c =
-    if is_digit c && has_room d then Some (with_digit d (c - 48))
-    else if (c == 46) && is_whole d.part then Some (record d { part = Point })
+abbrev pub with_letter : Decimal → ℕ → Option Decimal
+with_letter d c =
+    if is_digit c && has_digit_room d then Some (with_one_digit d (c - 48))
+    else if (c == 46) && is_before_point d.part then Some (record d { part = Point })
     else None
 
 -- the number, and the text behind it
 abbrev pub scan : Decimal → List ℕ → Decimal × List ℕ
 scan d [] = (d, [])
-scan d (c ∷ cs) = if is_some (step d c) then scan (unwrap_or (step d c) d) cs else (d, c ∷ cs)
+scan d (c ∷ cs) = if is_some (with_letter d c) then scan (unwrap_or (with_letter d c) d) cs else (d, c ∷ cs)
 
 -- the same of a whole text, if a number may end there
-abbrev pub number_in : List ℕ → Option (Decimal × List ℕ)
-number_in text = if is_end (scan no_digits text).0.part then Some (scan no_digits text) else None
+abbrev pub decimal_in : List ℕ → Option (Decimal × List ℕ)
+decimal_in text = if is_end (scan no_digits text).0.part then Some (scan no_digits text) else None
 
 -- what holds of each number
-pub record IsNumber (d : Decimal) : Type 0 where
+pub record IsDecimal (d : Decimal) : Type 0 where
   pub mantissa : d.mantissa < 1000000000000000
   pub some : 0 < d.divisor
   pub parts : d.divisor ≤ 1000000000000000

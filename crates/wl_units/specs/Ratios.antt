@@ -11,13 +11,13 @@ abbrev pub whole : (num den : ℕ) → Option ℕ
 whole num den = if nat_lt 0 den && (num % den == 0) && nat_le (num / den) largest_whole then Some (num / den) else None
 
 -- the greatest common divisor, after so many steps
-abbrev pub common : ℕ → (a b : ℕ) → ℕ
-common zero a b = a
-common (suc steps) a b = if b == 0 then a else common steps b (a % b)
+abbrev pub euclid : ℕ → (a b : ℕ) → ℕ
+euclid zero a b = a
+euclid (suc steps) a b = if b == 0 then a else euclid steps b (a % b)
 
 -- of two numbers below 2^128 it takes fewer steps
 unfoldable pub greatest_common : (a b : ℕ) → ℕ
-greatest_common a b = common 200 a b
+greatest_common a b = euclid 200 a b
 
 -- what divides both, and is not 0
 abbrev pub divides_both : ℕ → (num den : ℕ) → Bool
@@ -36,8 +36,8 @@ abbrev pub LowestTermsKeepTheValue : Type 0
 LowestTermsKeepTheValue = (num den : ℕ) → MatchOption (lowest num den) (Unit {0}) (λ r. r.0 * den ≡ r.1 * num)
 
 -- how many ticks a quantum takes, of so many femtoseconds each: the prescaler over the clock in Hz
-abbrev pub quantum_of : (clock prescaler tick : ℕ) → Option (ℕ × ℕ)
-quantum_of clock prescaler tick = lowest (prescaler * 1000000000000000) (clock * tick)
+abbrev pub ticks_of_quantum : (clock prescaler tick : ℕ) → Option (ℕ × ℕ)
+ticks_of_quantum clock prescaler tick = lowest (prescaler * 1000000000000000) (clock * tick)
 
 -- a fraction that lasts so many millionths of what it is, in lowest terms
 abbrev pub divided : ℕ → ℕ → ℕ
@@ -60,5 +60,5 @@ quantum_from ticks num den millionths =
     then Some (rounded_up (ticks * (den * 1000000)) (num * millionths)) else None
 
 -- how many quanta of num / den ticks some ticks are, if they are whole
-abbrev pub quanta_in : (ticks num den : ℕ) → Option ℕ
-quanta_in ticks num den = whole (ticks * den) num
+abbrev pub whole_quanta : (ticks num den : ℕ) → Option ℕ
+whole_quanta ticks num den = whole (ticks * den) num

@@ -13,15 +13,15 @@ abbrev pub up_to : ℕ → ℕ → Option ℕ
 up_to most n = if nat_le 1 n && nat_le n most then Some n else None
 
 -- a quantity, in whole numbers of what it is counted in
-abbrev pub counted : Quantity → Option ℕ
-counted q = whole (q.number.mantissa * q.factor) (q.number.divisor * q.divisor)
+abbrev pub in_small_units : Quantity → Option ℕ
+in_small_units q = whole (q.number.mantissa * q.factor) (q.number.divisor * q.divisor)
 
 -- the length of a tick in femtoseconds, and of a unit of length in micrometres
-abbrev pub tick_of : List ℕ → Option ℕ
-tick_of text = option_and_then (up_to LONGEST_TICK) (option_and_then counted (quantity_of Time text))
+abbrev pub tick_said : List ℕ → Option ℕ
+tick_said text = option_and_then (up_to LONGEST_TICK) (option_and_then in_small_units (quantity_of Time text))
 
-abbrev pub unit_of : List ℕ → Option ℕ
-unit_of text = option_and_then (up_to LONGEST_UNIT) (option_and_then counted (quantity_of Length text))
+abbrev pub unit_said : List ℕ → Option ℕ
+unit_said text = option_and_then (up_to LONGEST_UNIT) (option_and_then in_small_units (quantity_of Length text))
 
 abbrev pub is_scale : Scale → Bool
 is_scale s = nat_le 1 s.tick && nat_le s.tick LONGEST_TICK && nat_le 1 s.unit && nat_le s.unit LONGEST_UNIT
@@ -42,5 +42,5 @@ scaled measure s q =
     whole (q.number.mantissa * q.factor * times measure s) (q.number.divisor * q.divisor * over measure s)
 
 -- the number that a text says: exact, or none
-abbrev pub number_of : Measure → Scale → List ℕ → Option ℕ
-number_of measure s text = if is_scale s then option_and_then (scaled measure s) (quantity_of measure text) else None
+abbrev pub number_said : Measure → Scale → List ℕ → Option ℕ
+number_said measure s text = if is_scale s then option_and_then (scaled measure s) (quantity_of measure text) else None

@@ -5,7 +5,7 @@ use Rattle.wl_units.specs.declared.decimal.Decimal.{Decimal}
 use Rattle.wl_units.specs.declared.quantity.Measure.{Measure}
 use Rattle.wl_units.specs.declared.quantity.Measure.TheVariants.{Time, Length, PerLength, Frequency, BitRate}
 use Rattle.wl_units.specs.declared.quantity.Quantity.{Quantity}
-use Rattle.wl_units.specs.Decimals.{IsNumber, number_in}
+use Rattle.wl_units.specs.Decimals.{IsDecimal, decimal_in}
 
 -- a factor over a divisor
 abbrev pub Factors : Type 0
@@ -87,11 +87,11 @@ in_unit measure r = option_map (quantity_with r.0) (factors_of measure (behind_s
 
 -- a number, a space or none, and a unit of the measure
 abbrev pub quantity_of : Measure → List ℕ → Option Quantity
-quantity_of measure text = option_and_then (in_unit measure) (number_in text)
+quantity_of measure text = option_and_then (in_unit measure) (decimal_in text)
 
 -- what holds of each: a factor and a divisor within bounds
 pub record IsQuantity (q : Quantity) : Type 0 where
-  pub number : IsNumber q.number
+  pub number : IsDecimal q.number
   pub factor : q.factor ≤ 1000000000000000
   pub unit : 0 < q.divisor
   pub units : q.divisor ≤ 1000000000

@@ -1,6 +1,6 @@
 //! Decimal numbers at the start of a text.
 ghost use Rattle.std.specs.Prelude.{◌≡◌, ◌≤◌, true, drop, IfSome, length, option_map};
-ghost use Rattle.wl_units.specs.Decimals.{IsNumber, after_digit, has_room, is_behind, is_end, no_digits, number_in, scan, step, with_digit};
+ghost use Rattle.wl_units.specs.Decimals.{IsDecimal, after_digit, has_digit_room, is_behind, is_end, no_digits, decimal_in, scan, with_letter, with_one_digit};
 
 /// Which part of a decimal number the last character was of.
 #[derive(Clone, Copy, Debug, PartialEq, Eq)]
@@ -26,7 +26,7 @@ impl Part {
         }
     }
 
-    /// True if a digit after this is behind the point.
+    /// True if the next digit is one after the point.
     fn is_behind(self) -> bool
         ensures { result ≡ is_behind self }
     {
@@ -71,19 +71,19 @@ impl Decimal {
     }
 
     /// True if there is room for one more digit.
-    fn has_room(self) -> bool
-        ensures { result ≡ has_room self }
+    fn has_digit_room(self) -> bool
+        ensures { result ≡ has_digit_room self }
     {
         self.mantissa < 100_000_000_000_000 && self.divisor <= 100_000_000_000_000
     }
 
     /// Returns the number with one more digit.
-    fn with_digit(self, digit: u8) -> Decimal
-        requires number { IsNumber self }
-        requires room { has_room self ≡ true }
+    fn with_one_digit(self, digit: u8) -> Decimal
+        requires number { IsDecimal self }
+        requires room { has_digit_room self ≡ true }
         requires digit { digit ≤ 9 }
-        ensures with_digit { result ≡ with_digit self digit }
-        ensures number { IsNumber result }
+        ensures with_one_digit { result ≡ with_one_digit self digit }
+        ensures number { IsDecimal result }
     {
         let divisor = if self.part.is_behind() {
             self.divisor * 10
@@ -98,13 +98,13 @@ impl Decimal {
     }
 
     /// Returns the number with one more character, if it belongs to it.
-    fn step(self, letter: u8) -> Option<Decimal>
-        requires { IsNumber self }
-        ensures step { result ≡ step self letter }
-        ensures number { IfSome result IsNumber }
+    fn with_letter(self, letter: u8) -> Option<Decimal>
+        requires { IsDecimal self }
+        ensures with_letter { result ≡ with_letter self letter }
+        ensures number { IfSome result IsDecimal }
     {
-        if b'0' <= letter && letter <= b'9' && self.has_room() {
-            return Some(self.with_digit(letter - b'0'));
+        if b'0' <= letter && letter <= b'9' && self.has_digit_room() {
+            return Some(self.with_one_digit(letter - b'0'));
         }
         if letter == b'.' && self.part == Part::Whole {
             return Some(Decimal {
@@ -119,12 +119,12 @@ impl Decimal {
 /// Returns the number at the start of a text, and how many bytes it has.
 fn scan(text: &[u8]) -> (Decimal, usize)
     ensures scan { (result.0, drop result.1 text.now) ≡ scan no_digits text.now }
-    ensures number { IsNumber result.0 }
+    ensures number { IsDecimal result.0 }
     ensures within { result.1 ≤ length text.now }
 {
     let mut number = Decimal::none();
     for (n, letter) in text.iter().enumerate() {
-        match number.step(*letter) {
+        match number.with_letter(*letter) {
             Some(next) => number = next,
             None => return (number, n),
         }
@@ -133,9 +133,9 @@ fn scan(text: &[u8]) -> (Decimal, usize)
 }
 
 /// Returns the number at the start of a text and the bytes after it, if it has one.
-pub(crate) fn number_in(text: &[u8]) -> Option<(Decimal, &[u8])>
-    ensures number { option_map (λ r. (r.0, r.1.now)) result ≡ number_in text.now }
-    ensures is { IfSome result (λ r. IsNumber r.0) }
+pub(crate) fn decimal_in(text: &[u8]) -> Option<(Decimal, &[u8])>
+    ensures number { option_map (λ r. (r.0, r.1.now)) result ≡ decimal_in text.now }
+    ensures is { IfSome result (λ r. IsDecimal r.0) }
 {
     let (number, length) = scan(text);
     if number.part.is_end() {

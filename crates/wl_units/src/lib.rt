@@ -11,5 +11,7 @@ mod words;
 pub use decimal::{Decimal, Part};
 pub use laws::lowest_terms_keep_the_value;
 pub use quantity::{Measure, Quantity, quantity_of};
-pub use ratio::{LARGEST_WHOLE, fraction_with, lowest, quanta_in, quantum_from, quantum_of, whole};
-pub use scale::{LONGEST_TICK, LONGEST_UNIT, MICROMETRES, Scale, tick_of, unit_of};
+pub use ratio::{
+    LARGEST_WHOLE, fraction_with, lowest, quantum_from, ticks_of_quantum, whole, whole_quanta,
+};
+pub use scale::{LONGEST_TICK, LONGEST_UNIT, MICROMETRES, Scale, tick_said, unit_said};

@@ -2,7 +2,7 @@
 ghost use Rattle.std.specs.Prelude.{◌≡◌, ◌≤◌, ◌<◌, IfSome, option_map};
 ghost use Rattle.wl_units.specs.Units.{IsQuantity, factors_of, over_one, quantity_of};
 
-use crate::decimal::{Decimal, number_in};
+use crate::decimal::{Decimal, decimal_in};
 use crate::words::{
     behind_space, bit_rate_factor, frequency_factor, length_factor, per_length_factors, time_factor,
 };
@@ -65,7 +65,7 @@ pub fn quantity_of(measure: Measure, text: &str) -> Option<Quantity>
     ensures quantity { result ≡ quantity_of measure text.now }
     ensures is { IfSome result IsQuantity }
 {
-    let (number, rest) = number_in(text.as_bytes())?;
+    let (number, rest) = decimal_in(text.as_bytes())?;
     let (factor, divisor) = factors_of(measure, behind_space(rest))?;
     Some(Quantity {
         number,

@@ -1,6 +1,6 @@
 //! Ratios of whole numbers.
 ghost use Rattle.std.specs.Prelude.{◌≡◌, ◌≤◌, ◌<◌, ◌*◌, ◌^◌, IfSome};
-ghost use Rattle.wl_units.specs.Ratios.{common, divided, divides_both, fraction_with, greatest_common, lowest, quanta_in, quantum_from, quantum_of, reduced_by, rounded_up, whole};
+ghost use Rattle.wl_units.specs.Ratios.{euclid, divided, divides_both, fraction_with, greatest_common, lowest, whole_quanta, quantum_from, ticks_of_quantum, reduced_by, rounded_up, whole};
 
 /// The greatest number that is made of a text: 2^48 - 1.
 pub const LARGEST_WHOLE: u64 = (1 << 48) - 1;
@@ -79,8 +79,8 @@ fn near_product(a: u64, b: u64) -> u128
 
 /// Returns how many ticks a quantum takes, as a fraction in lowest terms: its periods of a clock in Hz, by the length of a tick in
 /// femtoseconds.
-pub fn quantum_of(clock: u64, prescaler: u64, tick: u64) -> Option<(u64, u64)>
-    ensures ratio { result ≡ quantum_of clock prescaler tick }
+pub fn ticks_of_quantum(clock: u64, prescaler: u64, tick: u64) -> Option<(u64, u64)>
+    ensures ratio { result ≡ ticks_of_quantum clock prescaler tick }
     ensures num { IfSome result (λ r. r.0 ≤ LARGEST_WHOLE) }
     ensures den { IfSome result (λ r. r.1 ≤ LARGEST_WHOLE) }
 {
@@ -97,7 +97,7 @@ fn divided(g: u128, n: u128) -> u128
     if g == 0 { n } else { n / g }
 }
 
-/// Returns a fraction that lasts so many millionths of what it is, in lowest terms; the denominator is cut off at 2^48 - 1.
+/// Returns a fraction of this number of millionths of what it is, in lowest terms; the denominator is cut off at 2^48 - 1.
 pub fn fraction_with(num: u64, den: u64, millionths: u64) -> (u128, u64)
     ensures { result ≡ fraction_with num den millionths }
 {
@@ -120,8 +120,8 @@ fn rounded_up(a: u128, b: u128) -> u128
     (a + (b - 1)) / b
 }
 
-/// Returns the first quantum that begins at a tick or later, counted from that of tick 0, where a quantum takes `num / den` ticks, by so
-/// many millionths. `None` if there is none up to 2^48 - 1, or if `den` is above 1,000,000.
+/// Returns the first quantum that begins at a tick or later, counted from that of tick 0, where a quantum takes `num / den` ticks, by
+/// this number of millionths. `None` if there is none up to 2^48 - 1, or if `den` is above 1,000,000.
 pub fn quantum_from(ticks: u64, num: u64, den: u64, millionths: u32) -> Option<u64>
     ensures { result ≡ quantum_from ticks num den millionths }
 {
@@ -138,8 +138,8 @@ pub fn quantum_from(ticks: u64, num: u64, den: u64, millionths: u32) -> Option<u
 }
 
 /// Returns how many quanta of `num / den` ticks some ticks are, if they are whole.
-pub fn quanta_in(ticks: u64, num: u64, den: u64) -> Option<u64>
-    ensures { result ≡ quanta_in ticks num den }
+pub fn whole_quanta(ticks: u64, num: u64, den: u64) -> Option<u64>
+    ensures { result ≡ whole_quanta ticks num den }
 {
     whole(product(ticks, den), num as u128)
 }

@@ -1,7 +1,7 @@
 //! The length of a tick and of a unit of length, and what texts say by them.
 ghost use Rattle.std.specs.Prelude.{◌≡◌, ◌≤◌, ◌*◌, IfSome, true};
 ghost use Rattle.wl_units.specs.Units.{IsQuantity};
-ghost use Rattle.wl_units.specs.Scales.{counted, is_scale, number_of, over, scaled, tick_of, times, unit_of, up_to};
+ghost use Rattle.wl_units.specs.Scales.{in_small_units, is_scale, number_said, over, scaled, tick_said, times, unit_said, up_to};
 
 use crate::quantity::{Measure, Quantity, quantity_of};
 use crate::ratio::{LARGEST_WHOLE, whole};
@@ -43,9 +43,9 @@ fn product(a: u64, b: u64, c: u64) -> u128
 
 impl Quantity {
     /// Returns it in whole numbers of what it is counted in.
-    fn counted(self) -> Option<u64>
+    fn in_small_units(self) -> Option<u64>
         requires { IsQuantity self }
-        ensures { result ≡ counted self }
+        ensures { result ≡ in_small_units self }
     {
         let num = self.number.mantissa as u128 * self.factor as u128;
         whole(num, self.number.divisor as u128 * self.divisor as u128)
@@ -109,8 +109,8 @@ impl Scale {
 
     /// Returns the number that a text says: ticks of a time, units of a length, ticks a unit, Hz or bit/s. `None` if the text says nothing
     /// of this measure, or if it isn't whole in them or above 2^48 - 1.
-    pub fn number_of(self, measure: Measure, text: &str) -> Option<u64>
-        ensures number { result ≡ number_of measure self text.now }
+    pub fn number_said(self, measure: Measure, text: &str) -> Option<u64>
+        ensures number { result ≡ number_said measure self text.now }
         ensures most { IfSome result (λ n. n ≤ LARGEST_WHOLE) }
     {
         if !self.is_sound() {
@@ -121,15 +121,21 @@ impl Scale {
 }
 
 /// Returns the length of a tick in femtoseconds, as a text says it; at most 1 ms.
-pub fn tick_of(text: &str) -> Option<u64>
-    ensures { result ≡ tick_of text.now }
+pub fn tick_said(text: &str) -> Option<u64>
+    ensures { result ≡ tick_said text.now }
 {
-    up_to(LONGEST_TICK, quantity_of(Measure::Time, text)?.counted()?)
+    up_to(
+        LONGEST_TICK,
+        quantity_of(Measure::Time, text)?.in_small_units()?,
+    )
 }
 
 /// Returns the length of a unit of length in micrometres, as a text says it; at most 100 m.
-pub fn unit_of(text: &str) -> Option<u64>
-    ensures { result ≡ unit_of text.now }
+pub fn unit_said(text: &str) -> Option<u64>
+    ensures { result ≡ unit_said text.now }
 {
-    up_to(LONGEST_UNIT, quantity_of(Measure::Length, text)?.counted()?)
+    up_to(
+        LONGEST_UNIT,
+        quantity_of(Measure::Length, text)?.in_small_units()?,
+    )
 }
