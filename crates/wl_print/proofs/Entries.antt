@@ -1,15 +1,14 @@
 -- Members by entries of a fixed list of keys, some of them absent, and what is found in them.
-use Rattle.std.proofs.Common.{◌≡◌, ◌∙◌, refl, sym, ap, subst, ℕ, Bool, true, false, not, ◌&&◌, ◌||◌, List, [], ◌∷◌, ◌++◌, map, filter, Option, Some, None, option_map, if◌then◌else◌, is_none, inl, inr, ◌⊎◌}
-use Rattle.std.proofs.lemmas.Bool.{and_parts, cases_Bool, false≢true}
-use Rattle.std.specs.List.{list_all, list_any}
+use Rattle.std.proofs.Common.{◌≡◌, ◌∙◌, refl, sym, ap, ℕ, Bool, true, false, not, ◌&&◌, ◌||◌, List, [], ◌∷◌, ◌++◌, map, filter, Option, Some, None, option_map, if◌then◌else◌, is_none, inl, inr, ◌⊎◌}
+use Rattle.std.proofs.lemmas.Bool.{and_parts, cases_Bool}
+use Rattle.std.specs.List.{list_all}
 use Rattle.toml.specs.Data.{Data, array, Members, no_members, member, get_member, same_key}
-use Rattle.toml.specs.Text.{is_section}
 use Rattle.wl_setup.specs.declared.keys.Key.{Key}
-use Rattle.wl_setup.specs.Faults.{fault_at_key, first_some, is_of_table, is_value_of, keys_in, least, table_fault}
-use Rattle.wl_setup.specs.Keys.{TableKeys, key_text}
+use Rattle.wl_setup.specs.Faults.{fault_at_key, first_some, is_of_table, is_value_of, keys_in, table_fault}
+use Rattle.wl_setup.specs.Keys.{key_text}
 use Rattle.wl_setup.specs.Kinds.{value_at}
 use Rattle.wl_print.proofs.Sorted.{get_at, get_sorted, same_is, is_fresh, is_proper, is_proper_data, kept, keys_sorted, not_parts, other_way, sorted}
-use Rattle.wl_print.proofs.Tables.{IsRow, AreRows, Row, tables_in_order, with_row, with_rows, with_tables}
+use Rattle.wl_print.proofs.Tables.{AreRows, Row, tables_in_order, with_row, with_rows, with_tables}
 
 abbrev pub Entry : Type 0
 Entry = List ℕ × Option Data
@@ -145,8 +144,11 @@ pub no_fault : (required optional : List Key) (es : List Entry) → AllTaken (so
     → table_fault (record { required = required; optional = optional }) (sorted (all_members es)) ≡ None
 no_fault required optional es taken allowed there =
     let keys = keys_sorted (is_of_table key_text required optional) (all_members es) (there_keys (is_of_table key_text required optional) es there) in
-    rw (required_fine (sorted (all_members es)) required taken, optional_fine (sorted (all_members es)) optional allowed,
-    none_left (is_of_table key_text required optional) (keys_in (sorted (all_members es))) keys) refl
+    rw (
+      required_fine (sorted (all_members es)) required taken,
+      optional_fine (sorted (all_members es)) optional allowed,
+      none_left (is_of_table key_text required optional) (keys_in (sorted (all_members es))) keys,
+    ) refl
 
 -- ---- the entries of rows, and of arrays of tables
 

@@ -1,9 +1,9 @@
 -- Nodes and plans that were printed are read as they were.
-use Rattle.std.proofs.Common.{◌≡◌, ◌∙◌, refl, sym, ap, subst, ℕ, suc, ◌+◌, pos, Bool, true, false, not, ◌&&◌, ◌||◌, ◌==◌, nat_le, List, [], ◌∷◌, ◌++◌, map, codes, filter_map, length, Option, Some, None, option_map, is_some, is_none, if◌then◌else◌, arith, inl, inr, ◌⊎◌}
+use Rattle.std.proofs.Common.{◌≡◌, ◌∙◌, refl, sym, ap, subst, ℕ, ◌+◌, pos, Bool, true, false, not, ◌&&◌, ◌||◌, ◌==◌, nat_le, List, [], ◌∷◌, ◌++◌, map, codes, filter_map, Option, Some, None, option_map, is_some, if◌then◌else◌, arith, inl, inr}
 use Rattle.std.proofs.lemmas.Bool.{and_parts, cases_Bool, false≢true}
 use Rattle.std.proofs.lemmas.Bool.Decides.{nat_tests}
 use Rattle.std.specs.List.{enumerate_from, list_all}
-use Rattle.toml.specs.Data.{Data, string, integer, array, table, Items, item, Members, no_members, as_table, get_member}
+use Rattle.toml.specs.Data.{Data, string, integer, array, Items, Members, no_members, as_table, get_member}
 use Rattle.wl_setup.specs.declared.keys.Key.{Key}
 use Rattle.wl_setup.specs.declared.keys.Key.TheVariants as key
 use Rattle.wl_setup.specs.declared.keys.Kind.TheVariants as kind
@@ -15,20 +15,19 @@ use Rattle.wl_setup.specs.declared.plan_text.RateText.{RateText}
 use Rattle.wl_setup.specs.declared.plan_text.SegmentsText.{SegmentsText}
 use Rattle.wl_setup.specs.declared.plan_text.SegmentsText.TheVariants as segments
 use Rattle.wl_setup.specs.declared.table_path.PlacedFault.{PlacedFault}
-use Rattle.wl_setup.specs.declared.table_path.TablePath.TheVariants.{Node}
-use Rattle.wl_setup.specs.Faults.{first_some, frame_fault, has_rates, has_tseg, is_of_table, is_value_of, node_keys, node_required, rate_fault, table_fault}
+use Rattle.wl_setup.specs.Faults.{first_some, has_rates, has_tseg, is_of_table, is_value_of, node_keys, node_required, table_fault}
 use Rattle.wl_setup.specs.Keys.{key_text, node_optional, required_after_clock, required_by_ppm, required_by_rate, required_by_rates}
 use Rattle.wl_setup.specs.Kinds.{has_kind, is_name, is_ppm, list_of, name_at, number_at, small_at, tables_at, tolerance_at, truth_at, value_at}
 use Rattle.wl_setup.specs.Limits.{largest_number, largest_small, largest_tolerance}
-use Rattle.wl_setup.specs.TablePaths.{fault_at, first_in, frame_fault_at, node_fault_at, rate_fault_at}
+use Rattle.wl_setup.specs.TablePaths.{first_in, frame_fault_at, node_fault_at, rate_fault_at}
 use Rattle.wl_setup.specs.Texts.{clock_of, frame_of, node_text_of, rate_of, rates_of, segments_text_of}
 use Rattle.wl_setup.specs.Version.{has_controllers, has_traffic, is_known_version}
-use Rattle.wl_print.specs.Printable.{are_rates, are_segments, is_clock_text, is_frame_text, is_number_of_key, is_rate, is_small_number, is_tolerance}
+use Rattle.wl_print.specs.Printable.{are_rates, are_segments, is_clock_text, is_frame_text, is_number_of_key, is_rate, is_tolerance}
 use Rattle.wl_print.specs.Written.{is_one, is_own}
 use Rattle.wl_print.proofs.Entries.{AllAllowed, AllTaken, Allowed, AreProper, Entry, Taken, all_members, all_there, entries_of, found, no_fault, proper_entries, rows_proper, seen, tables_value, with_entry, with_rows_is, with_tables_is}
-use Rattle.wl_print.proofs.PlanRows.{IsFrame, IsNode, clock_rows, den_of, flag_of, frame_are_rows, frame_facts, frame_members, frame_rows, node_are_rows, node_members, node_rows, num_of, number_of, one_rate, own_clock, ppm_of, prop_of, ps1_of, ps2_of, quantum_of, rate_are_rows, rate_members, rate_rows, rates_all, rates_apart, signed_of, tseg1_of, tseg2_of}
+use Rattle.wl_print.proofs.PlanRows.{IsNode, den_of, frame_are_rows, frame_facts, frame_members, frame_rows, node_are_rows, node_members, node_rows, num_of, number_of, one_rate, own_clock, ppm_of, prop_of, ps1_of, ps2_of, quantum_of, rate_are_rows, rate_members, rate_rows, rates_all, rates_apart, signed_of, tseg1_of, tseg2_of}
 use Rattle.wl_print.proofs.Readback.{and_false, clock_by_fraction, clock_by_ppm, datum, flag_allowed, flag_seen, frame_fine, frame_is, frame_read, number_kind, number_seen, ppm_seen, rate_back, small_seen}
-use Rattle.wl_print.proofs.Sorted.{is_proper, is_proper_data, is_proper_items, kept, sorted, sorted_items}
+use Rattle.wl_print.proofs.Sorted.{is_proper, is_proper_items, kept, sorted, sorted_items}
 use Rattle.wl_print.proofs.Tables.{all_tables, tables_in_order, with_rows, with_tables}
 
 -- ---- arrays of tables
@@ -326,19 +325,37 @@ after_clock_taken : (version : ℕ) (t : Members) (n : NodeText) (s : SegmentsTe
     → AllTaken t (required_after_clock (is_tseg s))
 after_clock_taken version t n (segments.Each prop ps1 ps2) h fits s p =
     let (a, more) = and_parts (is_number_of_key prop) (is_number_of_key ps1 && is_number_of_key ps2) fits in
-    let (b, c) = and_parts (is_number_of_key ps1) (is_number_of_key ps2) more in
-    ((integer (pos prop), s.0, number_kind largest_number prop a),
-    ((integer (pos ps1), s.1, number_kind largest_number ps1 b),
-    ((integer (pos ps2), s.2, number_kind largest_number ps2 c),
-    ((integer (pos n.sjw), p.0, number_kind largest_number n.sjw h.sjw), ((integer (pos n.x), p.1, number_kind largest_small n.x h.x),
-    ((integer (pos n.out_delay), p.2, number_kind largest_number n.out_delay h.out), ((integer (pos n.in_delay), p.3, number_kind largest_number n.in_delay h.into), tt)))))))
+    let (b, c) = and_parts (is_number_of_key ps1) (is_number_of_key ps2) more in (
+      (integer (pos prop), s.0, number_kind largest_number prop a),
+      (
+        (integer (pos ps1), s.1, number_kind largest_number ps1 b),
+        (
+          (integer (pos ps2), s.2, number_kind largest_number ps2 c),
+          (
+            (integer (pos n.sjw), p.0, number_kind largest_number n.sjw h.sjw),
+            (
+              (integer (pos n.x), p.1, number_kind largest_small n.x h.x),
+              ((integer (pos n.out_delay), p.2, number_kind largest_number n.out_delay h.out), ((integer (pos n.in_delay), p.3, number_kind largest_number n.in_delay h.into), tt)),
+            ),
+          ),
+        ),
+      ),
+    )
 after_clock_taken version t n (segments.Controller tseg1 tseg2) h fits s p =
     let more = (and_parts (has_controllers version) (is_number_of_key tseg1 && is_number_of_key tseg2) fits).1 in
-    let (a, b) = and_parts (is_number_of_key tseg1) (is_number_of_key tseg2) more in
-    ((integer (pos tseg1), s.3, number_kind largest_number tseg1 a),
-    ((integer (pos tseg2), s.4, number_kind largest_number tseg2 b),
-    ((integer (pos n.sjw), p.0, number_kind largest_number n.sjw h.sjw), ((integer (pos n.x), p.1, number_kind largest_small n.x h.x),
-    ((integer (pos n.out_delay), p.2, number_kind largest_number n.out_delay h.out), ((integer (pos n.in_delay), p.3, number_kind largest_number n.in_delay h.into), tt))))))
+    let (a, b) = and_parts (is_number_of_key tseg1) (is_number_of_key tseg2) more in (
+      (integer (pos tseg1), s.3, number_kind largest_number tseg1 a),
+      (
+        (integer (pos tseg2), s.4, number_kind largest_number tseg2 b),
+        (
+          (integer (pos n.sjw), p.0, number_kind largest_number n.sjw h.sjw),
+          (
+            (integer (pos n.x), p.1, number_kind largest_small n.x h.x),
+            ((integer (pos n.out_delay), p.2, number_kind largest_number n.out_delay h.out), ((integer (pos n.in_delay), p.3, number_kind largest_number n.in_delay h.into), tt)),
+          ),
+        ),
+      ),
+    )
 
 name_taken : (t : Members) (s : List ℕ) → value_at key.Name t ≡ Some (string s) → is_name s ≡ true → Taken t key.Name
 name_taken t s is h = (string s, is, h)
@@ -352,14 +369,18 @@ tolerance_allowed t (Some m) is h = inr (integer (pos m), is, number_kind larges
 
 node_allowed : (version : ℕ) (n : NodeText) → IsNode version n → (b : Bool) → AllAllowed (sorted (all_members (node_entries version n))) (node_optional b)
 node_allowed version n h false =
-    let t = sorted (all_members (node_entries version n)) in
-    (tables_allowed frame_members key.Frame (λ d. refl) t n.frame (node_sees version n h (codes "frame")),
-    (tolerance_allowed t n.tolerance (node_sees version n h (codes "tolerance")) h.tolerance, tt))
+    let t = sorted (all_members (node_entries version n)) in (
+      tables_allowed frame_members key.Frame (λ d. refl) t n.frame (node_sees version n h (codes "frame")),
+      (tolerance_allowed t n.tolerance (node_sees version n h (codes "tolerance")) h.tolerance, tt),
+    )
 node_allowed version n h true =
-    let t = sorted (all_members (node_entries version n)) in
-    (tables_allowed frame_members key.Frame (λ d. refl) t n.frame (node_sees version n h (codes "frame")),
-    (tolerance_allowed t n.tolerance (node_sees version n h (codes "tolerance")) h.tolerance,
-    (flag_allowed key.Listen refl t n.listens (node_sees version n h (codes "listen")), tt)))
+    let t = sorted (all_members (node_entries version n)) in (
+      tables_allowed frame_members key.Frame (λ d. refl) t n.frame (node_sees version n h (codes "frame")),
+      (
+        tolerance_allowed t n.tolerance (node_sees version n h (codes "tolerance")) h.tolerance,
+        (flag_allowed key.Listen refl t n.listens (node_sees version n h (codes "listen")), tt),
+      ),
+    )
 
 listens_known : (b c : Bool) → (not c || b) ≡ true → b ≡ false → c ≡ false
 listens_known b false h old = refl

@@ -1,23 +1,21 @@
 -- A plan that was printed is read as it was.
-use Rattle.std.proofs.Common.{◌≡◌, ◌∙◌, refl, sym, ap, subst, ℕ, pos, Bool, true, false, not, ◌&&◌, ◌||◌, ◌==◌, nat_le, List, [], ◌∷◌, ◌++◌, map, codes, Option, Some, None, option_map, is_some, Result, Ok, Err, if◌then◌else◌, arith, inl, inr}
-use Rattle.std.proofs.lemmas.Bool.{and_parts, cases_Bool, false≢true}
+use Rattle.std.proofs.Common.{◌≡◌, ◌∙◌, refl, sym, ap, ℕ, pos, Bool, true, false, not, List, [], ◌∷◌, ◌++◌, map, codes, Some, None, option_map, Ok, arith, inr}
+use Rattle.std.proofs.lemmas.Bool.{false≢true}
 use Rattle.std.proofs.lemmas.Bool.Decides.{nat_tests}
 use Rattle.std.proofs.lemmas.Str.{IsUtf8-string_bytes, is_utf8-from_IsUtf8}
-use Rattle.std.specs.List.{list_all}
 use Rattle.std.specs.Prelude.{String, string_bytes}
 use Rattle.std.specs.Str.{is_utf8}
-use Rattle.toml.specs.Data.{Data, string, integer, Members, no_members, get_member}
+use Rattle.toml.specs.Data.{string, integer, Members, no_members, get_member}
 use Rattle.toml.specs.Parse.{parse_document}
 use Rattle.wl_segments.specs.declared.SyncRules.{SyncRules}
 use Rattle.wl_segments.specs.declared.SyncRules.TheVariants as sync
-use Rattle.wl_setup.specs.declared.keys.Key.{Key}
 use Rattle.wl_setup.specs.declared.keys.Key.TheVariants as key
 use Rattle.wl_setup.specs.declared.plan_text.DisturbanceText.{DisturbanceText}
 use Rattle.wl_setup.specs.declared.plan_text.NodeText.{NodeText}
 use Rattle.wl_setup.specs.declared.plan_text.PlanText.{PlanText}
 use Rattle.wl_setup.specs.Document.{first_fault, plan_text_of}
 use Rattle.wl_setup.specs.Faults.{is_value_of, table_fault, version_fault}
-use Rattle.wl_setup.specs.Keys.{key_text, top_keys}
+use Rattle.wl_setup.specs.Keys.{top_keys}
 use Rattle.wl_setup.specs.Kinds.{number_at, sync_choice_at, tables_at, value_at}
 use Rattle.wl_setup.specs.Limits.{largest_number, largest_number-is}
 use Rattle.wl_setup.specs.Names.{has_repeat, names_of, same_name_fault}
@@ -28,7 +26,7 @@ use Rattle.wl_setup.specs.Version.{has_traffic, is_known_version}
 use Rattle.wl_print.specs.Printable.{PrintsBack, has_nodes, is_disturbance, is_node, is_number_of_key, is_printable}
 use Rattle.wl_print.specs.Written.{plan_words, sync_word}
 use Rattle.wl_print.proofs.Documents.{read_document}
-use Rattle.wl_print.proofs.Entries.{AllAllowed, AllTaken, Allowed, AreProper, Entry, Taken, all_members, entries_of, found, no_fault, proper_entries, rows_proper, seen, tables_value, with_entry, with_rows_is, with_tables_is}
+use Rattle.wl_print.proofs.Entries.{AllAllowed, AllTaken, AreProper, Entry, Taken, all_members, entries_of, found, no_fault, proper_entries, rows_proper, seen, tables_value, with_entry, with_rows_is, with_tables_is}
 use Rattle.wl_print.proofs.NodeBack.{entry_proper, map_back, map_same, node_entries, node_is, node_proper, node_quiet, node_read, quiet, tables_allowed, tables_seen, tables_taken}
 use Rattle.wl_print.proofs.PlanRows.{IsPlan, disturbance_are_rows, disturbance_members, disturbance_rows, node_facts, node_members, plan_facts, plan_lines, plan_members, top_are_rows, top_rows}
 use Rattle.wl_print.proofs.Readback.{disturbance_back, number_kind, number_seen}
@@ -186,9 +184,11 @@ module _ (p : PlanText) (h : IsPlan p) where
 -- the document of a printed plan is its plan text's
 pub printed_document : (p : PlanText) → is_printable p ≡ true → (top : Members) × (parse_document (plan_words p) ≡ Some top) × (plan_text_of top ≡ Ok p)
 printed_document p is =
-    let h = plan_facts p is in
-    (sorted (plan_members p), read_document (plan_members p) (plan_words p) (plan_is_proper p h) (plan_lines p is),
-    ap (λ (t : Members). plan_text_of (sorted t)) (plan_is p h) ∙ plan_text_reads p h)
+    let h = plan_facts p is in (
+      sorted (plan_members p),
+      read_document (plan_members p) (plan_words p) (plan_is_proper p h) (plan_lines p is),
+      ap (λ (t : Members). plan_text_of (sorted t)) (plan_is p h) ∙ plan_text_reads p h,
+    )
 
 read_by : (p : PlanText) (text : List ℕ) (top : Members) → is_utf8 text ≡ true → parse_document text ≡ Some top → plan_text_of top ≡ Ok p → text_answer text ≡ Ok p
 read_by p text top utf8 parsed reads = rw (utf8, parsed) reads

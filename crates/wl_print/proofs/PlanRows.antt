@@ -1,5 +1,5 @@
 -- The rows of a plan's tables, and that their lines are what is printed.
-use Rattle.std.proofs.Common.{◌≡◌, ◌∙◌, refl, sym, ap, subst, ℕ, suc, ◌+◌, ◌^◌, ◌<◌, ◌≤◌, ℤ, pos, negsuc, FitsSigned, w64, Bool, true, false, not, ◌&&◌, ◌||◌, ◌==◌, nat_le, List, [], ◌∷◌, ◌++◌, codes, flat_map, length, Option, Some, None, is_some, is_none, decimal, if◌then◌else◌, inl, inr, arith, append_assoc, append-nil, leb-true, unsigned_abs}
+use Rattle.std.proofs.Common.{◌≡◌, ◌∙◌, refl, sym, ap, subst, ℕ, suc, ◌^◌, ◌<◌, ℤ, pos, negsuc, FitsSigned, w64, Bool, true, false, not, ◌&&◌, ◌||◌, ◌==◌, nat_le, List, [], ◌∷◌, ◌++◌, codes, flat_map, length, Option, Some, None, is_some, is_none, decimal, if◌then◌else◌, inl, inr, arith, append_assoc, append-nil, leb-true}
 use Rattle.std.proofs.lemmas.Bool.{and_parts, false≢true, cases_Bool}
 use Rattle.std.proofs.lemmas.Bool.Decides.{nat_tests}
 use Rattle.std.specs.Fmt.{digits, signed_decimal}
@@ -24,9 +24,9 @@ use Rattle.wl_setup.specs.Limits.{largest_byte, largest_number, largest_number-i
 use Rattle.wl_setup.specs.Names.{has_repeat, names_of}
 use Rattle.wl_setup.specs.Version.{has_controllers, has_traffic, is_known_version}
 use Rattle.wl_print.specs.Printable.{are_rates, are_segments, has_nodes, is_clock_text, is_disturbance, is_frame_text, is_node, is_number_of_key, is_positive, is_printable, is_rate, is_small_number, is_spot, is_tolerance}
-use Rattle.wl_print.specs.Written.{clock_lines, data_line, disturbance_lines, flag_line, frame_keys, frame_lines, from_line, header_line, interval_lines, is_one, is_own, lines_of_segments, name_lines, node_keys, node_lines, number_line, own_clock_lines, place_lines, plan_words, rate_clock_lines, rate_lines, rate_tables, segment_lines, spot_line, sync_word, top_lines}
+use Rattle.wl_print.specs.Written.{clock_lines, data_line, disturbance_lines, flag_line, frame_keys, frame_lines, from_line, header_line, interval_lines, is_own, lines_of_segments, name_lines, node_keys, node_lines, number_line, own_clock_lines, place_lines, plan_words, rate_clock_lines, rate_lines, rate_tables, segment_lines, spot_line, sync_word, top_lines}
 use Rattle.wl_print.proofs.Bytes.{AllBytes, byte_items}
-use Rattle.wl_print.proofs.Lines.{AreLines, IsLine, each_lines, header_turn, join_lines, one_line}
+use Rattle.wl_print.proofs.Lines.{AreLines, IsLine, header_turn, join_lines}
 use Rattle.wl_print.proofs.Tables.{AreRows, IsRow, Row, bytes_pair, bytes_text, hex_pair, name_pair, number_pair, pairs_rows, pairs_tables, row_line, sections_rows, sections_tables, signed_pair, table_lines, true_pair, value_line, with_rows, with_tables}
 
 -- ---- values
@@ -434,8 +434,17 @@ node_facts version n h =
     let (tolerance, h9) = and_parts _ _ h8 in
     let (listens, frames) = and_parts _ _ h9 in
     record {
-      name = name; offset = offset; rates = rates; bit = bit; sjw = sjw; x = x; out = out; into = into; tolerance = tolerance;
-      listens = listens; frames = frames;
+      name = name;
+      offset = offset;
+      rates = rates;
+      bit = bit;
+      sjw = sjw;
+      x = x;
+      out = out;
+      into = into;
+      tolerance = tolerance;
+      listens = listens;
+      frames = frames;
     }
 
 pub frame_are_rows : (known : Bool) (f : FrameText) → IsFrame known f → AreRows (frame_rows f)
@@ -515,10 +524,15 @@ leaf_lines : (path : List (List ℕ)) (k : List ℕ) (rows : List Row) (header t
     → AreLines (((path, k), array_table) ∷ (pairs (with_rows rows no_members) ++ sections (path ++ k ∷ []) (with_rows rows no_members))) (header ++ text)
 leaf_lines path k rows header text head h is =
     let own : AreLines (pairs (with_rows rows no_members)) (text_of rows ++ []) = pairs_rows rows no_members [] h refl in
-    let none = sections_rows rows no_members (path ++ k ∷ []) h in
-    (header, text, refl, head, subst (λ (t : List ℕ). AreLines (pairs (with_rows rows no_members) ++ sections (path ++ k ∷ []) (with_rows rows no_members)) t) (append-nil (text_of rows) ∙ is)
-    (subst (λ (es : List Expression). AreLines (pairs (with_rows rows no_members) ++ es) (text_of rows ++ [])) (sym none)
-    (subst (λ (es : List Expression). AreLines es (text_of rows ++ [])) (sym (append-nil (pairs (with_rows rows no_members)))) own)))
+    let none = sections_rows rows no_members (path ++ k ∷ []) h in (
+      header,
+      text,
+      refl,
+      head,
+      subst (λ (t : List ℕ). AreLines (pairs (with_rows rows no_members) ++ sections (path ++ k ∷ []) (with_rows rows no_members)) t) (append-nil (text_of rows) ∙ is)
+          (subst (λ (es : List Expression). AreLines (pairs (with_rows rows no_members) ++ es) (text_of rows ++ [])) (sym none)
+          (subst (λ (es : List Expression). AreLines es (text_of rows ++ [])) (sym (append-nil (pairs (with_rows rows no_members)))) own)),
+    )
 
 frame_whole : (f : FrameText) → header_line (codes "node.frame") ++ (frame_keys f ++ frame_end f) ≡ frame_lines f
 frame_whole f = simp append_assoc refl

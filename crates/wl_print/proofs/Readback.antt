@@ -1,9 +1,9 @@
 -- Tables that were printed are read as they were.
-use Rattle.std.proofs.Common.{◌≡◌, ◌∙◌, refl, sym, ap, subst, ℕ, suc, ◌<◌, ◌≤◌, ℤ, pos, Bool, true, false, not, ◌&&◌, ◌||◌, ◌==◌, nat_le, List, [], ◌∷◌, ◌++◌, map, codes, filter_map, Option, Some, None, option_map, is_some, is_none, if◌then◌else◌, arith, inl, inr, ◌⊎◌, unwrap_or}
-use Rattle.std.proofs.lemmas.Bool.{and_parts, cases_Bool, false≢true}
+use Rattle.std.proofs.Common.{◌≡◌, ◌∙◌, refl, sym, ap, ℕ, ℤ, pos, Bool, true, false, ◌&&◌, ◌||◌, ◌==◌, nat_le, List, [], ◌∷◌, codes, filter_map, Option, Some, None, option_map, is_some, is_none, if◌then◌else◌, arith, inl, inr}
+use Rattle.std.proofs.lemmas.Bool.{and_parts, false≢true}
 use Rattle.std.proofs.lemmas.Bool.Decides.{nat_tests}
-use Rattle.std.specs.List.{enumerate_from, list_all}
-use Rattle.toml.specs.Data.{Data, string, integer, boolean, array, table, Items, Members, as_table, get_member}
+use Rattle.std.specs.List.{list_all}
+use Rattle.toml.specs.Data.{Data, string, integer, boolean, array, Members, get_member}
 use Rattle.wl_setup.specs.declared.keys.Key.{Key}
 use Rattle.wl_setup.specs.declared.keys.Key.TheVariants as key
 use Rattle.wl_setup.specs.declared.keys.Kind.TheVariants as kind
@@ -12,17 +12,16 @@ use Rattle.wl_setup.specs.declared.plan_text.RateText.{RateText}
 use Rattle.wl_setup.specs.declared.plan_text.DisturbanceText.{DisturbanceText}
 use Rattle.wl_setup.specs.declared.plan_text.ClockText.{ClockText}
 use Rattle.wl_setup.specs.declared.plan_text.ClockText.TheVariants as text
-use Rattle.wl_setup.specs.Faults.{disturbance_fault, frame_fault, is_of_table, is_value_of, rate_fault, table_fault}
+use Rattle.wl_setup.specs.Faults.{is_of_table, is_value_of, rate_fault, table_fault}
 use Rattle.wl_setup.specs.Keys.{disturbance_required, frame_optional, frame_required, key_text, rate_keys_by_fraction, rate_keys_by_ppm}
 use Rattle.wl_setup.specs.Kinds.{byte_in, bytes_at, has_kind, is_name, is_ppm, list_of, number_at, number_in, positive_at, ppm_at, small_at, some_name_at, truth_at, value_at}
 use Rattle.wl_setup.specs.Limits.{largest_byte, largest_number, largest_small}
 use Rattle.wl_setup.specs.Texts.{clock_of, disturbance_of, frame_of, rate_of}
-use Rattle.wl_print.specs.Printable.{is_clock_text, is_disturbance, is_number_of_key, is_positive, is_rate, is_small_number, is_spot}
+use Rattle.wl_print.specs.Printable.{is_clock_text, is_disturbance, is_number_of_key, is_positive, is_rate, is_small_number}
 use Rattle.wl_print.proofs.Bytes.{byte_items}
-use Rattle.wl_print.proofs.Entries.{AllAllowed, AllTaken, Allowed, AreProper, Entry, Taken, all_members, all_there, are_distinct, entries_of, found, no_fault, rows_proper, seen, with_rows_is}
-use Rattle.wl_print.proofs.PlanRows.{IsFrame, bytes_of, clock_rows, disturbance_are_rows, disturbance_members, disturbance_rows, flag_of, frame_are_rows, frame_members, frame_rows, name_of, number_of, place_of, rate_are_rows, rate_members, rate_rows}
+use Rattle.wl_print.proofs.Entries.{AllAllowed, AllTaken, Allowed, Entry, Taken, all_members, all_there, entries_of, found, no_fault, rows_proper, seen, with_rows_is}
+use Rattle.wl_print.proofs.PlanRows.{IsFrame, bytes_of, disturbance_are_rows, disturbance_rows, flag_of, frame_are_rows, frame_members, frame_rows, number_of, rate_are_rows, rate_rows}
 use Rattle.wl_print.proofs.Sorted.{kept, sorted}
-use Rattle.wl_print.proofs.Tables.{bytes_text}
 
 -- ---- values that are seen
 
@@ -125,11 +124,16 @@ module _ (known : Bool) (f : FrameText) (h : IsFrame known f) where
 
   pub frame_read : frame_of frame_table ≡ f
   frame_read =
-      rw (small_seen key.Id frame_table f.id (frame_sees (codes "id")) h.id, small_seen key.Dlc frame_table f.dlc (frame_sees (codes "dlc")) h.dlc,
-      flag_seen key.Remote frame_table f.remote (frame_sees (codes "remote")), bytes_seen key.Bytes frame_table f.bytes (frame_sees (codes "bytes")) h.bytes,
-      number_seen key.Ready frame_table f.ready (frame_sees (codes "ready")) h.ready, flag_seen key.Extended frame_table f.extended (frame_sees (codes "extended")),
-      positive_seen known key.Every frame_table f.every (frame_sees (codes "every")) h.every,
-      positive_seen known key.Count frame_table f.count (frame_sees (codes "count")) h.count) refl
+      rw (
+        small_seen key.Id frame_table f.id (frame_sees (codes "id")) h.id,
+        small_seen key.Dlc frame_table f.dlc (frame_sees (codes "dlc")) h.dlc,
+        flag_seen key.Remote frame_table f.remote (frame_sees (codes "remote")),
+        bytes_seen key.Bytes frame_table f.bytes (frame_sees (codes "bytes")) h.bytes,
+        number_seen key.Ready frame_table f.ready (frame_sees (codes "ready")) h.ready,
+        flag_seen key.Extended frame_table f.extended (frame_sees (codes "extended")),
+        positive_seen known key.Every frame_table f.every (frame_sees (codes "every")) h.every,
+        positive_seen known key.Count frame_table f.count (frame_sees (codes "count")) h.count,
+      ) refl
 
   frame_counted : is_some f.count ≡ true → is_some f.every ≡ true
   frame_counted some = counted_here f.count f.every h.counted some
@@ -239,11 +243,13 @@ rate_back from (text.Rate num den) h =
     let (n, d) = and_parts (is_number_of_key num) (is_number_of_key den) clock in
     let sees = rate_sees from c h in
     let none : value_at key.Quantum t ≡ None = sees (codes "quantum") in
-    let fine = no_fault (key.From ∷ key.Num ∷ key.Den ∷ []) [] (rate_entries from c)
-    ((integer (pos from), sees (codes "from"), number_kind largest_number from a),
-    ((integer (pos num), sees (codes "num"), number_kind largest_number num n), ((integer (pos den), sees (codes "den"), number_kind largest_number den d), tt))) tt refl in
-    (rate_by_fraction t from num den none (number_seen key.From t from (sees (codes "from")) a) (number_seen key.Num t num (sees (codes "num")) n) (number_seen key.Den t den (sees (codes "den")) d),
-    fraction_fine t none fine)
+    let fine = no_fault (key.From ∷ key.Num ∷ key.Den ∷ []) [] (rate_entries from c) (
+      (integer (pos from), sees (codes "from"), number_kind largest_number from a),
+      ((integer (pos num), sees (codes "num"), number_kind largest_number num n), ((integer (pos den), sees (codes "den"), number_kind largest_number den d), tt)),
+    ) tt refl in (
+      rate_by_fraction t from num den none (number_seen key.From t from (sees (codes "from")) a) (number_seen key.Num t num (sees (codes "num")) n) (number_seen key.Den t den (sees (codes "den")) d),
+      fraction_fine t none fine,
+    )
 rate_back from (text.Ppm quantum ppm) h =
     let c = text.Ppm quantum ppm in
     let t = rate_table from c in
@@ -251,11 +257,13 @@ rate_back from (text.Ppm quantum ppm) h =
     let (n, d) = and_parts (is_number_of_key quantum) (is_ppm ppm) clock in
     let sees = rate_sees from c h in
     let some : value_at key.Quantum t ≡ Some (integer (pos quantum)) = sees (codes "quantum") in
-    let fine = no_fault (key.From ∷ key.Quantum ∷ key.Ppm ∷ []) [] (rate_entries from c)
-    ((integer (pos from), sees (codes "from"), number_kind largest_number from a),
-    ((integer (pos quantum), some, number_kind largest_number quantum n), ((integer ppm, sees (codes "ppm"), d), tt))) tt refl in
-    (rate_by_ppm t from quantum ppm (ap (λ (o : Option Data). is_some o) some) (number_seen key.From t from (sees (codes "from")) a) (number_seen key.Quantum t quantum some n) (ppm_seen key.Ppm t ppm (sees (codes "ppm"))),
-    ppm_fine t (ap (λ (o : Option Data). is_some o) some) fine)
+    let fine = no_fault (key.From ∷ key.Quantum ∷ key.Ppm ∷ []) [] (rate_entries from c) (
+      (integer (pos from), sees (codes "from"), number_kind largest_number from a),
+      ((integer (pos quantum), some, number_kind largest_number quantum n), ((integer ppm, sees (codes "ppm"), d), tt)),
+    ) tt refl in (
+      rate_by_ppm t from quantum ppm (ap (λ (o : Option Data). is_some o) some) (number_seen key.From t from (sees (codes "from")) a) (number_seen key.Quantum t quantum some n) (ppm_seen key.Ppm t ppm (sees (codes "ppm"))),
+      ppm_fine t (ap (λ (o : Option Data). is_some o) some) fine,
+    )
 
 -- ---- a disturbance
 
@@ -307,9 +315,10 @@ disturbance_back known None x from to h =
     let sees = disturbance_sees None x from to known h in
     let none : value_at key.AtNode t ≡ None = sees (codes "node") in
     let fine = no_fault (key.X ∷ key.From ∷ key.To ∷ []) [] (disturbance_entries None x from to)
-    ((integer (pos x), sees (codes "x"), number_kind largest_small x spot), ((integer (pos from), sees (codes "from"), number_kind largest_number from a), ((integer (pos to), sees (codes "to"), number_kind largest_number to b), tt))) tt refl in
-    (disturbance_by t None x from to (some_name_none key.AtNode t none) (small_seen key.X t x (sees (codes "x")) spot) (number_seen key.From t from (sees (codes "from")) a) (number_seen key.To t to (sees (codes "to")) b),
-    spot_fine known false t (ap (λ (o : Option Data). known && is_some o) none ∙ and_false known) fine)
+    ((integer (pos x), sees (codes "x"), number_kind largest_small x spot), ((integer (pos from), sees (codes "from"), number_kind largest_number from a), ((integer (pos to), sees (codes "to"), number_kind largest_number to b), tt))) tt refl in (
+      disturbance_by t None x from to (some_name_none key.AtNode t none) (small_seen key.X t x (sees (codes "x")) spot) (number_seen key.From t from (sees (codes "from")) a) (number_seen key.To t to (sees (codes "to")) b),
+      spot_fine known false t (ap (λ (o : Option Data). known && is_some o) none ∙ and_false known) fine,
+    )
 disturbance_back false (Some name) x from to h = absurd (false≢true h)
 disturbance_back true (Some name) x from to h =
     let t = disturbance_table (Some name) x from to in
@@ -321,6 +330,7 @@ disturbance_back true (Some name) x from to h =
     let some : value_at key.AtNode t ≡ Some (string name) = sees (codes "node") in
     let none : value_at key.X t ≡ None = sees (codes "x") in
     let fine = no_fault (key.AtNode ∷ key.From ∷ key.To ∷ []) [] (disturbance_entries (Some name) x from to)
-    ((string name, some, named), ((integer (pos from), sees (codes "from"), number_kind largest_number from a), ((integer (pos to), sees (codes "to"), number_kind largest_number to b), tt))) tt refl in
-    (disturbance_by t (Some name) x from to (some_name_seen key.AtNode t name some) (small_none key.X t none ∙ sym zero) (number_seen key.From t from (sees (codes "from")) a) (number_seen key.To t to (sees (codes "to")) b),
-    spot_fine true true t (ap (λ (o : Option Data). is_some o) some) fine)
+    ((string name, some, named), ((integer (pos from), sees (codes "from"), number_kind largest_number from a), ((integer (pos to), sees (codes "to"), number_kind largest_number to b), tt))) tt refl in (
+      disturbance_by t (Some name) x from to (some_name_seen key.AtNode t name some) (small_none key.X t none ∙ sym zero) (number_seen key.From t from (sees (codes "from")) a) (number_seen key.To t to (sees (codes "to")) b),
+      spot_fine true true t (ap (λ (o : Option Data). is_some o) some) fine,
+    )

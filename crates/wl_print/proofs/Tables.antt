@@ -1,19 +1,17 @@
 -- Tables that are printed: rows of keys and values, and arrays of tables.
-use Rattle.std.proofs.Common.{◌≡◌, ◌∙◌, refl, sym, ap, subst, ℕ, suc, ◌+◌, ◌^◌, ◌<◌, ◌≤◌, ℤ, pos, FitsSigned, w64, Bool, true, false, not, ◌&&◌, ◌||◌, ◌==◌, List, [], ◌∷◌, ◌++◌, map, length, codes, flat_map, Option, Some, None, option_map, decimal, if◌then◌else◌, arith, append_assoc, append-nil}
+use Rattle.std.proofs.Common.{◌≡◌, ◌∙◌, refl, sym, ap, subst, ℕ, ◌^◌, ◌<◌, ℤ, pos, FitsSigned, w64, Bool, true, false, ◌==◌, List, [], ◌∷◌, ◌++◌, codes, flat_map, Option, Some, None, decimal, if◌then◌else◌, arith, append_assoc}
 use Rattle.std.proofs.lemmas.Bool.{and_parts}
 use Rattle.std.proofs.lemmas.Bool.Decides.{nat_tests}
 use Rattle.std.specs.Fmt.{signed_decimal}
 use Rattle.std.specs.List.{list_all, list_any}
-use Rattle.toml_parser.specs.Lexical.{is_non_eol}
 use Rattle.toml_parser.specs.Strings.{Key}
-use Rattle.toml_writer.specs.Text.{encoding_of, encoded, basic, escaped, has, is_control, key_text, needs_escape, quotes_after, string_text}
-use Rattle.toml.specs.Data.{Data, string, integer, boolean, array, table, Items, no_items, item, Members, no_members, member, depth, items_depth}
-use Rattle.toml.specs.View.{items_of}
+use Rattle.toml_writer.specs.Text.{encoding_of, basic, escaped, is_control, key_text, needs_escape, quotes_after, string_text}
+use Rattle.toml.specs.Data.{Data, string, integer, boolean, array, table, Items, no_items, item, Members, member}
 use Rattle.toml.specs.Tables.{Expression, array_table}
-use Rattle.toml.specs.Text.{IsLineText, are_tables, elements, is_section, pairs, section, sections}
+use Rattle.toml.specs.Text.{are_tables, elements, is_section, pairs, section, sections}
 use Rattle.wl_setup.specs.Kinds.{is_name_letter}
 use Rattle.wl_print.proofs.Bytes.{AllBytes, byte_items, byte_text, bytes_value}
-use Rattle.wl_print.proofs.Lines.{AreLines, IsLine, IsValue, each_lines, header_turn, join_lines, one_line, pair_line, printed_value, word_value_of}
+use Rattle.wl_print.proofs.Lines.{AreLines, IsValue, pair_line, printed_value, word_value_of}
 use Rattle.wl_print.proofs.Sorted.{is_proper_data, is_proper_items}
 use Rattle.wl_print.proofs.Words.{IsWord-hex}
 use Rattle.std.specs.Fmt.{digits}

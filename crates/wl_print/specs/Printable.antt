@@ -1,5 +1,5 @@
 -- What a plan text has to keep to, so that it is read as it is printed: the bounds of its keys, and the keys of its version (this project's profile).
-use Rattle.std.specs.Prelude.{◌≡◌, ◌≤◌, ℕ, ◌==◌, ◌&&◌, ◌||◌, not, nat_le, Bool, true, false, List, [], ◌∷◌, length, Option, Some, None, is_some, is_none, Result, Ok}
+use Rattle.std.specs.Prelude.{◌≡◌, ℕ, ◌==◌, ◌&&◌, ◌||◌, not, nat_le, Bool, true, false, List, [], ◌∷◌, Option, Some, None, is_some, is_none, Ok}
 use Rattle.std.specs.List.{list_all}
 use Rattle.toml.specs.Data.{Members}
 use Rattle.toml.specs.Parse.{parse_document}
@@ -18,7 +18,7 @@ use Rattle.wl_setup.specs.Limits.{largest_byte, largest_number, largest_small, l
 use Rattle.wl_setup.specs.Names.{has_repeat, names_of}
 use Rattle.wl_setup.specs.Reading.{text_answer}
 use Rattle.wl_setup.specs.Version.{has_controllers, has_traffic, is_known_version}
-use Rattle.wl_print.specs.Written.{is_one, is_own, plan_words}
+use Rattle.wl_print.specs.Written.{is_one, plan_words}
 
 abbrev pub is_number_of_key : ℕ → Bool
 is_number_of_key n = nat_le n largest_number

@@ -1,5 +1,5 @@
 -- A plan text as TOML, key by key (this project's profile; the keys are those of a plan's text).
-use Rattle.std.specs.Prelude.{ℕ, ◌/◌, ◌%◌, ◌==◌, ◌&&◌, ◌||◌, Bool, true, false, List, [], ◌∷◌, ◌++◌, codes, Option, Some, None, if◌then◌else◌}
+use Rattle.std.specs.Prelude.{◌≡◌, String, string_bytes, ℕ, ◌/◌, ◌%◌, ◌==◌, ◌&&◌, ◌||◌, Bool, true, false, List, [], ◌∷◌, ◌++◌, codes, Option, Some, None, if◌then◌else◌}
 use Rattle.std.specs.List.{flat_map}
 use Rattle.std.specs.Fmt.{decimal, digits, digit_glyph, signed_decimal}
 use Rattle.wl_segments.specs.declared.SyncRules.{SyncRules}
@@ -13,6 +13,10 @@ use Rattle.wl_setup.specs.declared.plan_text.ClockText.{ClockText}
 use Rattle.wl_setup.specs.declared.plan_text.ClockText.TheVariants as text
 use Rattle.wl_setup.specs.declared.plan_text.SegmentsText.{SegmentsText}
 use Rattle.wl_setup.specs.declared.plan_text.SegmentsText.TheVariants as segments
+
+-- a text has these bytes more, at its end
+abbrev pub HasAdded : {Z : Type 0} → String Z → String Z → List ℕ → Type 0
+HasAdded old new more = string_bytes new ≡ string_bytes old ++ more
 
 abbrev pub sync_word : SyncRules → List ℕ
 sync_word sync.After = codes "after"

@@ -5,5 +5,4 @@ ghost use Rattle.wl_print.specs.Printable.{PrintedIsRead};
 /// document, and its plan text is the one that was printed: the same version, each key's value, and the default of each key that is left out.
 pub fn printed_is_read()
     ensures { PrintedIsRead }
-{
-}
+{}

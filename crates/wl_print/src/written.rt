@@ -1,9 +1,8 @@
 //! A plan text as TOML.
 ghost use Rattle.std.specs.Prelude.{◌≡◌, IfOk, OnOk, string_bytes};
 ghost use Rattle.std.specs.List.{flat_map};
-ghost use Rattle.wl_report.specs.Lines.{GrowsBy};
 ghost use Rattle.wl_print.specs.Printable.{PrintsBack};
-ghost use Rattle.wl_print.specs.Written.{byte_words, clock_lines, data_line, disturbance_lines, flag_line, frame_keys, frame_lines, from_line, header_line, interval_lines, is_one, is_own, later_words, name_lines, node_keys, node_lines, number_line, own_clock_lines, place_lines, plan_words, rate_clock_lines, rate_lines, rate_tables, segment_lines, spot_line, sync_word, top_lines};
+ghost use Rattle.wl_print.specs.Written.{HasAdded, byte_words, clock_lines, data_line, disturbance_lines, flag_line, frame_keys, frame_lines, from_line, header_line, interval_lines, is_one, is_own, later_words, name_lines, node_keys, node_lines, number_line, own_clock_lines, place_lines, plan_words, rate_clock_lines, rate_lines, rate_tables, segment_lines, spot_line, sync_word, top_lines};
 
 use crate::laws::printed_is_read;
 use std::alloc::{AllocError, Global};
@@ -25,7 +24,7 @@ fn sync_word(sync: SyncRules) -> &'static str
 /// Adds the keys of the top table.
 #[tactic(auto, unfolding(crate::specs::Written::top_lines))]
 fn push_top(text: &mut String, plan: &PlanText) -> Result<(), AllocError>
-    ensures { OnOk result (GrowsBy text.old text.new (top_lines plan.now)) }
+    ensures { OnOk result (HasAdded text.old text.new (top_lines plan.now)) }
 {
     let (version, end, per) = (plan.version, plan.end, plan.per);
     let sync = sync_word(plan.sync);
@@ -38,7 +37,7 @@ fn push_top(text: &mut String, plan: &PlanText) -> Result<(), AllocError>
 /// Adds the two keys of a clock.
 #[tactic(auto, unfolding(crate::specs::Written::clock_lines))]
 fn push_clock(text: &mut String, clock: ClockText) -> Result<(), AllocError>
-    ensures { OnOk result (GrowsBy text.old text.new (clock_lines clock)) }
+    ensures { OnOk result (HasAdded text.old text.new (clock_lines clock)) }
 {
     match clock {
         ClockText::Rate { num, den } => write!(text, "num = {num}\nden = {den}\n"),
@@ -52,7 +51,7 @@ fn push_clock(text: &mut String, clock: ClockText) -> Result<(), AllocError>
 /// Adds the line that begins a table.
 #[tactic(auto, unfolding(crate::specs::Written::header_line))]
 fn push_header(text: &mut String, name: &str) -> Result<(), AllocError>
-    ensures { OnOk result (GrowsBy text.old text.new (header_line name.now)) }
+    ensures { OnOk result (HasAdded text.old text.new (header_line name.now)) }
 {
     write!(text, "\n[[{name}]]\n")
 }
@@ -60,14 +59,14 @@ fn push_header(text: &mut String, name: &str) -> Result<(), AllocError>
 /// Adds the quantum from which on a rate is.
 #[tactic(auto, unfolding(crate::specs::Written::from_line))]
 fn push_from(text: &mut String, from: u64) -> Result<(), AllocError>
-    ensures { OnOk result (GrowsBy text.old text.new (from_line from)) }
+    ensures { OnOk result (HasAdded text.old text.new (from_line from)) }
 {
     write!(text, "from = {from}\n")
 }
 
 /// Adds a rate's table.
 fn push_rate(text: &mut String, rate: &RateText) -> Result<(), AllocError>
-    ensures { OnOk result (GrowsBy text.old text.new (rate_lines rate.now)) }
+    ensures { OnOk result (HasAdded text.old text.new (rate_lines rate.now)) }
 {
     push_header(text, "node.rates")?;
     push_from(text, rate.from)?;
@@ -76,7 +75,7 @@ fn push_rate(text: &mut String, rate: &RateText) -> Result<(), AllocError>
 
 /// Adds the tables of rates.
 fn push_rates(text: &mut String, rates: &[RateText]) -> Result<(), AllocError>
-    ensures { OnOk result (GrowsBy text.old text.new (flat_map rate_lines rates.now)) }
+    ensures { OnOk result (HasAdded text.old text.new (flat_map rate_lines rates.now)) }
 {
     for rate in rates {
         push_rate(text, rate)?;
@@ -86,7 +85,7 @@ fn push_rates(text: &mut String, rates: &[RateText]) -> Result<(), AllocError>
 
 /// Adds the clock keys of rates whose tables aren't written.
 fn push_clocks(text: &mut String, rates: &[RateText]) -> Result<(), AllocError>
-    ensures { OnOk result (GrowsBy text.old text.new (flat_map rate_clock_lines rates.now)) }
+    ensures { OnOk result (HasAdded text.old text.new (flat_map rate_clock_lines rates.now)) }
 {
     for rate in rates {
         push_clock(text, rate.clock)?;
@@ -97,7 +96,7 @@ fn push_clocks(text: &mut String, rates: &[RateText]) -> Result<(), AllocError>
 /// Adds the keys of a node's segments.
 #[tactic(auto, unfolding(crate::specs::Written::segment_lines))]
 fn push_segments(text: &mut String, node: &NodeText) -> Result<(), AllocError>
-    ensures { OnOk result (GrowsBy text.old text.new (segment_lines node.now)) }
+    ensures { OnOk result (HasAdded text.old text.new (segment_lines node.now)) }
 {
     let sjw = node.sjw;
     match node.segments {
@@ -114,7 +113,7 @@ fn push_segments(text: &mut String, node: &NodeText) -> Result<(), AllocError>
 /// Adds the keys of a node's place.
 #[tactic(auto, unfolding(crate::specs::Written::place_lines))]
 fn push_place(text: &mut String, node: &NodeText) -> Result<(), AllocError>
-    ensures { OnOk result (GrowsBy text.old text.new (place_lines node.now)) }
+    ensures { OnOk result (HasAdded text.old text.new (place_lines node.now)) }
 {
     let (x, out, into) = (node.x, node.out_delay, node.in_delay);
     write!(text, "x = {x}\nout = {out}\nin = {into}\n")
@@ -123,7 +122,7 @@ fn push_place(text: &mut String, node: &NodeText) -> Result<(), AllocError>
 /// Adds a key with a number, if there is one.
 #[tactic(auto, unfolding(crate::specs::Written::number_line))]
 fn push_number(text: &mut String, key: &str, number: Option<u64>) -> Result<(), AllocError>
-    ensures { OnOk result (GrowsBy text.old text.new (number_line key.now number)) }
+    ensures { OnOk result (HasAdded text.old text.new (number_line key.now number)) }
 {
     match number {
         Some(number) => write!(text, "{key} = {number}\n"),
@@ -144,14 +143,14 @@ fn widened(tolerance: Option<u32>) -> Option<u64>
 /// Adds a byte in two hexadecimal digits.
 #[tactic(auto, using(std::proofs::lemmas::Fmt::hex_byte))]
 fn push_byte(text: &mut String, byte: u8) -> Result<(), AllocError>
-    ensures { OnOk result (GrowsBy text.old text.new (byte_words byte)) }
+    ensures { OnOk result (HasAdded text.old text.new (byte_words byte)) }
 {
     write!(text, "0x{byte:02x}")
 }
 
 /// Adds a byte after others.
 fn push_later(text: &mut String, byte: u8) -> Result<(), AllocError>
-    ensures { OnOk result (GrowsBy text.old text.new (later_words byte)) }
+    ensures { OnOk result (HasAdded text.old text.new (later_words byte)) }
 {
     text.push_str(", ")?;
     push_byte(text, byte)
@@ -159,7 +158,7 @@ fn push_later(text: &mut String, byte: u8) -> Result<(), AllocError>
 
 /// Adds bytes after others.
 fn push_later_bytes(text: &mut String, bytes: &[u8]) -> Result<(), AllocError>
-    ensures { OnOk result (GrowsBy text.old text.new (flat_map later_words bytes.now)) }
+    ensures { OnOk result (HasAdded text.old text.new (flat_map later_words bytes.now)) }
 {
     for byte in bytes {
         push_later(text, *byte)?;
@@ -170,7 +169,7 @@ fn push_later_bytes(text: &mut String, bytes: &[u8]) -> Result<(), AllocError>
 /// Adds the key of a frame's data, if it has any.
 #[tactic(auto, unfolding(crate::specs::Written::data_line))]
 fn push_data(text: &mut String, bytes: &[u8]) -> Result<(), AllocError>
-    ensures { OnOk result (GrowsBy text.old text.new (data_line bytes.now)) }
+    ensures { OnOk result (HasAdded text.old text.new (data_line bytes.now)) }
 {
     match bytes {
         [] => Ok(()),
@@ -186,7 +185,7 @@ fn push_data(text: &mut String, bytes: &[u8]) -> Result<(), AllocError>
 /// Adds a key that is false if it is left out.
 #[tactic(auto, unfolding(crate::specs::Written::flag_line))]
 fn push_flag(text: &mut String, key: &str, is_set: bool) -> Result<(), AllocError>
-    ensures { OnOk result (GrowsBy text.old text.new (flag_line key.now is_set)) }
+    ensures { OnOk result (HasAdded text.old text.new (flag_line key.now is_set)) }
 {
     if is_set {
         write!(text, "{key} = true\n")
@@ -198,7 +197,7 @@ fn push_flag(text: &mut String, key: &str, is_set: bool) -> Result<(), AllocErro
 /// Adds the keys of a frame that are numbers.
 #[tactic(auto, unfolding(crate::specs::Written::frame_keys))]
 fn push_frame_keys(text: &mut String, frame: &FrameText) -> Result<(), AllocError>
-    ensures { OnOk result (GrowsBy text.old text.new (frame_keys frame.now)) }
+    ensures { OnOk result (HasAdded text.old text.new (frame_keys frame.now)) }
 {
     let (id, dlc, ready) = (frame.id, frame.dlc, frame.ready);
     write!(text, "id = 0x{id:x}\ndlc = {dlc}\nready = {ready}\n")
@@ -206,7 +205,7 @@ fn push_frame_keys(text: &mut String, frame: &FrameText) -> Result<(), AllocErro
 
 /// Adds the table of a frame.
 fn push_frame(text: &mut String, frame: &FrameText) -> Result<(), AllocError>
-    ensures { OnOk result (GrowsBy text.old text.new (frame_lines frame.now)) }
+    ensures { OnOk result (HasAdded text.old text.new (frame_lines frame.now)) }
 {
     push_header(text, "node.frame")?;
     push_frame_keys(text, frame)?;
@@ -219,7 +218,7 @@ fn push_frame(text: &mut String, frame: &FrameText) -> Result<(), AllocError>
 
 /// Adds the tables of frames.
 fn push_frames(text: &mut String, frames: &[FrameText]) -> Result<(), AllocError>
-    ensures { OnOk result (GrowsBy text.old text.new (flat_map frame_lines frames.now)) }
+    ensures { OnOk result (HasAdded text.old text.new (flat_map frame_lines frames.now)) }
 {
     for frame in frames {
         push_frame(text, frame)?;
@@ -247,7 +246,7 @@ fn is_own(version: u64, rates: &[RateText]) -> bool
 
 /// Adds the clock keys of a node, if they are its own.
 fn push_own_clocks(text: &mut String, version: u64, rates: &[RateText]) -> Result<(), AllocError>
-    ensures { OnOk result (GrowsBy text.old text.new (own_clock_lines version rates.now)) }
+    ensures { OnOk result (HasAdded text.old text.new (own_clock_lines version rates.now)) }
 {
     if is_own(version, rates) {
         push_clocks(text, rates)
@@ -258,7 +257,7 @@ fn push_own_clocks(text: &mut String, version: u64, rates: &[RateText]) -> Resul
 
 /// Adds the tables of a node's rates, if its clock keys aren't its own.
 fn push_rate_tables(text: &mut String, version: u64, rates: &[RateText]) -> Result<(), AllocError>
-    ensures { OnOk result (GrowsBy text.old text.new (rate_tables version rates.now)) }
+    ensures { OnOk result (HasAdded text.old text.new (rate_tables version rates.now)) }
 {
     if is_own(version, rates) {
         Ok(())
@@ -270,7 +269,7 @@ fn push_rate_tables(text: &mut String, version: u64, rates: &[RateText]) -> Resu
 /// Adds the name and the offset of a node.
 #[tactic(auto, unfolding(crate::specs::Written::name_lines))]
 fn push_name(text: &mut String, node: &NodeText) -> Result<(), AllocError>
-    ensures { OnOk result (GrowsBy text.old text.new (name_lines node.now)) }
+    ensures { OnOk result (HasAdded text.old text.new (name_lines node.now)) }
 {
     let (name, offset) = (node.name.as_str(), node.offset);
     write!(text, "name = \"{name}\"\noffset = {offset}\n")
@@ -279,7 +278,7 @@ fn push_name(text: &mut String, node: &NodeText) -> Result<(), AllocError>
 /// Adds the keys of a node's own table.
 #[tactic(auto, unfolding(crate::specs::Written::node_keys))]
 fn push_node_keys(text: &mut String, version: u64, node: &NodeText) -> Result<(), AllocError>
-    ensures { OnOk result (GrowsBy text.old text.new (node_keys version node.now)) }
+    ensures { OnOk result (HasAdded text.old text.new (node_keys version node.now)) }
 {
     push_name(text, node)?;
     push_own_clocks(text, version, node.rates.as_slice())?;
@@ -291,7 +290,7 @@ fn push_node_keys(text: &mut String, version: u64, node: &NodeText) -> Result<()
 
 /// Adds the table of a node, with those of its rates and frames.
 fn push_node(text: &mut String, version: u64, node: &NodeText) -> Result<(), AllocError>
-    ensures { OnOk result (GrowsBy text.old text.new (node_lines version node.now)) }
+    ensures { OnOk result (HasAdded text.old text.new (node_lines version node.now)) }
 {
     push_header(text, "node")?;
     push_node_keys(text, version, node)?;
@@ -301,7 +300,7 @@ fn push_node(text: &mut String, version: u64, node: &NodeText) -> Result<(), All
 
 /// Adds the tables of nodes.
 fn push_nodes(text: &mut String, version: u64, nodes: &[NodeText]) -> Result<(), AllocError>
-    ensures { OnOk result (GrowsBy text.old text.new (flat_map (node_lines version) nodes.now)) }
+    ensures { OnOk result (HasAdded text.old text.new (flat_map (node_lines version) nodes.now)) }
 {
     for node in nodes {
         push_node(text, version, node)?;
@@ -312,7 +311,7 @@ fn push_nodes(text: &mut String, version: u64, nodes: &[NodeText]) -> Result<(),
 /// Adds where a disturbance is: at one node, or at a place on the cable.
 #[tactic(auto, unfolding(crate::specs::Written::spot_line))]
 fn push_spot(text: &mut String, node: &Option<Text>, x: u32) -> Result<(), AllocError>
-    ensures { OnOk result (GrowsBy text.old text.new (spot_line node.now x)) }
+    ensures { OnOk result (HasAdded text.old text.new (spot_line node.now x)) }
 {
     match node {
         Some(name) => {
@@ -326,7 +325,7 @@ fn push_spot(text: &mut String, node: &Option<Text>, x: u32) -> Result<(), Alloc
 /// Adds from when to when a disturbance is.
 #[tactic(auto, unfolding(crate::specs::Written::interval_lines))]
 fn push_interval(text: &mut String, disturbance: &DisturbanceText) -> Result<(), AllocError>
-    ensures { OnOk result (GrowsBy text.old text.new (interval_lines disturbance.now)) }
+    ensures { OnOk result (HasAdded text.old text.new (interval_lines disturbance.now)) }
 {
     let (from, to) = (disturbance.from, disturbance.to);
     write!(text, "from = {from}\nto = {to}\n")
@@ -334,7 +333,7 @@ fn push_interval(text: &mut String, disturbance: &DisturbanceText) -> Result<(),
 
 /// Adds the table of a disturbance.
 fn push_disturbance(text: &mut String, disturbance: &DisturbanceText) -> Result<(), AllocError>
-    ensures { OnOk result (GrowsBy text.old text.new (disturbance_lines disturbance.now)) }
+    ensures { OnOk result (HasAdded text.old text.new (disturbance_lines disturbance.now)) }
 {
     push_header(text, "disturbance")?;
     push_spot(text, &disturbance.node, disturbance.x)?;
@@ -343,7 +342,7 @@ fn push_disturbance(text: &mut String, disturbance: &DisturbanceText) -> Result<
 
 /// Adds the tables of disturbances.
 fn push_disturbances(text: &mut String, disturbances: &[DisturbanceText]) -> Result<(), AllocError>
-    ensures { OnOk result (GrowsBy text.old text.new (flat_map disturbance_lines disturbances.now)) }
+    ensures { OnOk result (HasAdded text.old text.new (flat_map disturbance_lines disturbances.now)) }
 {
     for disturbance in disturbances {
         push_disturbance(text, disturbance)?;
@@ -353,7 +352,7 @@ fn push_disturbances(text: &mut String, disturbances: &[DisturbanceText]) -> Res
 
 /// Adds a plan text as TOML, key by key in the order of the format. Refused only when out of memory.
 pub fn push_plan(text: &mut String, plan: &PlanText) -> Result<(), AllocError>
-    ensures { OnOk result (GrowsBy text.old text.new (plan_words plan.now)) }
+    ensures { OnOk result (HasAdded text.old text.new (plan_words plan.now)) }
 {
     push_top(text, plan)?;
     push_nodes(text, plan.version, plan.node.as_slice())?;
