@@ -1,5 +1,5 @@
 -- Runs of workers.
-use Rattle.std.proofs.Common.{◌≡◌, ℕ, List, Result, Ok, Err, sym, subst}
+use Rattle.std.proofs.Common.{◌≡◌, ℕ, Bool, List, Result, Ok, Err, sym, subst}
 use Rattle.std.specs.Prelude.{IfErr, IfOk, MatchResult, Vec}
 use Rattle.wl_device.specs.Devices.{Answer}
 use Rattle.wl_plan.specs.declared.plan.Plan.{Plan}
@@ -7,13 +7,13 @@ use Rattle.wl_setup.specs.Plans.{GivesPlan}
 use Rattle.wl_engines.specs.declared.fault.RunFault.{RunFault}
 use Rattle.wl_engines.specs.declared.fault.RunFault.TheVariants as run
 use Rattle.wl_engines.specs.Output.{WritesText}
-use Rattle.wl_engines.specs.Plans.{IsRunOutput}
-use Rattle.wl_engines.specs.Workers.{CanWork, IsWorkFault, RunsByWorkers}
+use Rattle.wl_engines.specs.Plans.{IsReportOutput}
+use Rattle.wl_engines.specs.Workers.{CanWork, IsWorkFault, RunsByWorkersAs}
 
-module _ {S T : Type 0} (gives : S → Answer → S → Type 0) (takes : T → Answer → T → Type 0) (workers : ℕ) (s s' : S) (t t' : T) where
+module _ {S T : Type 0} (gives : S → Answer → S → Type 0) (takes : T → Answer → T → Type 0) (brief : Bool) (workers : ℕ) (s s' : S) (t t' : T) where
   -- the workers came to no outcome
   ended : (plan : Plan) (names : List (List ℕ)) → GivesPlan gives s (Ok (plan, names)) s' → (fault : RunFault) → IsWorkFault workers fault
-      → t' ≡ t → RunsByWorkers gives takes workers s s' t t' (Err fault)
+      → t' ≡ t → RunsByWorkersAs gives takes brief workers s s' t t' (Err fault)
   ended plan names given (run.Work fault) h same = ((h, plan, names, given), same)
   ended plan names given run.Memory h same = same
   ended plan names given run.Write h same = absurd h
@@ -22,10 +22,10 @@ module _ {S T : Type 0} (gives : S → Answer → S → Type 0) (takes : T → A
 
   -- the report of the workers went out, or there is none
   pub runs_work : {Z : Type 0} (plan : Plan) (names : List (List ℕ)) → GivesPlan gives s (Ok (plan, names)) s'
-      → (made : Result (Vec ℕ Z) RunFault) → IfOk made (λ text. IsRunOutput plan names text.items) → IfOk made (λ text. CanWork workers)
+      → (made : Result (Vec ℕ Z) RunFault) → IfOk made (λ text. IsReportOutput brief plan names text.items) → IfOk made (λ text. CanWork workers)
       → IfErr made (IsWorkFault workers) → (r : Result (Unit {0}) RunFault)
       → MatchResult made (λ text. WritesText takes text.items t t' r) (λ fault. (r ≡ Err fault) × (t' ≡ t))
-      → RunsByWorkers gives takes workers s s' t t' r
+      → RunsByWorkersAs gives takes brief workers s s' t t' r
   runs_work plan names given (Ok text) is can fault (Ok u) wrote = (can, (plan, names, text.items, given, is, wrote))
   runs_work plan names given (Ok text) is can fault (Err run.Write) wrote = (wrote.0, (can, (plan, names, text.items, given, is, wrote.1)))
   runs_work plan names given (Ok text) is can fault (Err run.Memory) wrote = absurd wrote
@@ -33,4 +33,4 @@ module _ {S T : Type 0} (gives : S → Answer → S → Type 0) (takes : T → A
   runs_work plan names given (Ok text) is can fault (Err (run.Setup other)) wrote = absurd wrote
   runs_work plan names given (Ok text) is can fault (Err (run.Work other)) wrote = absurd wrote
   runs_work plan names given (Err e) is can fault r none =
-      subst (λ (r : Result (Unit {0}) RunFault). RunsByWorkers gives takes workers s s' t t' r) (sym none.0) (ended plan names given e fault none.1)
+      subst (λ (r : Result (Unit {0}) RunFault). RunsByWorkersAs gives takes brief workers s s' t t' r) (sym none.0) (ended plan names given e fault none.1)

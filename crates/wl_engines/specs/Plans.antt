@@ -1,51 +1,97 @@
 -- Runs over a plan's text: the plan is read, and what it means goes out (this project's profile).
-use Rattle.std.specs.Prelude.{◌≡◌, ◌≢◌, ℕ, List, All, Result, Ok, Err}
+use Rattle.std.specs.Prelude.{◌≡◌, ◌≢◌, ℕ, Bool, true, false, List, [], map, All, None, Result, Ok, Err}
+use Rattle.std.specs.List.{filter}
 use Rattle.wl_device.specs.Devices.{Answer, Writes}
 use Rattle.wl_device.specs.declared.device.WriteFault.{WriteFault}
+use Rattle.wl_record_core.specs.declared.record.Record.{Record}
+use Rattle.wl_record_core.specs.declared.record.Record.TheVariants.{Edge, Clash, Silence}
 use Rattle.wl_record_core.specs.Text.{text_of}
 use Rattle.wl_limits.specs.declared.Limits.{Limits}
 use Rattle.wl_record_core.specs.Within.{IsWide, IsWithinBy}
 use Rattle.wl_plan.specs.declared.plan.Plan.{Plan}
 use Rattle.wl_plan.specs.Checked.{IsPlanWithin}
 use Rattle.wl_plan.specs.PlanLine.{IsTrueOfPlan}
+use Rattle.wl_serial.specs.declared.outcome.NodeTotals.{NodeTotals}
 use Rattle.wl_serial.specs.Outcome.{outcome_of, totals_of}
 use Rattle.wl_serial.specs.Records.{outcome_records}
 use Rattle.wl_report.specs.Report.{report_text}
 use Rattle.wl_views.specs.declared.tick.Tick.{Tick}
 use Rattle.wl_views.specs.Candump.{log_text}
 use Rattle.wl_views.specs.Vcd.{vcd_text}
-use Rattle.wl_views.specs.TraceText.{trace_text}
+use Rattle.wl_views.specs.declared.pick.Pick.{Pick}
+use Rattle.wl_views.specs.Picks.{picked_text}
+use Rattle.wl_views.specs.declared.window.Window.{Window}
+use Rattle.wl_views.specs.Windows.{is_within}
 use Rattle.wl_setup.specs.declared.fault.SetupFault.TheVariants as setup
 use Rattle.wl_setup.specs.Plans.{GivesPlan}
 use Rattle.wl_engines.specs.declared.fault.RunFault.{RunFault}
 use Rattle.wl_engines.specs.declared.fault.RunFault.TheVariants.{Setup}
 use Rattle.wl_engines.specs.Ran.{Ran}
 
--- the records of the one-thread simulation, as text
-abbrev pub records_text : Plan → List ℕ
-records_text plan = text_of (outcome_records (outcome_of plan))
+-- the window that has each tick
+abbrev pub whole : Window
+whole = record { from = 0; to = None }
+
+-- the tick of a record: that of a change, or that below which a node is silent; 0 of a clash, which no simulation has
+abbrev pub record_tick : Record → ℕ
+record_tick (Edge node seq tick) = tick
+record_tick (Clash node seq) = 0
+record_tick (Silence node count until) = until
+
+-- the records of the one-thread simulation that are within a window, in their order
+abbrev pub records_within : Window → Plan → List Record
+records_within window plan = filter (λ told. is_within window (record_tick told)) (outcome_records (outcome_of plan))
+
+-- as text
+abbrev pub records_text : Window → Plan → List ℕ
+records_text window plan = text_of (records_within window plan)
 
 -- all of them are true of the plan and within the wide limits of records; those of a plan within narrower limits are within these
+abbrev pub IsRecordsWithin : Window → Plan → List (List ℕ) → List ℕ → Type 0
+IsRecordsWithin window plan names text =
+    (text ≡ records_text window plan) × All (λ told. IsTrueOfPlan plan told × IsWide told) (records_within window plan)
+    × ((limits : Limits) (queued : ℕ) → IsPlanWithin limits queued plan → All (λ told. IsWithinBy limits told) (records_within window plan))
+
+-- all records
 abbrev pub IsRecordsOutput : Plan → List (List ℕ) → List ℕ → Type 0
-IsRecordsOutput plan names text =
-    (text ≡ records_text plan) × All (λ told. IsTrueOfPlan plan told × IsWide told) (outcome_records (outcome_of plan))
-    × ((limits : Limits) (queued : ℕ) → IsPlanWithin limits queued plan → All (λ told. IsWithinBy limits told) (outcome_records (outcome_of plan)))
+IsRecordsOutput = IsRecordsWithin whole
 
 -- the report of the one-thread simulation
 abbrev pub IsRunOutput : Plan → List (List ℕ) → List ℕ → Type 0
 IsRunOutput plan names text = text ≡ report_text (totals_of (outcome_of plan))
 
--- the log of the frames that the one-thread simulation sends, at ticks that last so long, the first of them at this second
+-- what a report says of a node through which no frame passed
+abbrev pub without_frames : NodeTotals → NodeTotals
+without_frames n = record n { frames = [] }
+
+-- what a report says of all nodes, or, if it is to be brief, the same as if no frame had passed
+abbrev pub shown_totals : (brief : Bool) → List NodeTotals → List NodeTotals
+shown_totals false totals = totals
+shown_totals true totals = map without_frames totals
+
+-- the report, or, if it is to be brief, the report without the lines of frames
+abbrev pub IsReportOutput : (brief : Bool) → Plan → List (List ℕ) → List ℕ → Type 0
+IsReportOutput brief plan names text = text ≡ report_text (shown_totals brief (totals_of (outcome_of plan)))
+
+-- the log of the frames that the one-thread simulation sends within a window, at ticks that last so long, if tick 0 is at this second
+abbrev pub IsCandumpWithin : Tick → ℕ → Window → Plan → List (List ℕ) → List ℕ → Type 0
+IsCandumpWithin tick from window plan names text = text ≡ log_text tick from window plan
+
+-- of all frames
 abbrev pub IsCandumpOutput : Tick → ℕ → Plan → List (List ℕ) → List ℕ → Type 0
-IsCandumpOutput tick from plan names text = text ≡ log_text tick from plan
+IsCandumpOutput tick from = IsCandumpWithin tick from whole
 
 -- the waveform of the one-thread simulation, at ticks that last so long, under the names of the nodes
 abbrev pub IsVcdOutput : Tick → Plan → List (List ℕ) → List ℕ → Type 0
 IsVcdOutput tick plan names text = text ≡ vcd_text tick plan names
 
--- the trace of the one-thread simulation, under the names of the nodes
+-- the lines of the trace of the one-thread simulation that are picked, under the names of the nodes
+abbrev pub IsTracePicked : Pick → Plan → List (List ℕ) → List ℕ → Type 0
+IsTracePicked pick plan names text = text ≡ picked_text pick plan names
+
+-- all of them
 abbrev pub IsTraceOutput : Plan → List (List ℕ) → List ℕ → Type 0
-IsTraceOutput plan names text = text ≡ trace_text plan names
+IsTraceOutput = IsTracePicked (record { window = whole; node = None; only = None })
 
 module _ {S T : Type 0} (gives : S → Answer → S → Type 0) (takes : T → Answer → T → Type 0) (IsOutput : Plan → List (List ℕ) → List ℕ → Type 0) (s s' : S) (t t' : T) where
   -- the output of the plan and the names that were read went out, as far as it went

@@ -2,15 +2,15 @@
 use Rattle.std.specs.Prelude.{ℕ, List}
 use Rattle.wl_plan.specs.declared.plan.Plan.{Plan}
 use Rattle.wl_setup.specs.Check.{IsPlanCheck}
-use Rattle.wl_engines.specs.Plans.{IsRecordsOutput, IsRunOutput, IsTraceOutput, IsCandumpOutput, IsVcdOutput}
+use Rattle.wl_engines.specs.Plans.{IsRecordsWithin, IsReportOutput, IsTracePicked, IsCandumpWithin, IsVcdOutput}
 use Rattle.wl_engines.specs.declared.view.View.{View}
 use Rattle.wl_engines.specs.declared.view.View.TheVariants.{Check, Records, Report, Trace, Candump, Vcd}
 
 -- the output of each view, of a plan and the names of its nodes
 abbrev pub IsOutputOf : View → Plan → List (List ℕ) → List ℕ → Type 0
 IsOutputOf Check = IsPlanCheck
-IsOutputOf Records = IsRecordsOutput
-IsOutputOf Report = IsRunOutput
-IsOutputOf Trace = IsTraceOutput
-IsOutputOf (Candump tick from) = IsCandumpOutput tick from
+IsOutputOf (Records window) = IsRecordsWithin window
+IsOutputOf (Report brief) = IsReportOutput brief
+IsOutputOf (Trace pick) = IsTracePicked pick
+IsOutputOf (Candump tick from window) = IsCandumpWithin tick from window
 IsOutputOf (Vcd tick) = IsVcdOutput tick

@@ -13,21 +13,24 @@ use std::alloc::Global;
 use wl_device::{Sink, Source};
 use wl_plan::CheckedPlan;
 use wl_setup::{Names, read_checked};
-use wl_views::Tick;
+use wl_views::{Pick, Tick, Window};
+
+/// The window that has each tick.
+pub(crate) const WHOLE: Window = Window { from: 0, to: None };
 
 /// What is written of a plan.
 #[derive(Clone, Copy)]
 pub(crate) enum View {
     /// The settings of its nodes, and the delays between them.
     Check,
-    /// The records of its simulation.
-    Records,
-    /// The report of its simulation.
-    Report,
-    /// What happened to each node.
-    Trace,
-    /// The log of the frames that were sent, at ticks that take so long, the first of them at this second.
-    Candump(Tick, u32),
+    /// The records of its simulation within a window.
+    Records(Window),
+    /// The report of its simulation, or, if it is to be brief, without the lines of frames.
+    Report(bool),
+    /// What happened to each node, as far as it is picked.
+    Trace(Pick),
+    /// The log of the frames that were sent within a window, at ticks that take so long, the first of them at this second.
+    Candump(Tick, u32, Window),
     /// The waveform, at ticks that take so long.
     Vcd(Tick),
 }
@@ -44,10 +47,12 @@ fn write_view<W: Sink>(
 {
     match view {
         View::Check => write_made(check_text(alloc, plan, names), writer),
-        View::Records => write_made(records_text(alloc, plan), writer),
-        View::Report => write_made(report_of(alloc, plan), writer),
-        View::Trace => write_made(trace_text(alloc, plan, names), writer),
-        View::Candump(tick, from) => write_made(log_text(alloc, tick, from, plan), writer),
+        View::Records(window) => write_made(records_text(alloc, window, plan), writer),
+        View::Report(brief) => write_made(report_of(alloc, brief, plan), writer),
+        View::Trace(pick) => write_made(trace_text(alloc, pick, plan, names), writer),
+        View::Candump(tick, from, window) => {
+            write_made(log_text(alloc, tick, from, window, plan), writer)
+        }
         View::Vcd(tick) => write_wave(alloc, tick, plan, names, writer),
     }
 }

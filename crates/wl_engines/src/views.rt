@@ -1,38 +1,55 @@
 //! Views of a plan's simulation in the formats of other tools.
 ghost use Rattle.std.specs.Prelude.{◌≡◌, IfOk};
 ghost use Rattle.wl_views.specs.Candump.{log_text};
-ghost use Rattle.wl_views.specs.TraceText.{trace_text};
+ghost use Rattle.wl_views.specs.Picks.{picked_text};
 ghost use Rattle.wl_engines.specs.Output.{Outputs};
-ghost use Rattle.wl_engines.specs.Plans.{RunsPlan, IsCandumpOutput, IsTraceOutput, IsVcdOutput};
+ghost use Rattle.wl_engines.specs.Plans.{RunsPlan, IsCandumpOutput, IsCandumpWithin, IsTraceOutput, IsTracePicked, IsVcdOutput};
 
 use crate::fault::RunFault;
-use crate::view::{View, run_view};
+use crate::view::{View, WHOLE, run_view};
 use std::alloc::{AllocError, Global};
 use wl_device::{Sink, Source};
 use wl_plan::CheckedPlan;
-use wl_serial::run_serial;
+use wl_serial::{run_serial, run_totals};
 use wl_setup::Names;
-use wl_views::{Tick, candump, sent_in_time, trace, vcd};
+use wl_views::{Pick, Tick, Window, candump, picked_trace, sent_in_time, vcd};
 
-/// Returns the log of the frames that a plan's simulation sent.
+/// Returns the log of the frames that a plan's simulation sent within a window. Its nodes only count.
 pub(crate) fn log_text(
     alloc: Global,
     tick: Tick,
     from: u32,
+    window: Window,
     plan: &CheckedPlan,
 ) -> Result<Vec<u8>, AllocError>
-    ensures { IfOk result (λ text. text.items ≡ log_text tick from plan.now) }
+    ensures { IfOk result (λ text. text.items ≡ log_text tick from window plan.now) }
 {
     sent_in_time();
-    let outcome = run_serial(alloc, plan)?;
-    candump(alloc, tick, from, plan, &outcome)
+    let totals = run_totals(alloc, plan)?;
+    candump(alloc, tick, from, window, plan, &totals)
 }
 
 /// Reads a plan's text, simulates the plan, and writes a line for each frame that was sent, in the order of their completion, as can-utils
-/// logs frames; a tick of the plan takes as long as `tick` says, and tick 0 is at second `from`.
+/// logs frames; a tick of the plan takes as long as `tick` says, and tick 0 is at second `from`. Frames that were completed outside of
+/// `window` are left out.
 ///
 /// The whole output is before the first write. If the input is refused, or memory runs out, the writer isn't called; if the writer fails, a
 /// prefix of the output has gone out.
+pub fn candump_run_within<R: Source, W: Sink>(
+    alloc: Global,
+    tick: Tick,
+    from: u32,
+    window: Window,
+    reader: &mut R,
+    writer: &mut W,
+) -> Result<(), RunFault>
+    ensures { RunsPlan R.gives W.takes (IsCandumpWithin tick from window)
+        reader.old reader.new writer.old writer.new result }
+{
+    run_view(alloc, View::Candump(tick, from, window), reader, writer)
+}
+
+/// Does as `candump_run_within`, and leaves out no frame.
 pub fn candump_run<R: Source, W: Sink>(
     alloc: Global,
     tick: Tick,
@@ -42,7 +59,7 @@ pub fn candump_run<R: Source, W: Sink>(
 ) -> Result<(), RunFault>
     ensures { RunsPlan R.gives W.takes (IsCandumpOutput tick from) reader.old reader.new writer.old writer.new result }
 {
-    run_view(alloc, View::Candump(tick, from), reader, writer)
+    candump_run_within(alloc, tick, from, WHOLE, reader, writer)
 }
 
 /// Writes the waveform of a plan's simulation by pieces, as it is found. Memory is asked for before the first of them.
@@ -77,22 +94,35 @@ pub fn vcd_run<R: Source, W: Sink>(
     run_view(alloc, View::Vcd(tick), reader, writer)
 }
 
-/// Returns the trace of a plan's simulation, under these names of its nodes.
+/// Returns the lines of the trace of a plan's simulation that are picked, under these names of its nodes.
 pub(crate) fn trace_text(
     alloc: Global,
+    pick: Pick,
     plan: &CheckedPlan,
     names: &Names,
 ) -> Result<Vec<u8>, AllocError>
-    ensures { IfOk result (λ text. text.items ≡ trace_text plan.now names.now) }
+    ensures { IfOk result (λ text. text.items ≡ picked_text pick plan.now names.now) }
 {
     let outcome = run_serial(alloc, plan)?;
-    trace(alloc, plan, names, &outcome)
+    picked_trace(alloc, &pick, plan, names, &outcome)
 }
 
-/// Reads a plan's text, simulates the plan, and writes a line for each event of each node, in the order of their ticks.
+/// Reads a plan's text, simulates the plan, and writes a line for each event of each node that is picked, in the order of their ticks.
 ///
 /// The whole output is made before the first write. If the input is refused, or memory runs out, the writer isn't called; if the writer
 /// fails, a prefix of the output has been written.
+pub fn picked_trace_run<R: Source, W: Sink>(
+    alloc: Global,
+    pick: Pick,
+    reader: &mut R,
+    writer: &mut W,
+) -> Result<(), RunFault>
+    ensures { RunsPlan R.gives W.takes (IsTracePicked pick) reader.old reader.new writer.old writer.new result }
+{
+    run_view(alloc, View::Trace(pick), reader, writer)
+}
+
+/// Does as `picked_trace_run`, and leaves out no event.
 pub fn trace_run<R: Source, W: Sink>(
     alloc: Global,
     reader: &mut R,
@@ -100,5 +130,10 @@ pub fn trace_run<R: Source, W: Sink>(
 ) -> Result<(), RunFault>
     ensures { RunsPlan R.gives W.takes IsTraceOutput reader.old reader.new writer.old writer.new result }
 {
-    run_view(alloc, View::Trace, reader, writer)
+    let pick = Pick {
+        window: WHOLE,
+        node: None,
+        only: None,
+    };
+    picked_trace_run(alloc, pick, reader, writer)
 }

@@ -4,7 +4,7 @@ use Rattle.std.specs.List.{range_with_len, enumerate_from, flat_map}
 use Rattle.std.proofs.Math.Seq.{take-suc}
 use Rattle.std.proofs.lemmas.List.{length-take-le}
 use Rattle.std.proofs.lemmas.List.Elements.{All-from_get_or, All-map, All-append, All-cons}
-use Rattle.std.proofs.lemmas.List.FromFn.{length-range_with_len, length-map-range_with_len, get_or-range_with_len}
+use Rattle.std.proofs.lemmas.List.FromFn.{length-range_with_len, length-map-range_with_len, get_or-range_with_len, map-range_with_len_more}
 use Rattle.wl_record_core.specs.declared.record.Record.{Record}
 use Rattle.wl_record_core.specs.declared.record.Record.TheVariants.{Edge, Silence}
 use Rattle.wl_record_core.specs.Limits.{most_edges}
@@ -96,3 +96,13 @@ nodes_more end k x xs b e =
     ∙ (ap (λ n. flat_map (λ (i, node). node_records end i node.changes) (enumerate_from 0 (take k xs)) ++ node_records end n (get_or xs k x).changes)
     (zero-add (length (take k xs)) ∙ length-take-le k xs (omega arith))
     ∙ ap (λ y. flat_map (λ (i, node). node_records end i node.changes) (enumerate_from 0 (take k xs)) ++ node_records end k y.changes) (sym e))))
+
+-- the same of nodes by their numbers
+pub nodes_on : (end k : ℕ) (f : ℕ → NodeOutcome)
+    → flat_map (λ (i, node). node_records end i node.changes) (enumerate_from 0 (map f (range_with_len 0 (k + 1))))
+    ≡ flat_map (λ (i, node). node_records end i node.changes) (enumerate_from 0 (map f (range_with_len 0 k))) ++ node_records end k (f k).changes
+nodes_on end k f =
+    ap (λ xs. flat_map (λ (i, node). node_records end i node.changes) (enumerate_from 0 xs)) (map-range_with_len_more f 0 k k (omega arith))
+    ∙ (nodes_behind end 0 (f k) (map f (range_with_len 0 k))
+    ∙ ap (λ n. flat_map (λ (i, node). node_records end i node.changes) (enumerate_from 0 (map f (range_with_len 0 k))) ++ node_records end n (f k).changes)
+    (zero-add (length (map f (range_with_len 0 k))) ∙ length-map-range_with_len f 0 k))

@@ -55,7 +55,11 @@ pub fn run_totals(alloc: Global, plan: &Plan) -> Result<Totals, AllocError>
 }
 
 /// Returns all nodes after all quanta before the end. They list their samples if `keeps`, and else only count them.
-fn simulate(alloc: Global, plan: &Checked, keeps: bool) -> Result<Vec<Running>, AllocError>
+pub(crate) fn simulate(
+    alloc: Global,
+    plan: &Checked,
+    keeps: bool,
+) -> Result<Vec<Running>, AllocError>
     ensures running { IfOk result (λ running. AreRunning plan.now running.items) }
     ensures ended { IfOk result (λ running. NoneBefore plan.now.end running.items) }
     ensures keeps { IfOk result (λ running. AllKeep keeps running.items) }

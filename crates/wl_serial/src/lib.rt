@@ -9,6 +9,7 @@ mod laws;
 mod line_at;
 mod outcome;
 mod quiet_line;
+mod recorded;
 mod records;
 mod running_node;
 mod so_far;
@@ -20,5 +21,6 @@ pub use laws::{outcome_is_recordable, outcome_node_by_node, records_are_true, re
 pub use outcome::{
     Changes, Frames, NodeOutcome, NodeOutcomes, NodeTotals, Outcome, Phases, Totals,
 };
+pub use recorded::run_records;
 pub use records::records_of;
 pub use so_far::{node_outcome, node_totals};

@@ -47,7 +47,7 @@ pub fn records_of(alloc: Global, outcome: &Outcome) -> Result<Vec<Record>, Alloc
 }
 
 /// Adds the records of one node after those that are there.
-fn push_node(
+pub(crate) fn push_node(
     records: &mut Vec<Record>,
     node: u8,
     changes: &[u64],

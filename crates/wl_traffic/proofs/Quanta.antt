@@ -18,11 +18,9 @@ use Rattle.wl_plan.specs.Simulation.{history, ran}
 use Rattle.wl_plan.specs.SimulationLaws.{SimulationLaws}
 use Rattle.wl_plan.specs.Checked.{IsChecked}
 use Rattle.wl_plan.specs.Sound.{IsSound}
-use Rattle.wl_serial.specs.declared.outcome.NodeOutcome.{NodeOutcome}
-use Rattle.wl_serial.specs.Outcome.{node_outcome_of, outcome_of}
+use Rattle.wl_serial.specs.Outcome.{node_outcome_of}
 use Rattle.wl_trace.proofs.Callers.{one_more}
-use Rattle.wl_views.specs.SentFrames.{SentInTime}
-use Rattle.wl_views.proofs.Callers.{few, frames_ran, inside, node_is, nodes_all, within}
+use Rattle.wl_views.proofs.Callers.{few, frames_ran, inside, within}
 use Rattle.wl_traffic.specs.Known.{AreKnown}
 
 -- each of these samples was before quantum n
@@ -70,7 +68,7 @@ module _ (setup : NodeSetup) where
       let few = there_and_away setup.until levels in
       omega arith)
 
-module _ (plan : Plan) (checked : IsChecked plan) (sound : IsSound (line_of plan)) (laws : SimulationLaws) (in_time : SentInTime) (i : ℕ) (b : i < length plan.nodes) where
+module _ (plan : Plan) (checked : IsChecked plan) (sound : IsSound (line_of plan)) (laws : SimulationLaws) (i : ℕ) (b : i < length plan.nodes) where
   samples_ran : Before (ran (line_of plan) i plan.end) (node_outcome_of plan i).samples
   samples_ran = samples_before (setup_at plan i) ((history (line_of plan) plan.end).seen i)
 
@@ -81,11 +79,11 @@ module _ (plan : Plan) (checked : IsChecked plan) (sound : IsSound (line_of plan
         let early : tick_of (setup_at plan i).clock q < plan.end = laws.ran_inside (line_of plan) i plan.end sound.causal b q (samples_ran k d c) in
         let less : q < most_quanta = sound.few_quanta i q b early in
         within q less few;
-    frames =
-        let d : NodeOutcome = node_outcome_of plan i in
-        subst (λ (node : NodeOutcome). All (λ p. p.quantum ≤ most_run_quanta) node.frames)
-        (node_is plan (outcome_of plan) i d (λ _. outcome_of plan) b)
-        ((in_time plan checked).quanta i d (subst (λ (n : ℕ). i < n) (sym (nodes_all plan (outcome_of plan) (λ _. outcome_of plan))) b));
+    frames = λ k d c.
+        let q : ℕ = (get_or (node_outcome_of plan i).frames k d).quantum in
+        let early : tick_of (setup_at plan i).clock q < plan.end = inside laws plan sound i q b (frames_ran laws plan sound i k d c) in
+        let less : q < most_quanta = sound.few_quanta i q b early in
+        within q less few;
     soon = λ k d c.
         let q : ℕ = (get_or (node_outcome_of plan i).frames k d).quantum in
         let early : tick_of (setup_at plan i).clock q < plan.end = inside laws plan sound i q b (frames_ran laws plan sound i k d c) in

@@ -39,5 +39,4 @@ pub(crate) fn quanta_are_known(plan: &CheckedPlan)
 {
     plan.laws();
     wl_plan::simulation_laws();
-    wl_views::sent_in_time();
 }

@@ -3,6 +3,7 @@ use Rattle.std.proofs.Common.{◌≡◌, sym, subst, arith, ℕ, zero, suc, ◌+
 use Rattle.std.specs.List.{All, filter, flat_map, range_with_len, enumerate_from}
 use Rattle.std.proofs.lemmas.List.Elements.{All-append, All-cons, All-nil, All-map, All-filter}
 use Rattle.std.proofs.lemmas.List.FromFn.{length-map-range_with_len}
+use Rattle.std.proofs.lemmas.Simd.{map-map}
 use Rattle.wl_level.specs.declared.Level.{Level}
 use Rattle.wl_sync.specs.declared.Beat.{Beat}
 use Rattle.wl_sync.specs.declared.Beat.TheVariants as beats
@@ -24,8 +25,8 @@ use Rattle.wl_plan.specs.Limits.{most_quanta, most_quanta-is}
 use Rattle.wl_plan.specs.Simulation.{history, ran}
 use Rattle.wl_plan.specs.SimulationLaws.{SimulationLaws}
 use Rattle.wl_plan.specs.Sound.{IsSound}
-use Rattle.wl_serial.specs.declared.outcome.NodeOutcome.{NodeOutcome}
-use Rattle.wl_serial.specs.Outcome.{node_outcome_of, outcome_of}
+use Rattle.wl_serial.specs.declared.outcome.NodeTotals.{NodeTotals}
+use Rattle.wl_serial.specs.Outcome.{node_outcome_of, node_totals, outcome_of, totals_of}
 use Rattle.wl_trace.proofs.Callers.{one_more}
 use Rattle.wl_views.specs.SentFrames.{AreInTime, sent_by}
 
@@ -80,7 +81,7 @@ module _ (setup : NodeSetup) where
       omega arith)
 
 -- of each entry, node by node
-all_entries : (P : ℕ × Content → Type 0) (F : ℕ → NodeOutcome → List (ℕ × Content)) (f : ℕ → NodeOutcome) (a n : ℕ)
+all_entries : (P : ℕ × Content → Type 0) (F : ℕ → NodeTotals → List (ℕ × Content)) (f : ℕ → NodeTotals) (a n : ℕ)
     → ((i : ℕ) → i < a + n → All P (F i (f i)))
     → All P (flat_map (λ m. F m.0 m.1) (enumerate_from a (map f (range_with_len a n))))
 all_entries P F f a zero each = All-nil P
@@ -115,12 +116,15 @@ module _ (laws : SimulationLaws) (plan : Plan) (sound : IsSound (line_of plan)) 
       (All-filter is_sent (λ p. tick_of (setup_at plan i).clock p.quantum < plan.end) (node_outcome_of plan i).frames
       (λ k d c. inside i (get_or (node_outcome_of plan i).frames k d).quantum b (frames_ran i k d c)))
 
-  pub in_time : AreInTime plan (outcome_of plan)
-  in_time = record {
-    nodes = length-map-range_with_len (node_outcome_of plan) 0 (length plan.nodes);
+  numbered : AreInTime plan (map (λ i. node_totals (node_outcome_of plan i)) (range_with_len 0 (length plan.nodes)))
+  numbered = record {
+    nodes = length-map-range_with_len (λ i. node_totals (node_outcome_of plan i)) 0 (length plan.nodes);
     quanta =
-        All-map (λ node. All (λ p. p.quantum ≤ most_run_quanta) node.frames) (node_outcome_of plan) (range_with_len 0 (length plan.nodes))
+        All-map (λ node. All (λ p. p.quantum ≤ most_run_quanta) node.frames) (λ i. node_totals (node_outcome_of plan i)) (range_with_len 0 (length plan.nodes))
         (all_below (λ i. All (λ p. p.quantum ≤ most_run_quanta) (node_outcome_of plan i).frames) (length plan.nodes) known);
-    ended = all_entries (λ s. s.0 < plan.end) (λ i node. sent_by (setup_at plan i).clock node.frames) (node_outcome_of plan) 0 (length plan.nodes)
+    ended = all_entries (λ s. s.0 < plan.end) (λ i node. sent_by (setup_at plan i).clock node.frames) (λ i. node_totals (node_outcome_of plan i)) 0 (length plan.nodes)
         (λ i b. sent_inside i (let c : i < length plan.nodes = omega arith in c));
   }
+
+  pub in_time : AreInTime plan (totals_of (outcome_of plan))
+  in_time = subst (AreInTime plan) (sym (map-map node_totals (node_outcome_of plan) (range_with_len 0 (length plan.nodes)))) numbered

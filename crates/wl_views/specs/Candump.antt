@@ -1,14 +1,16 @@
 -- The log of can-utils, as its `candump -L` writes it and its `log2asc` and `log2long` read it: a line for each frame that was sent.
 use Rattle.std.specs.Prelude.{ℕ, ◌+◌, ◌/◌, ◌%◌, ◌==◌, nat_lt, min, List, [], ◌∷◌, ◌++◌, codes, if◌then◌else◌}
-use Rattle.std.specs.List.{flat_map}
+use Rattle.std.specs.List.{filter, flat_map}
 use Rattle.wl_frame.specs.Grammar.{Content}
 use Rattle.wl_plan.specs.declared.plan.Plan.{Plan}
-use Rattle.wl_serial.specs.declared.outcome.Outcome.{Outcome}
-use Rattle.wl_serial.specs.Outcome.{outcome_of}
+use Rattle.wl_serial.specs.declared.outcome.NodeTotals.{NodeTotals}
+use Rattle.wl_serial.specs.Outcome.{outcome_of, totals_of}
 use Rattle.wl_report.specs.Report.{id_digits}
 use Rattle.wl_views.specs.declared.tick.Tick.{Tick}
 use Rattle.wl_views.specs.Ticks.{microseconds}
 use Rattle.wl_views.specs.Digits.{digits_of}
+use Rattle.wl_views.specs.Windows.{is_within}
+use Rattle.wl_views.specs.declared.window.Window.{Window}
 use Rattle.wl_views.specs.SentFrames.{all_sent}
 use Rattle.wl_level.specs.ByTick.{by_tick}
 
@@ -33,10 +35,10 @@ abbrev pub log_line : Tick → ℕ → ℕ × Content → List ℕ
 log_line tick from (t, c) =
     codes "(" ++ time_word from (microseconds tick t) ++ codes ") can0 " ++ digits_of 16 (id_digits c.extended) c.id ++ codes "#" ++ content_word c ++ 10 ∷ []
 
--- the log of the frames that were sent, tick by tick
-abbrev pub log_of : Tick → ℕ → Plan → Outcome → List ℕ
-log_of tick from plan outcome = flat_map (log_line tick from) (by_tick outcome.end (all_sent plan outcome))
+-- the log of the frames that were sent within a window, tick by tick
+abbrev pub log_of : Tick → ℕ → Window → Plan → List NodeTotals → List ℕ
+log_of tick from window plan totals = flat_map (log_line tick from) (filter (λ s. is_within window s.0) (by_tick plan.end (all_sent plan totals)))
 
--- the log of what the one-thread simulation does
-abbrev pub log_text : Tick → ℕ → Plan → List ℕ
-log_text tick from plan = log_of tick from plan (outcome_of plan)
+-- the log of what the one-thread simulation does within a window
+abbrev pub log_text : Tick → ℕ → Window → Plan → List ℕ
+log_text tick from window plan = log_of tick from window plan (totals_of (outcome_of plan))

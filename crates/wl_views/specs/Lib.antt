@@ -1,6 +1,7 @@
 pub mod Limits
 pub mod Ticks
 pub mod Digits
+pub mod Windows
 pub mod SentFrames
 pub mod Candump
 pub mod Signals
@@ -9,4 +10,5 @@ pub mod Probe
 pub mod Vcd
 pub mod Streams
 pub mod TraceText
+pub mod Picks
 pub mod Calendar

@@ -1,19 +1,21 @@
 //! The log of can-utils.
 ghost use Rattle.std.specs.Prelude.{◌≡◌, ◌≤◌, ◌++◌, ◌∷◌, [], OnOk, IfOk, codes};
-ghost use Rattle.std.specs.List.{flat_map};
+ghost use Rattle.std.specs.List.{filter, flat_map};
 ghost use Rattle.wl_report.specs.Report.{id_digits};
 ghost use Rattle.wl_views.specs.Candump.{content_word, code_word, log_line, log_of, time_word, wanted_word};
 ghost use Rattle.wl_views.specs.Digits.{Extends, digits_of};
 ghost use Rattle.wl_views.specs.SentFrames.{AreInTime};
 ghost use Rattle.wl_views.specs.Ticks.{microseconds};
+ghost use Rattle.wl_views.specs.Windows.{is_within};
 
 use crate::digits::push_digits;
 use crate::sent_frames::sent_by_tick;
 use crate::tick::Tick;
+use crate::window::Window;
 use std::alloc::{AllocError, Global};
 use wl_frame::frame::Frame;
 use wl_plan::Plan;
-use wl_serial::Outcome;
+use wl_serial::Totals;
 
 /// Adds a time after this many seconds: seconds, and microseconds after a point.
 fn push_time(text: &mut Vec<u8>, from: u32, us: u128) -> Result<(), AllocError>
@@ -96,8 +98,28 @@ fn push_line(
     text.extend_from_slice(b"\n")
 }
 
-/// Returns the log of the frames that were sent: for each a line `({seconds}.{microseconds}) can0 {id}#{bytes}`, in the order in which they
-/// were completed; those of one tick node by node.
+/// Adds the lines of these frames that were completed within a window.
+fn push_lines(
+    text: &mut Vec<u8>,
+    tick: Tick,
+    from: u32,
+    window: Window,
+    sent: &[(u64, Frame)],
+) -> Result<(), AllocError>
+    ensures { OnOk result (Extends text.old text.new
+        (flat_map (log_line tick from) (filter (λ s. is_within window s.0) sent.now))) }
+{
+    for (at, frame) in sent {
+        if window.has(*at) {
+            push_line(text, tick, from, *at, frame)?;
+        }
+    }
+    Ok(())
+}
+
+/// Returns the log of the frames that were sent, by what a report says of each node: for each a line
+/// `({seconds}.{microseconds}) can0 {id}#{bytes}`, in the order in which they were completed; those of one tick node by node. Frames that were
+/// completed outside of a window are left out.
 ///
 /// The time is that of the quantum at which the sender sampled the last bit of end of frame (Bosch CAN 2.0 part B, section 5). It counts
 /// from tick 0, which is at second `from`, and is rounded down, 10 digits and 6. The identifier has 3 hexadecimal digits, or 8 of an
@@ -107,16 +129,15 @@ pub fn candump(
     alloc: Global,
     tick: Tick,
     from: u32,
+    window: Window,
     plan: &Plan,
-    outcome: &Outcome,
+    totals: &Totals,
 ) -> Result<Vec<u8>, AllocError>
-    requires { AreInTime plan.now outcome.now }
-    ensures { IfOk result (λ text. text.items ≡ log_of tick from plan.now outcome.now) }
+    requires { AreInTime plan.now totals.now }
+    ensures { IfOk result (λ text. text.items ≡ log_of tick from window plan.now totals.now) }
 {
-    let sent = sent_by_tick(alloc, plan, outcome)?;
+    let sent = sent_by_tick(alloc, plan, totals.as_slice())?;
     let mut text = Vec::new(alloc);
-    for (at, frame) in sent.iter() {
-        push_line(&mut text, tick, from, *at, frame)?;
-    }
+    push_lines(&mut text, tick, from, window, &sent)?;
     Ok(text)
 }

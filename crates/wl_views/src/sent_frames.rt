@@ -10,7 +10,7 @@ use wl_clock::Clock;
 use wl_frame::frame::Frame;
 use wl_node::Passed;
 use wl_plan::Plan;
-use wl_serial::Outcome;
+use wl_serial::NodeTotals;
 
 /// Adds the frames that a node with this clock sent.
 fn push_sent(
@@ -30,13 +30,17 @@ fn push_sent(
 }
 
 /// Returns the frames that all nodes sent, node by node.
-fn all_sent(alloc: Global, plan: &Plan, outcome: &Outcome) -> Result<Vec<(u64, Frame)>, AllocError>
-    requires { AreInTime plan.now outcome.now }
-    ensures { IfOk result (λ sent. sent.items ≡ all_sent plan.now outcome.now) }
+fn all_sent(
+    alloc: Global,
+    plan: &Plan,
+    totals: &[NodeTotals],
+) -> Result<Vec<(u64, Frame)>, AllocError>
+    requires { AreInTime plan.now totals.now }
+    ensures { IfOk result (λ sent. sent.items ≡ all_sent plan.now totals.now) }
 {
     let mut sent = Vec::new(alloc);
     let setups = plan.nodes.as_slice();
-    for (i, node) in outcome.nodes.as_slice().iter().enumerate() {
+    for (i, node) in totals.iter().enumerate() {
         push_sent(&mut sent, &setups[i].clock, node.frames.as_slice())?;
     }
     Ok(sent)
@@ -47,12 +51,12 @@ fn all_sent(alloc: Global, plan: &Plan, outcome: &Outcome) -> Result<Vec<(u64, F
 pub(crate) fn sent_by_tick(
     alloc: Global,
     plan: &Plan,
-    outcome: &Outcome,
+    totals: &[NodeTotals],
 ) -> Result<Vec<(u64, Frame)>, AllocError>
-    requires { AreInTime plan.now outcome.now }
-    ensures { IfOk result (λ sent. sent.items ≡ by_tick outcome.now.end (all_sent plan.now outcome.now)) }
+    requires { AreInTime plan.now totals.now }
+    ensures { IfOk result (λ sent. sent.items ≡ by_tick plan.now.end (all_sent plan.now totals.now)) }
 {
-    let mut sent = all_sent(alloc, plan, outcome)?;
+    let mut sent = all_sent(alloc, plan, totals)?;
     sent.sort_by_key(|(tick, _)| *tick)?;
     Ok(sent)
 }

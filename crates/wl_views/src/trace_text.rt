@@ -180,7 +180,7 @@ fn push_sample_words(text: &mut String, quantum: u64, bit: u64) -> Result<(), Al
 }
 
 /// Adds the line of an event of node `i` at a tick.
-fn push_line(
+pub(crate) fn push_line(
     text: &mut String,
     names: &Names,
     tick: u64,
@@ -303,7 +303,7 @@ fn all_told(
 }
 
 /// Returns the events of all nodes in the order of their ticks; those of one tick node by node.
-fn told_in_order(
+pub(crate) fn told_in_order(
     alloc: Global,
     plan: &CheckedPlan,
     outcome: &Outcome,

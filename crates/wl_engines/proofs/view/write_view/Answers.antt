@@ -1,6 +1,6 @@
 use Rattle.std.proofs.Common.{subst, sym}
 use Rattle.wl_engines.specs.Output.{Outputs}
-use Rattle.wl_engines.specs.Plans.{IsRecordsOutput}
+use Rattle.wl_engines.specs.Plans.{IsRecordsWithin}
 use Rattle.wl_engines.specs.View.{IsOutputOf}
 use Rattle.wl_engines.specs.declared.view.View.{View}
 use Rattle.wl_engines.proofs.OutputLemmas.{outputs_made}
@@ -16,4 +16,4 @@ returns-in-Records g c =
     let made = c.records_text.result in
     let answer = c.write_made-in-Records.result in
     subst (λ (view : View). Outputs takes (IsOutputOf view plan names) old new answer) (sym c.in-Records.is)
-    (outputs_made takes old new (IsRecordsOutput plan names) made answer c.write_made-in-Records.ensures (c.records_text.ensures names))
+    (outputs_made takes old new (IsRecordsWithin c.in-Records.window plan names) made answer c.write_made-in-Records.ensures (c.records_text.ensures names))

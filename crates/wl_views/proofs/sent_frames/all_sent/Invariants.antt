@@ -6,4 +6,4 @@ use Rattle.wl_views.proofs.sent_frames.all_sent.Given as goal
 
 -- those of the nodes so far
 abbrev pub invariant-loop-i : goal.invariant-loop-i
-invariant-loop-i l = l.sent.items ≡ flat_map (λ n. sent_by (setup_at l.plan n.0).clock n.1.frames) (enumerate_from 0 (take l.i l.outcome.nodes))
+invariant-loop-i l = l.sent.items ≡ flat_map (λ n. sent_by (setup_at l.plan n.0).clock n.1.frames) (enumerate_from 0 (take l.i l.totals))

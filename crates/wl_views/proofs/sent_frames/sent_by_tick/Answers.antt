@@ -12,8 +12,8 @@ some_frame = record { extended = false; id = 0; remote = false; dlc = 0; bytes =
 
 pub returns : goal.returns
 returns c =
-    sorted_is_by_tick c.args.outcome.now.end some_frame c.in_ok-sent.sent.items c.sort_by_key.new.self.items c.in_ok-sort_by_key.ensures.permutation
+    sorted_is_by_tick c.args.plan.now.end some_frame c.in_ok-sent.sent.items c.sort_by_key.new.self.items c.in_ok-sort_by_key.ensures.permutation
     (IsNonDecreasingBy-from_sort_by_key (λ s. s.0) _ c.in_ok-sort_by_key.ensures.sorted (λ a r q k. search rules))
     (c.in_ok-sort_by_key.ensures.stable (λ s. s.0) (answers_always _ (λ a r. r ≡ a.0.now.0) _ (λ f a r q k. search rules)))
-    (subst (All (λ (s : ℕ × Content). s.0 < c.args.outcome.now.end)) (sym c.in_ok-sent.ensures) c.requires.ended)
-    ∙ ap (by_tick c.args.outcome.now.end) c.in_ok-sent.ensures
+    (subst (All (λ (s : ℕ × Content). s.0 < c.args.plan.now.end)) (sym c.in_ok-sent.ensures) c.requires.ended)
+    ∙ ap (by_tick c.args.plan.now.end) c.in_ok-sent.ensures

@@ -1,0 +1,59 @@
+//! The records of a simulation whose nodes only count.
+ghost use Rattle.std.specs.Prelude.{◌≡◌, ◌<◌, ◌≤◌, ℕ, IfOk, length};
+ghost use Rattle.wl_plan.specs.Checked.{IsChecked};
+ghost use Rattle.wl_plan.specs.declared.plan.Plan.{Plan as GivenPlan};
+ghost use Rattle.wl_plan.specs.PlanLine.{table_of};
+ghost use Rattle.wl_serial.specs.Outcome.{outcome_of};
+ghost use Rattle.wl_serial.specs.Records.{outcome_records};
+ghost use Rattle.wl_serial.specs.Running.{AreRunning, IsRunning, NoneBefore};
+
+use crate::checked::Checked;
+use crate::engine::simulate;
+use crate::laws::outcome_is_recordable;
+use crate::records::push_node;
+use crate::running_node::Running;
+use std::alloc::{AllocError, Global};
+use wl_plan::Plan;
+use wl_record_core::Record;
+
+/// Returns the records of the outcome of [`run_serial`](crate::run_serial), as [`records_of`](crate::records_of) does. No sample, frame or
+/// phase error is copied or listed for them, which takes less memory and time.
+///
+/// Refused only when out of memory.
+pub fn run_records(alloc: Global, plan: &Plan) -> Result<Vec<Record>, AllocError>
+    requires { IsChecked plan.now }
+    ensures { IfOk result (λ records. records.items ≡ outcome_records (outcome_of plan.now)) }
+{
+    let checked = Checked::new(plan);
+    let nodes = simulate(alloc, &checked, false)?;
+    records_at_end(alloc, &checked, &nodes)
+}
+
+/// Returns the ticks at which a node's drive changed; it has run all its quanta before the end.
+fn changes_at_end(node: &Running) -> &[u64]
+    ensures { (plan : GivenPlan) (i : ℕ) → IsChecked plan → i < length plan.nodes → IsRunning plan i node.now
+        → plan.end ≤ node.now.next → result.now ≡ table_of plan i }
+{
+    wl_plan::checked_is_sound();
+    wl_plan::simulation_laws();
+    node.changes.as_slice()
+}
+
+/// Returns the records of the nodes; all have run to the end.
+fn records_at_end(
+    alloc: Global,
+    plan: &Checked,
+    running: &[Running],
+) -> Result<Vec<Record>, AllocError>
+    requires running { AreRunning plan.now running.now }
+    requires ended { NoneBefore plan.now.end running.now }
+    ensures { IfOk result (λ records. records.items ≡ outcome_records (outcome_of plan.now)) }
+{
+    plan.laws();
+    outcome_is_recordable();
+    let mut records = Vec::new(alloc);
+    for (i, node) in running.iter().enumerate() {
+        push_node(&mut records, i as u8, changes_at_end(node), plan.end())?;
+    }
+    Ok(records)
+}

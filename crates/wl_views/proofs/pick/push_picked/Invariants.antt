@@ -1,0 +1,10 @@
+use Rattle.std.proofs.Common.{◌≡◌, ◌++◌, take, string_bytes}
+use Rattle.std.specs.List.{filter, flat_map}
+use Rattle.wl_views.specs.Picks.{is_picked}
+use Rattle.wl_views.specs.TraceText.{trace_line}
+use Rattle.wl_views.proofs.pick.push_picked.Given as goal
+
+-- the lines so far are after the text
+abbrev pub invariant-loop-tick : goal.invariant-loop-tick
+invariant-loop-tick l =
+    string_bytes l.text ≡ string_bytes l.initial.text ++ flat_map (trace_line l.names) (filter (is_picked l.pick) (take l.tick-index l.told))

@@ -1,0 +1,126 @@
+//! Which events of a trace are shown.
+ghost use Rattle.std.specs.Prelude.{◌≡◌, OnOk, IfOk};
+ghost use Rattle.std.specs.List.{filter, flat_map};
+ghost use Rattle.wl_report.specs.Lines.{GrowsBy};
+ghost use Rattle.wl_serial.specs.Outcome.{outcome_of};
+ghost use Rattle.wl_views.specs.Picks.{is_asked_kind, is_asked_node, is_event_of, is_picked, picked_text};
+ghost use Rattle.wl_views.specs.TraceText.{trace_line};
+
+use crate::trace_text::{push_line, told_in_order};
+use crate::window::Window;
+use std::alloc::{AllocError, Global};
+use wl_plan::CheckedPlan;
+use wl_serial::Outcome;
+use wl_setup::Names;
+use wl_trace::{NodeEvent, Noted};
+
+/// A kind of events.
+#[derive(Clone, Copy, Debug, PartialEq, Eq)]
+pub enum EventKind {
+    /// A node lost the arbitration.
+    Lost,
+    /// A node found an error.
+    Error,
+    /// A node began a flag.
+    Flag,
+    /// A node sent or received a frame.
+    Frame,
+    /// The mode of a node changed.
+    Mode,
+    /// A node was synchronised.
+    Sync,
+}
+
+/// Which events of a trace are shown.
+#[derive(Clone, Copy, Debug, PartialEq, Eq)]
+pub struct Pick {
+    /// Those at the ticks of this window.
+    pub window: Window,
+    /// If a number is given, those of this node alone.
+    pub node: Option<u8>,
+    /// If a kind is given, those of this kind alone.
+    pub only: Option<EventKind>,
+}
+
+/// True if an event is of a kind.
+fn is_event_of(kind: EventKind, event: NodeEvent) -> bool
+    ensures { result ≡ is_event_of kind event }
+{
+    match event {
+        NodeEvent::ArbitrationLost(_) => matches!(kind, EventKind::Lost),
+        NodeEvent::Error { .. } => matches!(kind, EventKind::Error),
+        NodeEvent::Flag(_) => matches!(kind, EventKind::Flag),
+        NodeEvent::Sent(_) | NodeEvent::Received(_) => matches!(kind, EventKind::Frame),
+        NodeEvent::ModeChanged(_) => matches!(kind, EventKind::Mode),
+        NodeEvent::HardSynchronised | NodeEvent::Resynchronised(_) => {
+            matches!(kind, EventKind::Sync)
+        }
+    }
+}
+
+/// True if an event is of the kind that is asked for, if one is.
+fn is_asked_kind(only: Option<EventKind>, event: NodeEvent) -> bool
+    ensures { result ≡ is_asked_kind only event }
+{
+    match only {
+        None => true,
+        Some(kind) => is_event_of(kind, event),
+    }
+}
+
+/// True if node `i` is the one that is asked for, if one is.
+fn is_asked_node(node: Option<u8>, i: usize) -> bool
+    ensures { result ≡ is_asked_node node i }
+{
+    match node {
+        None => true,
+        Some(node) => node as usize == i,
+    }
+}
+
+impl Pick {
+    /// True if an event of node `i` at a tick is shown.
+    fn shows(&self, tick: u64, i: usize, noted: &Noted) -> bool
+        ensures { result ≡ is_picked self.now (tick, (i, noted.now)) }
+    {
+        self.window.has(tick)
+            && is_asked_node(self.node, i)
+            && is_asked_kind(self.only, noted.event)
+    }
+}
+
+/// Adds the lines of these events that are shown.
+fn push_picked(
+    text: &mut String,
+    pick: &Pick,
+    names: &Names,
+    told: &[(u64, (usize, Noted))],
+) -> Result<(), AllocError>
+    ensures { OnOk result (GrowsBy text.old text.new
+        (flat_map (trace_line names.now) (filter (is_picked pick.now) told.now))) }
+{
+    for (tick, (i, noted)) in told {
+        if pick.shows(*tick, *i, noted) {
+            push_line(text, names, *tick, *i, *noted)?;
+        }
+    }
+    Ok(())
+}
+
+/// Returns the lines of the trace of a plan's simulation, which is `outcome`, that are about the events that are picked, in the order of
+/// the trace. Refused only when out of memory.
+pub fn picked_trace(
+    alloc: Global,
+    pick: &Pick,
+    plan: &CheckedPlan,
+    names: &Names,
+    outcome: &Outcome,
+) -> Result<Vec<u8>, AllocError>
+    requires outcome { outcome.now ≡ outcome_of plan.now }
+    ensures { IfOk result (λ text. text.items ≡ picked_text pick.now plan.now names.now) }
+{
+    let told = told_in_order(alloc, plan, outcome)?;
+    let mut text = String::new(alloc);
+    push_picked(&mut text, pick, names, &told)?;
+    Ok(text.into_bytes())
+}
