@@ -1,8 +1,9 @@
 -- The records of each node are after those of the nodes before it, and there are as many nodes as the plan has.
-use Rattle.std.proofs.Common.{◌<◌, ◌≤◌, ◌∙◌, ◌++◌, ap, sym, subst, arith, length, map, ℕ}
+use Rattle.std.proofs.Common.{◌≡◌, ◌<◌, ◌≤◌, ◌∙◌, ◌++◌, ap, sym, subst, arith, length, map, get_or, ℕ, List}
 use Rattle.std.specs.List.{enumerate_from, flat_map, range_with_len}
 use Rattle.std.proofs.lemmas.List.FromFn.{length-map-range_with_len, get_or-map-range_with_len}
 use Rattle.wl_record_core.specs.Limits.{most_edges}
+use Rattle.wl_plan.specs.PlanLine.{table_of}
 use Rattle.wl_serial.specs.Outcome.{node_outcome_of}
 use Rattle.wl_serial.specs.Records.{node_records}
 use Rattle.wl_serial.proofs.Told.{nodes_on}
