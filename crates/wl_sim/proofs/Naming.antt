@@ -3,7 +3,7 @@ use Rattle.std.proofs.Common.{◌≡◌, ◌∙◌, refl, sym, subst, ap, ap₂,
 use Rattle.std.specs.Str.{bytes_eq}
 use Rattle.std.proofs.lemmas.Slice.Eq.{bytes_eq-Decides}
 use Rattle.clap.specs.Words.{Text}
-use Rattle.wl_sim.specs.CommandLine.{HasValues, NamedTask, candump_task, or_task, plain_task, run_task, sweep_task, task_named, task_word, timed_task, valued_task}
+use Rattle.wl_sim.specs.CommandLine.{HasValues, NamedTask, candump_task, or_task, plain_task, run_task, sweep_task, task_named, task_word, timed_task, trace_task, valued_task}
 use Rattle.wl_sim.specs.declared.command.Task.{Task}
 use Rattle.wl_sim.specs.declared.command.Task.TheVariants.{Merge, Horizon, Check, Records, Run, Explain, Trace, Candump, Vcd, Page, Margin, Traffic, Settings, Sweep}
 use Rattle.wl_sim.specs.declared.values.Values.{Values}
@@ -38,9 +38,8 @@ module _ (given : Option Values) (w : Text) (t : Task) where
 
   plain_named : plain_task w ≡ Some t → NamedTask (Some w) given t
   plain_named =
-      chosen w (codes "check") _ _ t (is_named Check tt) (chosen w (codes "records") _ _ t (is_named Records tt)
-      (chosen w (codes "explain") _ _ t (is_named Explain tt) (chosen w (codes "trace") _ _ t (is_named Trace tt)
-      (λ (no : None ≡ Some t). cc))))
+      chosen w (codes "check") _ _ t (is_named Check tt) (chosen w (codes "explain") _ _ t (is_named Explain tt)
+      (λ (no : None ≡ Some t). cc))
 
 module _ (v : Values) (w : Text) (t : Task) where
   timed_named : (tick : Tick) → v.tick ≡ Some tick → timed_task w v tick ≡ Some t → NamedTask (Some w) (Some v) t
@@ -55,13 +54,18 @@ module _ (v : Values) (w : Text) (t : Task) where
   run_named is h =
       let workers = some_then v.workers _ t h in
       let link = some_map v.link _ t workers.2 in
-      is_named (Some v) w t (Run workers.0 link.0) (workers.1, link.1) is (ap Some link.2)
+      is_named (Some v) w t (Run workers.0 link.0 v.brief) (workers.1, link.1, refl) is (ap Some link.2)
 
   candump_named : w ≡ codes "candump" → candump_task v ≡ Some t → NamedTask (Some w) (Some v) t
   candump_named is h =
       let tick = some_then v.tick _ t h in
       let from = some_map v.from _ t tick.2 in
-      is_named (Some v) w t (Candump tick.0 from.0) (tick.1, from.1) is (ap Some from.2)
+      is_named (Some v) w t (Candump tick.0 from.0 v.window) (tick.1, from.1, refl) is (ap Some from.2)
+
+  trace_named : w ≡ codes "trace" → trace_task v ≡ Some t → NamedTask (Some w) (Some v) t
+  trace_named is h =
+      let pick = some_map v.pick _ t h in
+      is_named (Some v) w t (Trace pick.0) pick.1 is (ap Some pick.2)
 
   sweep_named : w ≡ codes "sweep" → sweep_task v ≡ Some t → NamedTask (Some w) (Some v) t
   sweep_named is h =
@@ -76,7 +80,9 @@ module _ (v : Values) (w : Text) (t : Task) where
   valued_named : valued_task w v ≡ Some t → NamedTask (Some w) (Some v) t
   valued_named =
       chosen w (codes "merge") _ _ t (is_named (Some v) w t (Merge v.limits) refl) (chosen w (codes "horizon") _ _ t (is_named (Some v) w t (Horizon v.limits) refl)
-      (chosen w (codes "run") _ _ t run_named (chosen w (codes "candump") _ _ t candump_named (chosen w (codes "sweep") _ _ t sweep_named other_named))))
+      (chosen w (codes "records") _ _ t (is_named (Some v) w t (Records v.window) refl)
+      (chosen w (codes "run") _ _ t run_named (chosen w (codes "trace") _ _ t trace_named
+      (chosen w (codes "candump") _ _ t candump_named (chosen w (codes "sweep") _ _ t sweep_named other_named))))))
 
 of_values : (w : Text) (t : Task) (given : Option Values) → option_and_then (valued_task w) given ≡ Some t → NamedTask (Some w) given t
 of_values w t (Some v) is = valued_named v w t is
@@ -94,15 +100,17 @@ of_found (Some w) given t is = of_either w t given (plain_task w) refl is
 
 found_by_word : (given : Option Values) (t : Task) → HasValues given t → task_named (Some (task_word t)) given ≡ Some t
 found_by_word given Check h = refl
-found_by_word given Records h = refl
 found_by_word given Explain h = refl
-found_by_word given Trace h = refl
 found_by_word (Some v) (Merge limits) h = ap (option_map (λ limits. Merge limits)) h
 found_by_word (Some v) (Horizon limits) h = ap (option_map (λ limits. Horizon limits)) h
-found_by_word (Some v) (Run workers link) h =
-    ap₂ (λ o p. option_and_then (λ workers. option_map (λ link. Run workers link) p) o) h.0 h.1
-found_by_word (Some v) (Candump tick from) h =
-    ap₂ (λ o p. option_and_then (λ tick. option_map (λ from. Candump tick from) p) o) h.0 h.1
+found_by_word (Some v) (Records window) h = ap (option_map (λ window. Records window)) h
+found_by_word (Some v) (Run workers link brief) h =
+    ap₂ (λ o p. option_and_then (λ workers. option_map (λ link. Run workers link v.brief) p) o) h.0 h.1
+    ∙ ap (λ q. Some (Run workers link (unwrap_or q brief))) h.2
+found_by_word (Some v) (Trace pick) h = ap (option_map (λ pick. Trace pick)) h
+found_by_word (Some v) (Candump tick from window) h =
+    ap₂ (λ o p. option_and_then (λ tick. option_map (λ from. Candump tick from v.window) p) o) h.0 h.1
+    ∙ ap (λ q. Some (Candump tick from (unwrap_or q window))) h.2
 found_by_word (Some v) (Sweep swept) h = ap (option_map (λ swept. Sweep swept)) h
 found_by_word (Some v) (Vcd tick) h = ap (option_map (λ tick. Vcd tick)) h
 found_by_word (Some v) (Page tick) h = ap (option_map (λ tick. Page tick)) h
@@ -111,8 +119,10 @@ found_by_word (Some v) (Traffic tick strict) h = ap₂ (λ o p. option_map (λ t
 found_by_word (Some v) (Settings tick shown) h = ap₂ (λ o p. option_map (λ tick. Settings tick (unwrap_or p shown)) o) h.0 h.1
 found_by_word None (Merge limits) h = let no : None ≡ Some limits = h in cc
 found_by_word None (Horizon limits) h = let no : None ≡ Some limits = h in cc
-found_by_word None (Run workers link) h = let no : None ≡ Some workers = h.0 in cc
-found_by_word None (Candump tick from) h = let no : None ≡ Some tick = h.0 in cc
+found_by_word None (Records window) h = let no : None ≡ Some window = h in cc
+found_by_word None (Trace pick) h = let no : None ≡ Some pick = h in cc
+found_by_word None (Run workers link brief) h = let no : None ≡ Some workers = h.0 in cc
+found_by_word None (Candump tick from window) h = let no : None ≡ Some tick = h.0 in cc
 found_by_word None (Sweep swept) h = let no : None ≡ Some swept = h in cc
 found_by_word None (Vcd tick) h = let no : None ≡ Some tick = h in cc
 found_by_word None (Page tick) h = let no : None ≡ Some tick = h in cc

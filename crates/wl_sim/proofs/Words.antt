@@ -19,7 +19,7 @@ use Rattle.wl_device.specs.Devices.{Answer}
 use Rattle.wl_engines.specs.declared.fault.RunFault.TheVariants as run
 use Rattle.wl_sweep_engine.specs.declared.fault.SweepFault.TheVariants as sweep
 use Rattle.wl_settings.specs.declared.fault.SettingsFault.TheVariants as settings
-use Rattle.wl_sim.specs.CommandLine.{task_word, tick_among, workers_among, read_link, link_among, entered, file_among, file_in, file_named, format_among, format_in, read_format, is_flagged, is_set, number_among, number_or_zero, plain_values, ranges_among, ranges_in, values_among, word_in, Enters, HasValues, NamesTask}
+use Rattle.wl_sim.specs.CommandLine.{node_among, only_among, read_only, task_word, tick_among, workers_among, read_link, link_among, entered, file_among, file_in, file_named, format_among, format_in, read_format, is_flagged, is_set, number_among, number_or_zero, plain_values, ranges_among, ranges_in, values_among, word_in, Enters, HasValues, NamesTask}
 use Rattle.wl_views.specs.Ticks.{read_tick}
 use Rattle.wl_sim.proofs.Naming.{one_found}
 use Rattle.wl_sim.specs.Tasks.{Does, DoesSweep, IsCount, run_status}
@@ -42,11 +42,11 @@ unfolding clap_on_literals
 word_enters (Merge limits) name h = ((refl, h), refl, refl)
 word_enters (Horizon limits) name h = ((refl, h), refl, refl)
 word_enters Check name h = ((refl, tt), refl, refl)
-word_enters Records name h = ((refl, tt), refl, refl)
-word_enters (Run workers kind) name h = ((refl, h), refl, refl)
+word_enters (Records window) name h = ((refl, h), refl, refl)
+word_enters (Run workers kind brief) name h = ((refl, h), refl, refl)
 word_enters Explain name h = ((refl, tt), refl, refl)
-word_enters Trace name h = ((refl, tt), refl, refl)
-word_enters (Candump tick from) name h = ((refl, h), refl, refl)
+word_enters (Trace pick) name h = ((refl, h), refl, refl)
+word_enters (Candump tick from window) name h = ((refl, h), refl, refl)
 word_enters (Vcd tick) name h = ((refl, h), refl, refl)
 word_enters (Page tick) name h = ((refl, h), refl, refl)
 word_enters (Margin tick all) name h = ((refl, h), refl, refl)
@@ -64,11 +64,11 @@ unfolding clap_on_literals
 word_names_none (Merge limits) name = (refl, refl, refl)
 word_names_none (Horizon limits) name = (refl, refl, refl)
 word_names_none Check name = (refl, refl, refl)
-word_names_none Records name = (refl, refl, refl)
-word_names_none (Run workers kind) name = (refl, refl, refl)
+word_names_none (Records window) name = (refl, refl, refl)
+word_names_none (Run workers kind brief) name = (refl, refl, refl)
 word_names_none Explain name = (refl, refl, refl)
-word_names_none Trace name = (refl, refl, refl)
-word_names_none (Candump tick from) name = (refl, refl, refl)
+word_names_none (Trace pick) name = (refl, refl, refl)
+word_names_none (Candump tick from window) name = (refl, refl, refl)
 word_names_none (Vcd tick) name = (refl, refl, refl)
 word_names_none (Page tick) name = (refl, refl, refl)
 word_names_none (Margin tick all) name = (refl, refl, refl)
@@ -82,11 +82,11 @@ unfolding clap_on_literals
 word_format (Merge limits) name = refl
 word_format (Horizon limits) name = refl
 word_format Check name = refl
-word_format Records name = refl
-word_format (Run workers kind) name = refl
+word_format (Records window) name = refl
+word_format (Run workers kind brief) name = refl
 word_format Explain name = refl
-word_format Trace name = refl
-word_format (Candump tick from) name = refl
+word_format (Trace pick) name = refl
+word_format (Candump tick from window) name = refl
 word_format (Vcd tick) name = refl
 word_format (Page tick) name = refl
 word_format (Margin tick all) name = refl
@@ -116,6 +116,14 @@ tick_text f = ap (option_and_then read_tick) (sym (first_value-rows f (codes "ti
 -- the workers of an option, by its text
 pub workers_text : (f : Found) → workers_among (rows_of f) ≡ option_map byte_or_zero (first_value f (codes "workers"))
 workers_text f = ap (option_map byte_or_zero) (sym (first_value-rows f (codes "workers")))
+
+-- the node of an option, by its text
+pub node_text : (f : Found) → node_among (rows_of f) ≡ option_map byte_or_zero (first_value f (codes "node"))
+node_text f = ap (option_map byte_or_zero) (sym (first_value-rows f (codes "node")))
+
+-- the kind of events of an option, by its text
+pub only_text : (f : Found) → only_among (rows_of f) ≡ option_map_or read_only (first_value f (codes "only")) (Some None)
+only_text f = ap (λ o. option_map_or read_only o (Some None)) (sym (first_value-rows f (codes "only")))
 
 -- ranges, by their texts
 pub ranges_text : (f : Found) → ranges_among (rows_of f) ≡ unwrap_or (option_map raw_values (matched_of f (codes "vary"))) []
@@ -190,11 +198,11 @@ module _ {S T : Type 0} (gives : S → Answer → S → Type 0) (takes : T → A
   does_nothing s s' t t' (Merge limits) h = (Err run.Memory, h, refl)
   does_nothing s s' t t' (Horizon limits) h = (Err run.Memory, h, refl)
   does_nothing s s' t t' Check h = (Err run.Memory, h, refl)
-  does_nothing s s' t t' Records h = (Err run.Memory, h, refl)
-  does_nothing s s' t t' (Run workers kind) h = (Err run.Memory, both_same (workers == 1) h, refl)
+  does_nothing s s' t t' (Records window) h = (Err run.Memory, h, refl)
+  does_nothing s s' t t' (Run workers kind brief) h = (Err run.Memory, both_same (workers == 1) h, refl)
   does_nothing s s' t t' Explain h = (Err run.Memory, h, refl)
-  does_nothing s s' t t' Trace h = (Err run.Memory, h, refl)
-  does_nothing s s' t t' (Candump tick from) h = (Err run.Memory, h, refl)
+  does_nothing s s' t t' (Trace pick) h = (Err run.Memory, h, refl)
+  does_nothing s s' t t' (Candump tick from window) h = (Err run.Memory, h, refl)
   does_nothing s s' t t' (Vcd tick) h = (Err run.Memory, h, refl)
   does_nothing s s' t t' (Page tick) h = (Err run.Memory, h, refl)
   does_nothing s s' t t' (Margin tick all) h = (Err run.Memory, h, refl)

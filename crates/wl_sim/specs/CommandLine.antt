@@ -25,8 +25,12 @@ use Rattle.wl_sim.specs.declared.command.Task.{Task}
 use Rattle.wl_sim.specs.declared.command.Task.TheVariants.{Merge, Horizon, Check, Records, Run, Explain, Trace, Candump, Vcd, Page, Margin, Traffic, Settings, Sweep}
 use Rattle.wl_sim.specs.declared.sweep.Swept.{Swept}
 use Rattle.wl_sim.specs.declared.values.Values.{Values}
+use Rattle.wl_views.specs.declared.pick.EventKind.{EventKind}
+use Rattle.wl_views.specs.declared.pick.EventKind.TheVariants as kinds
+use Rattle.wl_views.specs.declared.pick.Pick.{Pick}
 use Rattle.wl_views.specs.declared.tick.Tick.{Tick}
 use Rattle.wl_views.specs.declared.tick.TimeUnit.TheVariants.{Nanosecond}
+use Rattle.wl_views.specs.declared.window.Window.{Window}
 use Rattle.wl_views.specs.Ticks.{read_tick}
 
 -- the word of a task
@@ -34,11 +38,11 @@ abbrev pub task_word : Task → Text
 task_word (Merge limits) = codes "merge"
 task_word (Horizon limits) = codes "horizon"
 task_word Check = codes "check"
-task_word Records = codes "records"
-task_word (Run workers kind) = codes "run"
+task_word (Records window) = codes "records"
+task_word (Run workers kind brief) = codes "run"
 task_word Explain = codes "explain"
-task_word Trace = codes "trace"
-task_word (Candump tick from) = codes "candump"
+task_word (Trace pick) = codes "trace"
+task_word (Candump tick from window) = codes "candump"
 task_word (Vcd tick) = codes "vcd"
 task_word (Page tick) = codes "page"
 task_word (Margin tick all) = codes "margin"
@@ -84,9 +88,33 @@ abbrev pub from_rule : Rule
 from_rule =
     record (new_rule (codes "from")) { long = Some (codes "from"); value_names = 1; defaults = codes "0" ∷ []; parser = Some (Signed (pos 0) (pos (2 ^ 32 - 1))) }
 
--- a subcommand with the options of `candump`
+-- an option with a tick, by its name on the command line
+abbrev pub ticks_rule : Text → Text → Rule
+ticks_rule id name = record (new_rule id) { long = Some name; value_names = 1; parser = Some (Unsigned 0 (2 ^ 64 - 1)) }
+
+-- a subcommand with a window: the option of its first tick has this name, and `--to` is the first tick after it
+abbrev pub windowed_app : Text → App → App
+windowed_app first app = with_rule (with_rule app (ticks_rule (codes "since") first)) (ticks_rule (codes "until") (codes "to"))
+
+-- a subcommand with the options of `candump`, whose `--from` isn't a window's
 abbrev pub candump_app : App → App
-candump_app app = with_rule (timed_app app) from_rule
+candump_app app = windowed_app (codes "since") (with_rule (timed_app app) from_rule)
+
+-- of `records`
+abbrev pub records_app : App → App
+records_app app = windowed_app (codes "from") app
+
+-- the option `--node`, the number of a node
+abbrev pub node_rule : Rule
+node_rule = record (new_rule (codes "node")) { long = Some (codes "node"); value_names = 1; parser = Some (Signed (pos 0) (pos 63)) }
+
+-- the option `--only`, a kind of events
+abbrev pub only_rule : Rule
+only_rule = record (new_rule (codes "only")) { long = Some (codes "only"); value_names = 1 }
+
+-- of `trace`
+abbrev pub trace_app : App → App
+trace_app app = formatted_app (with_rule (with_rule (windowed_app (codes "from") app) node_rule) only_rule)
 
 -- of `merge` and `horizon`
 abbrev pub wide_app : App → App
@@ -111,7 +139,7 @@ link_rule = record (new_rule (codes "link")) { long = Some (codes "link"); value
 
 -- a subcommand with the options of `run`
 abbrev pub run_app : App → App
-run_app app = formatted_app (with_rule (with_rule app workers_rule) link_rule)
+run_app app = formatted_app (with_rule (with_rule (with_rule app workers_rule) link_rule) (flag_rule (codes "brief")))
 
 -- the options of `settings`: how many are listed, a number above 0, and that the plan of the best one is written
 abbrev pub best_rule : Rule
@@ -160,12 +188,13 @@ sweep_app app = formatted_app (swept_app app)
 abbrev pub optioned_app : Text → App → App
 optioned_app word app =
     if bytes_eq word (codes "merge") then wide_app app else (if bytes_eq word (codes "horizon") then wide_app app else
+    (if bytes_eq word (codes "records") then records_app app else
     (if bytes_eq word (codes "check") then formatted_app app else (if bytes_eq word (codes "explain") then formatted_app app else
-    (if bytes_eq word (codes "trace") then formatted_app app else (if bytes_eq word (codes "run") then run_app app else
+    (if bytes_eq word (codes "trace") then trace_app app else (if bytes_eq word (codes "run") then run_app app else
     (if bytes_eq word (codes "vcd") then timed_app app else (if bytes_eq word (codes "page") then timed_app app else
     (if bytes_eq word (codes "candump") then candump_app app else (if bytes_eq word (codes "margin") then margin_app app else
     (if bytes_eq word (codes "traffic") then traffic_app app else (if bytes_eq word (codes "settings") then settings_app app else
-    (if bytes_eq word (codes "sweep") then sweep_app app else app))))))))))))
+    (if bytes_eq word (codes "sweep") then sweep_app app else app)))))))))))))
 
 -- the subcommand of a word
 abbrev pub subcommand_app : Text → App
@@ -316,6 +345,33 @@ shown_among rows = if is_flagged (codes "plan") rows then Plan else Best (number
 abbrev pub limits_among : List Row → Limits
 limits_among rows = if is_flagged (codes "wide") rows then Wide else Narrow
 
+-- the window that the options say: from tick 0 on where no first tick is given
+abbrev pub window_among : List Row → Window
+window_among rows = record { from = unwrap_or (number_among 64 (codes "since") rows) 0; to = number_among 64 (codes "until") rows }
+
+-- the kind of events that a text names
+abbrev pub read_only : Text → Option (Option EventKind)
+read_only text =
+    if bytes_eq text (codes "lost") then Some (Some kinds.Lost)
+    else (if bytes_eq text (codes "error") then Some (Some kinds.Error)
+    else (if bytes_eq text (codes "flag") then Some (Some kinds.Flag)
+    else (if bytes_eq text (codes "frame") then Some (Some kinds.Frame)
+    else (if bytes_eq text (codes "mode") then Some (Some kinds.Mode)
+    else (if bytes_eq text (codes "sync") then Some (Some kinds.Sync)
+    else None)))))
+
+-- the kind that the option gives; events of all kinds where it isn't given
+abbrev pub only_among : List Row → Option (Option EventKind)
+only_among rows = option_map_or read_only (first_of (codes "only") rows) (Some None)
+
+-- the number of a node that the option gives
+abbrev pub node_among : List Row → Option ℕ
+node_among rows = option_map byte_or_zero (first_of (codes "node") rows)
+
+-- which events the options ask for
+abbrev pub pick_among : List Row → Option Pick
+pick_among rows = option_map (λ only. record { window = window_among rows; node = node_among rows; only = only }) (only_among rows)
+
 -- what the options say that only some tasks have
 abbrev pub values_among : List Row → Values
 values_among rows = record {
@@ -328,24 +384,31 @@ values_among rows = record {
   all_send = is_flagged (codes "all-send") rows;
   limits = limits_among rows;
   from = number_among 32 (codes "from") rows;
+  window = window_among rows;
+  pick = pick_among rows;
+  brief = is_flagged (codes "brief") rows;
 }
 
 -- a task that has values of options has these
 abbrev pub HasValues : Option Values → Task → Type 0
-HasValues given (Candump tick from) = (option_and_then (λ v. v.tick) given ≡ Some tick) × (option_and_then (λ v. v.from) given ≡ Some from)
+HasValues given (Candump tick from window) =
+    (option_and_then (λ v. v.tick) given ≡ Some tick) × (option_and_then (λ v. v.from) given ≡ Some from)
+    × (option_map (λ v. v.window) given ≡ Some window)
 HasValues given (Vcd tick) = option_and_then (λ v. v.tick) given ≡ Some tick
 HasValues given (Page tick) = option_and_then (λ v. v.tick) given ≡ Some tick
 HasValues given (Margin tick all) = (option_and_then (λ v. v.tick) given ≡ Some tick) × (option_map (λ v. v.all_send) given ≡ Some all)
 HasValues given (Traffic tick strict) = (option_and_then (λ v. v.tick) given ≡ Some tick) × (option_map (λ v. v.strict) given ≡ Some strict)
 HasValues given (Settings tick shown) = (option_and_then (λ v. v.tick) given ≡ Some tick) × (option_map (λ v. v.shown) given ≡ Some shown)
-HasValues given (Run workers kind) = (option_and_then (λ v. v.workers) given ≡ Some workers) × (option_and_then (λ v. v.link) given ≡ Some kind)
+HasValues given (Run workers kind brief) =
+    (option_and_then (λ v. v.workers) given ≡ Some workers) × (option_and_then (λ v. v.link) given ≡ Some kind)
+    × (option_map (λ v. v.brief) given ≡ Some brief)
 HasValues given (Sweep swept) = option_and_then (λ v. v.swept) given ≡ Some swept
 HasValues given (Merge limits) = option_map (λ v. v.limits) given ≡ Some limits
 HasValues given (Horizon limits) = option_map (λ v. v.limits) given ≡ Some limits
 HasValues given Check = Unit {0}
-HasValues given Records = Unit {0}
+HasValues given (Records window) = option_map (λ v. v.window) given ≡ Some window
 HasValues given Explain = Unit {0}
-HasValues given Trace = Unit {0}
+HasValues given (Trace pick) = option_and_then (λ v. v.pick) given ≡ Some pick
 
 -- this word and these values make this task
 abbrev pub NamedTask : Option Text → Option Values → Task → Type 0
@@ -355,17 +418,18 @@ NamedTask word given t = (word ≡ Some (task_word t)) × HasValues given t
 abbrev pub plain_task : Text → Option Task
 plain_task word =
     if bytes_eq word (codes "check") then Some Check
-    else (if bytes_eq word (codes "records") then Some Records
     else (if bytes_eq word (codes "explain") then Some Explain
-    else (if bytes_eq word (codes "trace") then Some Trace
-    else None)))
+    else None)
 
 -- the tasks with values of options that may be missing
 abbrev pub run_task : Values → Option Task
-run_task values = option_and_then (λ workers. option_map (λ link. Run workers link) values.link) values.workers
+run_task values = option_and_then (λ workers. option_map (λ link. Run workers link values.brief) values.link) values.workers
 
 abbrev pub candump_task : Values → Option Task
-candump_task values = option_and_then (λ tick. option_map (λ from. Candump tick from) values.from) values.tick
+candump_task values = option_and_then (λ tick. option_map (λ from. Candump tick from values.window) values.from) values.tick
+
+abbrev pub trace_task : Values → Option Task
+trace_task values = option_map (λ pick. Trace pick) values.pick
 
 abbrev pub sweep_task : Values → Option Task
 sweep_task values = option_map (λ swept. Sweep swept) values.swept
@@ -385,10 +449,12 @@ abbrev pub valued_task : Text → Values → Option Task
 valued_task word values =
     if bytes_eq word (codes "merge") then Some (Merge values.limits)
     else (if bytes_eq word (codes "horizon") then Some (Horizon values.limits)
+    else (if bytes_eq word (codes "records") then Some (Records values.window)
     else (if bytes_eq word (codes "run") then run_task values
+    else (if bytes_eq word (codes "trace") then trace_task values
     else (if bytes_eq word (codes "candump") then candump_task values
     else (if bytes_eq word (codes "sweep") then sweep_task values
-    else option_and_then (timed_task word values) values.tick))))
+    else option_and_then (timed_task word values) values.tick))))))
 
 -- the first of two
 abbrev pub or_task : Option Task → Option Task → Option Task
@@ -418,7 +484,7 @@ plainly_swept = record {
 }
 
 -- where the words say nothing of it a tick is a nanosecond, one worker runs, over a hub if it were several, all settings are listed, and the status
--- says nothing of a run, and tick 0 is at second 0
+-- says nothing of a run, tick 0 is at second 0, all of a run is written, and a report has its lines of frames
 abbrev pub plain_values : Values
 plain_values = record {
   tick = Some (record { count = 1; unit = Nanosecond });
@@ -430,6 +496,9 @@ plain_values = record {
   limits = Narrow;
   shown = Best None;
   from = Some 0;
+  window = record { from = 0; to = None };
+  pick = Some (record { window = record { from = 0; to = None }; node = None; only = None });
+  brief = false;
 }
 
 -- the program's own name, and after it the word of the task alone: clap enters the task there, with plain values

@@ -20,9 +20,9 @@ use Rattle.wl_engines.specs.Horizon.{TellsHorizons}
 use Rattle.wl_engines.specs.Margin.{IsMarginOutput, RunsBus}
 use Rattle.wl_engines.specs.Merge.{Merges}
 use Rattle.wl_engines.specs.Paged.{Pages}
-use Rattle.wl_engines.specs.Plans.{RunsPlan, IsRecordsOutput, IsRunOutput, IsTraceOutput, IsCandumpOutput, IsVcdOutput}
+use Rattle.wl_engines.specs.Plans.{RunsPlan, IsRecordsWithin, IsReportOutput, IsTracePicked, IsCandumpWithin, IsVcdOutput}
 use Rattle.wl_engines.specs.TrafficRun.{RunsTraffic}
-use Rattle.wl_engines.specs.Workers.{RunsByWorkers}
+use Rattle.wl_engines.specs.Workers.{RunsByWorkersAs}
 use Rattle.wl_setup.specs.declared.fault.SetupFault.TheVariants as setup
 use Rattle.wl_settings.specs.declared.fault.SettingsFault.{SettingsFault}
 use Rattle.wl_settings.specs.declared.fault.SettingsFault.TheVariants as settings
@@ -122,11 +122,11 @@ abbrev pub subject_of : Task → Option Subject
 subject_of (Merge limits) = None
 subject_of (Horizon limits) = None
 subject_of Check = Some subject.Check
-subject_of Records = None
-subject_of (Run workers kind) = Some subject.Run
+subject_of (Records window) = None
+subject_of (Run workers kind brief) = Some subject.Run
 subject_of Explain = Some subject.Explain
-subject_of Trace = Some subject.Trace
-subject_of (Candump tick from) = None
+subject_of (Trace pick) = Some subject.Trace
+subject_of (Candump tick from window) = None
 subject_of (Vcd tick) = None
 subject_of (Page tick) = None
 subject_of (Margin tick all) = Some subject.Margin
@@ -159,12 +159,12 @@ module _ {S T : Type 0} (gives : S → Answer → S → Type 0) (takes : T → A
   Does (Merge limits) ranges r = Plainly (Merges limits gives takes s s' t t') r
   Does (Horizon limits) ranges r = Plainly (TellsHorizons limits gives takes s s' t t') r
   Does Check ranges r = Plainly (RunsPlan gives takes IsPlanCheck s s' t t') r
-  Does Records ranges r = Plainly (RunsPlan gives takes IsRecordsOutput s s' t t') r
-  Does (Run workers kind) ranges r =
-      Plainly (λ a. MatchBool (workers == 1) (RunsPlan gives takes IsRunOutput s s' t t' a) (RunsByWorkers gives takes workers s s' t t' a)) r
+  Does (Records window) ranges r = Plainly (RunsPlan gives takes (IsRecordsWithin window) s s' t t') r
+  Does (Run workers kind brief) ranges r =
+      Plainly (λ a. MatchBool (workers == 1) (RunsPlan gives takes (IsReportOutput brief) s s' t t' a) (RunsByWorkersAs gives takes brief workers s s' t t' a)) r
   Does Explain ranges r = Plainly (Explains gives takes s s' t t') r
-  Does Trace ranges r = Plainly (RunsPlan gives takes IsTraceOutput s s' t t') r
-  Does (Candump tick from) ranges r = Plainly (RunsPlan gives takes (IsCandumpOutput tick from) s s' t t') r
+  Does (Trace pick) ranges r = Plainly (RunsPlan gives takes (IsTracePicked pick) s s' t t') r
+  Does (Candump tick from window) ranges r = Plainly (RunsPlan gives takes (IsCandumpWithin tick from window) s s' t t') r
   Does (Vcd tick) ranges r = Plainly (RunsPlan gives takes (IsVcdOutput tick) s s' t t') r
   Does (Page tick) ranges r = Plainly (Pages gives takes tick s s' t t') r
   Does (Margin tick all) ranges r = Plainly (RunsBus gives takes (IsMarginOutput tick all) s s' t t') r

@@ -2,7 +2,7 @@
 ghost use Rattle.std.specs.Prelude.{◌≡◌, ◌≢◌, ◌↔◌, map, string_bytes, codes, IfOk, IfErr, Some, option_map};
 ghost use Rattle.clap.specs.Words.{kind_of, subcommand_rows_of};
 ghost use Rattle.wl_sim.specs.CommandLine.{Enters, FoundTask, file_in, has_flag, ranges_in};
-ghost use Rattle.wl_sim.specs.CommandLine.{candump_task, plain_task, run_task, sweep_task, task_named, timed_task, valued_task};
+ghost use Rattle.wl_sim.specs.CommandLine.{candump_task, plain_task, run_task, sweep_task, task_named, timed_task, trace_task, valued_task};
 ghost use Rattle.wl_sim.specs.Orders.{FindsOrder, ReadsOrder};
 
 use crate::subcommands::matches_of;
@@ -21,7 +21,7 @@ use wl_formats::Format;
 use wl_limits::Limits;
 use wl_settings::Shown;
 use wl_setup::Text;
-use wl_views::Tick;
+use wl_views::{Pick, Tick, Window};
 
 /// What the program is asked to do.
 #[derive(Clone, Copy)]
@@ -32,17 +32,17 @@ pub enum Task {
     Horizon(Limits),
     /// The settings of a plan's nodes, and the delays between them.
     Check,
-    /// The records of a plan's simulation.
-    Records,
+    /// The records of a plan's simulation within a window.
+    Records(Window),
     /// The report of a plan's simulation by this many workers, 1 to 8, over this kind of link. One works alone, on the program's own
-    /// thread.
-    Run(u8, LinkKind),
+    /// thread. If it is to be brief, lines of frames are left out.
+    Run(u8, LinkKind, bool),
     /// What is doubtful of a plan, and the figures of its nodes; or what is wrong with it.
     Explain,
-    /// What happened to each node in a plan's simulation, and where.
-    Trace,
-    /// The log of the frames that a plan's simulation sends, at ticks that take so long, the first of them at this second.
-    Candump(Tick, u32),
+    /// What happened to each node in a plan's simulation, and where, as far as it is picked.
+    Trace(Pick),
+    /// The log of the frames that a plan's simulation sends within a window, at ticks that take so long, the first of them at this second.
+    Candump(Tick, u32, Window),
     /// The waveform of a plan's simulation, at ticks that take so long.
     Vcd(Tick),
     /// One page of HTML that shows a plan's simulation, at ticks that take so long.
@@ -93,9 +93,7 @@ fn plain_task(word: &str) -> Option<Task>
 {
     match word {
         "check" => Some(Task::Check),
-        "records" => Some(Task::Records),
         "explain" => Some(Task::Explain),
-        "trace" => Some(Task::Trace),
         _ => None,
     }
 }
@@ -104,14 +102,21 @@ fn plain_task(word: &str) -> Option<Task>
 fn run_task(values: &Values) -> Option<Task>
     ensures { result ≡ run_task values.now }
 {
-    Some(Task::Run(values.workers?, values.link?))
+    Some(Task::Run(values.workers?, values.link?, values.brief))
 }
 
 /// Returns the task of `candump`, if the values have what it wants.
 fn candump_task(values: &Values) -> Option<Task>
     ensures { result ≡ candump_task values.now }
 {
-    Some(Task::Candump(values.tick?, values.from?))
+    Some(Task::Candump(values.tick?, values.from?, values.window))
+}
+
+/// Returns the task of `trace`, if the values have what it wants.
+fn trace_task(values: &Values) -> Option<Task>
+    ensures { result ≡ trace_task values.now }
+{
+    Some(Task::Trace(values.pick?))
 }
 
 /// Returns the task of `sweep`, if the values have what it wants.
@@ -142,7 +147,9 @@ fn valued_task(word: &str, values: &Values) -> Option<Task>
     match word {
         "merge" => Some(Task::Merge(values.limits)),
         "horizon" => Some(Task::Horizon(values.limits)),
+        "records" => Some(Task::Records(values.window)),
         "run" => run_task(values),
+        "trace" => trace_task(values),
         "candump" => candump_task(values),
         "sweep" => sweep_task(values),
         _ => timed_task(word, values.tick?, values),
@@ -235,7 +242,9 @@ fn wanted(words: &[String]) -> &'static str {
     match words.get(1) {
         Some(word) => match word.as_str() {
             "run" => "--link wants hub or mail, and --format text, json or csv",
-            "check" | "explain" | "trace" | "sweep" => "--format wants text, json or csv",
+            "check" | "explain" | "sweep" => "--format wants text, json or csv",
+            "trace" =>
+                "--only wants lost, error, flag, frame, mode or sync, and --format text, json or csv",
             "margin" | "traffic" => {
                 "--tick wants 1 to 999 and ps, ns or us, as 125ps, and --format text, json or csv"
             }

@@ -17,9 +17,9 @@ pub(crate) fn subject_of(task: Task) -> Option<Subject>
 {
     match task {
         Task::Check => Some(Subject::Check),
-        Task::Run(_, _) => Some(Subject::Run),
+        Task::Run(_, _, _) => Some(Subject::Run),
         Task::Explain => Some(Subject::Explain),
-        Task::Trace => Some(Subject::Trace),
+        Task::Trace(_) => Some(Subject::Trace),
         Task::Margin(_, _) => Some(Subject::Margin),
         Task::Traffic(_, _) => Some(Subject::Traffic),
         Task::Sweep(swept) => {
@@ -31,8 +31,8 @@ pub(crate) fn subject_of(task: Task) -> Option<Subject>
         }
         Task::Merge(_)
         | Task::Horizon(_)
-        | Task::Records
-        | Task::Candump(_, _)
+        | Task::Records(_)
+        | Task::Candump(_, _, _)
         | Task::Vcd(_)
         | Task::Page(_)
         | Task::Settings(_, _) => None,

@@ -54,9 +54,10 @@ pub use answer::{Done, Fault};
 pub use command::{Order, Refusal, Task};
 pub use sweep::Swept;
 pub use wl_engines::{
-    LinkKind, RunFault, candump_run, check_run, explain_run, horizon_run, horizon_run_within,
-    margin_run, merge_run, merge_run_within, merges_as_one, page_run, plan_run, records_run,
-    trace_run, traffic_run, vcd_run, workers_run, workers_run_by,
+    Crew, LinkKind, RunFault, candump_run_within, check_run, explain_run, horizon_run,
+    horizon_run_within, margin_run, merge_run, merge_run_within, merges_as_one, page_run,
+    picked_trace_run, plan_run, plan_run_as, records_run_within, traffic_run, vcd_run, workers_run,
+    workers_run_as,
 };
 
 /// The statuses that the program ends with beside 0.
@@ -354,14 +355,21 @@ fn run<H: Threads + Wait + Sync + Eprint + Clock, R: Source, W: Sink>(
         Task::Merge(limits) => plainly(merge_run_within(alloc, limits, reader, writer)),
         Task::Horizon(limits) => plainly(horizon_run_within(alloc, limits, reader, writer)),
         Task::Check => plainly(check_run(alloc, reader, writer)),
-        Task::Records => plainly(records_run(alloc, reader, writer)),
-        Task::Run(1, _) => plainly(plan_run(alloc, reader, writer)),
-        Task::Run(workers, kind) => {
-            plainly(workers_run_by(rt, alloc, workers, kind, reader, writer))
+        Task::Records(window) => plainly(records_run_within(alloc, window, reader, writer)),
+        Task::Run(1, _, brief) => plainly(plan_run_as(alloc, brief, reader, writer)),
+        Task::Run(workers, kind, brief) => {
+            let crew = Crew {
+                workers,
+                kind,
+                brief,
+            };
+            plainly(workers_run_as(rt, alloc, crew, reader, writer))
         }
         Task::Explain => plainly(explain_run(alloc, reader, writer)),
-        Task::Trace => plainly(trace_run(alloc, reader, writer)),
-        Task::Candump(tick, from) => plainly(candump_run(alloc, tick, from, reader, writer)),
+        Task::Trace(pick) => plainly(picked_trace_run(alloc, pick, reader, writer)),
+        Task::Candump(tick, from, window) => {
+            plainly(candump_run_within(alloc, tick, from, window, reader, writer))
+        }
         Task::Vcd(tick) => plainly(vcd_run(alloc, tick, reader, writer)),
         Task::Page(tick) => plainly(page_run(alloc, tick, reader, writer)),
         Task::Margin(tick, all_send) => {

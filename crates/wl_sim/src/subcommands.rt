@@ -3,7 +3,7 @@ ghost use Rattle.std.specs.Prelude.{◌≡◌, map, string_bytes, IfSome, IfOk, 
 ghost use Rattle.clap.specs.Words.{app_of, rule_of, with_rule};
 ghost use Rattle.clap.specs.declared.builder.command.Command.TheViews.{out-Command};
 ghost use Rattle.wl_sim.specs.CommandLine.{FailsByMemory, MatchesWords, bare_program, is_task_word, optioned_app, program, program_alone, subcommand_app, with_word};
-ghost use Rattle.wl_sim.specs.CommandLine.{best_rule, candump_app, filed, flag_rule, format_rule, formatted_app, from_rule, input_rule, link_rule, margin_app, output_rule, run_app, settings_app, sweep_app, tick_rule, timed_app, traffic_app, workers_rule};
+ghost use Rattle.wl_sim.specs.CommandLine.{best_rule, candump_app, filed, flag_rule, format_rule, formatted_app, from_rule, input_rule, link_rule, margin_app, node_rule, only_rule, output_rule, records_app, run_app, settings_app, sweep_app, tick_rule, ticks_rule, timed_app, trace_app, traffic_app, windowed_app, workers_rule};
 
 use crate::sweep::with_sweep_options;
 use clap::{Arg, ArgAction, ArgMatches, Command, Error, value_parser};
@@ -29,6 +29,15 @@ const WIDE: &str = "Takes records of plans of version 4: 64 nodes, 268435457 cha
 
 /// What the help says of `--all-send`.
 const ALL_SEND: &str = "Asks about all nodes that don't only listen, as if each had frames";
+
+/// What the help says of the first tick of a window.
+const SINCE: &str = "Leaves out what is before this tick";
+
+/// What the help says of the first tick after a window.
+const UNTIL: &str = "Leaves out what is at this tick or later";
+
+/// What the help says of `--brief`.
+const BRIEF: &str = "Leaves out the lines of frames";
 
 /// What the help says of `--plan`.
 const PLAN: &str =
@@ -182,6 +191,40 @@ fn from_option<'a>(alloc: Global) -> Arg<'a>
         .default_value("0")
 }
 
+/// Returns the option with a tick that has this name on the command line.
+fn ticks_option<'a>(alloc: Global, id: &'a str, name: &'a str, help: &'a str) -> Arg<'a>
+    ensures rule { rule_of result ≡ ticks_rule id.now name.now }
+    ensures local { result.global ≡ false }
+{
+    Arg::new(alloc, id)
+        .long(name)
+        .value_name("TICK")
+        .help(help)
+        .value_parser(value_parser!(u64))
+}
+
+/// Returns the option that says whose events are written.
+fn node_option<'a>(alloc: Global) -> Arg<'a>
+    ensures rule { rule_of result ≡ node_rule }
+    ensures local { result.global ≡ false }
+{
+    Arg::new(alloc, "node")
+        .long("node")
+        .value_name("N")
+        .help("Writes the events of this node alone: its number, from 0 on")
+        .value_parser(value_parser!(u8).range(0..=63))
+}
+
+/// Returns the option that says which kind of events is written.
+fn only_option<'a>(alloc: Global) -> Arg<'a>
+    ensures rule { rule_of result ≡ only_rule }
+    ensures local { result.global ≡ false }
+{
+    Arg::new(alloc, "only").long("only").value_name("KIND").help(
+        "Writes events of this kind alone: lost, error, flag, frame, mode or sync",
+    )
+}
+
 /// Returns the option that says how many settings are listed.
 fn best_option<'a>(alloc: Global) -> Arg<'a>
     ensures rule { rule_of result ≡ best_rule }
@@ -220,7 +263,30 @@ fn with_run_options<'a>(alloc: Global, sub: Command<'a>) -> Result<Command<'a>, 
 {
     let several = with(sub, workers_option(alloc))?;
     let linked = with(several, link_option(alloc))?;
-    formatted(alloc, linked)
+    let brief = with(linked, flag_option(alloc, "brief", BRIEF))?;
+    formatted(alloc, brief)
+}
+
+/// Returns a subcommand with a window, whose first tick has an option of this name.
+fn windowed<'a>(alloc: Global, first: &'a str, sub: Command<'a>) -> Result<Command<'a>, AllocError>
+    requires { (out-Command sub).has_globals ≡ false }
+    ensures app { IfOk result (λ all. app_of all ≡ windowed_app first.now (app_of sub.entry)) }
+    ensures local { IfOk result (λ all. (out-Command all).has_globals ≡ false) }
+{
+    let since = with(sub, ticks_option(alloc, "since", first, SINCE))?;
+    with(since, ticks_option(alloc, "until", "to", UNTIL))
+}
+
+/// Returns a subcommand with the options of `trace`.
+fn with_trace_options<'a>(alloc: Global, sub: Command<'a>) -> Result<Command<'a>, AllocError>
+    requires { (out-Command sub).has_globals ≡ false }
+    ensures app { IfOk result (λ all. app_of all ≡ trace_app (app_of sub.entry)) }
+    ensures local { IfOk result (λ all. (out-Command all).has_globals ≡ false) }
+{
+    let within = windowed(alloc, "from", sub)?;
+    let of_node = with(within, node_option(alloc))?;
+    let of_kind = with(of_node, only_option(alloc))?;
+    formatted(alloc, of_kind)
 }
 
 /// Returns a subcommand with the options of `candump`.
@@ -230,7 +296,8 @@ fn with_log_options<'a>(alloc: Global, sub: Command<'a>) -> Result<Command<'a>, 
     ensures local { IfOk result (λ all. (out-Command all).has_globals ≡ false) }
 {
     let timed = timed(alloc, sub)?;
-    with(timed, from_option(alloc))
+    let dated = with(timed, from_option(alloc))?;
+    windowed(alloc, "since", dated)
 }
 
 /// Returns a subcommand with the options of `margin`.
@@ -285,9 +352,10 @@ fn optioned<'a>(alloc: Global, word: &str, sub: Command<'a>) -> Result<Command<'
     match word {
         "merge" => with(sub, flag_option(alloc, "wide", WIDE)),
         "horizon" => with(sub, flag_option(alloc, "wide", WIDE)),
+        "records" => windowed(alloc, "from", sub),
         "check" => formatted(alloc, sub),
         "explain" => formatted(alloc, sub),
-        "trace" => formatted(alloc, sub),
+        "trace" => with_trace_options(alloc, sub),
         "run" => with_run_options(alloc, sub),
         "vcd" => timed(alloc, sub),
         "page" => timed(alloc, sub),

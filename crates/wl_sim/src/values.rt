@@ -2,8 +2,8 @@
 ghost use Rattle.std.specs.Prelude.{◌≡◌, map, string_bytes, IfOk, false, option_and_then, option_map};
 ghost use Rattle.std.specs.Option.{option_map_or};
 ghost use Rattle.clap.specs.Words.{found_of, rows_of, subcommand_rows_of};
-ghost use Rattle.wl_sim.specs.CommandLine.{limits_among, file_among, file_named, is_flagged, is_set, link_among, number_among, ranges_among, ranges_in};
-ghost use Rattle.wl_sim.specs.CommandLine.{format_among, format_in, read_format, read_link, shown_among, swept_among, swept_by, tick_among, values_among, workers_among};
+ghost use Rattle.wl_sim.specs.CommandLine.{limits_among, file_among, file_named, is_flagged, is_set, link_among, node_among, number_among, only_among, pick_among, ranges_among, ranges_in};
+ghost use Rattle.wl_sim.specs.CommandLine.{format_among, format_in, read_format, read_link, read_only, shown_among, swept_among, swept_by, tick_among, values_among, window_among, workers_among};
 
 use crate::sweep::Swept;
 use clap::ArgMatches;
@@ -14,7 +14,7 @@ use wl_limits::Limits;
 use wl_settings::Shown;
 use wl_setup::Text;
 use wl_sweep_engine::{Asked, Options};
-use wl_views::Tick;
+use wl_views::{EventKind, Pick, Tick, Window};
 
 /// What the options of a subcommand say that only some tasks have.
 #[derive(Clone, Copy)]
@@ -37,6 +37,12 @@ pub(crate) struct Values {
     pub(crate) limits: Limits,
     /// The second of tick 0.
     pub(crate) from: Option<u32>,
+    /// Which part of a run is written.
+    pub(crate) window: Window,
+    /// Which events of a trace are written.
+    pub(crate) pick: Option<Pick>,
+    /// Whether a report has no lines of frames.
+    pub(crate) brief: bool,
 }
 
 /// Returns the tick that a subcommand's option gives.
@@ -249,6 +255,62 @@ fn limits_in(matches: &ArgMatches) -> Limits
     }
 }
 
+/// Returns the window that the options of a subcommand say: from tick 0 on if no first tick is given.
+fn window_in(matches: &ArgMatches) -> Window
+    ensures { result ≡ window_among (rows_of (found_of matches.now)) }
+{
+    Window {
+        from: number_in(matches, "since").unwrap_or(0),
+        to: number_in(matches, "until"),
+    }
+}
+
+/// Returns the kind of events that a text names. `None` if there is no such kind.
+fn only_named(text: &str) -> Option<Option<EventKind>>
+    ensures { result ≡ read_only text.now }
+{
+    match text {
+        "lost" => Some(Some(EventKind::Lost)),
+        "error" => Some(Some(EventKind::Error)),
+        "flag" => Some(Some(EventKind::Flag)),
+        "frame" => Some(Some(EventKind::Frame)),
+        "mode" => Some(Some(EventKind::Mode)),
+        "sync" => Some(Some(EventKind::Sync)),
+        _ => None,
+    }
+}
+
+/// Returns the kind of events that a subcommand's option gives, if it gives one. `None` if there is no such kind.
+#[tactic(auto, using(crate::proofs::Words::only_text))]
+fn only_in(matches: &ArgMatches) -> Option<Option<EventKind>>
+    ensures { result ≡ only_among (rows_of (found_of matches.now)) }
+{
+    match matches.get_str("only") {
+        Some(text) => only_named(text),
+        None => Some(None),
+    }
+}
+
+/// Returns the number of a node that a subcommand's option gives. Its range keeps out what is no number from 0 to 63.
+fn node_in(matches: &ArgMatches) -> Option<u8>
+    ensures { result ≡ node_among (rows_of (found_of matches.now)) }
+{
+    let text = matches.get_str("node")?;
+    Some(text.parse().unwrap_or(0))
+}
+
+/// Returns which events the options of a subcommand ask for.
+fn pick_in(matches: &ArgMatches) -> Option<Pick>
+    ensures { result ≡ pick_among (rows_of (found_of matches.now)) }
+{
+    let only = only_in(matches)?;
+    Some(Pick {
+        window: window_in(matches),
+        node: node_in(matches),
+        only,
+    })
+}
+
 /// Returns what the options of a subcommand say.
 fn values_in(matches: &ArgMatches) -> Values
     ensures { result ≡ values_among (rows_of (found_of matches.now)) }
@@ -263,6 +325,9 @@ fn values_in(matches: &ArgMatches) -> Values
         all_send: flag_in(matches, "all-send"),
         limits: limits_in(matches),
         from: small_number_in(matches, "from"),
+        window: window_in(matches),
+        pick: pick_in(matches),
+        brief: flag_in(matches, "brief"),
     }
 }
 

@@ -1,0 +1,82 @@
+"""Compares what the program writes of a window of a run with the lines of the whole text that the window has, and a brief report with the whole one.
+
+usage: check/windows.py PROGRAM [--plans N] [--seed N]
+
+Plans are random ones, of which most are refused for nothing and many have errors. Each is asked for a window at random, whose ends are often ticks of
+the text itself: `trace` also for one node and one kind of events, `records`, `candump` at ticks of a microsecond, which its times have whole, and
+`run --brief`.
+"""
+import random
+import sys
+
+sys.dont_write_bytecode = True
+import random_plans
+from tally import Tally, asked, options_of
+
+KINDS = {"lost": ("lost",), "error": ("error",), "flag": ("flag",), "frame": ("sent", "received"), "mode": ("mode",), "sync": ("sync",)}
+
+
+def trace_tick(line): return int(line.split()[0])
+
+
+def record_tick(line): return int(line.split()[-1])
+
+
+def log_tick(line): return int(line[1:11]) * 1_000_000 + int(line[12:18])
+
+
+def random_window(rng, ticks):
+    """Returns a first tick and the first one after the window, either of which may be missing."""
+    near = [tick + rng.choice([0, 0, 1, -1]) for tick in ticks] or [0]
+    ends = sorted(max(0, rng.choice([rng.choice(near), rng.randint(0, max(near) + 1)])) for _ in range(2))
+    if rng.random() < 0.1: ends.reverse()
+    return tuple(None if rng.random() < 0.15 else end for end in ends)
+
+
+def is_within(window, tick):
+    first, after = window
+    return (first is None or first <= tick) and (after is None or tick < after)
+
+
+def words_of(first_word, window):
+    words = []
+    for word, tick in zip((first_word, "--to"), window):
+        if tick is not None: words += [word, str(tick)]
+    return words
+
+
+def compare(tally, program, rng, text):
+    """Compares each command on one plan."""
+    whole, _, status = asked(program, "trace", text=text)
+    if status != 0: return tally.count("plans", "refused")
+    tally.count("plans", "taken")
+    lines = whole.splitlines(True)
+    window = random_window(rng, [trace_tick(line) for line in lines])
+    node, only = rng.choice([None, None, rng.randint(0, 5)]), rng.choice([None, None, *KINDS])
+    shown = [line for line in lines if is_within(window, trace_tick(line)) and (node is None or line.split()[1] == str(node))
+             and (only is None or line.split()[7] in KINDS[only])]
+    words = words_of("--from", window) + ([] if node is None else ["--node", str(node)]) + ([] if only is None else ["--only", only])
+    tally.compare("window", "trace", text, asked(program, "trace", *words, text=text), ("".join(shown), "", 0))
+    for word, first, tick_of, more in (("records", "--from", record_tick, []), ("candump", "--since", log_tick, ["--tick", "1us"])):
+        lines = asked(program, word, *more, text=text)[0].splitlines(True)
+        window = random_window(rng, [tick_of(line) for line in lines])
+        shown = "".join(line for line in lines if is_within(window, tick_of(line)))
+        tally.compare("window", word, text, asked(program, word, *more, *words_of(first, window), text=text), (shown, "", 0))
+    shown = "".join(line for line in asked(program, "run", text=text)[0].splitlines(True) if not line.startswith("frame "))
+    workers = rng.choice([[], [], [], ["--workers", "2"]])
+    tally.compare("brief", "run", text, asked(program, "run", "--brief", *workers, text=text), (shown, "", 0))
+
+
+def main():
+    words = sys.argv[1:]
+    if not words: sys.exit(sys.stderr.write(f"{__doc__}") and 2)
+    options = options_of(f"{__doc__}", words[1:], {"plans": "100", "seed": "1"})
+    rng, tally = random.Random(int(options["seed"])), Tally()
+    for _ in range(int(options["plans"])):
+        compare(tally, words[0], rng, random_plans.toml_text(random_plans.random_plan(rng), False).encode() + b"\n")
+    print(tally.counts, f"differ {tally.differ}")
+    for name, word, text, got, wanted in tally.kept[:5]: print(name, word, text.decode(), got, wanted, sep="\n")
+    sys.exit(tally.differ > 0)
+
+
+if __name__ == "__main__": main()
