@@ -19,7 +19,7 @@ _wireline() {
     sweep) options+=' --vary --step --runs --seed --keep-offsets --keep-ppm --worst --workers --print --page --format' ;;
   esac
   if [ "$COMP_CWORD" = 1 ]; then
-    mapfile -t COMPREPLY < <(compgen -W 'run check explain trace candump vcd page margin traffic settings records merge horizon sweep build test completions help' -- "$word")
+    mapfile -t COMPREPLY < <(compgen -W 'run check format explain trace candump vcd page margin traffic settings records merge horizon sweep build test completions help' -- "$word")
   elif [[ $word = -* ]]; then mapfile -t COMPREPLY < <(compgen -W "$options" -- "$word")
   else mapfile -t COMPREPLY < <(compgen -f -- "$word"); fi
 }

@@ -1,5 +1,5 @@
 # Completions of ./wireline for fish: ./wireline completions fish | source
-complete -c wireline -n __fish_use_subcommand -f -a 'run check explain trace candump vcd page margin traffic settings records merge horizon sweep build test completions help'
+complete -c wireline -n __fish_use_subcommand -f -a 'run check format explain trace candump vcd page margin traffic settings records merge horizon sweep build test completions help'
 complete -c wireline -n 'not __fish_use_subcommand' -l hint -d 'what to change after a fault'
 complete -c wireline -n 'not __fish_use_subcommand' -l progress -d 'how long the run has taken'
 complete -c wireline -n 'not __fish_use_subcommand' -s o -r -d 'the file to write'
@@ -7,7 +7,7 @@ complete -c wireline -n '__fish_seen_subcommand_from run sweep' -l workers -x -a
 complete -c wireline -n '__fish_seen_subcommand_from run' -l link -x -a 'hub mail' -d 'what they hand records over by'
 complete -c wireline -n '__fish_seen_subcommand_from candump vcd page margin traffic settings' -l tick -x -d 'how long a tick takes'
 complete -c wireline -n '__fish_seen_subcommand_from candump' -l from -x -d 'the second of tick 0'
-complete -c wireline -n '__fish_seen_subcommand_from run check explain trace margin traffic sweep' -l format -x -a 'text json csv' -d 'the form of the output'
+complete -c wireline -n '__fish_seen_subcommand_from run check format explain trace margin traffic sweep' -l format -x -a 'text json csv' -d 'the form of the output'
 complete -c wireline -n '__fish_seen_subcommand_from settings' -l best -x -d 'the most settings that are listed'
 complete -c wireline -n '__fish_seen_subcommand_from settings' -l plan -d 'the plan of the best one'
 complete -c wireline -n '__fish_seen_subcommand_from merge horizon' -l wide -d 'records of plans of version 4'

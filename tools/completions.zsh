@@ -4,7 +4,7 @@ _wireline() {
   local -a options=('--hint[what to change after a fault]' '--progress[how long the run has taken]' '-o[the file to write]:file:_files' '--help' '*:file:_files')
   local format='--format[the form of the output]:form:(text json csv)'
   if (( CURRENT == 2 )); then
-    compadd run check explain trace candump vcd page margin traffic settings records merge horizon sweep build test completions help
+    compadd run check format explain trace candump vcd page margin traffic settings records merge horizon sweep build test completions help
     return
   fi
   case $words[2] in

@@ -40,7 +40,7 @@ hand_over() { # hand_over PROGRAM WORD..: becomes the program, with the words th
     words+=("$word") before=$word
   done
   case ${1-} in
-    run | check | records | explain | trace | candump | vcd | page | margin | traffic | settings | merge | horizon | sweep)
+    run | check | format | records | explain | trace | candump | vcd | page | margin | traffic | settings | merge | horizon | sweep)
       exec "$program" "$1" "${said[@]}" "${words[@]}"
       ;;
   esac

@@ -5,7 +5,7 @@ use Rattle.std.proofs.lemmas.Slice.Eq.{bytes_eq-Decides}
 use Rattle.clap.specs.Words.{Text}
 use Rattle.wl_sim.specs.CommandLine.{HasValues, NamedTask, candump_task, or_task, plain_task, run_task, sweep_task, task_named, task_word, timed_task, trace_task, valued_task}
 use Rattle.wl_sim.specs.declared.command.Task.{Task}
-use Rattle.wl_sim.specs.declared.command.Task.TheVariants.{Merge, Horizon, Check, Records, Run, Explain, Trace, Candump, Vcd, Page, Margin, Traffic, Settings, Sweep}
+use Rattle.wl_sim.specs.declared.command.Task.TheVariants.{Merge, Horizon, Check, Upgrade, Records, Run, Explain, Trace, Candump, Vcd, Page, Margin, Traffic, Settings, Sweep}
 use Rattle.wl_sim.specs.declared.values.Values.{Values}
 use Rattle.wl_views.specs.declared.tick.Tick.{Tick}
 
@@ -38,8 +38,9 @@ module _ (given : Option Values) (w : Text) (t : Task) where
 
   plain_named : plain_task w ≡ Some t → NamedTask (Some w) given t
   plain_named =
-      chosen w (codes "check") _ _ t (is_named Check tt) (chosen w (codes "explain") _ _ t (is_named Explain tt)
-      (λ (no : None ≡ Some t). cc))
+      chosen w (codes "check") _ _ t (is_named Check tt) (chosen w (codes "format") _ _ t (is_named Upgrade tt)
+      (chosen w (codes "explain") _ _ t (is_named Explain tt)
+      (λ (no : None ≡ Some t). cc)))
 
 module _ (v : Values) (w : Text) (t : Task) where
   timed_named : (tick : Tick) → v.tick ≡ Some tick → timed_task w v tick ≡ Some t → NamedTask (Some w) (Some v) t
@@ -100,6 +101,7 @@ of_found (Some w) given t is = of_either w t given (plain_task w) refl is
 
 found_by_word : (given : Option Values) (t : Task) → HasValues given t → task_named (Some (task_word t)) given ≡ Some t
 found_by_word given Check h = refl
+found_by_word given Upgrade h = refl
 found_by_word given Explain h = refl
 found_by_word (Some v) (Merge limits) h = ap (option_map (λ limits. Merge limits)) h
 found_by_word (Some v) (Horizon limits) h = ap (option_map (λ limits. Horizon limits)) h

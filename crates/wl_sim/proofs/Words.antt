@@ -18,6 +18,7 @@ use Rattle.clap.proofs.WalkLemmas.{both, first_value-rows, raw_values-rows}
 use Rattle.wl_device.specs.Devices.{Answer}
 use Rattle.wl_engines.specs.declared.fault.RunFault.TheVariants as run
 use Rattle.wl_sweep_engine.specs.declared.fault.SweepFault.TheVariants as sweep
+use Rattle.wl_print.specs.declared.fault.PrintFault.TheVariants as print
 use Rattle.wl_settings.specs.declared.fault.SettingsFault.TheVariants as settings
 use Rattle.wl_sim.specs.CommandLine.{node_among, only_among, read_only, task_word, tick_among, workers_among, read_link, link_among, entered, file_among, file_in, file_named, format_among, format_in, read_format, is_flagged, is_set, number_among, number_or_zero, plain_values, ranges_among, ranges_in, values_among, word_in, Enters, HasValues, NamesTask}
 use Rattle.wl_views.specs.Ticks.{read_tick}
@@ -33,7 +34,7 @@ use Rattle.wl_sim.specs.declared.command.Order.{Order}
 use Rattle.wl_sim.specs.declared.command.Refusal.{Refusal}
 use Rattle.wl_sim.specs.declared.command.Refusal.TheVariants.{Words, Memory}
 use Rattle.wl_sim.specs.declared.command.Task.{Task}
-use Rattle.wl_sim.specs.declared.command.Task.TheVariants.{Merge, Horizon, Check, Records, Run, Explain, Trace, Candump, Vcd, Page, Margin, Traffic, Settings, Sweep}
+use Rattle.wl_sim.specs.declared.command.Task.TheVariants.{Merge, Horizon, Check, Upgrade, Records, Run, Explain, Trace, Candump, Vcd, Page, Margin, Traffic, Settings, Sweep}
 use Rattle.wl_sim.specs.declared.sweep.Swept.{Swept}
 
 -- the word of a task enters its subcommand, without a fault
@@ -42,6 +43,7 @@ unfolding clap_on_literals
 word_enters (Merge limits) name h = ((refl, h), refl, refl)
 word_enters (Horizon limits) name h = ((refl, h), refl, refl)
 word_enters Check name h = ((refl, tt), refl, refl)
+word_enters Upgrade name h = ((refl, tt), refl, refl)
 word_enters (Records window) name h = ((refl, h), refl, refl)
 word_enters (Run workers kind brief) name h = ((refl, h), refl, refl)
 word_enters Explain name h = ((refl, tt), refl, refl)
@@ -64,6 +66,7 @@ unfolding clap_on_literals
 word_names_none (Merge limits) name = (refl, refl, refl)
 word_names_none (Horizon limits) name = (refl, refl, refl)
 word_names_none Check name = (refl, refl, refl)
+word_names_none Upgrade name = (refl, refl, refl)
 word_names_none (Records window) name = (refl, refl, refl)
 word_names_none (Run workers kind brief) name = (refl, refl, refl)
 word_names_none Explain name = (refl, refl, refl)
@@ -82,6 +85,7 @@ unfolding clap_on_literals
 word_format (Merge limits) name = refl
 word_format (Horizon limits) name = refl
 word_format Check name = refl
+word_format Upgrade name = refl
 word_format (Records window) name = refl
 word_format (Run workers kind brief) name = refl
 word_format Explain name = refl
@@ -198,6 +202,7 @@ module _ {S T : Type 0} (gives : S → Answer → S → Type 0) (takes : T → A
   does_nothing s s' t t' (Merge limits) h = (Err run.Memory, h, refl)
   does_nothing s s' t t' (Horizon limits) h = (Err run.Memory, h, refl)
   does_nothing s s' t t' Check h = (Err run.Memory, h, refl)
+  does_nothing s s' t t' Upgrade h = (Err print.Memory, inl (h, inl refl), refl)
   does_nothing s s' t t' (Records window) h = (Err run.Memory, h, refl)
   does_nothing s s' t t' (Run workers kind brief) h = (Err run.Memory, both_same (workers == 1) h, refl)
   does_nothing s s' t t' Explain h = (Err run.Memory, h, refl)

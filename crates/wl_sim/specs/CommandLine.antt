@@ -22,7 +22,7 @@ use Rattle.wl_worker.specs.declared.by_links.LinkKind.TheVariants.{Hub, Mail}
 use Rattle.wl_limits.specs.declared.Limits.{Limits}
 use Rattle.wl_limits.specs.declared.Limits.TheVariants.{Narrow, Wide}
 use Rattle.wl_sim.specs.declared.command.Task.{Task}
-use Rattle.wl_sim.specs.declared.command.Task.TheVariants.{Merge, Horizon, Check, Records, Run, Explain, Trace, Candump, Vcd, Page, Margin, Traffic, Settings, Sweep}
+use Rattle.wl_sim.specs.declared.command.Task.TheVariants.{Merge, Horizon, Check, Upgrade, Records, Run, Explain, Trace, Candump, Vcd, Page, Margin, Traffic, Settings, Sweep}
 use Rattle.wl_sim.specs.declared.sweep.Swept.{Swept}
 use Rattle.wl_sim.specs.declared.values.Values.{Values}
 use Rattle.wl_views.specs.declared.pick.EventKind.{EventKind}
@@ -38,6 +38,7 @@ abbrev pub task_word : Task → Text
 task_word (Merge limits) = codes "merge"
 task_word (Horizon limits) = codes "horizon"
 task_word Check = codes "check"
+task_word Upgrade = codes "format"
 task_word (Records window) = codes "records"
 task_word (Run workers kind brief) = codes "run"
 task_word Explain = codes "explain"
@@ -211,7 +212,7 @@ bare_program = on_top (λ s. record s { subcommand_required = true }) (on_top (�
 -- the words of the subcommands, in the order of the help
 abbrev pub task_words : List Text
 task_words =
-    codes "merge" ∷ codes "horizon" ∷ codes "check" ∷ codes "records" ∷ codes "run" ∷ codes "explain" ∷ codes "trace" ∷ codes "candump" ∷ codes "vcd"
+    codes "merge" ∷ codes "horizon" ∷ codes "check" ∷ codes "format" ∷ codes "records" ∷ codes "run" ∷ codes "explain" ∷ codes "trace" ∷ codes "candump" ∷ codes "vcd"
     ∷ codes "page" ∷ codes "margin" ∷ codes "traffic" ∷ codes "settings" ∷ codes "sweep" ∷ []
 
 -- the program's command line
@@ -406,6 +407,7 @@ HasValues given (Sweep swept) = option_and_then (λ v. v.swept) given ≡ Some s
 HasValues given (Merge limits) = option_map (λ v. v.limits) given ≡ Some limits
 HasValues given (Horizon limits) = option_map (λ v. v.limits) given ≡ Some limits
 HasValues given Check = Unit {0}
+HasValues given Upgrade = Unit {0}
 HasValues given (Records window) = option_map (λ v. v.window) given ≡ Some window
 HasValues given Explain = Unit {0}
 HasValues given (Trace pick) = option_and_then (λ v. v.pick) given ≡ Some pick
@@ -418,8 +420,9 @@ NamedTask word given t = (word ≡ Some (task_word t)) × HasValues given t
 abbrev pub plain_task : Text → Option Task
 plain_task word =
     if bytes_eq word (codes "check") then Some Check
+    else (if bytes_eq word (codes "format") then Some Upgrade
     else (if bytes_eq word (codes "explain") then Some Explain
-    else None)
+    else None))
 
 -- the tasks with values of options that may be missing
 abbrev pub run_task : Values → Option Task

@@ -24,6 +24,9 @@ use Rattle.wl_engines.specs.Plans.{RunsPlan, IsRecordsWithin, IsReportOutput, Is
 use Rattle.wl_engines.specs.TrafficRun.{RunsTraffic}
 use Rattle.wl_engines.specs.Workers.{RunsByWorkersAs}
 use Rattle.wl_setup.specs.declared.fault.SetupFault.TheVariants as setup
+use Rattle.wl_print.specs.declared.fault.PrintFault.{PrintFault}
+use Rattle.wl_print.specs.declared.fault.PrintFault.TheVariants as print
+use Rattle.wl_print.specs.Formats.{Formats}
 use Rattle.wl_settings.specs.declared.fault.SettingsFault.{SettingsFault}
 use Rattle.wl_settings.specs.declared.fault.SettingsFault.TheVariants as settings
 use Rattle.wl_settings.specs.Runs.{RunsSettings}
@@ -44,7 +47,7 @@ use Rattle.wl_sim.specs.declared.answer.Fault.TheVariants as fault
 use Rattle.wl_sim.specs.declared.command.Refusal.{Refusal}
 use Rattle.wl_sim.specs.declared.command.Refusal.TheVariants.{Words, Memory}
 use Rattle.wl_sim.specs.declared.command.Task.{Task}
-use Rattle.wl_sim.specs.declared.command.Task.TheVariants.{Merge, Horizon, Check, Records, Run, Explain, Trace, Candump, Vcd, Page, Margin, Traffic, Settings, Sweep}
+use Rattle.wl_sim.specs.declared.command.Task.TheVariants.{Merge, Horizon, Check, Upgrade, Records, Run, Explain, Trace, Candump, Vcd, Page, Margin, Traffic, Settings, Sweep}
 use Rattle.wl_sim.specs.declared.sweep.Swept.{Swept}
 use Rattle.wl_views.specs.Ticks.{tick_picoseconds}
 
@@ -90,6 +93,17 @@ abbrev pub of_settings : Result (Unit {0}) SettingsFault → Result Done Fault
 of_settings (Ok u) = Ok Plain
 of_settings (Err f) = Err (of_settings_fault f)
 
+-- a fault of writing a plan in version 4: of its text, its devices or memory it is that of any engine; else it is one of the plan
+abbrev pub of_format_fault : PrintFault → Fault
+of_format_fault (print.Setup f) = fault.Run (run.Setup f)
+of_format_fault print.Write = fault.Run run.Write
+of_format_fault print.Memory = fault.Run run.Memory
+of_format_fault f = fault.Print f
+
+abbrev pub of_format : Result (Unit {0}) PrintFault → Result Done Fault
+of_format (Ok u) = Ok Plain
+of_format (Err f) = Err (of_format_fault f)
+
 -- what is answered for the traffic of a run: if the status is to say so, whether the run works
 abbrev pub of_traffic : (strict : Bool) → Result Reason RunFault → Result Done Fault
 of_traffic strict (Ok Works) = Ok Plain
@@ -105,6 +119,7 @@ run_status (Ok Unclean) = 1
 run_status (Err (fault.Run f)) = if is_refusal f then 1 else 3
 run_status (Err (fault.Word f)) = 2
 run_status (Err (fault.Settings f)) = 1
+run_status (Err (fault.Print f)) = 1
 run_status (Err fault.Format) = 3
 
 -- the status of a command line that named no task
@@ -122,6 +137,7 @@ abbrev pub subject_of : Task → Option Subject
 subject_of (Merge limits) = None
 subject_of (Horizon limits) = None
 subject_of Check = Some subject.Check
+subject_of Upgrade = None
 subject_of (Records window) = None
 subject_of (Run workers kind brief) = Some subject.Run
 subject_of Explain = Some subject.Explain
@@ -159,6 +175,7 @@ module _ {S T : Type 0} (gives : S → Answer → S → Type 0) (takes : T → A
   Does (Merge limits) ranges r = Plainly (Merges limits gives takes s s' t t') r
   Does (Horizon limits) ranges r = Plainly (TellsHorizons limits gives takes s s' t t') r
   Does Check ranges r = Plainly (RunsPlan gives takes IsPlanCheck s s' t t') r
+  Does Upgrade ranges r = (answer : Result (Unit {0}) PrintFault) × Formats gives takes s s' t t' answer × (r ≡ of_format answer)
   Does (Records window) ranges r = Plainly (RunsPlan gives takes (IsRecordsWithin window) s s' t t') r
   Does (Run workers kind brief) ranges r =
       Plainly (λ a. MatchBool (workers == 1) (RunsPlan gives takes (IsReportOutput brief) s s' t t' a) (RunsByWorkersAs gives takes brief workers s s' t t' a)) r

@@ -4,10 +4,11 @@ ghost use Rattle.std.specs.List.{list_all};
 ghost use Rattle.wl_sweep.specs.Findings.{is_clean};
 ghost use Rattle.wl_sweep.specs.Tallies.{tally_of};
 ghost use Rattle.wl_sweep.specs.declared.finding.Finding.{Finding};
-ghost use Rattle.wl_sim.specs.Tasks.{AnswersSweep, done_by, of_map, of_print, of_settings, of_settings_fault, of_sweep, of_traffic, plainly};
+ghost use Rattle.wl_sim.specs.Tasks.{AnswersSweep, done_by, of_format, of_format_fault, of_map, of_print, of_settings, of_settings_fault, of_sweep, of_traffic, plainly};
 
 use thiserror::Error;
 use wl_engines::{Reason, RunFault};
+use wl_print::PrintFault;
 use wl_settings::SettingsFault;
 use wl_setup::SetupFault;
 use wl_sweep_engine::{SweepFault, Tally};
@@ -33,6 +34,9 @@ pub enum Fault {
     /// The text that says what settings are asked for was refused, or there is no setting whose plan could be written.
     #[error("{0}")]
     Settings(SettingsFault),
+    /// The plan has no form in version 4.
+    #[error("{0}")]
+    Print(PrintFault),
     /// A line of the output has no other format.
     #[error("Format")]
     Format,
@@ -121,6 +125,28 @@ pub(crate) fn of_settings(answer: Result<(), SettingsFault>) -> Result<Done, Fau
     match answer {
         Ok(()) => Ok(Done::Plain),
         Err(fault) => Err(of_settings_fault(fault)),
+    }
+}
+
+/// Returns a fault of writing a plan in version 4: of its text, its devices or memory it is that of any engine, else it is one of the plan.
+fn of_format_fault(fault: PrintFault) -> Fault
+    ensures { result ≡ of_format_fault fault }
+{
+    match fault {
+        PrintFault::Setup(fault) => Fault::Run(RunFault::Setup(fault)),
+        PrintFault::Write => Fault::Run(RunFault::Write),
+        PrintFault::Memory => Fault::Run(RunFault::Memory),
+        other => Fault::Print(other),
+    }
+}
+
+/// Returns what writing a plan in version 4 answered.
+pub(crate) fn of_format(answer: Result<(), PrintFault>) -> Result<Done, Fault>
+    ensures { result ≡ of_format answer }
+{
+    match answer {
+        Ok(()) => Ok(Done::Plain),
+        Err(fault) => Err(of_format_fault(fault)),
     }
 }
 

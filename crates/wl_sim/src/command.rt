@@ -32,6 +32,8 @@ pub enum Task {
     Horizon(Limits),
     /// The settings of a plan's nodes, and the delays between them.
     Check,
+    /// A plan as one of version 4.
+    Upgrade,
     /// The records of a plan's simulation within a window.
     Records(Window),
     /// The report of a plan's simulation by this many workers, 1 to 8, over this kind of link. One works alone, on the program's own
@@ -93,6 +95,7 @@ fn plain_task(word: &str) -> Option<Task>
 {
     match word {
         "check" => Some(Task::Check),
+        "format" => Some(Task::Upgrade),
         "explain" => Some(Task::Explain),
         _ => None,
     }

@@ -31,6 +31,7 @@ pub(crate) fn subject_of(task: Task) -> Option<Subject>
         }
         Task::Merge(_)
         | Task::Horizon(_)
+        | Task::Upgrade
         | Task::Records(_)
         | Task::Candump(_, _, _)
         | Task::Vcd(_)

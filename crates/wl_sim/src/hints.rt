@@ -9,6 +9,7 @@ use wl_files::Folder;
 use wl_hint::{
     FREE_MEMORY, Hint, READ, READ_FILE, THREADS, WRITE, WRITE_FILE, hint_of_plan, hint_of_records,
 };
+use wl_print::PrintFault;
 use wl_record::TextFault;
 use wl_settings::SettingsFault;
 use wl_setup::{SetupFault, Text};
@@ -170,6 +171,16 @@ fn settings_advice(fault: &SettingsFault) -> &'static str {
     }
 }
 
+/// Returns what to change of a plan that has no form in version 4.
+fn print_advice(fault: &PrintFault) -> &'static str {
+    match fault {
+        PrintFault::Order(_, _) => {
+            "In versions 1 and 2 this frame waits for the one above it. Give it the `ready` of that one, or put the frames in the order of `ready`."
+        }
+        PrintFault::Setup(_) | PrintFault::Write | PrintFault::Memory => FREE_MEMORY,
+    }
+}
+
 /// Says beside the fault of a run the file that couldn't be read or written, and a hint if the order asks for it.
 fn say_of_run<F: Folder>(
     rt: &impl Eprint,
@@ -205,6 +216,12 @@ pub fn say_fault<F: Folder>(
         Fault::Settings(fault) => {
             if order.hint {
                 let advice = settings_advice(fault);
+                let _ = eprintln!(rt; "hint: {advice}");
+            }
+        }
+        Fault::Print(fault) => {
+            if order.hint {
+                let advice = print_advice(fault);
                 let _ = eprintln!(rt; "hint: {advice}");
             }
         }

@@ -6,6 +6,7 @@
 //! others read a plan text:
 //!
 //! - `check` writes what the bit segments allow and how long the cable takes;
+//! - `format` writes the plan as one of version 4;
 //! - `records` writes the records of the plan's simulation, `run` its report;
 //! - `candump` writes the frames that were sent as can-utils logs them, `vcd` the waveform, `page` one page of HTML that shows all of it;
 //! - `trace` writes what happened to each node, and where;
@@ -35,6 +36,7 @@ use wl_device::{Host, Sink, Source};
 use wl_engines::Kept;
 use wl_files::{BeginFault, Folder, SystemFolder};
 use wl_formats::{Format, Subject};
+use wl_print::format_run;
 use wl_settings::settings_run;
 use wl_setup::{SetupFault, Text};
 use wl_sweep_engine::{Workers, map_run, print_run, sweep_run};
@@ -48,7 +50,7 @@ mod subcommands;
 mod sweep;
 mod values;
 
-use crate::answer::{of_map, of_print, of_settings, of_tally, of_traffic, plainly};
+use crate::answer::{of_format, of_map, of_print, of_settings, of_tally, of_traffic, plainly};
 use crate::formats::{subject_of, write_kept};
 pub use answer::{Done, Fault};
 pub use command::{Order, Refusal, Task};
@@ -355,6 +357,7 @@ fn run<H: Threads + Wait + Sync + Eprint + Clock, R: Source, W: Sink>(
         Task::Merge(limits) => plainly(merge_run_within(alloc, limits, reader, writer)),
         Task::Horizon(limits) => plainly(horizon_run_within(alloc, limits, reader, writer)),
         Task::Check => plainly(check_run(alloc, reader, writer)),
+        Task::Upgrade => of_format(format_run(alloc, reader, writer)),
         Task::Records(window) => plainly(records_run_within(alloc, window, reader, writer)),
         Task::Run(1, _, brief) => plainly(plan_run_as(alloc, brief, reader, writer)),
         Task::Run(workers, kind, brief) => {
@@ -436,7 +439,7 @@ fn status_of(answer: &Result<Done, Fault>) -> ExitCode
             }
         }
         Err(Fault::Word(_)) => ExitCode::from(REFUSED_COMMAND),
-        Err(Fault::Settings(_)) => ExitCode::from(REFUSED_INPUT),
+        Err(Fault::Settings(_)) | Err(Fault::Print(_)) => ExitCode::from(REFUSED_INPUT),
         Err(Fault::Format) => ExitCode::from(BROKEN),
     }
 }

@@ -103,6 +103,8 @@ fn about(word: &str) -> &'static str {
         "horizon" => "Writes what the records tell of each node, and up to which tick",
         "check" =>
             "Tests the plan, and writes what its bit segments allow and how long its cable takes",
+        "format" =>
+            "Writes the plan as one of version 4, each key in a line and in the order of the format",
         "records" =>
             "Simulates the plan, and writes each change of what a node drives and the silence after it",
         "run" => "Simulates the plan, and writes the report of its nodes and frames",
@@ -418,8 +420,8 @@ fn command<'a>(alloc: Global) -> Result<Command<'a>, AllocError>
         alloc,
         bare(alloc),
         &[
-            "merge", "horizon", "check", "records", "run", "explain", "trace", "candump", "vcd",
-            "page", "margin", "traffic", "settings", "sweep",
+            "merge", "horizon", "check", "format", "records", "run", "explain", "trace", "candump",
+            "vcd", "page", "margin", "traffic", "settings", "sweep",
         ],
     )
 }
@@ -439,6 +441,7 @@ fn is_task(word: &str) -> bool
         "merge"
         | "horizon"
         | "check"
+        | "format"
         | "records"
         | "run"
         | "explain"
