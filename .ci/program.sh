@@ -473,9 +473,12 @@ printf 'error: --link wants hub or mail, and --format text, json or csv\n' > "$r
 runs "a link that is none" examples/clean_500k.toml 2 "$room/none" "$room/fault" run --link post
 runs "a format that is none, run" examples/clean_500k.toml 2 "$room/none" "$room/fault" run --format xml
 printf 'error: --format wants text, json or csv\n' > "$room/fault"
-for word in check explain trace sweep; do
+for word in check explain sweep; do
   runs "a format that is none, $word" examples/clean_500k.toml 2 "$room/none" "$room/fault" "$word" --format xml
 done
+printf 'error: --only wants lost, error, flag, frame, mode or sync, and --format text, json or csv\n' > "$room/fault"
+runs "a format that is none, trace" examples/clean_500k.toml 2 "$room/none" "$room/fault" trace --format xml
+runs "events that are none, trace" examples/clean_500k.toml 2 "$room/none" "$room/fault" trace --only spikes
 tick='error: --tick wants 1 to 999 and ps, ns or us, as 125ps'
 for word in candump vcd page settings; do
   printf '%s\n' "$tick" > "$room/fault"
