@@ -14,7 +14,7 @@ pub record IsRunnable (plan : Plan) : Type 0 where
   pub checked : IsChecked plan
   pub frames : (i : ℕ) → i < length plan.nodes → All (λ q. IsContent q.frame) (setup_at plan i).queue
 
--- A plan has the cable and the nodes of a family, with their segments. Offsets, rates, frames, the quanta at which they become ready and the end are free, but for this:
+-- A plan has the cable and the nodes of a family, with their segments. Offsets, rates, frames, the quanta at which they become ready, the order of each queue and the end are free, but for this:
 pub record IsPlanOfFamily (f : Buses) (plan : Plan) : Type 0 where
   pub runs : IsRunnable plan
   pub cable : plan.topology ≡ f.cable
@@ -24,7 +24,7 @@ pub record IsPlanOfFamily (f : Buses) (plan : Plan) : Type 0 where
   pub pace : keep_pace plan f ≡ true
   -- Only nodes that send in the family have frames.
   pub senders : (i : ℕ) → i < length plan.nodes → has_frames (setup_at plan i) ≡ true → (member_at f i).sends ≡ true
-  -- There are two nodes or more, none of which only listens, and no disturbance. Each node is idle when the first frame of another one becomes ready.
+  -- There are two nodes or more, none of which only listens or leaves the bus, and no disturbance. Each node is idle when the first frame of another one becomes ready.
   pub covered : is_covered plan ≡ true
   -- Some node has a frame, no two nodes have frames of one field, and all go by the book.
   pub inside : outside_of plan ≡ None
