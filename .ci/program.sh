@@ -75,7 +75,7 @@ for report in examples/*.report; do
   is "candump of $name" [ $? = 0 -a ! -s "$room/err" ]
   is "lines of candump of $name" [ "$(grep -c '^frame [0-9]* sent ' "$report")" = "$(wc -l < "$room/out")" ]
   [ -z "$is_long" -a "$name" != "$whole_second" ] || continue
-  python3 -B check/margin.py < "examples/$name.toml" > "$room/beyond"
+  python3 -B check/margin.py < "$numbers" > "$room/beyond"
   runs "margin of $name" "examples/$name.toml" 0 "$room/beyond" "$room/none" margin
 done
 
