@@ -14,4 +14,5 @@ mod tables;
 
 pub use fault::FormatFault;
 pub use formats::{Format, formatted};
+pub use json::push_quoted;
 pub use tables::Subject;

@@ -84,7 +84,7 @@ fn push_ranges(text: &mut String, label: &str, ranges: &[SweptRange]) -> Result<
 }
 
 /// Adds the options, the ranges that are varied, and those that are held.
-pub(crate) fn push_axes(text: &mut String, sweep: &Sweep, worst: bool) -> Result<(), AllocError>
+pub fn push_axes(text: &mut String, sweep: &Sweep, worst: bool) -> Result<(), AllocError>
     ensures { OnOk result (GrowsBy text.old text.new (axes_text sweep.now worst)) }
 {
     push_options(text, sweep.options, worst)?;

@@ -10,6 +10,7 @@ mod map;
 mod rows;
 mod template;
 
+pub use axes::push_axes;
 pub use cell::Colour;
 pub use laws::{a_clean_cell_is_clean, a_row_alone_finds_the_same};
 pub use map::map_page;

@@ -1,17 +1,12 @@
 -- Texts that grow by one piece after another.
 use Rattle.std.proofs.Common.{◌≡◌, ◌∙◌, ℕ, List, [], ◌∷◌, ◌++◌, ap, sym, refl, codes}
-use Rattle.std.proofs.lemmas.List.{append_assoc, append-nil}
+use Rattle.std.proofs.lemmas.List.{append-nil}
 use Rattle.wl_sweep.specs.declared.range.SweptRange.{SweptRange}
 use Rattle.wl_sweep.specs.declared.sweep.Sweep.{Sweep}
 use Rattle.wl_sweep.specs.declared.tally.Tally.{Tally}
 use Rattle.wl_sweep.specs.Sweeps.{all_findings, all_rows, first_line, line_of_row, row_findings, rows_lines, rows_members, sweep_text}
 use Rattle.wl_sweep.specs.Tallies.{tally_of}
 use Rattle.wl_sweep.specs.Words.{members_line, row_line, tally_line}
-
--- three pieces
-pub three_pieces : (old a b c one two : List ℕ) → one ≡ old ++ a → two ≡ one ++ b → two ++ c ≡ old ++ ((a ++ b) ++ c)
-three_pieces old a b c one two first second =
-    ap (λ t. t ++ c) (second ∙ ap (λ t. t ++ b) first ∙ append_assoc old a b) ∙ append_assoc old (a ++ b) c
 
 -- the line of a row, where there are ranges
 pub with_line : (s : Sweep) (gs : List SweptRange) (row : ℕ) (t : Tally) (old new : List ℕ) → (gs ≡ [] → ⊥) → t ≡ tally_of (row_findings s row)

@@ -21,7 +21,7 @@ module _ {X : Type 0} (p : X → Bool) where
         | inr fails ↦ rw fails (first-append (i + 1) xs ys ∙ ap (λ k. option_or (position_from p (i + 1) xs) (position_from p k ys)) (omega arith))
       ]
 
-  first-shift : (k i : ℕ) (xs : List X) → k + (i + length xs) < 2 ^ 64 → option_map (λ n. capped (k + n)) (position_from p i xs) ≡ position_from p (k + i) xs
+  pub first-shift : (k i : ℕ) (xs : List X) → k + (i + length xs) < 2 ^ 64 → option_map (λ n. capped (k + n)) (position_from p i xs) ≡ position_from p (k + i) xs
   first-shift k i [] small = refl
   first-shift k i (x ∷ xs) small =
       elim (cases_Bool (p x)) [

@@ -6,5 +6,6 @@ mod Joining
 mod Parts
 mod Placed
 mod Rows
+mod Shares
 mod Varied
 mod Working

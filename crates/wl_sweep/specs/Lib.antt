@@ -5,5 +5,6 @@ pub mod Tallies
 pub mod Rows
 pub mod Words
 pub mod Sweeps
+pub mod Parts
 pub mod Vary
 pub mod Worst

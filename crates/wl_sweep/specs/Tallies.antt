@@ -2,6 +2,7 @@
 use Rattle.std.specs.Prelude.{◌≡◌, ℕ, ◌+◌, ◌-◌, ◌*◌, ◌<◌, min, List, length, map, slice_index_or, Result, IfOk}
 use Rattle.std.specs.declared.alloc.AllocError.{AllocError}
 use Rattle.std.specs.List.{count_by, position_from, range_with_len}
+use Rattle.wl_parts.specs.declared.found.RowCounts.{RowCounts}
 use Rattle.wl_setup.specs.declared.plan_text.PlanText.{PlanText}
 use Rattle.wl_sweep.specs.declared.options.Options.{Options}
 use Rattle.wl_sweep.specs.declared.finding.Finding.{Finding}
@@ -18,6 +19,10 @@ tally_of found = record {
   first = position_from is_unclean 0 found;
   first_refused = position_from is_refused 0 found;
 }
+
+-- the counts of a tally
+abbrev pub counts_of : Tally → RowCounts
+counts_of t = record { runs = t.runs; clean = t.clean; early = t.early; refused = t.refused }
 
 -- what is found of the member that a run is of
 abbrev pub finding_at : Options → PlanText → ℕ → Finding

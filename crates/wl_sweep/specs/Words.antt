@@ -2,6 +2,7 @@
 use Rattle.std.specs.Prelude.{ℕ, ◌+◌, ◌-◌, ◌^◌, ◌==◌, min, List, [], ◌∷◌, ◌++◌, codes, if◌then◌else◌}
 use Rattle.std.specs.List.{enumerate_from}
 use Rattle.std.specs.Fmt.{decimal, signed_decimal}
+use Rattle.wl_parts.specs.Lines.{counts_line}
 use Rattle.wl_setup.specs.declared.plan_text.PlanText.{PlanText}
 use Rattle.wl_setup.specs.declared.plan_text.NodeText.{NodeText}
 use Rattle.wl_sweep.specs.declared.options.Options.{Options}
@@ -14,19 +15,12 @@ use Rattle.wl_sweep.specs.declared.finding.Finding.TheVariants.{Clean, Faulty, O
 use Rattle.wl_sweep.specs.declared.range.SweptRange.{SweptRange}
 use Rattle.wl_sweep.specs.declared.tally.Tally.{Tally}
 use Rattle.wl_sweep.specs.Family.{chosen, draws_of, member_count, offset_step, varied}
+use Rattle.wl_sweep.specs.Tallies.{counts_of}
 use Rattle.wl_sweep.specs.Rows.{row_count, value_in}
 
--- a count of what isn't clean, where there is such
-abbrev pub count_words : List ℕ → ℕ → List ℕ
-count_words what n = if n == 0 then [] else codes ", " ++ what ++ codes " in " ++ decimal n
-
-abbrev pub tally_words : Tally → List ℕ
-tally_words t =
-    (codes "clean in " ++ (decimal t.clean ++ (codes " of " ++ decimal t.runs))) ++ count_words (codes "too early") t.early
-    ++ count_words (codes "refused") t.refused
-
+-- the line of a tally
 abbrev pub tally_line : Tally → List ℕ
-tally_line t = tally_words t ++ 10 ∷ []
+tally_line t = counts_line (counts_of t)
 
 -- the values of the ranges in a row
 abbrev pub row_words : ℕ → List SweptRange → List ℕ

@@ -1,6 +1,6 @@
 //! Runs of a family, side by side.
 ghost use Rattle.std.specs.Prelude.{◌≡◌, ◌-◌, ◌^◌, ◌<◌, ◌≤◌, IfOk};
-ghost use Rattle.wl_sweep.specs.Tallies.{ArePartTallies, IsPartTally, finding_at, findings_from, findings_of, part_start, tally_of};
+ghost use Rattle.wl_sweep.specs.Tallies.{ArePartTallies, IsPartTally, finding_at, findings_from, part_start, tally_of};
 
 use crate::family::TextFamily;
 use crate::finding::{Finding, finding_of_text};
@@ -9,7 +9,8 @@ use std::alloc::{AllocError, Global};
 use std::thread::{self, Threads};
 use std::time::{Clock, Duration, Instant};
 
-/// The most runs between two looks at the clock.
+/// The most runs between two looks at the clock. With half of it threads are begun and joined twice as often; with the double the lines
+/// of a slow sweep come half as often.
 const BATCH: u32 = 512;
 
 /// How long a sweep takes before its first line of progress, in milliseconds.
@@ -62,6 +63,22 @@ impl SweepProgress {
             "progress: row {row} of {rows}, {done} of {runs} runs, {clean} clean, {seconds} s"
         );
     }
+}
+
+/// Runs of a family: from one on, up to another.
+#[derive(Clone, Copy, Debug, PartialEq, Eq)]
+pub(crate) struct RunRange {
+    /// The first run.
+    pub(crate) from: u32,
+    /// The run after the last one.
+    pub(crate) to: u32,
+}
+
+/// Returns the most runs that are cut among threads at once: all, unless lines of progress come between.
+fn batch_of(reports: bool) -> u32
+    ensures { 1 ≤ result }
+{
+    if reports { BATCH } else { u32::MAX }
 }
 
 /// Returns the first run of part `w` of those from one on up to another, which are cut into parts of a size.
@@ -154,26 +171,30 @@ impl TextFamily {
         Ok(tally)
     }
 
-    /// Returns the tally of all runs of a text, by this many threads. If that is asked for, lines on standard error say how many runs are
-    /// done and how many of these are clean; no clause speaks of them.
+    /// Returns the tally of the runs of a text from one on, up to another, by this many threads. If that is asked for, lines on standard
+    /// error say how many runs are done and how many of these are clean; no clause speaks of them.
     pub(crate) fn tally<R: Threads + Sync + Eprint + Clock>(
         &self,
         rt: &R,
         alloc: Global,
+        runs: RunRange,
         workers: u8,
         progress: &mut Option<SweepProgress>,
     ) -> Result<Tally, AllocError>
-        ensures { IfOk result (λ tally. tally ≡ tally_of (findings_of self.now.options self.now.text)) }
+        requires { runs.from ≤ runs.to }
+        ensures { IfOk result (λ tally. tally
+            ≡ tally_of (findings_from self.now.options self.now.text runs.from (runs.to - runs.from))) }
     {
-        let runs = self.runs();
+        let RunRange { from, to } = runs;
         let mut tally = Tally::new();
-        let mut done = 0;
-        while done < runs {
-            let next = done.saturating_add(BATCH).min(runs);
+        let mut done = from;
+        let batch = batch_of(progress.is_some());
+        while done < to {
+            let next = done.saturating_add(batch).min(to);
             tally = tally.then(self.batch(rt, alloc, done, next, workers)?);
             done = next;
             if let Some(progress) = progress {
-                progress.report(rt, done, runs, tally.clean);
+                progress.report(rt, done - from, to - from, tally.clean);
             }
         }
         Ok(tally)

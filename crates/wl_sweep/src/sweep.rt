@@ -10,7 +10,7 @@ ghost use Rattle.wl_sweep.specs.Sweeps.{all_findings, first_line, is_small, loca
 use crate::family::TextFamily;
 use crate::options::Options;
 use crate::range::{SweptRange, row_count, row_text};
-use crate::runs::SweepProgress;
+use crate::runs::{RunRange, SweepProgress};
 use crate::tally::Tally;
 use crate::text::{push_change, push_member, push_members, push_row, push_tally_line};
 use std::alloc::{AllocError, Global};
@@ -58,7 +58,7 @@ impl Sweep {
     }
 
     /// Returns the family of a row.
-    fn family(&self, alloc: Global, row: u64) -> Result<TextFamily, AllocError>
+    pub(crate) fn family(&self, alloc: Global, row: u64) -> Result<TextFamily, AllocError>
         ensures text { IfOk result (λ family. family.text ≡ row_text row self.now.ranges self.now.text) }
         ensures options { IfOk result (λ family. family.options ≡ self.now.options) }
     {
@@ -67,7 +67,7 @@ impl Sweep {
     }
 
     /// Returns how far the sweep is, if lines of progress are asked for.
-    fn progress<R: Clock>(&self, rt: &R, workers: Workers) -> Option<SweepProgress> {
+    pub(crate) fn progress<R: Clock>(&self, rt: &R, workers: Workers) -> Option<SweepProgress> {
         if workers.progress {
             SweepProgress::begin(rt, row_count(self.ranges.as_slice()))
         } else {
@@ -93,7 +93,11 @@ impl Sweep {
         if let Some(progress) = progress {
             progress.next_row();
         }
-        let tally = family.tally(rt, alloc, workers, progress)?;
+        let runs = RunRange {
+            from: 0,
+            to: family.runs(),
+        };
+        let tally = family.tally(rt, alloc, runs, workers, progress)?;
         if !self.ranges.is_empty() {
             push_row(text, self.ranges.as_slice(), row, tally)?;
         }
@@ -150,7 +154,7 @@ impl Sweep {
     }
 
     /// Adds the line of a member, by its number, if there is one.
-    fn push_first(
+    pub(crate) fn push_first(
         &self,
         alloc: Global,
         text: &mut String,

@@ -4,9 +4,10 @@ ghost use Rattle.std.specs.List.{list_all};
 ghost use Rattle.wl_sweep.specs.Family.{capped};
 ghost use Rattle.wl_sweep.specs.Findings.{is_clean};
 ghost use Rattle.wl_sweep.specs.declared.finding.Finding.{Finding as AFinding};
-ghost use Rattle.wl_sweep.specs.Tallies.{tally_of};
+ghost use Rattle.wl_sweep.specs.Tallies.{counts_of, tally_of};
 
 use crate::finding::Finding;
+use wl_parts::RowCounts;
 
 /// How many of some members are clean, and which is the first that isn't, counted from 0.
 #[derive(Clone, Copy, Debug, PartialEq, Eq)]
@@ -61,6 +62,18 @@ impl Tally {
             refused: u64::from(finding.is_refused()),
             first: if finding.is_unclean() { Some(0) } else { None },
             first_refused: if finding.is_refused() { Some(0) } else { None },
+        }
+    }
+
+    /// Returns its counts.
+    pub(crate) fn counts(self) -> RowCounts
+        ensures { result ≡ counts_of self }
+    {
+        RowCounts {
+            runs: self.runs,
+            clean: self.clean,
+            early: self.early,
+            refused: self.refused,
         }
     }
 

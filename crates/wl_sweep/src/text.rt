@@ -4,7 +4,7 @@ ghost use Rattle.std.specs.List.{enumerate_from};
 ghost use Rattle.wl_report.specs.Lines.{GrowsBy};
 ghost use Rattle.wl_sweep.specs.Family.{chosen};
 ghost use Rattle.wl_sweep.specs.Rows.{row_text};
-ghost use Rattle.wl_sweep.specs.Words.{change_words, count_words, choice_words, choices_words, early_words, faulty_words, finding_words, members_line, row_line, row_words, settings_words, side_words, tally_line, tally_words, member_words};
+ghost use Rattle.wl_sweep.specs.Words.{change_words, choice_words, choices_words, early_words, faulty_words, finding_words, members_line, row_line, row_words, settings_words, side_words, tally_line, member_words};
 
 use crate::change::Side;
 use crate::digit_source::DigitSource;
@@ -16,42 +16,19 @@ use crate::tally::Tally;
 use std::alloc::AllocError;
 use wl_setup::NodeText;
 
-/// Adds a count of what isn't clean, if there is such.
-fn push_count(text: &mut String, what: &str, count: u64) -> Result<(), AllocError>
-    ensures { OnOk result (GrowsBy text.old text.new (count_words what.now count)) }
-{
-    if count == 0 {
-        return Ok(());
-    }
-    write!(text, ", {what} in {count}")
-}
-
-/// Adds the counts of a tally.
-fn push_tally(text: &mut String, tally: Tally) -> Result<(), AllocError>
-    ensures { OnOk result (GrowsBy text.old text.new (tally_words tally)) }
-{
-    let Tally {
-        runs,
-        clean,
-        early,
-        refused,
-        ..
-    } = tally;
-    write!(text, "clean in {clean} of {runs}")?;
-    push_count(text, "too early", early)?;
-    push_count(text, "refused", refused)
-}
-
 /// Adds the line of a tally.
 pub(crate) fn push_tally_line(text: &mut String, tally: Tally) -> Result<(), AllocError>
     ensures { OnOk result (GrowsBy text.old text.new (tally_line tally)) }
 {
-    push_tally(text, tally)?;
-    text.push_str("\n")
+    tally.counts().push_line(text)
 }
 
 /// Adds the values of the ranges in a row, as its line begins.
-fn push_values(text: &mut String, ranges: &[SweptRange], row: u64) -> Result<(), AllocError>
+pub(crate) fn push_values(
+    text: &mut String,
+    ranges: &[SweptRange],
+    row: u64,
+) -> Result<(), AllocError>
     ensures { OnOk result (GrowsBy text.old text.new (row_words row ranges.now)) }
 {
     for i in 0..ranges.len() {

@@ -109,7 +109,7 @@ fn after_plus(text: &str) -> Option<&str>
 }
 
 /// Returns the number that decimal digits are.
-fn size_of(text: &str) -> Option<u64>
+pub(crate) fn size_of(text: &str) -> Option<u64>
     ensures { result ≡ size_of text.now }
 {
     if after_plus(text).is_some() {

@@ -4,9 +4,10 @@ use Rattle.wl_sweep.proofs.family.TextFamily.tally.Given as goal
 
 abbrev pub invariant-loop-done : goal.invariant-loop-done
 invariant-loop-done g l = record {
-  below : l.done ≤ l.runs;
-  tally : l.tally ≡ tally_of (findings_from l.self.options l.self.text 0 (l.done - 0));
+  low : l.from ≤ l.done;
+  below : l.done ≤ l.to;
+  tally : l.tally ≡ tally_of (findings_from l.self.options l.self.text l.from (l.done - l.from));
 }
 
 abbrev pub decreases-loop-done : goal.decreases-loop-done
-decreases-loop-done g l = l.runs - l.done
+decreases-loop-done g l = l.to - l.done
