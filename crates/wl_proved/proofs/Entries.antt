@@ -22,7 +22,7 @@ use Rattle.wl_buses.specs.BothProofs.Queues.{queued_contents, ready_at}
 use Rattle.wl_buses.specs.FamilyPlans.FamilyStations.{stations_of}
 use Rattle.wl_buses.specs.BoundedWaits.Messages.{AreReadyLate, HaveMessages, IsEntry, entries}
 use Rattle.wl_proved.specs.PlansOfFamily.{IsPlanOfFamily}
-use Rattle.wl_proved.specs.Waits.{messages_in, top_of}
+use Rattle.wl_proved.specs.Waits.{HasFifoQueues, messages_in, top_of}
 use Rattle.wl_proved.proofs.Tables as table
 
 entries_are : (queue : List Queued) → length (queued_contents queue) ≡ length queue
@@ -57,7 +57,7 @@ is_of messages i frame e is =
     let parts = and_parts ((message_at messages e).node == i) ((message_at messages e).field == field_of frame) first.passes in
     record { inside = first.inside; node = eqb-true _ _ parts.0; field = eqb-true _ _ parts.1 }
 
-module _ (f : Buses) (plan : Plan) (messages : List MessageWait) (clocks : ℕ → Steady) (of : IsPlanOfFamily f plan) (keeps : KeepsTable plan messages)
+module _ (f : Buses) (plan : Plan) (messages : List MessageWait) (clocks : ℕ → Steady) (of : IsPlanOfFamily f plan) (keeps : KeepsTable plan messages) (fifo : HasFifoQueues plan)
     (level_is : (e : ℕ) → e < length messages → (message_at messages e).level ≡ top_of messages ((messages_in plan messages).node e))
     (node_is : (e : ℕ) → e < length messages → (messages_in plan messages).node e ≡ (message_at messages e).node)
     (lesser : (winner loser : Content) → IsContent loser → Beats winner loser → field_of winner < field_of loser) where
@@ -87,6 +87,7 @@ module _ (f : Buses) (plan : Plan) (messages : List MessageWait) (clocks : ℕ �
 
   pub have : HaveMessages (stations_of f plan clocks) (setup_at plan) (messages_in plan messages)
   have = record {
+    fifo = λ i node. fifo i node;
     known = λ i n node less. (let e = entry i n node (inside i n less) in let there = e.there.inside in let is = e.is in omega arith);
     node = λ i n node less.
         (let e = entry i n node (inside i n less) in ap (messages_in plan messages).node e.is ∙ node_is e.message e.there.inside ∙ e.there.node);

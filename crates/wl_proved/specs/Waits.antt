@@ -9,6 +9,7 @@ use Rattle.wl_bound.specs.Terms.{greatest}
 use Rattle.wl_respond.specs.declared.message.MessageWait.{MessageWait}
 use Rattle.wl_respond.specs.Plans.{entry_at, message_of}
 use Rattle.wl_respond.specs.Tests.{message_at}
+use Rattle.wl_buses.specs.BothProofs.Queues.{IsFifo}
 use Rattle.wl_buses.specs.FamilyPlans.FamilyStations.{stations_of}
 use Rattle.wl_buses.specs.CleanPlans.Clean.{AllGetThrough}
 use Rattle.wl_buses.specs.BoundedWaits.Bounds.{PassInTime, WaitInQuanta}
@@ -29,6 +30,10 @@ messages_in plan messages = record {
   joins = λ m e. nat_le (message_at messages e).field (message_at messages m).level;
   mixed = λ m i. nat_lt (message_at messages m).level (top_of messages i);
 }
+
+-- the queues of a plan are first in, first out
+abbrev pub HasFifoQueues : Plan → Type 0
+HasFifoQueues plan = (i : ℕ) → i < length plan.nodes → IsFifo (setup_at plan i)
 
 abbrev pub wait_of : List MessageWait → ℕ → ℕ
 wait_of messages e = (message_at messages e).wait

@@ -11,15 +11,16 @@ ghost use Rattle.wl_respond.specs.declared.message.MessageWait.{MessageWait};
 ghost use Rattle.wl_respond.specs.Plans.{KeepsTable};
 ghost use Rattle.wl_respond.specs.Tests.{pass};
 ghost use Rattle.wl_proved.specs.PlansOfFamily.{IsPlanOfFamily};
-ghost use Rattle.wl_proved.specs.Waits.{HasBoundedWaits};
+ghost use Rattle.wl_proved.specs.Waits.{HasBoundedWaits, HasFifoQueues};
 
 /// Law: if a table of messages passes its test, no frame waits longer than its message says, on each plan of the family whose queues have frames
-/// of these messages. So it is whatever the offsets are, however many instances come, and wherever within its tolerance each clock lies. The
-/// condition for margins has to hold for any senders, and the bus to have room for them and that nobody decides twice.
+/// of these messages, first in, first out. So it is whatever the offsets are, however many instances come, and wherever within its tolerance
+/// each clock lies. The condition for margins has to hold for any senders. The bus has to have room for them, and that nobody decides twice.
 pub fn respond_law()
     ensures { (f : Buses) (plan : Plan) (messages : List MessageWait) → IsPlanOfFamily f plan
         → first_failure_of f plain Any ≡ None → leaves_room f ≡ true → leaves_room_to_decide f ≡ true
-        → pass (plain_bus f) messages ≡ true → KeepsTable plan messages → HasBoundedWaits f plan messages }
+        → pass (plain_bus f) messages ≡ true → KeepsTable plan messages → HasFifoQueues plan
+        → HasBoundedWaits f plan messages }
 {
     wl_buses::one_sender::laws::a_covered_plan_is_one_of_these();
     wl_buses::bounded_waits::tests::a_winner_has_the_lesser_field();
