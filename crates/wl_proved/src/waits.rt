@@ -13,8 +13,8 @@ ghost use Rattle.wl_respond.specs.Tests.{pass};
 ghost use Rattle.wl_proved.specs.PlansOfFamily.{IsPlanOfFamily};
 ghost use Rattle.wl_proved.specs.Waits.{HasBoundedWaits, HasFifoQueues};
 
-/// Law: if a table of messages passes its test, no frame waits longer than its message says, on each plan of the family whose queues have frames
-/// of these messages, first in, first out. So it is whatever the offsets are, however many instances come, and wherever within its tolerance
+/// Law: let a table of messages pass its test. Take a plan of the family whose queues have frames of these messages, first in, first out. Then
+/// no frame waits longer than its message says, whatever the offsets are, however many instances come, and wherever within its tolerance
 /// each clock lies. The condition for margins has to hold for any senders. The bus has to have room for them, and that nobody decides twice.
 pub fn respond_law()
     ensures { (f : Buses) (plan : Plan) (messages : List MessageWait) → IsPlanOfFamily f plan

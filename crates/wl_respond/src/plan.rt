@@ -102,8 +102,8 @@ fn is_spaced(messages: &[MessageWait], i: u8, entry: &Queued, later: &[Queued]) 
     }
 }
 
-/// True if the queue of node `i` has frames of these messages, in the order in which they become ready, none before that quantum, and two of one
-/// message are its period apart.
+/// True if the queue of node `i` has frames of these messages, in the order in which they become ready. None is ready before that quantum, and
+/// two of one message are its period apart.
 fn go_in_order(messages: &[MessageWait], i: u8, from: u64, queue: &[Queued]) -> bool
     ensures { OnTrue result (GoInOrder messages.now i from queue.now) }
 {
