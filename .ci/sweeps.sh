@@ -87,11 +87,11 @@ for text in 'node = []' 'node = 5' 'version = 1' 'x = ['; do
 done
 sed 's/^quantum = 125/quantum = 62.5/;s/^prop = 8/prop = 8.5/' examples/clean_500k.toml > "$room/strange"
 refused 'a plan with fractions' "$room/strange" 1 'fault: Kind(quantum)\n'
-# Words that no plan takes, and words that this one doesn't take; the hint on these is what docs/use/commands.md says, of the word that is meant
+# Words that no plan takes, and words that this one doesn't take; the hint on these is what the page says, of the word that is meant
 hinted() { # hinted FAULT WORDS..
   local fault=$1 remedy number word=''
   shift
-  remedy=$(grep -F "| \`${fault/[0-9],/n,}\` |" docs/use/commands.md | sed 's/ |$//;s/.* | //')
+  remedy=$(grep -hF "| \`${fault/[0-9],/n,}\` |" docs/use/commands.md docs/use/sweeps.md | head -1 | sed 's/ |$//;s/.* | //')
   if [[ $fault = Range* ]]; then
     number=${fault#Range(} number=${number%%,*}
     word="--vary $(grep -oP -- '(?<=--vary )\S+' <<< "$*" | sed -n "$((number + 1))p"): "
@@ -125,6 +125,11 @@ done << 'WORDS'
 --vary end=0..999999999999:1|fault: Range(0, Rows)\n
 --vary x=1..200:1 --vary end=1..200:1|fault: Rows\n
 --print 1000000|fault: Member\n
+--part 0/4|fault: Part\n
+--part 5/4|fault: Part\n
+--part 1|fault: Part\n
+--part 1/2/3|fault: Part\n
+--part 1/4294967296|fault: Part\n
 --runs 0|-
 --runs -1|-
 --runs 1.5|-
@@ -178,6 +183,60 @@ took=$(((${EPOCHREALTIME/./} - begun) / 1000000))
 is "memory of 20,000 runs $few KiB, of 300,000 $many KiB" [ "$few" -gt 0 -a "$many" -lt $((few + few / 4)) ]
 # A line of progress comes each 200 ms at most, whatever a run takes
 is "$(wc -l < "$room/err") lines of progress in $took s" [ "$(wc -l < "$room/err")" -le $((5 * took + 1)) ]
+# Parts: of a sweep with ranges, with members that aren't clean and refused ones, each number of parts says in any order what one run says
+joins() { # joins NAME STATUS FAULT FILE..: the output is $room/wanted if there is no fault
+  local name=$1 status=$2 fault=$3 ended=0
+  shift 3
+  cat -- "$@" | timeout 300 "$program" sweep --join --hint > "$room/out" 2> "$room/err" || ended=$?
+  is "$name (status $ended, wanted $status)" [ "$ended" = "$status" ]
+  if [ -z "$fault" ]; then is "$name, its text" cmp -s "$room/out" "$room/wanted" && is "$name is quiet" [ ! -s "$room/err" ]
+  else
+    is "$name writes nothing" [ ! -s "$room/out" ]
+    is "$name: $(head -1 "$room/err")" [ "$(cat "$room/err")" = "fault: $fault
+hint: $(grep -hF "| \`${fault/[0-9]*,/n,}\` |" docs/use/sweeps.md | sed 's/ |$//;s/.* | //')" ]
+  fi
+}
+parts_of() { # parts_of N WORDS..: writes $room/part.1 to $room/part.N
+  local n=$1 k
+  shift
+  rm -f "$room"/part.*
+  for k in $(seq "$n"); do "$program" sweep --workers "$((k % 3 + 1))" --part "$k/$n" "$@" > "$room/part.$k" 2> "$room/err" || echo broken > "$room/part.$k"; done
+}
+for words in '--runs 90' '--runs 40 --seed 7 --worst --vary sjw=3..5:1' '--keep-offsets --keep-ppm --vary sjw=3..5:1 --vary x=0..40:20 --vary per=4..5:1'; do
+  # shellcheck disable=SC2086
+  "$program" sweep $words "$room/pair" > "$room/wanted" 2> /dev/null
+  wanted=$?
+  for n in 1 2 3 7 40; do
+    # shellcheck disable=SC2086
+    parts_of "$n" $words "$room/pair"
+    joins "parts of $words: $n" "$wanted" '' "$room"/part.*
+    joins "parts of $words: $n, from the last" "$wanted" '' $(printf '%s\n' "$room"/part.* | sort -r)
+  done
+done
+is 'a part is a line of JSON' python3 -B - "$room/part.1" "$room/part.40" << 'PYTHON'
+import json, sys
+one, last = (json.load(open(name)) for name in sys.argv[1:])
+assert (one["part"], last["part"], one["of"], one["sweep"], one["words"]) == (1, 40, 40, last["sweep"], last["words"])
+assert one["words"][0] == len(one["words"]) - 2 == one["rows"][0] and one["words"][-1] is None and set(one["rows"][1]) == {"runs", "clean", "early", "refused"}
+PYTHON
+joins 'a lone part of 40' 1 'Part(2, Missing)' "$room/part.1"
+parts_of 3 --runs 90 "$room/pair" && "$program" sweep --runs 90 "$room/pair" > "$room/wanted"
+"$program" sweep --runs 90 --part 2/3 -o "$room/again" "$room/pair" && joins 'a part that is run again' 1 '' "$room/part.1" "$room/again" "$room/part.3"
+joins 'a part that is missing' 1 'Part(2, Missing)' "$room/part.3" "$room/part.1"
+joins 'a part that is there twice' 1 'Part(3, Doubled)' "$room"/part.? "$room/part.3"
+joins 'no part' 1 'Part(1, Missing)' /dev/null
+head -c 300 "$room/part.2" > "$room/cut" && joins 'a part that is cut off' 1 'Part(3, Form)' "$room/part.1" "$room/part.3" "$room/cut"
+joins 'what is no part' 1 'Part(2, Form)' "$room/part.1" "$room/pair"
+for words in '--runs 91' '--runs 90 --seed 2' '--runs 90 --worst' '--runs 90 --keep-ppm' '--runs 90 --step 7' '--runs 90 --vary sjw=1..1'; do
+  # shellcheck disable=SC2086
+  "$program" sweep $words --part 2/3 -o "$room/other" "$room/pair" 2> /dev/null
+  joins "a part with $words" 1 'Part(2, Other)' "$room/part.1" "$room/other" "$room/part.3"
+done
+sed 's/^x = 5/x = 6/' "$room/pair" > "$room/moved" && "$program" sweep --runs 90 --part 2/3 -o "$room/other" "$room/moved"
+joins 'a part of another plan' 1 'Part(2, Other)' "$room/part.1" "$room/other" "$room/part.3"
+"$program" sweep --runs 90 --part 2/4 -o "$room/other" "$room/pair"
+joins 'a part of another number of parts' 1 'Part(2, Other)' "$room/part.1" "$room/other" "$room/part.3"
+
 # A map has a cell for each row of its two axes, and a cell says what a sweep of its row alone says
 "$program" sweep --runs 20 --vary ps1=2..4:1 --vary tolerance=0..3000:1500 --vary sjw=1..2:1 --page examples/drifting_listener.toml > "$room/map" 2> "$room/err"
 is 'cells of a map' [ "$(grep -c '^cell \|"cells" hidden>cell ' "$room/map")" = 9 -a ! -s "$room/err" ]

@@ -254,6 +254,11 @@ is "nothing is said beside it" [ ! -s "$room/err" ]
 ends 2 sweep "$plan" x=5..1 && says "a range that is refused" "hint: --vary x=5..1"
 is "the words of a sweep" [ "$(WIRELINE_PROGRAM=$room/echo ./wireline sweep "$plan" x=1..2 --vary y=1..2 -o a=b --runs 3 end=5)" = \
   "sweep --hint $plan --vary x=1..2 --vary y=1..2 -o a=b --runs 3 --vary end=5" ]
+# Its parts may be several files
+for k in 1 2 3; do ends 0 sweep "$plan" --runs 20 --part "$k/3" -o "$room/part $k"; done
+ends 0 sweep --join "$room/part 3" "$room/part 1" -o "$room/joined" "$room/part 2" && ends 0 sweep "$plan" --runs 20 && is "three files are joined" cmp -s "$room/joined" "$room/out"
+ends 1 sweep "$room/part 3" --join && says "a lone part" "fault: Part(1, Missing)"
+ends 3 sweep --join "$room/part 1" "$room/part 4" && says "a part that isn't there" "can't read '$room/part 4'"
 ln -s "$PWD/$plan" "$room/a=b" && ends 0 sweep "$room/a=b" --runs 2 && is "a file with an equals sign" grep -qx "clean in 2 of 2" "$room/out"
 
 times=$(for _ in 1 2 3 4 5 6 7 8 9 10 11; do

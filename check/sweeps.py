@@ -5,6 +5,7 @@ usage: sweeps.py [--program PROGRAM] [--jobs N] WORD.. < PLAN      standard outp
 
 With --program members are run by a build of wl_sim in the place of plain.py: less independent, and a thousand times as fast.
 """
+import json
 import os
 import re
 import subprocess
@@ -330,6 +331,12 @@ def changes(row, plan, options, run):
     return said
 
 
+FIRSTS = {
+    "unclean": ("first that isn't", lambda word: word not in ("clean", "refused")),
+    "refused": ("first refused", lambda word: word == "refused"),
+}
+
+
 class Sweep:
     def __init__(self, text, request):
         self.options = request
@@ -347,6 +354,7 @@ class Sweep:
         rows = 1
         for *_, values in ranges: rows *= len(values)
         if rows > 10_000: raise Refused("Rows")
+        self.axes = [(called, values) for called, *_, values in ranges]
         self.rows = rows_of(self.plan, ranges)
         self.runs = [min(member_count(plan, request), request["runs"]) for _, plan in self.rows]
 
@@ -356,39 +364,99 @@ class Sweep:
     def text(self, row, run):
         return plan_text(member(self.rows[row][1], self.options, run))
 
-    def says(self, pool, program):
-        places = self.members()
+    def found(self, pool, program, places):
+        """Returns what is found of the members at some places."""
         texts = [self.text(row, run) for row, run in places]
         several = list(dict.fromkeys(texts))
         known = dict(zip(several, pool.map(partial(finding, program), several, chunksize=4)))
-        all_found, said = [known[text] for text in texts], ""
-        for row, (settings, _) in enumerate(self.rows):
-            if settings:
-                of_row = Counter(it[0] for (at, _), it in zip(places, all_found) if at == row)
-                said += "".join(f"{called} {value} " for called, value in settings) + counts(of_row) + "\n"
-        tally, members = Counter(it[0] for it in all_found), min(MOST, sum(member_count(plan, self.options) for _, plan in self.rows))
-        said += counts(tally) + "\n"
-        said += f"all {members} members were run\n" if tally.total() == members else \
-            f"{tally.total()} of {'at least ' * (members == MOST)}{members} members were run, drawn by seed {self.options['seed']}\n"
-        said += self.first("first that isn't", places, all_found, lambda word: word not in ("clean", "refused"))
-        said += self.first("first refused", places, all_found, lambda word: word == "refused")
-        if self.options["worst"]: said += "each sender has one frame more, with edges ten bits apart\n"
-        frames = {waiting.frame for node in plain.read_plan(plan_text(self.plan).encode()).nodes for waiting in node.queue}
-        if not any(map(tests_clocks, frames)):
-            said += "no frame has edges ten bits apart, so none tests the clocks; --worst adds some that do\n"
-        return said, tally["clean"] == tally.total()
+        return [known[text] for text in texts]
 
-    def first(self, label, places, all_found, test):
-        for n, ((row, run), it) in enumerate(zip(places, all_found)):
+    def words(self):
+        return ["".join(f"{called} {value} " for called, value in settings) for settings, _ in self.rows if settings]
+
+    def members_line(self):
+        runs, members = sum(self.runs), min(MOST, sum(member_count(plan, self.options) for _, plan in self.rows))
+        if runs == members: return f"all {members} members were run\n"
+        return f"{runs} of {'at least ' * (members == MOST)}{members} members were run, drawn by seed {self.options['seed']}\n"
+
+    def tail(self):
+        said = "each sender has one frame more, with edges ten bits apart\n" if self.options["worst"] else ""
+        frames = {waiting.frame for node in plain.read_plan(plan_text(self.plan).encode()).nodes for waiting in node.queue}
+        if any(map(tests_clocks, frames)): return said
+        return said + "no frame has edges ten bits apart, so none tests the clocks; --worst adds some that do\n"
+
+    def says(self, pool, program):
+        places = self.members()
+        all_found, said = self.found(pool, program, places), ""
+        for row, words in enumerate(self.words()):
+            said += words + counts(Counter(it[0] for (at, _), it in zip(places, all_found) if at == row)) + "\n"
+        tally = Counter(it[0] for it in all_found)
+        said += counts(tally) + "\n" + self.members_line()
+        for label, test in FIRSTS.values(): said += self.first(label, places, all_found, test)[1]
+        return said + self.tail(), tally["clean"] == tally.total()
+
+    def part(self, pool, program, k, n):
+        """Returns the text of part k of n."""
+        places = self.members()
+        below = [len(places) * end // n for end in (k - 1, k)]
+        places = places[slice(*below)]
+        all_found, options = self.found(pool, program, places), self.options
+        by_row = [Counter(it[0] for (at, _), it in zip(places, all_found) if at == row) for row in range(len(self.rows))]
+        name = f"options --runs {options['runs']} --seed {options['seed']}" + (f" --step {options['step']}" if options["step"] else "")
+        name += "".join(f" {flag}" for flag, key in FLAGS.items() if options[key]) + "\n"
+        for i, (called, values) in enumerate(self.axes): name += " ".join(["held" if i > 1 else "axis", called, *map(str, values)]) + "\n"
+        firsts = {}
+        for key, (label, test) in FIRSTS.items():
+            number, line = self.first(label, places, all_found, test, below[0])
+            firsts[key] = [{"number": number, "line": line}] if line else []
+        rows = [{"runs": it.total(), "clean": it["clean"], "early": it["early"], "refused": it["refused"]} for it in by_row]
+        return json_of({"part": k, "of": n, "sweep": name + plan_text(self.plan), "words": self.words(), "members": self.members_line(), "tail": self.tail(),
+                        "rows": rows, **firsts}) + "\n"
+
+    def first(self, label, places, all_found, test, before=0):
+        for n, ((row, run), it) in enumerate(zip(places, all_found), before):
             if test(it[0]):
-                return f"{label}: member {n}{changes(*self.rows[row], self.options, run)}: {WORDS[it[0]].format(*it[1:])}\n"
-        return ""
+                return n, f"{label}: member {n}{changes(*self.rows[row], self.options, run)}: {WORDS[it[0]].format(*it[1:])}\n"
+        return 0, ""
 
     def prints(self, n):
         places = self.members()
         if n >= len(places): raise Refused("Member")
         row, run = places[n]
         return f"# member {n}{changes(*self.rows[row], self.options, run)}\n{self.text(row, run)}"
+
+
+# ---- Parts
+
+def json_of(value):
+    """Returns a value as JSON, without spaces; a list has its length first and null last."""
+    if isinstance(value, dict): return "{" + ",".join(f"{json_of(key)}:{json_of(it)}" for key, it in value.items()) + "}"
+    if isinstance(value, list): return "[" + ",".join([str(len(value)), *map(json_of, value), "null"]) + "]"
+    if isinstance(value, int): return str(value)
+    return '"' + re.sub(r'["\\]|[\x00-\x1f]', lambda it: "\\" + it[0] if it[0] in '"\\' else f"\\u{ord(it[0]):04x}", value) + '"'
+
+
+def joined(text):
+    """Returns what the texts of all parts of a sweep say together, and whether each member is clean."""
+    parts = []
+    for n, line in enumerate(text.splitlines(keepends=True), 1):
+        try: parts.append(json.loads(line))
+        except ValueError: raise Refused(f"Part({n}, Form)", 1) from None
+        if not isinstance(parts[-1], dict) or line[-1] != "\n": raise Refused(f"Part({n}, Form)", 1)
+    for n, part in enumerate(parts, 1):
+        if any(part[key] != parts[0][key] for key in ("sweep", "of")) or not 1 <= part["part"] <= part["of"]: raise Refused(f"Part({n}, Other)", 1)
+    numbers = Counter(part["part"] for part in parts)
+    for k in range(1, parts[0]["of"] + 1 if parts else 2):
+        if numbers[k] != 1: raise Refused(f"Part({k}, {'Doubled' if numbers[k] else 'Missing'})", 1)
+    parts.sort(key=lambda part: part["part"])
+    rows = [Counter() for _ in parts[0]["rows"][1:-1]]
+    for part in parts:
+        for row, more in zip(rows, part["rows"][1:-1]): row.update({**more, "late": more["runs"] - more["clean"] - more["early"] - more["refused"]})
+    for row in rows: del row["runs"]
+    total = sum(rows, Counter())
+    said = "".join(words + counts(row) + "\n" for words, row in zip(parts[0]["words"][1:-1], rows)) + counts(total) + "\n" + parts[0]["members"]
+    for key in FIRSTS: said += next((part[key][1]["line"] for part in parts if part[key][0]), "")
+    return said + parts[0]["tail"], total["clean"] == total.total()
 
 
 # ---- The command line
@@ -398,14 +466,29 @@ FLAGS = {"--keep-offsets": "offsets", "--keep-ppm": "ppm", "--worst": "worst"}
 
 def request_of(words):
     """Returns what the words of a command line ask for."""
-    request = {"runs": 1000, "seed": 1, "step": None, "workers": 1, "print": None, "offsets": False, "ppm": False, "worst": False, "ranges": []}
+    request = {"runs": 1000, "seed": 1, "step": None, "workers": 1, "print": None, "offsets": False, "ppm": False, "worst": False, "ranges": [],
+               "join": False, "part": None}
     words = list(words)
     while words:
         word = words.pop(0)
         if word in FLAGS: request[FLAGS[word]] = True
         elif word == "--vary": request["ranges"].append(words.pop(0))
+        elif word == "--join": request["join"] = True
+        elif word == "--part": request["part"] = words.pop(0)
         else: request[word.removeprefix("--")] = int(words.pop(0))
     return request
+
+
+def answer(pool, program, text, request):
+    """Returns what is written, and whether the status is 0."""
+    if request["join"]: return joined(text)
+    if request["part"] is not None:
+        numbers = re.fullmatch(r"(\d+)/(\d+)", request["part"], re.A)
+        share = [int(digits) if int(digits) < 2**32 else 0 for digits in numbers.groups()] if numbers else [0, 0]
+        if not 1 <= share[0] <= share[1]: raise Refused("Part")
+        return Sweep(text, request).part(pool, program, *share), True
+    sweep = Sweep(text, request)
+    return (sweep.prints(request["print"]), True) if request["print"] is not None else sweep.says(pool, program)
 
 
 def main():
@@ -420,8 +503,7 @@ def main():
         sys.exit(sys.stderr.write(__doc__) and 2)
     with Pool(jobs) as pool:
         try:
-            sweep = Sweep(text, request)
-            said, is_clean = (sweep.prints(request["print"]), True) if request["print"] is not None else sweep.says(pool, program)
+            said, is_clean = answer(pool, program, text, request)
         except Refused as refused:
             sys.stderr.write(f"{refused}\n")
             sys.exit(refused.status)

@@ -16,7 +16,7 @@ _wireline() {
     margin) options+=' --tick --all-send --format' ;;
     traffic) options+=' --tick --strict --format' ;;
     settings) options+=' --tick --best --plan' ;;
-    sweep) options+=' --vary --step --runs --seed --keep-offsets --keep-ppm --worst --workers --print --page --format' ;;
+    sweep) options+=' --vary --step --runs --seed --keep-offsets --keep-ppm --worst --workers --print --page --part --join --format' ;;
   esac
   if [ "$COMP_CWORD" = 1 ]; then
     mapfile -t COMPREPLY < <(compgen -W 'run check format explain trace candump vcd page margin traffic settings records merge horizon sweep build test completions help' -- "$word")

@@ -22,4 +22,6 @@ complete -c wireline -n '__fish_seen_subcommand_from sweep' -l keep-ppm -d 'sign
 complete -c wireline -n '__fish_seen_subcommand_from sweep' -l worst -d 'frames that test the clocks'
 complete -c wireline -n '__fish_seen_subcommand_from sweep' -l print -x -d 'one member as a plan'
 complete -c wireline -n '__fish_seen_subcommand_from sweep' -l page -d 'a map as a page of HTML'
+complete -c wireline -n '__fish_seen_subcommand_from sweep' -l part -x -d 'the K-th of N parts of the members: K/N'
+complete -c wireline -n '__fish_seen_subcommand_from sweep' -l join -d 'what all parts say together'
 complete -c wireline -n '__fish_seen_subcommand_from completions' -f -a 'bash zsh fish'

@@ -20,7 +20,7 @@ _wireline() {
       '*--vary[a row for each value]:[NODE.]KEY=A..B[\:STEP]:' '--step[ticks between two offsets]:ticks:' '--runs[the most members of a row that are run]:number:'
       '--seed[which random part]:number:' '--keep-offsets[offsets as the plan has them]' '--keep-ppm[signs as the plan has them]'
       '--worst[frames that test the clocks]' '--workers[how many threads]:number:(1 2 3 4 5 6 7 8)' '--print[one member as a plan]:number:'
-      '--page[a map as a page of HTML]' $format
+      '--page[a map as a page of HTML]' '--part[the K-th of N parts of the members]:K/N:' '--join[what all parts say together]' $format
     ) ;;
     completions) compadd bash zsh fish && return ;;
   esac

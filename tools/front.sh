@@ -25,6 +25,23 @@ help_of() { # help_of PROGRAM WORD..
   exit "$status"
 }
 
+# The parts of a sweep that are joined may be several files: the program reads them one after another.
+join_files() { # join_files PROGRAM WORD..: becomes the program, over these files
+  local program=$1 files=() others=() ended='' before='' word
+  shift
+  for word in "$@"; do
+    if [ "$before" = -o ] || [ "$before" = --format ] || [[ -z $ended && $word = -?* && $word != -- ]]; then others+=("$word")
+    elif [ -z "$ended" ] && [ "$word" = -- ]; then ended=yes
+    else files+=("$word"); fi
+    before=$word
+  done
+  if [ ${#files[@]} -gt 1 ]; then
+    for word in "${files[@]}"; do [ -r "$word" ] || { say "can't read '$word'"; exit 3; }; done
+    exec < <(cat -- "${files[@]}")
+  elif [ ${#files[@]} = 1 ]; then others+=(-- "${files[0]}"); fi
+  exec "$program" sweep "${others[@]}"
+}
+
 hand_over() { # hand_over PROGRAM WORD..: becomes the program, with the words that a person wants
   local program=$1 said=(--hint) words=() before='' ended='' word
   shift
@@ -39,6 +56,7 @@ hand_over() { # hand_over PROGRAM WORD..: becomes the program, with the words th
     [[ $1 != sweep || $word != *=* || $word = -* || -e $word || $before = --vary || $before = -o ]] || words+=(--vary)
     words+=("$word") before=$word
   done
+  if [ "${1-}" = sweep ] && [[ " ${words[*]} " = *' --join '* ]]; then join_files "$program" "${said[@]}" "${words[@]}"; fi
   case ${1-} in
     run | check | format | records | explain | trace | candump | vcd | page | margin | traffic | settings | merge | horizon | sweep)
       exec "$program" "$1" "${said[@]}" "${words[@]}"

@@ -191,6 +191,8 @@ given_numbers : entered_sweep (behind_name (codes "sweep" ∷ codes "--runs" ∷
       workers = None;
       print = Some 137;
       page = false;
+      part = None;
+      join = false;
     })
 unfolding clap_on_literals behind_name
 given_numbers = refl
@@ -201,6 +203,8 @@ given_flags : entered_sweep (behind_name (codes "sweep" ∷ codes "--keep-ppm" �
       workers = Some 4;
       print = None;
       page = false;
+      part = None;
+      join = false;
     })
 unfolding clap_on_literals behind_name
 given_flags = refl

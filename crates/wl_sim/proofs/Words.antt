@@ -17,13 +17,16 @@ use Rattle.clap.proofs.OnLiterals.{clap_on_literals}
 use Rattle.clap.proofs.WalkLemmas.{both, first_value-rows, raw_values-rows}
 use Rattle.wl_device.specs.Devices.{Answer}
 use Rattle.wl_engines.specs.declared.fault.RunFault.TheVariants as run
+use Rattle.wl_sweep.specs.declared.part.Share.{Share}
+use Rattle.wl_sweep.specs.Parts.{share_named}
 use Rattle.wl_sweep_engine.specs.declared.fault.SweepFault.TheVariants as sweep
 use Rattle.wl_print.specs.declared.fault.PrintFault.TheVariants as print
 use Rattle.wl_settings.specs.declared.fault.SettingsFault.TheVariants as settings
-use Rattle.wl_sim.specs.CommandLine.{node_among, only_among, read_only, task_word, tick_among, workers_among, read_link, link_among, entered, file_among, file_in, file_named, format_among, format_in, read_format, is_flagged, is_set, number_among, number_or_zero, plain_values, ranges_among, ranges_in, values_among, word_in, Enters, HasValues, NamesTask}
+use Rattle.wl_sim.specs.CommandLine.{node_among, only_among, read_only, task_word, tick_among, workers_among, read_link, link_among, entered, file_among, file_in, file_named, format_among, format_in, read_format, is_flagged, is_set, number_among, number_or_zero, plain_values, ranges_among, ranges_in, values_among, word_in, Enters, HasValues, NamesTask, share_among}
+use Rattle.wl_sweep_engine.specs.declared.join.JoinFault.TheVariants as join
 use Rattle.wl_views.specs.Ticks.{read_tick}
 use Rattle.wl_sim.proofs.Naming.{one_found}
-use Rattle.wl_sim.specs.Tasks.{Does, DoesSweep, IsCount, run_status}
+use Rattle.wl_sim.specs.Tasks.{Does, DoesSweep, DoesSwept, IsCount, run_status}
 use Rattle.wl_sim.specs.Orders.{Asks, Ends, EndsPlainly, Performs, ReadsFrom, ReadsOrder, RunsWords}
 use Rattle.wl_files.specs.Files.{Standing}
 use Rattle.wl_formats.specs.declared.formats.Format.{Format}
@@ -129,6 +132,10 @@ node_text f = ap (option_map byte_or_zero) (sym (first_value-rows f (codes "node
 pub only_text : (f : Found) → only_among (rows_of f) ≡ option_map_or read_only (first_value f (codes "only")) (Some None)
 only_text f = ap (λ o. option_map_or read_only o (Some None)) (sym (first_value-rows f (codes "only")))
 
+-- the part of a sweep, by its text
+pub part_text : (f : Found) → share_among (rows_of f) ≡ option_map share_named (first_value f (codes "part"))
+part_text f = ap (option_map share_named) (sym (first_value-rows f (codes "part")))
+
 -- ranges, by their texts
 pub ranges_text : (f : Found) → ranges_among (rows_of f) ≡ unwrap_or (option_map raw_values (matched_of f (codes "vary"))) []
 ranges_text f = ap (λ o. unwrap_or o []) (sym (raw_values-rows f (codes "vary")))
@@ -198,6 +205,12 @@ module _ {S T : Type 0} (gives : S → Answer → S → Type 0) (takes : T → A
   sweeps_nothing s s' t t' swept None false h = (Err sweep.Memory, (some_count swept.workers).0, (some_count swept.workers).1, h, refl)
   sweeps_nothing s s' t t' swept (Some n) page h = (Err sweep.Memory, h, refl)
 
+  swept_nothing : (s s' : S) (t t' : T) (swept : Swept) (joins : Bool) (part : Option Share) → t' ≡ t
+      → DoesSwept gives takes s s' t t' swept [] joins part (Err (fault.Run run.Memory))
+  swept_nothing s s' t t' swept true part h = (Err join.Memory, h, refl)
+  swept_nothing s s' t t' swept false (Some share) h = (Err sweep.Memory, (some_count swept.workers).0, (some_count swept.workers).1, h, refl)
+  swept_nothing s s' t t' swept false None h = sweeps_nothing s s' t t' swept swept.print swept.page h
+
   does_nothing : (s s' : S) (t t' : T) (task : Task) → t' ≡ t → Does gives takes s s' t t' task [] (Err (fault.Run run.Memory))
   does_nothing s s' t t' (Merge limits) h = (Err run.Memory, h, refl)
   does_nothing s s' t t' (Horizon limits) h = (Err run.Memory, h, refl)
@@ -213,7 +226,7 @@ module _ {S T : Type 0} (gives : S → Answer → S → Type 0) (takes : T → A
   does_nothing s s' t t' (Margin tick all) h = (Err run.Memory, h, refl)
   does_nothing s s' t t' (Traffic tick strict) h = (Err run.Memory, h, refl)
   does_nothing s s' t t' (Settings tick shown) h = (Err settings.Memory, inl (h, inl refl), refl)
-  does_nothing s s' t t' (Sweep swept) h = sweeps_nothing s s' t t' swept swept.print swept.page h
+  does_nothing s s' t t' (Sweep swept) h = swept_nothing s s' t t' swept swept.join swept.part h
 
 -- what is done over an order without files is done over the standard devices
 module _ {S T F R W : Type 0} (gives : S → Answer → S → Type 0) (takes : T → Answer → T → Type 0)

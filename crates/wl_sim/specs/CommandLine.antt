@@ -17,6 +17,8 @@ use Rattle.wl_formats.specs.declared.formats.Format.{Format}
 use Rattle.wl_formats.specs.declared.formats.Format.TheVariants.{Json, Csv}
 use Rattle.wl_settings.specs.declared.said.Shown.{Shown}
 use Rattle.wl_settings.specs.declared.said.Shown.TheVariants.{Best, Plan}
+use Rattle.wl_sweep.specs.declared.part.Share.{Share}
+use Rattle.wl_sweep.specs.Parts.{share_named}
 use Rattle.wl_worker.specs.declared.by_links.LinkKind.{LinkKind}
 use Rattle.wl_worker.specs.declared.by_links.LinkKind.TheVariants.{Hub, Mail}
 use Rattle.wl_limits.specs.declared.Limits.{Limits}
@@ -181,9 +183,16 @@ swept_app app =
     with_rule (with_rule (with_rule (with_rule (with_rule (counted_app app) (flag_rule (codes "keep-offsets"))) (flag_rule (codes "keep-ppm"))) (flag_rule (codes "worst"))) print_rule)
     (flag_rule (codes "page"))
 
+-- the options of the parts of a sweep: which part is run, and that all parts are joined
+abbrev pub part_rule : Rule
+part_rule = record (new_rule (codes "part")) { long = Some (codes "part"); value_names = 1 }
+
+abbrev pub parted_app : App → App
+parted_app app = with_rule (with_rule app part_rule) (flag_rule (codes "join"))
+
 -- a subcommand with the options of `sweep`
 abbrev pub sweep_app : App → App
-sweep_app app = formatted_app (swept_app app)
+sweep_app app = formatted_app (parted_app (swept_app app))
 
 -- a subcommand with the options that its word has beside those of each
 abbrev pub optioned_app : Text → App → App
@@ -316,6 +325,10 @@ ranges_among rows = unwrap_or (all_of (codes "vary") rows) []
 abbrev pub ranges_in : Option (Text × List Row) → List Text
 ranges_in found = option_map_or (λ p. ranges_among p.1) found []
 
+-- the part of a sweep that a subcommand's option gives
+abbrev pub share_among : List Row → Option Share
+share_among rows = option_map share_named (first_of (codes "part") rows)
+
 -- what the options say of a sweep
 abbrev pub swept_by : List Row → ℕ → ℕ → Swept
 swept_by rows runs seed = record {
@@ -332,6 +345,8 @@ swept_by rows runs seed = record {
   workers = workers_among rows;
   print = number_among 64 (codes "print") rows;
   page = is_flagged (codes "page") rows;
+  part = share_among rows;
+  join = is_flagged (codes "join") rows;
 }
 
 abbrev pub swept_among : List Row → Option Swept
@@ -484,6 +499,8 @@ plainly_swept = record {
   workers = None;
   print = None;
   page = false;
+  part = None;
+  join = false;
 }
 
 -- where the words say nothing of it a tick is a nanosecond, one worker runs, over a hub if it were several, all settings are listed, and the status

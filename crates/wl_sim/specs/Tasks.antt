@@ -1,5 +1,5 @@
 -- What the program does for its words, and the status that it ends with (this project's profile).
-use Rattle.std.specs.Prelude.{◌≡◌, ◌≤◌, ◌==◌, ◌||◌, ◌⊎◌, ℕ, Bool, true, false, MatchBool, List, [], length, Option, Some, None, is_some, if◌then◌else◌, Result, Ok, Err}
+use Rattle.std.specs.Prelude.{◌≡◌, ◌≤◌, ◌==◌, ◌||◌, ◌&&◌, ◌⊎◌, ℕ, Bool, true, false, not, MatchBool, List, [], length, Option, Some, None, is_some, if◌then◌else◌, Result, Ok, Err}
 use Rattle.std.specs.List.{list_all}
 use Rattle.clap.specs.Words.{Text}
 use Rattle.wl_device.specs.Devices.{Answer}
@@ -37,7 +37,11 @@ use Rattle.wl_sweep.specs.Findings.{is_clean}
 use Rattle.wl_sweep.specs.Tallies.{tally_of}
 use Rattle.wl_sweep_engine.specs.declared.fault.SweepFault.{SweepFault}
 use Rattle.wl_sweep_engine.specs.declared.fault.SweepFault.TheVariants as sweep
-use Rattle.wl_sweep_engine.specs.Sweeping.{Maps, Sweeps, Prints}
+use Rattle.wl_sweep_engine.specs.Sweeping.{Maps, Parts, Prints, Sweeps}
+use Rattle.wl_sweep_engine.specs.declared.join.JoinFault.{JoinFault}
+use Rattle.wl_sweep_engine.specs.declared.join.JoinFault.TheVariants as join
+use Rattle.wl_sweep_engine.specs.Joining.{Joins}
+use Rattle.wl_sweep.specs.declared.part.Share.{Share}
 use Rattle.wl_traffic.specs.declared.reason.Reason.{Reason}
 use Rattle.wl_traffic.specs.declared.reason.Reason.TheVariants.{Works}
 use Rattle.wl_sim.specs.declared.answer.Done.{Done}
@@ -82,6 +86,18 @@ abbrev pub of_print : Result (Unit {0}) SweepFault → Result Done Fault
 of_print (Ok u) = Ok Plain
 of_print (Err f) = Err (of_sweep f)
 
+-- a fault of joining the parts of a sweep: of its devices or memory it is that of any engine; else it is one of their texts
+abbrev pub of_join_fault : JoinFault → Fault
+of_join_fault join.Read = fault.Run (run.Setup setup.Read)
+of_join_fault join.Write = fault.Run run.Write
+of_join_fault join.Memory = fault.Run run.Memory
+of_join_fault f = fault.Join f
+
+-- what is answered for joined parts, by whether each member is clean
+abbrev pub of_join : Result Bool JoinFault → Result Done Fault
+of_join (Ok clean) = Ok (done_by clean)
+of_join (Err f) = Err (of_join_fault f)
+
 -- a fault of a search for settings: of its devices or memory it is that of any engine; else it is one of its text
 abbrev pub of_settings_fault : SettingsFault → Fault
 of_settings_fault settings.Read = fault.Run (run.Setup setup.Read)
@@ -120,6 +136,7 @@ run_status (Err (fault.Run f)) = if is_refusal f then 1 else 3
 run_status (Err (fault.Word f)) = 2
 run_status (Err (fault.Settings f)) = 1
 run_status (Err (fault.Print f)) = 1
+run_status (Err (fault.Join f)) = 1
 run_status (Err fault.Format) = 3
 
 -- the status of a command line that named no task
@@ -132,7 +149,7 @@ abbrev pub IsCount : Option ℕ → ℕ → Type 0
 IsCount (Some said) count = count ≡ said
 IsCount None count = (1 ≤ count) × (count ≤ 8)
 
--- the command of a task, if its output has other formats; a member of a sweep is a plan, and its map a page
+-- the command of a task, if its output has other formats; a member of a sweep is a plan, its map a page, and a part of it JSON
 abbrev pub subject_of : Task → Option Subject
 subject_of (Merge limits) = None
 subject_of (Horizon limits) = None
@@ -148,7 +165,7 @@ subject_of (Page tick) = None
 subject_of (Margin tick all) = Some subject.Margin
 subject_of (Traffic tick strict) = Some subject.Traffic
 subject_of (Settings tick shown) = None
-subject_of (Sweep swept) = if is_some swept.print || swept.page then None else Some subject.Sweep
+subject_of (Sweep swept) = if not swept.join && (is_some swept.part || is_some swept.print || swept.page) then None else Some subject.Sweep
 
 -- an engine answered, and that is what is answered
 abbrev pub Plainly : (Result (Unit {0}) RunFault → Type 0) → Result Done Fault → Type 0
@@ -165,6 +182,14 @@ module _ {S T : Type 0} (gives : S → Answer → S → Type 0) (takes : T → A
       × AnswersSweep answer r
   DoesSweep swept ranges (Some n) page r =
       (answer : Result (Unit {0}) SweepFault) × Prints gives takes ranges swept.asked s s' t t' n answer × (r ≡ of_print answer)
+
+  -- or a part of that, or what all parts say together
+  abbrev pub DoesSwept : Swept → List Text → Bool → Option Share → Result Done Fault → Type 0
+  DoesSwept swept ranges true part r = (answer : Result Bool JoinFault) × Joins gives takes s s' t t' answer × (r ≡ of_join answer)
+  DoesSwept swept ranges false (Some share) r =
+      (answer : Result (Unit {0}) SweepFault) × (count : ℕ) × IsCount swept.workers count
+      × Parts gives takes ranges swept.asked s s' t t' share count answer × (r ≡ of_print answer)
+  DoesSwept swept ranges false None r = DoesSweep swept ranges swept.print swept.page r
 
   -- the traffic of a run was written
   abbrev pub DoesTraffic : Tick → Bool → Result Done Fault → Type 0
@@ -188,7 +213,7 @@ module _ {S T : Type 0} (gives : S → Answer → S → Type 0) (takes : T → A
   Does (Traffic tick strict) ranges r = DoesTraffic tick strict r
   Does (Settings tick shown) ranges r =
       (answer : Result (Unit {0}) SettingsFault) × RunsSettings gives takes (tick_picoseconds tick) shown s s' t t' answer × (r ≡ of_settings answer)
-  Does (Sweep swept) ranges r = DoesSweep swept ranges swept.print swept.page r
+  Does (Sweep swept) ranges r = DoesSwept swept ranges swept.join swept.part r
 
   -- the task was done, nothing else was read or written, and the status is that of what was answered
   abbrev pub EndsTask : Task → ℕ → Type 0

@@ -4,14 +4,14 @@ ghost use Rattle.std.specs.List.{list_all};
 ghost use Rattle.wl_sweep.specs.Findings.{is_clean};
 ghost use Rattle.wl_sweep.specs.Tallies.{tally_of};
 ghost use Rattle.wl_sweep.specs.declared.finding.Finding.{Finding};
-ghost use Rattle.wl_sim.specs.Tasks.{AnswersSweep, done_by, of_format, of_format_fault, of_map, of_print, of_settings, of_settings_fault, of_sweep, of_traffic, plainly};
+ghost use Rattle.wl_sim.specs.Tasks.{AnswersSweep, done_by, of_format, of_format_fault, of_map, of_print, of_settings, of_settings_fault, of_sweep, of_traffic, plainly, of_join, of_join_fault};
 
 use thiserror::Error;
 use wl_engines::{Reason, RunFault};
 use wl_print::PrintFault;
 use wl_settings::SettingsFault;
 use wl_setup::SetupFault;
-use wl_sweep_engine::{SweepFault, Tally};
+use wl_sweep_engine::{JoinFault, SweepFault, Tally};
 
 /// What came of a task whose output was written whole.
 #[derive(Clone, Copy)]
@@ -37,6 +37,9 @@ pub enum Fault {
     /// The plan has no form in version 4.
     #[error("{0}")]
     Print(PrintFault),
+    /// The texts aren't those of all parts of one sweep.
+    #[error("{0}")]
+    Join(JoinFault),
     /// A line of the output has no other format.
     #[error("Format")]
     Format,
@@ -96,13 +99,36 @@ pub(crate) fn of_map(answer: Result<bool, SweepFault>) -> Result<Done, Fault>
     }
 }
 
-/// Returns what the writing of a member answered.
+/// Returns what the writing of a member or of a part answered.
 pub(crate) fn of_print(answer: Result<(), SweepFault>) -> Result<Done, Fault>
     ensures { result ≡ of_print answer }
 {
     match answer {
         Ok(()) => Ok(Done::Plain),
         Err(fault) => Err(of_sweep(fault)),
+    }
+}
+
+/// Returns a fault of joining the parts of a sweep: of its devices or memory it is that of any engine, else it is one of their texts.
+fn of_join_fault(fault: JoinFault) -> Fault
+    ensures { result ≡ of_join_fault fault }
+{
+    match fault {
+        JoinFault::Read => Fault::Run(RunFault::Setup(SetupFault::Read)),
+        JoinFault::Write => Fault::Run(RunFault::Write),
+        JoinFault::Memory => Fault::Run(RunFault::Memory),
+        other => Fault::Join(other),
+    }
+}
+
+/// Returns what joined parts answered, by whether each member is clean.
+pub(crate) fn of_join(answer: Result<bool, JoinFault>) -> Result<Done, Fault>
+    ensures { result ≡ of_join answer }
+{
+    match answer {
+        Ok(true) => Ok(Done::Plain),
+        Ok(false) => Ok(Done::Unclean),
+        Err(fault) => Err(of_join_fault(fault)),
     }
 }
 

@@ -11,7 +11,8 @@ use wl_device::{Sink, write_all};
 use wl_engines::RunFault;
 use wl_formats::{Format, FormatFault, Subject, formatted};
 
-/// Returns the command of a task, if its output has other formats. A member of a sweep is a plan, and its map a page.
+/// Returns the command of a task, if its output has other formats. A member of a sweep is a plan, its map a page, and a part of it
+/// JSON.
 pub(crate) fn subject_of(task: Task) -> Option<Subject>
     ensures { result ≡ subject_of task }
 {
@@ -23,7 +24,7 @@ pub(crate) fn subject_of(task: Task) -> Option<Subject>
         Task::Margin(_, _) => Some(Subject::Margin),
         Task::Traffic(_, _) => Some(Subject::Traffic),
         Task::Sweep(swept) => {
-            if swept.print.is_some() || swept.page {
+            if !swept.join && (swept.part.is_some() || swept.print.is_some() || swept.page) {
                 None
             } else {
                 Some(Subject::Sweep)

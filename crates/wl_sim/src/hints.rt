@@ -13,7 +13,7 @@ use wl_print::PrintFault;
 use wl_record::TextFault;
 use wl_settings::SettingsFault;
 use wl_setup::{SetupFault, Text};
-use wl_sweep_engine::{RangeFault, SweepFault};
+use wl_sweep_engine::{JoinFault, PartsFault, RangeFault, SweepFault};
 
 /// The most bytes of an input that a hint is made from.
 const MOST_HINTED: usize = 1 << 20;
@@ -129,7 +129,32 @@ fn word_advice(fault: &SweepFault) -> &'static str {
         SweepFault::Runs => "Give a number of runs above 0.",
         SweepFault::Step => "Give a step above 0.",
         SweepFault::Workers => "Give 1 to 8 workers.",
+        SweepFault::Part => "Write --part K/N, with whole numbers and K from 1 to N.",
         SweepFault::Setup(_) | SweepFault::Write | SweepFault::Memory => FREE_MEMORY,
+    }
+}
+
+/// Returns what to change of texts that aren't those of all parts of one sweep.
+fn part_advice(fault: PartsFault) -> &'static str {
+    match fault {
+        PartsFault::Form(_) => {
+            "Pass the whole output of `sweep --part` alone; run a part again that was cut off."
+        }
+        PartsFault::Other(_) => {
+            "Leave this text out, or run the part again with the plan, options and N of the first one."
+        }
+        PartsFault::Missing(_) => "Run the part of this number, and pass its output too.",
+        PartsFault::Doubled(_) => "Pass the output of the part of this number once.",
+        PartsFault::Memory => FREE_MEMORY,
+    }
+}
+
+/// Returns what to change of the input of a join.
+fn join_advice(fault: &JoinFault) -> &'static str {
+    match fault {
+        JoinFault::Parts(fault) => part_advice(*fault),
+        JoinFault::Size => "Pass texts of at most 1,073,741,824 bytes in all: take fewer parts.",
+        JoinFault::Read | JoinFault::Write | JoinFault::Memory => FREE_MEMORY,
     }
 }
 
@@ -222,6 +247,12 @@ pub fn say_fault<F: Folder>(
         Fault::Print(fault) => {
             if order.hint {
                 let advice = print_advice(fault);
+                let _ = eprintln!(rt; "hint: {advice}");
+            }
+        }
+        Fault::Join(fault) => {
+            if order.hint {
+                let advice = join_advice(fault);
                 let _ = eprintln!(rt; "hint: {advice}");
             }
         }

@@ -13,7 +13,7 @@
 //! - `traffic` writes how busy the bus was and how long messages waited;
 //! - `margin` writes whether the plan's bus works, and with how much to spare;
 //! - `explain` writes what is doubtful of a plan, and the figures of its nodes, or what is wrong with a plan that is refused;
-//! - `sweep` writes how many members of a family of plans are clean.
+//! - `sweep` writes how many members of a family of plans are clean, also in parts that it joins.
 #![tactic(auto)]
 
 ghost use Rattle.std.specs.Prelude.{◌≡◌, ◌≢◌, ◌≤◌, map, string_bytes, IfOk, IfErr, Ok, Err, option_map};
@@ -23,7 +23,7 @@ ghost use Rattle.wl_sim.specs.declared.command.Task.{Task};
 ghost use Rattle.wl_files.specs.Files.{Keeps};
 ghost use Rattle.wl_sim.specs.CommandLine.{NamesTask};
 ghost use Rattle.wl_sim.specs.Orders.{Ends, EndsPlainly, MovesFile, Performs, RunsWords, WritesTo};
-ghost use Rattle.wl_sim.specs.Tasks.{Does, DoesAs, DoesBy, DoesSweep, IsCount, run_status, refusal_status};
+ghost use Rattle.wl_sim.specs.Tasks.{Does, DoesAs, DoesBy, DoesSweep, DoesSwept, IsCount, run_status, refusal_status};
 
 use std::alloc::Global;
 use std::io::ErrorKind;
@@ -39,7 +39,7 @@ use wl_formats::{Format, Subject};
 use wl_print::format_run;
 use wl_settings::settings_run;
 use wl_setup::{SetupFault, Text};
-use wl_sweep_engine::{Workers, map_run, print_run, sweep_run};
+use wl_sweep_engine::{Workers, join_run, map_run, part_run, print_run, sweep_run};
 
 mod answer;
 mod command;
@@ -50,7 +50,7 @@ mod subcommands;
 mod sweep;
 mod values;
 
-use crate::answer::{of_format, of_map, of_print, of_settings, of_tally, of_traffic, plainly};
+use crate::answer::{of_format, of_map, of_print, of_settings, of_tally, of_traffic, plainly, of_join};
 use crate::formats::{subject_of, write_kept};
 pub use answer::{Done, Fault};
 pub use command::{Order, Refusal, Task};
@@ -342,6 +342,42 @@ fn run_sweep<H: Threads + Sync + Eprint + Clock, R: Source, W: Sink>(
     }
 }
 
+/// Runs a sweep or a part of it, or joins all parts of one.
+fn run_swept<H: Threads + Sync + Eprint + Clock, R: Source, W: Sink>(
+    rt: &H,
+    alloc: Global,
+    swept: Swept,
+    work: Work,
+    reader: &mut R,
+    writer: &mut W,
+) -> Result<Done, Fault>
+    ensures { DoesSwept R.gives W.takes reader.old reader.new writer.old writer.new
+        swept (map string_bytes work.entry.ranges.now) swept.join swept.part result }
+{
+    if swept.join {
+        return of_join(join_run(alloc, reader, writer));
+    }
+    match swept.part {
+        Some(share) => {
+            let workers = Workers {
+                count: thread_count(rt, swept.workers),
+                progress: work.progress,
+            };
+            of_print(part_run(
+                rt,
+                alloc,
+                work.ranges,
+                swept.asked,
+                share,
+                workers,
+                reader,
+                writer,
+            ))
+        }
+        None => run_sweep(rt, alloc, swept, work, reader, writer),
+    }
+}
+
 /// Runs the engine of a task. It may wait if that is a run by several workers.
 fn run<H: Threads + Wait + Sync + Eprint + Clock, R: Source, W: Sink>(
     rt: &H,
@@ -382,7 +418,7 @@ fn run<H: Threads + Wait + Sync + Eprint + Clock, R: Source, W: Sink>(
         Task::Settings(tick, shown) => {
             of_settings(settings_run(alloc, tick.picoseconds(), shown, reader, writer))
         }
-        Task::Sweep(swept) => run_sweep(rt, alloc, swept, work, reader, writer),
+        Task::Sweep(swept) => run_swept(rt, alloc, swept, work, reader, writer),
     }
 }
 
@@ -439,7 +475,9 @@ fn status_of(answer: &Result<Done, Fault>) -> ExitCode
             }
         }
         Err(Fault::Word(_)) => ExitCode::from(REFUSED_COMMAND),
-        Err(Fault::Settings(_)) | Err(Fault::Print(_)) => ExitCode::from(REFUSED_INPUT),
+        Err(Fault::Settings(_)) | Err(Fault::Print(_)) | Err(Fault::Join(_)) => {
+            ExitCode::from(REFUSED_INPUT)
+        }
         Err(Fault::Format) => ExitCode::from(BROKEN),
     }
 }

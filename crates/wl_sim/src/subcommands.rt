@@ -5,7 +5,7 @@ ghost use Rattle.clap.specs.declared.builder.command.Command.TheViews.{out-Comma
 ghost use Rattle.wl_sim.specs.CommandLine.{FailsByMemory, MatchesWords, bare_program, is_task_word, optioned_app, program, program_alone, subcommand_app, with_word};
 ghost use Rattle.wl_sim.specs.CommandLine.{best_rule, candump_app, filed, flag_rule, format_rule, formatted_app, from_rule, input_rule, link_rule, margin_app, node_rule, only_rule, output_rule, records_app, run_app, settings_app, sweep_app, tick_rule, ticks_rule, timed_app, trace_app, traffic_app, windowed_app, workers_rule};
 
-use crate::sweep::with_sweep_options;
+use crate::sweep::{with_part_options, with_sweep_options};
 use clap::{Arg, ArgAction, ArgMatches, Command, Error, value_parser};
 use std::alloc::{AllocError, Global};
 
@@ -342,7 +342,8 @@ fn with_all_sweep_options<'a>(alloc: Global, sub: Command<'a>) -> Result<Command
     ensures local { IfOk result (λ all. (out-Command all).has_globals ≡ false) }
 {
     let swept = with_sweep_options(alloc, sub)?;
-    formatted(alloc, swept)
+    let parted = with_part_options(alloc, swept)?;
+    formatted(alloc, parted)
 }
 
 /// Returns a subcommand with the options that its word has beside those of each.

@@ -2,12 +2,12 @@
 ghost use Rattle.std.specs.Prelude.{◌≡◌, IfOk, false};
 ghost use Rattle.clap.specs.Words.{app_of, rule_of};
 ghost use Rattle.clap.specs.declared.builder.command.Command.TheViews.{out-Command};
-ghost use Rattle.wl_sim.specs.CommandLine.{counted_app, print_rule, runs_rule, seed_rule, step_rule, swept_app, threads_rule, vary_rule};
+ghost use Rattle.wl_sim.specs.CommandLine.{counted_app, part_rule, parted_app, print_rule, runs_rule, seed_rule, step_rule, swept_app, threads_rule, vary_rule};
 
 use crate::subcommands::{flag_option, with};
 use clap::{Arg, ArgAction, Command, value_parser};
 use std::alloc::{AllocError, Global};
-use wl_sweep_engine::Asked;
+use wl_sweep_engine::{Asked, Share};
 
 /// What the help says of `--keep-offsets`.
 const KEEP_OFFSETS: &str = "Leaves the offsets as the plan has them";
@@ -21,6 +21,9 @@ const WORST: &str = "Adds to each sender a frame whose edges are ten bits apart"
 /// What the help says of `--page`.
 const PAGE: &str = "Writes one page of HTML: a map of the rows of the first two ranges";
 
+/// What the help says of `--join`.
+const JOIN: &str = "Reads what all parts of a sweep wrote, in any order, and writes what the whole says";
+
 /// What is asked of a sweep beside its plan and its ranges.
 #[derive(Clone, Copy)]
 pub struct Swept {
@@ -32,6 +35,10 @@ pub struct Swept {
     pub print: Option<u64>,
     /// Whether what is found is written as a page with a map.
     pub page: bool,
+    /// The part of the members that is run in the place of all.
+    pub part: Option<Share>,
+    /// Whether the input has what all parts of a sweep wrote, in the place of a plan.
+    pub join: bool,
 }
 
 /// Returns the option that gives a key a range of values. It may come several times.
@@ -114,6 +121,17 @@ fn print_option<'a>(alloc: Global) -> Arg<'a>
         .value_parser(value_parser!(u64))
 }
 
+/// Returns the option that asks for a part of the members.
+fn part_option<'a>(alloc: Global) -> Arg<'a>
+    ensures rule { rule_of result ≡ part_rule }
+    ensures local { result.global ≡ false }
+{
+    Arg::new(alloc, "part")
+        .long("part")
+        .value_name("K/N")
+        .help("Runs the K-th of N parts of the members, and writes what it finds as JSON, for --join")
+}
+
 /// Returns a subcommand with the options of a sweep that say what is run.
 fn with_counts<'a>(alloc: Global, sub: Command<'a>) -> Result<Command<'a>, AllocError>
     requires { (out-Command sub).has_globals ≡ false }
@@ -142,4 +160,17 @@ pub(crate) fn with_sweep_options<'a>(
     let tested = with(signed, flag_option(alloc, "worst", WORST))?;
     let printed = with(tested, print_option(alloc))?;
     with(printed, flag_option(alloc, "page", PAGE))
+}
+
+/// Returns a subcommand with the options of the parts of a sweep.
+pub(crate) fn with_part_options<'a>(
+    alloc: Global,
+    sub: Command<'a>,
+) -> Result<Command<'a>, AllocError>
+    requires { (out-Command sub).has_globals ≡ false }
+    ensures app { IfOk result (λ all. app_of all ≡ parted_app (app_of sub.entry)) }
+    ensures local { IfOk result (λ all. (out-Command all).has_globals ≡ false) }
+{
+    let parted = with(sub, part_option(alloc))?;
+    with(parted, flag_option(alloc, "join", JOIN))
 }

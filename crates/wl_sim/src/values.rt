@@ -3,7 +3,7 @@ ghost use Rattle.std.specs.Prelude.{◌≡◌, map, string_bytes, IfOk, false, o
 ghost use Rattle.std.specs.Option.{option_map_or};
 ghost use Rattle.clap.specs.Words.{found_of, rows_of, subcommand_rows_of};
 ghost use Rattle.wl_sim.specs.CommandLine.{limits_among, file_among, file_named, is_flagged, is_set, link_among, node_among, number_among, only_among, pick_among, ranges_among, ranges_in};
-ghost use Rattle.wl_sim.specs.CommandLine.{format_among, format_in, read_format, read_link, read_only, shown_among, swept_among, swept_by, tick_among, values_among, window_among, workers_among};
+ghost use Rattle.wl_sim.specs.CommandLine.{format_among, format_in, read_format, read_link, read_only, shown_among, swept_among, swept_by, tick_among, values_among, window_among, workers_among, share_among};
 
 use crate::sweep::Swept;
 use clap::ArgMatches;
@@ -13,8 +13,9 @@ use wl_formats::Format;
 use wl_limits::Limits;
 use wl_settings::Shown;
 use wl_setup::Text;
-use wl_sweep_engine::{Asked, Options};
+use wl_sweep_engine::{Asked, Options, Share};
 use wl_views::{EventKind, Pick, Tick, Window};
+use wl_views::Tick;
 
 /// What the options of a subcommand say that only some tasks have.
 #[derive(Clone, Copy)]
@@ -202,6 +203,17 @@ fn small_number_in(matches: &ArgMatches, id: &str) -> Option<u32>
     Some(text.parse().unwrap_or(0))
 }
 
+/// Returns the part of a sweep that a subcommand's option gives.
+#[tactic(auto, using(crate::proofs::Words::part_text))]
+fn share_in(matches: &ArgMatches) -> Option<Share>
+    ensures { result ≡ share_among (rows_of (found_of matches.now)) }
+{
+    match matches.get_str("part") {
+        Some(text) => Some(Share::of_word(text)),
+        None => None,
+    }
+}
+
 /// Returns what the options of a subcommand say of a sweep, with this many runs and this seed.
 fn swept_by(matches: &ArgMatches, runs: u32, seed: u32) -> Swept
     ensures { result ≡ swept_by (rows_of (found_of matches.now)) runs seed }
@@ -221,6 +233,8 @@ fn swept_by(matches: &ArgMatches, runs: u32, seed: u32) -> Swept
         workers: workers_in(matches),
         print: number_in(matches, "print"),
         page: flag_in(matches, "page"),
+        part: share_in(matches),
+        join: flag_in(matches, "join"),
     }
 }
 

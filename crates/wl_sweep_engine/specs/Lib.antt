@@ -4,4 +4,6 @@ pub mod Payload
 pub mod Said
 pub mod Printed
 pub mod Ran
+pub mod Parts
+pub mod Joining
 pub mod Sweeping
