@@ -3,7 +3,6 @@ use Rattle.std.proofs.Common.{◌≡◌, ◌≢◌, ◌∙◌, ap, sym, refl, �
 use Rattle.std.proofs.lemmas.Bool.{false≢true, true≢false}
 use Rattle.wl_device.specs.Devices.{Answer}
 use Rattle.wl_device.specs.declared.device.WriteFault.{WriteFault}
-use Rattle.wl_plan.specs.declared.plan.Plan.{Plan}
 use Rattle.wl_setup.specs.declared.fault.SetupFault.{SetupFault}
 use Rattle.wl_setup.specs.declared.fault.SetupFault.TheVariants as setup
 use Rattle.wl_setup.specs.declared.plan_text.PlanText.{PlanText}
@@ -33,6 +32,7 @@ is_write (sweep.Setup f) = false
 is_write (sweep.Range i f) = false
 is_write sweep.Rows = false
 is_write sweep.Member = false
+is_write sweep.Part = false
 is_write sweep.Write = true
 is_write sweep.Memory = false
 
@@ -44,6 +44,7 @@ is_memory (sweep.Setup f) = false
 is_memory (sweep.Range i f) = false
 is_memory sweep.Rows = false
 is_memory sweep.Member = false
+is_memory sweep.Part = false
 is_memory sweep.Write = false
 is_memory sweep.Memory = true
 
@@ -127,6 +128,7 @@ module _ {A T : Type 0} (Refuses : SweepFault → Type 0) (Wrote : A → Result 
   refuse (sweep.Range i f) fine r = (r (not_memory (sweep.Range i f) refl), same)
   refuse sweep.Rows fine r = (r (not_memory sweep.Rows refl), same)
   refuse sweep.Member fine r = (r (not_memory sweep.Member refl), same)
+  refuse sweep.Part fine r = (r (not_memory sweep.Part refl), same)
   refuse sweep.Write fine r = absurd (true≢false (fine (not_memory sweep.Write refl)))
   refuse sweep.Memory fine r = same
 

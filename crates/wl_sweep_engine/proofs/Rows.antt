@@ -1,7 +1,6 @@
 -- Worked rows: edges that are far apart, and keys as they are written.
-use Rattle.std.specs.Prelude.{◌≡◌, ◌++◌, ◌∷◌, [], List, ℕ, true, false, codes, refl, replicate, Some, None}
+use Rattle.std.specs.Prelude.{◌≡◌, ◌++◌, ◌∷◌, [], ℕ, true, false, codes, refl, replicate, Some, None}
 use Rattle.std.specs.Fmt.{digits}
-use Rattle.wl_level.specs.declared.Level.{Level}
 use Rattle.wl_level.specs.declared.Level.TheVariants.{Dominant, Recessive}
 use Rattle.wl_sweep_engine.specs.Payload.{has_far_edges}
 use Rattle.wl_setup.specs.declared.plan_text.RateText.{RateText}

@@ -2,12 +2,11 @@
 use Rattle.std.specs.Prelude.{◌≡◌, ◌≢◌, ℕ, ◌+◌, ◌==◌, ◌||◌, nat_lt, Bool, true, false, List, [], ◌∷◌, Option, Some, None, Result, Ok, Err, MatchResult, if◌then◌else◌}
 use Rattle.wl_plan.specs.declared.plan.Plan.{Plan}
 use Rattle.wl_setup.specs.declared.plan_text.PlanText.{PlanText}
-use Rattle.wl_setup.specs.declared.fault.SetupFault.{SetupFault}
 use Rattle.wl_setup.specs.Plans.{plan_of_text}
 use Rattle.wl_sweep.specs.declared.options.Options.{Options}
+use Rattle.wl_sweep.specs.declared.part.Share.{Share}
 use Rattle.wl_sweep.specs.declared.range.SweptRange.{SweptRange}
 use Rattle.wl_sweep.specs.declared.sweep.Sweep.{Sweep}
-use Rattle.wl_sweep.specs.declared.vary.RangeFault.{RangeFault}
 use Rattle.wl_sweep.specs.Sweeps.{is_small}
 use Rattle.wl_sweep.specs.Vary.{range_of}
 use Rattle.wl_sweep.specs.Worst.{worst_text}
@@ -39,6 +38,14 @@ checked_count workers = if (workers == 0) || nat_lt 8 workers then Err fault.Wor
 
 abbrev pub checked_workers : Options → ℕ → Result (Unit {0}) SweepFault
 checked_workers options workers = after same_fault (checked_options options) (λ checked. checked_count workers)
+
+-- a share that is a part, from 1 to the number of parts
+abbrev pub checked_share : Share → Result (Unit {0}) SweepFault
+checked_share share = if (share.number == 0) || nat_lt share.count share.number then Err fault.Part else Ok tt
+
+-- the same options and threads, and such a share
+abbrev pub checked_part : Options → ℕ → Share → Result (Unit {0}) SweepFault
+checked_part options workers share = after same_fault (checked_workers options workers) (λ checked. checked_share share)
 
 -- the ranges of words from number i on, or the fault of the first that is none
 abbrev pub ranges_of : PlanText → ℕ → List (List ℕ) → Result (List SweptRange) SweepFault

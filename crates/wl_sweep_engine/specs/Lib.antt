@@ -5,4 +5,6 @@ pub mod Said
 pub mod Written
 pub mod Printed
 pub mod Ran
+pub mod Parts
+pub mod Joining
 pub mod Sweeping

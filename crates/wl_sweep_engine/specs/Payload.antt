@@ -1,6 +1,6 @@
 -- Whether the frames of a plan test the clocks: receivers synchronise at the edges of a frame, which are at most ten bits apart
 -- (Bosch CAN 2.0 part B, sections 6 and 10).
-use Rattle.std.specs.Prelude.{◌≡◌, ℕ, zero, suc, ◌+◌, ◌&&◌, ◌||◌, Bool, true, false, not, List, [], length, codes, All}
+use Rattle.std.specs.Prelude.{◌≡◌, ℕ, zero, suc, ◌+◌, ◌&&◌, ◌||◌, Bool, true, false, not, List, length, All}
 use Rattle.wl_level.specs.declared.Level.{Level}
 use Rattle.wl_level.specs.Levels.{is_dominant}
 use Rattle.wl_level.specs.Places.{at, before}

@@ -18,7 +18,9 @@ use Rattle.wl_sweep.specs.Tallies.{tally_of}
 use Rattle.wl_sweep_engine.specs.declared.asked.Asked.{Asked}
 use Rattle.wl_sweep_engine.specs.declared.fault.SweepFault.{SweepFault}
 use Rattle.wl_sweep_engine.specs.declared.fault.SweepFault.TheVariants.{Setup}
-use Rattle.wl_sweep_engine.specs.Asked.{checked_options, checked_workers, sweep_of}
+use Rattle.wl_sweep_engine.specs.Asked.{checked_options, checked_part, checked_workers, sweep_of}
+use Rattle.wl_sweep.specs.declared.part.Share.{Share}
+use Rattle.wl_sweep_engine.specs.Parts.{IsPartText}
 use Rattle.wl_sweep_engine.specs.Printed.{printed_of}
 use Rattle.wl_sweep_engine.specs.Ran.{Ran}
 use Rattle.wl_sweep_engine.specs.Said.{IsSaid}
@@ -70,3 +72,13 @@ module _ {S T : Type 0} (gives : S → Answer → S → Type 0) (takes : T → A
   -- what printing a member did
   abbrev pub Prints : ℕ → Result (Unit {0}) SweepFault → Type 0
   Prints number = Ran (RefusesMember number) (WritesMember number) t t'
+
+  -- a part's text went out, as far as it went
+  abbrev pub WritesPart : Share → ℕ → Unit {0} → Result (Unit {0}) WriteFault → Type 0
+  WritesPart share workers u r =
+      (checked_part asked.options workers share ≡ Ok tt) × (plan : Plan) × (sweep : Sweep) × (text : List ℕ) × ReadsSweep plan sweep
+      × IsPartText asked.worst plan sweep share text × Writes takes t text r t'
+
+  -- what a part by so many threads did
+  abbrev pub Parts : Share → ℕ → Result (Unit {0}) SweepFault → Type 0
+  Parts share workers = Ran (RefusesSweep (checked_part asked.options workers share)) (WritesPart share workers) t t'

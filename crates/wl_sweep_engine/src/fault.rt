@@ -18,6 +18,9 @@ pub enum SweepFault {
     /// The number of workers isn't from 1 to 8.
     #[error("Workers")]
     Workers,
+    /// No part of this number, or the word that names it isn't `K/N`.
+    #[error("Part")]
+    Part,
     /// The plan text was refused, or its reader failed.
     #[error("{0}")]
     Setup(SetupFault),
@@ -48,7 +51,8 @@ impl SweepFault {
     {
         match self {
             SweepFault::Runs | SweepFault::Step | SweepFault::Workers => true,
-            SweepFault::Range(_, _) | SweepFault::Rows | SweepFault::Member => true,
+            SweepFault::Range(_, _) | SweepFault::Rows | SweepFault::Member | SweepFault::Part =>
+                true,
             SweepFault::Setup(_) | SweepFault::Write | SweepFault::Memory => false,
         }
     }

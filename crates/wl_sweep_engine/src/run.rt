@@ -18,7 +18,7 @@ use wl_setup::read_text;
 use wl_sweep::{Sweep, Tally, Workers};
 
 /// Adds that each sender has a frame more, if so.
-fn push_added(text: &mut String, worst: bool) -> Result<(), AllocError>
+pub(crate) fn push_added(text: &mut String, worst: bool) -> Result<(), AllocError>
     ensures { OnOk result (GrowsBy text.old text.new (added_words worst)) }
 {
     if worst {
@@ -29,7 +29,7 @@ fn push_added(text: &mut String, worst: bool) -> Result<(), AllocError>
 }
 
 /// Adds that no frame tests the clocks, if so.
-fn push_untested(text: &mut String, untested: bool) -> Result<(), AllocError>
+pub(crate) fn push_untested(text: &mut String, untested: bool) -> Result<(), AllocError>
     ensures { OnOk result (GrowsBy text.old text.new (untested_words untested)) }
 {
     if untested {

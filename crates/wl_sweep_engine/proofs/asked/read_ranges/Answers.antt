@@ -1,4 +1,4 @@
-use Rattle.std.proofs.Common.{Err, ◌≡◌, ◌≢◌, ◌∙◌, ◌+◌, ◌<◌, ap, sym, arith, drop, length, map, get_or, string_bytes, List, ℕ}
+use Rattle.std.proofs.Common.{Err, ◌≡◌, ◌≢◌, ◌∙◌, ◌+◌, ◌<◌, ap, sym, arith, drop, length, map, get_or, string_bytes, List}
 use Rattle.std.proofs.lemmas.List.{get_or-map, length-map}
 use Rattle.wl_sweep.specs.declared.range.SweptRange.{SweptRange}
 use Rattle.wl_sweep.specs.declared.vary.RangeFault.TheVariants as range

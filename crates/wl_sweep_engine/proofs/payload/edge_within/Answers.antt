@@ -1,4 +1,4 @@
-use Rattle.std.proofs.Common.{◌∙◌, ap, arith, ℕ}
+use Rattle.std.proofs.Common.{◌∙◌, ap, arith}
 use Rattle.wl_frame.specs.Laws.{up_to_ack}
 use Rattle.wl_sweep_engine.specs.Payload.{edge_within}
 use Rattle.wl_sweep_engine.proofs.payload.edge_within.Goals as goal

@@ -1,4 +1,4 @@
-use Rattle.std.proofs.Common.{◌≡◌, ◌∙◌, ap, sym, true, List}
+use Rattle.std.proofs.Common.{◌≡◌, ◌∙◌, ap, sym, List}
 use Rattle.wl_level.specs.declared.Level.{Level}
 use Rattle.wl_frame.specs.Grammar.{bits_of}
 use Rattle.wl_frame.specs.Laws.{up_to_ack}

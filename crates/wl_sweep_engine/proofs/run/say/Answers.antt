@@ -1,6 +1,6 @@
-use Rattle.std.proofs.Common.{◌≡◌, ◌∙◌, ◌++◌, ap, sym, subst, List, ℕ}
+use Rattle.std.proofs.Common.{◌∙◌, ◌++◌, ap, sym, subst, List, ℕ}
 use Rattle.wl_sweep_engine.specs.Payload.{NoneTests}
-use Rattle.wl_sweep_engine.specs.Said.{IsSaid, added_words, untested_words}
+use Rattle.wl_sweep_engine.specs.Said.{added_words, untested_words}
 use Rattle.wl_sweep_engine.proofs.Edges.{true_unless}
 use Rattle.wl_sweep_engine.proofs.run.say.Goals as goal
 
