@@ -1,6 +1,5 @@
 -- Worked rows: edges that are far apart.
-use Rattle.std.specs.Prelude.{◌≡◌, ◌++◌, ◌∷◌, [], true, false, refl, replicate, ℕ, codes, Some, None}
-use Rattle.std.specs.Fmt.{digits}
+use Rattle.std.specs.Prelude.{◌≡◌, ◌++◌, ◌∷◌, [], true, false, refl, replicate}
 use Rattle.wl_level.specs.declared.Level.TheVariants.{Dominant, Recessive}
 use Rattle.wl_sweep_engine.specs.Payload.{has_far_edges}
 

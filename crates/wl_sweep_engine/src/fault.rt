@@ -51,7 +51,8 @@ impl SweepFault {
     {
         match self {
             SweepFault::Runs | SweepFault::Step | SweepFault::Workers => true,
-            SweepFault::Range(_, _) | SweepFault::Rows | SweepFault::Member | SweepFault::Part => true,
+            SweepFault::Range(_, _) | SweepFault::Rows | SweepFault::Member | SweepFault::Part =>
+                true,
             SweepFault::Setup(_) | SweepFault::Write | SweepFault::Memory => false,
         }
     }
