@@ -3,7 +3,8 @@ use Rattle.std.specs.Prelude.{◌≡◌, ◌∷◌, [], ℕ, true, false, codes,
 use Rattle.std.specs.Fmt.{digits}
 use Rattle.wl_setup.specs.declared.plan_text.RateText.{RateText}
 use Rattle.wl_setup.specs.declared.plan_text.ClockText.TheVariants as text
-use Rattle.wl_print.specs.Written.{data_line, flag_line, header_line, is_own, number_line, spot_line}
+use Rattle.wl_setup.specs.declared.plan_text.QueueText.TheVariants as queue
+use Rattle.wl_print.specs.Written.{data_line, flag_line, header_line, is_own, measure_line, number_line, queue_line, spot_line}
 
 two_bytes : data_line (0 ∷ 60 ∷ []) ≡ codes "bytes = [0x00, 0x3c]\n"
 unfolding data_line
@@ -52,3 +53,15 @@ later_rate = refl
 
 several_rates : is_own 3 (from 0 ∷ from 5 ∷ []) ≡ false
 several_rates = refl
+
+length_of_a_tick : measure_line (codes "tick") (codes "fs") (Some 125) ≡ codes "tick = \"125fs\"\n"
+unfolding measure_line digits
+length_of_a_tick = refl
+
+by_priority : queue_line queue.Priority ≡ codes "queue = \"priority\"\n"
+unfolding queue_line
+by_priority = refl
+
+first_in_first_out : queue_line queue.Fifo ≡ []
+unfolding queue_line
+first_in_first_out = refl

