@@ -50,7 +50,9 @@ mod subcommands;
 mod sweep;
 mod values;
 
-use crate::answer::{of_format, of_map, of_print, of_settings, of_tally, of_traffic, plainly, of_join};
+use crate::answer::{
+    of_format, of_join, of_map, of_print, of_settings, of_tally, of_traffic, plainly,
+};
 use crate::formats::{subject_of, write_kept};
 pub use answer::{Done, Fault};
 pub use command::{Order, Refusal, Task};

@@ -22,7 +22,8 @@ const WORST: &str = "Adds to each sender a frame whose edges are ten bits apart"
 const PAGE: &str = "Writes one page of HTML: a map of the rows of the first two ranges";
 
 /// What the help says of `--join`.
-const JOIN: &str = "Reads what all parts of a sweep wrote, in any order, and writes what the whole says";
+const JOIN: &str =
+    "Reads what all parts of a sweep wrote, in any order, and writes what the whole says";
 
 /// What is asked of a sweep beside its plan and its ranges.
 #[derive(Clone, Copy)]
@@ -126,10 +127,9 @@ fn part_option<'a>(alloc: Global) -> Arg<'a>
     ensures rule { rule_of result ≡ part_rule }
     ensures local { result.global ≡ false }
 {
-    Arg::new(alloc, "part")
-        .long("part")
-        .value_name("K/N")
-        .help("Runs the K-th of N parts of the members, and writes what it finds as JSON, for --join")
+    Arg::new(alloc, "part").long("part").value_name("K/N").help(
+        "Runs the K-th of N parts of the members, and writes what it finds as JSON, for --join",
+    )
 }
 
 /// Returns a subcommand with the options of a sweep that say what is run.

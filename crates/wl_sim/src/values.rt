@@ -15,7 +15,6 @@ use wl_settings::Shown;
 use wl_setup::Text;
 use wl_sweep_engine::{Asked, Options, Share};
 use wl_views::{EventKind, Pick, Tick, Window};
-use wl_views::Tick;
 
 /// What the options of a subcommand say that only some tasks have.
 #[derive(Clone, Copy)]

@@ -9,7 +9,7 @@ use Rattle.wl_sweep.specs.declared.sweep.Sweep.{Sweep}
 use Rattle.wl_sweep.specs.Parts.{kinds_of, whole_of}
 use Rattle.wl_sweep_engine.specs.Payload.{NoneTests}
 use Rattle.wl_sweep_engine.specs.Said.{added_words, untested_words}
-use Rattle.wl_sweep_engine.specs.Written.{plan_words}
+use Rattle.wl_print.specs.Written.{plan_words}
 
 -- what names a sweep: its options, its ranges with their values, and its plan
 abbrev pub sweep_name : Sweep → Bool → List ℕ

@@ -10,7 +10,6 @@ use crate::asked::{Asked, check_workers, read_sweep};
 use crate::fault::SweepFault;
 use crate::payload::none_tests;
 use crate::run::{push_added, push_untested};
-use crate::written::push_plan;
 use std::alloc::{AllocError, Global};
 use std::thread::Threads;
 use std::time::Clock;
@@ -19,6 +18,7 @@ use wl_level::Listed;
 use wl_map::push_axes;
 use wl_parts::part_text;
 use wl_plan::Plan;
+use wl_print::push_plan;
 use wl_setup::read_text;
 use wl_sweep::{Options, Share, Sweep, Workers};
 
