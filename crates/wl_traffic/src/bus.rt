@@ -8,7 +8,7 @@ ghost use Rattle.wl_traffic.specs.States.{node_spans};
 
 use crate::load::{Load, load_below};
 use crate::nodes::{node_at, quanta_are_known};
-use crate::spans::{Span, spans};
+use crate::spans::{Span, spans, there_until};
 use std::alloc::{AllocError, Global};
 use wl_intervals::{Intervals, IntervalsFault};
 use wl_machine::Doing;
@@ -114,7 +114,8 @@ fn add_node(
     quanta_are_known(plan);
     let (setup, node) = node_at(plan, outcome, i);
     let samples = node.samples.list(alloc)?;
-    let spans = spans(alloc, setup, plan.end, samples.as_slice())?;
+    let until = there_until(setup, plan.end);
+    let spans = spans(alloc, setup, until, samples.as_slice())?;
     let found = busy_ticks(alloc, &spans)?;
     busy.join(&found)?;
     Ok(was_off(&spans))

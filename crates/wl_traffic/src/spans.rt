@@ -2,12 +2,12 @@
 ghost use Rattle.std.specs.Prelude.{◌≡◌, ◌≤◌, IfOk};
 ghost use Rattle.std.specs.List.{All};
 ghost use Rattle.wl_node.specs.Limits.{most_run_quanta};
-ghost use Rattle.wl_traffic.specs.States.{sample_tick, spans_of};
+ghost use Rattle.wl_traffic.specs.States.{sample_tick, spans_of, there_until};
 
 use std::alloc::{AllocError, Global};
 use wl_level::Level;
 use wl_machine::Doing;
-use wl_node::NodeSetup;
+use wl_node::{MOST_RUN_QUANTA, NodeSetup};
 use wl_trace::SampledNode;
 
 /// What a node does after a sample, and when: up to its next sample, or up to the end.
@@ -30,6 +30,22 @@ fn sample_tick(setup: &NodeSetup, end: u64, samples: &[(u64, Level)], k: usize) 
         setup.clock.at(samples[k].0)
     } else {
         end
+    }
+}
+
+/// Returns up to which tick a node is there: up to the end, or up to the quantum with which it leaves the bus.
+pub(crate) fn there_until(setup: &NodeSetup, end: u64) -> u64
+    ensures { result ≡ there_until setup.now.until setup.now.clock end }
+{
+    match setup.until {
+        Some(until) => {
+            if until <= MOST_RUN_QUANTA {
+                setup.clock.at(until).min(end)
+            } else {
+                end
+            }
+        }
+        None => end,
     }
 }
 

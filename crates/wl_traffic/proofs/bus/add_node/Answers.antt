@@ -22,4 +22,4 @@ spans-requires c =
 pub busy_ticks-requires : goal.busy_ticks-requires
 busy_ticks-requires c =
     subst (All (λ (s : Span). s.from ≤ s.until)) (sym (c.deref-2.ensures.value ∙ c.in_ok-spans.ensures))
-    (go_on c.node_at.result.0.now c.deref.result.now.end c.as_slice.result.now)
+    (go_on c.node_at.result.0.now c.there_until-until.result c.as_slice.result.now)
