@@ -1,8 +1,9 @@
 -- Which plan, or which fault, belongs to a plan's text (this project's profile).
-use Rattle.std.specs.Prelude.{◌≡◌, ◌≢◌, ℕ, zero, suc, ◌+◌, nat_lt, unsigned_abs, min, max, Bool, true, false, if◌then◌else◌, List, [], ◌∷◌, ◌++◌, map, take, Option, Some, None, option_map, unwrap_or, Result, Ok, Err, MatchResult}
+use Rattle.std.specs.Prelude.{◌≡◌, ◌≢◌, ℕ, zero, suc, ◌+◌, nat_le, nat_lt, unsigned_abs, min, max, Bool, true, false, if◌then◌else◌, List, [], ◌∷◌, ◌++◌, map, take, Option, Some, None, option_map, unwrap_or, Result, Ok, Err, MatchResult}
 use Rattle.std.specs.List.{enumerate_from, position_or_len}
 use Rattle.std.specs.Str.{bytes_eq}
 use Rattle.wl_level.specs.ByTick.{by_tick}
+use Rattle.wl_level.specs.Places.{first_place}
 use Rattle.wl_device.specs.Devices.{Answer}
 use Rattle.wl_limits.specs.declared.Limits.{Limits}
 use Rattle.wl_clock.specs.Timing.{Timing, largest_deviation, millionths, tick_of, timing_within, rate_of_ppm}
@@ -17,7 +18,8 @@ use Rattle.wl_frame.specs.Grammar.{Content, frame_of_numbers}
 use Rattle.wl_topology.specs.declared.Place.{Place}
 use Rattle.wl_topology.specs.Delays.{Cable, topology_within}
 use Rattle.wl_node.specs.declared.setup.Queued.{Queued}
-use Rattle.wl_node.specs.declared.setup.QueueOrder.TheVariants.{Fifo}
+use Rattle.wl_node.specs.declared.setup.QueueOrder.{QueueOrder}
+use Rattle.wl_node.specs.declared.setup.QueueOrder.TheVariants as order
 use Rattle.wl_node.specs.declared.setup.NodeSetup.{NodeSetup}
 use Rattle.wl_plan.specs.declared.plan.Disturbance.{Disturbance}
 use Rattle.wl_plan.specs.declared.plan.Plan.{Plan}
@@ -32,6 +34,8 @@ use Rattle.wl_setup.specs.declared.plan_text.FrameText.{FrameText}
 use Rattle.wl_setup.specs.declared.plan_text.DisturbanceText.{DisturbanceText}
 use Rattle.wl_setup.specs.declared.plan_text.ClockText.{ClockText}
 use Rattle.wl_setup.specs.declared.plan_text.ClockText.TheVariants as text
+use Rattle.wl_setup.specs.declared.plan_text.QueueText.{QueueText}
+use Rattle.wl_setup.specs.declared.plan_text.QueueText.TheVariants as queue
 use Rattle.wl_setup.specs.declared.plan_text.RateText.{RateText}
 use Rattle.wl_setup.specs.declared.plan_text.SegmentsText.{SegmentsText}
 use Rattle.wl_setup.specs.declared.plan_text.SegmentsText.TheVariants.{Each, Controller}
@@ -133,6 +137,19 @@ abbrev pub queue_in : Bool → Timing → ℕ → List FrameText → List Queued
 queue_in false clock end texts qs = qs
 queue_in true clock end texts qs = queue_of clock end texts qs
 
+-- which of the waiting frames a node sends first
+abbrev pub order_of : QueueText → QueueOrder
+order_of queue.Fifo = order.Fifo
+order_of queue.Priority = order.Priority
+
+-- The first quantum of a node that begins at a tick or later, if there is such a tick: the node is unplugged with that quantum. No plan ends later than the latest end.
+abbrev pub first_from : Timing → ℕ → Option ℕ
+first_from clock tick = first_place (λ k. nat_le tick (tick_of clock k)) (suc tick)
+
+abbrev pub until_in : Timing → Option ℕ → Option ℕ
+until_in clock None = None
+until_in clock (Some tick) = first_from clock (min tick latest_end)
+
 -- Only what becomes ready before the plan ends comes again; a plan whose end is too late is refused.
 -- a numbered node: its clock, then its segments, then its frames in order
 abbrev pub setup_of : PlanText → ℕ × NodeText → Result NodeSetup SetupFault
@@ -140,7 +157,7 @@ setup_of text (i, node) =
     after (clock_in (limits_in text.version) i node)
     (λ clock. after (with_fault (fault.NodeSegments i) (segments_of_node text.sync node))
     (λ segments. after (each (queued_of i) (enumerate_from 0 node.frame))
-    (λ queue. Ok (record { clock = clock; segments = segments; queue = queue_in (has_traffic text.version) clock (min text.end latest_end) node.frame queue; order = Fifo; until = None }))))
+    (λ queue. Ok (record { clock = clock; segments = segments; queue = queue_in (has_traffic text.version) clock (min text.end latest_end) node.frame queue; order = order_of node.queue; until = until_in clock node.until }))))
 
 -- where a node sits
 abbrev pub place_of : NodeText → Place

@@ -7,6 +7,7 @@ mod document;
 mod fault;
 mod keys;
 mod laws;
+mod leaving;
 mod limits;
 mod names;
 mod plan;

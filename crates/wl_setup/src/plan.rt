@@ -9,6 +9,7 @@ ghost use Rattle.wl_setup.specs.Plans.{with_fault, each, rate_from, rate_in, clo
 ghost use Rattle.wl_setup.specs.Version.{has_traffic};
 
 use crate::fault::SetupFault;
+use crate::leaving::{leaves, order_of};
 use crate::names::Names;
 use crate::plan_text::{
     ClockText, DisturbanceText, FrameText, NodeText, PlanText, RateText, SegmentsText,
@@ -22,7 +23,7 @@ use wl_device::Source;
 use wl_frame::frame::Frame;
 use wl_level::Listed;
 use wl_limits::Limits;
-use wl_node::{NodeSetup, Queue, QueueOrder, Queued};
+use wl_node::{NodeSetup, Queue, Queued};
 use wl_plan::{CheckedPlan, Disturbance, Disturbances, LATEST_END, Nodes, Plan};
 use wl_segments::{Segments, SegmentsFault, SyncRules};
 use wl_topology::{Place, Topology};
@@ -154,8 +155,8 @@ impl NodeText {
             clock,
             segments,
             queue,
-            order: QueueOrder::Fifo,
-            until: None,
+            order: order_of(self.queue),
+            until: leaves(&clock, self.until),
         })
     }
 
