@@ -255,7 +255,7 @@ is "the tables of $use/from-the-book.md: $missed" [ -s "$room/tables" -a -z "$mi
 # README's plan is the head of an example, but for its remarks.
 bare() { sed -E 's/ *#.*//; /^$/d' "$@"; }
 sed -n '/^```toml$/,/^```$/{/^```/d;p}' README.md | bare > "$room/head"
-is "the plan of README.md" [ -s "$room/head" -a "$(cat "$room/head")" = "$(bare examples/clean_500k.toml | head -n "$(wc -l < "$room/head")")" ]
+is "the plan of README.md" [ -s "$room/head" -a "$(cat "$room/head")" = "$(bare examples/six_ecus.toml | head -n "$(wc -l < "$room/head")")" ]
 
 for name in bounds doubts rates; do
   runs "explain of $name" ".ci/$name.toml" 0 ".ci/$name.explained" "$room/none" explain

@@ -707,6 +707,7 @@ TOLERANCE = whole(0, 100_001)
 TABLES = array_of(lambda value: type(value) is dict)
 TRUTH = lambda value: type(value) is bool
 SYNC = lambda value: type(value) is str and value in ("after", "book")
+ORDER = lambda value: type(value) is str and value in ("fifo", "priority")
 NAME = lambda value: type(value) is str and re.fullmatch("[A-Za-z0-9_-]{1,32}", value)
 TOP = {"version": NUMBER, "end": NUMBER, "per": NUMBER, "node": TABLES}
 FRACTION, NOMINAL = {"num": NUMBER, "den": NUMBER}, {"quantum": NUMBER, "ppm": PPM}
@@ -721,7 +722,8 @@ def frame_keys(version, table):
     required, optional = FRAME
     if version < 3: return required, optional
     if "count" in table: required = required | {"every": POSITIVE}
-    return required, optional | {"every": POSITIVE, "count": POSITIVE}
+    later = {"deadline": NUMBER, "jitter": NUMBER} if version >= 4 else {}  # no run uses them
+    return required, optional | {"every": POSITIVE, "count": POSITIVE} | later
 
 
 def disturbance_keys(version, table):
@@ -771,6 +773,7 @@ def read_plan(text):
     for node in top["node"]:
         clock = {"rates": TABLES} if version == 2 or version >= 3 and "rates" in node else clock_keys(node)
         listen = {"listen": TRUTH} if version >= 3 else {}
+        if version >= 4: listen |= {"queue": ORDER, "until": NUMBER}
         test_keys(node, {"name": NAME, "offset": NUMBER} | clock | length_keys(version, node), {"frame": TABLES, "tolerance": TOLERANCE} | listen)
         for rate in node.get("rates", []): test_keys(rate, {"from": NUMBER} | clock_keys(rate), {})
         for frame in node.get("frame", []): test_keys(frame, *frame_keys(version, frame))
@@ -833,7 +836,8 @@ def read_node(i, node, book, top):
         queue += [Queued(frame, ready) for ready in instances(clock, min(top["end"], limits.end), table, table.get("ready", 0), most)]
         if top["version"] >= 3: queue = queue[:most]
     if top["version"] >= 3: queue.sort(key=lambda queued: queued.ready)
-    return Setup(node["name"], clock, segments, queue)
+    until = clock.quanta_before(min(node["until"], WIDE.end)) if "until" in node else None
+    return Setup(node["name"], clock, segments, queue, node.get("queue") == "priority", until)
 
 
 # ---- Record text (P): one slot for each change and each silence
