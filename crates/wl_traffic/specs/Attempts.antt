@@ -1,9 +1,11 @@
--- The frames of a queue, what became of them, and the attempts that failed. A node's queue is sent in its order, so the first frame that it completes is the
--- first of the queue, and so on (this project's profile).
+-- The frames of a queue, what became of them, and the attempts that failed. A queue that is first in, first out is sent in its order: the first frame that a node
+-- completes is the first of the queue, and so on (this project's profile).
 use Rattle.std.specs.Prelude.{ℕ, ◌==◌, ◌&&◌, nat_lt, Bool, true, false, not, List, [], ◌∷◌, length, map, count_by, slice_get, slice_index_or, if◌then◌else◌}
 use Rattle.std.specs.List.{filter, flat_map, range_with_len}
 use Rattle.wl_node.specs.declared.setup.Passed.{Passed}
 use Rattle.wl_node.specs.declared.setup.Queued.{Queued}
+use Rattle.wl_node.specs.declared.setup.QueueOrder.{QueueOrder}
+use Rattle.wl_node.specs.declared.setup.QueueOrder.TheVariants.{Fifo, Priority}
 use Rattle.wl_node.specs.History.{is_sent}
 use Rattle.wl_plan.specs.declared.plan.Plan.{Plan}
 use Rattle.wl_plan.specs.PlanLine.{setup_at}
@@ -74,11 +76,16 @@ entry_in queue sent attempts k = entry_of sent attempts k (slice_index_or queue 
 abbrev pub entries_by : List Queued → List ℕ → List Attempt → List Entry
 entries_by queue sent attempts = map (entry_in queue sent attempts) (range_with_len 0 (length queue))
 
+-- A queue that is sent in its order. Of one that is sent by priority no frames are said.
+abbrev pub sent_in_order : QueueOrder → List Queued → List Queued
+sent_in_order Fifo queue = queue
+sent_in_order Priority queue = []
+
 -- those of node i
 abbrev pub entries_of : Plan → ℕ → List Entry
 entries_of plan i =
     let sent : List ℕ = sent_quanta (node_outcome_of plan i).frames in
-    entries_by (setup_at plan i).queue sent (attempts_of sent (events_at_end plan i))
+    entries_by (sent_in_order (setup_at plan i).order (setup_at plan i).queue) sent (attempts_of sent (events_at_end plan i))
 
 -- node i with its frames, the quantum of its last sample, and those at which it received a frame
 abbrev pub node_queue : Plan → ℕ → NodeQueue

@@ -3,13 +3,13 @@ ghost use Rattle.std.specs.Prelude.{◌≡◌, ◌<◌, length, count_by, IfOk};
 ghost use Rattle.std.specs.List.{All};
 ghost use Rattle.wl_serial.specs.Outcome.{outcome_of};
 ghost use Rattle.wl_traffic.specs.Known.{IsKnown};
-ghost use Rattle.wl_traffic.specs.Attempts.{entries_by, entries_of, entry_of, is_broken_at, is_lost_at};
+ghost use Rattle.wl_traffic.specs.Attempts.{entries_by, entries_of, entry_of, is_broken_at, is_lost_at, sent_in_order};
 
 use crate::attempts::{Attempt, attempts, sent_quanta};
 use crate::nodes::{node_at, quanta_are_known};
 use std::alloc::{AllocError, Global};
 use wl_frame::frame::Frame;
-use wl_node::Queued;
+use wl_node::{NodeSetup, QueueOrder, Queued};
 use wl_plan::CheckedPlan;
 use wl_serial::Outcome;
 use wl_trace::node_events;
@@ -84,7 +84,17 @@ fn entries_by(
     Ok(entries)
 }
 
-/// Returns the frames of node `i`, and what became of them.
+/// Returns the frames of a queue that is sent in its order; none of one that is sent by priority.
+fn sent_in_order(setup: &NodeSetup) -> &[Queued]
+    ensures { result.now ≡ sent_in_order setup.now.order setup.now.queue }
+{
+    match setup.order {
+        QueueOrder::Fifo => setup.queue.as_slice(),
+        QueueOrder::Priority => &[],
+    }
+}
+
+/// Returns the frames of node `i`, and what became of them. If it sends by priority, no frames are said.
 pub(crate) fn entries(
     alloc: Global,
     plan: &CheckedPlan,
@@ -102,5 +112,5 @@ pub(crate) fn entries(
     let samples = node.samples.list(alloc)?;
     let events = node_events(alloc, setup, samples.as_slice())?;
     let attempts = attempts(alloc, &sent, &events)?;
-    entries_by(alloc, setup.queue.as_slice(), &sent, &attempts)
+    entries_by(alloc, sent_in_order(setup), &sent, &attempts)
 }
