@@ -1,5 +1,5 @@
 -- Refusals: that they are no fault of the writer, and what an engine that answers one has done.
-use Rattle.std.proofs.Common.{◌≡◌, ◌≢◌, ◌∙◌, ap, sym, refl, ℕ, ◌+◌, Bool, true, false, cond, List, [], ◌∷◌, Result, Ok, Err, Option, Some, None, inr, subst}
+use Rattle.std.proofs.Common.{◌≡◌, ◌≢◌, ◌∙◌, ap, sym, refl, ℕ, ◌+◌, Bool, true, false, cond, List, [], ◌∷◌, Result, Ok, Err, Option, Some, None, inl, inr, subst}
 use Rattle.std.proofs.lemmas.Bool.{false≢true, true≢false}
 use Rattle.wl_device.specs.Devices.{Answer}
 use Rattle.wl_device.specs.declared.device.WriteFault.{WriteFault}
@@ -81,6 +81,22 @@ setup_fine (setup.Plan f) = refl
 setup_fine setup.Read = refl
 setup_fine setup.Memory = refl
 
+setup_named : (e : SetupFault) → e ≢ setup.Memory → of_setup e ≡ sweep.Setup e
+setup_named setup.Toml n = refl
+setup_named setup.Version n = refl
+setup_named (setup.Missing k) n = refl
+setup_named (setup.Kind k) n = refl
+setup_named (setup.Unknown k) n = refl
+setup_named setup.SameName n = refl
+setup_named setup.Size n = refl
+setup_named (setup.NodeClock i f) n = refl
+setup_named (setup.NodeSegments i f) n = refl
+setup_named (setup.NodeFrame i m f) n = refl
+setup_named (setup.Topology f) n = refl
+setup_named (setup.Plan f) n = refl
+setup_named setup.Read n = refl
+setup_named setup.Memory n = absurd (n refl)
+
 range_fine : (i : ℕ) (e : RangeFault) → is_write (of_range i e) ≡ false
 range_fine i range.Form = refl
 range_fine i range.Key = refl
@@ -148,6 +164,15 @@ module _ {A S T : Type 0} (gives : S → Answer → S → Type 0) (takes : T →
       refused_by Refuses Wrote t t refl e
       (λ n. fine_here (sweep_of text words asked) e (sweep_fine text words asked) (answer n))
       (λ n. refuses e (inr (inr (fine, (text, read, answer n)))))
+
+  -- the text itself is refused
+  pub text_by : checked ≡ Ok tt → (fault : SetupFault) → (fault ≢ setup.Memory → ReadsPlan gives s (Err fault) s') → (r : Result A SweepFault)
+      → IsErrAnd r (λ other. other ≡ of_setup fault) → Ran Refuses Wrote t t r
+  text_by fine fault reads =
+      refused_by Refuses Wrote t t refl (of_setup fault) (λ n. setup_fine fault)
+      (λ n.
+      let known : fault ≢ setup.Memory = λ e. n (ap of_setup e) in
+      refuses (of_setup fault) (inr (inl (fine, (fault, known, reads known, setup_named fault known)))))
 
 -- the writer failed
 pub wrote_by : {A T : Type 0} (Refuses : SweepFault → Type 0) (Wrote : A → Result (Unit {0}) WriteFault → Type 0) (t t' : T) (answer : A) (fault : WriteFault)

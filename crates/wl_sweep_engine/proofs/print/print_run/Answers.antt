@@ -3,8 +3,22 @@ use Rattle.wl_sweep.specs.Sweeps.{member_at}
 use Rattle.wl_sweep_engine.specs.Asked.{checked_options}
 use Rattle.wl_sweep_engine.specs.Printed.{printed_of}
 use Rattle.wl_sweep_engine.specs.Sweeping.{RefusesMember, WritesMember}
-use Rattle.wl_sweep_engine.proofs.Refusing.{fine_here, printed_fine, refused_by, swept_by}
+use Rattle.wl_sweep_engine.proofs.Refusing.{fine_here, printed_fine, refused_by, swept_by, text_by}
 use Rattle.wl_sweep_engine.proofs.print.print_run.Goals as goal
+
+pub returns-in_err-text : goal.returns-in_err-text
+returns-in_err-text g c =
+    let gives = g.R.Source.gives in
+    let takes = g.W.Sink.takes in
+    let words = map string_bytes c.args.words.now in
+    let asked = c.args.asked in
+    let s = c.args.reader.now in
+    let after = c.read_text.new.reader in
+    let t = c.args.writer.now in
+    let fault = c.in_err-text.field-0.0 in
+    text_by gives takes words asked s after t (checked_options asked.options) (RefusesMember gives takes words asked s after t t c.args.number)
+    (WritesMember gives takes words asked s after t t c.args.number) (λ e refuses. inr refuses) (sym c.check_options.ensures ∙ c.in_ok-check_options.was) fault
+    (λ known. c.in_err-text.ensures (λ h. known cc)) c.from_residual-in_err-text.result c.from_residual-in_err-text.ensures.1
 
 pub returns-in_err-sweep : goal.returns-in_err-sweep
 returns-in_err-sweep g c =
