@@ -221,7 +221,6 @@ while IFS= read -r edit; do
 done 2> "$room/found" << 'EDITS'
 /^end/d
 /^end/d; s/^version = 1/version = 5/
-/^end/d; s/^version = 1/version = 4/
 0,/^sjw = 2/s//sjw = 4/
 s/^name = "b"/name = "a"/
 s/^dlc = 2/&\nevery = 250/
