@@ -274,9 +274,9 @@ threads() { # threads WORDS..: the most threads that a program had
 }
 for words in '' --page; do
   # shellcheck disable=SC2086
-  one=$(threads "$program" sweep --workers 1 --runs 500 $words examples/sixteen_nodes.toml) four=$(threads "$program" sweep --workers 4 --runs 500 $words examples/sixteen_nodes.toml)
+  one=$(threads "$program" sweep --workers 1 --runs 2500 $words examples/sixteen_nodes.toml) four=$(threads "$program" sweep --workers 4 --runs 2500 $words examples/sixteen_nodes.toml)
   # shellcheck disable=SC2086
-  all=$(threads "$program" sweep --runs 500 $words examples/sixteen_nodes.toml)
+  all=$(threads "$program" sweep --runs 2500 $words examples/sixteen_nodes.toml)
   is "threads of a sweep $words: $one by one, $four by four, $all without the word" [ "$one" = 1 -a "$four" -ge 4 -a "$all" -ge "$(($(nproc) > 1 ? 2 : 1))" ]
 done
 "$program" sweep --progress < "$room/pair" > "$room/out" 2> "$room/err"
