@@ -16,10 +16,12 @@
 //! - `sweep` writes how many members of a family of plans are clean, also in parts that it joins.
 #![tactic(auto)]
 
-ghost use Rattle.std.specs.Prelude.{◌≡◌, ◌≢◌, ◌≤◌, map, string_bytes, IfOk, IfErr, Ok, Err, option_map};
+ghost use Rattle.std.specs.Prelude.{◌≡◌, ◌≢◌, ◌≤◌, ◌==◌, MatchBool, map, string_bytes, IfOk, IfErr, Ok, Err, option_map};
 ghost use Rattle.std.specs.IoError.{error_kind};
 ghost use Rattle.std.specs.Process.{exit_status};
 ghost use Rattle.wl_sim.specs.declared.command.Task.{Task};
+ghost use Rattle.wl_engines.specs.Plans.{RunsPlan, IsReportOutput};
+ghost use Rattle.wl_engines.specs.Workers.{RunsByWorkersAs};
 ghost use Rattle.wl_files.specs.Files.{Keeps};
 ghost use Rattle.wl_sim.specs.CommandLine.{NamesTask};
 ghost use Rattle.wl_sim.specs.Orders.{Ends, EndsPlainly, MovesFile, Performs, RunsWords, WritesTo};
@@ -380,6 +382,25 @@ fn run_swept<H: Threads + Sync + Eprint + Clock, R: Source, W: Sink>(
     }
 }
 
+/// Runs a plan by so many workers: by the one-thread engine if it is one. It may wait if there are several.
+fn run_by<H: Threads + Wait + Sync, R: Source, W: Sink>(
+    rt: &H,
+    alloc: Global,
+    crew: Crew,
+    reader: &mut R,
+    writer: &mut W,
+) -> Result<(), RunFault>
+    ensures { MatchBool (crew.workers == 1)
+        (RunsPlan R.gives W.takes (IsReportOutput crew.brief) reader.old reader.new writer.old writer.new result)
+        (RunsByWorkersAs R.gives W.takes crew.brief crew.workers reader.old reader.new writer.old writer.new result) }
+{
+    if crew.workers == 1 {
+        plan_run_as(alloc, crew.brief, reader, writer)
+    } else {
+        workers_run_as(rt, alloc, crew, reader, writer)
+    }
+}
+
 /// Runs the engine of a task. It may wait if that is a run by several workers.
 fn run<H: Threads + Wait + Sync + Eprint + Clock, R: Source, W: Sink>(
     rt: &H,
@@ -397,14 +418,13 @@ fn run<H: Threads + Wait + Sync + Eprint + Clock, R: Source, W: Sink>(
         Task::Check => plainly(check_run(alloc, reader, writer)),
         Task::Upgrade => of_format(format_run(alloc, reader, writer)),
         Task::Records(window) => plainly(records_run_within(alloc, window, reader, writer)),
-        Task::Run(1, _, brief) => plainly(plan_run_as(alloc, brief, reader, writer)),
         Task::Run(workers, kind, brief) => {
             let crew = Crew {
                 workers,
                 kind,
                 brief,
             };
-            plainly(workers_run_as(rt, alloc, crew, reader, writer))
+            plainly(run_by(rt, alloc, crew, reader, writer))
         }
         Task::Explain => plainly(explain_run(alloc, reader, writer)),
         Task::Trace(pick) => plainly(picked_trace_run(alloc, pick, reader, writer)),
