@@ -382,7 +382,7 @@ fn run_swept<H: Threads + Sync + Eprint + Clock, R: Source, W: Sink>(
     }
 }
 
-/// Runs a plan by so many workers: by the one-thread engine if it is one. It may wait if there are several.
+/// Runs a plan by its workers: by the one-thread engine if there is one worker. It may wait if there are several.
 fn run_by<H: Threads + Wait + Sync, R: Source, W: Sink>(
     rt: &H,
     alloc: Global,
