@@ -4,13 +4,16 @@ _wireline() {
   case $before in
     --workers) mapfile -t COMPREPLY < <(compgen -W '1 2 3 4 5 6 7 8' -- "$word") && return ;;
     --link) mapfile -t COMPREPLY < <(compgen -W 'hub mail' -- "$word") && return ;;
+    --only) mapfile -t COMPREPLY < <(compgen -W 'lost error flag frame mode sync' -- "$word") && return ;;
     --format) mapfile -t COMPREPLY < <(compgen -W 'text json csv' -- "$word") && return ;;
     completions) mapfile -t COMPREPLY < <(compgen -W 'bash zsh fish' -- "$word") && return ;;
   esac
   case ${COMP_WORDS[1]} in
-    run) options+=' --workers --link --format' ;;
-    check | explain | trace) options+=' --format' ;;
-    candump) options+=' --tick --from' ;;
+    run) options+=' --workers --link --brief --format' ;;
+    check | explain) options+=' --format' ;;
+    records) options+=' --from --to' ;;
+    trace) options+=' --from --to --node --only --format' ;;
+    candump) options+=' --tick --from --since --to' ;;
     vcd | page) options+=' --tick' ;;
     merge | horizon) options+=' --wide' ;;
     margin) options+=' --tick --all-send --format' ;;

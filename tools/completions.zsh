@@ -8,9 +8,11 @@ _wireline() {
     return
   fi
   case $words[2] in
-    run) options+=('--workers[how many threads]:number:(1 2 3 4 5 6 7 8)' '--link[what they hand records over by]:link:(hub mail)' $format) ;;
-    check | explain | trace) options+=($format) ;;
-    candump) options+=('--tick[how long a tick takes]:time:' '--from[the second of tick 0]:seconds:') ;;
+    run) options+=('--workers[how many threads]:number:(1 2 3 4 5 6 7 8)' '--link[what they hand records over by]:link:(hub mail)' '--brief[without lines of frames]' $format) ;;
+    check | explain) options+=($format) ;;
+    records) options+=('--from[the first tick of the window]:tick:' '--to[the first tick after it]:tick:') ;;
+    trace) options+=('--from[the first tick of the window]:tick:' '--to[the first tick after it]:tick:' '--node[the number of a node]:number:' '--only[the kind of events]:kind:(lost error flag frame mode sync)' $format) ;;
+    candump) options+=('--tick[how long a tick takes]:time:' '--from[the second of tick 0]:seconds:' '--since[the first tick of the window]:tick:' '--to[the first tick after it]:tick:') ;;
     vcd | page) options+=('--tick[how long a tick takes]:time:') ;;
     merge | horizon) options+=('--wide[records of plans of version 4]') ;;
     margin) options+=('--tick[how long a tick takes]:time:' '--all-send[as if each node had frames]' $format) ;;
