@@ -1,20 +1,20 @@
 -- Each entry of a queue comes on the bus of a plan.
-use Rattle.std.proofs.Common.{◌≡◌, ◌≢◌, ◌∙◌, inl, inr, refl, sym, ap, subst, ℕ, zero, suc, ◌+◌, ◌<◌, ◌≤◌, cond, length, arith}
-use Rattle.std.specs.Prelude.{◌==◌}
+use Rattle.std.proofs.Common.{◌≡◌, ◌≢◌, ◌∙◌, inl, inr, refl, sym, ap, ap₂, subst, ℕ, zero, suc, ◌+◌, ◌<◌, ◌≤◌, cond, length, arith}
+use Rattle.std.specs.Prelude.{◌==◌, slice_get}
 use Rattle.std.proofs.lemmas.Bool.{cases_Bool, cases_lt, eq-eqb, eqb-true, ne_eqb}
 use Rattle.std.proofs.lemmas.List.{length-map}
 use Rattle.std.proofs.lemmas.Option.{slice_get_within}
 use Rattle.wl_counts.specs.Counts.{sum_below}
 use Rattle.wl_plan.specs.declared.plan.Plan.{Plan}
 use Rattle.wl_plan.specs.PlanLine.{setup_at}
-use Rattle.wl_buses.specs.BothProofs.Queues.{queued_contents}
+use Rattle.wl_buses.specs.BothProofs.Queues.{queued_contents, ready_at}
 use Rattle.wl_buses.specs.OneFrame.Stations.{Stations}
 use Rattle.wl_buses.specs.SentFrames.Winners.{won_by}
 use Rattle.wl_buses.specs.CleanLines.Lines.{FramesOfLine, waiting_with}
 use Rattle.wl_buses.specs.CleanPlans.PlanFrames.{FirstFramesOfPlan, FramesOfPlan}
 use Rattle.wl_buses.specs.BoundedWaits.Bounds.{IsOnBus}
 use Rattle.wl_buses.specs.BoundedWaits.Messages.{entries}
-use Rattle.wl_buses.proofs.BoundedWaits.OnBus.{Ordered}
+use Rattle.wl_buses.proofs.BoundedWaits.Ordering.{Ordered}
 use Rattle.wl_buses.proofs.BoundedWaits.Scaling.{scaled_sum}
 
 -- the frames of a plan are those of its line
@@ -75,7 +75,7 @@ module _ (plan : Plan) (s : Stations) (bus : FramesOfPlan plan s) (ordered : Ord
   few_turns i (suc n) less = elim (cases_Bool (i == bus.by.winner n)) [
     | inl own ↦
         (let same = eqb-true i (bus.by.winner n) own in
-        let there = subst (λ k. turn k n < entries (setup_at plan) k) (sym same) (slice_get_within (queued_contents (setup_at plan (bus.by.winner n)).queue) (turn (bus.by.winner n) n) (bus.by.content n) (ordered n less)) in
+        let there = subst (λ k. turn k n < entries (setup_at plan) k) (sym same) (slice_get_within (queued_contents (setup_at plan (bus.by.winner n)).queue) (turn (bus.by.winner n) n) (bus.by.content n) (ordered.content n less)) in
         let more : turn i (suc n) ≡ turn i n + 1 = ap (λ b. turn i n + cond b 1 0) own in
         omega arith)
     | inr other ↦ (let old = few_turns i n (omega arith) in let none : turn i (suc n) ≡ turn i n + 0 = ap (λ b. turn i n + cond b 1 0) other in omega arith)
@@ -97,7 +97,15 @@ module _ (plan : Plan) (s : Stations) (bus : FramesOfPlan plan s) (ordered : Ord
           (let same = eqb-true i (bus.by.winner n) own in
           let more : turn i (suc n) ≡ turn i n + 1 = ap (λ b. turn i n + cond b 1 0) own in
           let here : turn i n ≡ a = omega arith in
-          record { frame = n; inside = less; winner = sym same; turn = sym (ap (λ k. turn k n) same) ∙ here })
+          let there : turn (bus.by.winner n) n ≡ a = sym (ap (λ k. turn k n) same) ∙ here in
+          record {
+            frame = n;
+            inside = less;
+            winner = sym same;
+            turn = there;
+            content = ap₂ (λ k b. slice_get (queued_contents (setup_at plan k).queue) b) same (sym there) ∙ ordered.content n less;
+            ready = ordered.ready n less ∙ ap₂ (λ k b. ready_at (setup_at plan k).queue b) (sym same) there;
+          })
       | inr other ↦ (let none : turn i (suc n) ≡ turn i n + 0 = ap (λ b. turn i n + cond b 1 0) other in absurd (omega arith))
     ]
   ]
