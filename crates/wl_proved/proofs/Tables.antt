@@ -1,9 +1,9 @@
 -- A table of messages that passes its test has bounds that are enough.
-use Rattle.std.proofs.Common.{◌≡◌, ◌≢◌, ◌∙◌, refl, sym, ap, ap₂, subst, inl, inr, ℕ, zero, suc, ◌+◌, ◌-◌, ◌*◌, ◌<◌, ◌≤◌, Bool, true, false, cond, not, max, min, ◌&&◌, List, [], ◌∷◌, length, map, arith}
+use Rattle.std.proofs.Common.{◌≡◌, ◌≢◌, ◌∙◌, refl, sym, ap, ap₂, subst, inl, inr, ℕ, zero, suc, ◌+◌, ◌-◌, ◌*◌, ◌/◌, ◌<◌, ◌≤◌, Bool, true, false, cond, not, max, min, ◌&&◌, List, [], ◌∷◌, length, map, arith}
 use Rattle.std.specs.Prelude.{◌==◌, nat_le, nat_lt}
 use Rattle.std.proofs.lemmas.Bool.{and_parts, cases_lt, eqb-true, leb-true, lt-ltb, ltb-true, not-false, not-true}
 use Rattle.std.proofs.lemmas.List.{get_or-map, length-map}
-use Rattle.std.proofs.Math.Nat.{div-le-div_right, mul-le-mul_left, mul-le-mul_right}
+use Rattle.std.proofs.Math.Nat.{div-lt_iff_lt-mul, lt-div-mul-add, mul-le-mul_left, mul-le-mul_right}
 use Rattle.wl_segments.specs.Lengths.{bit_quanta}
 use Rattle.wl_counts.specs.Counts.{one_if, periods_in, sum_below}
 use Rattle.wl_counts.specs.Waits.{AreEnough}
@@ -30,16 +30,6 @@ use Rattle.wl_proved.specs.Waits.{is_fifo, messages_in, wait_of}
 pub greatest_each : (n : ℕ) (test : ℕ → Bool) (f : ℕ → ℕ) (k : ℕ) → k < n → test k ≡ true → f k ≤ greatest n test f
 greatest_each n test f k less e = bounds_each n test f (greatest n test f) (let r : greatest n test f ≤ greatest n test f = omega arith in r) k less e
 
--- sums and greatest numbers of the same
-sum_same : (f g : ℕ → ℕ) (n : ℕ) → ((k : ℕ) → k < n → f k ≡ g k) → sum_below f n ≡ sum_below g n
-sum_same f g zero h = refl
-sum_same f g (suc n) h = ap₂ (λ x y. x + y) (sum_same f g n (λ k below. h k (omega arith))) (h n (omega arith))
-
-pub greatest_same : (n : ℕ) (t u : ℕ → Bool) (f g : ℕ → ℕ) → ((k : ℕ) → k < n → t k ≡ u k) → ((k : ℕ) → k < n → f k ≡ g k) → greatest n t f ≡ greatest n u g
-greatest_same zero t u f g e h = refl
-greatest_same (suc n) t u f g e h =
-    ap₂ max (greatest_same n t u f g (λ k below. e k (omega arith)) (λ k below. h k (omega arith))) (ap₂ (λ x y. cond x y 0) (e n (omega arith)) (h n (omega arith)))
-
 fair_each : (b : Bus) (messages : List MessageWait) → are_fair b messages ≡ true → (e : ℕ) → e < length messages → is_fair b (message_at messages e) ≡ true
 fair_each b [] fair e less = absurd (omega arith)
 fair_each b (x ∷ later) fair zero less = (and_parts (is_fair b x) (are_fair b later) fair).0
@@ -49,8 +39,11 @@ share_by : (j : Bool) (p c : ℕ) → cond j (p * c) 0 ≡ one_if j * p * c
 share_by true p c = ap (λ x. x * c) (let e : p ≡ 1 * p = omega arith in e)
 share_by false p c = omega arith
 
-more_periods : (a c p : ℕ) → a ≤ c → periods_in a p ≤ periods_in c p
-more_periods a c p low = div-le-div_right (let h : a + (p - 1) ≤ c + (p - 1) = omega arith in h)
+more_periods : (a c p : ℕ) → 0 < p → a ≤ c → periods_in a p ≤ periods_in c p
+more_periods a c p some low =
+    let most : c + (p - 1) < (c + (p - 1)) / p * p + p = lt-div-mul-add some in
+    let less : (a + (p - 1)) / p < suc ((c + (p - 1)) / p) = (div-lt_iff_lt-mul some).1 (let e : suc ((c + (p - 1)) / p) * p ≡ (c + (p - 1)) / p * p + p = omega arith in omega arith) in
+    omega arith
 
 sum_more : (f g : ℕ → ℕ) (n : ℕ) → ((k : ℕ) → k < n → f k ≤ g k) → sum_below f n ≤ sum_below g n
 sum_more f g zero h = omega arith
@@ -224,7 +217,7 @@ module _ (b : Bus) (plan : Plan) (messages : List MessageWait) (passes : pass b 
       ≤ window_share lead (exact m) (row_at rows e)
   share_most m e less =
       let early = early_most m e less in
-      let few = more_periods (early_by terms (wait_of messages) m e + (x m).window) (head_start lead (exact m) (exact e) + (x m).window) (max 1 (period_of b (x e))) (omega arith) in
+      let few = more_periods (early_by terms (wait_of messages) m e + (x m).window) (head_start lead (exact m) (exact e) + (x m).window) (max 1 (period_of b (x e))) (omega arith) (omega arith) in
       let one = mul-le-mul_left (one_if (nat_le (x e).field (x m).level)) few in
       let all = mul-le-mul_right (cost_of (times_of b) (x e)) one in
       let row = ap (window_share lead (exact m)) (row_is e less) in

@@ -14,7 +14,7 @@ ghost use Rattle.wl_respond.specs.Tests.{pass};
 ghost use Rattle.wl_proved.specs.PlansOfFamily.{IsPlanOfFamily};
 ghost use Rattle.wl_proved.specs.Waits.{HasBoundedWaits};
 
-/// Law: let a table of messages pass its test. Take a plan of the family whose queues have frames of these messages, and let each message have
+/// Law: let a table of messages pass its test. Take a plan of the family whose queues have frames of these messages. Let each message have
 /// the level that its queue gives it, first in, first out or by priority. Then no frame waits longer than its message says, whatever the
 /// offsets are, however many instances come, and wherever within its tolerance each clock lies. The condition for margins has to hold for
 /// any senders. The bus has to have room for them, and that nobody decides twice.

@@ -1,7 +1,7 @@
 -- Which entry leaves a queue, and what is left of it, by its order.
-use Rattle.std.proofs.Common.{◌≡◌, ◌≢◌, ◌∙◌, inl, inr, refl, sym, ap, subst, ℕ, zero, suc, ◌+◌, ◌<◌, ◌≤◌, cond, Bool, true, false, List, [], ◌∷◌, ◌++◌, Option, Some, None, arith}
+use Rattle.std.proofs.Common.{◌≡◌, ◌≢◌, ◌∙◌, ◌⊎◌, inl, inr, refl, sym, ap, subst, ℕ, zero, suc, ◌+◌, ◌<◌, ◌≤◌, cond, Bool, true, false, List, [], ◌∷◌, ◌++◌, Option, Some, None, arith}
 use Rattle.std.specs.Prelude.{drop, nat_le, slice_get}
-use Rattle.std.proofs.lemmas.Bool.{both_ways, cases_Bool, cases_eq, cases_lt, eq-eqb, le-leb, leb-true, ne_eqb}
+use Rattle.std.proofs.lemmas.Bool.{both_ways, cases_Bool, cases_eq, eq-eqb, le-leb, leb-false, leb-true, ne_eqb}
 use Rattle.wl_frame.specs.Grammar.{Content}
 use Rattle.wl_frame.specs.Same.{content_decides, same_content}
 use Rattle.wl_node.specs.declared.setup.NodeSetup.{NodeSetup}
@@ -9,7 +9,7 @@ use Rattle.wl_node.specs.declared.setup.Passed.{Passed}
 use Rattle.wl_node.specs.declared.setup.Queued.{Queued}
 use Rattle.wl_node.specs.declared.setup.QueueOrder.{QueueOrder}
 use Rattle.wl_node.specs.declared.setup.QueueOrder.TheVariants.{Fifo, Priority}
-use Rattle.wl_node.specs.Queues.{field_number, head_by, least_frame, lesser_frame, queue_without, ready_head, unsent_by, waiting_frames}
+use Rattle.wl_node.specs.Queues.{field_number, head_by, least_frame, lesser_frame, queue_without, unsent_by, waiting_frames}
 use Rattle.wl_buses.specs.BothProofs.Queues.{first_ready, queued_contents}
 use Rattle.wl_buses.proofs.BothProofs.Heads.{unsent_first, unsent_received}
 use Rattle.wl_buses.proofs.BothProofs.Orders.{in_by, left_tail, left_without}
@@ -18,7 +18,7 @@ use Rattle.wl_buses.specs.FrameEnd.Rests.{passed_frame}
 use Rattle.wl_buses.specs.NextFrames.Frames.{Frame}
 use Rattle.wl_buses.specs.SentFrames.Sending.{unsent_with}
 use Rattle.wl_buses.specs.SentFrames.Winners.{passed_with}
-use Rattle.wl_buses.specs.BoundedWaits.Leaving.{IsQueued, ready_of}
+use Rattle.wl_buses.specs.BoundedWaits.Leaving.{IsQueued, entry_ready}
 
 -- an entry is one of some
 abbrev pub Holds : List Queued → Queued → Type 0
@@ -32,9 +32,6 @@ left_after Priority c u = queue_without c u
 none_some : {A : Type 0} → (x : A) → ◌≡◌ {A = Option A} None (Some x) → ⊥
 none_some x e = cc
 
-not_le : (a b : ℕ) → nat_le a b ≡ false → b < a
-not_le a b none = elim (cases_lt b a) [ inl less ↦ less | inr past ↦ absurd (both_ways (nat_le a b) none (le-leb a b past)) ]
-
 -- of two frames
 lesser_low : (f : Content) (o : Option Content) → field_number (lesser_frame f o) ≤ field_number f
 lesser_low f None = omega arith
@@ -42,7 +39,7 @@ lesser_low f (Some other) = elim (cases_Bool (nat_le (field_number f) (field_num
   | inl low ↦ (let e : field_number (lesser_frame f (Some other)) ≡ field_number f = ap (λ b. field_number (cond b f other)) low in omega arith)
   | inr high ↦
       (let e : field_number (lesser_frame f (Some other)) ≡ field_number other = ap (λ b. field_number (cond b f other)) high in
-      let less = not_le (field_number f) (field_number other) high in
+      let less = leb-false (field_number f) (field_number other) high in
       omega arith)
 ]
 
@@ -64,7 +61,7 @@ goes_before f (Some other) c e apart = elim (cases_Bool (nat_le (field_number f)
       (let g : Some other ≡ Some c = ap (λ b. Some (cond b f other)) (sym high) ∙ e in
       let h : other ≡ c = cc in
       let field : field_number other ≡ field_number c = ap field_number h in
-      let less = not_le (field_number f) (field_number other) high in
+      let less = leb-false (field_number f) (field_number other) high in
       (g, let r : field_number c < field_number f = omega arith in r))
 ]
 
@@ -99,18 +96,18 @@ without_turn (x ∷ xs) c m n p q low one other = by (λ j k. without_turn xs c 
         (let t = more m n (let r : m < n = omega arith in r) one other in let low = t.2 in (suc t.0, suc t.1, (let r : suc t.0 < suc t.1 = omega arith in r), t.3, t.4))
 
 -- the first entry with a content
-pub entry_with : (u : List Queued) (c : Content) (n : ℕ) → slice_get (queued_contents u) n ≡ Some c → (x : Queued) × Holds u x × (x.frame ≡ c) × (x.ready ≡ ready_of c u)
+pub entry_with : (u : List Queued) (c : Content) (n : ℕ) → slice_get (queued_contents u) n ≡ Some c → (x : Queued) × Holds u x × (x.frame ≡ c) × (x.ready ≡ entry_ready c u)
 entry_with [] c n e = absurd (none_some c e)
 entry_with (q ∷ qs) c n e = elim (cases_Bool (same_content q.frame c)) [
-  | inl own ↦ (q, (0, refl), (content_decides q.frame c).0 own, sym (ap (λ b. cond b q.ready (ready_of c qs)) own))
+  | inl own ↦ (q, (0, refl), (content_decides q.frame c).0 own, sym (ap (λ b. cond b q.ready (entry_ready c qs)) own))
   | inr other ↦ later (λ m. entry_with qs c m) other n e
 ]
   where
-    later : ((m : ℕ) → slice_get (queued_contents qs) m ≡ Some c → (x : Queued) × Holds qs x × (x.frame ≡ c) × (x.ready ≡ ready_of c qs)) → same_content q.frame c ≡ false → (n : ℕ)
-        → slice_get (queued_contents (q ∷ qs)) n ≡ Some c → (x : Queued) × Holds (q ∷ qs) x × (x.frame ≡ c) × (x.ready ≡ ready_of c (q ∷ qs))
+    later : ((m : ℕ) → slice_get (queued_contents qs) m ≡ Some c → (x : Queued) × Holds qs x × (x.frame ≡ c) × (x.ready ≡ entry_ready c qs)) → same_content q.frame c ≡ false → (n : ℕ)
+        → slice_get (queued_contents (q ∷ qs)) n ≡ Some c → (x : Queued) × Holds (q ∷ qs) x × (x.frame ≡ c) × (x.ready ≡ entry_ready c (q ∷ qs))
     later more other zero e = absurd (both_ways (same_content q.frame c) other ((content_decides q.frame c).1 (let h : q.frame ≡ c = cc in h)))
     later more other (suc n) e =
-        (let x = more n e in let h = x.1 in (x.0, (suc h.0, h.1), x.2, x.3 ∙ sym (ap (λ b. cond b q.ready (ready_of c qs)) other)))
+        (let x = more n e in let h = x.1 in (x.0, (suc h.0, h.1), x.2, x.3 ∙ sym (ap (λ b. cond b q.ready (entry_ready c qs)) other)))
 
 -- of a queue that is first in, first out, it is the first
 first_handed : (q : Queued) (qs : List Queued) (k : ℕ) (c : Content) → head_by Fifo (q ∷ qs) k ≡ Some c → q.frame ≡ c
@@ -120,13 +117,33 @@ first_handed q qs k c e = by (nat_le q.ready k) e
     by true e = cc
     by false e = absurd (none_some c e)
 
-pub fifo_ready : (u : List Queued) (k : ℕ) (c : Content) → head_by Fifo u k ≡ Some c → ready_of c u ≡ first_ready u
+pub fifo_ready : (u : List Queued) (k : ℕ) (c : Content) → head_by Fifo u k ≡ Some c → entry_ready c u ≡ first_ready u
 fifo_ready [] k c e = absurd (none_some c e)
-fifo_ready (q ∷ qs) k c e = ap (λ b. cond b q.ready (ready_of c qs)) ((content_decides q.frame c).1 (first_handed q qs k c e))
+fifo_ready (q ∷ qs) k c e = ap (λ b. cond b q.ready (entry_ready c qs)) ((content_decides q.frame c).1 (first_handed q qs k c e))
 
 -- the entry of a frame that is handed
-pub handed_entry : (o : QueueOrder) (u : List Queued) (k : ℕ) (c : Content) → head_by o u k ≡ Some c → (x : Queued) × Holds u x × (x.frame ≡ c) × (x.ready ≡ ready_of c u)
+pub handed_entry : (o : QueueOrder) (u : List Queued) (k : ℕ) (c : Content) → head_by o u k ≡ Some c → (x : Queued) × Holds u x × (x.frame ≡ c) × (x.ready ≡ entry_ready c u)
 handed_entry o u k c e = (let n = in_by o u k c e in entry_with u c n.0 n.1)
+
+-- An entry is the one that leaves the queue, or it stays.
+without_stays : (u : List Queued) (c : Content) (n : ℕ) (x : Queued) → IsQueued u n x → ((x.frame ≡ c) × (x.ready ≡ entry_ready c u)) ⊎ Holds (queue_without c u) x
+without_stays [] c n x is = inr (n, is)
+without_stays (q ∷ qs) c n x is = by (λ m. without_stays qs c m x) (same_content q.frame c) refl n is
+  where
+    by : ((m : ℕ) → IsQueued qs m x → ((x.frame ≡ c) × (x.ready ≡ entry_ready c qs)) ⊎ Holds (queue_without c qs) x) → (b : Bool) → same_content q.frame c ≡ b → (n : ℕ) → IsQueued (q ∷ qs) n x
+        → ((x.frame ≡ c) × (x.ready ≡ cond b q.ready (entry_ready c qs))) ⊎ Holds (cond b qs (q ∷ queue_without c qs)) x
+    by more true own zero is = (let same : q ≡ x = cc in inl (sym (ap (λ y. y.frame) same) ∙ (content_decides q.frame c).0 own, sym (ap (λ y. y.ready) same)))
+    by more true own (suc n) is = inr (n, is)
+    by more false other zero is = inr (0, is)
+    by more false other (suc n) is = elim (more n is) [ inl leaves ↦ inl leaves | inr stays ↦ inr (suc stays.0, stays.1) ]
+
+pub leaves_or_stays : (o : QueueOrder) (u : List Queued) (k : ℕ) (c : Content) (n : ℕ) (x : Queued) → head_by o u k ≡ Some c → IsQueued u n x
+    → ((x.frame ≡ c) × (x.ready ≡ entry_ready c u)) ⊎ Holds (left_after o c u) x
+leaves_or_stays Fifo [] k c n x e is = absurd (none_some c e)
+leaves_or_stays Fifo (q ∷ qs) k c zero x e is =
+    (let same : q ≡ x = cc in inl (sym (ap (λ y. y.frame) same) ∙ first_handed q qs k c e, sym (ap (λ y. y.ready) same) ∙ sym (fifo_ready (q ∷ qs) k c e)))
+leaves_or_stays Fifo (q ∷ qs) k c (suc n) x e is = inr (n, is)
+leaves_or_stays Priority u k c n x e is = without_stays u c n x is
 
 -- frames that wait
 waits_first : (q : Queued) (qs : List Queued) (k : ℕ) → q.ready ≤ k → least_frame (waiting_frames (q ∷ qs) k) ≡ Some (lesser_frame q.frame (least_frame (waiting_frames qs k)))
@@ -145,21 +162,21 @@ waits_then q qs k c e = elim (cases_Bool (nat_le q.ready k)) [
   | inr late ↦ absurd (none_some c (ap (λ b. least_frame (cond b (q ∷ waiting_frames qs k) [])) (sym late) ∙ e))
 ]
 
-least_ready : (u : List Queued) (k : ℕ) (c : Content) → least_frame (waiting_frames u k) ≡ Some c → ready_of c u ≤ k
+least_ready : (u : List Queued) (k : ℕ) (c : Content) → least_frame (waiting_frames u k) ≡ Some c → entry_ready c u ≤ k
 least_ready [] k c e = absurd (none_some c e)
 least_ready (q ∷ qs) k c e = elim (cases_Bool (same_content q.frame c)) [
   | inl own ↦
-      (let r : ready_of c (q ∷ qs) ≡ q.ready = ap (λ b. cond b q.ready (ready_of c qs)) own in
+      (let r : entry_ready c (q ∷ qs) ≡ q.ready = ap (λ b. cond b q.ready (entry_ready c qs)) own in
       let then = waits_then q qs k c e in
       omega arith)
   | inr other ↦
       (let first = goes_before q.frame (least_frame (waiting_frames qs k)) c (first_waits q qs k c e) (λ same. both_ways (same_content q.frame c) other ((content_decides q.frame c).1 same)) in
-      let r : ready_of c (q ∷ qs) ≡ ready_of c qs = ap (λ b. cond b q.ready (ready_of c qs)) other in
+      let r : entry_ready c (q ∷ qs) ≡ entry_ready c qs = ap (λ b. cond b q.ready (entry_ready c qs)) other in
       let more = least_ready qs k c first.0 in
       omega arith)
 ]
 
-pub handed_ready : (o : QueueOrder) (u : List Queued) (k : ℕ) (c : Content) → head_by o u k ≡ Some c → ready_of c u ≤ k
+pub handed_ready : (o : QueueOrder) (u : List Queued) (k : ℕ) (c : Content) → head_by o u k ≡ Some c → entry_ready c u ≤ k
 handed_ready Fifo [] k c e = absurd (none_some c e)
 handed_ready Fifo (q ∷ qs) k c e = elim (cases_Bool (nat_le q.ready k)) [
   | inl ready ↦ (let same = fifo_ready (q ∷ qs) k c e in let low = leb-true q.ready k ready in omega arith)
@@ -209,15 +226,15 @@ module _ (of : Content → ℕ) (every : ℕ → ℕ) where
       (lesser_frame q.frame (least_frame (waiting_frames qs k)), waits_first q qs k (omega arith), (let h : field_number (lesser_frame q.frame (least_frame (waiting_frames qs k))) ≤ field_number x.frame = omega arith in h)))
 
   -- an entry that goes first, and those of its message after it
-  first_spaced : (q : Queued) (qs : List Queued) (c : Content) (n : ℕ) (x : Queued) → Goes (q ∷ qs) → q.frame ≡ c → IsQueued qs n x → of c ≡ of x.frame → ready_of c (q ∷ qs) + every (of c) ≤ x.ready
+  first_spaced : (q : Queued) (qs : List Queued) (c : Content) (n : ℕ) (x : Queued) → Goes (q ∷ qs) → q.frame ≡ c → IsQueued qs n x → of c ≡ of x.frame → entry_ready c (q ∷ qs) + every (of c) ≤ x.ready
   first_spaced q qs c n x g same is alike =
       let far = (g 0 (suc n) q x (omega arith) refl is).1 (ap of same ∙ alike) in
-      let r : ready_of c (q ∷ qs) ≡ q.ready = ap (λ b. cond b q.ready (ready_of c qs)) ((content_decides q.frame c).1 same) in
+      let r : entry_ready c (q ∷ qs) ≡ q.ready = ap (λ b. cond b q.ready (entry_ready c qs)) ((content_decides q.frame c).1 same) in
       let v : every (of q.frame) ≡ every (of c) = ap (λ y. every (of y)) same in
       omega arith
 
   least_spaced : (u : List Queued) (k : ℕ) (c : Content) (n : ℕ) (x : Queued) → HaveOneField u → Goes u → least_frame (waiting_frames u k) ≡ Some c → IsQueued (queue_without c u) n x → of c ≡ of x.frame
-      → ready_of c u + every (of c) ≤ x.ready
+      → entry_ready c u + every (of c) ≤ x.ready
   least_spaced [] k c n x one g e is alike = absurd (none_some c e)
   least_spaced (q ∷ qs) k c n x one g e is alike = by (λ m f h. least_spaced qs k c m x fields (tail q qs g) f h alike) (same_content q.frame c) refl is
     where
@@ -225,8 +242,8 @@ module _ (of : Content → ℕ) (every : ℕ → ℕ) where
       fields a b ha hb same = one a b (suc ha.0, ha.1) (suc hb.0, hb.1) same
 
       -- one that goes before it is of another message
-      later : ((m : ℕ) → least_frame (waiting_frames qs k) ≡ Some c → IsQueued (queue_without c qs) m x → ready_of c qs + every (of c) ≤ x.ready) → (m : ℕ)
-          → (least_frame (waiting_frames qs k) ≡ Some c) × (field_number c < field_number q.frame) → IsQueued (q ∷ queue_without c qs) m x → ready_of c qs + every (of c) ≤ x.ready
+      later : ((m : ℕ) → least_frame (waiting_frames qs k) ≡ Some c → IsQueued (queue_without c qs) m x → entry_ready c qs + every (of c) ≤ x.ready) → (m : ℕ)
+          → (least_frame (waiting_frames qs k) ≡ Some c) × (field_number c < field_number q.frame) → IsQueued (q ∷ queue_without c qs) m x → entry_ready c qs + every (of c) ≤ x.ready
       later more zero first is =
           (let same : q ≡ x = cc in
           let held = handed_entry Priority qs k c first.0 in
@@ -237,18 +254,18 @@ module _ (of : Content → ℕ) (every : ℕ → ℕ) where
           absurd (omega arith))
       later more (suc m) first is = more m first.0 is
 
-      by : ((m : ℕ) → least_frame (waiting_frames qs k) ≡ Some c → IsQueued (queue_without c qs) m x → ready_of c qs + every (of c) ≤ x.ready) → (b : Bool) → same_content q.frame c ≡ b
-          → IsQueued (cond b qs (q ∷ queue_without c qs)) n x → ready_of c (q ∷ qs) + every (of c) ≤ x.ready
+      by : ((m : ℕ) → least_frame (waiting_frames qs k) ≡ Some c → IsQueued (queue_without c qs) m x → entry_ready c qs + every (of c) ≤ x.ready) → (b : Bool) → same_content q.frame c ≡ b
+          → IsQueued (cond b qs (q ∷ queue_without c qs)) n x → entry_ready c (q ∷ qs) + every (of c) ≤ x.ready
       by more true own is = first_spaced q qs c n x g ((content_decides q.frame c).0 own) is alike
       by more false other is =
           (let first = goes_before q.frame (least_frame (waiting_frames qs k)) c (first_waits q qs k c e) (λ same. both_ways (same_content q.frame c) other ((content_decides q.frame c).1 same)) in
           let rest = later more n first is in
-          let r : ready_of c (q ∷ qs) ≡ ready_of c qs = ap (λ b. cond b q.ready (ready_of c qs)) other in
+          let r : entry_ready c (q ∷ qs) ≡ entry_ready c qs = ap (λ b. cond b q.ready (entry_ready c qs)) other in
           omega arith)
 
   -- As a frame leaves a queue, each later one of its message is ready a period later.
   pub spaced : (o : QueueOrder) (u : List Queued) (k : ℕ) (c : Content) (x : Queued) → (o ≡ Priority → HaveOneField u) → Goes u → head_by o u k ≡ Some c → Holds (left_after o c u) x → of c ≡ of x.frame
-      → ready_of c u + every (of c) ≤ x.ready
+      → entry_ready c u + every (of c) ≤ x.ready
   spaced Fifo [] k c x one g e h alike = absurd (none_some c e)
   spaced Fifo (q ∷ qs) k c x one g e h alike = first_spaced q qs c h.0 x g (first_handed q qs k c e) h.1 alike
   spaced Priority u k c x one g e h alike = least_spaced u k c h.0 x (one refl) g e h.1 alike
@@ -268,10 +285,10 @@ module _ (s : Stations) (setups : ℕ → NodeSetup) (frames : ℕ → Frame) (w
   abbrev one : (i n : ℕ) → Passed
   one i n = passed_frame s (frames n).outset (frames n).bits i (winner n) (content n)
 
-  left_own : (i n : ℕ) → i ≡ winner n → left i (suc n) ≡ left_after (setups i).order (content n) (left i n)
+  pub left_own : (i n : ℕ) → i ≡ winner n → left i (suc n) ≡ left_after (setups i).order (content n) (left i n)
   left_own i n own = left_sent (setups i).order (setups i).queue (passed i n) (one i n) (eq-eqb i (winner n) own)
 
-  left_other : (i n : ℕ) → i ≢ winner n → left i (suc n) ≡ left i n
+  pub left_other : (i n : ℕ) → i ≢ winner n → left i (suc n) ≡ left i n
   left_other i n other = unsent_received (setups i) (passed i n) (one i n) (ne_eqb i (winner n) other)
 
   next_less : (i n : ℕ) (x : Queued) → Holds (left i (suc n)) x → Holds (left i n) x
@@ -299,7 +316,7 @@ module _ (s : Stations) (setups : ℕ → NodeSetup) (frames : ℕ → Frame) (w
 
   -- A later frame of the same message is ready a period later.
   pub far : (i j k q : ℕ) (x : Queued) (of : Content → ℕ) (every : ℕ → ℕ) → i ≡ winner j → j < k → ((setups i).order ≡ Priority → HaveOneField of every (setups i).queue) → Goes of every (setups i).queue
-      → head_by (setups i).order (left i j) q ≡ Some (content j) → Holds (left i k) x → of (content j) ≡ of x.frame → ready_of (content j) (left i j) + every (of (content j)) ≤ x.ready
+      → head_by (setups i).order (left i j) q ≡ Some (content j) → Holds (left i k) x → of (content j) ≡ of x.frame → entry_ready (content j) (left i j) + every (of (content j)) ≤ x.ready
   far i j k q x of every own later one g head h alike =
       spaced of every (setups i).order (left i j) q (content j) x (λ o a b ha hb. one o a b (of_queue i j a ha) (of_queue i j b hb)) (all_go i of every g j) head
       (subst (λ u. Holds u x) (left_own i j own) (all_less i (suc j) k x later h)) alike

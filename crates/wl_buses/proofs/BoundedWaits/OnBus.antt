@@ -66,7 +66,7 @@ frames_on setups s bus t ms = record {
   gap = gap_before setups s bus;
 }
 
-order_cases : (o : QueueOrder) → (o ≡ Fifo) ⊎ (o ≡ Priority)
+pub order_cases : (o : QueueOrder) → (o ≡ Fifo) ⊎ (o ≡ Priority)
 order_cases Fifo = inl refl
 order_cases Priority = inr refl
 

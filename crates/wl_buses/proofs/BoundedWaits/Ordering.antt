@@ -20,7 +20,7 @@ use Rattle.wl_buses.specs.CleanLines.Lines.{FramesOfLine, HaveSegments, LineGets
 use Rattle.wl_buses.specs.FrameTimes.Times.{Times}
 use Rattle.wl_buses.proofs.SentFrames.Nexting.{FirstHanded, NextQueued}
 use Rattle.wl_buses.specs.BoundedWaits.LineBounds.{LinePassesInTime, LineWaitsNoLonger, line_ready, line_sent}
-use Rattle.wl_buses.specs.BoundedWaits.Messages.{AreFifo, Messages}
+use Rattle.wl_buses.specs.BoundedWaits.Messages.{Messages}
 use Rattle.wl_buses.proofs.BoundedWaits.Leaving.{fifo_ready}
 use Rattle.wl_buses.proofs.BoundedWaits.OnBus.{Handed}
 
@@ -34,28 +34,25 @@ pub are_handed : FirstHanded → NextQueued → (setups : ℕ → NodeSetup) (s 
     → HaveSegments setups s → Handed setups s bus
 are_handed first next setups s bus are room idle of n less = handed_as first next setups (waiting_with setups s) are room idle (hands_with setups s of are) bus n less
 
--- The frame of each winner is the next one of a queue that is first in, first out, and ready with it.
+-- The frame of a winner whose queue is first in, first out, is the next one of it, and ready with it.
 pub record Ordered (setups : ℕ → NodeSetup) (s : Stations) (bus : FramesOfLine setups (waiting_with setups s)) : Type 0 where
-  pub content : (n : ℕ) → n < bus.count → slice_get (queued_contents (setups (bus.by.winner n)).queue) (won_by bus.by.winner (bus.by.winner n) n) ≡ Some (bus.by.content n)
-  pub ready : (n : ℕ) → n < bus.count → line_ready setups s bus n ≡ ready_at (setups (bus.by.winner n)).queue (won_by bus.by.winner (bus.by.winner n) n)
+  pub content : (n : ℕ) → n < bus.count → IsFifo (setups (bus.by.winner n)) → slice_get (queued_contents (setups (bus.by.winner n)).queue) (won_by bus.by.winner (bus.by.winner n) n) ≡ Some (bus.by.content n)
+  pub ready : (n : ℕ) → n < bus.count → IsFifo (setups (bus.by.winner n)) → line_ready setups s bus n ≡ ready_at (setups (bus.by.winner n)).queue (won_by bus.by.winner (bus.by.winner n) n)
 
-pub in_turn : (setups : ℕ → NodeSetup) (s : Stations) (bus : FramesOfLine setups (waiting_with setups s)) → Handed setups s bus → AreFifo s setups → Ordered setups s bus
-in_turn setups s bus handed fifo = record {
-  content = λ n less.
+pub in_turn : (setups : ℕ → NodeSetup) (s : Stations) (bus : FramesOfLine setups (waiting_with setups s)) → Handed setups s bus → Ordered setups s bus
+in_turn setups s bus handed = record {
+  content = λ n less fifo.
       ap (slice_get (queued_contents (setups (bus.by.winner n)).queue)) (sym (sent_by s bus.frames bus.by.winner bus.by.content (bus.by.winner n) n))
-      ∙ fifo_next (setups (bus.by.winner n)) (passed n) (decision_of setups (waiting_with setups s) bus n less) (bus.by.content n) (first n less) (handed n less);
-  ready = λ n less.
+      ∙ fifo_next (setups (bus.by.winner n)) (passed n) (decision_of setups (waiting_with setups s) bus n less) (bus.by.content n) fifo (handed n less);
+  ready = λ n less fifo.
       fifo_ready (unsent_after (setups (bus.by.winner n)) (passed n)) (decision_of setups (waiting_with setups s) bus n less) (bus.by.content n)
-      (sym (ap (λ o. head_by o (unsent_after (setups (bus.by.winner n)) (passed n)) (decision_of setups (waiting_with setups s) bus n less)) (first n less)) ∙ handed n less)
-      ∙ ap first_ready (fifo_unsent (setups (bus.by.winner n)) (passed n) (first n less))
+      (sym (ap (λ o. head_by o (unsent_after (setups (bus.by.winner n)) (passed n)) (decision_of setups (waiting_with setups s) bus n less)) fifo) ∙ handed n less)
+      ∙ ap first_ready (fifo_unsent (setups (bus.by.winner n)) (passed n) fifo)
       ∙ ap (ready_at (setups (bus.by.winner n)).queue) (sent_by s bus.frames bus.by.winner bus.by.content (bus.by.winner n) n);
 }
   where
     passed : ℕ → List Passed
     passed n = passed_with s bus.frames bus.by.winner bus.by.content (bus.by.winner n) n
-
-    first : (n : ℕ) → n < bus.count → IsFifo (setups (bus.by.winner n))
-    first n less = fifo (bus.by.winner n) (subst (λ i. i < s.count) (bus.by.wins n less) (bus.are.each n less).won.inside)
 
 pub line_passes : (l : Line) (setups : ℕ → NodeSetup) (s : Stations) (all : LineGetsThrough l setups (waiting_with setups s)) (t : Times) (ms : Messages) (r : ℕ → ℕ)
     → LineWaitsNoLonger setups s all.bus t ms r → LinePassesInTime l setups s all t ms r

@@ -1,9 +1,10 @@
 -- How long the frames on the bus of a plan wait.
-use Rattle.std.specs.Prelude.{◌≡◌, ℕ, ◌+◌, ◌*◌, ◌<◌, ◌≤◌, length, Some, slice_get}
+use Rattle.std.specs.Prelude.{◌≡◌, ℕ, ◌+◌, ◌*◌, ◌<◌, ◌≤◌, length}
+use Rattle.wl_node.specs.declared.setup.Queued.{Queued}
 use Rattle.wl_plan.specs.declared.plan.Plan.{Plan}
 use Rattle.wl_plan.specs.PlanLine.{line_of, setup_at}
 use Rattle.wl_plan.specs.Simulation.{AreInside}
-use Rattle.wl_buses.specs.BothProofs.Queues.{queued_contents, ready_at}
+use Rattle.wl_buses.specs.BothProofs.Queues.{IsFifo}
 use Rattle.wl_buses.specs.OneFrame.Expected.{expected_sample}
 use Rattle.wl_buses.specs.OneFrame.Stations.{Stations}
 use Rattle.wl_buses.specs.FrameEnd.Rests.{passing_bit}
@@ -45,11 +46,11 @@ PassInTime plan s all ms shortest r = (n k : ℕ) → n < all.bus.count → AreI
     → ready_quantum plan s all.bus n * shortest (all.bus.by.winner n) + r (ms.of (all.bus.by.winner n) (all.bus.by.content n)) < k * shortest (all.bus.by.winner n)
     → n < length (plan_history plan (all.bus.by.winner n) k).frames
 
--- Entry a of the queue of node i, which is first in, first out, is one of these frames.
-pub record IsOnBus (plan : Plan) (s : Stations) (bus : FramesOfPlan plan s) (i a : ℕ) : Type 0 where
+-- Entry a of the queue of node i is one of these frames. In a queue that is first in, first out, it has its turn.
+pub record IsOnBus (plan : Plan) (s : Stations) (bus : FramesOfPlan plan s) (i a : ℕ) (entry : Queued) : Type 0 where
   pub frame : ℕ
   pub inside : frame < bus.count
   pub winner : bus.by.winner frame ≡ i
-  pub turn : turn_of plan s bus frame ≡ a
-  pub content : slice_get (queued_contents (setup_at plan i).queue) a ≡ Some (bus.by.content frame)
-  pub ready : ready_quantum plan s bus frame ≡ ready_at (setup_at plan i).queue a
+  pub content : bus.by.content frame ≡ entry.frame
+  pub ready : ready_quantum plan s bus frame ≡ entry.ready
+  pub turn : IsFifo (setup_at plan i) → turn_of plan s bus frame ≡ a

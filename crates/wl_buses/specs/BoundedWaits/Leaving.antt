@@ -18,10 +18,10 @@ abbrev pub IsQueued : List Queued → ℕ → Queued → Type 0
 IsQueued queue n entry = slice_get queue n ≡ Some entry
 
 -- Of some frames, the quantum from which on the first with this content is ready. A queue of either order hands that one, and it leaves the queue as the content is sent.
-abbrev pub ready_of : Content → List Queued → ℕ
-ready_of frame [] = 0
-ready_of frame (q ∷ more) = if same_content q.frame frame then q.ready else ready_of frame more
+abbrev pub entry_ready : Content → List Queued → ℕ
+entry_ready frame [] = 0
+entry_ready frame (q ∷ more) = if same_content q.frame frame then q.ready else entry_ready frame more
 
 -- the quantum from which on frame n on a line is ready, of those that its winner hasn't sent before
 abbrev pub ready_won : (s : Stations) (setups : ℕ → NodeSetup) (frames : ℕ → Frame) (winner : ℕ → ℕ) (content : ℕ → Content) (n : ℕ) → ℕ
-ready_won s setups frames winner content n = ready_of (content n) (unsent_with s setups frames winner content (winner n) n)
+ready_won s setups frames winner content n = entry_ready (content n) (unsent_with s setups frames winner content (winner n) n)

@@ -33,10 +33,6 @@ entries setups i = length (queued_contents (setups i).queue)
 abbrev pub IsEntry : (setups : ℕ → NodeSetup) → (i n : ℕ) → Queued → Type 0
 IsEntry setups i n entry = IsQueued (setups i).queue n entry
 
--- the queues are first in, first out
-abbrev pub AreFifo : Stations → (setups : ℕ → NodeSetup) → Type 0
-AreFifo s setups = (i : ℕ) → i < s.count → IsFifo (setups i)
-
 -- The queues have these messages, in the order in which they become ready. Two frames of one message are a period apart at least, and in a queue by priority they have one field. Each message is within
 -- its own level, and its own queue isn't mixed then. In a queue that is first in, first out, and not mixed, all messages are within. No frame beyond a level beats one within it, or has a field that is
 -- no greater (Bosch CAN 2.0 part B, section 3.1, arbitration).
