@@ -2,7 +2,9 @@ pub mod Entries
 pub mod Deciding
 pub mod Families
 pub mod Fields
+pub mod Leaving
 pub mod Measure
+pub mod Numbers
 pub mod Offered
 pub mod Ordering
 pub mod OnBus

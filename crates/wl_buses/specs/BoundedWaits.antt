@@ -1,3 +1,4 @@
+pub mod Leaving
 pub mod QueuedFrames
 pub mod Messages
 pub mod Bounds

@@ -1,39 +1,34 @@
 -- A table of messages that passes its test has bounds that are enough.
-use Rattle.std.proofs.Common.{◌≡◌, ◌≢◌, ◌∙◌, refl, sym, ap, ap₂, subst, inl, inr, ℕ, zero, suc, ◌+◌, ◌-◌, ◌*◌, ◌<◌, ◌≤◌, Bool, true, false, cond, not, max, min, ◌&&◌, List, [], ◌∷◌, length, map, arith}
+use Rattle.std.proofs.Common.{◌≡◌, ◌≢◌, ◌∙◌, refl, sym, ap, ap₂, subst, inl, inr, ℕ, zero, suc, ◌+◌, ◌-◌, ◌*◌, ◌/◌, ◌<◌, ◌≤◌, Bool, true, false, cond, not, max, min, ◌&&◌, List, [], ◌∷◌, length, map, arith}
 use Rattle.std.specs.Prelude.{◌==◌, nat_le, nat_lt}
 use Rattle.std.proofs.lemmas.Bool.{and_parts, cases_lt, eqb-true, leb-true, lt-ltb, ltb-true, not-false, not-true}
 use Rattle.std.proofs.lemmas.List.{get_or-map, length-map}
+use Rattle.std.proofs.Math.Nat.{div-lt_iff_lt-mul, lt-div-mul-add, mul-le-mul_left, mul-le-mul_right}
 use Rattle.wl_segments.specs.Lengths.{bit_quanta}
 use Rattle.wl_counts.specs.Counts.{one_if, periods_in, sum_below}
 use Rattle.wl_counts.specs.Waits.{AreEnough}
+use Rattle.wl_node.specs.declared.setup.QueueOrder.{QueueOrder}
+use Rattle.wl_node.specs.declared.setup.QueueOrder.TheVariants.{Fifo, Priority}
 use Rattle.wl_plan.specs.declared.plan.Plan.{Plan}
+use Rattle.wl_plan.specs.PlanLine.{setup_at}
 use Rattle.wl_bound.specs.BusTimes.{greatest_delay, greatest_lead, greatest_wake, times_of}
 use Rattle.wl_bound.specs.Families.{Bus}
 use Rattle.wl_bound.specs.Terms.{greatest}
 use Rattle.wl_bound.proofs.Greatest.{bounds_each}
 use Rattle.wl_respond.specs.declared.message.MessageWait.{MessageWait}
-use Rattle.wl_respond.specs.Inequalities.{are_enough, blocked_for, head_start, is_enough, is_wait_enough, is_window_enough, lacks_enough, top_field, window_demand, window_share}
+use Rattle.wl_respond.specs.Inequalities.{are_enough, blocked_for, head_start, is_enough, is_wait_enough, is_window_enough, lacks_enough, window_demand, window_share}
+use Rattle.wl_respond.specs.Levels.{has_levels, lacks_level, level_by, level_for, top_of}
 use Rattle.wl_respond.specs.Rows.{MessageTerms, no_row, row_at, wait_limit}
 use Rattle.wl_respond.specs.Tests.{are_fair, cost_of, is_fair, message_at, no_message, pass, period_of, row_for, tail_of}
 use Rattle.wl_buses.specs.FrameTimes.BusTimes.{bus_times}
 use Rattle.wl_buses.specs.BoundedWaits.Messages.{BusDelaysNoLonger, Delays, terms_of}
 use Rattle.wl_buses.specs.BoundedWaits.QueuedFrames.{BlockNoLonger, Terms, early_by, table_by}
 use Rattle.wl_buses.proofs.Callers.{none_below}
-use Rattle.wl_proved.specs.Waits.{messages_in, top_of, wait_of}
+use Rattle.wl_proved.specs.Waits.{is_fifo, messages_in, wait_of}
 
 -- each is the greatest at most
 pub greatest_each : (n : ℕ) (test : ℕ → Bool) (f : ℕ → ℕ) (k : ℕ) → k < n → test k ≡ true → f k ≤ greatest n test f
 greatest_each n test f k less e = bounds_each n test f (greatest n test f) (let r : greatest n test f ≤ greatest n test f = omega arith in r) k less e
-
--- sums and greatest numbers of the same
-sum_same : (f g : ℕ → ℕ) (n : ℕ) → ((k : ℕ) → k < n → f k ≡ g k) → sum_below f n ≡ sum_below g n
-sum_same f g zero h = refl
-sum_same f g (suc n) h = ap₂ (λ x y. x + y) (sum_same f g n (λ k below. h k (omega arith))) (h n (omega arith))
-
-pub greatest_same : (n : ℕ) (t u : ℕ → Bool) (f g : ℕ → ℕ) → ((k : ℕ) → k < n → t k ≡ u k) → ((k : ℕ) → k < n → f k ≡ g k) → greatest n t f ≡ greatest n u g
-greatest_same zero t u f g e h = refl
-greatest_same (suc n) t u f g e h =
-    ap₂ max (greatest_same n t u f g (λ k below. e k (omega arith)) (λ k below. h k (omega arith))) (ap₂ (λ x y. cond x y 0) (e n (omega arith)) (h n (omega arith)))
 
 fair_each : (b : Bus) (messages : List MessageWait) → are_fair b messages ≡ true → (e : ℕ) → e < length messages → is_fair b (message_at messages e) ≡ true
 fair_each b [] fair e less = absurd (omega arith)
@@ -44,6 +39,16 @@ share_by : (j : Bool) (p c : ℕ) → cond j (p * c) 0 ≡ one_if j * p * c
 share_by true p c = ap (λ x. x * c) (let e : p ≡ 1 * p = omega arith in e)
 share_by false p c = omega arith
 
+more_periods : (a c p : ℕ) → 0 < p → a ≤ c → periods_in a p ≤ periods_in c p
+more_periods a c p some low =
+    let most : c + (p - 1) < (c + (p - 1)) / p * p + p = lt-div-mul-add some in
+    let less : (a + (p - 1)) / p < suc ((c + (p - 1)) / p) = (div-lt_iff_lt-mul some).1 (let e : suc ((c + (p - 1)) / p) * p ≡ (c + (p - 1)) / p * p + p = omega arith in omega arith) in
+    omega arith
+
+sum_more : (f g : ℕ → ℕ) (n : ℕ) → ((k : ℕ) → k < n → f k ≤ g k) → sum_below f n ≤ sum_below g n
+sum_more f g zero h = omega arith
+sum_more f g (suc n) h = (let before = sum_more f g n (λ k below. h k (omega arith)) in let here = h n (omega arith) in omega arith)
+
 other_than : (i k : ℕ) → i ≢ k → not (k == i) ≡ true
 other_than i k apart = elim_not (k == i) (λ e. apart (sym (eqb-true k i e)))
   where
@@ -51,7 +56,7 @@ other_than i k apart = elim_not (k == i) (λ e. apart (sym (eqb-true k i e)))
     elim_not true h = absurd (h refl)
     elim_not false h = refl
 
-module _ (b : Bus) (plan : Plan) (messages : List MessageWait) (passes : pass b messages ≡ true) (nodes : b.nodes ≡ length plan.nodes) where
+module _ (b : Bus) (plan : Plan) (messages : List MessageWait) (passes : pass b messages ≡ true) (levels : has_levels plan messages ≡ true) (nodes : b.nodes ≡ length plan.nodes) where
   abbrev lead : ℕ
   lead = greatest_lead b
 
@@ -116,26 +121,17 @@ module _ (b : Bus) (plan : Plan) (messages : List MessageWait) (passes : pass b 
       let lacks = none_below (length rows) (lacks_enough lead wake rows) (not-true _ parts.1) m (let e = rows_length in omega arith) in
       ap (is_enough lead wake rows) (sym (row_is m less)) ∙ not-false _ lacks
 
-  top_is : (i : ℕ) → top_field lead wake rows i ≡ top_of messages i
-  top_is i =
-      ap (λ n. greatest n (λ e. (row_at rows e).node == i) (λ e. (row_at rows e).field)) rows_length
-      ∙ greatest_same (length messages) (λ e. (row_at rows e).node == i) (λ e. (x e).node == i) (λ e. (row_at rows e).field) (λ e. (x e).field)
-      (λ e less. ap (λ r. r.node == i) (row_is e less)) (λ e less. ap (λ r. r.field) (row_is e less))
-
   pub node_is : (e : ℕ) → e < length messages → (messages_in plan messages).node e ≡ (x e).node
   node_is e less = ap (λ v. cond v (x e).node (length plan.nodes)) (lt-ltb e (length messages) less)
 
-  -- the level of a message is the greatest field of its node's
-  pub level_is : (e : ℕ) → e < length messages → (x e).level ≡ top_of messages ((messages_in plan messages).node e)
-  level_is e less =
-      let all = and_parts ((x e).level == top_field lead wake rows (x e).node) (is_window_enough lead wake rows (exact e) && is_wait_enough lead wake rows (exact e)) (enough_at e less) in
-      eqb-true (x e).level (top_field lead wake rows (x e).node) all.0 ∙ top_is (x e).node ∙ ap (top_of messages) (sym (node_is e less))
+  -- the level of a message, by its queue
+  pub level_is : (e : ℕ) → e < length messages → (x e).level ≡ level_for plan messages e
+  level_is e less = eqb-true _ _ (not-false _ (none_below (length messages) (lacks_level plan messages) (not-true _ levels) e less))
 
   pub both : (m : ℕ) → m < length messages → (blocked_for lead wake rows (exact m) + window_demand lead wake rows (exact m) ≤ (x m).window)
       × (head_start lead (exact m) (exact m) + (x m).window + tail_of (times_of b) (x m) ≤ (x m).wait + cost_of (times_of b) (x m))
   both m less =
-      let all = and_parts ((x m).level == top_field lead wake rows (x m).node) (is_window_enough lead wake rows (exact m) && is_wait_enough lead wake rows (exact m)) (enough_at m less) in
-      let two = and_parts (is_window_enough lead wake rows (exact m)) (is_wait_enough lead wake rows (exact m)) all.1 in
+      let two = and_parts (is_window_enough lead wake rows (exact m)) (is_wait_enough lead wake rows (exact m)) (enough_at m less) in
       (leb-true _ _ two.0, leb-true _ _ two.1)
 
   abbrev pub delays : Delays
@@ -194,22 +190,49 @@ module _ (b : Bus) (plan : Plan) (messages : List MessageWait) (passes : pass b 
   abbrev pub window : ℕ → ℕ
   window m = (x m).window
 
-  early_is : (m e : ℕ) → e < length messages → head_start lead (exact m) (exact e) ≡ early_by terms (wait_of messages) m e
-  early_is m e less = ap (λ l. lead + cond (nat_lt (x m).level l) (x e).wait 0) (level_is e less)
+  -- a queue by priority mixes no levels
+  early_most : (m e : ℕ) → e < length messages → early_by terms (wait_of messages) m e ≤ head_start lead (exact m) (exact e)
+  early_most m e less =
+      let node : terms.node e ≡ (x e).node = node_is e less in
+      let same : early_by terms (wait_of messages) m e ≡ lead + cond ((messages_in plan messages).mixed m (x e).node) (x e).wait 0 =
+      ap (λ i. lead + cond ((messages_in plan messages).mixed m i) (x e).wait 0) node in
+      let by = by_order (setup_at plan (x e).node).order refl in
+      omega arith
+    where
+      by_order : (o : QueueOrder) → (setup_at plan (x e).node).order ≡ o → lead + cond ((messages_in plan messages).mixed m (x e).node) (x e).wait 0 ≤ lead + cond (nat_lt (x m).level (x e).level) (x e).wait 0
+      by_order Fifo fifo =
+          (let level : (x e).level ≡ top_of messages (x e).node = level_is e less ∙ ap (λ o. level_by o (top_of messages (x e).node) (x e).field) fifo in
+          let own : lead + cond ((messages_in plan messages).mixed m (x e).node) (x e).wait 0 ≡ lead + cond (nat_lt (x m).level (top_of messages (x e).node)) (x e).wait 0 =
+          ap (λ o. lead + cond (is_fifo o && nat_lt (x m).level (top_of messages (x e).node)) (x e).wait 0) fifo in
+          let other : lead + cond (nat_lt (x m).level (x e).level) (x e).wait 0 ≡ lead + cond (nat_lt (x m).level (top_of messages (x e).node)) (x e).wait 0 =
+          ap (λ l. lead + cond (nat_lt (x m).level l) (x e).wait 0) level in
+          omega arith)
+      by_order Priority prio =
+          (let own : lead + cond ((messages_in plan messages).mixed m (x e).node) (x e).wait 0 ≡ lead + 0 =
+          ap (λ o. lead + cond (is_fifo o && nat_lt (x m).level (top_of messages (x e).node)) (x e).wait 0) prio in
+          omega arith)
 
-  share_is : (m e : ℕ) → e < length messages → window_share lead (exact m) (row_at rows e)
-      ≡ one_if (nat_le (x e).field (x m).level) * periods_in (early_by terms (wait_of messages) m e + (x m).window) (max 1 (period_of b (x e))) * cost_of (times_of b) (x e)
-  share_is m e less =
-      ap (window_share lead (exact m)) (row_is e less)
-      ∙ ap (λ l. cond (nat_le (x e).field (x m).level) (periods_in (l + (x m).window) (max 1 (period_of b (x e))) * cost_of (times_of b) (x e)) 0) (early_is m e less)
-      ∙ share_by (nat_le (x e).field (x m).level) (periods_in (early_by terms (wait_of messages) m e + (x m).window) (max 1 (period_of b (x e)))) (cost_of (times_of b) (x e))
+  share_most : (m e : ℕ) → e < length messages
+      → one_if (nat_le (x e).field (x m).level) * periods_in (early_by terms (wait_of messages) m e + (x m).window) (max 1 (period_of b (x e))) * cost_of (times_of b) (x e)
+      ≤ window_share lead (exact m) (row_at rows e)
+  share_most m e less =
+      let early = early_most m e less in
+      let few = more_periods (early_by terms (wait_of messages) m e + (x m).window) (head_start lead (exact m) (exact e) + (x m).window) (max 1 (period_of b (x e))) (omega arith) (omega arith) in
+      let one = mul-le-mul_left (one_if (nat_le (x e).field (x m).level)) few in
+      let all = mul-le-mul_right (cost_of (times_of b) (x e)) one in
+      let row = ap (window_share lead (exact m)) (row_is e less) in
+      let share = share_by (nat_le (x e).field (x m).level) (periods_in (head_start lead (exact m) (exact e) + (x m).window) (max 1 (period_of b (x e)))) (cost_of (times_of b) (x e)) in
+      omega arith
 
-  demand_is : (m : ℕ) → window_demand lead wake rows (exact m)
-      ≡ sum_below (λ e. one_if (nat_le (x e).field (x m).level) * periods_in (early_by terms (wait_of messages) m e + (x m).window) (max 1 (period_of b (x e))) * cost_of (times_of b) (x e)) (length messages)
-  demand_is m = ap (sum_below (λ e. window_share lead (exact m) (row_at rows e))) rows_length ∙ sum_same _ _ (length messages) (λ e less. share_is m e less)
+  demand_most : (m : ℕ) → sum_below (λ e. one_if (nat_le (x e).field (x m).level) * periods_in (early_by terms (wait_of messages) m e + (x m).window) (max 1 (period_of b (x e))) * cost_of (times_of b) (x e)) (length messages)
+      ≤ window_demand lead wake rows (exact m)
+  demand_most m =
+      let all = sum_more _ (λ e. window_share lead (exact m) (row_at rows e)) (length messages) (λ e less. share_most m e less) in
+      let long = ap (sum_below (λ e. window_share lead (exact m) (row_at rows e))) rows_length in
+      omega arith
 
   pub enough : AreEnough (table_by terms blocking (wait_of messages)) window (wait_of messages)
   enough = record {
-    window = λ m less. (let h = (both m less).0 in let e = demand_is m in omega arith);
-    wait = λ m less. (let h = (both m less).1 in let e = early_is m m less in omega arith);
+    window = λ m less. (let h = (both m less).0 in let most = demand_most m in omega arith);
+    wait = λ m less. (let h = (both m less).1 in let most = early_most m m less in omega arith);
   }

@@ -1,39 +1,37 @@
 -- How long the messages of a plan wait at most. This project's.
-use Rattle.std.specs.Prelude.{◌≡◌, ℕ, ◌<◌, ◌==◌, nat_le, nat_lt, List, length, unwrap_or, if◌then◌else◌}
+use Rattle.std.specs.Prelude.{◌≡◌, ℕ, ◌<◌, ◌&&◌, nat_le, nat_lt, Bool, true, false, List, length, unwrap_or, if◌then◌else◌}
 use Rattle.wl_phase.specs.Clocks.{Steady, steady_timing}
+use Rattle.wl_node.specs.declared.setup.QueueOrder.{QueueOrder}
+use Rattle.wl_node.specs.declared.setup.QueueOrder.TheVariants.{Fifo, Priority}
 use Rattle.wl_plan.specs.declared.plan.Plan.{Plan}
 use Rattle.wl_plan.specs.PlanLine.{setup_at}
 use Rattle.wl_bound.specs.Families.{Buses}
 use Rattle.wl_bound.specs.Rooms.{plain_bus}
-use Rattle.wl_bound.specs.Terms.{greatest}
 use Rattle.wl_respond.specs.declared.message.MessageWait.{MessageWait}
-use Rattle.wl_respond.specs.Plans.{entry_at, message_of}
+use Rattle.wl_respond.specs.Levels.{top_of}
+use Rattle.wl_respond.specs.Plans.{message_of}
 use Rattle.wl_respond.specs.Tests.{message_at}
-use Rattle.wl_buses.specs.BothProofs.Queues.{IsFifo}
 use Rattle.wl_buses.specs.FamilyPlans.FamilyStations.{stations_of}
 use Rattle.wl_buses.specs.CleanPlans.Clean.{AllGetThrough}
 use Rattle.wl_buses.specs.BoundedWaits.Bounds.{PassInTime, WaitInQuanta}
 use Rattle.wl_buses.specs.BoundedWaits.Messages.{Messages}
 
--- the greatest field of the messages of node i
-abbrev pub top_of : List MessageWait → ℕ → ℕ
-top_of messages i = greatest (length messages) (λ e. (message_at messages e).node == i) (λ e. (message_at messages e).field)
+-- a queue is first in, first out
+abbrev pub is_fifo : QueueOrder → Bool
+is_fifo Fifo = true
+is_fifo Priority = false
 
--- A table of messages as the laws on waits have it: entry n of the queue of node i is of the first message with its field.
+-- A table of messages as the laws on waits have it: a frame of node i is of the first message with its field.
 abbrev pub messages_in : Plan → List MessageWait → Messages
 messages_in plan messages = record {
   count = length messages;
-  of = λ i n. unwrap_or (message_of messages i (entry_at (setup_at plan i).queue n).frame) 0;
+  of = λ i frame. unwrap_or (message_of messages i frame) 0;
   node = λ e. if nat_lt e (length messages) then (message_at messages e).node else length plan.nodes;
   bits = λ e. (message_at messages e).bits;
   every = λ e. (message_at messages e).every;
   joins = λ m e. nat_le (message_at messages e).field (message_at messages m).level;
-  mixed = λ m i. nat_lt (message_at messages m).level (top_of messages i);
+  mixed = λ m i. is_fifo (setup_at plan i).order && nat_lt (message_at messages m).level (top_of messages i);
 }
-
--- the queues of a plan are first in, first out
-abbrev pub HasFifoQueues : Plan → Type 0
-HasFifoQueues plan = (i : ℕ) → i < length plan.nodes → IsFifo (setup_at plan i)
 
 abbrev pub wait_of : List MessageWait → ℕ → ℕ
 wait_of messages e = (message_at messages e).wait

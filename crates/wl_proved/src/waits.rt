@@ -8,22 +8,26 @@ ghost use Rattle.wl_bound.specs.Families.{Buses};
 ghost use Rattle.wl_bound.specs.Rooms.{leaves_room, plain_bus};
 ghost use Rattle.wl_bound.specs.declared.condition.Senders.TheVariants.{Any};
 ghost use Rattle.wl_respond.specs.declared.message.MessageWait.{MessageWait};
+ghost use Rattle.wl_respond.specs.Levels.{has_levels};
 ghost use Rattle.wl_respond.specs.Plans.{KeepsTable};
 ghost use Rattle.wl_respond.specs.Tests.{pass};
 ghost use Rattle.wl_proved.specs.PlansOfFamily.{IsPlanOfFamily};
-ghost use Rattle.wl_proved.specs.Waits.{HasBoundedWaits, HasFifoQueues};
+ghost use Rattle.wl_proved.specs.Waits.{HasBoundedWaits};
 
-/// Law: let a table of messages pass its test. Take a plan of the family whose queues have frames of these messages, first in, first out. Then
-/// no frame waits longer than its message says, whatever the offsets are, however many instances come, and wherever within its tolerance
-/// each clock lies. The condition for margins has to hold for any senders. The bus has to have room for them, and that nobody decides twice.
+/// Law: let a table of messages pass its test. Take a plan of the family whose queues have frames of these messages. Let each message have
+/// the level that its queue gives it, first in, first out or by priority. Then no frame waits longer than its message says, whatever the
+/// offsets are, however many instances come, and wherever within its tolerance each clock lies. The condition for margins has to hold for
+/// any senders. The bus has to have room for them, and that nobody decides twice.
 pub fn respond_law()
     ensures { (f : Buses) (plan : Plan) (messages : List MessageWait) → IsPlanOfFamily f plan
         → first_failure_of f plain Any ≡ None → leaves_room f ≡ true → leaves_room_to_decide f ≡ true
-        → pass (plain_bus f) messages ≡ true → KeepsTable plan messages → HasFifoQueues plan
+        → pass (plain_bus f) messages ≡ true → KeepsTable plan messages
+        → has_levels plan messages ≡ true
         → HasBoundedWaits f plan messages }
 {
     wl_buses::one_sender::laws::a_covered_plan_is_one_of_these();
     wl_buses::bounded_waits::tests::a_winner_has_the_lesser_field();
+    wl_buses::bounded_waits::tests::a_field_is_its_number();
     wl_buses::bounded_waits::tests::a_tested_bus_has_room_to_decide();
     wl_buses::bounded_waits::laws::waits_are_bounded();
 }

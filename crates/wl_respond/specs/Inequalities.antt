@@ -1,5 +1,5 @@
 -- The inequalities that bound how long messages wait, as a test of rows (`AreEnough` of wl_counts over the terms of wl_buses::bounded_waits).
-use Rattle.std.specs.Prelude.{ℕ, ◌+◌, ◌*◌, ◌==◌, ◌&&◌, nat_le, nat_lt, not, max, Bool, List, length, if◌then◌else◌}
+use Rattle.std.specs.Prelude.{ℕ, ◌+◌, ◌*◌, ◌&&◌, nat_le, nat_lt, not, max, Bool, List, length, if◌then◌else◌}
 use Rattle.wl_topology.specs.Driven.{any_below}
 use Rattle.wl_counts.specs.Counts.{periods_in, sum_below}
 use Rattle.wl_bound.specs.Terms.{greatest}
@@ -7,6 +7,7 @@ use Rattle.wl_respond.specs.Rows.{MessageTerms, row_at}
 
 module _ (lead : ℕ) where
   -- How long before the instant of a window of m a frame of e may have become ready: one that waits after a lesser frame of its own queue has its wait beside that (Davis, Kollmann, Pollex, Slomka 2011).
+  -- By priority none waits so: the level of e is its own field then.
   abbrev pub head_start : (m e : MessageTerms) → ℕ
   head_start m e = lead + (if nat_lt m.level e.level then e.wait else 0)
 
@@ -22,10 +23,6 @@ module _ (lead wake : ℕ) (rows : List MessageTerms) where
   abbrev pub blocked_for : MessageTerms → ℕ
   blocked_for m = max wake (greatest (length rows) (λ e. not (nat_le (row_at rows e).field m.level)) (λ e. (row_at rows e).cost))
 
-  -- the greatest field of a node's messages
-  abbrev pub top_field : ℕ → ℕ
-  top_field i = greatest (length rows) (λ e. (row_at rows e).node == i) (λ e. (row_at rows e).field)
-
   -- the two inequalities of a message (Davis, Burns, Bril, Lukkien 2007, section 3.1, the busy period as a test)
   abbrev pub is_window_enough : MessageTerms → Bool
   is_window_enough m = nat_le (blocked_for m + window_demand m) m.window
@@ -34,7 +31,7 @@ module _ (lead wake : ℕ) (rows : List MessageTerms) where
   is_wait_enough m = nat_le (head_start lead m m + m.window + m.tail) (m.wait + m.cost)
 
   abbrev pub is_enough : MessageTerms → Bool
-  is_enough m = (m.level == top_field m.node) && (is_window_enough m && is_wait_enough m)
+  is_enough m = is_window_enough m && is_wait_enough m
 
   abbrev pub lacks_enough : ℕ → Bool
   lacks_enough m = not (is_enough (row_at rows m))

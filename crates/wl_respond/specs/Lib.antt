@@ -2,3 +2,4 @@ pub mod Rows
 pub mod Inequalities
 pub mod Tests
 pub mod Plans
+pub mod Levels

@@ -1,7 +1,7 @@
 -- A message in numbers: what the inequalities are about. Times are in millionths of a tick.
 use Rattle.std.specs.Prelude.{ℕ, ◌<◌, ◌^◌, List, slice_index_or}
 
--- The node of a message, its arbitration field, and the greatest field of its node's messages: the level. Its time from a frame's beginning to that of the next winner, and to its own end; the shortest
+-- The node of a message, its arbitration field, and the greatest field that may go before it: the level. Its time from a frame's beginning to that of the next winner, and to its own end; the shortest
 -- time between two of its frames. A window of its frames, and its greatest wait. Davis, Burns, Bril, Lukkien 2007, section 2.
 pub record MessageTerms : Type 0 where
   pub node : ℕ

@@ -1,6 +1,6 @@
 //! The inequalities that bound how long messages wait.
 ghost use Rattle.std.specs.Prelude.{◌≡◌, ◌^◌, ◌-◌, ◌<◌, ◌≤◌, min, length};
-ghost use Rattle.wl_respond.specs.Inequalities.{are_enough, blocked_for, head_start, is_enough, is_wait_enough, is_window_enough, top_field, window_demand, window_share};
+ghost use Rattle.wl_respond.specs.Inequalities.{are_enough, blocked_for, head_start, is_enough, is_wait_enough, is_window_enough, window_demand, window_share};
 ghost use Rattle.wl_respond.specs.Rows.{cost_limit, wait_limit};
 
 use crate::row::Row;
@@ -63,19 +63,6 @@ pub(crate) fn blocked_for(common: Common, rows: &[Row], m: &Row) -> u128
     common.wake.max(longest)
 }
 
-/// Returns the greatest field of the messages of node `i`.
-pub(crate) fn top_field(common: Common, rows: &[Row], i: u8) -> u64
-    ensures { result ≡ top_field common.lead common.wake rows.now i }
-{
-    let mut greatest = 0;
-    for e in 0..rows.len() {
-        if rows[e].node() == i {
-            greatest = rows[e].field().max(greatest);
-        }
-    }
-    greatest
-}
-
 /// True if the frames of a window of `m` fit into it.
 fn is_window_enough(common: Common, rows: &[Row], m: &Row) -> bool
     ensures { result ≡ is_window_enough common.lead common.wake rows.now m.now }
@@ -95,9 +82,7 @@ fn is_wait_enough(common: Common, rows: &[Row], m: &Row) -> bool
 fn is_enough(common: Common, rows: &[Row], m: &Row) -> bool
     ensures { result ≡ is_enough common.lead common.wake rows.now m.now }
 {
-    m.level() == top_field(common, rows, m.node())
-        && is_window_enough(common, rows, m)
-        && is_wait_enough(common, rows, m)
+    is_window_enough(common, rows, m) && is_wait_enough(common, rows, m)
 }
 
 /// True if the numbers of all messages pass.

@@ -5,12 +5,14 @@
 #![tactic(auto)]
 
 mod inequality;
+mod level;
 mod message;
 mod plan;
 mod row;
 mod search;
 mod table;
 
+pub use level::has_levels;
 pub use message::{MessageWait, pass};
 pub use plan::keeps_table;
 pub use search::{Found, bounds_of};

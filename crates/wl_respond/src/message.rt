@@ -22,7 +22,7 @@ pub struct MessageWait {
     pub frame: Frame,
     /// Its arbitration field as a number (`field_of` of wl_bound).
     pub field: u64,
-    /// The greatest field of a message of its node.
+    /// The greatest field that may go before it: that of any message of its node if the queue is first in, first out, and else its own.
     pub level: u64,
     /// The most bits of a frame up to the end of its CRC sequence, stuff bits among them.
     pub bits: u8,

@@ -65,7 +65,7 @@ pub(crate) struct Parts {
     /// The node, and the field of the message.
     pub(crate) node: u8,
     pub(crate) field: u64,
-    /// The greatest field of a message of that node.
+    /// The greatest field that may go before it.
     pub(crate) level: u64,
     /// The time from a frame's beginning to that of the next winner, and to its own end.
     pub(crate) cost: u128,
@@ -131,7 +131,7 @@ impl Row {
         self.field
     }
 
-    /// Returns the greatest field of a message of its node.
+    /// Returns the greatest field that may go before it.
     pub(crate) fn level(&self) -> u64
         ensures { result ≡ self.now.level }
     {

@@ -1,6 +1,7 @@
 //! The table of messages of a plan, without bounds.
 ghost use Rattle.std.specs.Prelude.{◌<◌, length, IfSome};
 
+use crate::level::level_for;
 use crate::message::MessageWait;
 use std::alloc::{AllocError, Global};
 use wl_bound::field_of;
@@ -78,17 +79,6 @@ fn see(seen: &mut Vec<Seen>, i: u8, entry: &Queued) -> Result<(), AllocError> {
     }
 }
 
-/// Returns the greatest field of a message of node `i`.
-fn level_of(seen: &[Seen], i: u8) -> u64 {
-    let mut level = 0;
-    for one in seen {
-        if one.message.node == i {
-            level = one.message.field.max(level);
-        }
-    }
-    level
-}
-
 /// Returns the messages of a plan: the frames of one node with one field each, in the order of the first of them. The period of a message is the
 /// least number of quanta between two of its frames that follow one another, or `ONCE`. They have no bounds yet. Refused only when out of memory.
 pub fn table_of(alloc: Global, plan: &CheckedPlan) -> Result<Vec<MessageWait>, AllocError> {
@@ -100,11 +90,14 @@ pub fn table_of(alloc: Global, plan: &CheckedPlan) -> Result<Vec<MessageWait>, A
     }
     let mut messages = Vec::new(alloc);
     for one in seen.as_slice() {
-        let level = level_of(seen.as_slice(), one.message.node);
-        messages.push(MessageWait {
+        messages.push(one.message)?;
+    }
+    for e in 0..messages.len() {
+        let level = level_for(plan, messages.as_slice(), e);
+        messages[e] = MessageWait {
             level,
-            ..one.message
-        })?;
+            ..messages[e]
+        };
     }
     Ok(messages)
 }

@@ -95,11 +95,11 @@ left_received Fifo queue passed p e = ap (λ n. drop n queue) (count_more passed
 left_received Priority queue passed p e =
     fold-append queue_after queue passed (p ∷ []) ∙ ap (λ b. cond b (queue_without p.frame (fold queue_after queue passed)) (fold queue_after queue passed)) e
 
-left_tail : (queue : List Queued) (passed : List Passed) (p : Passed) → p.sent ≡ true → unsent_by Fifo queue (passed ++ p ∷ []) ≡ drop 1 (unsent_by Fifo queue passed)
+pub left_tail : (queue : List Queued) (passed : List Passed) (p : Passed) → p.sent ≡ true → unsent_by Fifo queue (passed ++ p ∷ []) ≡ drop 1 (unsent_by Fifo queue passed)
 left_tail queue passed p e =
     ap (λ n. drop n queue) (count_more passed p ∙ ap (λ b. count_by is_sent passed + (cond b 1 0 + 0)) e ∙ omega arith) ∙ drop_one_more (count_by is_sent passed) queue
 
-left_without : (queue : List Queued) (passed : List Passed) (p : Passed) → p.sent ≡ true → unsent_by Priority queue (passed ++ p ∷ []) ≡ queue_without p.frame (unsent_by Priority queue passed)
+pub left_without : (queue : List Queued) (passed : List Passed) (p : Passed) → p.sent ≡ true → unsent_by Priority queue (passed ++ p ∷ []) ≡ queue_without p.frame (unsent_by Priority queue passed)
 left_without queue passed p e =
     fold-append queue_after queue passed (p ∷ []) ∙ ap (λ b. cond b (queue_without p.frame (fold queue_after queue passed)) (fold queue_after queue passed)) e
 

@@ -11,7 +11,7 @@ use Rattle.wl_buses.specs.OneFrame.Stations.{AreOnALine, Stations}
 use Rattle.wl_buses.specs.CleanPlans.Clean.{AllGetThrough}
 use Rattle.wl_buses.specs.CleanPlans.PlanFrames.{FramesOfPlan}
 use Rattle.wl_buses.specs.FrameTimes.Times.{Times}
-use Rattle.wl_buses.specs.BoundedWaits.Bounds.{PassInTime, WaitInQuanta, WaitNoLonger, ready_quantum, sent_quantum, turn_of}
+use Rattle.wl_buses.specs.BoundedWaits.Bounds.{PassInTime, WaitInQuanta, WaitNoLonger, ready_quantum, sent_quantum}
 use Rattle.wl_buses.specs.BoundedWaits.Messages.{BusDelaysNoLonger, DelayNoLonger, Delays, Messages}
 
 -- a number of quanta, by the slowest clock
@@ -86,7 +86,7 @@ module _ (bus_of : Bus) (plan : Plan) (s : Stations) (bus : FramesOfPlan plan s)
       let i = bus.by.winner n in
       let inside = wins n less in
       in_quanta t.unit (s.clocks (bus.by.winner n)).num (s.clocks (bus.by.winner n)).den (bus_of.shortest (bus.by.winner n)) (sent_quantum plan s bus n) (ready_quantum plan s bus n)
-      (r (ms.of (bus.by.winner n) (turn_of plan s bus n))) (line.steady (bus.by.winner n) inside).divides
+      (r (ms.of (bus.by.winner n) (bus.by.content n))) (line.steady (bus.by.winner n) inside).divides
       (subst (λ u. bus_of.shortest (bus.by.winner n) * (s.clocks (bus.by.winner n)).den ≤ u * (s.clocks (bus.by.winner n)).num) (sym unit) (of.fastest (bus.by.winner n) inside)) (waits n less)
 
 pub pass_in_time : (plan : Plan) (s : Stations) (all : AllGetThrough plan s) (ms : Messages) (shortest r : ℕ → ℕ) → ((n : ℕ) → n < all.bus.count → all.bus.by.winner n < s.count)

@@ -19,7 +19,7 @@ but_one = refl
 abbrev ms : Messages
 ms = record {
   count = 3;
-  of = λ i n. n;
+  of = λ i c. c.id;
   node = λ e. one_if (e == 1);
   bits = λ e. 100;
   every = λ e. 900;

@@ -5,18 +5,18 @@ use Rattle.wl_counts.specs.Waits.{AreEnough, Frames, HaveWindows, Table}
 use Rattle.wl_node.specs.declared.setup.NodeSetup.{NodeSetup}
 use Rattle.wl_buses.specs.FrameTimes.Times.{Times}
 use Rattle.wl_buses.specs.OneFrame.Stations.{AreStations, HaveRoom, Stations}
-use Rattle.wl_buses.specs.FirstFrame.FirstStarts.{AreIdle}
+use Rattle.wl_buses.specs.FirstFrame.FirstStarts.{AreIdle, HandTheFirst}
 use Rattle.wl_buses.specs.NextFrames.Frames.{HasRoomForAll}
 use Rattle.wl_buses.specs.CleanLines.Lines.{FramesOfLine, HaveSegments, waiting_with}
 use Rattle.wl_buses.specs.TakesPart.Decisions.{AllMayDecide}
-use Rattle.wl_buses.specs.BoundedWaits.LineBounds.{LineWaitsNoLonger, line_ready, line_sent, line_turn}
+use Rattle.wl_buses.specs.BoundedWaits.LineBounds.{LineWaitsNoLonger, line_ready, line_sent}
 use Rattle.wl_buses.specs.BoundedWaits.Lasting.{LastNoLonger, PassNoLonger}
 use Rattle.wl_buses.specs.BoundedWaits.Messages.{AreReadyLate, DelayNoLonger, Delays, HaveMessages, Messages, terms_of}
 use Rattle.wl_buses.proofs.BoundedWaits.Parts.{parts_of, product_but}
 use Rattle.wl_buses.specs.BoundedWaits.QueuedFrames.{BlockNoLonger, frames_in, table_by}
 use Rattle.wl_buses.proofs.BoundedWaits.Measure.{some_parts, whole}
-use Rattle.wl_buses.proofs.BoundedWaits.Offered.{FirstParts, Parts, Readies}
-use Rattle.wl_buses.proofs.BoundedWaits.OnBus.{ForwardLaws, Once, Ordered, Rests, but_some, frames_on, lead_some, queued_on, wins}
+use Rattle.wl_buses.proofs.BoundedWaits.Offered.{BeganLaws, FirstParts, Parts, Readies}
+use Rattle.wl_buses.proofs.BoundedWaits.OnBus.{ForwardLaws, Handed, Once, Rests, but_some, frames_on, lead_some, queued_on, wins}
 use Rattle.wl_buses.proofs.BoundedWaits.Scaling.{blocks_in_parts, enough_in_parts, in_parts, scaled}
 use Rattle.wl_buses.proofs.BoundedWaits.Windows.{Curve, have_windows}
 
@@ -32,7 +32,7 @@ own_parts u b offset num den q p x d some e h =
 
 module _ (setups : ℕ → NodeSetup) (s : Stations) (bus : FramesOfLine setups (waiting_with setups s)) (t : Times) (ms : Messages) (d : Delays) (of : HaveSegments setups s) (are : AreStations s) (room : HaveRoom s)
     (idle_at : AreIdle (waiting_with setups s)) (late_enough : AreReadyLate s setups) (have : HaveMessages s setups ms) (delays : DelayNoLonger s t ms d)
-    (ordered : Ordered setups s bus) (rests : Rests) (readies : Readies setups s bus of are have.fifo) (parts : Parts setups s bus of are have.fifo) (first : FirstParts setups s bus of are have.fifo)
+    (hands : HandTheFirst (waiting_with setups s) setups) (handed : Handed setups s bus) (began : BeganLaws) (rests : Rests) (readies : Readies) (parts : Parts) (first : FirstParts)
     (chase : ℕ → ℕ) (for_all : HasRoomForAll s chase) (decide : AllMayDecide s chase) (once : Once) (forward : ForwardLaws) (lasts : LastNoLonger s t) (passing : PassNoLonger s t)
     (curve : Curve) (no_longer : NoLonger) (blocking w r : ℕ → ℕ) (blocks : BlockNoLonger (terms_of t ms d) blocking) (enough : AreEnough (table_by (terms_of t ms d) blocking r) w r) where
   abbrev D : ℕ
@@ -41,10 +41,10 @@ module _ (setups : ℕ → NodeSetup) (s : Stations) (bus : FramesOfLine setups 
   pub wait_no_longer : LineWaitsNoLonger setups s bus t ms r
   wait_no_longer n less =
       let i = bus.by.winner n in
-      let inside = wins setups s bus t ms d of are room idle_at late_enough have delays ordered rests readies parts first chase for_all decide once forward lasts passing n less in
+      let inside = wins setups s bus t ms d of are room idle_at late_enough have delays hands handed began rests readies parts first chase for_all decide once forward lasts passing n less in
       let some = some_parts s are t in
-      let is = queued_on setups s bus t ms d of are room idle_at late_enough have delays ordered rests readies parts first chase for_all decide once forward lasts passing in
-      let lead = lead_some setups s bus t ms d of are room idle_at late_enough have delays ordered rests readies parts first chase for_all decide once forward lasts passing (omega arith) in
+      let is = queued_on setups s bus t ms d of are room idle_at late_enough have delays hands handed began rests readies parts first chase for_all decide once forward lasts passing in
+      let lead = lead_some setups s bus t ms d of are room idle_at late_enough have delays hands handed began rests readies parts first chase for_all decide once forward lasts passing (omega arith) in
       let windows =
       have_windows curve (frames_on setups s bus t ms) (scaled D (terms_of t ms d)) (in_parts (terms_of t ms d) blocking w r D some delays.positive blocking)
       (in_parts (terms_of t ms d) blocking w r D some delays.positive r) is lead (blocks_in_parts (terms_of t ms d) blocking w r D some delays.positive blocks) in
@@ -54,6 +54,6 @@ module _ (setups : ℕ → NodeSetup) (s : Stations) (bus : FramesOfLine setups 
       (frames_in (frames_on setups s bus t ms)) (in_parts (terms_of t ms d) blocking w r D some delays.positive w) (in_parts (terms_of t ms d) blocking w r D some delays.positive r) bus.count
       (enough_in_parts (terms_of t ms d) blocking w r D some delays.positive enough) windows n less in
       own_parts t.unit (product_but (λ k. (s.clocks k).den) (bus.by.winner n) s.count) ((s.clocks (bus.by.winner n)).den * (s.clocks (bus.by.winner n)).offset) (s.clocks (bus.by.winner n)).num
-      (s.clocks (bus.by.winner n)).den (line_sent setups s bus n) (line_ready setups s bus n) (r (ms.of (bus.by.winner n) (line_turn setups s bus n))) D
-      (but_some setups s bus t ms d of are room idle_at late_enough have delays ordered rests readies parts first chase for_all decide once forward lasts passing (bus.by.winner n) inside)
+      (s.clocks (bus.by.winner n)).den (line_sent setups s bus n) (line_ready setups s bus n) (r (ms.of (bus.by.winner n) (bus.by.content n))) D
+      (but_some setups s bus t ms d of are room idle_at late_enough have delays hands handed began rests readies parts first chase for_all decide once forward lasts passing (bus.by.winner n) inside)
       (whole s are t (bus.by.winner n) inside) h

@@ -43,22 +43,23 @@ takes s None c idle e =
     cc)
 takes s (Some d) c idle e = ap (λ x. head_of x.sort) (sym (takes_head s d idle) ∙ e)
 
+-- who begins the first frame begins it with the frame on which it decided
+pub first_begun : MayTogether → (w : Waiting) (o : Outset) → o ≡ first_outset w → (k : ℕ) (c : Content) → begins_first w k ≡ true → stretch_of (o.past k) ≡ stretch_by (Framing (Some c)) []
+    → slice_get (w.frames k) (w.which k) ≡ Some c
+first_begun together w o first k c begins framing =
+    takes (stretch_of (replicate (max 11 (last_before w k)) no_frame_sample)) (slice_get (w.frames k) (w.which k)) c (idle_by together (max 11 (last_before w k)) (omega arith))
+    (sym (stretch_next (replicate (max 11 (last_before w k)) no_frame_sample) (Sample (sampled Recessive (w.frames k) (handed_first (w.which k))))) ∙ sym (ap stretch_of past) ∙ framing)
+  where
+    past : o.past k ≡ silent_past true (w.frames k) (w.which k) (last_before w k)
+    past = ap (λ o. o.past k) first ∙ ap (λ c. silent_past c (w.frames k) (w.which k) (last_before w k)) begins
+
 -- of the first frame
-module _ (together : MayTogether) (began : BegunLaw) (w : Waiting) (f : Frame) (are : AreStations w.stations) (room : HaveRoom w.stations) (is : IsBegun w.stations f) (first : f.outset ≡ first_outset w) where
-  abbrev k : ℕ
-  k = is.won.station
-
-  begins : begins_first w k ≡ true
-  begins = sym (ap (λ o. o.start.drives k) first) ∙ has_begun w.stations (expected_bits w.stations f.outset) f.bits k is.won.sends
-
-  past : f.outset.past k ≡ silent_past true (w.frames k) (w.which k) (last_before w k)
-  past = ap (λ o. o.past k) first ∙ ap (λ c. silent_past c (w.frames k) (w.which k) (last_before w k)) begins
-
-  pub first_handed : slice_get (w.frames is.won.station) (w.which is.won.station) ≡ Some is.won.frame
-  first_handed =
-      takes (stretch_of (replicate (max 11 (last_before w k)) no_frame_sample)) (slice_get (w.frames k) (w.which k)) is.won.frame (idle_by together (max 11 (last_before w k)) (omega arith))
-      (sym (stretch_next (replicate (max 11 (last_before w k)) no_frame_sample) (Sample (sampled Recessive (w.frames k) (handed_first (w.which k))))) ∙ sym (ap stretch_of past)
-      ∙ began w.stations f.outset f.bits are room is.outset is.ends is.won)
+pub first_handed : MayTogether → BegunLaw → (w : Waiting) (f : Frame) → AreStations w.stations → HaveRoom w.stations → (is : IsBegun w.stations f) → f.outset ≡ first_outset w
+    → slice_get (w.frames is.won.station) (w.which is.won.station) ≡ Some is.won.frame
+first_handed together began w f are room is first =
+    first_begun together w f.outset first is.won.station is.won.frame
+    (sym (ap (λ o. o.start.drives is.won.station) first) ∙ has_begun w.stations (expected_bits w.stations f.outset) f.bits is.won.station is.won.sends)
+    (began w.stations f.outset f.bits are room is.outset is.ends is.won)
 
 -- of a later one
 module _ (wait : MayWait) (rest_after : RestAfter) (free : FreeLaw) (began : BegunLaw) (s : Stations) (are : AreStations s) (room : HaveRoom s) where

@@ -13,6 +13,8 @@ use Rattle.wl_wire.specs.Wire.{Wire}
 use Rattle.wl_buses.specs.OneFrame.Expected.{IsOutset, Outset, expected_bits, past_at}
 use Rattle.wl_buses.specs.OneFrame.Machines.{HasWon}
 use Rattle.wl_buses.specs.OneFrame.Stations.{AreStations, HaveRoom, Stations}
+use Rattle.wl_buses.specs.FirstFrame.FirstStarts.{Waiting, first_outset}
+use Rattle.wl_buses.proofs.FirstFrame.Beginning.{MayTogether}
 use Rattle.wl_buses.specs.FrameEnd.Asked.{EndsBefore, stuffed_levels}
 use Rattle.wl_buses.proofs.FrameEnd.Asked.{agrees, count_there, one_winner, wire}
 use Rattle.wl_buses.proofs.FrameEnd.Below.{MachineLaws}
@@ -24,6 +26,7 @@ use Rattle.wl_buses.proofs.NextFrames.Outset.{MayWait}
 use Rattle.wl_buses.proofs.NextFrames.Windows.{RestAfter}
 use Rattle.wl_buses.proofs.NextFrames.Winning.{CourseLaw, SameBits}
 use Rattle.wl_buses.proofs.SentFrames.Winning.{AskedLaw, DriveLaw, begun, first, head_at_end, own_begun, stage}
+use Rattle.wl_buses.proofs.SentFrames.Nexting.{first_begun}
 use Rattle.wl_buses.specs.TakesPart.Takes.{BeganWith}
 
 module _ (m : MachineLaws) (course : CourseLaw) (same_bits : SameBits) (drive : DriveLaw) (asked : AskedLaw) (s : Stations) (o : Outset) (end : ℕ) (are : AreStations s) (room : HaveRoom s)
@@ -84,3 +87,14 @@ module _ (wait : MayWait) (rest_after : RestAfter) (free : FreeLaw) (law : Loses
         is = x.1 ∙ ap (λ z. head_of z.sort) (sym x.2 ∙ sym (ap (λ o. stretch_of (o.past k)) after.is) ∙ y.1);
         beaten = y.2;
       }
+
+-- the loser of the first frame
+pub first_loses : MayTogether → LosesLaw → (w : Waiting) (f : Frame) → AreStations w.stations → HaveRoom w.stations → (is : IsBegun w.stations f) → f.outset ≡ first_outset w → (k : ℕ) → k < w.stations.count
+    → k ≢ is.won.station → f.outset.start.drives k ≡ true → BeganWith w.frames w.which k is.won.frame
+first_loses together law w f are room is first k inside apart drives =
+    let y = law w.stations f.outset f.bits are room is.outset is.ends is.won k inside apart drives in
+    record {
+      frame = y.0;
+      is = first_begun together w f.outset first k y.0 (sym (ap (λ o. o.start.drives k) first) ∙ drives) y.1;
+      beaten = y.2;
+    }

@@ -3,19 +3,15 @@ use Rattle.std.specs.Prelude.{ℕ, ◌+◌, ◌*◌, ◌<◌, ◌≤◌, length}
 use Rattle.wl_node.specs.declared.setup.NodeSetup.{NodeSetup}
 use Rattle.wl_plan.specs.Line.{Line}
 use Rattle.wl_plan.specs.Simulation.{AreInside}
-use Rattle.wl_buses.specs.BothProofs.Queues.{ready_at}
 use Rattle.wl_buses.specs.OneFrame.Stations.{Stations}
-use Rattle.wl_buses.specs.SentFrames.Winners.{won_by}
 use Rattle.wl_buses.specs.CleanLines.Lines.{FramesOfLine, LineGetsThrough, line_history, waiting_with}
 use Rattle.wl_buses.specs.FrameTimes.Times.{Times, passing_sample}
+use Rattle.wl_buses.specs.BoundedWaits.Leaving.{ready_won}
 use Rattle.wl_buses.specs.BoundedWaits.Messages.{Messages}
 
--- The winner of a frame has won so many before it: the place of the frame in its queue. With the quantum from which on the frame is ready, and that of the sample with which it is sent.
-abbrev pub line_turn : (setups : ℕ → NodeSetup) (s : Stations) → FramesOfLine setups (waiting_with setups s) → ℕ → ℕ
-line_turn setups s bus n = won_by bus.by.winner (bus.by.winner n) n
-
+-- the quantum from which on a frame is ready, and that of the sample with which it is sent
 abbrev pub line_ready : (setups : ℕ → NodeSetup) (s : Stations) → FramesOfLine setups (waiting_with setups s) → ℕ → ℕ
-line_ready setups s bus n = ready_at (setups (bus.by.winner n)).queue (line_turn setups s bus n)
+line_ready setups s bus n = ready_won s setups bus.frames bus.by.winner bus.by.content n
 
 abbrev pub line_sent : (setups : ℕ → NodeSetup) (s : Stations) → FramesOfLine setups (waiting_with setups s) → ℕ → ℕ
 line_sent setups s bus n = passing_sample s (bus.frames n) (bus.by.winner n) (bus.by.winner n)
@@ -25,12 +21,12 @@ abbrev pub LineWaitsNoLonger : (setups : ℕ → NodeSetup) (s : Stations) → F
 LineWaitsNoLonger setups s bus t ms r = (n : ℕ) → n < bus.count
     → t.unit * (line_sent setups s bus n * (s.clocks (bus.by.winner n)).num)
     ≤ t.unit * (line_ready setups s bus n * (s.clocks (bus.by.winner n)).num)
-    + r (ms.of (bus.by.winner n) (line_turn setups s bus n)) * (s.clocks (bus.by.winner n)).den
+    + r (ms.of (bus.by.winner n) (bus.by.content n)) * (s.clocks (bus.by.winner n)).den
 
 -- And if a node has been for longer than that after its frame was ready, up to the end of the line, the frame has passed it.
 abbrev pub LinePassesInTime : (l : Line) (setups : ℕ → NodeSetup) (s : Stations) → LineGetsThrough l setups (waiting_with setups s) → Times → Messages → (r : ℕ → ℕ) → Type 0
 LinePassesInTime l setups s all t ms r = (n k : ℕ) → n < all.bus.count → AreInside l (all.bus.by.winner n) k
     → t.unit * (line_ready setups s all.bus n * (s.clocks (all.bus.by.winner n)).num)
-    + r (ms.of (all.bus.by.winner n) (line_turn setups s all.bus n)) * (s.clocks (all.bus.by.winner n)).den
+    + r (ms.of (all.bus.by.winner n) (all.bus.by.content n)) * (s.clocks (all.bus.by.winner n)).den
     < t.unit * (k * (s.clocks (all.bus.by.winner n)).num)
     → n < length (line_history l setups (all.bus.by.winner n) k).frames

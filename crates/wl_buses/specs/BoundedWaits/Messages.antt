@@ -1,53 +1,57 @@
 -- The messages of the queues of nodes.
-use Rattle.std.specs.Prelude.{◌≡◌, ◌≢◌, ℕ, ◌+◌, ◌-◌, ◌*◌, ◌<◌, ◌≤◌, Bool, true, false, List, length, Some, slice_get}
+use Rattle.std.specs.Prelude.{◌≡◌, ◌≢◌, ℕ, ◌+◌, ◌-◌, ◌*◌, ◌<◌, ◌≤◌, Bool, true, false, List, length}
 use Rattle.wl_level.specs.declared.Level.{Level}
 use Rattle.wl_segments.specs.Lengths.{bit_quanta, sample_at}
 use Rattle.wl_frame.specs.Grammar.{Content, bits_of}
 use Rattle.wl_frame.specs.Stuffing.{Stuffs}
 use Rattle.wl_node.specs.declared.setup.NodeSetup.{NodeSetup}
+use Rattle.wl_node.specs.declared.setup.Queued.{Queued}
+use Rattle.wl_node.specs.Queues.{field_number}
 use Rattle.wl_wire.specs.Winner.{Beats}
 use Rattle.wl_bound.specs.Families.{Bus}
 use Rattle.wl_buses.specs.BothProofs.Queues.{IsFifo, queued_contents, ready_at}
 use Rattle.wl_buses.specs.FrameTimes.Times.{Times, frame_time, tail_time}
 use Rattle.wl_buses.specs.OneFrame.Stations.{Stations}
+use Rattle.wl_buses.specs.BoundedWaits.Leaving.{IsByPriority, IsQueued}
 use Rattle.wl_buses.specs.BoundedWaits.QueuedFrames.{Terms}
 
--- Entry n of the queue of node i is a frame of message `of i n`. A message has a node, no more than so many bits up to the end of the CRC sequence, stuff bits among them, and a period in quanta of its
--- node. `joins m e` says that e has a field within the level of m, and `mixed m i` that not all messages of node i have.
+-- A frame of node i is of message `of i frame`. A message has a node, no more than so many bits up to the end of the CRC sequence, stuff bits among them, and a period in quanta of its node. `joins m e`
+-- says that e has a field within the level of m, and `mixed m i` that the queue of node i is first in, first out, and that not all messages of it are within.
 pub record Messages : Type 0 where
   pub count : ℕ
-  pub of : (i n : ℕ) → ℕ
+  pub of : ℕ → Content → ℕ
   pub node : ℕ → ℕ
   pub bits : ℕ → ℕ
   pub every : ℕ → ℕ
   pub joins : ℕ → ℕ → Bool
   pub mixed : ℕ → ℕ → Bool
 
--- entry n of the queue of node i is this frame
-abbrev pub IsEntry : (setups : ℕ → NodeSetup) → (i n : ℕ) → Content → Type 0
-IsEntry setups i n frame = slice_get (queued_contents (setups i).queue) n ≡ Some frame
-
 abbrev pub entries : (setups : ℕ → NodeSetup) → ℕ → ℕ
 entries setups i = length (queued_contents (setups i).queue)
 
--- the queues are first in, first out
-abbrev pub AreFifo : Stations → (setups : ℕ → NodeSetup) → Type 0
-AreFifo s setups = (i : ℕ) → i < s.count → IsFifo (setups i)
+-- entry n of the queue of node i
+abbrev pub IsEntry : (setups : ℕ → NodeSetup) → (i n : ℕ) → Queued → Type 0
+IsEntry setups i n entry = IsQueued (setups i).queue n entry
 
--- The queues are first in, first out, and have these messages, in the order in which they become ready. Two frames of one message are a period apart at least. All messages of a node are within the level of each of them, and no frame
--- beyond a level beats one within it (Bosch CAN 2.0 part B, section 3.1, arbitration).
+-- The queues have these messages, in the order in which they become ready. Two frames of one message are a period apart at least, and in a queue by priority they have one field. Each message is within
+-- its own level, and its own queue isn't mixed then. In a queue that is first in, first out, and not mixed, all messages are within. No frame beyond a level beats one within it, or has a field that is
+-- no greater (Bosch CAN 2.0 part B, section 3.1, arbitration).
 pub record HaveMessages (s : Stations) (setups : ℕ → NodeSetup) (ms : Messages) : Type 0 where
-  pub fifo : AreFifo s setups
-  pub known : (i n : ℕ) → i < s.count → n < entries setups i → ms.of i n < ms.count
-  pub node : (i n : ℕ) → i < s.count → n < entries setups i → ms.node (ms.of i n) ≡ i
-  pub ordered : (i m n : ℕ) → i < s.count → m ≤ n → n < entries setups i → ready_at (setups i).queue m ≤ ready_at (setups i).queue n
-  pub apart : (i m n : ℕ) → i < s.count → m < n → n < entries setups i → ms.of i m ≡ ms.of i n
-      → ready_at (setups i).queue m + ms.every (ms.of i m) ≤ ready_at (setups i).queue n
-  pub short : (i n : ℕ) (frame : Content) (levels : List Level) → i < s.count → IsEntry setups i n frame → Stuffs levels (bits_of frame) → length levels ≤ ms.bits (ms.of i n)
-  pub own : (i n : ℕ) → i < s.count → n < entries setups i → ms.mixed (ms.of i n) i ≡ false
-  pub within : (m i n : ℕ) → i < s.count → n < entries setups i → ms.mixed m i ≡ false → ms.joins m (ms.of i n) ≡ true
-  pub stronger : (m i n j k : ℕ) (beyond inside : Content) → i < s.count → j < s.count → IsEntry setups i n beyond → IsEntry setups j k inside
-      → ms.joins m (ms.of i n) ≡ false → ms.joins m (ms.of j k) ≡ true → Beats beyond inside → ⊥
+  pub known : (i n : ℕ) (q : Queued) → i < s.count → IsEntry setups i n q → ms.of i q.frame < ms.count
+  pub node : (i n : ℕ) (q : Queued) → i < s.count → IsEntry setups i n q → ms.node (ms.of i q.frame) ≡ i
+  pub ordered : (i m n : ℕ) (p q : Queued) → i < s.count → m < n → IsEntry setups i m p → IsEntry setups i n q → p.ready ≤ q.ready
+  pub apart : (i m n : ℕ) (p q : Queued) → i < s.count → m < n → IsEntry setups i m p → IsEntry setups i n q → ms.of i p.frame ≡ ms.of i q.frame
+      → p.ready + ms.every (ms.of i p.frame) ≤ q.ready
+  pub short : (i n : ℕ) (q : Queued) (levels : List Level) → i < s.count → IsEntry setups i n q → Stuffs levels (bits_of q.frame) → length levels ≤ ms.bits (ms.of i q.frame)
+  pub one_field : (i m n : ℕ) (p q : Queued) → i < s.count → IsByPriority (setups i) → IsEntry setups i m p → IsEntry setups i n q → ms.of i p.frame ≡ ms.of i q.frame
+      → field_number p.frame ≡ field_number q.frame
+  pub own : (i n : ℕ) (q : Queued) → i < s.count → IsEntry setups i n q → ms.joins (ms.of i q.frame) (ms.of i q.frame) ≡ true
+  pub pure : (i n : ℕ) (q : Queued) → i < s.count → IsEntry setups i n q → ms.mixed (ms.of i q.frame) i ≡ false
+  pub within : (m i n : ℕ) (q : Queued) → i < s.count → IsFifo (setups i) → IsEntry setups i n q → ms.mixed m i ≡ false → ms.joins m (ms.of i q.frame) ≡ true
+  pub stronger : (m i n j k : ℕ) (beyond inside : Queued) → i < s.count → j < s.count → IsEntry setups i n beyond → IsEntry setups j k inside
+      → ms.joins m (ms.of i beyond.frame) ≡ false → ms.joins m (ms.of j inside.frame) ≡ true → Beats beyond.frame inside.frame → ⊥
+  pub greater : (m i n k : ℕ) (beyond inside : Queued) → i < s.count → IsByPriority (setups i) → IsEntry setups i n beyond → IsEntry setups i k inside
+      → ms.joins m (ms.of i beyond.frame) ≡ false → ms.joins m (ms.of i inside.frame) ≡ true → field_number inside.frame < field_number beyond.frame
 
 -- no frame is ready before the eleventh sample of its node (ISO 11898-1, bus integration)
 abbrev pub AreReadyLate : Stations → (setups : ℕ → NodeSetup) → Type 0

@@ -8,6 +8,7 @@ ghost use Rattle.wl_bound.specs.Families.{Buses};
 ghost use Rattle.wl_bound.specs.Rooms.{least_chase, leaves_room, plain_bus};
 ghost use Rattle.wl_bound.specs.Verdicts.{verdict_of};
 ghost use Rattle.wl_bound.specs.declared.verdict.Verdict.TheVariants.{ForAny};
+ghost use Rattle.wl_node.specs.declared.setup.Queued.{Queued};
 ghost use Rattle.wl_plan.specs.declared.plan.Plan.{Plan};
 ghost use Rattle.wl_plan.specs.PlanLine.{setup_at};
 ghost use Rattle.wl_buses.specs.BothProofs.Plans.{IsOfFamily, IsSteadyPlan};
@@ -23,7 +24,7 @@ ghost use Rattle.wl_buses.specs.FrameTimes.Times.{TakeNoLonger, Times};
 ghost use Rattle.wl_buses.specs.TakesPart.Decisions.{AllMayDecide, LeavesRoomToDecide};
 ghost use Rattle.wl_buses.specs.BoundedWaits.Bounds.{IsOnBus, PassInTime, WaitInQuanta, WaitNoLonger};
 ghost use Rattle.wl_buses.specs.BoundedWaits.Lasting.{LastNoLonger, PassNoLonger};
-ghost use Rattle.wl_buses.specs.BoundedWaits.Messages.{AreFifo, AreReadyLate, BusDelaysNoLonger, DelayNoLonger, Delays, HaveMessages, Messages, entries, terms_of};
+ghost use Rattle.wl_buses.specs.BoundedWaits.Messages.{AreReadyLate, BusDelaysNoLonger, DelayNoLonger, Delays, HaveMessages, IsEntry, Messages, terms_of};
 ghost use Rattle.wl_buses.specs.BoundedWaits.QueuedFrames.{AreQueuedFrames, BlockNoLonger, QueuedFrames, Terms, frames_in, table_by};
 
 /// Law: each frame of a bus has its window. It goes back to the first frame after which all win without a gap, and within the level of the
@@ -36,13 +37,13 @@ pub fn a_busy_period_goes_back_to()
     wl_counts::laws::periods_give_a_curve();
 }
 
-/// Law: let all queues of a plan be first in, first out, and its frames go on until all are empty. Then each entry of a queue is one of the
-/// frames on the bus. So they do, whenever the plan ends.
+/// Law: let the frames of a plan go on until all queues are empty. Then each entry of each queue is one of the frames on the bus, whatever the
+/// order of the queue is. So they do, whenever the plan ends.
 pub fn each_entry_comes_on_the_bus()
     ensures { (plan : Plan) (s : Stations) (chase : ℕ → ℕ) → IsPlanOf plan s → AreStations s → HaveRoom s
-        → HasRoomForAll s chase → HasFirstFrames plan (queues_of plan) s → AreFifo s (setup_at plan)
-        → (bus : FramesOfPlan plan s)
-        × ((i a : ℕ) → i < s.count → a < entries (setup_at plan) i → IsOnBus plan s bus i a) }
+        → HasRoomForAll s chase → HasFirstFrames plan (queues_of plan) s → (bus : FramesOfPlan plan s)
+        × ((i a : ℕ) (entry : Queued) → i < s.count → IsEntry (setup_at plan) i a entry
+        → IsOnBus plan s bus i a entry) }
 {
     crate::first_frame::laws::a_plan_has_a_first_frame();
     crate::sent_frames::winners::the_winner_sends_its_next_frame();
@@ -66,6 +67,7 @@ pub fn waits_are_bounded_if_frames_last_no_longer()
     crate::next_frames::laws::stations_rest_after_a_frame();
     crate::sent_frames::winners::the_winner_sends_its_next_frame();
     crate::takes_part::laws::who_is_ready_takes_part();
+    crate::takes_part::laws::who_loses_has_begun_with_its_next_frame();
     crate::takes_part::laws::nobody_decides_twice();
     crate::takes_part::laws::a_frame_begins_before_later_ones();
 }

@@ -38,6 +38,7 @@ pub fn waits_on_a_line_are_bounded()
     crate::next_frames::laws::stations_rest_after_a_frame();
     crate::sent_frames::winners::the_winner_sends_its_next_frame();
     crate::takes_part::laws::who_is_ready_takes_part();
+    crate::takes_part::laws::who_loses_has_begun_with_its_next_frame();
     crate::takes_part::laws::nobody_decides_twice();
     crate::takes_part::laws::a_frame_begins_before_later_ones();
     crate::frame_times::laws::a_frame_lasts_no_longer();

@@ -13,7 +13,7 @@ ghost use Rattle.wl_buses.specs.OneFrame.Bounds.{HasStations};
 ghost use Rattle.wl_buses.specs.OneFrame.Expected.{IsOutset, Outset, expected_bits, expected_sample};
 ghost use Rattle.wl_buses.specs.OneFrame.Machines.{HasWon};
 ghost use Rattle.wl_buses.specs.OneFrame.Stations.{AreOnALine, AreStations, HaveRoom, Stations};
-ghost use Rattle.wl_buses.specs.FirstFrame.FirstStarts.{AreIdle, Waiting, first_start};
+ghost use Rattle.wl_buses.specs.FirstFrame.FirstStarts.{AreIdle, Waiting, first_outset, first_start};
 ghost use Rattle.wl_buses.specs.FrameEnd.Asked.{EndsBefore};
 ghost use Rattle.wl_buses.specs.NextFrames.Frames.{FollowOneAnother, Frame, HasRoomForAll, IsBegun, IsBegunAfter, resting_of};
 ghost use Rattle.wl_buses.specs.NextFrames.NextStarts.{AreResting, Resting, begins_next, has_next, start_next};
@@ -32,12 +32,16 @@ pub fn who_is_ready_takes_part()
         → TakePart w.stations (first_offers w) (first_start w) }
 {}
 
-/// Law: whoever loses the arbitration has begun with a frame of its own, and the winner's beats that one. It is the next of its frames.
+/// Law: whoever loses the arbitration has begun with a frame of its own, and the winner's beats that one. It is the frame that it decided on,
+/// as of the first frame.
 pub fn who_loses_has_begun_with_its_next_frame()
     ensures begun { (s : Stations) (o : Outset) (end : ℕ) → AreStations s → HaveRoom s → IsOutset s o
         → EndsBefore s o end → (won : HasWon s (expected_bits s o) o.frames end) → (k : ℕ) → k < s.count
         → k ≢ won.station → o.start.drives k ≡ true
         → (d : Content) × (stretch_of (o.past k) ≡ stretch_by (Framing (Some d)) []) × Beats won.frame d }
+    ensures first { (w : Waiting) (f : Frame) → AreStations w.stations → HaveRoom w.stations → AreIdle w
+        → (is : IsBegun w.stations f) → f.outset ≡ first_outset w → (k : ℕ) → k < w.stations.count
+        → k ≢ is.won.station → f.outset.start.drives k ≡ true → BeganWith w.frames w.which k is.won.frame }
     ensures next { (s : Stations) (a b : Frame) → AreStations s → HaveRoom s → IsBegun s a → (is : IsBegun s b)
         → (after : IsBegunAfter s a b) → (k : ℕ) → k < s.count → k ≢ is.won.station → b.outset.start.drives k ≡ true
         → BeganWith a.outset.frames after.which k is.won.frame }
@@ -46,6 +50,7 @@ pub fn who_loses_has_begun_with_its_next_frame()
     crate::one_frame::laws::machines_drive_as_a_course_asks();
     crate::one_frame::laws::what_is_expected_is_a_course();
     crate::one_frame::laws::all_sample_the_same_bits();
+    crate::one_frame::laws::idle_machines_may_begin_together();
     crate::one_frame::waits::idle_machines_may_wait();
     crate::frame_end::laws::machines_answer_as_asked();
     wl_wire::laws::machines_stay_in_step();

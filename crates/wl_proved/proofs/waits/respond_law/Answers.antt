@@ -6,15 +6,16 @@ use Rattle.wl_proved.proofs.Tables as table
 use Rattle.wl_proved.proofs.waits.respond_law.Goals as goal
 
 pub returns : goal.returns
-returns c = λ f plan messages of sound room decide passes keeps fifo.
+returns c = λ f plan messages of sound room decide passes keeps levels.
     (let b = plain_bus f in
     let clocks = paced.clocks f plan of in
     let steady = c.a_covered_plan_is_one_of_these.ensures.steady plan clocks of.covered of.runs.checked (paced.rates f plan of) (paced.book f plan of) in
-    let level = table.level_is b plan messages passes of.members in
-    let node = table.node_is b plan messages passes of.members in
+    let level = table.level_is b plan messages passes levels of.members in
+    let node = table.node_is b plan messages passes levels of.members in
     let lesser = c.a_winner_has_the_lesser_field.ensures in
-    let waits = c.waits_are_bounded.ensures.covered f plan clocks (messages_in plan messages) (table.delays b plan messages passes of.members) (table.blocking b plan messages passes of.members)
-    (table.window b plan messages passes of.members) (wait_of messages) steady (paced.of_family f plan of) of.runs.frames of.senders (paced.for_any_senders f plan of sound) of.covered room
-    (c.a_tested_bus_has_room_to_decide.ensures f decide) (entries.have f plan messages clocks of keeps fifo level node lesser) (entries.late f plan messages clocks of keeps fifo level node lesser)
-    (table.bus_delays b plan messages passes of.members) (table.block b plan messages passes of.members) (table.enough b plan messages passes of.members) in
+    let number = c.a_field_is_its_number.ensures in
+    let waits = c.waits_are_bounded.ensures.covered f plan clocks (messages_in plan messages) (table.delays b plan messages passes levels of.members) (table.blocking b plan messages passes levels of.members)
+    (table.window b plan messages passes levels of.members) (wait_of messages) steady (paced.of_family f plan of) of.runs.frames of.senders (paced.for_any_senders f plan of sound) of.covered room
+    (c.a_tested_bus_has_room_to_decide.ensures f decide) (entries.have f plan messages clocks of keeps level node lesser number) (entries.late f plan messages clocks of keeps level node lesser number)
+    (table.bus_delays b plan messages passes levels of.members) (table.block b plan messages passes levels of.members) (table.enough b plan messages passes levels of.members) in
     record { clocks = clocks; rates = paced.rates f plan of; all = waits.0; waits = waits.1; passes = waits.2 })

@@ -10,7 +10,7 @@ use Rattle.wl_buses.specs.TakesPart.Decisions.{AllMayDecide}
 use Rattle.wl_buses.specs.BoundedWaits.LineBounds.{LineWaitsNoLonger}
 use Rattle.wl_buses.specs.BoundedWaits.Messages.{AreReadyLate, DelayNoLonger, Delays, HaveMessages, Messages, terms_of}
 use Rattle.wl_buses.specs.BoundedWaits.QueuedFrames.{BlockNoLonger, table_by}
-use Rattle.wl_buses.proofs.BoundedWaits.Ordering.{in_turn, line_passes}
+use Rattle.wl_buses.proofs.BoundedWaits.Ordering.{are_handed, hands_with, line_passes}
 use Rattle.wl_buses.proofs.BoundedWaits.Waits.{wait_no_longer}
 use Rattle.wl_buses.proofs.bounded_waits.lines.waits_on_a_line_are_bounded.Goals as goal
 
@@ -20,7 +20,8 @@ bounded : goal.After-all_frames_of_a_line_get_through → (setups : ℕ → Node
     → LineWaitsNoLonger setups s bus t ms r
 bounded c setups s bus t ms d chase blocking w r of are room for_all decide idle take have late delays blocks enough =
     wait_no_longer setups s bus t ms d of are room idle late have delays
-    (in_turn c.the_winner_sends_its_next_frame.ensures.first c.the_winner_sends_its_next_frame.ensures.queued setups s bus are room idle of have.fifo)
+    (hands_with setups s of are) (are_handed c.the_winner_sends_its_next_frame.ensures.first c.the_winner_sends_its_next_frame.ensures.queued setups s bus are room idle of)
+    (record { first = c.who_loses_has_begun_with_its_next_frame.ensures.first; next = c.who_loses_has_begun_with_its_next_frame.ensures.next })
     (λ s a b are room was next. c.stations_rest_after_a_frame.ensures.rest s a.outset a.bits was.chase next.which next.decides are room was.outset was.ends was.won was.answer was.room next.more)
     c.who_is_ready_takes_part.ensures.ready c.who_is_ready_takes_part.ensures.next c.who_is_ready_takes_part.ensures.first chase for_all decide c.nobody_decides_twice.ensures
     (record { own = c.a_frame_begins_before_later_ones.ensures.own; other = c.a_frame_begins_before_later_ones.ensures.other })

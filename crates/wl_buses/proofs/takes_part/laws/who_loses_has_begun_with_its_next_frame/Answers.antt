@@ -1,5 +1,5 @@
 use Rattle.wl_buses.proofs.FrameEnd.Below.{MachineLaws}
-use Rattle.wl_buses.proofs.TakesPart.Losing.{LosesLaw, loses, next_loses}
+use Rattle.wl_buses.proofs.TakesPart.Losing.{LosesLaw, first_loses, loses, next_loses}
 use Rattle.wl_buses.proofs.takes_part.laws.who_loses_has_begun_with_its_next_frame.Goals as goal
 
 law : goal.After-stations_rest_after_a_frame → LosesLaw
@@ -19,6 +19,9 @@ law c s o end are room is ends won k inside apart drives =
 
 pub returns-clause-begun : goal.returns-clause-begun
 returns-clause-begun c = law c
+
+pub returns-clause-first : goal.returns-clause-first
+returns-clause-first c = λ w f are room idle is first k inside apart drives. first_loses c.idle_machines_may_begin_together.ensures (law c) w f are room is first k inside apart drives
 
 pub returns-clause-next : goal.returns-clause-next
 returns-clause-next c = λ s a b are room was is after k inside apart drives.
