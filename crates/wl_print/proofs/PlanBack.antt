@@ -32,7 +32,8 @@ use Rattle.wl_print.proofs.Documents.{read_document}
 use Rattle.wl_print.proofs.Entries.{AllAllowed, AllTaken, Allowed, AreProper, Entry, Taken, all_members, all_there, entries_of, found, no_fault, proper_entries, rows_proper, seen, tables_value, with_entry, with_rows_is, with_tables_is}
 use Rattle.wl_print.proofs.NodeBack.{entry_proper, map_back, map_same, node_entries, node_is, node_proper, node_quiet, node_read, quiet, tables_allowed, tables_seen, tables_taken}
 use Rattle.wl_print.proofs.PlanPlain.{AllPlain, asks_no_tick, document_same, measure_plain, table_plain, tables_plain}
-use Rattle.wl_print.proofs.PlanRows.{IsPlan, disturbance_are_rows, disturbance_members, disturbance_rows, measure_of, node_facts, node_members, plan_facts, plan_lines, plan_members, top_are_rows, top_rows}
+use Rattle.wl_print.proofs.PlanLines.{plan_lines}
+use Rattle.wl_print.proofs.PlanRows.{IsPlan, disturbance_are_rows, disturbance_members, disturbance_rows, measure_of, node_facts, node_members, plan_facts, plan_members, top_are_rows, top_rows}
 use Rattle.wl_print.proofs.Readback.{and_false, datum, disturbance_back, number_kind, number_seen}
 use Rattle.wl_print.proofs.Scales.{tick_back, unit_back}
 use Rattle.wl_print.proofs.Sorted.{is_proper, kept, sorted, sorted_in_order}
