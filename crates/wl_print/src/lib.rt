@@ -3,8 +3,10 @@
 
 mod fault;
 mod format;
+mod laws;
 mod written;
 
 pub use fault::PrintFault;
 pub use format::format_run;
+pub use laws::{printed_is_read, read_is_printable};
 pub use written::{plan_text, push_plan};

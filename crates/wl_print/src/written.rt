@@ -1,8 +1,10 @@
 //! A plan text as TOML.
 ghost use Rattle.std.specs.Prelude.{◌≡◌, IfOk, OnOk, string_bytes};
 ghost use Rattle.std.specs.List.{flat_map};
+ghost use Rattle.wl_print.specs.Printable.{PrintsBack};
 ghost use Rattle.wl_print.specs.Written.{HasAdded, byte_words, clock_lines, data_line, disturbance_lines, flag_line, frame_keys, frame_lines, from_line, header_line, interval_lines, is_one, is_own, later_words, measure_line, name_lines, node_keys, node_lines, number_line, own_clock_lines, place_lines, plan_words, queue_line, rate_clock_lines, rate_lines, rate_tables, segment_lines, spot_line, sync_word, top_lines};
 
+use crate::laws::printed_is_read;
 use std::alloc::{AllocError, Global};
 use wl_segments::SyncRules;
 use wl_setup::{
@@ -391,10 +393,13 @@ pub fn push_plan(text: &mut String, plan: &PlanText) -> Result<(), AllocError>
     push_disturbances(text, plan.disturbance.as_slice())
 }
 
-/// Returns a plan text as TOML, as `push_plan` adds it.
+/// Returns a plan text as TOML, as `push_plan` adds it. What is returned is read as the same plan text, if that keeps to the bounds of its keys.
+#[tactic(auto, using(crate::proofs::PlanBack::printed_text))]
 pub fn plan_text(alloc: Global, plan: &PlanText) -> Result<String, AllocError>
     ensures text { IfOk result (λ text. string_bytes text ≡ plan_words plan.now) }
+    ensures reads_back { IfOk result (λ text. PrintsBack plan.now (string_bytes text)) }
 {
+    printed_is_read();
     let mut text = String::new(alloc);
     push_plan(&mut text, plan)?;
     Ok(text)
