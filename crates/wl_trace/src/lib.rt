@@ -18,5 +18,6 @@ pub use replay::node_events;
 pub use rerun::Rerun;
 pub use sampled_node::SampledNode;
 pub use snapshot::{NodeSnapshot, NodeState};
+pub use staying_rerun::Stride;
 pub use watched_node::WatchedNode;
 pub use wl_frame::field::{FrameField, FramePlace};

@@ -17,7 +17,7 @@ use Rattle.wl_node.specs.History.{is_sent}
 use Rattle.wl_node.specs.Limits.{most_run_quanta}
 use Rattle.wl_plan.specs.Limits.{latest_end}
 use Rattle.wl_traffic.specs.declared.attempts.Attempt.{Attempt}
-use Rattle.wl_traffic.specs.Attempts.{entries_by, entry_in, sent_quanta}
+use Rattle.wl_traffic.specs.Entries.{entries_by, entry_in, sent_quanta}
 use Rattle.wl_traffic.specs.Known.{IsKnown, IsKnownQuantum, IsSoon, IsSoonQuantum}
 
 -- what one element more gives

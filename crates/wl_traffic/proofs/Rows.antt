@@ -18,7 +18,7 @@ use Rattle.wl_traffic.specs.declared.late.LateMessage.{LateMessage}
 use Rattle.wl_traffic.specs.declared.queues.NodeQueue.{NodeQueue}
 use Rattle.wl_traffic.specs.declared.reason.Reason.TheVariants.{Works, Errors, Overloaded, Starved, EndsTooEarly, BusOff, Deaf}
 use Rattle.wl_traffic.specs.declared.spans.Span.{Span}
-use Rattle.wl_traffic.specs.Attempts.{attempts_of, no_queued}
+use Rattle.wl_traffic.specs.Entries.{attempts_of, no_queued}
 use Rattle.wl_traffic.specs.Bus.{is_busy_span, load_below, share_of}
 use Rattle.wl_traffic.specs.Causes.{full_line, line_of_late}
 use Rattle.wl_traffic.specs.Late.{in_time, is_beaten, is_late, late_messages, period_of, ticks_waited}

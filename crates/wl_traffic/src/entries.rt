@@ -8,7 +8,7 @@ ghost use Rattle.wl_plan.specs.PlanLine.{setup_at};
 ghost use Rattle.wl_serial.specs.Outcome.{outcome_of};
 ghost use Rattle.wl_trace.specs.declared.event.Noted.{Noted as GivenNoted};
 ghost use Rattle.wl_trace.specs.Replay.{IsWatchedNode, SampledPast, past_after};
-ghost use Rattle.wl_traffic.specs.Attempts.{entries_after_event, entries_by, entries_of, entries_tried, entries_with, entry_with, is_pending, queue_after, waiting_entry};
+ghost use Rattle.wl_traffic.specs.Entries.{entries_after_event, entries_by, entries_of, entries_tried, entries_with, entry_with, is_pending, queue_after, waiting_entry};
 
 use crate::nodes::node_at;
 use std::alloc::{AllocError, Global};

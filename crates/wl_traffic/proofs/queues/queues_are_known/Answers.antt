@@ -5,7 +5,7 @@ use Rattle.std.proofs.lemmas.List.FromFn.{get_or-range_with_len, length-range_wi
 use Rattle.wl_plan.specs.declared.plan.Plan.{Plan}
 use Rattle.wl_plan.specs.PlanLine.{setup_at}
 use Rattle.wl_serial.specs.Outcome.{node_outcome_of}
-use Rattle.wl_traffic.specs.Attempts.{attempts_of, node_queue, node_queues, sent_in_order, sent_quanta}
+use Rattle.wl_traffic.specs.Entries.{attempts_of, node_queue, node_queues, sent_in_order, sent_quanta}
 use Rattle.wl_traffic.specs.Known.{IsKnownQueue, QuantaAreKnown}
 use Rattle.wl_views.specs.TraceText.{events_at_end}
 use Rattle.wl_traffic.proofs.Growing.{entries_known, entries_soon, last_known}
