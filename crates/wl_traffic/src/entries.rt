@@ -1,10 +1,6 @@
 //! The frames of a queue, and what became of them.
-ghost use Rattle.std.specs.Prelude.{◌≡◌, ◌≤◌, ◌<◌, ℕ, fold, length, map, IfOk, OnOk};
-ghost use Rattle.std.specs.List.{All};
+ghost use Rattle.std.specs.Prelude.{◌≡◌, ◌<◌, List, fold, length, map, IfOk, OnOk};
 ghost use Rattle.std.specs.Option.{option_copied};
-ghost use Rattle.wl_clock.specs.Timing.{tick_of};
-ghost use Rattle.wl_frame.specs.Grammar.{Content};
-ghost use Rattle.wl_plan.specs.PlanLine.{setup_at};
 ghost use Rattle.wl_serial.specs.Outcome.{outcome_of};
 ghost use Rattle.wl_trace.specs.declared.event.Noted.{Noted as GivenNoted};
 ghost use Rattle.wl_trace.specs.Replay.{IsWatchedNode, SampledPast, past_after};
@@ -97,8 +93,8 @@ fn is_pending(frame: &Frame, entry: &Entry) -> bool
 }
 
 /// Notes what became of the first frame that carries this and wasn't sent yet.
-fn note(entries: &mut [Entry], fate: Fate, frame: &Frame)
-    ensures { entries.new ≡ entries_with fate frame.now entries.old }
+fn note(entries: &mut Vec<Entry>, fate: Fate, frame: &Frame)
+    ensures { entries.new.items ≡ entries_with fate frame.now entries.old.items }
 {
     for k in 0..entries.len() {
         if is_pending(frame, &entries[k]) {
@@ -109,8 +105,8 @@ fn note(entries: &mut [Entry], fate: Fate, frame: &Frame)
 }
 
 /// Notes what became of the frame that is tried, if one is.
-fn note_tried(entries: &mut [Entry], fate: Fate, head: Option<&Frame>)
-    ensures { entries.new ≡ entries_tried fate (option_copied head.entry) entries.old }
+fn note_tried(entries: &mut Vec<Entry>, fate: Fate, head: Option<&Frame>)
+    ensures { entries.new.items ≡ entries_tried fate (option_copied head.entry) entries.old.items }
 {
     if let Some(frame) = head {
         note(entries, fate, frame);
@@ -118,8 +114,9 @@ fn note_tried(entries: &mut [Entry], fate: Fate, head: Option<&Frame>)
 }
 
 /// Notes an event of a stretch that sends this head.
-fn note_event(entries: &mut [Entry], head: Option<&Frame>, noted: &Noted)
-    ensures { entries.new ≡ entries_after_event (option_copied head.entry) noted.now.quantum entries.old noted.now.event }
+fn note_event(entries: &mut Vec<Entry>, head: Option<&Frame>, noted: &Noted)
+    ensures { entries.new.items
+        ≡ entries_after_event (option_copied head.entry) noted.now.quantum entries.old.items noted.now.event }
 {
     match noted.event {
         NodeEvent::Sent(frame) => note(entries, Fate::Sent(noted.quantum), &frame),
@@ -134,9 +131,9 @@ fn note_event(entries: &mut [Entry], head: Option<&Frame>, noted: &Noted)
 }
 
 /// Notes the events of a sample, in a stretch that sends this head.
-fn note_events(entries: &mut [Entry], head: Option<&Frame>, events: &[Noted])
-    ensures { entries.new ≡ fold (λ (es : List Entry) (n : GivenNoted).
-        entries_after_event (option_copied head.entry) n.quantum es n.event) entries.old events.now }
+fn note_events(entries: &mut Vec<Entry>, head: Option<&Frame>, events: &[Noted])
+    ensures { entries.new.items ≡ fold (λ (es : List Entry) (n : GivenNoted).
+        entries_after_event (option_copied head.entry) n.quantum es n.event) entries.old.items events.now }
 {
     for noted in events {
         note_event(entries, head, noted);
@@ -148,14 +145,14 @@ fn note_sample(
     alloc: Global,
     setup: &NodeSetup,
     kept: &mut WatchedNode,
-    entries: &mut [Entry],
+    entries: &mut Vec<Entry>,
     sample: (u64, Level),
     bit: u64,
 ) -> Result<(), AllocError>
     ensures past { (p : SampledPast) → IsWatchedNode setup.now kept.old p
         → OnOk result (IsWatchedNode setup.now kept.new (past_after setup.now p sample)) }
     ensures entries { (p : SampledPast) → IsWatchedNode setup.now kept.old p
-        → OnOk result (entries.new ≡ (queue_after setup.now (p, entries.old) sample).1) }
+        → OnOk result (entries.new.items ≡ (queue_after setup.now (p, entries.old.items) sample).1) }
 {
     let head = kept.head();
     let (quantum, level) = sample;
