@@ -33,11 +33,12 @@ def hundredths(number):
     return f"{number // 100}.{number // 10 % 10}{number % 10}"
 
 
-def pauses(nodes, end):
-    """The times, from one tick to another, in which no node finds the bus busy."""
+def pauses(setups, nodes, end):
+    """The times, from one tick to another, in which no node finds the bus busy. A node that leaves the bus finds nothing from then on."""
     begins, stops = Counter(), Counter()
-    for node in nodes:
-        ticks = [tick for tick, _ in node.states[1:]] + [end]
+    for setup, node in zip(setups, nodes):
+        gone = end if setup.until is None else min(end, setup.clock.at(setup.until))
+        ticks = [tick for tick, _ in node.states[1:]] + [gone]
         for (tick, words), after in zip(node.states[1:], ticks[1:]):
             if words[3] in QUIET or after <= tick: continue
             begins[tick] += 1
@@ -59,12 +60,31 @@ def key(frame):
     return frame.extended, frame.id
 
 
-def attempts(node, done):
-    """Of each attempt that failed the place in the queue: how many frames were sent before it; and whether it was broken."""
-    for quantum, _, words in node.events:
-        place = sum(sent < quantum for sent in done)
-        if words.startswith("lost "): yield place, "lost"
-        if words.startswith("error ") and words.split()[2] == "tx" and words.split()[4] != "delimiter": yield place, "broken"
+class Watched(plain.Node):
+    """A node that keeps its attempts that failed: quantum, frame, and whether it was lost or broken."""
+
+    def __init__(self, setup):
+        super().__init__(setup)
+        self.tries = []
+
+    def note(self, *what):
+        before = len(self.events)
+        super().note(*what)
+        for quantum, _, words in self.events[before:]:
+            if words.startswith("lost "): self.tries.append((quantum, self.machine.frame, "lost"))
+            if words.startswith("error ") and words.split()[2] == "tx" and words.split()[4] != "delimiter":
+                self.tries.append((quantum, self.machine.frame, "broken"))
+
+
+def fates(setup, node):
+    """Of each place in the queue the quantum at which it was sent, and how often it was lost and broken: the first unsent place of equal frames is meant."""
+    left, sent, failed = list(enumerate(setup.queue)), {}, Counter()
+    done = [(quantum, frame, "sent") for what, quantum, frame in node.frames if what == "sent"]
+    for quantum, frame, how in sorted(done + node.tries, key=lambda it: it[0]):
+        at = next(n for n, (_, waiting) in enumerate(left) if waiting.frame == frame)
+        if how == "sent": sent[left.pop(at)[0]] = quantum
+        else: failed[left[at][0], how] += 1
+    return sent, failed
 
 
 def last_quantum(setup, node):
@@ -72,19 +92,20 @@ def last_quantum(setup, node):
 
 
 def messages(i, setup, node, tick):
-    queue, done = setup.queue, [quantum for what, quantum, _ in node.frames if what == "sent"]
+    queue = setup.queue
+    done, failed = fates(setup, node)
     last = last_quantum(setup, node)
-    failed = Counter((key(queue[place].frame), how) for place, how in attempts(node, done))
     for message in dict.fromkeys(key(waiting.frame) for waiting in queue):
         mine = [(place, waiting.ready) for place, waiting in enumerate(queue) if key(waiting.frame) == message]
-        sent = [(ready, done[place]) for place, ready in mine if place < len(done)]
-        left = [ready for place, ready in mine if place >= len(done)]
+        sent = [(ready, done[place]) for place, ready in mine if place in done]
+        left = [ready for place, ready in mine if place not in done]
         quanta = [end - ready for ready, end in sent]
         ticks = [setup.clock.at(end) - setup.clock.at(ready) for ready, end in sent]
         waits = sent + [(ready, float("inf")) for ready in left]
         waiting = [sum(start <= at < end for start, end in waits) for at, _ in waits if at <= last]
+        lost, broken = (sum(failed[place, how] for place, _ in mine) for how in ("lost", "broken"))
         yield (f"message {i} {setup.name} {digits(message)} sent {len(sent)} left {len(left)} waiting {max(waiting, default=0)} "
-               f"lost {failed[message, 'lost']} broken {failed[message, 'broken']} "
+               f"lost {lost} broken {broken} "
                f"quanta {spread(quanta)} us {spread([time * tick // 1_000_000 for time in ticks])}")
 
 
@@ -96,17 +117,17 @@ class Message:
     """The frames of a message that became ready in time: for how many ticks each waits, whether it was sent, and whether others were meanwhile."""
 
     def __init__(self, setup, node, message):
-        done, last = [quantum for what, quantum, _ in node.frames if what == "sent"], last_quantum(setup, node)
+        done, last = fates(setup, node)[0], last_quantum(setup, node)
         places = [place for place, waiting in enumerate(setup.queue) if key(waiting.frame) == message and waiting.ready <= last]
         ready = [setup.queue[place].ready for place in places]
         ticks = [setup.clock.at(quantum) for quantum in ready]
-        until = [setup.clock.at(done[place] if place < len(done) else last) for place in places]
+        until = [setup.clock.at(done.get(place, last)) for place in places]
         received = [quantum for what, quantum, _ in node.frames if what != "sent"]
         self.name, self.message = setup.name, message
         self.frames = []
         for place, begin, before, after in zip(places, ready, ticks, until):
-            stop = done[place] if place < len(done) else last
-            self.frames.append((after - before, place < len(done), any(begin < quantum <= stop for quantum in received)))
+            stop = done.get(place, last)
+            self.frames.append((after - before, place in done, any(begin < quantum <= stop for quantum in received)))
         apart = {after - before for before, after in zip(ready, ready[1:])}
         self.period = ticks[1] - ticks[0] if len(ready) > 2 and len(apart) == 1 else 0
 
@@ -151,7 +172,7 @@ def verdict(setups, nodes, full, tick):
 
 def traffic_text(plan, tick=1_000):
     nodes = plain.simulate(plan)
-    free = pauses(nodes, plan.end)
+    free = pauses(plan.nodes, nodes, plan.end)
     full = plan.end - max((after for _, after in free), default=0)
     lines = [bus_words(free, plan.end, tick)]
     for i, (setup, node) in enumerate(zip(plan.nodes, nodes)): lines += messages(i, setup, node, tick)
@@ -162,6 +183,7 @@ def picoseconds(word):
     return int(word[:-2]) * PICOSECONDS[word[-2:]]
 
 
+plain.Node = Watched
 plain.COMMANDS["traffic"] = lambda text: traffic_text(plain.read_plan(text))
 
 

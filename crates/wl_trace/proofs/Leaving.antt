@@ -1,5 +1,5 @@
 -- A node that runs again and may leave the bus: before it leaves it is one that stays, and after that nothing changes.
-use Rattle.std.proofs.Common.{◌≡◌, ◌∙◌, ℕ, zero, suc, Option, Some, nat_le, take, append_assoc, length-append, ◌+◌, ◌-◌, ◌<◌, ◌≤◌, Bool, true, false, List, ◌++◌, length, replicate, None, refl, sym, ap, subst, arith, append-nil}
+use Rattle.std.proofs.Common.{◌≡◌, ◌∙◌, ℕ, zero, suc, Option, Some, nat_le, take, append_assoc, length-append, ◌+◌, ◌-◌, ◌<◌, ◌≤◌, Bool, true, false, List, [], ◌++◌, length, replicate, None, refl, sym, ap, subst, arith, append-nil}
 use Rattle.std.proofs.lemmas.Bool.{le-leb, leb-true, leb-false, lt-leb, lt-ltb, ltb-true, ltb-false}
 use Rattle.std.proofs.lemmas.List.{length-replicate, length-take, replicate-append-replicate}
 use Rattle.wl_level.specs.declared.Level.{Level}
@@ -10,8 +10,8 @@ use Rattle.wl_node.proofs.Callers.{AreThere, HaveLeft, all_of, are_there, away_d
 use Rattle.wl_trace.specs.declared.event.Noted.{Noted}
 use Rattle.wl_trace.specs.declared.rerun.Rerun.{Rerun}
 use Rattle.wl_trace.specs.declared.staying_rerun.StayingRerun.{StayingRerun}
-use Rattle.wl_trace.specs.Rerun.{RunsAgain, RunsOver}
-use Rattle.wl_trace.specs.StayingRerun.{IsStayingRerun, RunsStaying}
+use Rattle.wl_trace.specs.Rerun.{RunsAgain, RunsOver, samples_of}
+use Rattle.wl_trace.specs.StayingRerun.{IsStayingRerun, RunsStaying, staying_samples}
 use Rattle.wl_trace.proofs.RunOver.{longer}
 use Rattle.wl_trace.specs.Snapshot.{mark, snapshot_of, staying_snapshot}
 use Rattle.wl_trace.specs.Starts.{starts_of, staying_starts}
@@ -120,3 +120,26 @@ before_it (Some n) levels level most few some =
     (let l = length-replicate most level in
     let a = length-append levels (replicate most level) in
     (all_of n levels (omega (arith, few, some)), all_of n (levels ++ replicate most level) (omega (arith, few, some, l, a))))
+
+-- of so many quanta that come before it leaves, fewer do
+pub fewer_there : (until : Option ℕ) (quantum most n : ℕ) → n ≤ quanta_before until quantum most → n ≤ quanta_before until quantum n
+fewer_there None quantum most n few = omega arith
+fewer_there (Some k) quantum most n few = omega (arith, few)
+
+-- where it isn't away, at least one comes before it leaves
+pub some_there : (until : Option ℕ) (quantum most : ℕ) → is_after until quantum ≡ false → 0 < most → 0 < quanta_before until quantum most
+some_there None quantum most here some = some
+some_there (Some k) quantum most here some = (let l = leb-false k quantum here in omega (arith, l, some))
+
+-- its samples are those of a node that stays, by the levels before it leaves
+pub samples_there : (setup : NodeSetup) (levels more : List Level) (sampled : List (ℕ × Level)) → levels_there setup.until levels ≡ levels
+    → levels_there setup.until more ≡ more → staying_samples setup more ≡ staying_samples setup levels ++ sampled → samples_of setup more ≡ samples_of setup levels ++ sampled
+samples_there setup levels more sampled before after e =
+    (same_past setup more).samples ∙ ap (staying_samples setup) after ∙ e
+    ∙ ap (λ (xs : List (ℕ × Level)). xs ++ sampled) (sym ((same_past setup levels).samples ∙ ap (staying_samples setup) before))
+
+-- and no more come after that
+pub samples_away : (setup : NodeSetup) (levels more : List Level) → levels_there setup.until more ≡ levels_there setup.until levels
+    → samples_of setup more ≡ samples_of setup levels ++ []
+samples_away setup levels more e =
+    (same_past setup more).samples ∙ ap (staying_samples setup) e ∙ sym (same_past setup levels).samples ∙ sym (append-nil (samples_of setup levels))

@@ -18,6 +18,7 @@ use Rattle.wl_node.specs.Unsent.{IsChosen, IsUnsent}
 use Rattle.wl_trace.specs.declared.event.NodeEvent.{NodeEvent}
 use Rattle.wl_trace.specs.declared.sampled_node.SampledNode.{SampledNode}
 use Rattle.wl_trace.specs.declared.replay.Replay.{Replay}
+use Rattle.wl_trace.specs.declared.watched_node.WatchedNode.{WatchedNode}
 use Rattle.wl_trace.specs.Events.{judged_events}
 use Rattle.wl_trace.specs.Running.{KeepsStretch}
 
@@ -84,3 +85,7 @@ pub record IsGiven (setup : NodeSetup) (kept : SampledNode) (p : SampledPast) (q
 pub record IsReplay (setup : NodeSetup) (kept : Replay) (p : SampledPast) : Type 0 where
   pub sampled_node : IsSampledNode setup kept.sampled_node p
   pub stretch : KeepsStretch kept.stretch (stretch_of p.inputs)
+
+-- and what a watched node is at
+pub record IsWatchedNode (setup : NodeSetup) (kept : WatchedNode) (p : SampledPast) : Type 0 where
+  pub replay : IsReplay setup kept.replay p

@@ -2,7 +2,7 @@
 use Rattle.std.specs.Prelude.{◌≡◌, ℕ, List, ◌++◌, length, replicate, Option, None, if◌then◌else◌}
 use Rattle.wl_level.specs.declared.Level.{Level}
 use Rattle.wl_node.specs.declared.setup.NodeSetup.{NodeSetup}
-use Rattle.wl_node.specs.History.{staying_history, levels_there, is_after, has_left}
+use Rattle.wl_node.specs.History.{history_of, staying_history, levels_there, is_after, has_left}
 use Rattle.wl_trace.specs.declared.rerun.Rerun.{Rerun}
 use Rattle.wl_trace.specs.declared.event.Noted.{Noted}
 use Rattle.wl_trace.specs.StayingRerun.{IsStayingRerun, RunsStaying}
@@ -21,6 +21,10 @@ pub record RunsAgain (setup : NodeSetup) (levels : List Level) (kept : Rerun) : 
 -- how an edge synchronises it at the next quantum, if it is there and one does
 abbrev pub sync_at_next : NodeSetup → List Level → Level → Option Noted
 sync_at_next setup levels level = if is_after setup.until (length levels) then None else sync_next setup (staying_history setup levels) level
+
+-- the samples of a node that saw these levels
+abbrev pub samples_of : NodeSetup → List Level → List (ℕ × Level)
+samples_of setup levels = (history_of setup levels).samples
 
 -- From one node to another so many quanta of this level have run, of which the first has this number, and how their edges synchronised it was added to a list.
 pub record RunsOver (setup : NodeSetup) (quantum n : ℕ) (level : Level) (old new : Rerun) (before after : List Noted) : Type 0 where

@@ -1,5 +1,5 @@
 -- What is kept of a node that runs again over the levels that it saw.
-use Rattle.std.specs.Prelude.{◌≡◌, ◌≤◌, ℕ, suc, List, ◌++◌, length, replicate}
+use Rattle.std.specs.Prelude.{◌≡◌, ◌≤◌, ◌+◌, ◌-◌, ℕ, suc, Bool, List, [], ◌∷◌, ◌++◌, length, replicate, if◌then◌else◌}
 use Rattle.wl_level.specs.declared.Level.{Level}
 use Rattle.wl_sync.specs.declared.Beat.{Beat}
 use Rattle.wl_sync.specs.declared.Beat.TheVariants as beats
@@ -45,3 +45,17 @@ pub record StaysOver (setup : NodeSetup) (quantum n : ℕ) (level : Level) (old 
   pub run : (levels : List Level) → length levels ≡ quantum → RunsStaying setup levels old → RunsStaying setup (levels ++ replicate n level) new
   pub syncs : (levels : List Level) → length levels ≡ quantum → RunsStaying setup levels old → before ≡ staying_syncs setup levels
       → after ≡ staying_syncs setup (levels ++ replicate n level)
+
+-- the samples of a node that never leaves and saw these levels
+abbrev pub staying_samples : NodeSetup → List Level → List (ℕ × Level)
+staying_samples setup levels = (staying_history setup levels).samples
+
+-- the sample at a quantum, if it is one
+abbrev pub sample_if : (sampled : Bool) → ℕ → Level → List (ℕ × Level)
+sample_if sampled quantum level = if sampled then (quantum, level) ∷ [] else []
+
+-- Of so many quanta of this level, of which the first has this number, the last one is a sample, or none is.
+abbrev pub SamplesOver : NodeSetup → (quantum n : ℕ) → Level → (sampled : Bool) → StayingRerun → Type 0
+SamplesOver setup quantum n level sampled old =
+    (levels : List Level) → length levels ≡ quantum → RunsStaying setup levels old
+    → staying_samples setup (levels ++ replicate n level) ≡ staying_samples setup levels ++ sample_if sampled (quantum + n - 1) level

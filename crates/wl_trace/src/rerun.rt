@@ -3,14 +3,15 @@ ghost use Rattle.std.specs.Prelude.{◌≡◌, ℕ, ◌+◌, ◌-◌, ◌<◌, �
 ghost use Rattle.wl_level.specs.declared.Level.{Level};
 ghost use Rattle.wl_node.specs.declared.setup.NodeSetup.{NodeSetup};
 ghost use Rattle.wl_node.specs.History.{is_after, quanta_before};
-ghost use Rattle.wl_trace.specs.Rerun.{IsRerun, RunsAgain, RunsOver, sync_at_next};
+ghost use Rattle.wl_trace.specs.Rerun.{IsRerun, RunsAgain, RunsOver, samples_of, sync_at_next};
+ghost use Rattle.wl_trace.specs.StayingRerun.{sample_if};
 ghost use Rattle.wl_trace.specs.declared.event.Noted.{Noted as GivenNoted};
 ghost use Rattle.wl_trace.specs.Snapshot.{snapshot_of};
 ghost use Rattle.wl_trace.specs.Synced.{syncs_of};
 
 use crate::event::Noted;
 use crate::snapshot::NodeSnapshot;
-use crate::staying_rerun::StayingRerun;
+use crate::staying_rerun::{StayingRerun, Stride};
 use std::alloc::{AllocError, Global};
 use wl_level::Level;
 use wl_node::NodeSetup;
@@ -126,6 +127,32 @@ impl Rerun {
         self.go_there(setup, quantum, level, there, syncs)?;
         self.go_away(setup, quantum + there, level, most - there);
         Ok(())
+    }
+
+    /// Runs quanta of this level: up to and including its next sample, or some that have none; at least one, and at most `most`. A node that
+    /// has left the bus, or leaves it with the first one, runs them all. `quantum` is the number of the first, counted from 0; `setup` is what
+    /// it was made of.
+    pub fn stride(&mut self, setup: &NodeSetup, quantum: u64, level: Level, most: u64) -> Stride
+        requires some { 0 < most }
+        requires few { quantum + most < 2 ^ 64 }
+        ensures run { (levels : List Level) → length levels ≡ quantum → RunsAgain setup.now levels self.old
+            → RunsAgain setup.now (levels ++ replicate result.quanta level) self.new }
+        ensures samples { (levels : List Level) → length levels ≡ quantum → RunsAgain setup.now levels self.old
+            → samples_of setup.now (levels ++ replicate result.quanta level)
+            ≡ samples_of setup.now levels ++ sample_if result.sampled (quantum + result.quanta - 1) level }
+        ensures some { 0 < result.quanta }
+        ensures few { result.quanta ≤ most }
+    {
+        if is_away(setup, quantum) {
+            self.left = true;
+            return Stride {
+                quanta: most,
+                sampled: false,
+                sync: None,
+            };
+        }
+        let there = quanta_there(setup, quantum, most);
+        self.staying.stride(setup, quantum, level, there)
     }
 
     /// Runs such quanta before it leaves the bus.

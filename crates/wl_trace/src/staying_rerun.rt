@@ -1,10 +1,11 @@
 //! A node that runs again over the levels that it saw, quantum by quantum.
-ghost use Rattle.std.specs.Prelude.{◌≡◌, ℕ, ◌+◌, ◌-◌, ◌<◌, ◌≤◌, ◌^◌, ◌++◌, [], ◌∷◌, List, OnOk, IfOk, length, min, option_map, replicate};
+ghost use Rattle.std.specs.Prelude.{◌≡◌, ℕ, ◌+◌, ◌-◌, ◌<◌, ◌≤◌, ◌^◌, ◌++◌, [], ◌∷◌, List, OnOk, IfOk, length, min, option_map, replicate, true};
 ghost use Rattle.wl_level.specs.declared.Level.{Level};
 ghost use Rattle.wl_node.specs.declared.setup.NodeSetup.{NodeSetup};
 ghost use Rattle.wl_node.specs.History.{History, by_beat, history_after_sample, staying_history};
+ghost use Rattle.wl_trace.specs.declared.event.Noted.{Noted as GivenNoted};
 ghost use Rattle.wl_trace.specs.Events.{noted};
-ghost use Rattle.wl_trace.specs.StayingRerun.{IsStayingRerun, RunsStaying, StaysOver, RunsTo, starts_with};
+ghost use Rattle.wl_trace.specs.StayingRerun.{IsStayingRerun, RunsStaying, SamplesOver, StaysOver, RunsTo, staying_samples, starts_with};
 ghost use Rattle.wl_trace.specs.Snapshot.{plain_quanta, staying_snapshot};
 ghost use Rattle.wl_trace.specs.Synced.{sync_event, sync_next, staying_syncs, with_next};
 
@@ -29,6 +30,17 @@ pub struct StayingRerun {
     pub(crate) sampled: bool,
     /// Turns at each start of a bit.
     pub(crate) started: bool,
+}
+
+/// Quanta of one level that a node ran at once.
+#[derive(Clone, Copy, Debug)]
+pub struct Stride {
+    /// How many they were.
+    pub quanta: u64,
+    /// True if the last one was a sample; no other was.
+    pub sampled: bool,
+    /// How an edge synchronised the node with the last one, if one did.
+    pub sync: Option<Noted>,
 }
 
 /// Returns the event of an edge.
@@ -204,6 +216,8 @@ impl StayingRerun {
             → RunsStaying setup (levels ++ replicate result level) self.new }
         ensures syncs { (setup : NodeSetup) (levels : List Level) → RunsStaying setup levels self.old
             → staying_syncs setup (levels ++ replicate result level) ≡ staying_syncs setup levels }
+        ensures samples { (setup : NodeSetup) (levels : List Level) → RunsStaying setup levels self.old
+            → staying_samples setup (levels ++ replicate result level) ≡ staying_samples setup levels }
         ensures few { result ≤ most }
     {
         let settled = self.drive.is(self.sampled_node.pending);
@@ -241,6 +255,7 @@ impl StayingRerun {
     fn sample_ahead(&mut self, setup: &NodeSetup, quantum: u64, level: Level, most: u64) -> u64
         requires few { quantum + most < 2 ^ 64 }
         ensures ran { (syncs : List Noted) → StaysOver setup.now quantum result level self.old self.new syncs syncs }
+        ensures sample { 0 < result → SamplesOver setup.now quantum result level true self.old }
         ensures none { result ≡ 0 → self.new ≡ self.old }
         ensures few { result ≤ most }
     {
@@ -257,8 +272,43 @@ impl StayingRerun {
         }
     }
 
-    /// Runs the quanta of this level up to and including a sample, or those that sample nothing and one more: at least one quantum, and at
-    /// most `most`. Returns how many.
+    /// Runs the quanta of this level up to and including a sample, or those that sample nothing and perhaps one more: at least one quantum, and
+    /// at most `most`. `quantum` is the number of the first, counted from 0; `setup` is what it was made of.
+    pub fn stride(&mut self, setup: &NodeSetup, quantum: u64, level: Level, most: u64) -> Stride
+        requires some { 0 < most }
+        requires few { quantum + most < 2 ^ 64 }
+        ensures ran { (syncs : List GivenNoted)
+            → StaysOver setup.now quantum result.quanta level self.old self.new syncs (with_next syncs result.sync) }
+        ensures samples { SamplesOver setup.now quantum result.quanta level result.sampled self.old }
+        ensures some { 0 < result.quanta }
+        ensures few { result.quanta ≤ most }
+    {
+        let quanta = self.sample_ahead(setup, quantum, level, most);
+        if 0 < quanta {
+            return Stride {
+                quanta,
+                sampled: true,
+                sync: None,
+            };
+        }
+        let passed = self.skip(level, most);
+        if passed == most {
+            return Stride {
+                quanta: passed,
+                sampled: false,
+                sync: None,
+            };
+        }
+        let before = self.sampled;
+        let sync = self.quantum(setup, quantum + passed, level);
+        Stride {
+            quanta: passed + 1,
+            sampled: self.sampled != before,
+            sync,
+        }
+    }
+
+    /// Runs such quanta, and adds how an edge synchronises the node. Returns how many.
     fn leap(
         &mut self,
         setup: &NodeSetup,
@@ -274,16 +324,8 @@ impl StayingRerun {
         ensures some { IfOk result (λ n. 0 < n) }
         ensures few { IfOk result (λ n. n ≤ most) }
     {
-        let sampled = self.sample_ahead(setup, quantum, level, most);
-        if 0 < sampled {
-            return Ok(sampled);
-        }
-        let passed = self.skip(level, most);
-        if passed == most {
-            return Ok(passed);
-        }
-        let sync = self.quantum(setup, quantum + passed, level);
-        push_sync(syncs, sync)?;
-        Ok(passed + 1)
+        let stride = self.stride(setup, quantum, level, most);
+        push_sync(syncs, stride.sync)?;
+        Ok(stride.quanta)
     }
 }

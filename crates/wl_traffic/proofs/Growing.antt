@@ -1,24 +1,15 @@
 -- Lists and folds that grow by one.
 use Rattle.std.proofs.Common.{◌≡◌, ◌∙◌, sym, ap, arith, refl, zero-add, add-one, ℕ, zero, suc, Bool, true, false, ◌&&◌, ◌||◌, ◌+◌, ◌*◌, ◌/◌, ◌%◌, ◌^◌, ◌<◌, ◌≤◌, List, [], ◌∷◌, ◌++◌, length, fold, Option, Some, get_or, take, append-nil}
-use Rattle.std.specs.Prelude.{slice_get}
-use Rattle.std.specs.List.{All, filter, flat_map, list_all, list_any, range_with_len}
+use Rattle.std.specs.List.{All, flat_map, list_all, list_any, range_with_len}
 use Rattle.std.proofs.Math.Nat.{add-mul, mul_assoc, div-add-mod, mul-add-div}
 use Rattle.std.proofs.lemmas.List.{take_more}
 use Rattle.std.proofs.lemmas.List.Concat.{flat_map-append}
-use Rattle.std.proofs.lemmas.List.Elements.{All-filter, All-map}
 use Rattle.std.proofs.lemmas.List.Folds.{list_all-append, list_any-append}
 use Rattle.std.proofs.lemmas.List.Sums.{fold-append}
 use Rattle.wl_level.proofs.Callers.{range_more}
 use Rattle.wl_level.specs.declared.Level.{Level}
-use Rattle.wl_clock.specs.Timing.{Timing, tick_of}
-use Rattle.wl_node.specs.declared.setup.Passed.{Passed}
-use Rattle.wl_node.specs.declared.setup.Queued.{Queued}
-use Rattle.wl_node.specs.History.{is_sent}
 use Rattle.wl_node.specs.Limits.{most_run_quanta}
-use Rattle.wl_plan.specs.Limits.{latest_end}
-use Rattle.wl_traffic.specs.declared.attempts.Attempt.{Attempt}
-use Rattle.wl_traffic.specs.Attempts.{entries_by, entry_in, sent_quanta}
-use Rattle.wl_traffic.specs.Known.{IsKnown, IsKnownQuantum, IsSoon, IsSoonQuantum}
+use Rattle.wl_traffic.specs.Known.{IsKnownQuantum}
 
 -- what one element more gives
 pub flat_more : {X A : Type 0} (f : X → List A) (xs : List X) (i : ℕ) (d : X) → i < length xs
@@ -48,40 +39,11 @@ pub flat_below_more : {A : Type 0} (f : ℕ → List A) (n : ℕ) → flat_map f
 flat_below_more f n =
     below_more (flat_map f) n ∙ flat_map-append f (range_with_len 0 n) (n ∷ []) ∙ ap (λ ys. flat_map f (range_with_len 0 n) ++ ys) (append-nil (f n))
 
--- a quantum among known ones is known
-get_known : (xs : List ℕ) (k : ℕ) → All (λ q. q ≤ most_run_quanta) xs → IsKnownQuantum (slice_get xs k)
-get_known [] k h = tt
-get_known (x ∷ xs) zero h = h 0 0 (omega arith)
-get_known (x ∷ xs) (suc k) h = get_known xs k (λ i d b. h (suc i) d (omega arith))
-
--- and the last of known ones
+-- the last of known quanta is known
 pub last_known : (samples : List (ℕ × Level)) (last : Option ℕ) → IsKnownQuantum last → All (λ s. s.0 ≤ most_run_quanta) samples
     → IsKnownQuantum (fold (λ (at : Option ℕ) (s : ℕ × Level). Some s.0) last samples)
 last_known [] last k h = k
 last_known (s ∷ samples) last k h = last_known samples (Some s.0) (h 0 s (omega arith)) (λ i d b. h (suc i) d (omega arith))
-
--- and what begins soon
-get_soon : (clock : Timing) (xs : List ℕ) (k : ℕ) → All (λ q. tick_of clock q < latest_end) xs → IsSoonQuantum clock (slice_get xs k)
-get_soon clock [] k h = tt
-get_soon clock (x ∷ xs) zero h = h 0 0 (omega arith)
-get_soon clock (x ∷ xs) (suc k) h = get_soon clock xs k (λ i d b. h (suc i) d (omega arith))
-
-pub entries_soon : (clock : Timing) (queue : List Queued) (frames : List Passed) (attempts : List Attempt)
-    → All (λ p. tick_of clock p.quantum < latest_end) frames → All (IsSoon clock) (entries_by queue (sent_quanta frames) attempts)
-entries_soon clock queue frames attempts h =
-    let soon : All (λ q. tick_of clock q < latest_end) (sent_quanta frames) =
-    All-map (λ q. tick_of clock q < latest_end) (λ (p : Passed). p.quantum) (filter is_sent frames)
-    (All-filter is_sent (λ p. tick_of clock p.quantum < latest_end) frames h) in
-    All-map (IsSoon clock) (entry_in queue (sent_quanta frames) attempts) (range_with_len 0 (length queue))
-    (λ i d b. get_soon clock (sent_quanta frames) (get_or (range_with_len 0 (length queue)) i d) soon)
-
-pub entries_known : (queue : List Queued) (frames : List Passed) (attempts : List Attempt) → All (λ p. p.quantum ≤ most_run_quanta) frames
-    → All IsKnown (entries_by queue (sent_quanta frames) attempts)
-entries_known queue frames attempts h =
-    let known : All (λ q. q ≤ most_run_quanta) (sent_quanta frames) =
-    All-map (λ q. q ≤ most_run_quanta) (λ (p : Passed). p.quantum) (filter is_sent frames) (All-filter is_sent (λ p. p.quantum ≤ most_run_quanta) frames h) in
-    All-map IsKnown (entry_in queue (sent_quanta frames) attempts) (range_with_len 0 (length queue))
-    (λ i d b. get_known (sent_quanta frames) (get_or (range_with_len 0 (length queue)) i d) known)
 
 -- a mean by parts, so that it stays below 2^128
 parts : (n s : ℕ) → n * (s / n * 100) + s % n * 100 ≡ s * 100

@@ -1,5 +1,6 @@
 mod Growing
 mod Lines
 mod Loads
+mod Marking
 mod Quanta
 mod Rows

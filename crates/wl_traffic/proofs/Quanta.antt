@@ -20,7 +20,7 @@ use Rattle.wl_plan.specs.Checked.{IsChecked}
 use Rattle.wl_plan.specs.Sound.{IsSound}
 use Rattle.wl_serial.specs.Outcome.{node_outcome_of}
 use Rattle.wl_trace.proofs.Callers.{one_more}
-use Rattle.wl_views.proofs.Callers.{few, frames_ran, inside, within}
+use Rattle.wl_views.proofs.Callers.{few, within}
 use Rattle.wl_traffic.specs.Known.{AreKnown}
 
 -- each of these samples was before quantum n
@@ -79,14 +79,9 @@ module _ (plan : Plan) (checked : IsChecked plan) (sound : IsSound (line_of plan
         let early : tick_of (setup_at plan i).clock q < plan.end = laws.ran_inside (line_of plan) i plan.end sound.causal b q (samples_ran k d c) in
         let less : q < most_quanta = sound.few_quanta i q b early in
         within q less few;
-    frames = λ k d c.
-        let q : ℕ = (get_or (node_outcome_of plan i).frames k d).quantum in
-        let early : tick_of (setup_at plan i).clock q < plan.end = inside laws plan sound i q b (frames_ran laws plan sound i k d c) in
-        let less : q < most_quanta = sound.few_quanta i q b early in
-        within q less few;
     soon = λ k d c.
-        let q : ℕ = (get_or (node_outcome_of plan i).frames k d).quantum in
-        let early : tick_of (setup_at plan i).clock q < plan.end = inside laws plan sound i q b (frames_ran laws plan sound i k d c) in
+        let q : ℕ = (get_or (node_outcome_of plan i).samples k d).0 in
+        let early : tick_of (setup_at plan i).clock q < plan.end = laws.ran_inside (line_of plan) i plan.end sound.causal b q (samples_ran k d c) in
         let soon : tick_of (setup_at plan i).clock q < latest_end = omega (arith, checked.ends) in
         soon;
   }

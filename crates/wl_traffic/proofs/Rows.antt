@@ -8,9 +8,10 @@ use Rattle.wl_machine.specs.declared.doing.Doing.{Doing}
 use Rattle.wl_machine.specs.declared.doing.Doing.TheVariants.{Integrating, Idle, Receiving, Transmitting, Intermission, Suspended, OffBus}
 use Rattle.wl_trace.specs.declared.event.NodeEvent.{NodeEvent}
 use Rattle.wl_trace.specs.declared.event.NodeEvent.TheVariants as events
+use Rattle.wl_frame.specs.Grammar.{Content}
+use Rattle.wl_frame.specs.Same.{same_content}
 use Rattle.wl_frame.specs.declared.field.FrameField.{FrameField}
 use Rattle.wl_frame.specs.declared.field.FrameField.TheVariants.{Identifier, AckSlot, FlagDelimiter}
-use Rattle.wl_trace.specs.declared.event.Noted.{Noted}
 use Rattle.wl_traffic.specs.declared.entries.Entry.{Entry}
 use Rattle.wl_views.specs.declared.tick.Tick.{Tick}
 use Rattle.wl_views.specs.declared.tick.TimeUnit.TheVariants.{Nanosecond}
@@ -18,7 +19,7 @@ use Rattle.wl_traffic.specs.declared.late.LateMessage.{LateMessage}
 use Rattle.wl_traffic.specs.declared.queues.NodeQueue.{NodeQueue}
 use Rattle.wl_traffic.specs.declared.reason.Reason.TheVariants.{Works, Errors, Overloaded, Starved, EndsTooEarly, BusOff, Deaf}
 use Rattle.wl_traffic.specs.declared.spans.Span.{Span}
-use Rattle.wl_traffic.specs.Attempts.{attempts_of, no_queued}
+use Rattle.wl_traffic.specs.Entries.{entries_after, no_queued}
 use Rattle.wl_traffic.specs.Bus.{is_busy_span, load_below, share_of}
 use Rattle.wl_traffic.specs.Causes.{full_line, line_of_late}
 use Rattle.wl_traffic.specs.Late.{in_time, is_beaten, is_late, late_messages, period_of, ticks_waited}
@@ -62,23 +63,38 @@ load = refl
 load_of_nothing : share_of 0 0 ≡ 0
 load_of_nothing = refl
 
-abbrev noted : ℕ → NodeEvent → Noted
-noted quantum event = record { quantum = quantum; bit = 0; event = event }
-
 abbrev error_in : FrameField → NodeEvent
 error_in field = events.Error Bit true false (record { field = field; bit = 0 })
 
--- Frames were sent at quanta 100 and 300. What fails at quantum 100 itself is of the first frame, at 101 to 300 of the second, later of the third. An error in a
--- delimiter is of none.
-attempts : attempts_of (100 ∷ 300 ∷ [])
-    (noted 40 (events.ArbitrationLost (record { field = Identifier; bit = 2 })) ∷ noted 100 (error_in AckSlot) ∷ noted 101 (error_in Identifier)
-    ∷ noted 150 (error_in FlagDelimiter) ∷ noted 301 (error_in AckSlot) ∷ [])
-    ≡ record { place = 0; broken = false } ∷ record { place = 0; broken = true } ∷ record { place = 1; broken = true } ∷ record { place = 2; broken = true } ∷ []
-attempts = refl
+abbrev lost : NodeEvent
+lost = events.ArbitrationLost (record { field = Identifier; bit = 2 })
 
--- of a receiver's error there is none
-received : attempts_of [] (noted 40 (events.Error Bit false false (record { field = Identifier; bit = 2 })) ∷ []) ≡ []
-received = refl
+abbrev content : ℕ → Content
+content id = record { extended = false; id = id; remote = false; dlc = 0; bytes = [] }
+
+abbrev pending : ℕ → Entry
+pending id = record { frame = content id; ready = 0; sent = None; lost = 0; broken = 0 }
+
+abbrev a_line : List Entry
+a_line = pending 5 ∷ pending 3 ∷ pending 5 ∷ []
+
+-- what is tried is known by its content, wherever it is in the queue
+second_tried : entries_after (Some (content 3)) 40 a_line (lost ∷ []) ≡ pending 5 ∷ record (pending 3) { lost = 1 } ∷ pending 5 ∷ []
+unfolding same_content
+second_tried = refl
+
+-- Of two frames that carry the same the first is sent at quantum 100; what fails then is of the second, which is sent at 300.
+sent_twice : entries_after (Some (content 5)) 300 (entries_after (Some (content 5)) 100 a_line (lost ∷ events.Sent (content 5) ∷ [])) (error_in AckSlot ∷ events.Sent (content 5) ∷ [])
+    ≡ record (pending 5) { sent = Some 100; lost = 1 } ∷ pending 3 ∷ record (pending 5) { sent = Some 300; broken = 1 } ∷ []
+unfolding same_content
+sent_twice = refl
+
+-- an error in a delimiter is of no attempt, nor is a receiver's, nor what comes while nothing is sent
+untried : entries_after (Some (content 5)) 150 a_line (error_in FlagDelimiter ∷ events.Error Bit false false (record { field = Identifier; bit = 2 }) ∷ []) ≡ a_line
+untried = refl
+
+unsent : entries_after None 150 a_line (lost ∷ []) ≡ a_line
+unsent = refl
 
 abbrev entry : ℕ → ℕ → Entry
 entry ready sent = record { frame = no_queued.frame; ready = ready; sent = Some sent; lost = 0; broken = 0 }

@@ -14,7 +14,7 @@ use Rattle.wl_traffic.specs.declared.found.Found.{Found}
 use Rattle.wl_traffic.specs.declared.late.LateMessage.{LateMessage}
 use Rattle.wl_traffic.specs.declared.reason.Reason.{Reason}
 use Rattle.wl_traffic.specs.declared.reason.Reason.TheVariants.{Overloaded, Starved, Deaf}
-use Rattle.wl_traffic.specs.Attempts.{node_queues}
+use Rattle.wl_traffic.specs.Entries.{node_queues}
 use Rattle.wl_traffic.specs.Bus.{bus_load}
 use Rattle.wl_traffic.specs.Late.{late_messages}
 use Rattle.wl_traffic.specs.Reasons.{is_stuck, misses_frames, most_passed, reason_of}

@@ -29,11 +29,10 @@ IsSoonQuantum clock (Some quantum) = tick_of clock quantum < latest_end
 abbrev pub IsSoon : Timing → Entry → Type 0
 IsSoon clock e = IsSoonQuantum clock e.sent
 
--- A clock knows the quanta at which a node with it sampled, and at which it completed frames; those of frames begin before any plan ends.
+-- A clock knows the quanta at which a node with it sampled, and they begin before any plan ends.
 pub record AreKnown (clock : Timing) (node : NodeOutcome) : Type 0 where
   pub samples : All (λ s. s.0 ≤ most_run_quanta) node.samples
-  pub frames : All (λ p. p.quantum ≤ most_run_quanta) node.frames
-  pub soon : All (λ p. tick_of clock p.quantum < latest_end) node.frames
+  pub soon : All (λ s. tick_of clock s.0 < latest_end) node.samples
 
 -- of each node of a plan
 abbrev pub QuantaAreKnown : Plan → Type 0

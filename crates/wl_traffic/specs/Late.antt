@@ -6,7 +6,7 @@ use Rattle.wl_clock.specs.Timing.{tick_of}
 use Rattle.wl_traffic.specs.declared.entries.Entry.{Entry}
 use Rattle.wl_traffic.specs.declared.late.LateMessage.{LateMessage}
 use Rattle.wl_traffic.specs.declared.queues.NodeQueue.{NodeQueue}
-use Rattle.wl_traffic.specs.Attempts.{no_queued}
+use Rattle.wl_traffic.specs.Entries.{no_queued}
 use Rattle.wl_traffic.specs.Messages.{has_id_of, is_left_entry, with_id_of}
 use Rattle.wl_traffic.specs.Waits.{is_in_time}
 

@@ -1,7 +1,7 @@
 pub mod States
 pub mod Bus
 pub mod Waits
-pub mod Attempts
+pub mod Entries
 pub mod Known
 pub mod Messages
 pub mod Late

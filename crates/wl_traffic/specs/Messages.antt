@@ -13,7 +13,7 @@ use Rattle.wl_serial.specs.Outcome.{node_outcome_of}
 use Rattle.wl_setup.specs.Names.{name_of}
 use Rattle.wl_views.specs.declared.tick.Tick.{Tick}
 use Rattle.wl_traffic.specs.declared.entries.Entry.{Entry}
-use Rattle.wl_traffic.specs.Attempts.{entries_of}
+use Rattle.wl_traffic.specs.Entries.{entries_of}
 use Rattle.wl_traffic.specs.Waits.{final_sample, most_waiting, quanta_waited, time_waited}
 
 -- the least and the greatest of some numbers, and their mean in hundredths, rounded down

@@ -4,7 +4,7 @@ use Rattle.std.specs.List.{list_any}
 use Rattle.wl_plan.specs.declared.plan.Plan.{Plan}
 use Rattle.wl_serial.specs.declared.outcome.NodeOutcome.{NodeOutcome}
 use Rattle.wl_serial.specs.Outcome.{outcome_of}
-use Rattle.wl_traffic.specs.Attempts.{node_queues}
+use Rattle.wl_traffic.specs.Entries.{node_queues}
 use Rattle.wl_traffic.specs.Bus.{any_off, bus_load}
 use Rattle.wl_traffic.specs.Late.{late_messages}
 use Rattle.wl_traffic.specs.declared.late.LateMessage.{LateMessage}

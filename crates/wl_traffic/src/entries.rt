@@ -1,18 +1,19 @@
 //! The frames of a queue, and what became of them.
-ghost use Rattle.std.specs.Prelude.{◌≡◌, ◌<◌, length, count_by, IfOk};
-ghost use Rattle.std.specs.List.{All};
+ghost use Rattle.std.specs.Prelude.{◌≡◌, ◌<◌, List, fold, length, map, IfOk, OnOk};
+ghost use Rattle.std.specs.Option.{option_copied};
 ghost use Rattle.wl_serial.specs.Outcome.{outcome_of};
-ghost use Rattle.wl_traffic.specs.Known.{IsKnown};
-ghost use Rattle.wl_traffic.specs.Attempts.{entries_by, entries_of, entry_of, is_broken_at, is_lost_at, sent_in_order};
+ghost use Rattle.wl_trace.specs.declared.event.Noted.{Noted as GivenNoted};
+ghost use Rattle.wl_trace.specs.Replay.{IsWatchedNode, SampledPast, past_after};
+ghost use Rattle.wl_traffic.specs.Entries.{entries_after_event, entries_by, entries_of, entries_tried, entries_with, entry_with, is_pending, queue_after, waiting_entry};
 
-use crate::attempts::{Attempt, attempts, sent_quanta};
-use crate::nodes::{node_at, quanta_are_known};
+use crate::nodes::node_at;
 use std::alloc::{AllocError, Global};
 use wl_frame::frame::Frame;
-use wl_node::{NodeSetup, QueueOrder, Queued};
+use wl_level::Level;
+use wl_node::{NodeSetup, Queued};
 use wl_plan::CheckedPlan;
 use wl_serial::Outcome;
-use wl_trace::node_events;
+use wl_trace::{FrameField, NodeEvent, Noted, WatchedNode};
 
 /// A frame of a queue, and what became of it.
 #[derive(Clone, Copy, Debug)]
@@ -29,72 +30,161 @@ pub struct Entry {
     pub(crate) broken: u64,
 }
 
-/// Returns how many attempts of frame `k` lost the arbitration.
-fn lost_at(attempts: &[Attempt], k: usize) -> u64
-    ensures { result ≡ count_by (is_lost_at k) attempts.now }
-{
-    let mut lost = 0;
-    for attempt in attempts {
-        if attempt.place == k && !attempt.broken {
-            lost += 1;
-        }
-    }
-    lost
+/// What becomes of a frame.
+#[derive(Clone, Copy, Debug)]
+pub enum Fate {
+    /// It is sent at this quantum.
+    Sent(u64),
+    /// An attempt loses the arbitration.
+    Lost,
+    /// An attempt breaks off at an error.
+    Broken,
 }
 
-/// Returns how many attempts of frame `k` broke off.
-fn broken_at(attempts: &[Attempt], k: usize) -> u64
-    ensures { result ≡ count_by (is_broken_at k) attempts.now }
-{
-    let mut broken = 0;
-    for attempt in attempts {
-        if attempt.place == k && attempt.broken {
-            broken += 1;
-        }
-    }
-    broken
-}
-
-/// Returns what became of frame `k`.
-fn entry_at(sent: &[u64], attempts: &[Attempt], k: usize, queued: Queued) -> Entry
-    ensures { result ≡ entry_of sent.now attempts.now k queued }
+/// Returns a frame of a queue before the run.
+fn waiting_entry(queued: &Queued) -> Entry
+    ensures { result ≡ waiting_entry queued.now }
 {
     Entry {
         frame: queued.frame,
         ready: queued.ready,
-        sent: sent.get(k).copied(),
-        lost: lost_at(attempts, k),
-        broken: broken_at(attempts, k),
+        sent: None,
+        lost: 0,
+        broken: 0,
     }
 }
 
-/// Returns what became of the frames of a queue.
-fn entries_by(
-    alloc: Global,
-    queue: &[Queued],
-    sent: &[u64],
-    attempts: &[Attempt],
-) -> Result<Vec<Entry>, AllocError>
-    ensures { IfOk result (λ entries. entries.items ≡ entries_by queue.now sent.now attempts.now) }
+/// Returns the frames of a queue before the run.
+fn waiting_entries(alloc: Global, queue: &[Queued]) -> Result<Vec<Entry>, AllocError>
+    ensures { IfOk result (λ entries. entries.items ≡ map waiting_entry queue.now) }
 {
     let mut entries = Vec::new(alloc);
-    for k in 0..queue.len() {
-        entries.push(entry_at(sent, attempts, k, queue[k]))?;
+    for queued in queue {
+        entries.push(waiting_entry(queued))?;
     }
     Ok(entries)
 }
 
-/// Returns the frames of a queue that is sent in its order; none of one that is sent by priority.
-fn sent_in_order(setup: &NodeSetup) -> &[Queued]
-    ensures { result.now ≡ sent_in_order setup.now.order setup.now.queue }
+/// Returns a frame after this became of it.
+fn entry_with(fate: Fate, entry: Entry) -> Entry
+    ensures { result ≡ entry_with fate entry }
 {
-    match setup.order {
-        QueueOrder::Fifo => setup.queue.as_slice(),
-        QueueOrder::Priority => &[],
+    match fate {
+        Fate::Sent(quantum) => Entry {
+            sent: Some(quantum),
+            ..entry
+        },
+        Fate::Lost => Entry {
+            lost: entry.lost.saturating_add(1),
+            ..entry
+        },
+        Fate::Broken => Entry {
+            broken: entry.broken.saturating_add(1),
+            ..entry
+        },
     }
 }
 
-/// Returns the frames of node `i`, and what became of them. If it sends by priority, no frames are said.
+/// True if a frame of a queue carries this and wasn't sent yet.
+fn is_pending(frame: &Frame, entry: &Entry) -> bool
+    ensures { result ≡ is_pending frame.now entry.now }
+{
+    entry.sent.is_none() && entry.frame == *frame
+}
+
+/// Notes what became of the first frame that carries this and wasn't sent yet.
+fn note(entries: &mut Vec<Entry>, fate: Fate, frame: &Frame)
+    ensures { entries.new.items ≡ entries_with fate frame.now entries.old.items }
+{
+    for k in 0..entries.len() {
+        if is_pending(frame, &entries[k]) {
+            entries[k] = entry_with(fate, entries[k]);
+            return;
+        }
+    }
+}
+
+/// Notes what became of the frame that is tried, if one is.
+fn note_tried(entries: &mut Vec<Entry>, fate: Fate, head: Option<&Frame>)
+    ensures { entries.new.items ≡ entries_tried fate (option_copied head.entry) entries.old.items }
+{
+    if let Some(frame) = head {
+        note(entries, fate, frame);
+    }
+}
+
+/// Notes an event of a stretch that sends this head.
+fn note_event(entries: &mut Vec<Entry>, head: Option<&Frame>, noted: &Noted)
+    ensures { entries.new.items
+        ≡ entries_after_event (option_copied head.entry) noted.now.quantum entries.old.items noted.now.event }
+{
+    match noted.event {
+        NodeEvent::Sent(frame) => note(entries, Fate::Sent(noted.quantum), &frame),
+        NodeEvent::ArbitrationLost(_) => note_tried(entries, Fate::Lost, head),
+        NodeEvent::Error { sends, place, .. } => {
+            if sends && place.field != FrameField::FlagDelimiter {
+                note_tried(entries, Fate::Broken, head);
+            }
+        }
+        _ => {}
+    }
+}
+
+/// Notes the events of a sample, in a stretch that sends this head.
+fn note_events(entries: &mut Vec<Entry>, head: Option<&Frame>, events: &[Noted])
+    ensures { entries.new.items ≡ fold (λ (es : List Entry) (n : GivenNoted).
+        entries_after_event (option_copied head.entry) n.quantum es n.event) entries.old.items events.now }
+{
+    for noted in events {
+        note_event(entries, head, noted);
+    }
+}
+
+/// Notes what a sample does, of this quantum and level. There were `bit` samples before it.
+fn note_sample(
+    alloc: Global,
+    setup: &NodeSetup,
+    kept: &mut WatchedNode,
+    entries: &mut Vec<Entry>,
+    sample: (u64, Level),
+    bit: u64,
+) -> Result<(), AllocError>
+    ensures past { (p : SampledPast) → IsWatchedNode setup.now kept.old p
+        → OnOk result (IsWatchedNode setup.now kept.new (past_after setup.now p sample)) }
+    ensures entries { (p : SampledPast) → IsWatchedNode setup.now kept.old p
+        → OnOk result (entries.new.items ≡ (queue_after setup.now (p, entries.old.items) sample).1) }
+{
+    let head = kept.head();
+    let (quantum, level) = sample;
+    let events = kept.take(alloc, setup, quantum, bit, level)?;
+    note_events(entries, head.as_ref(), &events);
+    Ok(())
+}
+
+/// Returns what became of the frames of a node's queue with its samples.
+fn entries_by(
+    alloc: Global,
+    setup: &NodeSetup,
+    samples: &[(u64, Level)],
+) -> Result<Vec<Entry>, AllocError>
+    ensures { IfOk result (λ entries. entries.items ≡ entries_by setup.now samples.now) }
+{
+    let mut kept = WatchedNode::new(alloc, setup)?;
+    let mut entries = waiting_entries(alloc, setup.queue.as_slice())?;
+    for k in 0..samples.len() {
+        note_sample(
+            alloc,
+            setup,
+            &mut kept,
+            &mut entries,
+            samples[k],
+            k as u64,
+        )?;
+    }
+    Ok(entries)
+}
+
+/// Returns the frames of node `i`, and what became of them.
 pub(crate) fn entries(
     alloc: Global,
     plan: &CheckedPlan,
@@ -103,14 +193,9 @@ pub(crate) fn entries(
 ) -> Result<Vec<Entry>, AllocError>
     requires outcome { outcome.now ≡ outcome_of plan.now }
     requires node { i < length plan.now.nodes }
-    ensures entries { IfOk result (λ entries. entries.items ≡ entries_of plan.now i) }
-    ensures known { IfOk result (λ entries. All IsKnown entries.items) }
+    ensures { IfOk result (λ entries. entries.items ≡ entries_of plan.now i) }
 {
-    quanta_are_known(plan);
     let (setup, node) = node_at(plan, outcome, i);
-    let sent = sent_quanta(alloc, node.frames.as_slice())?;
     let samples = node.samples.list(alloc)?;
-    let events = node_events(alloc, setup, samples.as_slice())?;
-    let attempts = attempts(alloc, &sent, &events)?;
-    entries_by(alloc, sent_in_order(setup), &sent, &attempts)
+    entries_by(alloc, setup, samples.as_slice())
 }

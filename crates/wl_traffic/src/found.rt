@@ -2,7 +2,7 @@
 ghost use Rattle.std.specs.Prelude.{◌≡◌, IfOk};
 ghost use Rattle.std.specs.List.{All};
 ghost use Rattle.wl_serial.specs.Outcome.{outcome_of};
-ghost use Rattle.wl_traffic.specs.Attempts.{node_queues};
+ghost use Rattle.wl_traffic.specs.Entries.{node_queues};
 ghost use Rattle.wl_traffic.specs.Causes.{found_of};
 ghost use Rattle.wl_traffic.specs.Known.{IsKnownQueue};
 

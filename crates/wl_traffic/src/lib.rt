@@ -1,7 +1,6 @@
 //! The traffic of a run as text: how busy the bus was, how long each message waited, and why a run didn't work.
 #![tactic(auto)]
 
-mod attempts;
 mod bus;
 mod causes;
 mod entries;

@@ -4,7 +4,7 @@ ghost use Rattle.std.specs.List.{All, list_any, sum_by};
 ghost use Rattle.wl_plan.specs.PlanLine.{setup_at};
 ghost use Rattle.wl_report.specs.Lines.{GrowsBy};
 ghost use Rattle.wl_serial.specs.Outcome.{node_outcome_of};
-ghost use Rattle.wl_traffic.specs.Attempts.{node_queue, node_queues};
+ghost use Rattle.wl_traffic.specs.Entries.{node_queue, node_queues};
 ghost use Rattle.wl_traffic.specs.Known.{IsKnown, IsSoon};
 ghost use Rattle.wl_traffic.specs.Messages.{all_messages, message_counts, has_id_of, is_left_entry, is_sent_entry, line_at, lines_of, message_line, message_words, node_lines, wait_words, with_id_of};
 ghost use Rattle.wl_traffic.specs.Waits.{final_sample};

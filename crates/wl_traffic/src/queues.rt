@@ -2,16 +2,16 @@
 ghost use Rattle.std.specs.Prelude.{◌≡◌, ◌<◌, ℕ, length, IfOk};
 ghost use Rattle.std.specs.List.{All};
 ghost use Rattle.wl_serial.specs.Outcome.{outcome_of};
-ghost use Rattle.wl_traffic.specs.Attempts.{node_queue, node_queues};
+ghost use Rattle.wl_traffic.specs.Entries.{node_queue, node_queues, received_quanta};
 ghost use Rattle.wl_traffic.specs.Known.{IsKnownQueue};
 
-use crate::attempts::received_quanta;
 use crate::entries::{Entry, entries};
 use crate::nodes::{node_at, quanta_are_known};
 use crate::waits::final_sample;
 use std::alloc::{AllocError, Global};
 use wl_clock::Clock;
 use wl_level::Listed;
+use wl_node::Passed;
 use wl_plan::CheckedPlan;
 use wl_serial::Outcome;
 
@@ -28,6 +28,19 @@ pub struct NodeQueue {
     pub(crate) received: Listed<u64>,
     /// The frames, in the order of its queue.
     pub(crate) entries: Listed<Entry>,
+}
+
+/// Returns the quanta at which a node completed what it received, in order.
+fn received_quanta(alloc: Global, frames: &[Passed]) -> Result<Vec<u64>, AllocError>
+    ensures { IfOk result (λ received. received.items ≡ received_quanta frames.now) }
+{
+    let mut received = Vec::new(alloc);
+    for passed in frames {
+        if !passed.sent {
+            received.push(passed.quantum)?;
+        }
+    }
+    Ok(received)
 }
 
 /// Returns the frames of node `i`.

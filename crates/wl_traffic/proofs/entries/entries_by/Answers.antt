@@ -1,20 +1,36 @@
-use Rattle.std.proofs.Common.{◌∙◌, ◌++◌, ◌∷◌, [], zero-add, sym, ap, ap₂, ℕ, List}
-use Rattle.std.proofs.lemmas.List.{get_or_default}
-use Rattle.std.proofs.lemmas.List.FromFn.{map-range_with_len_more}
-use Rattle.wl_node.specs.declared.setup.Queued.{Queued}
-use Rattle.wl_traffic.specs.declared.attempts.Attempt.{Attempt}
+use Rattle.std.proofs.Common.{◌≡◌, ◌∙◌, ◌+◌, ap, sym, subst, arith, fold, take, get_or, ℕ, List}
+use Rattle.std.proofs.lemmas.List.{take_all}
+use Rattle.std.proofs.lemmas.List.Sums.{fold_more}
+use Rattle.wl_level.specs.declared.Level.{Level}
+use Rattle.wl_level.specs.declared.Level.TheVariants.{Dominant}
+use Rattle.wl_node.specs.declared.setup.NodeSetup.{NodeSetup}
+use Rattle.wl_trace.specs.Replay.{IsWatchedNode, SampledPast}
 use Rattle.wl_traffic.specs.declared.entries.Entry.{Entry}
-use Rattle.wl_traffic.specs.Attempts.{entry_in, entry_of, no_queued}
+use Rattle.wl_traffic.specs.Entries.{entries_by, queue_after, queue_before}
 use Rattle.wl_traffic.proofs.entries.entries_by.Goals as goal
 
 pub loop-k-preserved : goal.loop-k-preserved
 loop-k-preserved c =
-    let queue : List Queued = c.args.queue.now in
-    let sent : List ℕ = c.args.sent.now in
-    let attempts : List Attempt = c.args.attempts.now in
+    let setup : NodeSetup = c.args.setup.now in
+    let samples : List (ℕ × Level) = c.args.samples.now in
     let k : ℕ = c.loop-k.k in
-    let d : Queued = c.index-queue-k.result in
-    c.in_ok-push.ensures.items
-    ∙ ap₂ (λ (xs : List Entry) (e : Entry). xs ++ e ∷ []) c.loop-k.invariant
-    (c.entry_at.ensures ∙ ap (entry_of sent attempts k) (c.index-queue-k.is ∙ get_or_default queue k d no_queued c.loop-k-test.true))
-    ∙ sym (map-range_with_len_more (entry_in queue sent attempts) 0 k k (zero-add k))
+    let s : ℕ × Level = get_or samples k (0, Dominant) in
+    let front : SampledPast × List Entry = fold (queue_after setup) (queue_before setup) (take k samples) in
+    let more : fold (queue_after setup) (queue_before setup) (take (k + 1) samples) ≡ queue_after setup front s =
+    fold_more (queue_after setup) (queue_before setup) samples k (0, Dominant) c.loop-k-test.true in
+    record {
+      past = subst (λ (r : SampledPast × List Entry). IsWatchedNode setup c.note_sample.new.kept r.0) (sym more)
+          (c.in_ok-note_sample.ensures.past front.0 c.loop-k.invariant.past);
+      entries =
+          c.in_ok-note_sample.ensures.entries front.0 c.loop-k.invariant.past
+          ∙ ap (λ (es : List Entry). (queue_after setup (front.0, es) s).1) c.loop-k.invariant.entries
+          ∙ ap (λ (r : SampledPast × List Entry). r.1) (sym more);
+    }
+
+pub returns : goal.returns
+unfolding entries_by
+returns c =
+    let setup : NodeSetup = c.args.setup.now in
+    c.loop-k.invariant.entries
+    ∙ ap (λ (xs : List (ℕ × Level)). (fold (queue_after setup) (queue_before setup) xs).1)
+    (take_all c.loop-k.k c.args.samples.now (omega (arith, c.loop-k-test.false)))

@@ -4,7 +4,7 @@ use Rattle.wl_margin.proofs.Callers.{each_more}
 use Rattle.wl_margin.specs.Pieces.{each_below}
 use Rattle.wl_plan.specs.declared.plan.Plan.{Plan}
 use Rattle.wl_traffic.specs.declared.queues.NodeQueue.{NodeQueue}
-use Rattle.wl_traffic.specs.Attempts.{node_queue, node_queues}
+use Rattle.wl_traffic.specs.Entries.{node_queue, node_queues}
 use Rattle.wl_traffic.specs.Messages.{node_lines}
 use Rattle.wl_traffic.proofs.messages.push_messages.Goals as goal
 

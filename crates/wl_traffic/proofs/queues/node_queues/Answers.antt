@@ -1,7 +1,7 @@
 use Rattle.std.proofs.Common.{◌∙◌, ◌++◌, ◌∷◌, [], ap₂, sym, zero-add, List}
 use Rattle.std.proofs.lemmas.List.FromFn.{map-range_with_len_more}
 use Rattle.wl_traffic.specs.declared.queues.NodeQueue.{NodeQueue}
-use Rattle.wl_traffic.specs.Attempts.{node_queue}
+use Rattle.wl_traffic.specs.Entries.{node_queue}
 use Rattle.wl_traffic.proofs.queues.node_queues.Goals as goal
 
 pub loop-i-preserved : goal.loop-i-preserved

@@ -1,6 +1,6 @@
 use Rattle.std.proofs.Common.{◌≡◌, map}
 use Rattle.std.specs.List.{range_with_len}
-use Rattle.wl_traffic.specs.Attempts.{node_queue}
+use Rattle.wl_traffic.specs.Entries.{node_queue}
 use Rattle.wl_traffic.proofs.queues.node_queues.Given as goal
 
 -- those of the nodes so far

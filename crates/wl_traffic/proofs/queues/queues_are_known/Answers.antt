@@ -5,21 +5,19 @@ use Rattle.std.proofs.lemmas.List.FromFn.{get_or-range_with_len, length-range_wi
 use Rattle.wl_plan.specs.declared.plan.Plan.{Plan}
 use Rattle.wl_plan.specs.PlanLine.{setup_at}
 use Rattle.wl_serial.specs.Outcome.{node_outcome_of}
-use Rattle.wl_traffic.specs.Attempts.{attempts_of, node_queue, node_queues, sent_in_order, sent_quanta}
-use Rattle.wl_traffic.specs.Known.{IsKnownQueue, QuantaAreKnown}
-use Rattle.wl_views.specs.TraceText.{events_at_end}
-use Rattle.wl_traffic.proofs.Growing.{entries_known, entries_soon, last_known}
+use Rattle.wl_traffic.specs.Entries.{node_queue, node_queues}
+use Rattle.wl_traffic.specs.Known.{IsKnownQuantum, IsKnownQueue, IsSoonQuantum, QuantaAreKnown}
+use Rattle.wl_traffic.proofs.Growing.{last_known}
+use Rattle.wl_traffic.proofs.Marking.{all_hold}
 use Rattle.wl_traffic.proofs.queues.queues_are_known.Goals as goal
 
 module _ (plan : Plan) (known : QuantaAreKnown plan) where
   queue_known : (i : ℕ) → i < length plan.nodes → IsKnownQueue (node_queue plan i)
   queue_known i b =
-      let frames = (node_outcome_of plan i).frames in
-      let queue = sent_in_order (setup_at plan i).order (setup_at plan i).queue in
       record {
         last = last_known (node_outcome_of plan i).samples None tt (known i b).samples;
-        entries = entries_known queue frames (attempts_of (sent_quanta frames) (events_at_end plan i)) (known i b).frames;
-        soon = entries_soon (setup_at plan i).clock queue frames (attempts_of (sent_quanta frames) (events_at_end plan i)) (known i b).soon;
+        entries = all_hold IsKnownQuantum tt (setup_at plan i) (node_outcome_of plan i).samples (known i b).samples;
+        soon = all_hold (IsSoonQuantum (setup_at plan i).clock) tt (setup_at plan i) (node_outcome_of plan i).samples (known i b).soon;
       }
 
   all_known : All IsKnownQueue (node_queues plan)

@@ -1,6 +1,6 @@
 use Rattle.std.proofs.Common.{◌≡◌, take}
-use Rattle.wl_traffic.specs.Attempts.{received_quanta}
-use Rattle.wl_traffic.proofs.attempts.received_quanta.Given as goal
+use Rattle.wl_traffic.specs.Entries.{received_quanta}
+use Rattle.wl_traffic.proofs.queues.received_quanta.Given as goal
 
 -- those of the frames so far
 abbrev pub invariant-loop-passed : goal.invariant-loop-passed

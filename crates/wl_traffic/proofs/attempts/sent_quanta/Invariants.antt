@@ -1,7 +1,0 @@
-use Rattle.std.proofs.Common.{◌≡◌, take}
-use Rattle.wl_traffic.specs.Attempts.{sent_quanta}
-use Rattle.wl_traffic.proofs.attempts.sent_quanta.Given as goal
-
--- those of the frames so far
-abbrev pub invariant-loop-passed : goal.invariant-loop-passed
-invariant-loop-passed l = l.sent.items ≡ sent_quanta (take l.passed-index l.frames)
