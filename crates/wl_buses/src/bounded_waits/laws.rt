@@ -25,7 +25,8 @@ ghost use Rattle.wl_buses.specs.FrameTimes.Times.{TakeNoLonger, Times};
 ghost use Rattle.wl_buses.specs.TakesPart.Decisions.{AllMayDecide, LeavesRoomToDecide};
 ghost use Rattle.wl_buses.specs.BoundedWaits.Bounds.{IsOnBus, PassInTime, WaitInQuanta, WaitNoLonger};
 ghost use Rattle.wl_buses.specs.BoundedWaits.Lasting.{LastNoLonger, PassNoLonger};
-ghost use Rattle.wl_buses.specs.BoundedWaits.Messages.{AreReadyLate, BusDelaysNoLonger, DelayNoLonger, Delays, HaveMessages, IsEntry, Messages, terms_of};
+ghost use Rattle.wl_buses.specs.BoundedWaits.Messages.{AreReadyLate, BusDelaysNoLonger, DelayNoLonger, Delays};
+ghost use Rattle.wl_buses.specs.BoundedWaits.Messages.{HaveMessages, IsEntry, Messages, terms_of};
 ghost use Rattle.wl_buses.specs.BoundedWaits.QueuedFrames.{AreQueuedFrames, BlockNoLonger, QueuedFrames, Terms, frames_in, table_by};
 
 /// Law: each frame of a bus has its window. It goes back to the first frame after which all win without a gap, and within the level of the
@@ -52,14 +53,16 @@ pub fn each_entry_comes_on_the_bus()
 }
 
 /// Law: no frame on the bus of a plan waits longer than the bound of its message, from `ready` to the sample with which it is sent. It is
-/// enough that bounds and windows pass an inequality for each instance of a message in its window. So it is whatever the offsets are, and wherever each clock lies. No frame
-/// may last longer than the times say (`LastNoLonger`, `PassNoLonger`).
+/// enough that bounds and windows pass an inequality for each instance of a message in its window. So it is whatever the offsets are, and
+/// wherever each clock lies. No frame may last longer than the times say (`LastNoLonger`, `PassNoLonger`).
 pub fn waits_are_bounded_if_frames_last_no_longer()
     ensures { (plan : Plan) (s : Stations) (bus : FramesOfPlan plan s) (t : Times) (ms : Messages) (d : Delays)
-        (chase blocking whole r : ℕ → ℕ) (w : ℕ → ℕ → ℕ) → IsPlanOf plan s → AreStations s → HaveRoom s → HasRoomForAll s chase
-        → AllMayDecide s chase → HasFirstFrames plan (queues_of plan) s → LastNoLonger s t → PassNoLonger s t
+        (chase blocking whole r : ℕ → ℕ) (w : ℕ → ℕ → ℕ) → IsPlanOf plan s → AreStations s → HaveRoom s
+        → HasRoomForAll s chase → AllMayDecide s chase → HasFirstFrames plan (queues_of plan) s → LastNoLonger s t
+        → PassNoLonger s t
         → HaveMessages s (setup_at plan) ms → AreReadyLate s (setup_at plan) → DelayNoLonger s t ms d
-        → BlockNoLonger (terms_of t ms d) blocking → AreEnoughByInstances (table_by (terms_of t ms d) blocking r) d.period whole w r
+        → BlockNoLonger (terms_of t ms d) blocking
+        → AreEnoughByInstances (table_by (terms_of t ms d) blocking r) d.period whole w r
         → WaitNoLonger plan s bus t ms r }
 {
     wl_counts::laws::periods_give_a_curve();
@@ -79,14 +82,15 @@ pub fn waits_are_bounded_if_frames_last_no_longer()
 /// been for longer than that after a frame of its own was ready has sent it.
 pub fn waits_are_bounded()
     ensures plan { (plan : Plan) (s : Stations) (bus : FramesOfPlan plan s) (t : Times) (ms : Messages) (d : Delays)
-        (chase blocking whole r : ℕ → ℕ) (w : ℕ → ℕ → ℕ) → IsPlanOf plan s → AreStations s → HaveRoom s → HasRoomForAll s chase
-        → AllMayDecide s chase → HasFirstFrames plan (queues_of plan) s → TakeNoLonger s t
+        (chase blocking whole r : ℕ → ℕ) (w : ℕ → ℕ → ℕ) → IsPlanOf plan s → AreStations s → HaveRoom s
+        → HasRoomForAll s chase → AllMayDecide s chase → HasFirstFrames plan (queues_of plan) s → TakeNoLonger s t
         → HaveMessages s (setup_at plan) ms → AreReadyLate s (setup_at plan) → DelayNoLonger s t ms d
-        → BlockNoLonger (terms_of t ms d) blocking → AreEnoughByInstances (table_by (terms_of t ms d) blocking r) d.period whole w r
+        → BlockNoLonger (terms_of t ms d) blocking
+        → AreEnoughByInstances (table_by (terms_of t ms d) blocking r) d.period whole w r
         → WaitNoLonger plan s bus t ms r }
     ensures covered { (f : Buses) (plan : Plan) (clocks : ℕ → Steady) (ms : Messages) (d : Delays)
-        (blocking whole r : ℕ → ℕ) (w : ℕ → ℕ → ℕ) → IsSteadyPlan plan clocks → IsOfFamily f plan clocks → AreContents plan
-        → SendAsFamily f plan
+        (blocking whole r : ℕ → ℕ) (w : ℕ → ℕ → ℕ) → IsSteadyPlan plan clocks → IsOfFamily f plan clocks
+        → AreContents plan → SendAsFamily f plan
         → verdict_of plan f ≡ ForAny → is_covered plan ≡ true → leaves_room f ≡ true
         → LeavesRoomToDecide (plain_bus f) (least_chase (plain_bus f))
         → HaveMessages (stations_of f plan clocks) (setup_at plan) ms

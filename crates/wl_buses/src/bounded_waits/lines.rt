@@ -20,14 +20,17 @@ ghost use Rattle.wl_buses.specs.BoundedWaits.QueuedFrames.{BlockNoLonger, table_
 /// a frame of its own was ready has sent it. A plan ends after its quanta, a line may go on for hours.
 pub fn waits_on_a_line_are_bounded()
     ensures frames { (setups : ℕ → NodeSetup) (s : Stations) (bus : FramesOfLine setups (waiting_with setups s))
-        (t : Times) (ms : Messages) (d : Delays) (chase blocking whole r : ℕ → ℕ) (w : ℕ → ℕ → ℕ) → HaveSegments setups s
-        → AreStations s → HaveRoom s → HasRoomForAll s chase → AllMayDecide s chase → AreIdle (waiting_with setups s)
+        (t : Times) (ms : Messages) (d : Delays) (chase blocking whole r : ℕ → ℕ) (w : ℕ → ℕ → ℕ)
+        → HaveSegments setups s → AreStations s → HaveRoom s → HasRoomForAll s chase → AllMayDecide s chase
+        → AreIdle (waiting_with setups s)
         → TakeNoLonger s t → HaveMessages s setups ms → AreReadyLate s setups → DelayNoLonger s t ms d
-        → BlockNoLonger (terms_of t ms d) blocking → AreEnoughByInstances (table_by (terms_of t ms d) blocking r) d.period whole w r
+        → BlockNoLonger (terms_of t ms d) blocking
+        → AreEnoughByInstances (table_by (terms_of t ms d) blocking r) d.period whole w r
         → LineWaitsNoLonger setups s bus t ms r }
     ensures line { (l : Line) (setups : ℕ → NodeSetup) (s : Stations) (t : Times) (ms : Messages) (d : Delays)
-        (chase blocking whole r : ℕ → ℕ) (w : ℕ → ℕ → ℕ) → IsPoweredUp l setups (waiting_with setups s) → AreStations s → HaveRoom s
-        → HasRoomForAll s chase → AllMayDecide s chase → TakeNoLonger s t → HaveMessages s setups ms
+        (chase blocking whole r : ℕ → ℕ) (w : ℕ → ℕ → ℕ) → IsPoweredUp l setups (waiting_with setups s)
+        → AreStations s → HaveRoom s → HasRoomForAll s chase → AllMayDecide s chase → TakeNoLonger s t
+        → HaveMessages s setups ms
         → AreReadyLate s setups → DelayNoLonger s t ms d → BlockNoLonger (terms_of t ms d) blocking
         → AreEnoughByInstances (table_by (terms_of t ms d) blocking r) d.period whole w r
         → (all : LineGetsThrough l setups (waiting_with setups s)) × LineWaitsNoLonger setups s all.bus t ms r
