@@ -7,7 +7,7 @@ use Rattle.wl_counts.specs.Cases.{CaseTable, AreEnoughByCases, HasCase, HaveCase
 use Rattle.wl_counts.proofs.Waits.{begin_in_time, wait_all}
 
 -- a longer front has no fewer picks
-sum_more : (f : ℕ → ℕ) (m n : ℕ) → m ≤ n → sum_below f m ≤ sum_below f n
+pub sum_more : (f : ℕ → ℕ) (m n : ℕ) → m ≤ n → sum_below f m ≤ sum_below f n
 sum_more f m zero h = let e : m ≡ 0 = omega arith in subst (λ k. sum_below f k ≤ 0) (sym e) (omega arith)
 sum_more f m (suc n) h = elim (cases_lt n m) [
   | inl last ↦

@@ -2,4 +2,5 @@ mod Sums
 mod Windows
 mod Waits
 mod Cases
+mod Instances
 mod Rows

@@ -2,6 +2,7 @@
 use Rattle.std.proofs.Common.{◌≡◌, refl, ◌*◌, true, cond}
 use Rattle.std.specs.Prelude.{◌==◌}
 use Rattle.wl_counts.specs.Counts.{sum_below, periods_in, message_count}
+use Rattle.wl_counts.specs.Instances.{instance_demand, instances}
 use Rattle.wl_counts.specs.Waits.{Table, demand}
 
 -- 0 + 1 + 4 + 9
@@ -55,3 +56,16 @@ sooner = refl
 -- the first message alone, if the others don't join its windows
 first_alone : demand (record { messages = 3; cost = λ e. 2; tail = λ e. 2; most = λ e length. periods_in length (cond (e == 0) 5 7); blocking = λ m. 2; joins = λ m e. e == m; early = λ m e. 0 }) 0 4 ≡ 2
 first_alone = refl
+
+-- Two of the third message are in that busy period. Before the first one of them are two other frames, and before the second one four and itself.
+twice : instances three (λ m. 14) 2 ≡ 2
+unfolding three
+twice = refl
+
+first_instance : instance_demand three 2 0 4 ≡ 4
+unfolding three
+first_instance = refl
+
+second_instance : instance_demand three 2 1 10 ≡ 10
+unfolding three
+second_instance = refl

@@ -2,7 +2,7 @@
 use Rattle.std.proofs.Common.{◌≡◌, ◌∙◌, ap, sym, subst, ℕ, zero, suc, ◌+◌, ◌-◌, ◌*◌, ◌<◌, ◌≤◌, true, eqb, arith, inl, inr}
 use Rattle.std.proofs.lemmas.Bool.{cases_Bool, both_ways, eqb-true, false_from_ne_true, cases_lt}
 use Rattle.wl_counts.specs.Counts.{one_if, sum_below, picks_below, message_count, periods_in, LiesIn}
-use Rattle.wl_counts.specs.Waits.{Frames, Table, AreAtMost, AreSporadic, FollowOn, HaveFew, AreEnough, WaitBefore, HasWindow, HaveWindows, share}
+use Rattle.wl_counts.specs.Waits.{Frames, Table, AreAtMost, AreSporadic, FollowOn, HaveFew, AreEnough, WaitBefore, HasWindow, HaveWindows, demand, share}
 use Rattle.wl_counts.proofs.Sums.{by_counts, sum_zero}
 use Rattle.wl_counts.proofs.Windows.{few}
 
@@ -90,20 +90,19 @@ module _ (x : Frames) (r : ℕ → ℕ) (count : ℕ) (step : (n : ℕ) → n < 
             subst (λ j. x.sent j ≤ x.ready j + r (x.message j)) (sym same) (step n (omega arith) old))
       ]
 
-module _ (t : Table) (x : Frames) (w r : ℕ → ℕ) (count : ℕ) (enough : AreEnough t w r) (are : HaveWindows t x r count) where
+module _ (t : Table) (x : Frames) (w r : ℕ → ℕ) (count : ℕ) (are : HaveWindows t x r count) where
   module _ (last : ℕ) (inside : last < count) (old : WaitBefore x r last) where
     -- the frames of the window by number, from its first one
-    message_in : ℕ → ℕ
+    abbrev pub message_in : ℕ → ℕ
     message_in k = x.message ((are.window last inside).first + k)
 
-    begin_in : ℕ → ℕ
+    abbrev pub begin_in : ℕ → ℕ
     begin_in k = x.begin ((are.window last inside).first + k)
 
-    frames_in : ℕ
+    abbrev pub frames_in : ℕ
     frames_in = suc (last - (are.window last inside).first)
 
-    follow_on : FollowOn message_in begin_in t.cost frames_in (are.window last inside).from (t.blocking (x.message last)) t.messages
-    unfolding message_in begin_in frames_in
+    pub follow_on : FollowOn message_in begin_in t.cost frames_in (are.window last inside).from (t.blocking (x.message last)) t.messages
     follow_on =
         let win : HasWindow t x r last = are.window last inside in
         let before : win.first ≤ last = win.before in
@@ -121,8 +120,7 @@ module _ (t : Table) (x : Frames) (w r : ℕ → ℕ) (count : ℕ) (enough : Ar
           known = λ k below. are.known (win.first + k) (omega arith);
         }
 
-    have_few : (q : ℕ) → q ≤ frames_in → HaveFew message_in begin_in (share t (x.message last) (w (x.message last))) q ((are.window last inside).from + w (x.message last)) t.messages
-    unfolding message_in begin_in frames_in
+    pub have_few : (q : ℕ) → q ≤ frames_in → HaveFew message_in begin_in (share t (x.message last) (w (x.message last))) q ((are.window last inside).from + w (x.message last)) t.messages
     have_few q within began e below =
         let win : HasWindow t x r last = are.window last inside in
         let before : win.first ≤ last = win.before in
@@ -153,21 +151,20 @@ module _ (t : Table) (x : Frames) (w r : ℕ → ℕ) (count : ℕ) (enough : Ar
               omega arith)
         ]
 
-    wait_step : x.sent last ≤ x.ready last + r (x.message last)
-    unfolding message_in begin_in frames_in
-    wait_step =
+    wait_step : ((m : ℕ) → m < t.messages → t.blocking m + demand t m (w m) ≤ w m) → ((m : ℕ) → m < t.messages → t.early m m + w m + t.tail m ≤ r m + t.cost m) → x.sent last ≤ x.ready last + r (x.message last)
+    wait_step fits enough =
         let win : HasWindow t x r last = are.window last inside in
         let before : win.first ≤ last = win.before in
         let known : x.message last < t.messages = are.known last inside in
         let end : x.begin (win.first + (last - win.first)) + t.cost (x.message (win.first + (last - win.first))) ≤ win.from + w (x.message last) =
         end_in_time message_in begin_in t.cost (share t (x.message last) (w (x.message last))) frames_in win.from (t.blocking (x.message last)) t.messages (w (x.message last)) follow_on
-        (enough.window (x.message last) known) have_few (last - win.first) (omega arith) in
+        (fits (x.message last) known) have_few (last - win.first) (omega arith) in
         let here : win.first + (last - win.first) ≡ last = omega arith in
         let ends : x.begin last + t.cost (x.message last) ≤ win.from + w (x.message last) = subst (λ k. x.begin k + t.cost (x.message k) ≤ win.from + w (x.message last)) here end in
         let entered : win.from < x.ready last + t.early (x.message last) (x.message last) = win.entered last before (omega arith) old in
         let ended : x.sent last ≤ x.begin last + t.tail (x.message last) = are.ended last inside in
-        let wait : t.early (x.message last) (x.message last) + w (x.message last) + t.tail (x.message last) ≤ r (x.message last) + t.cost (x.message last) = enough.wait (x.message last) known in
+        let wait : t.early (x.message last) (x.message last) + w (x.message last) + t.tail (x.message last) ≤ r (x.message last) + t.cost (x.message last) = enough (x.message last) known in
         omega arith
 
-  pub wait_short : (k : ℕ) → k < count → x.sent k ≤ x.ready k + r (x.message k)
-  wait_short k below = wait_all x r count wait_step count (omega arith) k below
+pub wait_short : (t : Table) (x : Frames) (w r : ℕ → ℕ) (count : ℕ) → AreEnough t w r → HaveWindows t x r count → (k : ℕ) → k < count → x.sent k ≤ x.ready k + r (x.message k)
+wait_short t x w r count enough are k below = wait_all x r count (λ n within old. wait_step t x w r count are n within old enough.window enough.wait) count (omega arith) k below

@@ -1,3 +1,4 @@
 pub mod Counts
 pub mod Waits
 pub mod Cases
+pub mod Instances

@@ -1,8 +1,9 @@
 //! Laws of counts, sums and waits, each proved as the contract of a function that does nothing.
 
-ghost use Rattle.std.specs.Prelude.{◌≡◌, ℕ, ◌+◌, ◌*◌, ◌/◌, ◌<◌, ◌≤◌, Bool, true};
+ghost use Rattle.std.specs.Prelude.{◌≡◌, ℕ, ◌+◌, ◌-◌, ◌*◌, ◌/◌, ◌<◌, ◌≤◌, Bool, true};
 ghost use Rattle.wl_counts.specs.Cases.{AreEnoughByCases, HaveCases, CaseTable};
 ghost use Rattle.wl_counts.specs.Counts.{AreApart, LieIn, message_count, periods_in, picks_below, sum_below};
+ghost use Rattle.wl_counts.specs.Instances.{AreEnoughByInstances};
 ghost use Rattle.wl_counts.specs.Waits.{AreAtMost, AreEnough, HaveWindows, AreSporadic, FollowOn, Frames, HaveFew, Table};
 
 /// Law: of instants that are a period apart at least, ceil(length / period) at most lie in a half-open window. The window is later than
@@ -91,3 +92,21 @@ pub fn no_frame_waits_longer_by_cases()
 {
     a_row_begins_in_time();
 }
+
+/// Law: so it is with an inequality for each instance of a message in its window. Each is ready a period later than the one before, so later
+/// ones wait less.
+pub fn no_frame_waits_longer_by_instances()
+    ensures { (t : Table) (x : Frames) (period whole : ℕ → ℕ) (w : ℕ → ℕ → ℕ) (r : ℕ → ℕ) (count : ℕ)
+        → AreEnoughByInstances t period whole w r → HaveWindows t x r count
+        → AreSporadic period x.message x.ready count
+        → (k : ℕ) → k < count → x.sent k ≤ x.ready k + r (x.message k) }
+{
+    a_row_begins_in_time();
+}
+
+/// Law: one window with room for all instances of its message, and a wait by it, are enough for each instance.
+pub fn one_window_is_enough_for_each_instance()
+    ensures { (t : Table) (period w r : ℕ → ℕ) → ((m : ℕ) → m < t.messages → t.joins m m ≡ true)
+        → ((e a b : ℕ) → a ≤ b → t.most e a ≤ t.most e b) → AreEnough t w r
+        → AreEnoughByInstances t period w (λ m j. w m - t.cost m) r }
+{}

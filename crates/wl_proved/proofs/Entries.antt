@@ -104,7 +104,7 @@ module _ (f : Buses) (plan : Plan) (messages : List MessageWait) (clocks : ℕ �
   top_high : (i e : ℕ) → e < length messages → (message_at messages e).node ≡ i → (message_at messages e).field ≤ top_of messages i
   top_high i e less node = table.greatest_each (length messages) (λ e. (message_at messages e).node == i) (λ e. (message_at messages e).field) e less (eq-eqb _ _ node)
 
-  level_high : (e : ℕ) → e < length messages → (message_at messages e).field ≤ (message_at messages e).level
+  pub level_high : (e : ℕ) → e < length messages → (message_at messages e).field ≤ (message_at messages e).level
   level_high e less = by (setup_at plan (message_at messages e).node).order refl
     where
       by : (o : QueueOrder) → (setup_at plan (message_at messages e).node).order ≡ o → (message_at messages e).field ≤ (message_at messages e).level

@@ -39,7 +39,7 @@ share_by : (j : Bool) (p c : ℕ) → cond j (p * c) 0 ≡ one_if j * p * c
 share_by true p c = ap (λ x. x * c) (let e : p ≡ 1 * p = omega arith in e)
 share_by false p c = omega arith
 
-more_periods : (a c p : ℕ) → 0 < p → a ≤ c → periods_in a p ≤ periods_in c p
+pub more_periods : (a c p : ℕ) → 0 < p → a ≤ c → periods_in a p ≤ periods_in c p
 more_periods a c p some low =
     let most : c + (p - 1) < (c + (p - 1)) / p * p + p = lt-div-mul-add some in
     let less : (a + (p - 1)) / p < suc ((c + (p - 1)) / p) = (div-lt_iff_lt-mul some).1 (let e : suc ((c + (p - 1)) / p) * p ≡ (c + (p - 1)) / p * p + p = omega arith in omega arith) in
@@ -236,3 +236,6 @@ module _ (b : Bus) (plan : Plan) (messages : List MessageWait) (passes : pass b 
     window = λ m less. (let h = (both m less).0 in let most = demand_most m in omega arith);
     wait = λ m less. (let h = (both m less).1 in let most = early_most m m less in omega arith);
   }
+
+  pub periods_some : (e : ℕ) → 0 < delays.period e
+  periods_some e = omega arith

@@ -2,6 +2,7 @@
 use Rattle.std.proofs.Common.{◌≡◌, ◌≢◌, ◌∙◌, inl, inr, refl, sym, ap, ap₂, subst, ℕ, zero, suc, ◌+◌, ◌<◌, ◌≤◌, cond, List, [], ◌∷◌, length, None, Some, arith}
 use Rattle.std.specs.Prelude.{◌==◌, slice_get}
 use Rattle.std.proofs.lemmas.Bool.{cases_Bool, cases_eq, cases_lt, eq-eqb, eqb-true, ne_eqb}
+use Rattle.std.proofs.lemmas.List.{nil_from_length}
 use Rattle.std.proofs.lemmas.Option.{slice_get_within}
 use Rattle.wl_counts.specs.Counts.{sum_below}
 use Rattle.wl_plan.specs.declared.plan.Plan.{Plan}
@@ -155,11 +156,7 @@ module _ (plan : Plan) (s : Stations) (bus : FramesOfPlan plan s) (handed : Hand
   -- with empty queues each entry has left
   module _ (i a : ℕ) (q : Queued) (is : IsEntry (setup_at plan) i a q) (emptied : turn i bus.count ≡ length (setup_at plan i).queue) where
     none_left : u i bus.count ≡ []
-    none_left = by (u i bus.count) (let all = left_after_turns i bus.count (omega arith) in omega arith)
-      where
-        by : (l : List Queued) → length l ≡ 0 → l ≡ []
-        by [] e = refl
-        by (x ∷ l) e = absurd (omega (arith, e))
+    none_left = nil_from_length (u i bus.count) (let all = left_after_turns i bus.count (omega arith) in omega arith)
 
     in_turn_on_bus : Ordered (setup_at plan) s (as_line plan s bus) → IsFifo (setup_at plan i) → IsOnBus plan s bus i a q
     in_turn_on_bus ordered fifo =

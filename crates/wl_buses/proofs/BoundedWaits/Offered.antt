@@ -1,9 +1,10 @@
 -- What stations have to send before each frame of a line, by their queues, and when each decides to.
-use Rattle.std.proofs.Common.{◌≡◌, ◌≢◌, ◌∙◌, ◌⊎◌, inl, inr, refl, sym, ap, subst, ℕ, zero, suc, ◌+◌, ◌-◌, ◌*◌, ◌<◌, ◌≤◌, ◌&&◌, not, Bool, true, false, List, [], ◌∷◌, length, Some, arith}
+use Rattle.std.proofs.Common.{◌≡◌, ◌≢◌, ◌∙◌, ◌⊎◌, inl, inr, refl, sym, ap, subst, ℕ, zero, suc, ◌+◌, ◌-◌, ◌*◌, ◌<◌, ◌≤◌, ◌&&◌, not, Bool, true, false, List, length, Some, arith}
 use Rattle.std.specs.Prelude.{◌==◌, nat_lt}
 use Rattle.std.specs.Int.{div_ceil}
 use Rattle.std.proofs.lemmas.Bool.{and_from, and_parts, both_ways, cases_Bool, cases_eq, cases_lt, eq-eqb, eqb-true, le-ltb, lt-ltb}
 use Rattle.std.proofs.lemmas.Grind.{div_ceil_times}
+use Rattle.std.proofs.lemmas.List.{nil_from_length}
 use Rattle.wl_segments.specs.Lengths.{Lengths, bit_quanta, sample_at}
 use Rattle.wl_topology.specs.Driven.{any_below}
 use Rattle.wl_topology.proofs.Callers.{any_from, any_one}
@@ -196,12 +197,8 @@ module _ (setups : ℕ → NodeSetup) (s : Stations) (bus : FramesOfLine setups 
       pub has_is : (i : ℕ) → i < s.count → has_next r i ≡ has_entry i (suc n)
       has_is i inside = elim (cases_lt 0 (length (left i (suc n)))) [
         | inl some ↦ has_some r i (setups i) (left i (suc n)) (by i inside) (long i inside) some ∙ sym (lt-ltb 0 (length (left i (suc n))) some)
-        | inr none ↦ has_none r i (setups i) (left i (suc n)) (by i inside) (long i inside) (no_length (left i (suc n)) none) ∙ sym (le-ltb 0 (length (left i (suc n))) none)
+        | inr none ↦ has_none r i (setups i) (left i (suc n)) (by i inside) (long i inside) (nil_from_length (left i (suc n)) (let e : length (left i (suc n)) ≡ 0 = omega arith in e)) ∙ sym (le-ltb 0 (length (left i (suc n))) none)
       ]
-        where
-          no_length : (u : List Queued) → length u ≤ 0 → u ≡ []
-          no_length [] e = refl
-          no_length (q ∷ u) e = absurd (omega arith)
 
       pub decides_is : (i : ℕ) → i < s.count → r.decides i ≡ decides_then i n
       decides_is i inside = (by i inside).decides

@@ -1,9 +1,13 @@
 -- Worked values of the definitions on waits.
-use Rattle.std.proofs.Common.{◌≡◌, ◌+◌, ◌&&◌, not, refl}
+use Rattle.std.proofs.Common.{◌≡◌, ℕ, ◌+◌, ◌&&◌, not, true, false, List, [], ◌∷◌, refl}
 use Rattle.std.specs.Prelude.{◌==◌}
 use Rattle.wl_counts.specs.Counts.{one_if}
 use Rattle.wl_counts.specs.Waits.{share}
+use Rattle.wl_frame.specs.Grammar.{Content}
+use Rattle.wl_frame.specs.Same.{same_content}
+use Rattle.wl_node.specs.declared.setup.Queued.{Queued}
 use Rattle.wl_buses.specs.FrameTimes.Times.{Times, frame_time, tail_time}
+use Rattle.wl_buses.specs.BoundedWaits.Leaving.{entry_ready}
 use Rattle.wl_buses.specs.BoundedWaits.Messages.{Delays, Messages, terms_of}
 use Rattle.wl_buses.specs.BoundedWaits.QueuedFrames.{early_by, table_by}
 use Rattle.wl_buses.proofs.BoundedWaits.Parts.{product_below, product_but}
@@ -59,3 +63,18 @@ share_own = refl
 
 share_beyond : share (table_by (terms_of times ms delays) (λ m. 1134) (λ e. 500)) 1 8600 2 ≡ 0
 share_beyond = refl
+
+-- of a queue with three entries, of which two have one content: the first of these leaves
+abbrev frame : ℕ → Content
+frame id = record { extended = false; id = id; remote = true; dlc = 0; bytes = [] }
+
+abbrev queue : List Queued
+queue = record { frame = frame 5; ready = 20 } ∷ record { frame = frame 9; ready = 30 } ∷ record { frame = frame 9; ready = 40 } ∷ []
+
+first_ready_one : entry_ready (frame 5) queue ≡ 20
+unfolding same_content
+first_ready_one = refl
+
+first_of_two : entry_ready (frame 9) queue ≡ 30
+unfolding same_content
+first_of_two = refl

@@ -1,8 +1,10 @@
 -- Times in parts of a unit: the inequalities hold of them if they do in units.
 use Rattle.std.proofs.Common.{◌≡◌, sym, subst, ℕ, zero, suc, ◌+◌, ◌-◌, ◌*◌, ◌/◌, ◌<◌, ◌≤◌, cond, Bool, true, false, arith}
+use Rattle.std.specs.Prelude.{◌==◌}
 use Rattle.std.proofs.Math.Nat.{div-lt_iff_lt-mul, lt-div-mul-add, mul-le-mul_left, mul-le-mul_right}
 use Rattle.wl_counts.specs.Counts.{one_if, periods_in, sum_below}
-use Rattle.wl_counts.specs.Waits.{AreEnough, share}
+use Rattle.wl_counts.specs.Instances.{AreEnoughByInstances, instance_share}
+use Rattle.wl_counts.specs.Waits.{share}
 use Rattle.wl_buses.specs.BoundedWaits.QueuedFrames.{BlockNoLonger, Terms, early_by, table_by}
 
 abbrev pub scaled : (parts : ℕ) → Terms → Terms
@@ -39,7 +41,7 @@ pub scaled_sum : (f g : ℕ → ℕ) (d n : ℕ) → ((k : ℕ) → k < n → f 
 scaled_sum f g d zero h = omega arith
 scaled_sum f g d (suc n) h = (let old = scaled_sum f g d n (λ k below. h k (omega arith)) in let new = h n (omega arith) in omega arith)
 
-module _ (t : Terms) (blocking w r : ℕ → ℕ) (d : ℕ) (parts : 0 < d) (positive : (e : ℕ) → 0 < t.period e) where
+module _ (t : Terms) (blocking r : ℕ → ℕ) (d : ℕ) (parts : 0 < d) (positive : (e : ℕ) → 0 < t.period e) where
   abbrev pub in_parts : (ℕ → ℕ) → ℕ → ℕ
   in_parts f e = f e * d
 
@@ -50,29 +52,47 @@ module _ (t : Terms) (blocking w r : ℕ → ℕ) (d : ℕ) (parts : 0 < d) (pos
   early_is : (m e : ℕ) → early_by (scaled d t) (in_parts r) m e ≡ early_by t r m e * d
   early_is m e = early_by_case m e (t.mixed m (t.node e))
 
-  share_less : (m e : ℕ) → share (table_by (scaled d t) (in_parts blocking) (in_parts r)) m (w m * d) e ≤ share (table_by t blocking r) m (w m) e
-  share_less m e =
+  most_less : (m e width : ℕ) → periods_in (early_by (scaled d t) (in_parts r) m e + width * d) (t.period e * d) ≤ periods_in (early_by t r m e + width) (t.period e)
+  most_less m e width =
       let early = early_is m e in
-      let sum : early_by (scaled d t) (in_parts r) m e + w m * d ≡ (early_by t r m e + w m) * d = omega arith in
-      let count : periods_in (early_by (scaled d t) (in_parts r) m e + w m * d) (t.period e * d) ≤ periods_in (early_by t r m e + w m) (t.period e) =
-      subst (λ x. periods_in x (t.period e * d) ≤ periods_in (early_by t r m e + w m) (t.period e)) (sym sum) (same_count (early_by t r m e + w m) (t.period e) d (positive e) parts) in
-      mul-le-mul_left (one_if (t.joins m e)) count
+      let sum : early_by (scaled d t) (in_parts r) m e + width * d ≡ (early_by t r m e + width) * d = omega arith in
+      subst (λ x. periods_in x (t.period e * d) ≤ periods_in (early_by t r m e + width) (t.period e)) (sym sum) (same_count (early_by t r m e + width) (t.period e) d (positive e) parts)
 
-  pub enough_in_parts : AreEnough (table_by t blocking r) w r → AreEnough (table_by (scaled d t) (in_parts blocking) (in_parts r)) (in_parts w) (in_parts r)
-  enough_in_parts enough = record {
-    window = λ m known.
-        (let h : blocking m + sum_below (λ e. share (table_by t blocking r) m (w m) e * t.cost e) t.messages ≤ w m = enough.window m known in
-        let up =
-        scaled_sum (λ e. share (table_by (scaled d t) (in_parts blocking) (in_parts r)) m (w m * d) e * (t.cost e * d)) (λ e. share (table_by t blocking r) m (w m) e * t.cost e) d t.messages
-        (λ e below.
-        let less = share_less m e in
-        let m : share (table_by (scaled d t) (in_parts blocking) (in_parts r)) m (w m * d) e * (t.cost e * d) ≤ share (table_by t blocking r) m (w m) e * (t.cost e * d) = mul-le-mul_right (t.cost e * d) less in
-        omega arith) in
-        let all : (blocking m + sum_below (λ e. share (table_by t blocking r) m (w m) e * t.cost e) t.messages) * d ≤ w m * d = mul-le-mul_right d h in
+  share_less : (m e width : ℕ) → share (table_by (scaled d t) (in_parts blocking) (in_parts r)) m (width * d) e ≤ share (table_by t blocking r) m width e
+  share_less m e width = mul-le-mul_left (one_if (t.joins m e)) (most_less m e width)
+
+  instance_less : (m j width e : ℕ) → instance_share (table_by (scaled d t) (in_parts blocking) (in_parts r)) m j (width * d) e ≤ instance_share (table_by t blocking r) m j width e
+  instance_less m j width e = by (e == m)
+    where
+      by : (b : Bool) → cond b j (share (table_by (scaled d t) (in_parts blocking) (in_parts r)) m (width * d) e) ≤ cond b j (share (table_by t blocking r) m width e)
+      by true = omega arith
+      by false = share_less m e width
+
+  -- costs that are no more, in parts
+  costs_less : (f g : ℕ → ℕ) → ((e : ℕ) → f e ≤ g e) → sum_below (λ e. f e * (t.cost e * d)) t.messages ≤ sum_below (λ e. g e * t.cost e) t.messages * d
+  costs_less f g fewer =
+      scaled_sum (λ e. f e * (t.cost e * d)) (λ e. g e * t.cost e) d t.messages
+      (λ e below. (let m : f e * (t.cost e * d) ≤ g e * (t.cost e * d) = mul-le-mul_right (t.cost e * d) (fewer e) in omega arith))
+
+  pub enough_in_parts : (whole : ℕ → ℕ) (w : ℕ → ℕ → ℕ) → AreEnoughByInstances (table_by t blocking r) t.period whole w r
+      → AreEnoughByInstances (table_by (scaled d t) (in_parts blocking) (in_parts r)) (scaled d t).period (in_parts whole) (λ m j. w m j * d) (in_parts r)
+  enough_in_parts whole w enough = record {
+    all = λ m known.
+        (let h : blocking m + sum_below (λ e. share (table_by t blocking r) m (whole m) e * t.cost e) t.messages ≤ whole m = enough.all m known in
+        let up = costs_less (share (table_by (scaled d t) (in_parts blocking) (in_parts r)) m (whole m * d)) (share (table_by t blocking r) m (whole m)) (λ e. share_less m e (whole m)) in
+        let all : (blocking m + sum_below (λ e. share (table_by t blocking r) m (whole m) e * t.cost e) t.messages) * d ≤ whole m * d = mul-le-mul_right d h in
         omega arith);
-    wait = λ m known.
-        (let h : early_by t r m m + w m + t.tail m ≤ r m + t.cost m = enough.wait m known in
-        let all : (early_by t r m m + w m + t.tail m) * d ≤ (r m + t.cost m) * d = mul-le-mul_right d h in
+    window = λ m j known few.
+        (let fewer = most_less m m (whole m) in
+        let h : blocking m + sum_below (λ e. instance_share (table_by t blocking r) m j (w m j) e * t.cost e) t.messages ≤ w m j = enough.window m j known (omega arith) in
+        let up =
+        costs_less (instance_share (table_by (scaled d t) (in_parts blocking) (in_parts r)) m j (w m j * d)) (instance_share (table_by t blocking r) m j (w m j)) (instance_less m j (w m j)) in
+        let all : (blocking m + sum_below (λ e. instance_share (table_by t blocking r) m j (w m j) e * t.cost e) t.messages) * d ≤ w m j * d = mul-le-mul_right d h in
+        omega arith);
+    wait = λ m j known few.
+        (let fewer = most_less m m (whole m) in
+        let h : early_by t r m m + w m j + t.tail m ≤ r m + j * t.period m = enough.wait m j known (omega arith) in
+        let all : (early_by t r m m + w m j + t.tail m) * d ≤ (r m + j * t.period m) * d = mul-le-mul_right d h in
         let early = early_is m m in
         omega arith);
   }

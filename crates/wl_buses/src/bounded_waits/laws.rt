@@ -1,7 +1,8 @@
 //! Laws of waits on a bus, each proved as the contract of a function that does nothing.
 
 ghost use Rattle.std.specs.Prelude.{◌≡◌, ℕ, ◌<◌, true};
-ghost use Rattle.wl_counts.specs.Waits.{AreEnough, HaveWindows};
+ghost use Rattle.wl_counts.specs.Instances.{AreEnoughByInstances};
+ghost use Rattle.wl_counts.specs.Waits.{HaveWindows};
 ghost use Rattle.wl_phase.specs.Clocks.{Steady};
 ghost use Rattle.wl_bound.specs.Covered.{is_covered};
 ghost use Rattle.wl_bound.specs.Families.{Buses};
@@ -24,7 +25,8 @@ ghost use Rattle.wl_buses.specs.FrameTimes.Times.{TakeNoLonger, Times};
 ghost use Rattle.wl_buses.specs.TakesPart.Decisions.{AllMayDecide, LeavesRoomToDecide};
 ghost use Rattle.wl_buses.specs.BoundedWaits.Bounds.{IsOnBus, PassInTime, WaitInQuanta, WaitNoLonger};
 ghost use Rattle.wl_buses.specs.BoundedWaits.Lasting.{LastNoLonger, PassNoLonger};
-ghost use Rattle.wl_buses.specs.BoundedWaits.Messages.{AreReadyLate, BusDelaysNoLonger, DelayNoLonger, Delays, HaveMessages, IsEntry, Messages, terms_of};
+ghost use Rattle.wl_buses.specs.BoundedWaits.Messages.{AreReadyLate, BusDelaysNoLonger, DelayNoLonger, Delays};
+ghost use Rattle.wl_buses.specs.BoundedWaits.Messages.{HaveMessages, IsEntry, Messages, terms_of};
 ghost use Rattle.wl_buses.specs.BoundedWaits.QueuedFrames.{AreQueuedFrames, BlockNoLonger, QueuedFrames, Terms, frames_in, table_by};
 
 /// Law: each frame of a bus has its window. It goes back to the first frame after which all win without a gap, and within the level of the
@@ -51,18 +53,20 @@ pub fn each_entry_comes_on_the_bus()
 }
 
 /// Law: no frame on the bus of a plan waits longer than the bound of its message, from `ready` to the sample with which it is sent. It is
-/// enough that bounds and windows pass one inequality a message. So it is whatever the offsets are, and wherever each clock lies. No frame
-/// may last longer than the times say (`LastNoLonger`, `PassNoLonger`).
+/// enough that bounds and windows pass an inequality for each instance of a message in its window. So it is whatever the offsets are, and
+/// wherever each clock lies. No frame may last longer than the times say (`LastNoLonger`, `PassNoLonger`).
 pub fn waits_are_bounded_if_frames_last_no_longer()
     ensures { (plan : Plan) (s : Stations) (bus : FramesOfPlan plan s) (t : Times) (ms : Messages) (d : Delays)
-        (chase blocking w r : ℕ → ℕ) → IsPlanOf plan s → AreStations s → HaveRoom s → HasRoomForAll s chase
-        → AllMayDecide s chase → HasFirstFrames plan (queues_of plan) s → LastNoLonger s t → PassNoLonger s t
+        (chase blocking whole r : ℕ → ℕ) (w : ℕ → ℕ → ℕ) → IsPlanOf plan s → AreStations s → HaveRoom s
+        → HasRoomForAll s chase → AllMayDecide s chase → HasFirstFrames plan (queues_of plan) s → LastNoLonger s t
+        → PassNoLonger s t
         → HaveMessages s (setup_at plan) ms → AreReadyLate s (setup_at plan) → DelayNoLonger s t ms d
-        → BlockNoLonger (terms_of t ms d) blocking → AreEnough (table_by (terms_of t ms d) blocking r) w r
+        → BlockNoLonger (terms_of t ms d) blocking
+        → AreEnoughByInstances (table_by (terms_of t ms d) blocking r) d.period whole w r
         → WaitNoLonger plan s bus t ms r }
 {
     wl_counts::laws::periods_give_a_curve();
-    wl_counts::laws::no_frame_waits_longer();
+    wl_counts::laws::no_frame_waits_longer_by_instances();
     crate::first_frame::laws::a_plan_has_a_first_frame();
     crate::next_frames::laws::stations_rest_after_a_frame();
     crate::sent_frames::winners::the_winner_sends_its_next_frame();
@@ -78,20 +82,21 @@ pub fn waits_are_bounded_if_frames_last_no_longer()
 /// been for longer than that after a frame of its own was ready has sent it.
 pub fn waits_are_bounded()
     ensures plan { (plan : Plan) (s : Stations) (bus : FramesOfPlan plan s) (t : Times) (ms : Messages) (d : Delays)
-        (chase blocking w r : ℕ → ℕ) → IsPlanOf plan s → AreStations s → HaveRoom s → HasRoomForAll s chase
-        → AllMayDecide s chase → HasFirstFrames plan (queues_of plan) s → TakeNoLonger s t
+        (chase blocking whole r : ℕ → ℕ) (w : ℕ → ℕ → ℕ) → IsPlanOf plan s → AreStations s → HaveRoom s
+        → HasRoomForAll s chase → AllMayDecide s chase → HasFirstFrames plan (queues_of plan) s → TakeNoLonger s t
         → HaveMessages s (setup_at plan) ms → AreReadyLate s (setup_at plan) → DelayNoLonger s t ms d
-        → BlockNoLonger (terms_of t ms d) blocking → AreEnough (table_by (terms_of t ms d) blocking r) w r
+        → BlockNoLonger (terms_of t ms d) blocking
+        → AreEnoughByInstances (table_by (terms_of t ms d) blocking r) d.period whole w r
         → WaitNoLonger plan s bus t ms r }
     ensures covered { (f : Buses) (plan : Plan) (clocks : ℕ → Steady) (ms : Messages) (d : Delays)
-        (blocking w r : ℕ → ℕ) → IsSteadyPlan plan clocks → IsOfFamily f plan clocks → AreContents plan
-        → SendAsFamily f plan
+        (blocking whole r : ℕ → ℕ) (w : ℕ → ℕ → ℕ) → IsSteadyPlan plan clocks → IsOfFamily f plan clocks
+        → AreContents plan → SendAsFamily f plan
         → verdict_of plan f ≡ ForAny → is_covered plan ≡ true → leaves_room f ≡ true
         → LeavesRoomToDecide (plain_bus f) (least_chase (plain_bus f))
         → HaveMessages (stations_of f plan clocks) (setup_at plan) ms
         → AreReadyLate (stations_of f plan clocks) (setup_at plan) → BusDelaysNoLonger (plain_bus f) ms d
         → BlockNoLonger (terms_of (bus_times (plain_bus f)) ms d) blocking
-        → AreEnough (table_by (terms_of (bus_times (plain_bus f)) ms d) blocking r) w r
+        → AreEnoughByInstances (table_by (terms_of (bus_times (plain_bus f)) ms d) blocking r) d.period whole w r
         → (all : AllGetThrough plan (stations_of f plan clocks))
         × WaitInQuanta plan (stations_of f plan clocks) all.bus ms (plain_bus f).shortest r
         × PassInTime plan (stations_of f plan clocks) all ms (plain_bus f).shortest r }
