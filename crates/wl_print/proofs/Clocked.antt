@@ -40,7 +40,7 @@ is_stopped (r ∷ rs) = lacks_den r.clock
 abbrev pub is_clocked : NodeText → Bool
 is_clocked n = not (is_stopped n.rates)
 
-no_value_of : {T E : Type 0} {e : E} {x : T} → Err e ≡ Ok x → ⊥
+pub no_value_of : {T E : Type 0} {e : E} {x : T} → Err e ≡ Ok x → ⊥
 no_value_of h = false≢true (ap is_ok h)
 
 after_made : {T U : Type 0} (r : Result T SetupFault) (make : T → Result U SetupFault) (y : U) → after r make ≡ Ok y → (x : T) × (r ≡ Ok x) × (make x ≡ Ok y)

@@ -17,9 +17,6 @@ use Rattle.wl_print.specs.Printable.{is_number_if, is_number_of_key, is_positive
 use Rattle.wl_print.proofs.Entries.{AllAllowed, AllTaken, Allowed, Taken}
 use Rattle.wl_print.proofs.Sorted.{get_at, same_is}
 
-pub both : (b c : Bool) → b ≡ true → c ≡ true → (b && c) ≡ true
-both b c hb hc = rw hb hc
-
 pub first_parts : {A : Type 0} (a : Option A) (more : List (Option A)) → first_some (a ∷ more) ≡ None → (a ≡ None) × (first_some more ≡ None)
 first_parts None more h = (refl, h)
 first_parts (Some x) more h = absurd (none-some x (sym h))

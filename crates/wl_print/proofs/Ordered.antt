@@ -58,7 +58,7 @@ before_inserted j k d (member l e ms) less h =
       ]
     ]
 
-both : (b c : Bool) → b ≡ true → c ≡ true → (b && c) ≡ true
+pub both : (b c : Bool) → b ≡ true → c ≡ true → (b && c) ≡ true
 both b c hb hc = rw hb hc
 
 pub ordered_inserted : (k : List ℕ) (d : Data) (ms : Members) → is_ordered ms ≡ true → is_ordered (with_member k d ms) ≡ true
