@@ -1,12 +1,12 @@
 -- A plan text whose plan can be run has nodes, and each node's clock has a rate with a denominator.
-use Rattle.std.proofs.Common.{◌≡◌, ◌∙◌, refl, sym, ap, subst, ℕ, suc, ◌+◌, ◌*◌, ◌==◌, nat_lt, unsigned_abs, min, Bool, true, false, not, ◌&&◌, ◌||◌, List, [], ◌∷◌, map, length, Option, Some, None, Result, Ok, Err, is_ok, if◌then◌else◌, inl, inr, arith}
+use Rattle.std.proofs.Common.{◌≡◌, ◌∙◌, refl, sym, ap, ℕ, ◌+◌, ◌*◌, ◌==◌, nat_lt, unsigned_abs, min, Bool, true, false, not, List, [], ◌∷◌, map, Option, Some, None, Result, Ok, Err, is_ok, inl, inr, arith}
 use Rattle.std.proofs.Math.Nat.{zero-div}
 use Rattle.std.proofs.lemmas.Bool.{cases_Bool, false≢true}
 use Rattle.std.proofs.lemmas.Bool.Decides.{nat_tests}
-use Rattle.std.specs.List.{enumerate_from, list_all, list_any}
+use Rattle.std.specs.List.{enumerate_from, list_all}
 use Rattle.wl_limits.specs.declared.Limits.{Limits}
 use Rattle.wl_limits.specs.Limits.{offset_limit}
-use Rattle.wl_clock.specs.Timing.{Timing, has_zero_den, largest_deviation, millionths, timing_within}
+use Rattle.wl_clock.specs.Timing.{Timing, largest_deviation, millionths, timing_within}
 use Rattle.wl_clock.specs.declared.ClockFault.TheVariants.{BadPpm, BigOffset, NoRates, ZeroDen}
 use Rattle.wl_clock.specs.declared.Rate.{Rate}
 use Rattle.wl_node.specs.declared.setup.NodeSetup.{NodeSetup}

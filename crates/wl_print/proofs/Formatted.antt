@@ -1,6 +1,5 @@
 -- What is written of a plan in version 4 is read as that plan.
-use Rattle.std.proofs.Common.{◌≡◌, ◌∙◌, refl, sym, ap, ℕ, false, true, List, Option, Some, None, is_ok, Result, Ok, Err}
-use Rattle.std.proofs.lemmas.Bool.{false≢true}
+use Rattle.std.proofs.Common.{◌≡◌, ◌∙◌, refl, sym, ap, ℕ, true, List, Option, Some, None, Result, Ok, Err}
 use Rattle.wl_device.specs.declared.bounded.Ended.{Ended}
 use Rattle.wl_device.specs.declared.bounded.Ended.TheVariants as ended
 use Rattle.wl_device.specs.Devices.{Answer}

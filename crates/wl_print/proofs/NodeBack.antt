@@ -175,7 +175,7 @@ some_tables [] h = absurd (false≢true h)
 some_tables (r ∷ rs) h = (r, rs, refl)
 
 -- a node has tables of rates exactly if its clock keys aren't its own
-rates_none : (version : ℕ) (t : Members) → (version == 2) ≡ false → value_at key.Rates t ≡ None → has_rates version t ≡ false
+pub rates_none : (version : ℕ) (t : Members) → (version == 2) ≡ false → value_at key.Rates t ≡ None → has_rates version t ≡ false
 rates_none version t two none = rw (two, none) (and-false (has_traffic version))
 
 rates_some : (version : ℕ) (b : Bool) (t : Members) → is_known_version version ≡ true → ((version == 1) || (((version == 3) || (version == 4)) && b)) ≡ false

@@ -1,35 +1,29 @@
 -- A plan text that was read, and whose plan can be run, can be printed.
-use Rattle.std.proofs.Common.{◌≡◌, ◌∙◌, refl, sym, ap, subst, ℕ, ◌+◌, ℤ, pos, Bool, true, false, not, ◌&&◌, ◌||◌, ◌==◌, nat_le, List, [], ◌∷◌, map, Option, Some, None, option_map, option_and_then, is_some, is_none, Result, Ok, Err, if◌then◌else◌, inl, inr, arith}
-use Rattle.std.proofs.Math.Bool.{or-true, and-false, and-true}
-use Rattle.std.proofs.lemmas.Bool.{and_parts, cases_Bool, false≢true}
+use Rattle.std.proofs.Common.{◌≡◌, ◌∙◌, refl, sym, ap, subst, ℕ, ◌+◌, ℤ, Bool, true, false, not, ◌&&◌, ◌||◌, ◌==◌, List, [], ◌∷◌, map, Option, Some, None, is_some, is_none, if◌then◌else◌, arith}
+use Rattle.std.proofs.Math.Bool.{or-true, and-true}
+use Rattle.std.proofs.lemmas.Bool.{and_parts, false≢true}
 use Rattle.std.proofs.lemmas.Bool.Decides.{nat_tests}
-use Rattle.std.proofs.lemmas.Option.{none-some, same_Some}
+use Rattle.std.proofs.lemmas.Option.{none-some}
 use Rattle.std.specs.List.{enumerate_from, list_all}
 use Rattle.toml.specs.Data.{Data, Members}
-use Rattle.wl_units.specs.declared.scale.TheConstants.{LONGEST_TICK, LONGEST_UNIT}
-use Rattle.wl_units.specs.Scales.{up_to}
 use Rattle.wl_setup.specs.declared.keys.Key.{Key}
 use Rattle.wl_setup.specs.declared.keys.Key.TheVariants as key
 use Rattle.wl_setup.specs.declared.plan_text.ClockText.{ClockText}
 use Rattle.wl_setup.specs.declared.plan_text.ClockText.TheVariants as text
-use Rattle.wl_setup.specs.declared.plan_text.NodeText.{NodeText}
-use Rattle.wl_setup.specs.declared.plan_text.QueueText.{QueueText}
-use Rattle.wl_setup.specs.declared.plan_text.QueueText.TheVariants as queue
 use Rattle.wl_setup.specs.declared.plan_text.RateText.{RateText}
-use Rattle.wl_setup.specs.declared.plan_text.SegmentsText.{SegmentsText}
 use Rattle.wl_setup.specs.declared.plan_text.SegmentsText.TheVariants as segments
 use Rattle.wl_setup.specs.declared.table_path.PlacedFault.{PlacedFault}
-use Rattle.wl_setup.specs.Faults.{disturbance_fault, first_some, frame_fault, has_clock, has_rates, has_tseg, is_by_bit_rate, is_fraction, is_of_table, names_none, node_keys, node_required, optional_in, rate_fault, rate_keys, table_fault}
-use Rattle.wl_setup.specs.Keys.{TableKeys, disturbance_required, frame_optional, frame_required, key_text, node_optional, rate_keys_by_fraction, rate_keys_by_ppm, required_by_clock, required_by_ppm, required_by_rate, required_by_rates, wide_frame_optional, wide_node_optional}
-use Rattle.wl_setup.specs.Kinds.{is_name, is_ppm, name_at, number_at, tick_at, tick_value, tolerance_at, unit_at, unit_value, positive_at, ppm_at, queue_at, small_at, some_name_at, some_number_at, tables_at, truth_at, value_at}
+use Rattle.wl_setup.specs.Faults.{disturbance_fault, first_some, frame_fault, has_clock, has_rates, has_tseg, is_by_bit_rate, is_fraction, names_none, node_keys, node_required, optional_in, rate_fault, table_fault}
+use Rattle.wl_setup.specs.Keys.{TableKeys, disturbance_required, frame_optional, frame_required, node_optional, rate_keys_by_fraction, rate_keys_by_ppm, required_by_clock, required_by_ppm, required_by_rate, required_by_rates, wide_frame_optional, wide_node_optional}
+use Rattle.wl_setup.specs.Kinds.{is_name, is_ppm, name_at, number_at, positive_at, ppm_at, queue_at, small_at, some_name_at, some_number_at, tables_at, truth_at, value_at}
 use Rattle.wl_setup.specs.TablePaths.{disturbance_fault_at, first_in, frame_fault_at, node_fault_at, rate_fault_at}
 use Rattle.wl_setup.specs.Texts.{clock_of, disturbance_of, frame_of, node_text_of, rate_of, rates_of, segments_text_of}
 use Rattle.wl_setup.specs.Version.{has_controllers, has_traffic}
-use Rattle.wl_print.specs.Printable.{are_rates, are_segments, is_by_priority, is_clock_text, is_disturbance, is_frame_text, is_node, is_number_if, is_number_of_key, is_positive, is_rate, is_small_number, is_spot, is_tolerance}
+use Rattle.wl_print.specs.Printable.{are_rates, are_segments, is_by_priority, is_clock_text, is_disturbance, is_frame_text, is_node, is_number_if, is_number_of_key, is_positive, is_rate, is_spot}
 use Rattle.wl_print.specs.Written.{is_one}
 use Rattle.wl_print.proofs.Clocked.{is_clocked, is_stopped, lacks_den}
-use Rattle.wl_print.proofs.Entries.{AllAllowed, AllTaken, Allowed, Taken}
-use Rattle.wl_print.proofs.NodeBack.{optional_by}
+use Rattle.wl_print.proofs.Entries.{AllTaken, Taken}
+use Rattle.wl_print.proofs.NodeBack.{optional_by, rates_none}
 use Rattle.wl_print.proofs.Ordered.{both}
 use Rattle.wl_print.proofs.Kept.{Kept, absent, bytes_fit, first_parts, least_fits, mapped_none, name_fits, number_fits, positive_fits, positive_there, ppm_fits, small_fits, some_name_fits, some_number_fits, table_kept, taken_if_there, tolerance_fits}
 
@@ -315,9 +309,6 @@ stopped_without version t has none den =
 wide_not_two : (v : ℕ) → (v == 4) ≡ true → (v == 2) ≡ false
 wide_not_two v h = grind (arith, nat_tests)
 
-named_has_none : (version : ℕ) (t : Members) → (version == 2) ≡ false → value_at key.Rates t ≡ None → has_rates version t ≡ false
-named_has_none version t two none = rw (two, none) (and-false (has_traffic version))
-
 -- the keys of a node's table
 abbrev NodeKept : ℕ → Members → Type 0
 NodeKept version t =
@@ -357,7 +348,7 @@ module _ (version : ℕ) (t : Members) (k : NodeKept version t) (clocked : is_cl
           let wide = (and_parts (has_controllers version) (is_some (value_at key.Controller t)) is).0 in
           let alone = kept_named (has_controllers version) (names_none version t) (has_clock version t) (has_rates version t) (is_some (value_at key.Quantum t)) (is_by_bit_rate t) (has_tseg version t) (is_fraction version t) (has_traffic version) t is wide k in
           let none = no_quantum_named (is_fraction version t) t alone in
-          let stopped = stopped_without version t (named_has_none version t (wide_not_two version wide) none.2) none.0 none.1 in
+          let stopped = stopped_without version t (rates_none version t (wide_not_two version wide) none.2) none.0 none.1 in
           absurd (false≢true (sym (ap not stopped) ∙ clocked))
 
   narrow_k : has_controllers version ≡ false → Kept (required_for false false (has_rates version t) (is_some (value_at key.Quantum t)) false false) (node_optional (has_traffic version)) t

@@ -1,5 +1,5 @@
 -- A plan text that was read, and whose plan can be run, is read again as it is printed, in its own version and in version 4.
-use Rattle.std.proofs.Common.{◌≡◌, ◌∙◌, refl, sym, ap, ℕ, Bool, true, false, not, ◌&&◌, ◌||◌, ◌==◌, nat_le, List, [], ◌∷◌, map, Option, Some, None, option_map, option_and_then, is_ok, Result, Ok, Err, if◌then◌else◌}
+use Rattle.std.proofs.Common.{◌≡◌, ◌∙◌, refl, sym, ap, ℕ, Bool, true, false, not, ◌&&◌, ◌||◌, ◌==◌, nat_le, List, [], ◌∷◌, Option, Some, None, option_map, option_and_then, Result, Ok, Err, if◌then◌else◌}
 use Rattle.std.proofs.Math.Bool.{or-true}
 use Rattle.std.proofs.lemmas.Bool.{and_parts, false≢true}
 use Rattle.std.proofs.lemmas.Option.{none-some}
@@ -12,7 +12,6 @@ use Rattle.wl_units.specs.Scales.{in_small_units, tick_said, unit_said, up_to}
 use Rattle.wl_units.specs.Units.{quantity_of}
 use Rattle.wl_setup.specs.declared.fault.SetupFault.{SetupFault}
 use Rattle.wl_setup.specs.declared.fault.SetupFault.TheVariants.{SameName, Version}
-use Rattle.wl_setup.specs.declared.keys.Key.{Key}
 use Rattle.wl_setup.specs.declared.keys.Key.TheVariants as key
 use Rattle.wl_setup.specs.declared.plan_text.ClockText.{ClockText}
 use Rattle.wl_setup.specs.declared.plan_text.ClockText.TheVariants as text
@@ -28,21 +27,20 @@ use Rattle.wl_setup.specs.declared.table_path.TablePath.TheVariants.{Top}
 use Rattle.wl_setup.specs.Document.{first_fault, plain_fault, plan_text_of, read_form, unless}
 use Rattle.wl_setup.specs.Faults.{asks_tick_in, required_fault, table_fault, top_keys, version_fault}
 use Rattle.wl_setup.specs.Keys.{top_optional, top_required}
-use Rattle.wl_setup.specs.Kinds.{is_name, is_ppm, number_at, tables_at, tick_at, tick_value, unit_at, unit_value, value_at}
-use Rattle.wl_setup.specs.Limits.{largest_byte}
+use Rattle.wl_setup.specs.Kinds.{is_name, number_at, tables_at, tick_at, tick_value, unit_at, unit_value, value_at}
 use Rattle.wl_setup.specs.Names.{has_repeat, names_of, same_name_fault}
 use Rattle.wl_setup.specs.Plans.{plan_of_text}
-use Rattle.wl_setup.specs.Reading.{document_answer, document_of, text_answer}
-use Rattle.wl_setup.specs.TablePaths.{fault_at, placed}
-use Rattle.wl_setup.specs.Texts.{node_text_of, plan_of}
+use Rattle.wl_setup.specs.Reading.{document_answer, document_of}
+use Rattle.wl_setup.specs.TablePaths.{placed}
+use Rattle.wl_setup.specs.Texts.{plan_of}
 use Rattle.wl_setup.specs.Version.{has_controllers, has_traffic, is_known_version}
-use Rattle.wl_print.specs.Printable.{ReadIsPrintable, are_rates, are_segments, has_nodes, is_by_priority, is_clock_text, is_disturbance, is_frame_text, is_node, is_number_if, is_number_of_key, is_positive, is_printable, is_rate, is_scale_if, is_small_number, is_spot}
+use Rattle.wl_print.specs.Printable.{ReadIsPrintable, are_rates, are_segments, has_nodes, is_by_priority, is_clock_text, is_disturbance, is_frame_text, is_node, is_number_if, is_number_of_key, is_positive, is_printable, is_rate, is_scale_if, is_spot}
 use Rattle.wl_print.specs.Written.{is_one}
 use Rattle.wl_print.proofs.Clocked.{is_clocked, no_value_of, plan_runs}
 use Rattle.wl_print.proofs.Kept.{Kept, absent, first_parts, mapped_none, number_fits, table_kept}
 use Rattle.wl_print.proofs.Ordered.{both}
 use Rattle.wl_print.proofs.PlanKept.{disturbances_kept, nodes_kept}
-use Rattle.wl_print.proofs.PlanRows.{IsFrame, IsNode, IsPlan, frame_facts, node_facts, plan_facts, rates_all}
+use Rattle.wl_print.proofs.PlanRows.{frame_facts, node_facts, plan_facts, rates_all}
 
 -- ---- the top table
 

@@ -342,7 +342,6 @@ rate_back from (text.Ppm quantum ppm) h =
       rate_by_ppm t from quantum ppm (ap (λ (o : Option Data). is_some o) some) (number_seen key.From t from (sees (codes "from")) a) (number_seen key.Quantum t quantum some n) (ppm_seen key.Ppm t ppm (sees (codes "ppm"))),
       ppm_fine t (ap (λ (o : Option Data). is_some o) some) fine,
     )
-
 rate_back from (text.Fraction num den ppm) h =
     absurd (false≢true (and_parts (is_number_of_key from) (is_clock_text false (text.Fraction num den ppm)) h).1)
 

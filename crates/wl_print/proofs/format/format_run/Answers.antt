@@ -2,7 +2,6 @@ use Rattle.std.proofs.Common.{◌≡◌, ◌∙◌, refl, sym, ap, subst, ℕ, L
 use Rattle.std.proofs.lemmas.Bool.{false≢true}
 use Rattle.std.proofs.lemmas.Result.{err_from_is_err_and}
 use Rattle.wl_device.specs.Devices.{Writes}
-use Rattle.wl_device.specs.declared.device.WriteFault.{WriteFault}
 use Rattle.wl_print.specs.declared.fault.PrintFault.{PrintFault}
 use Rattle.wl_print.specs.declared.fault.PrintFault.TheVariants.{Write}
 use Rattle.wl_print.specs.Formats.{Formats}
