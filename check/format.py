@@ -43,9 +43,9 @@ def said_of(table):
 
 
 def plan_of(text):
-    """Returns what a plan of numbers says, without its version and its lengths of a tick and of a unit."""
+    """Returns what a plan of numbers says, without its version."""
     plan = {"sync": "after", "disturbance": []} | tomllib.loads(text)
-    return said_of({key: value for key, value in plan.items() if key not in ("version", "tick", "unit")})
+    return said_of({key: value for key, value in plan.items() if key != "version"})
 
 
 def differs(program, text, numbers, runs):
@@ -67,7 +67,8 @@ def random_texts(rng, k):
         while True:
             try:
                 plan = units.Plan(rng)
-                return "\n".join(plan.units) + "\n", "\n".join(plan.numbers) + "\n"
+                unit = [f'unit = "{plan.unit}um"' for line in plan.units if line.startswith("unit = ")]
+                return "\n".join(plan.units) + "\n", "\n".join([f'tick = "{plan.tick}fs"', *unit, *plan.numbers]) + "\n"
             except LookupError:
                 continue
     plan = priority.made(rng) if k % 4 == 2 else random_plans.random_plan(rng)

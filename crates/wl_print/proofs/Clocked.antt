@@ -1,12 +1,12 @@
 -- A plan text whose plan can be run has nodes, and each node's clock has a rate with a denominator.
-use Rattle.std.proofs.Common.{◌≡◌, ◌∙◌, refl, sym, ap, subst, ℕ, suc, ◌+◌, ◌*◌, ◌==◌, nat_lt, unsigned_abs, min, Bool, true, false, not, ◌&&◌, ◌||◌, List, [], ◌∷◌, map, length, Option, Some, None, Result, Ok, Err, is_ok, if◌then◌else◌, inl, inr, arith}
+use Rattle.std.proofs.Common.{◌≡◌, ◌∙◌, refl, sym, ap, ℕ, ◌+◌, ◌*◌, ◌==◌, nat_lt, unsigned_abs, min, Bool, true, false, not, List, [], ◌∷◌, map, Option, Some, None, Result, Ok, Err, is_ok, inl, inr, arith}
 use Rattle.std.proofs.Math.Nat.{zero-div}
 use Rattle.std.proofs.lemmas.Bool.{cases_Bool, false≢true}
 use Rattle.std.proofs.lemmas.Bool.Decides.{nat_tests}
-use Rattle.std.specs.List.{enumerate_from, list_all, list_any}
+use Rattle.std.specs.List.{enumerate_from, list_all}
 use Rattle.wl_limits.specs.declared.Limits.{Limits}
 use Rattle.wl_limits.specs.Limits.{offset_limit}
-use Rattle.wl_clock.specs.Timing.{Timing, has_zero_den, largest_deviation, millionths, timing_within}
+use Rattle.wl_clock.specs.Timing.{Timing, largest_deviation, millionths, timing_within}
 use Rattle.wl_clock.specs.declared.ClockFault.TheVariants.{BadPpm, BigOffset, NoRates, ZeroDen}
 use Rattle.wl_clock.specs.declared.Rate.{Rate}
 use Rattle.wl_node.specs.declared.setup.NodeSetup.{NodeSetup}
@@ -40,7 +40,7 @@ is_stopped (r ∷ rs) = lacks_den r.clock
 abbrev pub is_clocked : NodeText → Bool
 is_clocked n = not (is_stopped n.rates)
 
-no_value_of : {T E : Type 0} {e : E} {x : T} → Err e ≡ Ok x → ⊥
+pub no_value_of : {T E : Type 0} {e : E} {x : T} → Err e ≡ Ok x → ⊥
 no_value_of h = false≢true (ap is_ok h)
 
 after_made : {T U : Type 0} (r : Result T SetupFault) (make : T → Result U SetupFault) (y : U) → after r make ≡ Ok y → (x : T) × (r ≡ Ok x) × (make x ≡ Ok y)

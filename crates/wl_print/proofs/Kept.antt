@@ -1,24 +1,21 @@
 -- What a table without a fault keeps to: its keys are of the table, those that it needs are there, and each value is of its kind.
-use Rattle.std.proofs.Common.{◌≡◌, ◌∙◌, refl, sym, ap, ℕ, ℤ, pos, negsuc, Bool, true, false, not, ◌&&◌, ◌||◌, nat_le, List, [], ◌∷◌, map, filter, filter_map, Option, Some, None, option_map, option_and_then, unwrap_or, is_some, if◌then◌else◌, inl, inr, ◌⊎◌, arith}
+use Rattle.std.proofs.Common.{◌≡◌, ◌∙◌, refl, sym, ap, ℕ, ℤ, pos, negsuc, Bool, true, false, not, ◌&&◌, nat_le, List, [], ◌∷◌, map, filter, filter_map, Option, Some, None, option_map, option_and_then, unwrap_or, is_some, if◌then◌else◌, inl, inr, arith}
 use Rattle.std.proofs.lemmas.Bool.{and_parts, cases_Bool, false≢true}
 use Rattle.std.proofs.lemmas.Bool.Decides.{nat_tests}
-use Rattle.std.proofs.lemmas.Option.{none-some, same_Some}
+use Rattle.std.proofs.lemmas.Option.{none-some}
 use Rattle.std.specs.List.{list_all}
-use Rattle.toml.specs.Data.{Data, string, integer, float, boolean, datetime, array, table, Members, no_members, member, get_member, same_key, as_integer, as_str, as_table}
+use Rattle.toml.specs.Data.{Data, string, integer, float, boolean, datetime, array, table, Members, no_members, member, get_member, same_key, as_integer, as_str}
 use Rattle.wl_setup.specs.declared.keys.Key.{Key}
 use Rattle.wl_setup.specs.declared.keys.Key.TheVariants as key
 use Rattle.wl_setup.specs.declared.tables.Wrong.{Wrong}
 use Rattle.wl_setup.specs.declared.tables.Wrong.TheVariants as wrong
 use Rattle.wl_setup.specs.Faults.{fault_at_key, fault_of_key, first_some, is_of_table, is_value_of, keys_in, least, lesser, table_fault, unknown_key}
 use Rattle.wl_setup.specs.Keys.{key_text}
-use Rattle.wl_setup.specs.Kinds.{byte_in, bytes_at, elements_at, holds, is_name, is_ppm, name_at, number_at, number_in, number_within, positive_at, positive_in, ppm_at, small_at, some_name_at, some_number_at, tolerance_at, unless_below, value_at}
+use Rattle.wl_setup.specs.Kinds.{byte_in, bytes_at, elements_at, holds, is_name, is_ppm, name_at, number_at, number_in, positive_at, positive_in, ppm_at, small_at, some_name_at, some_number_at, tolerance_at, unless_below, value_at}
 use Rattle.wl_setup.specs.Limits.{largest_byte, largest_number, largest_small, largest_tolerance}
 use Rattle.wl_print.specs.Printable.{is_number_if, is_number_of_key, is_positive, is_small_number, is_tolerance}
 use Rattle.wl_print.proofs.Entries.{AllAllowed, AllTaken, Allowed, Taken}
 use Rattle.wl_print.proofs.Sorted.{get_at, same_is}
-
-pub both : (b c : Bool) → b ≡ true → c ≡ true → (b && c) ≡ true
-both b c hb hc = rw hb hc
 
 pub first_parts : {A : Type 0} (a : Option A) (more : List (Option A)) → first_some (a ∷ more) ≡ None → (a ≡ None) × (first_some more ≡ None)
 first_parts None more h = (refl, h)

@@ -1,5 +1,6 @@
 -- Nodes and plans that were printed are read as they were.
 use Rattle.std.proofs.Common.{◌≡◌, ◌∙◌, refl, sym, ap, subst, ℕ, ◌+◌, pos, Bool, true, false, not, ◌&&◌, ◌||◌, ◌==◌, nat_le, List, [], ◌∷◌, ◌++◌, map, codes, filter_map, Option, Some, None, option_map, is_some, if◌then◌else◌, arith, inl, inr}
+use Rattle.std.proofs.Math.Bool.{and-false}
 use Rattle.std.proofs.lemmas.Bool.{and_parts, cases_Bool, false≢true}
 use Rattle.std.proofs.lemmas.Bool.Decides.{nat_tests}
 use Rattle.std.specs.List.{enumerate_from, list_all}
@@ -28,7 +29,7 @@ use Rattle.wl_print.specs.Printable.{are_rates, are_segments, is_by_priority, is
 use Rattle.wl_print.specs.Written.{is_one, is_own}
 use Rattle.wl_print.proofs.Entries.{AllAllowed, AllTaken, Allowed, AreProper, Entry, Taken, all_members, all_there, entries_of, found, no_fault, proper_entries, rows_proper, seen, tables_value, with_entry, with_rows_is, with_tables_is}
 use Rattle.wl_print.proofs.PlanRows.{IsNode, den_of, frame_are_rows, frame_facts, frame_members, frame_rows, has_deviation, name_of, node_are_rows, node_members, node_rows, num_of, number_of, one_rate, own_clock, ppm_of, prop_of, ps1_of, ps2_of, quantum_of, queue_word, rate_are_rows, rate_members, rate_rows, rates_all, rates_apart, signed_of, tseg1_of, tseg2_of}
-use Rattle.wl_print.proofs.Readback.{and_false, clock_by_deviation, clock_by_fraction, clock_by_ppm, datum, flag_allowed, flag_seen, frame_fine, frame_is, frame_read, number_allowed, number_kind, number_none, number_seen, ppm_seen, rate_back, small_seen, some_number_seen}
+use Rattle.wl_print.proofs.Readback.{clock_by_deviation, clock_by_fraction, clock_by_ppm, datum, flag_allowed, flag_seen, frame_fine, frame_is, frame_read, number_allowed, number_kind, number_none, number_seen, ppm_seen, rate_back, small_seen, some_number_seen}
 use Rattle.wl_print.proofs.Sorted.{is_proper, is_proper_items, kept, sorted, sorted_items}
 use Rattle.wl_print.proofs.Tables.{all_tables, tables_in_order, with_rows, with_tables}
 
@@ -174,8 +175,8 @@ some_tables [] h = absurd (false≢true h)
 some_tables (r ∷ rs) h = (r, rs, refl)
 
 -- a node has tables of rates exactly if its clock keys aren't its own
-rates_none : (version : ℕ) (t : Members) → (version == 2) ≡ false → value_at key.Rates t ≡ None → has_rates version t ≡ false
-rates_none version t two none = rw (two, none) (and_false (has_traffic version))
+pub rates_none : (version : ℕ) (t : Members) → (version == 2) ≡ false → value_at key.Rates t ≡ None → has_rates version t ≡ false
+rates_none version t two none = rw (two, none) (and-false (has_traffic version))
 
 rates_some : (version : ℕ) (b : Bool) (t : Members) → is_known_version version ≡ true → ((version == 1) || (((version == 3) || (version == 4)) && b)) ≡ false
     → is_some (value_at key.Rates t) ≡ true → has_rates version t ≡ true
@@ -247,7 +248,7 @@ is_tseg (segments.Each prop ps1 ps2) = false
 is_tseg (segments.Controller tseg1 tseg2) = true
 
 tseg_none : (version : ℕ) (t : Members) → value_at key.Tseg1 t ≡ None → value_at key.Tseg2 t ≡ None → has_tseg version t ≡ false
-tseg_none version t a b = rw (a, b) (and_false (has_controllers version))
+tseg_none version t a b = rw (a, b) (and-false (has_controllers version))
 
 tseg_some : (version : ℕ) (t : Members) → has_controllers version ≡ true → is_some (value_at key.Tseg1 t) ≡ true → has_tseg version t ≡ true
 tseg_some version t known some = ap (λ (b : Bool). has_controllers version && (b || is_some (value_at key.Tseg2 t))) some ∙ rw known refl
@@ -318,9 +319,8 @@ is_by_fraction (text.Rate num den) = true
 is_by_fraction (text.Ppm quantum ppm) = false
 is_by_fraction (text.Fraction num den ppm) = true
 
-abbrev optional_by : Bool → Bool → Bool → List Key
-optional_by true known fraction = wide_node_optional fraction
-optional_by false known fraction = node_optional known
+abbrev pub optional_by : Bool → Bool → Bool → List Key
+optional_by wide known fraction = if wide then wide_node_optional fraction else node_optional known
 
 -- what a node lacks in an earlier version
 abbrev LacksOld : Bool → NodeText → Type 0
@@ -363,10 +363,10 @@ NoClock t =
     (value_at key.Controller t ≡ None) × (value_at key.Clock t ≡ None) × (value_at key.Prescaler t ≡ None) × (value_at key.BitRate t ≡ None)
 
 no_names : (version : ℕ) (t : Members) → NoClock t → names_none version t ≡ false
-no_names version t c = rw c.0 (and_false (has_controllers version))
+no_names version t c = rw c.0 (and-false (has_controllers version))
 
 no_clock : (version : ℕ) (t : Members) → NoClock t → has_clock version t ≡ false
-no_clock version t c = rw (c.1, c.2, c.3) (and_false (has_controllers version))
+no_clock version t c = rw (c.1, c.2, c.3) (and-false (has_controllers version))
 
 required_is : (version : ℕ) (t : Members) (a q b : Bool) → NoClock t → has_rates version t ≡ a → is_some (value_at key.Quantum t) ≡ q → has_tseg version t ≡ b
     → node_required version t ≡ (if a then required_by_rates b else if q then required_by_ppm b else required_by_rate b)
@@ -384,11 +384,6 @@ optional_is version t wide a q c ew ea eq =
     ∙ ap (λ (x : Bool). if wide then wide_node_optional (x || not (has_rates version t || is_some (value_at key.Quantum t))) else node_optional (has_traffic version)) (no_clock version t c)
     ∙ ap (λ (x : Bool). if wide then wide_node_optional (not (x || is_some (value_at key.Quantum t))) else node_optional (has_traffic version)) ea
     ∙ ap (λ (x : Bool). if wide then wide_node_optional (not (a || x)) else node_optional (has_traffic version)) eq
-    ∙ by_width wide (not (a || q))
-  where
-    by_width : (wide fraction : Bool) → (if wide then wide_node_optional fraction else node_optional (has_traffic version)) ≡ optional_by wide (has_traffic version) fraction
-    by_width true fraction = refl
-    by_width false fraction = refl
 
 -- what the keys of a node's place and segments hold
 abbrev SeesPlace : Members → NodeText → Type 0

@@ -1,19 +1,19 @@
 -- Members whose keys are in order, and what leaves them as they are.
-use Rattle.std.proofs.Common.{◌≡◌, ◌∙◌, refl, sym, ap, subst, ℕ, Ordering, Less, Equal, Greater, nat_cmp, Bool, true, false, not, ◌&&◌, ◌||◌, List, [], ◌∷◌, map, Option, Some, None, is_some, option_and_then, if◌then◌else◌, inl, inr, ◌⊎◌}
-use Rattle.std.proofs.lemmas.Bool.{and_parts, cases_Bool, false≢true}
+use Rattle.std.proofs.Common.{◌≡◌, ◌∙◌, refl, sym, ap, subst, ℕ, Ordering, Less, Equal, Greater, nat_cmp, Bool, true, false, not, ◌&&◌, ◌||◌, List, map, Option, Some, None, is_some, inl, inr, ◌⊎◌}
+use Rattle.std.proofs.lemmas.Bool.{and_parts, false≢true}
 use Rattle.std.proofs.lemmas.Cmp.{nat_list_cmp_total}
 use Rattle.std.proofs.lemmas.Map.Lookups.{exact_bytes}
 use Rattle.std.proofs.lemmas.Option.{none-some, same_Some}
 use Rattle.std.specs.Cmp.Lexicographic.{slice_cmp}
-use Rattle.std.specs.Ordering.{is_lt, match_ordering, ordering_reverse}
+use Rattle.std.specs.Ordering.{is_lt, ordering_reverse}
 use Rattle.toml.specs.Data.{Data, string, integer, float, boolean, datetime, array, table, Items, no_items, item, Members, no_members, member, get_member, as_str}
 use Rattle.toml.specs.View.{items_of}
 use Rattle.wl_units.specs.declared.quantity.Measure.{Measure}
 use Rattle.wl_plain.specs.declared.measure.Row.{Row}
 use Rattle.wl_plain.specs.declared.measure.Units.{Units}
-use Rattle.wl_plain.specs.Asking.{asks_at, asks_measure, asks_row, is_clock_key}
+use Rattle.wl_plain.specs.Asking.{asks_measure, asks_row, is_clock_key}
 use Rattle.wl_plain.specs.Measures.{converted, measure_at_key, number_or, plain_row, put_row, said_by}
-use Rattle.wl_plain.specs.Tables.{array_at, data_of, put_each, remade_at, with_member}
+use Rattle.wl_plain.specs.Tables.{data_of, remade_at, with_member}
 
 pub cases_ordering : (o : Ordering) → (o ≡ Less) ⊎ ((o ≡ Equal) ⊎ (o ≡ Greater))
 cases_ordering Less = inl refl
@@ -58,7 +58,7 @@ before_inserted j k d (member l e ms) less h =
       ]
     ]
 
-both : (b c : Bool) → b ≡ true → c ≡ true → (b && c) ≡ true
+pub both : (b c : Bool) → b ≡ true → c ≡ true → (b && c) ≡ true
 both b c hb hc = rw hb hc
 
 pub ordered_inserted : (k : List ℕ) (d : Data) (ms : Members) → is_ordered ms ≡ true → is_ordered (with_member k d ms) ≡ true

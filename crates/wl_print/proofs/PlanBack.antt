@@ -1,5 +1,6 @@
 -- A plan that was printed is read as it was.
 use Rattle.std.proofs.Common.{◌≡◌, ◌∙◌, refl, sym, ap, ℕ, pos, Bool, true, false, not, ◌&&◌, nat_le, List, [], ◌∷◌, ◌++◌, map, codes, decimal, Option, Some, None, is_some, option_map, Ok, if◌then◌else◌, arith, inl, inr}
+use Rattle.std.proofs.Math.Bool.{and-false}
 use Rattle.std.proofs.lemmas.Bool.{and_parts, cases_Bool, false≢true}
 use Rattle.std.proofs.lemmas.Bool.Decides.{nat_tests}
 use Rattle.std.proofs.lemmas.Str.{IsUtf8-string_bytes, is_utf8-from_IsUtf8}
@@ -34,7 +35,7 @@ use Rattle.wl_print.proofs.NodeBack.{entry_proper, map_back, map_same, node_entr
 use Rattle.wl_print.proofs.PlanPlain.{AllPlain, asks_no_tick, document_same, measure_plain, table_plain, tables_plain}
 use Rattle.wl_print.proofs.PlanLines.{plan_lines}
 use Rattle.wl_print.proofs.PlanRows.{IsPlan, disturbance_are_rows, disturbance_members, disturbance_rows, measure_of, node_facts, node_members, plan_facts, plan_members, top_are_rows, top_rows}
-use Rattle.wl_print.proofs.Readback.{and_false, datum, disturbance_back, number_kind, number_seen}
+use Rattle.wl_print.proofs.Readback.{datum, disturbance_back, number_kind, number_seen}
 use Rattle.wl_print.proofs.Scales.{tick_back, unit_back}
 use Rattle.wl_print.proofs.Sorted.{is_proper, kept, sorted, sorted_in_order}
 use Rattle.wl_print.proofs.Tables.{with_rows, with_tables}
@@ -236,7 +237,7 @@ module _ (p : PlanText) (h : IsPlan p) where
   plan_asks_none =
       ap (λ (b : Bool). has_controllers (number_at key.Version plan_table) && b)
       (asks_no_tick p h plan_table (sorted_in_order (all_members plan_entries)) (table_plain Top plan_entries top_plain) (plan_sees (codes "controller")) (plan_sees (codes "node")) (plan_sees (codes "disturbance")))
-      ∙ and_false (has_controllers (number_at key.Version plan_table))
+      ∙ and-false (has_controllers (number_at key.Version plan_table))
 
   top_taken : AllTaken plan_table (key.Version ∷ key.End ∷ key.Per ∷ key.Node ∷ [])
   top_taken = (

@@ -1,41 +1,34 @@
 -- A plan text that was read, and whose plan can be run, can be printed.
-use Rattle.std.proofs.Common.{◌≡◌, ◌∙◌, refl, sym, ap, subst, ℕ, ◌+◌, ℤ, pos, Bool, true, false, not, ◌&&◌, ◌||◌, ◌==◌, nat_le, List, [], ◌∷◌, map, Option, Some, None, option_map, option_and_then, is_some, is_none, Result, Ok, Err, if◌then◌else◌, inl, inr, arith}
-use Rattle.std.proofs.lemmas.Bool.{and_parts, cases_Bool, false≢true}
+use Rattle.std.proofs.Common.{◌≡◌, ◌∙◌, refl, sym, ap, subst, ℕ, ◌+◌, ℤ, Bool, true, false, not, ◌&&◌, ◌||◌, ◌==◌, List, [], ◌∷◌, map, Option, Some, None, is_some, is_none, if◌then◌else◌, arith}
+use Rattle.std.proofs.Math.Bool.{or-true, and-true}
+use Rattle.std.proofs.lemmas.Bool.{and_parts, false≢true}
 use Rattle.std.proofs.lemmas.Bool.Decides.{nat_tests}
-use Rattle.std.proofs.lemmas.Option.{none-some, same_Some}
+use Rattle.std.proofs.lemmas.Option.{none-some}
 use Rattle.std.specs.List.{enumerate_from, list_all}
 use Rattle.toml.specs.Data.{Data, Members}
-use Rattle.wl_units.specs.declared.scale.TheConstants.{LONGEST_TICK, LONGEST_UNIT}
-use Rattle.wl_units.specs.Scales.{up_to}
 use Rattle.wl_setup.specs.declared.keys.Key.{Key}
 use Rattle.wl_setup.specs.declared.keys.Key.TheVariants as key
 use Rattle.wl_setup.specs.declared.plan_text.ClockText.{ClockText}
 use Rattle.wl_setup.specs.declared.plan_text.ClockText.TheVariants as text
-use Rattle.wl_setup.specs.declared.plan_text.NodeText.{NodeText}
-use Rattle.wl_setup.specs.declared.plan_text.QueueText.{QueueText}
-use Rattle.wl_setup.specs.declared.plan_text.QueueText.TheVariants as queue
 use Rattle.wl_setup.specs.declared.plan_text.RateText.{RateText}
-use Rattle.wl_setup.specs.declared.plan_text.SegmentsText.{SegmentsText}
 use Rattle.wl_setup.specs.declared.plan_text.SegmentsText.TheVariants as segments
 use Rattle.wl_setup.specs.declared.table_path.PlacedFault.{PlacedFault}
-use Rattle.wl_setup.specs.Faults.{disturbance_fault, first_some, frame_fault, has_clock, has_rates, has_tseg, is_by_bit_rate, is_fraction, is_of_table, names_none, node_keys, node_required, optional_in, rate_fault, rate_keys, table_fault}
-use Rattle.wl_setup.specs.Keys.{TableKeys, disturbance_required, frame_optional, frame_required, key_text, node_optional, rate_keys_by_fraction, rate_keys_by_ppm, required_by_clock, required_by_ppm, required_by_rate, required_by_rates, wide_frame_optional, wide_node_optional}
-use Rattle.wl_setup.specs.Kinds.{is_name, is_ppm, name_at, number_at, tick_at, tick_value, tolerance_at, unit_at, unit_value, positive_at, ppm_at, queue_at, small_at, some_name_at, some_number_at, tables_at, truth_at, value_at}
+use Rattle.wl_setup.specs.Faults.{disturbance_fault, first_some, frame_fault, has_clock, has_rates, has_tseg, is_by_bit_rate, is_fraction, names_none, node_keys, node_required, optional_in, rate_fault, table_fault}
+use Rattle.wl_setup.specs.Keys.{TableKeys, disturbance_required, frame_optional, frame_required, node_optional, rate_keys_by_fraction, rate_keys_by_ppm, required_by_clock, required_by_ppm, required_by_rate, required_by_rates, wide_frame_optional, wide_node_optional}
+use Rattle.wl_setup.specs.Kinds.{is_name, is_ppm, name_at, number_at, positive_at, ppm_at, queue_at, small_at, some_name_at, some_number_at, tables_at, truth_at, value_at}
 use Rattle.wl_setup.specs.TablePaths.{disturbance_fault_at, first_in, frame_fault_at, node_fault_at, rate_fault_at}
 use Rattle.wl_setup.specs.Texts.{clock_of, disturbance_of, frame_of, node_text_of, rate_of, rates_of, segments_text_of}
 use Rattle.wl_setup.specs.Version.{has_controllers, has_traffic}
-use Rattle.wl_print.specs.Printable.{are_rates, are_segments, is_by_priority, is_clock_text, is_disturbance, is_frame_text, is_node, is_number_if, is_number_of_key, is_positive, is_rate, is_small_number, is_spot, is_tolerance}
+use Rattle.wl_print.specs.Printable.{are_rates, are_segments, is_by_priority, is_clock_text, is_disturbance, is_frame_text, is_node, is_number_if, is_number_of_key, is_positive, is_rate, is_spot}
 use Rattle.wl_print.specs.Written.{is_one}
 use Rattle.wl_print.proofs.Clocked.{is_clocked, is_stopped, lacks_den}
-use Rattle.wl_print.proofs.Entries.{AllAllowed, AllTaken, Allowed, Taken}
-use Rattle.wl_print.proofs.Kept.{Kept, absent, both, bytes_fit, first_parts, least_fits, mapped_none, name_fits, number_fits, positive_fits, positive_there, ppm_fits, small_fits, some_name_fits, some_number_fits, table_kept, taken_if_there, tolerance_fits}
+use Rattle.wl_print.proofs.Entries.{AllTaken, Taken}
+use Rattle.wl_print.proofs.NodeBack.{optional_by, rates_none}
+use Rattle.wl_print.proofs.Ordered.{both}
+use Rattle.wl_print.proofs.Kept.{Kept, absent, bytes_fit, first_parts, least_fits, mapped_none, name_fits, number_fits, positive_fits, positive_there, ppm_fits, small_fits, some_name_fits, some_number_fits, table_kept, taken_if_there, tolerance_fits}
 
 true_not_false : true ≡ false → ⊥
 true_not_false h = false≢true (sym h)
-
-or_true : (b : Bool) → (b || true) ≡ true
-or_true true = refl
-or_true false = refl
 
 or_right : (b c : Bool) → (b || c) ≡ false → c ≡ false
 or_right true c h = absurd (true_not_false h)
@@ -54,7 +47,7 @@ frame_counted : (t : Members) (o : Option Data) → value_at key.Count t ≡ o �
     → (is_none (positive_at key.Count t) || is_some (positive_at key.Every t)) ≡ true
 frame_counted t None is every = rw is refl
 frame_counted t (Some d) is every =
-    ap (λ (b : Bool). is_none (positive_at key.Count t) || b) (positive_there t (every (some_value t key.Count d is))) ∙ or_true (is_none (positive_at key.Count t))
+    ap (λ (b : Bool). is_none (positive_at key.Count t) || b) (positive_there t (every (some_value t key.Count d is))) ∙ or-true (is_none (positive_at key.Count t))
 
 abbrev FrameFits : Bool → Bool → Members → Type 0
 FrameFits w b t =
@@ -187,9 +180,6 @@ abbrev required_for : Bool → Bool → Bool → Bool → Bool → Bool → List
 required_for n c r q by s =
     if n then key.Controller ∷ [] else if c then required_by_clock by s else if r then required_by_rates s else if q then required_by_ppm s else required_by_rate s
 
-abbrev optional_for : Bool → Bool → Bool → List Key
-optional_for w f b = if w then wide_node_optional f else node_optional b
-
 name_first : (c r q by s : Bool) (t : Members) → AllTaken t (required_for false c r q by s) → Taken t key.Name
 name_first true r q by s t taken = taken.0
 name_first false true q by s t taken = taken.0
@@ -231,14 +221,14 @@ no_quantum_clock false false false t k = absent (required_by_clock false false) 
 
 -- a node's own clock, which is written as its keys say
 own_clock_fits : (w n c q by s b : Bool) (t : Members) → (n ≡ true → w ≡ true) → (c ≡ true → w ≡ true) → (w ≡ false → s ≡ false) → is_some (value_at key.Quantum t) ≡ q
-    → Kept (required_for n c false q by s) (optional_for w (c || not q) b) t → (op : Option Data) → value_at key.Ppm t ≡ op → (oq : Option Data) → value_at key.Quantum t ≡ oq → n ≡ false → is_clock_text w (clock_of t) ≡ true
+    → Kept (required_for n c false q by s) (optional_by w b (c || not q)) t → (op : Option Data) → value_at key.Ppm t ≡ op → (oq : Option Data) → value_at key.Quantum t ≡ oq → n ≡ false → is_clock_text w (clock_of t) ≡ true
 own_clock_fits w n c q by s b t wn wc ws eq k op ep oq is named = by_parts w n c q by s wn wc ws eq k oq is named op ep
   where
     some_not : (d : Data) (o : Option Data) → o ≡ None → o ≡ Some d → ⊥
     some_not d o none some = none-some d (sym none ∙ some)
 
     by_parts : (w n c q by s : Bool) → (n ≡ true → w ≡ true) → (c ≡ true → w ≡ true) → (w ≡ false → s ≡ false) → is_some (value_at key.Quantum t) ≡ q
-        → Kept (required_for n c false q by s) (optional_for w (c || not q) b) t → (oq : Option Data) → value_at key.Quantum t ≡ oq → n ≡ false → (op : Option Data) → value_at key.Ppm t ≡ op → is_clock_text w (clock_of t) ≡ true
+        → Kept (required_for n c false q by s) (optional_by w b (c || not q)) t → (oq : Option Data) → value_at key.Quantum t ≡ oq → n ≡ false → (op : Option Data) → value_at key.Ppm t ≡ op → is_clock_text w (clock_of t) ≡ true
     by_parts w true c q by s wn wc ws eq k oq is named op ep = absurd (true_not_false named)
     by_parts false false true q by s wn wc ws eq k oq is named op ep = absurd (false≢true (wc refl))
     by_parts true false true q by s wn wc ws eq k (Some d) is named op ep = absurd (some_not d (value_at key.Quantum t) (no_quantum_clock by s true t k) is)
@@ -277,17 +267,13 @@ tables_fit version [] h some first = absurd (false≢true some)
 tables_fit version (r ∷ rs) h some first =
     both (list_all (is_rate (has_controllers version && is_one (r ∷ rs))) (r ∷ rs)) ((is_one (r ∷ rs) && not (version == 2)) || not (version == 1))
     (all_any (has_controllers version && is_one (r ∷ rs)) (r ∷ rs) h)
-    (ap (λ (b : Bool). (is_one (r ∷ rs) && not (version == 2)) || not b) first ∙ or_true (is_one (r ∷ rs) && not (version == 2)))
+    (ap (λ (b : Bool). (is_one (r ∷ rs) && not (version == 2)) || not b) first ∙ or-true (is_one (r ∷ rs) && not (version == 2)))
 
 one_fits : (version : ℕ) (c : ClockText) → is_clock_text (has_controllers version) c ≡ true → (version == 2) ≡ false → are_rates version (record { from = 0; clock = c } ∷ []) ≡ true
 one_fits version c h two =
     both _ ((true && not (version == 2)) || not (version == 1))
-    (both _ true (both (is_number_of_key 0) (is_clock_text (has_controllers version && true) c) (least_fits _) (subst (λ (b : Bool). is_clock_text b c ≡ true) (sym (and_true (has_controllers version))) h)) refl)
+    (both _ true (both (is_number_of_key 0) (is_clock_text (has_controllers version && true) c) (least_fits _) (subst (λ (b : Bool). is_clock_text b c ≡ true) (sym (and-true (has_controllers version))) h)) refl)
     (ap (λ (b : Bool). (true && not b) || not (version == 1)) two)
-  where
-    and_true : (b : Bool) → (b && true) ≡ b
-    and_true true = refl
-    and_true false = refl
 
 not_first : (v : ℕ) (s : Bool) → ((v == 2) || (((v == 3) || (v == 4)) && s)) ≡ true → (v == 1) ≡ false
 not_first v s h = grind (arith, nat_tests)
@@ -323,25 +309,18 @@ stopped_without version t has none den =
 wide_not_two : (v : ℕ) → (v == 4) ≡ true → (v == 2) ≡ false
 wide_not_two v h = grind (arith, nat_tests)
 
-and_false : (b : Bool) → (b && false) ≡ false
-and_false true = refl
-and_false false = refl
-
-named_has_none : (version : ℕ) (t : Members) → (version == 2) ≡ false → value_at key.Rates t ≡ None → has_rates version t ≡ false
-named_has_none version t two none = rw (two, none) (and_false (has_traffic version))
-
 -- the keys of a node's table
 abbrev NodeKept : ℕ → Members → Type 0
 NodeKept version t =
     Kept (required_for (names_none version t) (has_clock version t) (has_rates version t) (is_some (value_at key.Quantum t)) (is_by_bit_rate t) (has_tseg version t))
-    (optional_for (has_controllers version) (is_fraction version t) (has_traffic version)) t
+    (optional_by (has_controllers version) (has_traffic version) (is_fraction version t)) t
 
-kept_named : (w n c r q by s f b : Bool) (t : Members) → n ≡ true → w ≡ true → Kept (required_for n c r q by s) (optional_for w f b) t → Kept (key.Controller ∷ []) (wide_node_optional f) t
+kept_named : (w n c r q by s f b : Bool) (t : Members) → n ≡ true → w ≡ true → Kept (required_for n c r q by s) (optional_by w b f) t → Kept (key.Controller ∷ []) (wide_node_optional f) t
 kept_named true true c r q by s f b t en ew k = k
 kept_named false n c r q by s f b t en ew k = absurd (false≢true ew)
 kept_named true false c r q by s f b t en ew k = absurd (false≢true en)
 
-kept_narrow : (w n c r q by s f b : Bool) (t : Members) → w ≡ false → n ≡ false → c ≡ false → s ≡ false → Kept (required_for n c r q by s) (optional_for w f b) t
+kept_narrow : (w n c r q by s f b : Bool) (t : Members) → w ≡ false → n ≡ false → c ≡ false → s ≡ false → Kept (required_for n c r q by s) (optional_by w b f) t
     → Kept (required_for false false r q false false) (node_optional b) t
 kept_narrow false false false true q by false f b t ew en ec es k = k
 kept_narrow false false false false true by false f b t ew en ec es k = k
@@ -355,7 +334,7 @@ kept_name : (n c r q by s : Bool) (optional : List Key) (t : Members) → n ≡ 
 kept_name false c r q by s optional t en k = name_first c r q by s t k.taken
 kept_name true c r q by s optional t en k = absurd (true_not_false en)
 
-kept_own : (w n c r q by s b : Bool) (t : Members) → r ≡ false → Kept (required_for n c r q by s) (optional_for w (c || not (r || q)) b) t → Kept (required_for n c false q by s) (optional_for w (c || not q) b) t
+kept_own : (w n c r q by s b : Bool) (t : Members) → r ≡ false → Kept (required_for n c r q by s) (optional_by w b (c || not (r || q))) t → Kept (required_for n c false q by s) (optional_by w b (c || not q)) t
 kept_own w n c false q by s b t er k = k
 kept_own w n c true q by s b t er k = absurd (true_not_false er)
 
@@ -369,7 +348,7 @@ module _ (version : ℕ) (t : Members) (k : NodeKept version t) (clocked : is_cl
           let wide = (and_parts (has_controllers version) (is_some (value_at key.Controller t)) is).0 in
           let alone = kept_named (has_controllers version) (names_none version t) (has_clock version t) (has_rates version t) (is_some (value_at key.Quantum t)) (is_by_bit_rate t) (has_tseg version t) (is_fraction version t) (has_traffic version) t is wide k in
           let none = no_quantum_named (is_fraction version t) t alone in
-          let stopped = stopped_without version t (named_has_none version t (wide_not_two version wide) none.2) none.0 none.1 in
+          let stopped = stopped_without version t (rates_none version t (wide_not_two version wide) none.2) none.0 none.1 in
           absurd (false≢true (sym (ap not stopped) ∙ clocked))
 
   narrow_k : has_controllers version ≡ false → Kept (required_for false false (has_rates version t) (is_some (value_at key.Quantum t)) false false) (node_optional (has_traffic version)) t
@@ -389,7 +368,7 @@ module _ (version : ℕ) (t : Members) (k : NodeKept version t) (clocked : is_cl
       no_truth none b = rw none refl
 
       by_traffic : (b : Bool) → has_traffic version ≡ b → (not (truth_at key.Listen t) || has_traffic version) ≡ true
-      by_traffic true is = ap (λ (b : Bool). not (truth_at key.Listen t) || b) is ∙ or_true (not (truth_at key.Listen t))
+      by_traffic true is = ap (λ (b : Bool). not (truth_at key.Listen t) || b) is ∙ or-true (not (truth_at key.Listen t))
       by_traffic false is =
           let old = subst (λ (b : Bool). Kept (required_for false false (has_rates version t) (is_some (value_at key.Quantum t)) false false) (node_optional b) t) is (narrow_k (or_right (version == 3) (has_controllers version) is)) in
           no_truth (old_node (has_rates version t) (is_some (value_at key.Quantum t)) t old) (has_traffic version)
@@ -404,7 +383,7 @@ module _ (version : ℕ) (t : Members) (k : NodeKept version t) (clocked : is_cl
       no_queue none b = rw none refl
 
       by_width : (b : Bool) → has_controllers version ≡ b → (not (is_by_priority (queue_at key.Queue t)) || has_controllers version) ≡ true
-      by_width true is = ap (λ (b : Bool). not (is_by_priority (queue_at key.Queue t)) || b) is ∙ or_true (not (is_by_priority (queue_at key.Queue t)))
+      by_width true is = ap (λ (b : Bool). not (is_by_priority (queue_at key.Queue t)) || b) is ∙ or-true (not (is_by_priority (queue_at key.Queue t)))
       by_width false is = no_queue (narrow_lacks is).0 (has_controllers version)
 
   own_kept : has_rates version t ≡ false → is_clock_text (has_controllers version) (clock_of t) ≡ true

@@ -1,16 +1,16 @@
 -- A printed plan is its own plain form: no text is at the key of a measure, no clock is written by its frequency, and no node names a controller.
-use Rattle.std.proofs.Common.{◌≡◌, ◌∙◌, refl, sym, ap, subst, ℕ, ℤ, Bool, true, false, not, ◌&&◌, ◌||◌, List, [], ◌∷◌, ◌++◌, map, codes, Option, Some, None, option_map, is_some, if◌then◌else◌}
+use Rattle.std.proofs.Common.{◌≡◌, ◌∙◌, refl, sym, ap, subst, ℕ, ℤ, Bool, true, false, List, [], ◌∷◌, map, codes, Option, Some, None, option_map}
 use Rattle.std.proofs.lemmas.Bool.{and_parts}
 use Rattle.std.specs.List.{list_all, list_any}
-use Rattle.toml.specs.Data.{Data, string, integer, float, boolean, datetime, array, table, Members, get_member, no_members}
+use Rattle.toml.specs.Data.{Data, string, integer, float, boolean, datetime, array, table, Members, get_member}
 use Rattle.wl_plain.specs.declared.frame.Beat.{Beat}
 use Rattle.wl_plain.specs.declared.measure.Row.{Row}
 use Rattle.wl_plain.specs.declared.measure.Row.TheVariants.{Top, Node, Rate, Frame, Disturbance}
 use Rattle.wl_plain.specs.declared.measure.Units.{Units}
-use Rattle.wl_plain.specs.Asking.{asks_controllers, asks_data, asks_node, asks_node_of, asks_row, asks_some, asks_tick, is_clock_key}
+use Rattle.wl_plain.specs.Asking.{asks_data, asks_node, asks_node_of, asks_row, asks_some, asks_tick, is_clock_key}
 use Rattle.wl_plain.specs.Clocks.{of_kind, with_quantum}
 use Rattle.wl_plain.specs.Documents.{controllers_in, plain_document, plain_with, with_controllers, with_nodes}
-use Rattle.wl_plain.specs.Measures.{measure_at_key, plain_row, plain_row_of, units_of}
+use Rattle.wl_plain.specs.Measures.{measure_at_key, plain_row_of, units_of}
 use Rattle.wl_plain.specs.Nodes.{beat_at_node, plain_frame, plain_frame_of, plain_node, plain_node_of, with_clock, with_controller, with_every, with_frames, with_ready}
 use Rattle.wl_plain.specs.Tables.{array_at, data_of, remade_at}
 use Rattle.wl_setup.specs.declared.plan_text.DisturbanceText.{DisturbanceText}
@@ -20,12 +20,11 @@ use Rattle.wl_setup.specs.declared.plan_text.PlanText.{PlanText}
 use Rattle.wl_setup.specs.declared.plan_text.RateText.{RateText}
 use Rattle.wl_setup.specs.Version.{has_traffic}
 use Rattle.wl_print.specs.Printable.{is_disturbance, is_frame_text, is_node, is_rate}
-use Rattle.wl_print.specs.Written.{sync_word}
 use Rattle.wl_print.proofs.Entries.{Entry, all_members, entries_of, tables_value, with_rows_is}
 use Rattle.wl_print.proofs.NodeBack.{kept_tables, node_entries, node_is, node_sees, rates_apart_all}
 use Rattle.wl_print.proofs.Ordered.{each_member, is_ordered, is_plain_value, remade_array, remade_none, row_asks_none, row_same}
-use Rattle.wl_print.proofs.PlanRows.{IsFrame, IsNode, IsPlan, bytes_of, clock_rows, den_of, disturbance_members, disturbance_rows, flag_of, frame_facts, frame_members, frame_rows, measure_of, name_of, node_facts, node_members, num_of, number_of, own_clock, place_of, ppm_of, prop_of, ps1_of, ps2_of, quantum_of, queue_word, rate_members, rate_rows, rates_apart, signed_of, tseg1_of, tseg2_of}
-use Rattle.wl_print.proofs.Readback.{disturbance_sees, frame_entries, frame_is, frame_sees}
+use Rattle.wl_print.proofs.PlanRows.{IsFrame, IsNode, IsPlan, bytes_of, den_of, disturbance_members, disturbance_rows, flag_of, frame_facts, frame_members, measure_of, name_of, node_facts, node_members, num_of, number_of, own_clock, place_of, ppm_of, prop_of, ps1_of, ps2_of, quantum_of, queue_word, rate_members, rate_rows, rates_apart, signed_of, tseg1_of, tseg2_of}
+use Rattle.wl_print.proofs.Readback.{frame_entries, frame_is, frame_sees}
 use Rattle.wl_print.proofs.Sorted.{each_sorted, kept, sorted, sorted_data, sorted_in_order, sorted_items}
 use Rattle.wl_print.proofs.Tables.{Row as PrintedRow, tables_in_order}
 

@@ -1,5 +1,6 @@
 -- A plan text that was read, and whose plan can be run, is read again as it is printed, in its own version and in version 4.
-use Rattle.std.proofs.Common.{◌≡◌, ◌∙◌, refl, sym, ap, ℕ, Bool, true, false, not, ◌&&◌, ◌||◌, ◌==◌, nat_le, List, [], ◌∷◌, map, Option, Some, None, option_map, option_and_then, is_ok, Result, Ok, Err, if◌then◌else◌}
+use Rattle.std.proofs.Common.{◌≡◌, ◌∙◌, refl, sym, ap, ℕ, Bool, true, false, not, ◌&&◌, ◌||◌, ◌==◌, nat_le, List, [], ◌∷◌, Option, Some, None, option_map, option_and_then, Result, Ok, Err, if◌then◌else◌}
+use Rattle.std.proofs.Math.Bool.{or-true}
 use Rattle.std.proofs.lemmas.Bool.{and_parts, false≢true}
 use Rattle.std.proofs.lemmas.Option.{none-some}
 use Rattle.std.specs.List.{list_all}
@@ -11,7 +12,6 @@ use Rattle.wl_units.specs.Scales.{in_small_units, tick_said, unit_said, up_to}
 use Rattle.wl_units.specs.Units.{quantity_of}
 use Rattle.wl_setup.specs.declared.fault.SetupFault.{SetupFault}
 use Rattle.wl_setup.specs.declared.fault.SetupFault.TheVariants.{SameName, Version}
-use Rattle.wl_setup.specs.declared.keys.Key.{Key}
 use Rattle.wl_setup.specs.declared.keys.Key.TheVariants as key
 use Rattle.wl_setup.specs.declared.plan_text.ClockText.{ClockText}
 use Rattle.wl_setup.specs.declared.plan_text.ClockText.TheVariants as text
@@ -27,20 +27,20 @@ use Rattle.wl_setup.specs.declared.table_path.TablePath.TheVariants.{Top}
 use Rattle.wl_setup.specs.Document.{first_fault, plain_fault, plan_text_of, read_form, unless}
 use Rattle.wl_setup.specs.Faults.{asks_tick_in, required_fault, table_fault, top_keys, version_fault}
 use Rattle.wl_setup.specs.Keys.{top_optional, top_required}
-use Rattle.wl_setup.specs.Kinds.{is_name, is_ppm, number_at, tables_at, tick_at, tick_value, unit_at, unit_value, value_at}
-use Rattle.wl_setup.specs.Limits.{largest_byte}
+use Rattle.wl_setup.specs.Kinds.{is_name, number_at, tables_at, tick_at, tick_value, unit_at, unit_value, value_at}
 use Rattle.wl_setup.specs.Names.{has_repeat, names_of, same_name_fault}
 use Rattle.wl_setup.specs.Plans.{plan_of_text}
-use Rattle.wl_setup.specs.Reading.{document_answer, document_of, text_answer}
-use Rattle.wl_setup.specs.TablePaths.{fault_at, placed}
-use Rattle.wl_setup.specs.Texts.{node_text_of, plan_of}
+use Rattle.wl_setup.specs.Reading.{document_answer, document_of}
+use Rattle.wl_setup.specs.TablePaths.{placed}
+use Rattle.wl_setup.specs.Texts.{plan_of}
 use Rattle.wl_setup.specs.Version.{has_controllers, has_traffic, is_known_version}
-use Rattle.wl_print.specs.Printable.{ReadIsPrintable, are_rates, are_segments, has_nodes, is_by_priority, is_clock_text, is_disturbance, is_frame_text, is_node, is_number_if, is_number_of_key, is_positive, is_printable, is_rate, is_scale_if, is_small_number, is_spot}
+use Rattle.wl_print.specs.Printable.{ReadIsPrintable, are_rates, are_segments, has_nodes, is_by_priority, is_clock_text, is_disturbance, is_frame_text, is_node, is_number_if, is_number_of_key, is_positive, is_printable, is_rate, is_scale_if, is_spot}
 use Rattle.wl_print.specs.Written.{is_one}
-use Rattle.wl_print.proofs.Clocked.{is_clocked, plan_runs}
-use Rattle.wl_print.proofs.Kept.{Kept, absent, both, first_parts, mapped_none, number_fits, table_kept}
+use Rattle.wl_print.proofs.Clocked.{is_clocked, no_value_of, plan_runs}
+use Rattle.wl_print.proofs.Kept.{Kept, absent, first_parts, mapped_none, number_fits, table_kept}
+use Rattle.wl_print.proofs.Ordered.{both}
 use Rattle.wl_print.proofs.PlanKept.{disturbances_kept, nodes_kept}
-use Rattle.wl_print.proofs.PlanRows.{IsFrame, IsNode, IsPlan, frame_facts, node_facts, plan_facts, rates_all}
+use Rattle.wl_print.proofs.PlanRows.{frame_facts, node_facts, plan_facts, rates_all}
 
 -- ---- the top table
 
@@ -123,10 +123,6 @@ plan_kept t h clocked some =
 
 -- ---- the same in version 4
 
-or_true : (b : Bool) → (b || true) ≡ true
-or_true true = refl
-or_true false = refl
-
 positive_up : (b : Bool) (o : Option ℕ) → is_positive b o ≡ true → is_positive true o ≡ true
 positive_up b None h = refl
 positive_up b (Some n) h = (and_parts b (nat_le 1 n && is_number_of_key n) h).1
@@ -169,7 +165,7 @@ rates_up version (r ∷ rs) h =
     let own = is_one (r ∷ rs) in
     both (list_all (is_rate own) (r ∷ rs)) ((own && true) || true)
     (each_up (is_rate (has_controllers version && own)) (is_rate own) (rate_up (has_controllers version) own) (r ∷ rs) (rates_all version (r ∷ rs) h))
-    (or_true (own && true))
+    (or-true (own && true))
 
 segments_up : (b : Bool) (s : SegmentsText) → are_segments b s ≡ true → are_segments true s ≡ true
 segments_up b (segments.Each prop ps1 ps2) h = h
@@ -188,8 +184,8 @@ node_up version n is =
       h.out,
       h.into,
       h.tolerance,
-      or_true (not n.listens),
-      or_true (not (is_by_priority n.queue)),
+      or-true (not n.listens),
+      or-true (not (is_by_priority n.queue)),
       number_up (has_controllers version) n.until h.until,
       each_up (is_frame_text version) (is_frame_text 4) (frame_up version) n.frame h.frames,
     ) refl
@@ -219,9 +215,6 @@ plan_up p is =
     ) refl
 
 -- ---- what was read
-
-no_value_of : {T E : Type 0} {e : E} {x : T} → Err e ≡ Ok x → ⊥
-no_value_of h = false≢true (ap is_ok h)
 
 abbrev plan_in : PlanText → Result PlanText SetupFault → PlanText
 plan_in p (Ok q) = q

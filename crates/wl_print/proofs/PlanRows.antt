@@ -1,15 +1,12 @@
 -- The rows of a plan's tables, and that their lines are what is printed.
-use Rattle.std.proofs.Common.{◌≡◌, ◌∙◌, refl, sym, ap, subst, ℕ, suc, ◌^◌, ◌<◌, ℤ, pos, negsuc, FitsSigned, w64, Bool, true, false, not, ◌&&◌, ◌||◌, ◌==◌, nat_le, List, [], ◌∷◌, ◌++◌, codes, flat_map, length, Option, Some, None, is_some, is_none, decimal, if◌then◌else◌, inl, inr, arith, append_assoc, append-nil, leb-true}
+use Rattle.std.proofs.Common.{◌≡◌, refl, ℕ, suc, ◌^◌, ◌<◌, ℤ, pos, negsuc, FitsSigned, w64, Bool, true, false, not, ◌&&◌, ◌||◌, ◌==◌, nat_le, List, [], ◌∷◌, ◌++◌, codes, length, Option, Some, None, is_some, is_none, decimal, if◌then◌else◌, inl, inr, arith, leb-true}
 use Rattle.std.proofs.lemmas.Bool.{and_parts, false≢true, cases_Bool}
 use Rattle.std.proofs.lemmas.Bool.Decides.{nat_tests}
 use Rattle.std.specs.Fmt.{digits, signed_decimal}
 use Rattle.std.proofs.lemmas.Fmt.{decimal_is_IsNumeral}
 use Rattle.std.specs.List.{list_all}
 use Rattle.std.specs.Str.Parse.{AllDigits}
-use Rattle.toml_writer.specs.Text.{key_text}
 use Rattle.toml.specs.Data.{Data, string, integer, boolean, array, Members, no_members}
-use Rattle.toml.specs.Tables.{Expression, array_table}
-use Rattle.toml.specs.Text.{expressions, pairs, sections}
 use Rattle.wl_segments.specs.declared.SyncRules.{SyncRules}
 use Rattle.wl_segments.specs.declared.SyncRules.TheVariants as sync
 use Rattle.wl_setup.specs.declared.plan_text.PlanText.{PlanText}
@@ -29,10 +26,9 @@ use Rattle.wl_setup.specs.Names.{has_repeat, names_of}
 use Rattle.wl_setup.specs.Version.{has_controllers, has_traffic, is_known_version}
 use Rattle.wl_units.specs.declared.scale.TheConstants.{LONGEST_TICK, LONGEST_UNIT}
 use Rattle.wl_print.specs.Printable.{are_rates, are_segments, has_nodes, is_by_priority, is_clock_text, is_disturbance, is_frame_text, is_node, is_number_if, is_number_of_key, is_positive, is_printable, is_rate, is_scale_if, is_small_number, is_spot, is_tolerance}
-use Rattle.wl_print.specs.Written.{clock_lines, data_line, disturbance_lines, flag_line, frame_keys, frame_lines, from_line, header_line, interval_lines, is_one, is_own, lines_of_segments, measure_line, name_lines, node_keys, node_lines, number_line, own_clock_lines, place_lines, plan_words, queue_line, rate_clock_lines, rate_lines, rate_tables, segment_lines, spot_line, sync_word, top_lines}
+use Rattle.wl_print.specs.Written.{is_one, is_own, sync_word}
 use Rattle.wl_print.proofs.Bytes.{AllBytes, byte_items}
-use Rattle.wl_print.proofs.Lines.{AreLines, IsLine, header_turn, join_lines}
-use Rattle.wl_print.proofs.Tables.{AreRows, IsRow, Row, bytes_pair, bytes_text, hex_pair, name_pair, number_pair, pairs_rows, pairs_tables, row_line, sections_rows, sections_tables, signed_pair, table_lines, true_pair, value_line, with_rows, with_tables}
+use Rattle.wl_print.proofs.Tables.{AreRows, IsRow, Row, bytes_pair, bytes_text, hex_pair, name_pair, number_pair, signed_pair, true_pair, with_rows, with_tables}
 
 -- ---- values
 

@@ -1,5 +1,6 @@
 -- Tables that were printed are read as they were.
 use Rattle.std.proofs.Common.{◌≡◌, ◌∙◌, refl, sym, ap, ℕ, ℤ, pos, Bool, true, false, ◌&&◌, ◌||◌, ◌==◌, nat_le, List, [], ◌∷◌, codes, filter_map, Option, Some, None, option_map, is_some, is_none, if◌then◌else◌, arith, inl, inr}
+use Rattle.std.proofs.Math.Bool.{and-false}
 use Rattle.std.proofs.lemmas.Bool.{and_parts, cases_Bool, false≢true}
 use Rattle.std.proofs.lemmas.Bool.Decides.{nat_tests}
 use Rattle.std.specs.List.{list_all}
@@ -365,10 +366,6 @@ DisturbanceBack known node x from to =
     (disturbance_of t ≡ one_disturbance node x from to)
     × (table_fault (record { required = disturbance_required (known && is_some (value_at key.AtNode t)); optional = [] }) t ≡ None)
 
-pub and_false : (b : Bool) → (b && false) ≡ false
-and_false true = refl
-and_false false = refl
-
 disturbance_by : (t : Members) (at : Option (List ℕ)) (x from to : ℕ) → some_name_at key.AtNode t ≡ at → small_at key.X t ≡ x → number_at key.From t ≡ from → number_at key.To t ≡ to
     → disturbance_of t ≡ one_disturbance at x from to
 disturbance_by t at x from to a b c d = rw (a, b, c, d) refl
@@ -396,7 +393,7 @@ disturbance_back known None x from to h =
     let fine = no_fault (key.X ∷ key.From ∷ key.To ∷ []) [] (disturbance_entries None x from to)
     ((integer (pos x), sees (codes "x"), number_kind largest_small x spot), ((integer (pos from), sees (codes "from"), number_kind largest_number from a), ((integer (pos to), sees (codes "to"), number_kind largest_number to b), tt))) tt refl in (
       disturbance_by t None x from to (some_name_none key.AtNode t none) (small_seen key.X t x (sees (codes "x")) spot) (number_seen key.From t from (sees (codes "from")) a) (number_seen key.To t to (sees (codes "to")) b),
-      spot_fine known false t (ap (λ (o : Option Data). known && is_some o) none ∙ and_false known) fine,
+      spot_fine known false t (ap (λ (o : Option Data). known && is_some o) none ∙ and-false known) fine,
     )
 disturbance_back false (Some name) x from to h = absurd (false≢true h)
 disturbance_back true (Some name) x from to h =

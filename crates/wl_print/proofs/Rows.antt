@@ -1,9 +1,11 @@
 -- Worked rows: keys as they are written.
-use Rattle.std.specs.Prelude.{◌≡◌, ◌∷◌, [], ℕ, true, false, codes, refl, Some, None}
+use Rattle.std.specs.Prelude.{◌≡◌, ◌∷◌, [], ℕ, pos, true, false, codes, refl, Some, None}
 use Rattle.std.specs.Fmt.{digits}
 use Rattle.wl_setup.specs.declared.plan_text.RateText.{RateText}
 use Rattle.wl_setup.specs.declared.plan_text.ClockText.TheVariants as text
 use Rattle.wl_setup.specs.declared.plan_text.QueueText.TheVariants as queue
+use Rattle.wl_setup.specs.Limits.{largest_number, largest_ppm}
+use Rattle.wl_print.specs.Printable.{are_rates, is_clock_text, is_number_if, is_positive, is_scale_if, is_spot}
 use Rattle.wl_print.specs.Written.{data_line, flag_line, header_line, is_own, measure_line, number_line, queue_line, spot_line}
 
 two_bytes : data_line (0 ∷ 60 ∷ []) ≡ codes "bytes = [0x00, 0x3c]\n"
@@ -65,3 +67,48 @@ by_priority = refl
 first_in_first_out : queue_line queue.Fifo ≡ []
 unfolding queue_line
 first_in_first_out = refl
+
+-- a deviation beside a fraction is of the version that has both
+deviation : is_clock_text true (text.Fraction 125 3 (pos 20)) ≡ true
+unfolding largest_number largest_ppm
+deviation = refl
+
+deviation_before : is_clock_text false (text.Fraction 125 3 (pos 20)) ≡ false
+deviation_before = refl
+
+deviation_too_large : is_clock_text true (text.Ppm 125 (pos 1000000001)) ≡ false
+unfolding largest_number largest_ppm
+deviation_too_large = refl
+
+-- a node of version 1 has one rate, from quantum 0 on, and one of version 2 has a list of some
+one_of_first : are_rates 1 (from 0 ∷ []) ≡ true
+unfolding largest_number
+one_of_first = refl
+
+later_of_first : are_rates 1 (from 5 ∷ []) ≡ false
+unfolding largest_number
+later_of_first = refl
+
+later_of_second : are_rates 2 (from 5 ∷ []) ≡ true
+unfolding largest_number
+later_of_second = refl
+
+none_of_second : are_rates 2 [] ≡ false
+none_of_second = refl
+
+every_of_second : is_positive false (Some 16000) ≡ false
+every_of_second = refl
+
+every_none : is_positive true (Some 0) ≡ false
+every_none = refl
+
+deadline_too_late : is_number_if true (Some 281474976710656) ≡ false
+unfolding largest_number
+deadline_too_late = refl
+
+tick_too_long : is_scale_if true 1000000000000 (Some 1000000000001) ≡ false
+tick_too_long = refl
+
+-- a disturbance at a node has no place besides
+node_and_place : is_spot true (Some (codes "sensor")) 25 ≡ false
+node_and_place = refl

@@ -1,13 +1,13 @@
 -- The length of a tick and of a unit of length, printed in femtoseconds and micrometres, are read as they were.
-use Rattle.std.proofs.Common.{◌≡◌, ◌∙◌, refl, sym, ap, ℕ, suc, ◌+◌, ◌*◌, ◌-◌, ◌<◌, ◌≤◌, ◌^◌, nat_le, ◌&&◌, ◌==◌, Bool, true, false, List, [], ◌∷◌, ◌++◌, length, codes, Some, None, decimal, arith, if◌then◌else◌, leb-true}
+use Rattle.std.proofs.Common.{◌≡◌, ◌∙◌, refl, ap, ℕ, ◌+◌, ◌*◌, ◌<◌, ◌≤◌, nat_le, ◌&&◌, true, List, [], ◌∷◌, ◌++◌, length, codes, Some, decimal, arith, leb-true}
 use Rattle.std.proofs.lemmas.Bool.{and_parts}
 use Rattle.std.proofs.lemmas.Bool.Decides.{nat_tests}
 use Rattle.std.proofs.lemmas.Fmt.{decimal_is_IsNumeral}
 use Rattle.std.specs.Char.{digit_value}
 use Rattle.std.specs.Str.Parse.{AllDigits, digits_value, digits_value_after}
 use Rattle.wl_units.specs.declared.decimal.Decimal.{Decimal}
-use Rattle.wl_units.specs.declared.decimal.Part.TheVariants.{Start, Whole}
-use Rattle.wl_units.specs.Decimals.{decimal_in, no_digits, scan, with_letter}
+use Rattle.wl_units.specs.declared.decimal.Part.TheVariants.{Whole}
+use Rattle.wl_units.specs.Decimals.{no_digits, scan, with_letter}
 use Rattle.wl_units.specs.Ratios.{whole}
 use Rattle.wl_units.specs.Scales.{tick_said, unit_said}
 

@@ -9,7 +9,7 @@ use Rattle.wl_setup.specs.declared.plan_text.PlanText.{PlanText}
 use Rattle.wl_setup.specs.declared.plan_text.NodeText.{NodeText}
 use Rattle.wl_setup.specs.declared.plan_text.FrameText.{FrameText}
 use Rattle.wl_setup.specs.Plans.{plan_of_text}
-use Rattle.wl_setup.specs.Reading.{ReadsPlan}
+use Rattle.wl_setup.specs.Reading.{ReadsPlan, text_answer}
 use Rattle.wl_setup.specs.Version.{has_traffic}
 use Rattle.wl_print.specs.declared.fault.PrintFault.{PrintFault}
 use Rattle.wl_print.specs.declared.fault.PrintFault.TheVariants as print
@@ -62,9 +62,11 @@ abbrev pub rewritten : PlanText → Result PlanText PrintFault
 rewritten text = rewritten_by (plan_of_text text) text
 
 module _ {S T : Type 0} (gives : S → Answer → S → Type 0) (takes : T → Answer → T → Type 0) (s s' : S) (t t' : T) where
-  -- the plan that was read went out in version 4, as far as it went
+  -- the plan that was read went out in version 4, as far as it went; what went out as a whole is read as that plan
   abbrev pub Wrote : Result (Unit {0}) WriteFault → Type 0
-  Wrote r = (text : PlanText) × (made : PlanText) × ReadsPlan gives s (Ok text) s' × (rewritten text ≡ Ok made) × Writes takes t (plan_words made) r t'
+  Wrote r =
+      (text : PlanText) × (made : PlanText) × ReadsPlan gives s (Ok text) s' × (rewritten text ≡ Ok made) × (text_answer (plan_words made) ≡ Ok made)
+      × Writes takes t (plan_words made) r t'
 
   -- the first fault of what was read, or why its plan has no version 4
   abbrev pub Refuses : PrintFault → Type 0

@@ -67,7 +67,7 @@ fn rewritten(alloc: Global, text: PlanText) -> Result<PlanText, PrintFault>
 ///
 /// The first of these faults: `Setup`, as `run` has it; `Order`, if the plan is of version 1 or 2 and has a frame that becomes ready before the
 /// one above it. The whole output is made before the first write. If the input is refused, or memory runs out, the writer isn't called; if the
-/// writer fails, a prefix of the output has been written.
+/// writer fails, a prefix of the output has been written. What is written as a whole is read as the plan text that was made.
 pub fn format_run<R: Source, W: Sink>(
     alloc: Global,
     reader: &mut R,

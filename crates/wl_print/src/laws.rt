@@ -8,8 +8,8 @@ pub fn printed_is_read()
     ensures { PrintedIsRead }
 {}
 
-/// Law: a plan text that was read, and whose plan can be run, keeps to the bounds of its keys and to the keys of its version, and to those of
-/// version 4. So it is read again as it is printed, in its own version and in version 4.
+/// Law: a plan text that was read keeps to the bounds of its keys and to the keys of its version, if its plan can be run. In version 4 it keeps
+/// to those of version 4. So it is read again as it is printed, in both versions.
 pub fn read_is_printable()
     ensures { ReadIsPrintable }
 {}
