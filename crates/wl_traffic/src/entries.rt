@@ -172,14 +172,7 @@ fn entries_by(
     let mut kept = WatchedNode::new(alloc, setup)?;
     let mut entries = waiting_entries(alloc, setup.queue.as_slice())?;
     for k in 0..samples.len() {
-        note_sample(
-            alloc,
-            setup,
-            &mut kept,
-            &mut entries,
-            samples[k],
-            k as u64,
-        )?;
+        note_sample(alloc, setup, &mut kept, &mut entries, samples[k], k as u64)?;
     }
     Ok(entries)
 }
