@@ -50,7 +50,7 @@ sum_same : (n : ℕ) (t : ℕ → Bool) (f g : ℕ → ℕ) → ((k : ℕ) → f
 sum_same zero t f g e = refl
 sum_same (suc n) t f g e = ap₂ (λ x y. x + cond (t n) y 0) (sum_same n t f g e) (e n)
 
-any_same : (n : ℕ) (t u : ℕ → Bool) → ((k : ℕ) → t k ≡ u k) → any_below n t ≡ any_below n u
+pub any_same : (n : ℕ) (t u : ℕ → Bool) → ((k : ℕ) → t k ≡ u k) → any_below n t ≡ any_below n u
 any_same zero t u e = refl
 any_same (suc n) t u e = (let rest = any_same n t u e in let here = e n in cc)
 

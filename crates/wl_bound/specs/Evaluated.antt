@@ -4,6 +4,8 @@ use Rattle.wl_topology.specs.Limits.{most_places}
 use Rattle.wl_bound.specs.declared.evaluated.Rows.{Rows}
 use Rattle.wl_bound.specs.Families.{Bus, Buses, IsFamily, bus_of}
 use Rattle.wl_bound.specs.Conditions.{plain}
+use Rattle.wl_bound.specs.declared.kept.KeptTerms.{KeptTerms}
+use Rattle.wl_bound.specs.Kept.{AreTermsOfBus}
 use Rattle.wl_bound.specs.Limits.{early_limit, frame_edges, way_limit}
 use Rattle.wl_bound.specs.Terms.{early, edges, way}
 
@@ -37,6 +39,7 @@ pub record AreRowsOfBus (b : Bus) (r : Rows) : Type 0 where
   pub caught : AreCaught b.nodes b r.early r.edges
 
 -- a family with the terms of the plan's own bus beside it
-pub record IsKeptFamily (f : Buses) (kept : Option Rows) : Type 0 where
+pub record IsKeptFamily (f : Buses) (terms : Option KeptTerms) (kept : Option Rows) : Type 0 where
   pub family : IsFamily f
+  pub terms_are : IfSome terms (AreTermsOfBus (bus_of f plain))
   pub rows : IfSome kept (AreRowsOfBus (bus_of f plain))

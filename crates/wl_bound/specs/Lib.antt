@@ -1,6 +1,8 @@
 pub mod Limits
 pub mod Oscillators
 pub mod Families
+pub mod Kept
+pub mod Lone
 pub mod OneBuses
 pub mod Terms
 pub mod Conditions

@@ -2,19 +2,22 @@
 ghost use Rattle.std.specs.Prelude.{◌≡◌, ◌<◌, IfSome};
 ghost use Rattle.std.specs.Option.{ForSome};
 ghost use Rattle.wl_level.specs.Places.{first_place};
-ghost use Rattle.wl_bound.specs.Conditions.{fails, fails_at, failure_of, first_failure_of, left_by, left_of, right_of, sides_in};
+ghost use Rattle.wl_topology.specs.Driven.{any_below};
+ghost use Rattle.wl_bound.specs.Conditions.{fails, fails_at, failure_of, first_failure_of, left_by, right_of, sides_in};
 ghost use Rattle.wl_bound.specs.Evaluated.{AreRowsOfBus};
+ghost use Rattle.wl_bound.specs.Limits.{look_limit};
+ghost use Rattle.wl_bound.specs.Lone.{left_of_lone, own_pull};
 ghost use Rattle.wl_bound.specs.OneBuses.{the_bus};
 ghost use Rattle.wl_bound.specs.Terms.{several};
 ghost use Rattle.wl_bound.specs.declared.condition.Senders.TheVariants.{Any, One};
+ghost use Rattle.wl_bound.specs.declared.family.Source.TheVariants.{Together};
 
 use crate::bus::OneBus;
 use crate::condition::{Failure, Inequality, Senders, Sides};
 use crate::evaluated::{EvaluatedBus, Rows};
-use crate::family::{Setting, Source};
 
 /// A bus, how many of its nodes are asked about at once, whether several send, and what is worked out once for these if there was memory for it.
-/// One sender at a time needs nothing of that: each sender has a bus of its own.
+/// One sender at a time needs nothing of that: it has nothing to catch up with.
 #[derive(Clone, Copy)]
 pub(crate) struct AskedBus<'f> {
     pub(crate) bus: OneBus<'f>,
@@ -23,6 +26,7 @@ pub(crate) struct AskedBus<'f> {
     pub(crate) rows: Option<&'f Rows>,
     pub(crate) ghost some: { ForSome rows (λ r. AreRowsOfBus (the_bus bus) r.now) },
     pub(crate) ghost shared: { is_shared ≡ several (the_bus bus) },
+    pub(crate) ghost together: { bus.setting.source ≡ Together },
 }
 
 impl<'f> OneBus<'f> {
@@ -39,20 +43,6 @@ impl<'f> OneBus<'f> {
         }
     }
 
-    /// Returns what takes time by an inequality. All of it is worked out for this pair alone.
-    fn left(&self, inequality: Inequality, i: u8, j: u8) -> u128
-        requires one { i < (the_bus self.now).nodes }
-        requires other { j < (the_bus self.now).nodes }
-        ensures { result ≡ left_of (the_bus self.now) inequality i j }
-    {
-        let bus = EvaluatedBus {
-            bus: *self,
-            is_shared: self.several(),
-            rows: None,
-        };
-        bus.left(inequality, i, j)
-    }
-
     /// Returns the time that there is by an inequality.
     #[tactic(auto, unfolding(crate::specs::Conditions::right_of))]
     fn right(&self, inequality: Inequality, i: u8, j: u8) -> u128
@@ -67,39 +57,83 @@ impl<'f> OneBus<'f> {
         }
     }
 
+    /// True if some node sends.
+    fn any_sends(&self) -> bool
+        ensures { result ≡ any_below (the_bus self.now).nodes (the_bus self.now).sends }
+    {
+        let mut sends = false;
+        for a in 0..self.nodes() {
+            sends = sends || self.sends(a);
+        }
+        sends
+    }
+
+    /// Returns what a lone sender takes beyond there and back to itself, if nodes `i` and `j` are one that sends.
+    fn own_pull(&self, i: u8, j: u8) -> u128
+        requires one { i < (the_bus self.now).nodes }
+        requires other { j < (the_bus self.now).nodes }
+        ensures value { result ≡ own_pull (the_bus self.now) i j }
+        ensures most { result < look_limit }
+    {
+        if i != j || !self.sends(i) {
+            return 0;
+        }
+        let back = self.plan_delay(j, i) + self.plan_delay(i, j);
+        (self.longest(j) + self.tick()).saturating_sub(back)
+    }
+
+    /// Returns the greatest left side over the senders, each of them alone, if there is one.
+    fn left_of_lone(&self, inequality: Inequality, i: u8, j: u8) -> u128
+        requires one { i < (the_bus self.now).nodes }
+        requires other { j < (the_bus self.now).nodes }
+        ensures { result ≡ left_of_lone (the_bus self.now) inequality i j }
+    {
+        match inequality {
+            Inequality::DriftFitsJump => 10 * self.drift(i, j) + self.own_pull(i, j),
+            Inequality::BitIsThereAtSample => {
+                if i == j {
+                    return self.delay(i, i) + self.turns(i);
+                }
+                self.way(i, j) + 11 * self.strays(j) + self.ahead(j)
+            }
+            Inequality::NoBitTooEarly => {
+                self.look(j) + 10 * self.drift(i, j) + self.tick() + self.ahead(i)
+            }
+        }
+    }
+
     /// Returns the greatest left side over the senders, each of them alone.
+    #[tactic(auto, using(crate::proofs::Lone::alone_is))]
     fn left_alone(&self, inequality: Inequality, i: u8, j: u8) -> u128
         requires one { i < (the_bus self.now).nodes }
         requires other { j < (the_bus self.now).nodes }
+        requires together { self.now.setting.source ≡ Together }
         ensures { result ≡ left_by self.now.family.now self.now.setting One inequality i j }
     {
-        let mut greatest = 0;
-        for a in 0..self.nodes() {
-            if self.family.member(a).sends {
-                let source = Source::Alone(a);
-                let setting = Setting {
-                    source,
-                    ..self.setting
-                };
-                let alone = OneBus {
-                    family: self.family,
-                    setting,
-                };
-                greatest = greatest.max(alone.left(inequality, i, j));
-            }
+        if self.any_sends() {
+            self.left_of_lone(inequality, i, j)
+        } else {
+            0
         }
-        greatest
     }
 
     /// Returns the first inequality that fails, with its pair of nodes.
     pub(crate) fn first_failure(&self, senders: Senders) -> Option<Failure>
+        requires together { self.now.setting.source ≡ Together }
         ensures { result ≡ first_failure_of self.now.family.now self.now.setting senders }
     {
-        let rows = self.rows_for(senders);
+        let terms = self.terms_if_memory();
+        let bus = OneBus {
+            family: self.family,
+            setting: self.setting,
+            terms: terms.as_ref(),
+            chases: self.chases,
+        };
+        let rows = bus.rows_for(senders);
         let asked = AskedBus {
-            bus: *self,
+            bus,
             senders,
-            is_shared: self.several(),
+            is_shared: bus.several(),
             rows: rows.as_ref(),
         };
         asked.first_failure()

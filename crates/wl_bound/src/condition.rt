@@ -68,10 +68,7 @@ impl Family {
         requires other { j < length self.now.members }
         ensures { result ≡ sides_in self.now plain senders inequality i j }
     {
-        let bus = OneBus {
-            family: self,
-            setting: PLAIN,
-        };
+        let bus = self.plain_bus();
         let asked = AskedBus {
             bus,
             senders,
@@ -127,10 +124,7 @@ impl Family {
     pub fn first_failure(&self, senders: Senders) -> Option<Failure>
         ensures { result ≡ first_failure_of self.now plain senders }
     {
-        let bus = OneBus {
-            family: self,
-            setting: PLAIN,
-        };
+        let bus = self.plain_bus();
         bus.first_failure(senders)
     }
 }

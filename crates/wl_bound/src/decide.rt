@@ -7,7 +7,6 @@ ghost use Rattle.wl_bound.specs.OneBuses.{the_bus};
 ghost use Rattle.wl_bound.specs.Rooms.{plain_bus};
 
 use crate::bus::OneBus;
-use crate::condition::PLAIN;
 use crate::family::Family;
 
 impl<'f> OneBus<'f> {
@@ -56,9 +55,13 @@ impl Family {
         ensures first { result ≡ first_to_decide_twice self.now }
         ensures inside { IfSome result (λ i. i < (plain_bus self.now).nodes) }
     {
+        let plain = self.plain_bus();
+        let chases = plain.all_chases();
         let bus = OneBus {
-            family: self,
-            setting: PLAIN,
+            family: plain.family,
+            setting: plain.setting,
+            terms: plain.terms,
+            chases: Some(&chases),
         };
         bus.first_to_decide_twice()
     }

@@ -10,6 +10,7 @@ ghost use Rattle.wl_bound.specs.Terms.{ahead, answered, apart, behind, chase, dr
 
 use crate::bus::OneBus;
 use crate::condition::Inequality;
+use crate::kept::place;
 use std::alloc::AllocError;
 use wl_level::Listed;
 use wl_topology::MOST_NODES;
@@ -33,15 +34,6 @@ pub(crate) struct EvaluatedBus<'f> {
     pub(crate) rows: Option<&'f Rows>,
     pub(crate) ghost some: { ForSome rows (λ r. AreRowsOfBus (the_bus bus) r.now) },
     pub(crate) ghost shared: { is_shared ≡ several (the_bus bus) },
-}
-
-/// Returns the place of nodes `i` and `j`.
-fn place(i: u8, j: u8) -> usize
-    requires one { i < most_places }
-    requires other { j < most_places }
-    ensures { result ≡ most_places * i + j }
-{
-    i as usize * MOST_NODES + j as usize
 }
 
 impl<'f> OneBus<'f> {

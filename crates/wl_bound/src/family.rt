@@ -5,10 +5,12 @@ ghost use Rattle.wl_topology.specs.Limits.{longest_delay, most_places};
 ghost use Rattle.wl_bound.specs.Conditions.{plain};
 ghost use Rattle.wl_bound.specs.Evaluated.{AreRowsOfBus, IsKeptFamily};
 ghost use Rattle.wl_bound.specs.Families.{Buses, all_sending, bus_of, changed, family_of, made_of, member_at, member_of, members_of, only_listens, sending, way_between};
+ghost use Rattle.wl_bound.specs.Kept.{AreTermsOfBus};
 
 use crate::bus::OneBus;
 use crate::condition::PLAIN;
 use crate::evaluated::Rows;
+use crate::kept::KeptTerms;
 use crate::oscillator::Oscillator;
 use std::alloc::{AllocError, Global};
 use std::marker::Model;
@@ -107,7 +109,9 @@ pub struct Family {
     cable: Topology,
     /// From which searches take memory for the terms of other buses. They don't need it.
     alloc: Global,
-    /// The terms of the plan's own bus, if several nodes send: it is asked about each pair of nodes.
+    /// The terms of the plan's own bus: it is asked about each pair of nodes.
+    pub(crate) terms: Option<KeptTerms>,
+    /// Those of its pairs, if several nodes send.
     pub(crate) plain: Option<Rows>,
 }
 
@@ -116,7 +120,7 @@ impl Model for Family {
 
     ghost view = { λ f. record { members = f.members; cable = f.cable } };
 
-    ghost invariant = { λ f. IsKeptFamily (record { members = f.members; cable = f.cable }) f.plain };
+    ghost invariant = { λ f. IsKeptFamily (record { members = f.members; cable = f.cable }) f.terms f.plain };
 }
 
 impl Family {
@@ -135,8 +139,11 @@ impl Family {
             members,
             cable: plan.topology,
             alloc,
+            terms: None,
             plain: None,
         };
+        let terms = family.plain_terms()?;
+        family.terms = Some(terms);
         let rows = family.plain_rows()?;
         family.plain = rows;
         Ok(family)
@@ -153,22 +160,41 @@ impl Family {
             members,
             cable: self.cable,
             alloc,
+            terms: None,
             plain: None,
         };
+        let terms = family.plain_terms()?;
+        family.terms = Some(terms);
         let rows = family.plain_rows()?;
         family.plain = rows;
         Ok(family)
     }
 
-    /// Returns the terms of the plan's own bus, if several nodes send. Refused only when out of memory.
+    /// Returns the terms of the plan's own bus. Refused only when out of memory.
+    fn plain_terms(&self) -> Result<KeptTerms, AllocError>
+        ensures { IfOk result (AreTermsOfBus (bus_of self.now plain)) }
+    {
+        OneBus::new(self, PLAIN).all_terms()
+    }
+
+    /// Returns those of its pairs, if several nodes send. Refused only when out of memory.
     fn plain_rows(&self) -> Result<Option<Rows>, AllocError>
         ensures { IfOk result (λ rows. IfSome rows (AreRowsOfBus (bus_of self.now plain))) }
     {
-        let bus = OneBus {
+        self.plain_bus().rows_if_several()
+    }
+
+    /// Returns the plan's own bus, with its terms if it has them.
+    pub(crate) fn plain_bus(&self) -> OneBus<'_>
+        ensures family { result.family.now ≡ self.now }
+        ensures setting { result.setting ≡ plain }
+    {
+        OneBus {
             family: self,
             setting: PLAIN,
-        };
-        bus.rows_if_several()
+            terms: self.terms.as_ref(),
+            chases: None,
+        }
     }
 
     /// Returns from where searches take memory.

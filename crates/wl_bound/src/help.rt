@@ -2,6 +2,7 @@
 ghost use Rattle.std.specs.Prelude.{◌≡◌, ◌<◌};
 ghost use Rattle.wl_bound.specs.Helps.{help_of, is_greater, is_possible, lack_row, or_better, reserve_in, reserve_of, spare_row, worse_of};
 ghost use Rattle.wl_bound.specs.OneBuses.{the_bus};
+ghost use Rattle.wl_bound.specs.declared.family.Source.TheVariants.{Together};
 
 use crate::asked::AskedBus;
 use crate::bus::OneBus;
@@ -33,10 +34,7 @@ impl Family {
     pub fn first_help(&self, senders: Senders) -> Option<Change>
         ensures { result ≡ help_of self.now senders }
     {
-        let bus = OneBus {
-            family: self,
-            setting: PLAIN,
-        };
+        let bus = self.plain_bus();
         let none = Best {
             change: None,
             reserve: bus.reserve(senders),
@@ -63,10 +61,7 @@ impl Family {
             change: Some(change),
             ..PLAIN
         };
-        let bus = OneBus {
-            family: self,
-            setting,
-        };
+        let bus = OneBus::new(self, setting);
         let reserve = bus.reserve(senders);
         if is_greater(&reserve, &best.reserve) {
             return Best {
@@ -93,13 +88,21 @@ impl<'f> OneBus<'f> {
     /// Returns the least margin.
     #[tactic(auto, unfolding(crate::specs::Helps::reserve_in))]
     fn reserve(&self, senders: Senders) -> Reserve
+        requires together { self.now.setting.source ≡ Together }
         ensures { result ≡ reserve_in self.now.family.now self.now.setting senders }
     {
-        let rows = self.rows_for(senders);
+        let terms = self.terms_if_memory();
+        let bus = OneBus {
+            family: self.family,
+            setting: self.setting,
+            terms: terms.as_ref(),
+            chases: self.chases,
+        };
+        let rows = bus.rows_for(senders);
         let asked = AskedBus {
-            bus: *self,
+            bus,
             senders,
-            is_shared: self.several(),
+            is_shared: bus.several(),
             rows: rows.as_ref(),
         };
         let drift = asked.reserve_of(Inequality::DriftFitsJump);

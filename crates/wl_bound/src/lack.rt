@@ -6,7 +6,7 @@ ghost use Rattle.wl_bound.specs.OneBuses.{the_bus};
 ghost use Rattle.wl_bound.specs.Rooms.{falls_behind, is_crowded, lacks_room};
 
 use crate::bus::OneBus;
-use crate::condition::{PLAIN, Sides};
+use crate::condition::Sides;
 use crate::family::Family;
 use crate::room::LONGEST_SAID;
 
@@ -195,9 +195,13 @@ impl Family {
     pub fn first_lack(&self) -> Option<Lack>
         ensures { result ≡ first_lack self.now }
     {
+        let plain = self.plain_bus();
+        let chases = plain.all_chases();
         let bus = OneBus {
-            family: self,
-            setting: PLAIN,
+            family: plain.family,
+            setting: plain.setting,
+            terms: plain.terms,
+            chases: Some(&chases),
         };
         match bus.first_lacking() {
             Some(i) => bus.lack_of_node(i),

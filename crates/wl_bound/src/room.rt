@@ -6,7 +6,6 @@ ghost use Rattle.wl_bound.specs.OneBuses.{the_bus};
 ghost use Rattle.wl_bound.specs.Rooms.{catches, distance, edges_to, falls_behind, gain, gathering, has_long_quantum, have_room, is_crowded, is_roomy, lacks_room, least_chase, leaves_room, longest_said, said_early};
 
 use crate::bus::OneBus;
-use crate::condition::PLAIN;
 use crate::family::Family;
 
 /// No quantum takes this many millionths of a tick.
@@ -62,6 +61,9 @@ impl<'f> OneBus<'f> {
         ensures value { result ≡ least_chase (the_bus self.now) k }
         ensures most { result < way_limit }
     {
+        if let Some(chases) = self.chases {
+            return chases.edges[k as usize];
+        }
         let mut most = 0;
         for w in 0..self.nodes() {
             if self.sends(w) && w != k {
@@ -178,6 +180,20 @@ impl<'f> OneBus<'f> {
     pub(crate) fn is_roomy(&self) -> bool
         ensures { result ≡ is_roomy self.now.family.now self.now.setting }
     {
+        let chases = self.all_chases();
+        let bus = OneBus {
+            family: self.family,
+            setting: self.setting,
+            terms: self.terms,
+            chases: Some(&chases),
+        };
+        bus.none_lacks()
+    }
+
+    /// True if no node lacks room.
+    fn none_lacks(&self) -> bool
+        ensures { result ≡ is_roomy self.now.family.now self.now.setting }
+    {
         let mut lacks = false;
         for i in 0..self.nodes() {
             lacks = lacks || self.lacks_room(i);
@@ -213,10 +229,7 @@ impl Family {
     pub fn leaves_room(&self) -> bool
         ensures { result ≡ leaves_room self.now }
     {
-        let bus = OneBus {
-            family: self,
-            setting: PLAIN,
-        };
+        let bus = self.plain_bus();
         !bus.any_long() && bus.is_roomy()
     }
 }

@@ -7,6 +7,7 @@ ghost use Rattle.wl_bound.specs.Rooms.{is_roomy_grown};
 ghost use Rattle.wl_bound.specs.SearchTests.{passes_grown};
 ghost use Rattle.wl_bound.specs.Searches.{GrowsTo, IsBorderOf, IsGreatestOf, IsLongerCable, IsWiderTolerance, cable_ticks, each, grown_by, holds_grown, longest_growth, widest_growth};
 ghost use Rattle.wl_bound.specs.Terms.{greatest};
+ghost use Rattle.wl_bound.specs.declared.family.Source.TheVariants.{Together};
 ghost use Rattle.wl_bound.specs.declared.search.Growth.TheVariants.{Longer};
 
 use crate::bus::OneBus;
@@ -91,13 +92,19 @@ impl Family {
         requires { GrowsTo growth n }
         ensures { result ≡ passes_grown self.now test growth n }
     {
-        let bus = OneBus {
-            family: self,
-            setting: grown_by(growth, n),
-        };
+        let bus = OneBus::new(self, grown_by(growth, n));
         match test {
             Test::Condition(senders) => bus.first_failure(senders).is_none(),
-            Test::Room => bus.is_roomy(),
+            Test::Room => {
+                let terms = bus.terms_if_memory();
+                let bus = OneBus {
+                    family: bus.family,
+                    setting: bus.setting,
+                    terms: terms.as_ref(),
+                    chases: bus.chases,
+                };
+                bus.is_roomy()
+            }
         }
     }
 
@@ -166,7 +173,8 @@ impl Family {
 /// Returns the setting that grew by `n`: by units of length or by ppm, and any nodes with frames send.
 pub(crate) fn grown_by(growth: Growth, n: u32) -> Setting
     requires { GrowsTo growth n }
-    ensures { result ≡ grown_by growth n }
+    ensures value { result ≡ grown_by growth n }
+    ensures together { result.source ≡ Together }
 {
     let source = Source::Together;
     match growth {

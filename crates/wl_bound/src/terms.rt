@@ -24,9 +24,7 @@ impl<'f> OneBus<'f> {
         ensures value { result ≡ drift (the_bus self.now) i j }
         ensures most { result < drift_limit }
     {
-        let longest = self.segments(i).bit_quanta() as u128 * self.longest(i);
-        let shortest = self.segments(j).bit_quanta() as u128 * self.shortest(j);
-        longest.saturating_sub(shortest)
+        self.long_bit(i).saturating_sub(self.short_bit(j))
     }
 
     /// Returns what one edge puts right at node `i`.
@@ -36,6 +34,9 @@ impl<'f> OneBus<'f> {
         ensures value { result ≡ jump (the_bus self.now) i }
         ensures most { result < jump_limit }
     {
+        if let Some(terms) = self.kept_node(i) {
+            return terms.jump;
+        }
         self.segments(i).sjw() as u128 * self.shortest(i)
     }
 
@@ -46,6 +47,9 @@ impl<'f> OneBus<'f> {
         ensures value { result ≡ look (the_bus self.now) i }
         ensures most { result < look_limit }
     {
+        if let Some(terms) = self.kept_node(i) {
+            return terms.look;
+        }
         (self.longest(i) + self.tick()).saturating_sub(self.delay(i, i))
     }
 
@@ -118,6 +122,9 @@ impl<'f> OneBus<'f> {
         ensures value { result ≡ ahead (the_bus self.now) j }
         ensures most { result < ahead_limit }
     {
+        if let Some(terms) = self.kept_node(j) {
+            return terms.ahead;
+        }
         let mut sum = 0;
         for w in 0..self.nodes() {
             if w != j {
@@ -209,6 +216,9 @@ impl<'f> OneBus<'f> {
         requires other { j < (the_bus self.now).nodes }
         ensures { result ≡ any_below (the_bus self.now).nodes (sends_third (the_bus self.now) i j) }
     {
+        if let Some(terms) = self.kept_pair(i, j) {
+            return terms.third_sends;
+        }
         let mut sends = false;
         for a in 0..self.nodes() {
             sends = sends || self.sends(a) && a != i && a != j;
@@ -257,8 +267,7 @@ impl<'f> OneBus<'f> {
         ensures value { result ≡ spread (the_bus self.now) i j }
         ensures most { result < spread_limit }
     {
-        let jumps = self.segments(j).sjw() as u128 * self.longest(j);
-        let unlike = jumps.saturating_sub(self.jump(i));
+        let unlike = self.long_jump(j).saturating_sub(self.jump(i));
         10 * self.drift(j, i) + unlike
     }
 
@@ -295,6 +304,9 @@ impl<'f> OneBus<'f> {
         ensures value { result ≡ strays (the_bus self.now) j }
         ensures most { result < drift_limit }
     {
+        if let Some(terms) = self.kept_node(j) {
+            return terms.strays;
+        }
         let mut greatest = 0;
         for w in 0..self.nodes() {
             if w != j {

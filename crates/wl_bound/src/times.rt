@@ -8,7 +8,6 @@ ghost use Rattle.wl_bound.specs.Rooms.{plain_bus};
 ghost use Rattle.wl_bound.specs.Terms.{greatest, sends_but};
 
 use crate::bus::OneBus;
-use crate::condition::PLAIN;
 use crate::family::Family;
 
 /// The times of frames on a bus, in millionths of a tick.
@@ -226,10 +225,7 @@ impl Family {
         ensures lead { result.lead ≤ drift_limit }
         ensures wake { result.wake < drift_limit }
     {
-        let bus = OneBus {
-            family: self,
-            setting: PLAIN,
-        };
+        let bus = self.plain_bus();
         BusTimes {
             bit: bus.longest_bit(),
             sample: bus.longest_sample(),

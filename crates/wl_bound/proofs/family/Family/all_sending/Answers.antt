@@ -13,11 +13,20 @@ has_place ms old cable all placed = ap length all ∙ (length_sending (only_list
 pub invariant_of-family : goal.invariant_of-family
 invariant_of-family c = record {
   family = has_place _ c.self.inside.members c.self.inside.cable (search rules) c.self.invariant.family;
+  terms_are = tt;
   rows = tt;
 }
 
 pub invariant_of-family-2 : goal.invariant_of-family-2
 invariant_of-family-2 c = record {
   family = has_place _ c.self.inside.members c.self.inside.cable (search rules) c.self.invariant.family;
+  terms_are = c.in_ok-terms.ensures;
+  rows = tt;
+}
+
+pub invariant_of-family-3 : goal.invariant_of-family-3
+invariant_of-family-3 c = record {
+  family = has_place _ c.self.inside.members c.self.inside.cable (search rules) c.self.invariant.family;
+  terms_are = c.in_ok-terms.ensures;
   rows = c.in_ok-rows.ensures;
 }

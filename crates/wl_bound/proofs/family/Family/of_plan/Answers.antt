@@ -15,11 +15,20 @@ has_place ms plan p paces all one_each placed same =
 pub invariant_of-family : goal.invariant_of-family
 invariant_of-family c = record {
   family = has_place _ c.args.plan.now _ c.args.oscillators.now (search rules) c.requires.one_each c.deref.ensures.1.placed c.deref-2.ensures.0;
+  terms_are = tt;
   rows = tt;
 }
 
 pub invariant_of-family-2 : goal.invariant_of-family-2
 invariant_of-family-2 c = record {
   family = has_place _ c.args.plan.now _ c.args.oscillators.now (search rules) c.requires.one_each c.deref.ensures.1.placed c.deref-2.ensures.0;
+  terms_are = c.in_ok-terms.ensures;
+  rows = tt;
+}
+
+pub invariant_of-family-3 : goal.invariant_of-family-3
+invariant_of-family-3 c = record {
+  family = has_place _ c.args.plan.now _ c.args.oscillators.now (search rules) c.requires.one_each c.deref.ensures.1.placed c.deref-2.ensures.0;
+  terms_are = c.in_ok-terms.ensures;
   rows = c.in_ok-rows.ensures;
 }

@@ -2,7 +2,7 @@ use Rattle.std.proofs.Common.{◌≡◌}
 use Rattle.wl_topology.specs.Driven.{any_below}
 use Rattle.wl_bound.specs.Rooms.{lacks_room}
 use Rattle.wl_bound.specs.OneBuses.{the_bus}
-use Rattle.wl_bound.proofs.bus.OneBus.is_roomy.Given as goal
+use Rattle.wl_bound.proofs.bus.OneBus.none_lacks.Given as goal
 
 -- one of the nodes so far
 abbrev pub invariant-loop-i : goal.invariant-loop-i
