@@ -46,6 +46,7 @@ SHAPES = shapes()
 def setting(kind, rate):
     """Returns prescaler, TSEG1, TSEG2 and jump width, or None: a jump width of 2 with a sample point from 80 % on, or one of 1."""
     clock, least, most, even, first, last, low, high = KINDS[kind]
+    if clock * 1_000_000 % rate: return None
     for jump in (2, 1):
         for tseg1, tseg2 in SHAPES:
             prescaler, rest = divmod(clock * 1_000_000, rate * (1 + tseg1 + tseg2))

@@ -7,8 +7,8 @@ use Rattle.wl_init.specs.declared.bits.Shape.{Shape}
 use Rattle.wl_init.specs.declared.bits.TheConstants.{DELAYS, FAR, NANOSECONDS, NEAR}
 
 -- the quanta of a bit: SYNC_SEG, PROP_SEG and PHASE_SEG1, PHASE_SEG2
-abbrev pub quanta_of : Shape → ℕ
-quanta_of s = 1 + s.tseg1 + s.tseg2
+abbrev pub shape_quanta : Shape → ℕ
+shape_quanta s = 1 + s.tseg1 + s.tseg2
 
 -- the periods of a clock in a bit, if they are whole
 abbrev pub periods_of_bit : (clock rate : ℕ) → Option ℕ
@@ -17,8 +17,8 @@ periods_of_bit clock rate = if not (rate == 0) && (clock % rate == 0) then Some 
 -- a shape with a jump width, if the quanta take whole periods of the clock, and the kind can be set so
 abbrev pub setting_of : ControllerKind → (periods jump : ℕ) → Shape → Option BitSetting
 setting_of kind periods jump s =
-    if (periods % quanta_of s == 0) && allows kind (record { prescaler = Some (periods / quanta_of s); tseg1 = s.tseg1; tseg2 = s.tseg2; sjw = jump })
-    then Some (record { prescaler = periods / quanta_of s; shape = s; jump = jump }) else None
+    if (periods % shape_quanta s == 0) && allows kind (record { prescaler = Some (periods / shape_quanta s); tseg1 = s.tseg1; tseg2 = s.tseg2; sjw = jump })
+    then Some (record { prescaler = periods / shape_quanta s; shape = s; jump = jump }) else None
 
 -- the first that is there
 abbrev pub or_first : {A : Type 0} → Option A → Option A → Option A
@@ -50,10 +50,10 @@ abbrev pub bit_time : ℕ → ℕ
 bit_time rate = quotient NANOSECONDS rate
 
 abbrev pub quantum_time : ℕ → Shape → ℕ
-quantum_time rate s = bit_time rate / quanta_of s
+quantum_time rate s = bit_time rate / shape_quanta s
 
 -- The longest cable in nanoseconds: twice the delays and the cable, twice what a quantum is longer than the delays, and 2 % of a bit fit before
 -- the sample.
-abbrev pub longest_cable : ℕ → Shape → ℕ
-longest_cable rate s =
+abbrev pub longest_for : ℕ → Shape → ℕ
+longest_for rate s =
     (quantum_time rate s * (1 + s.tseg1) - (2 * (quantum_time rate s - DELAYS) + (bit_time rate / 50 + 3))) / 2 - DELAYS

@@ -13,7 +13,7 @@ use Rattle.wl_init.specs.declared.fault.InitFault.{InitFault}
 use Rattle.wl_init.specs.declared.fault.InitFault.TheVariants as fault
 use Rattle.wl_init.specs.declared.wish.TheConstants.{LEAST_RATE, MOST_RATE}
 use Rattle.wl_init.specs.declared.wish.Wish.{Wish}
-use Rattle.wl_init.specs.Bits.{longest_cable, or_first, setting_for}
+use Rattle.wl_init.specs.Bits.{longest_for, or_first, setting_for}
 
 -- of kinds and of names that of a number, from 0
 abbrev pub kind_numbered : List ControllerKind → ℕ → Option ControllerKind
@@ -30,8 +30,8 @@ name_numbered (x ∷ xs) (suc n) = name_numbered xs n
 abbrev pub kind_at : ℕ → Option ControllerKind
 kind_at number = kind_numbered (map (λ k. k.1) KINDS) number
 
-unfoldable pub name_at : ℕ → List ℕ
-name_at number = name_numbered (map (λ k. k.0.now) KINDS) number
+unfoldable pub kind_word : ℕ → List ℕ
+kind_word number = name_numbered (map (λ k. k.0.now) KINDS) number
 
 abbrev pub clock_at : ℕ → Option ℕ
 clock_at number = slice_get CLOCKS number
@@ -44,11 +44,11 @@ abbrev pub controller_at : ℕ → Option Controller
 controller_at number = controller_with (kind_at number) (clock_at number)
 
 -- a cycle of whole bits, with which so many frames load a bus at 30 % at most
-abbrev pub fits : (nodes rate cycle : ℕ) → Bool
-fits nodes rate cycle = ((rate * cycle) % 1000 == 0) && nat_le (nodes * BITS_OF_FRAME) (rate * cycle)
+abbrev pub cycle_fits : (nodes rate cycle : ℕ) → Bool
+cycle_fits nodes rate cycle = ((rate * cycle) % 1000 == 0) && nat_le (nodes * BITS_OF_FRAME) (rate * cycle)
 
 abbrev pub cycle_among : (nodes rate : ℕ) → List ℕ → ℕ
-cycle_among nodes rate cycles = unwrap_or (find (fits nodes rate) cycles) LONGEST_CYCLE
+cycle_among nodes rate cycles = unwrap_or (find (cycle_fits nodes rate) cycles) LONGEST_CYCLE
 
 abbrev pub cycle_for : (nodes rate : ℕ) → ℕ
 cycle_for nodes rate = cycle_among nodes rate CYCLES
@@ -70,24 +70,24 @@ last_below passes zero = None
 last_below passes (suc n) = later (passes n) n (last_below passes n)
 
 -- the least number from one on that passes, of so many
-abbrev pub first_from : (ℕ → Bool) → (first count : ℕ) → Option ℕ
-first_from passes first zero = None
-first_from passes first (suc n) = or_first (first_from passes first n) (later (passes (first + n)) (first + n) None)
+abbrev pub first_passing : (ℕ → Bool) → (first count : ℕ) → Option ℕ
+first_passing passes first zero = None
+first_passing passes first (suc n) = or_first (first_passing passes first n) (later (passes (first + n)) (first + n) None)
 
 -- why there is no setting: the nearest bit rates below and above that have one
 abbrev pub no_segments : Controller → ℕ → InitFault
-no_segments c rate = fault.NoSegments (last_below (has_setting c) rate) (first_from (has_setting c) rate (MOST_RATE + 1 - rate))
+no_segments c rate = fault.NoSegments (last_below (has_setting c) rate) (first_passing (has_setting c) rate (MOST_RATE + 1 - rate))
 
 -- the draft, if the cable isn't too long
-abbrev pub drawn : Asked → ℕ → BitSetting → Result Draft InitFault
-drawn a clock setting =
-    if nat_le a.cable (longest_cable a.rate setting.shape)
+abbrev pub draft_within : Asked → ℕ → BitSetting → Result Draft InitFault
+draft_within a clock setting =
+    if nat_le a.cable (longest_for a.rate setting.shape)
     then Ok (record { asked = a; clock = clock; setting = setting; cycle = cycle_for a.nodes a.rate })
-    else Err (fault.TooLong (longest_cable a.rate setting.shape))
+    else Err (fault.TooLong (longest_for a.rate setting.shape))
 
 abbrev pub drawn_by : Asked → Controller → Option BitSetting → Result Draft InitFault
 drawn_by a c None = Err (no_segments c a.rate)
-drawn_by a c (Some setting) = drawn a c.clock setting
+drawn_by a c (Some setting) = draft_within a c.clock setting
 
 abbrev pub drawn_with : Asked → Option Controller → Result Draft InitFault
 drawn_with a None = Err fault.Kind
@@ -103,8 +103,8 @@ asked_with nodes (Some rate) None kind = Err fault.Cable
 asked_with nodes (Some rate) (Some cable) None = Err fault.Kind
 asked_with nodes (Some rate) (Some cable) (Some kind) = Ok (record { nodes = nodes; rate = rate; cable = cable; kind = kind })
 
-abbrev pub asked_of : Wish → Result Asked InitFault
-asked_of w = asked_with w.nodes w.rate w.cable w.kind
+abbrev pub wish_asked : Wish → Result Asked InitFault
+wish_asked w = asked_with w.nodes w.rate w.cable w.kind
 
 -- the draft of a wish, or why there is none
 abbrev pub drafted : Result Asked InitFault → Result Draft InitFault
@@ -112,4 +112,4 @@ drafted (Ok a) = draft_with a
 drafted (Err f) = Err f
 
 abbrev pub draft_of : Wish → Result Draft InitFault
-draft_of w = drafted (asked_of w)
+draft_of w = drafted (wish_asked w)

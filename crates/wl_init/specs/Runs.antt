@@ -7,12 +7,12 @@ use Rattle.wl_init.specs.declared.fault.InitFault.{InitFault}
 use Rattle.wl_init.specs.declared.fault.InitFault.TheVariants.{Write, Memory}
 use Rattle.wl_init.specs.declared.wish.Wish.{Wish}
 use Rattle.wl_init.specs.Drafts.{draft_of}
-use Rattle.wl_init.specs.Texts.{plan_words}
+use Rattle.wl_init.specs.Texts.{first_plan_words}
 
 module _ {T : Type 0} (takes : T → Answer → T → Type 0) (wish : Wish) (t t' : T) where
   -- the plan of the wish went out, as far as it went
   abbrev pub Wrote : Result (Unit {0}) WriteFault → Type 0
-  Wrote r = (d : Draft) × (draft_of wish ≡ Ok d) × Writes takes t (plan_words d) r t'
+  Wrote r = (d : Draft) × (draft_of wish ≡ Ok d) × Writes takes t (first_plan_words d) r t'
 
   -- nothing was written: memory was refused, or the wish
   abbrev pub WritesNone : InitFault → Type 0

@@ -16,9 +16,9 @@ abbrev pub number_said_within : Measure → (least most : ℕ) → List ℕ → 
 number_said_within measure least most text = option_and_then (within least most) (number_said measure SCALE text)
 
 -- the number of the first of some names that is this, counted from a number on
-abbrev pub number_among : ℕ → List (List ℕ) → List ℕ → Option ℕ
-number_among n [] name = None
-number_among n (word ∷ words) name = if bytes_eq name word then Some n else number_among (suc n) words name
+abbrev pub kind_number : ℕ → List (List ℕ) → List ℕ → Option ℕ
+kind_number n [] name = None
+kind_number n (word ∷ words) name = if bytes_eq name word then Some n else kind_number (suc n) words name
 
 -- what texts ask for: a bit rate in bit/s, a length in units of 20 cm, and the number of a kind
 unfoldable pub rate_said : List ℕ → Option ℕ
@@ -28,4 +28,4 @@ unfoldable pub cable_said : List ℕ → Option ℕ
 cable_said = number_said_within Length 0 MOST_UNITS
 
 unfoldable pub kind_said : List ℕ → Option ℕ
-kind_said = number_among 0 (map (λ k. k.0.now) KINDS)
+kind_said = kind_number 0 (map (λ k. k.0.now) KINDS)

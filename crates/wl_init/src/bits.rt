@@ -1,6 +1,6 @@
 //! The segments of a bit for a clock and a bit rate.
 ghost use Rattle.std.specs.Prelude.{◌≡◌};
-ghost use Rattle.wl_init.specs.Bits.{longest_cable, periods_of_bit, plain_setting, quanta_of, quotient, setting_among, setting_by, setting_for, setting_of};
+ghost use Rattle.wl_init.specs.Bits.{longest_for, periods_of_bit, plain_setting, shape_quanta, quotient, setting_among, setting_by, setting_for, setting_of};
 
 use wl_kinds::{ControllerKind, Taken};
 
@@ -60,8 +60,8 @@ pub const FAR: [Shape; 24] = [
 pub const CLOCKS: [u32; 12] = [8, 24, 36, 16, 16, 24, 40, 80, 80, 40, 40, 16];
 
 /// Returns how many quanta a bit of this shape has.
-pub fn quanta_of(shape: Shape) -> u32
-    ensures { result ≡ quanta_of shape }
+pub fn shape_quanta(shape: Shape) -> u32
+    ensures { result ≡ shape_quanta shape }
 {
     1 + u32::from(shape.tseg1) + u32::from(shape.tseg2)
 }
@@ -78,11 +78,11 @@ fn periods_of_bit(clock: u64, rate: u32) -> Option<u64>
     }
 }
 
-/// Returns the setting of a kind with a shape and a jump width, for a bit of so many periods of its clock.
+/// Returns the setting of a kind with a shape and a jump width, for a bit of this number of periods of its clock.
 fn setting_of(kind: ControllerKind, periods: u64, shape: Shape, jump: u8) -> Option<BitSetting>
     ensures { result ≡ setting_of kind periods jump shape }
 {
-    let quanta = u64::from(quanta_of(shape));
+    let quanta = u64::from(shape_quanta(shape));
     let prescaler = periods / quanta;
     let taken = Taken {
         prescaler: Some(prescaler),
@@ -129,7 +129,7 @@ fn plain_setting(kind: ControllerKind, periods: u64) -> Option<BitSetting>
     }
 }
 
-/// Returns the setting of a kind for a bit of so many periods of its clock.
+/// Returns the setting of a kind for a bit of this number of periods of its clock.
 #[tactic(auto, unfolding(crate::specs::Bits::setting_by))]
 fn setting_by(kind: ControllerKind, periods: u64) -> Option<BitSetting>
     ensures { result ≡ setting_by kind periods }
@@ -160,11 +160,11 @@ fn quotient(a: u32, b: u32) -> u32
 
 /// Returns the longest cable for a bit rate and a shape, in units of 20 cm, which a level takes a nanosecond for: the way there and back,
 /// twice what a quantum is longer than the delays, and 2 % of a bit fit before the sample.
-pub fn longest_cable(rate: u32, shape: Shape) -> u64
-    ensures { result ≡ longest_cable rate shape }
+pub fn longest_for(rate: u32, shape: Shape) -> u64
+    ensures { result ≡ longest_for rate shape }
 {
     let bit = quotient(NANOSECONDS, rate);
-    let quantum = u64::from(bit / quanta_of(shape));
+    let quantum = u64::from(bit / shape_quanta(shape));
     let way = quantum * (1 + u64::from(shape.tseg1));
     let looks = 2 * quantum.saturating_sub(DELAYS);
     let both = way.saturating_sub(looks + u64::from(bit / 50 + 3));

@@ -1,9 +1,9 @@
 //! What is written for a wish, or why nothing is.
 ghost use Rattle.std.specs.Prelude.{◌≡◌, ◌+◌, ◌≤◌, None, map};
 ghost use Rattle.wl_init.specs.Bits.{or_first};
-ghost use Rattle.wl_init.specs.Drafts.{asked_of, clock_at, controller_at, cycle_among, cycle_for, draft_of, draft_with, drawn, first_from, fits, has_setting, kind_at, kind_numbered, last_below, later, name_at, name_numbered, no_segments, setting_at};
+ghost use Rattle.wl_init.specs.Drafts.{wish_asked, clock_at, controller_at, cycle_among, cycle_for, draft_of, draft_with, draft_within, first_passing, cycle_fits, has_setting, kind_at, kind_numbered, last_below, later, kind_word, name_numbered, no_segments, setting_at};
 
-use crate::bits::{BitSetting, CLOCKS, longest_cable, setting_for};
+use crate::bits::{BitSetting, CLOCKS, longest_for, setting_for};
 use crate::fault::InitFault;
 use crate::wish::{LEAST_RATE, MOST_RATE, Wish};
 use wl_kinds::{ControllerKind, KINDS};
@@ -95,9 +95,9 @@ fn kind_at(number: usize) -> Option<ControllerKind>
 }
 
 /// Returns the name of the kind of this number; nothing if there is none.
-#[tactic(auto, unfolding(crate::specs::Drafts::name_at))]
-pub fn name_at(number: usize) -> &'static str
-    ensures { result.now ≡ name_at number }
+#[tactic(auto, unfolding(crate::specs::Drafts::kind_word))]
+pub fn kind_word(number: usize) -> &'static str
+    ensures { result.now ≡ kind_word number }
 {
     name_among(&KINDS, number)
 }
@@ -122,9 +122,9 @@ fn controller_at(number: usize) -> Option<Controller>
     }
 }
 
-/// True if so many frames load a bus at 30 % at most with this cycle, and it takes whole bits.
-fn fits(nodes: u8, rate: u32, cycle: u32) -> bool
-    ensures { result ≡ fits nodes rate cycle }
+/// True if this number of frames load a bus at 30 % at most with this cycle, and it takes whole bits.
+fn cycle_fits(nodes: u8, rate: u32, cycle: u32) -> bool
+    ensures { result ≡ cycle_fits nodes rate cycle }
 {
     let bits = u64::from(rate) * u64::from(cycle);
     bits % 1000 == 0 && u64::from(nodes) * BITS_OF_FRAME <= bits
@@ -135,7 +135,7 @@ fn cycle_among(nodes: u8, rate: u32, cycles: &[u32]) -> u32
     ensures { result ≡ cycle_among nodes rate cycles.now }
 {
     for cycle in cycles {
-        if fits(nodes, rate, *cycle) {
+        if cycle_fits(nodes, rate, *cycle) {
             return *cycle;
         }
     }
@@ -199,7 +199,7 @@ fn nearest_below(controller: Controller, rate: u32) -> Option<u32>
 /// Returns the nearest of these bit rates that has segments: from the first one up to this number of them.
 fn nearest_from(controller: Controller, first: u32, count: u32) -> Option<u32>
     requires { first + count ≤ 4294967295 }
-    ensures { result ≡ first_from (has_setting controller) first count }
+    ensures { result ≡ first_passing (has_setting controller) first count }
 {
     let mut found = None;
     for more in 0..count {
@@ -217,10 +217,10 @@ fn no_segments(controller: Controller, rate: u32) -> InitFault
 }
 
 /// Returns the draft for what is asked for of a controller with this setting, if the cable isn't too long.
-fn drawn(asked: Asked, clock: u32, setting: BitSetting) -> Result<Draft, InitFault>
-    ensures { result ≡ drawn asked clock setting }
+fn draft_within(asked: Asked, clock: u32, setting: BitSetting) -> Result<Draft, InitFault>
+    ensures { result ≡ draft_within asked clock setting }
 {
-    let longest = longest_cable(asked.rate, setting.shape);
+    let longest = longest_for(asked.rate, setting.shape);
     if u64::from(asked.cable) <= longest {
         Ok(Draft {
             asked,
@@ -239,7 +239,7 @@ fn draft_with(asked: Asked) -> Result<Draft, InitFault>
 {
     match controller_at(asked.kind) {
         Some(controller) => match setting_at(controller, asked.rate) {
-            Some(setting) => drawn(asked, controller.clock, setting),
+            Some(setting) => draft_within(asked, controller.clock, setting),
             None => Err(no_segments(controller, asked.rate)),
         },
         None => Err(InitFault::Kind),
@@ -247,8 +247,8 @@ fn draft_with(asked: Asked) -> Result<Draft, InitFault>
 }
 
 /// Returns what a wish asks for, or its first part that no text could be read as.
-fn asked_of(wish: Wish) -> Result<Asked, InitFault>
-    ensures { result ≡ asked_of wish }
+fn wish_asked(wish: Wish) -> Result<Asked, InitFault>
+    ensures { result ≡ wish_asked wish }
 {
     match (wish.rate, wish.cable, wish.kind) {
         (None, _, _) => Err(InitFault::Bitrate),
@@ -268,7 +268,7 @@ fn asked_of(wish: Wish) -> Result<Asked, InitFault>
 pub fn draft_of(wish: Wish) -> Result<Draft, InitFault>
     ensures { result ≡ draft_of wish }
 {
-    match asked_of(wish) {
+    match wish_asked(wish) {
         Ok(asked) => draft_with(asked),
         Err(fault) => Err(fault),
     }

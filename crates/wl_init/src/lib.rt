@@ -8,8 +8,8 @@ mod run;
 mod text;
 mod wish;
 
-pub use bits::{BitSetting, CLOCKS, FAR, NEAR, Shape, longest_cable, quanta_of, setting_for};
-pub use draft::{Asked, CYCLES, Controller, Draft, draft_of, name_at};
+pub use bits::{BitSetting, CLOCKS, FAR, NEAR, Shape, longest_for, setting_for, shape_quanta};
+pub use draft::{Asked, CYCLES, Controller, Draft, draft_of, kind_word};
 pub use fault::InitFault;
 pub use run::init_run;
 pub use text::first_plan;

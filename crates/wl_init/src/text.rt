@@ -1,9 +1,9 @@
 //! The text of a plan to begin from.
 ghost use Rattle.std.specs.Prelude.{◌≡◌, IfOk, OnOk, string_bytes};
-ghost use Rattle.wl_init.specs.Texts.{HasAdded, bitrate_lines, clock_line, controller_lines, cycle_words, data_lines, end_of, head_line, id_of, id_words, jump_line, kind_line, length_words, line_end, line_words, name_words, node_lines, node_tables, nodes_words, number_of, offset_words, place_lines, place_of, plan_words, prescaler_words, rate_words, said, setting_lines, tables_below, time_lines, top_lines, tseg1_line, tseg2_line};
+ghost use Rattle.wl_init.specs.Texts.{HasGrownBy, bitrate_lines, clock_line, controller_lines, cycle_words, data_lines, end_of_run, head_line, id_of, id_words, sjw_line, kind_line, length_words, line_end, line_words, ecu_name, ecu_lines, node_tables, nodes_words, ecu_number, ecu_offset, ecu_place, ecu_units, first_plan_words, prescaler_words, rate_words, fixed_words, setting_lines, tables_below, time_lines, end_line, tseg1_line, tseg2_line};
 
 use crate::bits::BitSetting;
-use crate::draft::{Draft, name_at};
+use crate::draft::{Draft, kind_word};
 use std::alloc::{AllocError, Global};
 
 /// What is in the top table whatever is asked for, before the end of the run.
@@ -23,10 +23,10 @@ in = \"80ns\"  # its delay from the cable to the controller
 tolerance = 100  # by how many ppm the oscillator may be slow or fast
 ";
 
-/// Adds a length of so many units of 20 cm, in metres.
+/// Adds a length of this number of units of 20 cm, in metres.
 #[tactic(auto, unfolding(crate::specs::Texts::length_words))]
 fn push_length(text: &mut String, units: u64) -> Result<(), AllocError>
-    ensures { OnOk result (HasAdded text.old text.new (length_words units)) }
+    ensures { OnOk result (HasGrownBy text.old text.new (length_words units)) }
 {
     let (metres, rest) = (units / 5, units % 5);
     if rest == 0 {
@@ -40,7 +40,7 @@ fn push_length(text: &mut String, units: u64) -> Result<(), AllocError>
 /// Adds a bit rate.
 #[tactic(auto, unfolding(crate::specs::Texts::rate_words))]
 fn push_rate(text: &mut String, rate: u32) -> Result<(), AllocError>
-    ensures { OnOk result (HasAdded text.old text.new (rate_words rate)) }
+    ensures { OnOk result (HasGrownBy text.old text.new (rate_words rate)) }
 {
     if rate % 1000 == 0 {
         let thousands = rate / 1000;
@@ -51,9 +51,9 @@ fn push_rate(text: &mut String, rate: u32) -> Result<(), AllocError>
 }
 
 /// Adds some words.
-#[tactic(auto, unfolding(crate::specs::Texts::said))]
+#[tactic(auto, unfolding(crate::specs::Texts::fixed_words))]
 fn push_said(text: &mut String, words: &str) -> Result<(), AllocError>
-    ensures { OnOk result (HasAdded text.old text.new (said words.now)) }
+    ensures { OnOk result (HasGrownBy text.old text.new (fixed_words words.now)) }
 {
     text.push_str(words)
 }
@@ -61,14 +61,14 @@ fn push_said(text: &mut String, words: &str) -> Result<(), AllocError>
 /// Adds how many nodes there are.
 #[tactic(auto, unfolding(crate::specs::Texts::nodes_words))]
 fn push_count(text: &mut String, nodes: u8) -> Result<(), AllocError>
-    ensures { OnOk result (HasAdded text.old text.new (nodes_words nodes)) }
+    ensures { OnOk result (HasGrownBy text.old text.new (nodes_words nodes)) }
 {
     write!(text, "# A bus of {nodes} nodes at ")
 }
 
 /// Adds the line that says what the plan is.
 fn push_head(text: &mut String, draft: Draft) -> Result<(), AllocError>
-    ensures { OnOk result (HasAdded text.old text.new (head_line draft)) }
+    ensures { OnOk result (HasGrownBy text.old text.new (head_line draft)) }
 {
     push_count(text, draft.asked.nodes)?;
     push_rate(text, draft.asked.rate)?;
@@ -78,16 +78,16 @@ fn push_head(text: &mut String, draft: Draft) -> Result<(), AllocError>
 }
 
 /// Returns when the run ends, in milliseconds.
-fn end_of(draft: Draft) -> u64
-    ensures { result ≡ end_of draft }
+fn end_of_run(draft: Draft) -> u64
+    ensures { result ≡ end_of_run draft }
 {
     3 * u64::from(draft.cycle)
 }
 
 /// Adds the keys of the top table.
-#[tactic(auto, unfolding(crate::specs::Texts::top_lines))]
+#[tactic(auto, unfolding(crate::specs::Texts::end_line))]
 fn push_top(text: &mut String, end: u64) -> Result<(), AllocError>
-    ensures { OnOk result (HasAdded text.old text.new (top_lines end)) }
+    ensures { OnOk result (HasGrownBy text.old text.new (end_line end)) }
 {
     write!(text, "end = \"{end}ms\"  # when the run ends\n")
 }
@@ -95,7 +95,7 @@ fn push_top(text: &mut String, end: u64) -> Result<(), AllocError>
 /// Adds the kind of the controllers.
 #[tactic(auto, unfolding(crate::specs::Texts::kind_line))]
 fn push_kind(text: &mut String, kind: &str) -> Result<(), AllocError>
-    ensures { OnOk result (HasAdded text.old text.new (kind_line kind.now)) }
+    ensures { OnOk result (HasGrownBy text.old text.new (kind_line kind.now)) }
 {
     write!(
         text,
@@ -106,7 +106,7 @@ fn push_kind(text: &mut String, kind: &str) -> Result<(), AllocError>
 /// Adds the clock of the controllers, in MHz.
 #[tactic(auto, unfolding(crate::specs::Texts::clock_line))]
 fn push_clock(text: &mut String, clock: u32) -> Result<(), AllocError>
-    ensures { OnOk result (HasAdded text.old text.new (clock_line clock)) }
+    ensures { OnOk result (HasGrownBy text.old text.new (clock_line clock)) }
 {
     write!(text, "clock = \"{clock}MHz\"  # the controller's\n")
 }
@@ -114,14 +114,14 @@ fn push_clock(text: &mut String, clock: u32) -> Result<(), AllocError>
 /// Adds a remark on the prescaler, and ends the line.
 #[tactic(auto, unfolding(crate::specs::Texts::prescaler_words))]
 fn push_prescaler(text: &mut String, prescaler: u64) -> Result<(), AllocError>
-    ensures { OnOk result (HasAdded text.old text.new (prescaler_words prescaler)) }
+    ensures { OnOk result (HasGrownBy text.old text.new (prescaler_words prescaler)) }
 {
     write!(text, "\"  # so the prescaler is {prescaler}\n")
 }
 
 /// Adds the bit rate of the controllers.
 fn push_bitrate(text: &mut String, draft: Draft) -> Result<(), AllocError>
-    ensures { OnOk result (HasAdded text.old text.new (bitrate_lines draft)) }
+    ensures { OnOk result (HasGrownBy text.old text.new (bitrate_lines draft)) }
 {
     push_said(text, "bitrate = \"")?;
     push_rate(text, draft.asked.rate)?;
@@ -131,7 +131,7 @@ fn push_bitrate(text: &mut String, draft: Draft) -> Result<(), AllocError>
 /// Adds PROP_SEG and PHASE_SEG1 of the controllers.
 #[tactic(auto, unfolding(crate::specs::Texts::tseg1_line))]
 fn push_tseg1(text: &mut String, tseg1: u8) -> Result<(), AllocError>
-    ensures { OnOk result (HasAdded text.old text.new (tseg1_line tseg1)) }
+    ensures { OnOk result (HasGrownBy text.old text.new (tseg1_line tseg1)) }
 {
     write!(
         text,
@@ -142,7 +142,7 @@ fn push_tseg1(text: &mut String, tseg1: u8) -> Result<(), AllocError>
 /// Adds PHASE_SEG2 of the controllers.
 #[tactic(auto, unfolding(crate::specs::Texts::tseg2_line))]
 fn push_tseg2(text: &mut String, tseg2: u8) -> Result<(), AllocError>
-    ensures { OnOk result (HasAdded text.old text.new (tseg2_line tseg2)) }
+    ensures { OnOk result (HasGrownBy text.old text.new (tseg2_line tseg2)) }
 {
     write!(
         text,
@@ -151,9 +151,9 @@ fn push_tseg2(text: &mut String, tseg2: u8) -> Result<(), AllocError>
 }
 
 /// Adds the jump width of the controllers.
-#[tactic(auto, unfolding(crate::specs::Texts::jump_line))]
+#[tactic(auto, unfolding(crate::specs::Texts::sjw_line))]
 fn push_jump(text: &mut String, jump: u8) -> Result<(), AllocError>
-    ensures { OnOk result (HasAdded text.old text.new (jump_line jump)) }
+    ensures { OnOk result (HasGrownBy text.old text.new (sjw_line jump)) }
 {
     write!(
         text,
@@ -163,7 +163,7 @@ fn push_jump(text: &mut String, jump: u8) -> Result<(), AllocError>
 
 /// Adds the segments and the jump width of the controllers.
 fn push_setting(text: &mut String, setting: BitSetting) -> Result<(), AllocError>
-    ensures { OnOk result (HasAdded text.old text.new (setting_lines setting)) }
+    ensures { OnOk result (HasGrownBy text.old text.new (setting_lines setting)) }
 {
     push_tseg1(text, setting.shape.tseg1)?;
     push_tseg2(text, setting.shape.tseg2)?;
@@ -172,13 +172,13 @@ fn push_setting(text: &mut String, setting: BitSetting) -> Result<(), AllocError
 
 /// Adds the table of the controllers.
 fn push_controller(text: &mut String, draft: Draft) -> Result<(), AllocError>
-    ensures { OnOk result (HasAdded text.old text.new (controller_lines draft)) }
+    ensures { OnOk result (HasGrownBy text.old text.new (controller_lines draft)) }
 {
     push_said(
         text,
         "\n[controller.ecu]  # what the nodes have in common\n",
     )?;
-    push_kind(text, name_at(draft.asked.kind))?;
+    push_kind(text, kind_word(draft.asked.kind))?;
     push_clock(text, draft.clock)?;
     push_bitrate(text, draft)?;
     push_setting(text, draft.setting)?;
@@ -186,8 +186,8 @@ fn push_controller(text: &mut String, draft: Draft) -> Result<(), AllocError>
 }
 
 /// Returns the place of a node in units of 20 cm: the first and the last are at the ends of the cable, the others evenly between them.
-fn place_of(draft: Draft, i: u8) -> u64
-    ensures { result ≡ place_of draft i }
+fn ecu_units(draft: Draft, i: u8) -> u64
+    ensures { result ≡ ecu_units draft i }
 {
     let gaps = u64::from(draft.asked.nodes.saturating_sub(1).max(1));
     u64::from(draft.asked.cable) * u64::from(i) / gaps
@@ -196,7 +196,7 @@ fn place_of(draft: Draft, i: u8) -> u64
 /// Adds a remark if this node is the first one, and ends the line.
 #[tactic(auto, unfolding(crate::specs::Texts::line_end))]
 fn push_end(text: &mut String, i: u8, remark: &str) -> Result<(), AllocError>
-    ensures { OnOk result (HasAdded text.old text.new (line_end i remark.now)) }
+    ensures { OnOk result (HasGrownBy text.old text.new (line_end i remark.now)) }
 {
     if i == 0 {
         write!(text, "  # {remark}\n")
@@ -208,50 +208,50 @@ fn push_end(text: &mut String, i: u8, remark: &str) -> Result<(), AllocError>
 /// Adds a line that each node has, with a remark if this node is the first one.
 #[tactic(auto, unfolding(crate::specs::Texts::line_words))]
 fn push_line(text: &mut String, i: u8, line: &str, remark: &str) -> Result<(), AllocError>
-    ensures { OnOk result (HasAdded text.old text.new (line_words i line.now remark.now)) }
+    ensures { OnOk result (HasGrownBy text.old text.new (line_words i line.now remark.now)) }
 {
     text.push_str(line)?;
     push_end(text, i, remark)
 }
 
 /// Returns the number of a node, from 1.
-fn number_of(i: u8) -> u32
-    ensures { result ≡ number_of i }
+fn ecu_number(i: u8) -> u32
+    ensures { result ≡ ecu_number i }
 {
     u32::from(i) + 1
 }
 
 /// Adds the name of a node of this number.
-#[tactic(auto, unfolding(crate::specs::Texts::name_words))]
+#[tactic(auto, unfolding(crate::specs::Texts::ecu_name))]
 fn push_name(text: &mut String, number: u32) -> Result<(), AllocError>
-    ensures { OnOk result (HasAdded text.old text.new (name_words number)) }
+    ensures { OnOk result (HasGrownBy text.old text.new (ecu_name number)) }
 {
     write!(text, "name = \"ecu{number}\"")
 }
 
 /// Adds the time at which a node is powered up.
-#[tactic(auto, unfolding(crate::specs::Texts::offset_words))]
+#[tactic(auto, unfolding(crate::specs::Texts::ecu_offset))]
 fn push_offset(text: &mut String, i: u8) -> Result<(), AllocError>
-    ensures { OnOk result (HasAdded text.old text.new (offset_words i)) }
+    ensures { OnOk result (HasGrownBy text.old text.new (ecu_offset i)) }
 {
     write!(text, "offset = \"{i}us\"")
 }
 
 /// Adds the place of a node.
 fn push_place(text: &mut String, draft: Draft, i: u8) -> Result<(), AllocError>
-    ensures { OnOk result (HasAdded text.old text.new (place_lines draft i)) }
+    ensures { OnOk result (HasGrownBy text.old text.new (ecu_place draft i)) }
 {
     push_said(text, "x = \"")?;
-    push_length(text, place_of(draft, i))?;
+    push_length(text, ecu_units(draft, i))?;
     push_line(text, i, "\"", "its place on the cable")
 }
 
 /// Adds the table of a node without its frame.
 fn push_node(text: &mut String, draft: Draft, i: u8) -> Result<(), AllocError>
-    ensures { OnOk result (HasAdded text.old text.new (node_lines draft i)) }
+    ensures { OnOk result (HasGrownBy text.old text.new (ecu_lines draft i)) }
 {
     push_line(text, i, "\n[[node]]", "a controller on the cable")?;
-    push_name(text, number_of(i))?;
+    push_name(text, ecu_number(i))?;
     push_end(text, i, "up to 32 letters, digits, _ and -")?;
     push_line(
         text,
@@ -274,7 +274,7 @@ fn id_of(i: u8) -> u32
 /// Adds an identifier.
 #[tactic(auto, unfolding(crate::specs::Texts::id_words))]
 fn push_id(text: &mut String, id: u32) -> Result<(), AllocError>
-    ensures { OnOk result (HasAdded text.old text.new (id_words id)) }
+    ensures { OnOk result (HasGrownBy text.old text.new (id_words id)) }
 {
     write!(text, "id = 0x{id:x}")
 }
@@ -282,14 +282,14 @@ fn push_id(text: &mut String, id: u32) -> Result<(), AllocError>
 /// Adds a key with the cycle of the frames.
 #[tactic(auto, unfolding(crate::specs::Texts::cycle_words))]
 fn push_cycle(text: &mut String, key: &str, cycle: u32) -> Result<(), AllocError>
-    ensures { OnOk result (HasAdded text.old text.new (cycle_words key.now cycle)) }
+    ensures { OnOk result (HasGrownBy text.old text.new (cycle_words key.now cycle)) }
 {
     write!(text, "{key} = \"{cycle}ms\"")
 }
 
 /// Adds the keys of a frame that say what is sent.
 fn push_data(text: &mut String, i: u8) -> Result<(), AllocError>
-    ensures { OnOk result (HasAdded text.old text.new (data_lines i)) }
+    ensures { OnOk result (HasGrownBy text.old text.new (data_lines i)) }
 {
     push_line(
         text,
@@ -305,7 +305,7 @@ fn push_data(text: &mut String, i: u8) -> Result<(), AllocError>
 
 /// Adds the keys of a frame that say when it is sent.
 fn push_times(text: &mut String, cycle: u32, i: u8) -> Result<(), AllocError>
-    ensures { OnOk result (HasAdded text.old text.new (time_lines cycle i)) }
+    ensures { OnOk result (HasGrownBy text.old text.new (time_lines cycle i)) }
 {
     push_cycle(text, "at", cycle)?;
     push_end(text, i, "when it is ready to be sent")?;
@@ -318,7 +318,7 @@ fn push_times(text: &mut String, cycle: u32, i: u8) -> Result<(), AllocError>
 /// Adds the tables of a node.
 #[tactic(auto, unfolding(crate::specs::Texts::node_tables))]
 fn push_tables(text: &mut String, draft: Draft, i: u8) -> Result<(), AllocError>
-    ensures { OnOk result (HasAdded text.old text.new (node_tables draft i)) }
+    ensures { OnOk result (HasGrownBy text.old text.new (node_tables draft i)) }
 {
     push_node(text, draft, i)?;
     push_data(text, i)?;
@@ -327,7 +327,7 @@ fn push_tables(text: &mut String, draft: Draft, i: u8) -> Result<(), AllocError>
 
 /// Adds the tables of all nodes.
 fn push_nodes(text: &mut String, draft: Draft) -> Result<(), AllocError>
-    ensures { OnOk result (HasAdded text.old text.new (tables_below draft draft.asked.nodes)) }
+    ensures { OnOk result (HasGrownBy text.old text.new (tables_below draft draft.asked.nodes)) }
 {
     for i in 0..draft.asked.nodes {
         push_tables(text, draft, i)?;
@@ -337,11 +337,11 @@ fn push_nodes(text: &mut String, draft: Draft) -> Result<(), AllocError>
 
 /// Adds the whole plan.
 fn push_plan(text: &mut String, draft: Draft) -> Result<(), AllocError>
-    ensures { OnOk result (HasAdded text.old text.new (plan_words draft)) }
+    ensures { OnOk result (HasGrownBy text.old text.new (first_plan_words draft)) }
 {
     push_head(text, draft)?;
     push_said(text, TOP)?;
-    push_top(text, end_of(draft))?;
+    push_top(text, end_of_run(draft))?;
     push_said(text, SYNC)?;
     push_controller(text, draft)?;
     push_nodes(text, draft)
@@ -349,7 +349,7 @@ fn push_plan(text: &mut String, draft: Draft) -> Result<(), AllocError>
 
 /// Returns the plan of a draft as TOML, with a remark on each key where it first comes. Refused only when out of memory.
 pub fn first_plan(alloc: Global, draft: Draft) -> Result<String, AllocError>
-    ensures { IfOk result (λ text. string_bytes text ≡ plan_words draft) }
+    ensures { IfOk result (λ text. string_bytes text ≡ first_plan_words draft) }
 {
     let mut text = String::new(alloc);
     push_plan(&mut text, draft)?;

@@ -1,6 +1,6 @@
 //! What is asked for.
 ghost use Rattle.std.specs.Prelude.{◌≡◌, map};
-ghost use Rattle.wl_init.specs.Wishes.{cable_said, kind_said, number_among, number_said_within, rate_said};
+ghost use Rattle.wl_init.specs.Wishes.{cable_said, kind_said, kind_number, number_said_within, rate_said};
 
 use wl_kinds::{ControllerKind, KINDS};
 use wl_units::{Measure, Scale};
@@ -49,8 +49,8 @@ fn number_within(measure: Measure, least: u32, most: u32, text: &str) -> Option<
 }
 
 /// Returns the number of the kind with this name among some kinds, if there is one.
-fn number_among(kinds: &[(&'static str, ControllerKind)], name: &str) -> Option<usize>
-    ensures { result ≡ number_among 0 (map (λ k. k.0.now) kinds.now) name.now }
+fn kind_number(kinds: &[(&'static str, ControllerKind)], name: &str) -> Option<usize>
+    ensures { result ≡ kind_number 0 (map (λ k. k.0.now) kinds.now) name.now }
 {
     let mut number = 0;
     for kind in kinds {
@@ -83,5 +83,5 @@ pub fn cable_said(text: &str) -> Option<u32>
 pub fn kind_said(text: &str) -> Option<usize>
     ensures { result ≡ kind_said text.now }
 {
-    number_among(&KINDS, text)
+    kind_number(&KINDS, text)
 }

@@ -9,6 +9,7 @@ use wl_files::Folder;
 use wl_hint::{
     FREE_MEMORY, Hint, READ, READ_FILE, THREADS, WRITE, WRITE_FILE, hint_of_plan, hint_of_records,
 };
+use wl_init::InitFault;
 use wl_print::PrintFault;
 use wl_record::TextFault;
 use wl_settings::SettingsFault;
@@ -196,6 +197,44 @@ fn settings_advice(fault: &SettingsFault) -> &'static str {
     }
 }
 
+/// Says what to change of the words of `init`.
+fn say_of_init(rt: &impl Eprint, fault: InitFault) {
+    let _ = match fault {
+        InitFault::Bitrate => {
+            eprintln!(rt;
+                "hint: --bitrate: Give a bit rate of whole bit/s from 1k to 1M, as 250k or 250kbit/s."
+            )
+        }
+        InitFault::Cable => {
+            eprintln!(rt; "hint: --cable: Give a length in steps of 20 cm, as 60m or 12.4m.")
+        }
+        InitFault::Kind => {
+            eprintln!(rt;
+                "hint: --kind: Give sja1000, c_can, bxcan, mcp2515, at91, xilinx, flexcan, m_can, fdcan, tcan4550, mcp2518fd or book."
+            )
+        }
+        InitFault::NoSegments(Some(below), Some(above)) => {
+            eprintln!(rt;
+                "hint: --bitrate: With its usual clock this kind has no segments for it. The nearest bit rates are {below} and {above} bit/s."
+            )
+        }
+        InitFault::NoSegments(Some(nearest), None) | InitFault::NoSegments(None, Some(nearest)) => {
+            eprintln!(rt;
+                "hint: --bitrate: With its usual clock this kind has no segments for it. The nearest bit rate is {nearest} bit/s."
+            )
+        }
+        InitFault::TooLong(longest) => {
+            let (metres, tenths) = (longest / 5, longest % 5 * 2);
+            eprintln!(rt;
+                "hint: --cable: The way there and back doesn't fit before the sample. Give at most {metres}.{tenths}m, or a lower --bitrate."
+            )
+        }
+        InitFault::NoSegments(None, None) | InitFault::Write | InitFault::Memory => {
+            eprintln!(rt; "hint: {FREE_MEMORY}")
+        }
+    };
+}
+
 /// Returns what to change of a plan that has no form in version 4.
 fn print_advice(fault: &PrintFault) -> &'static str {
     match fault {
@@ -242,6 +281,11 @@ pub fn say_fault<F: Folder>(
             if order.hint {
                 let advice = settings_advice(fault);
                 let _ = eprintln!(rt; "hint: {advice}");
+            }
+        }
+        Fault::Init(fault) => {
+            if order.hint {
+                say_of_init(rt, *fault);
             }
         }
         Fault::Print(fault) => {
