@@ -51,6 +51,7 @@ mod hints;
 mod progress;
 mod subcommands;
 mod sweep;
+mod texts;
 mod values;
 
 use crate::answer::{
