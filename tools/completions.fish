@@ -1,8 +1,12 @@
 # Completions of ./wireline for fish: ./wireline completions fish | source
-complete -c wireline -n __fish_use_subcommand -f -a 'run check format explain trace candump vcd page margin traffic settings records merge horizon sweep build test completions help'
+complete -c wireline -n __fish_use_subcommand -f -a 'init run margin explain traffic check settings sweep trace page vcd candump records format merge horizon build test completions help'
 complete -c wireline -n 'not __fish_use_subcommand' -l hint -d 'what to change after a fault'
 complete -c wireline -n 'not __fish_use_subcommand' -l progress -d 'how long the run has taken'
 complete -c wireline -n 'not __fish_use_subcommand' -s o -r -d 'the file to write'
+complete -c wireline -n '__fish_seen_subcommand_from init' -l nodes -x -d 'how many nodes: 2 to 64'
+complete -c wireline -n '__fish_seen_subcommand_from init' -l bitrate -x -a '10k 20k 50k 125k 250k 500k 800k 1M' -d 'the bit rate'
+complete -c wireline -n '__fish_seen_subcommand_from init' -l cable -x -d 'the length of the cable, as 60m'
+complete -c wireline -n '__fish_seen_subcommand_from init' -l kind -x -a 'sja1000 c_can bxcan mcp2515 at91 xilinx flexcan m_can fdcan tcan4550 mcp2518fd book' -d 'the kind of controllers'
 complete -c wireline -n '__fish_seen_subcommand_from run sweep' -l workers -x -a '1 2 3 4 5 6 7 8' -d 'how many threads'
 complete -c wireline -n '__fish_seen_subcommand_from run' -l link -x -a 'hub mail' -d 'what they hand records over by'
 complete -c wireline -n '__fish_seen_subcommand_from candump vcd page margin traffic settings' -l tick -x -d 'how long a tick takes'

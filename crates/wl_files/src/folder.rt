@@ -13,6 +13,17 @@ pub enum BeginFault {
     Memory,
 }
 
+/// What is at a name that can't be read, as far as a person has to know it.
+#[derive(Clone, Copy, Debug, PartialEq, Eq)]
+pub enum Spot {
+    /// There is nothing.
+    Empty,
+    /// A folder.
+    Folder,
+    /// Something else, or it isn't known.
+    Other,
+}
+
 /// Files by name.
 pub trait Folder {
     ghost use Rattle.std.specs.Prelude.{List, ℕ, IfOk};
@@ -39,6 +50,9 @@ pub trait Folder {
 
     /// Opens a file once more, from its front; `None` if it is none, as a pipe, or can't be opened. It changes no file.
     fn open_again(&self, name: &str) -> Option<Self::Reader>;
+
+    /// Returns what is at a name. It changes no file.
+    fn spot(&self, name: &str) -> Spot;
 
     /// Begins a new file for this name, which has nothing yet. Nothing changes at any name.
     fn begin(&mut self, alloc: Global, name: &str) -> Result<Self::Writer, BeginFault>

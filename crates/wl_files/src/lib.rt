@@ -8,6 +8,6 @@ mod folder;
 mod script;
 mod system;
 
-pub use folder::{BeginFault, Folder};
+pub use folder::{BeginFault, Folder, Spot};
 pub use script::ScriptedFolder;
 pub use system::{SystemFile, SystemFolder};

@@ -1,6 +1,6 @@
 //! A folder for tests, which follows a script.
 
-use crate::folder::{BeginFault, Folder};
+use crate::folder::{BeginFault, Folder, Spot};
 use std::alloc::Global;
 use std::io;
 use std::io::ErrorKind;
@@ -51,6 +51,10 @@ impl<'a> Folder for ScriptedFolder<'a> {
 
     fn open_again(&self, name: &str) -> Option<ScriptedReader<'a>> {
         self.open(name).ok()
+    }
+
+    fn spot(&self, _name: &str) -> Spot {
+        if self.opens { Spot::Other } else { Spot::Empty }
     }
 
     fn begin(&mut self, alloc: Global, _name: &str) -> Result<ScriptedWriter, BeginFault> {

@@ -1,7 +1,7 @@
 //! The files of the system.
 ghost use Rattle.std.specs.Prelude.{◌≡◌, IfOk};
 
-use crate::folder::{BeginFault, Folder};
+use crate::folder::{BeginFault, Folder, Spot};
 use std::alloc::Global;
 use std::fs::{File, Metadata, OpenFile, OpenOptions};
 use std::io::ErrorKind;
@@ -259,6 +259,15 @@ impl<'a, R: Files> Folder for SystemFolder<'a, R> {
         match self.files.metadata(name) {
             Ok(found) if found.is_file() => self.open(name).ok(),
             _ => None,
+        }
+    }
+
+    fn spot(&self, name: &str) -> Spot {
+        match self.files.metadata(name) {
+            Ok(found) if found.is_dir() => Spot::Folder,
+            Ok(_) => Spot::Other,
+            Err(error) if error.kind() == ErrorKind::NotFound => Spot::Empty,
+            Err(_) => Spot::Other,
         }
     }
 

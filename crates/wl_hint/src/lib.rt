@@ -18,4 +18,7 @@ mod units;
 pub use hint::{Hint, TextPlace};
 pub use plan::hint_of_plan;
 pub use records::hint_of_records;
-pub use table::{FREE_MEMORY, READ, READ_FILE, THREADS, WRITE, WRITE_FILE};
+pub use table::{
+    FREE_MEMORY, IS_FOLDER, IS_PLAN, IS_SETTINGS, NO_FILE, READ, READ_FILE, THREADS, WRITE,
+    WRITE_FILE,
+};

@@ -230,7 +230,7 @@ fn is_in_node(path: TablePath) -> bool {
 fn of_segment(table: Option<&Table>, key: &str, least: i64) -> &'static str {
     match table.and_then(|table| number(table, key)) {
         Some(quanta) if quanta < least => " (a register may hold one less than the quanta)",
-        Some(_) => " (with a longer quantum there are fewer)",
+        Some(_) => " (with a greater prescaler, so a longer quantum, there are fewer)",
         None => "",
     }
 }
@@ -249,6 +249,26 @@ fn of_segments(table: Option<&Table>, form: TextForm, fault: SegmentsFault) -> &
     }
 }
 
+/// True if a text begins with a digit.
+fn has_digit(text: &str) -> bool {
+    match text.as_bytes().first() {
+        Some(letter) => letter.is_ascii_digit(),
+        None => false,
+    }
+}
+
+/// Returns what is remarked of a value at a key in a plan without units: that it is below 0, that it has a unit, or which unit it is in.
+fn of_number(table: Option<&Table>, key: &str, path: TablePath) -> &'static str {
+    let unit = unit_of(key, path);
+    match table.and_then(|table| value_named(table, key)) {
+        Some(Value::Integer(number)) if *number < 0 => " (it is below 0)",
+        Some(Value::String(text)) if !unit.is_empty() && has_digit(text.as_str()) => {
+            " (texts with a unit are of `version = 4`, beside `tick = \"1ns\"`)"
+        }
+        _ => unit,
+    }
+}
+
 /// Returns what is remarked of a value of another kind.
 fn of_kind(alloc: Global, top: &Table, path: TablePath, key: &str) -> Result<String, AllocError> {
     if number(top, "version") == Some(4) {
@@ -256,7 +276,7 @@ fn of_kind(alloc: Global, top: &Table, path: TablePath, key: &str) -> Result<Str
             return Ok(said);
         }
     }
-    String::from_str(alloc, unit_of(key, path))
+    String::from_str(alloc, of_number(table_at(top, path), key, path))
 }
 
 /// Returns what is remarked of a fault in the table where it is; nothing of most.

@@ -2,7 +2,7 @@
 ghost use Rattle.std.specs.Prelude.{◌≡◌, ◌≢◌, ◌↔◌, map, string_bytes, codes, IfOk, IfErr, Some, option_map};
 ghost use Rattle.clap.specs.Words.{kind_of, subcommand_rows_of};
 ghost use Rattle.wl_sim.specs.CommandLine.{Enters, FoundTask, file_in, has_flag, ranges_in};
-ghost use Rattle.wl_sim.specs.CommandLine.{candump_task, plain_task, run_task, sweep_task, task_named, timed_task, trace_task, valued_task};
+ghost use Rattle.wl_sim.specs.CommandLine.{candump_task, init_task, plain_task, run_task, sweep_task, task_named, timed_task, trace_task, valued_task};
 ghost use Rattle.wl_sim.specs.Orders.{FindsOrder, ReadsOrder};
 
 use crate::subcommands::matches_of;
@@ -18,6 +18,7 @@ use std::io;
 use std::rt::Env;
 use wl_engines::LinkKind;
 use wl_formats::Format;
+use wl_init::Wish;
 use wl_limits::Limits;
 use wl_settings::Shown;
 use wl_setup::Text;
@@ -26,6 +27,8 @@ use wl_views::{Pick, Tick, Window};
 /// What the program is asked to do.
 #[derive(Clone, Copy)]
 pub enum Task {
+    /// A plan to begin from, by a wish.
+    Init(Wish),
     /// The canonical text of a record text within these limits.
     Merge(Limits),
     /// What a record text within these limits says of each node, and up to which tick.
@@ -129,6 +132,13 @@ fn sweep_task(values: &Values) -> Option<Task>
     Some(Task::Sweep(values.swept?))
 }
 
+/// Returns the task of `init`, if the values have what it wants.
+fn init_task(values: &Values) -> Option<Task>
+    ensures { result ≡ init_task values.now }
+{
+    Some(Task::Init(values.wish?))
+}
+
 /// Returns the task that a word names at ticks that take so long.
 fn timed_task(word: &str, tick: Tick, values: &Values) -> Option<Task>
     ensures { result ≡ timed_task word.now values.now tick }
@@ -155,6 +165,7 @@ fn valued_task(word: &str, values: &Values) -> Option<Task>
         "trace" => trace_task(values),
         "candump" => candump_task(values),
         "sweep" => sweep_task(values),
+        "init" => init_task(values),
         _ => timed_task(word, values.tick?, values),
     }
 }

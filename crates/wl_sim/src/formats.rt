@@ -30,7 +30,8 @@ pub(crate) fn subject_of(task: Task) -> Option<Subject>
                 Some(Subject::Sweep)
             }
         }
-        Task::Merge(_)
+        Task::Init(_)
+        | Task::Merge(_)
         | Task::Horizon(_)
         | Task::Upgrade
         | Task::Records(_)

@@ -2,8 +2,8 @@
 //!
 //! It reads one input from standard input or from a file, does what its one subcommand says, and writes the output to standard output or to
 //! a file. Of a record text `merge` writes the canonical text of the replica that its records make, and `horizon` what that replica knows
-//! of each node, and up to which tick. `settings` reads a text of its own kind, and writes the bit timings with which a bus works. The
-//! others read a plan text:
+//! of each node, and up to which tick. `settings` reads a text of its own kind, and writes the bit timings with which a bus works.
+//! `init` reads nothing, and writes a plan to begin from. The others read a plan text:
 //!
 //! - `check` writes what the bit segments allow and how long the cable takes;
 //! - `format` writes the plan as one of version 4;
@@ -38,6 +38,7 @@ use wl_device::{Host, Sink, Source};
 use wl_engines::Kept;
 use wl_files::{BeginFault, Folder, SystemFolder};
 use wl_formats::{Format, Subject};
+use wl_init::init_run;
 use wl_print::format_run;
 use wl_settings::settings_run;
 use wl_setup::{SetupFault, Text};
@@ -50,10 +51,11 @@ mod hints;
 mod progress;
 mod subcommands;
 mod sweep;
+mod texts;
 mod values;
 
 use crate::answer::{
-    of_format, of_join, of_map, of_print, of_settings, of_tally, of_traffic, plainly,
+    of_format, of_init, of_join, of_map, of_print, of_settings, of_tally, of_traffic, plainly,
 };
 use crate::formats::{subject_of, write_kept};
 pub use answer::{Done, Fault};
@@ -413,6 +415,7 @@ fn run<H: Threads + Wait + Sync + Eprint + Clock, R: Source, W: Sink>(
         work.entry.task (map string_bytes work.entry.ranges.now) result }
 {
     match work.task {
+        Task::Init(wish) => of_init(init_run(alloc, wish, writer)),
         Task::Merge(limits) => plainly(merge_run_within(alloc, limits, reader, writer)),
         Task::Horizon(limits) => plainly(horizon_run_within(alloc, limits, reader, writer)),
         Task::Check => plainly(check_run(alloc, reader, writer)),
@@ -496,7 +499,7 @@ fn status_of(answer: &Result<Done, Fault>) -> ExitCode
                 ExitCode::from(BROKEN)
             }
         }
-        Err(Fault::Word(_)) => ExitCode::from(REFUSED_COMMAND),
+        Err(Fault::Word(_)) | Err(Fault::Init(_)) => ExitCode::from(REFUSED_COMMAND),
         Err(Fault::Settings(_)) | Err(Fault::Print(_)) | Err(Fault::Join(_)) => {
             ExitCode::from(REFUSED_INPUT)
         }

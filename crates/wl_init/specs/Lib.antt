@@ -1,0 +1,5 @@
+pub mod Bits
+pub mod Wishes
+pub mod Drafts
+pub mod Texts
+pub mod Runs
