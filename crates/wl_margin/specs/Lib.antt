@@ -3,3 +3,4 @@ pub mod Sentences
 pub mod Paces
 pub mod Reasons
 pub mod Margins
+pub mod Standings

@@ -12,7 +12,10 @@ mod searches;
 mod sentences;
 mod units;
 
-pub use margin::{all_send_text, margin_text, oscillators, push_failure_line, push_reason};
+pub use margin::{
+    Standing, Surety, all_send_text, bus_standing, margin_text, oscillators, push_failure_line,
+    push_reason, push_spare, push_standing_reasons,
+};
 pub use numbers::{Hundredths, Thousandths};
 pub use paces::clocks_keep_pace;
 pub use reasons::Asked;

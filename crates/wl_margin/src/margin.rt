@@ -12,11 +12,14 @@ ghost use Rattle.wl_margin.specs.Pieces.{each_below};
 ghost use Rattle.wl_margin.specs.Reasons.{cause_words, astray_line};
 ghost use Rattle.wl_margin.specs.Margins.{IsAllSendText, IsFamilyText, IsMarginText, IsTextFor, IsVerdictText, all_pairs, any_failure, any_lead, any_reason, any_word, failure_line, family_asked, family_words, is_law_abiding, is_proved, lone_words, mute_words, one_lead, one_reason, one_word, outside_lead, outside_reason, outside_words, paces_of, pair_line, pair_words, pairs_of, proved_of, sender_words, senders_words, sends_at, shared_words, spare_of, unheard_words, unless_proved, verdict_asked, verdict_words};
 
+mod readers;
+
 use crate::paces::{any_turning, first_stray, stray_at};
 use crate::reasons::{Asked, Cause, any_cause, one_cause, push_astray, push_cause};
 use crate::searches::{push_results, search};
 use crate::sentences::{Rest, Spare, push_failure};
 use crate::units::units_at;
+pub use readers::{Standing, Surety, bus_standing, push_spare, push_standing_reasons};
 use std::alloc::{AllocError, Global};
 use wl_bound::{
     Failure, Family, Inequality, Oscillator, Outside, Senders, Verdict, all_speak, is_covered,
