@@ -17,6 +17,6 @@ pub use margin::{
     push_reason, push_spare, push_standing_reasons,
 };
 pub use numbers::{Hundredths, Thousandths};
-pub use paces::clocks_keep_pace;
+pub use paces::{clocks_keep_pace, first_stray, first_turning};
 pub use reasons::Asked;
 pub use searches::{Headroom, push_headroom};
