@@ -1,12 +1,12 @@
 -- No frame waits longer than its bound, by the instances of its message in its window.
-use Rattle.std.proofs.Common.{◌≡◌, ◌∙◌, ap, sym, subst, ℕ, zero, suc, ◌+◌, ◌-◌, ◌*◌, ◌<◌, ◌≤◌, cond, Bool, true, false, eqb, arith, inl, inr}
+use Rattle.std.proofs.Common.{◌≡◌, ◌∙◌, ap, sym, ℕ, zero, suc, ◌+◌, ◌-◌, ◌*◌, ◌<◌, ◌≤◌, cond, Bool, true, false, eqb, arith, inl, inr}
 use Rattle.std.proofs.Math.Nat.{mul-le-mul_left, mul-le-mul_right}
 use Rattle.std.proofs.lemmas.Bool.{cases_Bool, cases_eq, eq-eqb, eqb-true, ne_eqb}
 use Rattle.wl_counts.specs.Counts.{one_if, sum_below, message_count}
 use Rattle.wl_counts.specs.Waits.{AreEnough, AreSporadic, Frames, HasWindow, HaveFew, HaveWindows, Table, WaitBefore, share}
 use Rattle.wl_counts.specs.Instances.{AreEnoughByInstances, instance_share, instances}
 use Rattle.wl_counts.proofs.Cases.{sum_more}
-use Rattle.wl_counts.proofs.Waits.{begin_in, begin_in_time, follow_on, frames_in, have_few, message_in, wait_all}
+use Rattle.wl_counts.proofs.Waits.{begin_in, begin_in_time, follow_on, have_few, message_in, wait_all}
 
 module _ (t : Table) (x : Frames) (period whole : ℕ → ℕ) (w : ℕ → ℕ → ℕ) (r : ℕ → ℕ) (count : ℕ) (enough : AreEnoughByInstances t period whole w r) (are : HaveWindows t x r count)
     (sporadic : AreSporadic period x.message x.ready count) (last : ℕ) (inside : last < count) (old : WaitBefore x r last) where
