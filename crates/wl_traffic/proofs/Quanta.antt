@@ -1,5 +1,5 @@
 -- The quanta that clocks know of the nodes of an outcome.
-use Rattle.std.proofs.Common.{◌≡◌, sym, subst, arith, ℕ, suc, ◌+◌, ◌<◌, ◌≤◌, List, [], ◌∷◌, length, fold, zero-add, add-zero, get_or}
+use Rattle.std.proofs.Common.{◌≡◌, sym, subst, arith, ℕ, suc, ◌+◌, ◌<◌, List, [], ◌∷◌, length, fold, zero-add, add-zero, get_or}
 use Rattle.std.specs.List.{All}
 use Rattle.std.proofs.lemmas.List.Elements.{All-append, All-cons, All-nil}
 use Rattle.wl_level.specs.declared.Level.{Level}
@@ -9,7 +9,6 @@ use Rattle.wl_sync.specs.Bits.{beat_of}
 use Rattle.wl_clock.specs.Timing.{tick_of}
 use Rattle.wl_node.specs.declared.setup.NodeSetup.{NodeSetup}
 use Rattle.wl_node.specs.History.{History, history_of, staying_history, levels_there, history_after, no_history, by_beat, seen_next}
-use Rattle.wl_node.specs.Limits.{most_run_quanta}
 use Rattle.wl_node.proofs.Callers.{same_past, there_and_away}
 use Rattle.wl_plan.specs.declared.plan.Plan.{Plan}
 use Rattle.wl_plan.specs.PlanLine.{line_of, setup_at}
