@@ -1,6 +1,7 @@
 -- What a plan text has to keep to, so that it is read as it is printed: the bounds of its keys, and the keys of its version (this project's profile).
-use Rattle.std.specs.Prelude.{◌≡◌, ℕ, ◌==◌, ◌&&◌, ◌||◌, not, nat_le, Bool, true, false, List, [], ◌∷◌, Option, Some, None, is_some, is_none, Ok}
+use Rattle.std.specs.Prelude.{◌≡◌, ℕ, ◌==◌, ◌&&◌, ◌||◌, not, nat_le, Bool, true, false, List, [], ◌∷◌, ◌++◌, codes, Option, Some, None, is_some, is_none, Ok}
 use Rattle.std.specs.List.{list_all}
+use Rattle.toml_parser.specs.Lexical.{is_non_eol}
 use Rattle.toml.specs.Data.{Members}
 use Rattle.toml.specs.Parse.{parse_document}
 use Rattle.wl_plan.specs.declared.plan.Plan.{Plan}
@@ -111,6 +112,12 @@ is_printable p =
 -- what is printed has a document, whose plan text is the one that was printed
 abbrev pub PrintedIsRead : Type 0
 PrintedIsRead = (p : PlanText) → is_printable p ≡ true → (top : Members) × (parse_document (plan_words p) ≡ Some top) × (plan_text_of top ≡ Ok p)
+
+-- and so has what is printed after a line of a comment
+abbrev pub PrintedAfterComment : Type 0
+PrintedAfterComment =
+    (p : PlanText) (comment : List ℕ) → is_printable p ≡ true → list_all is_non_eol comment ≡ true
+    → (top : Members) × (parse_document (codes "#" ++ (comment ++ (codes "\n" ++ plan_words p))) ≡ Some top) × (plan_text_of top ≡ Ok p)
 
 -- a text is read as this plan text, if that can be printed
 abbrev pub PrintsBack : PlanText → List ℕ → Type 0
