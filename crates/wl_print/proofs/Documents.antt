@@ -40,7 +40,7 @@ read_document ms text proper h =
     let (doc, ran, same) = from_roots (run (no_nodes, []) es) n (body ∙ made) in
     document_some text doc (rw skipped (read ∙ ran)) ∙ rw (same, closed)
 
--- ---- behind a comment
+-- ---- after a comment
 
 plain_byte : (c : ℕ) → is_non_eol c ≡ true → ((c == 10) ≡ false) × ((c == 13) ≡ false)
 plain_byte c h = (grind (arith, nat_tests), grind (arith, nat_tests))
@@ -57,10 +57,10 @@ comment_skipped : (cs text : List ℕ) → list_all is_non_eol cs ≡ true → s
 unfolding skip_from
 comment_skipped cs text all = comment_left cs text all
 
-pub read_behind : (ms : Members) (cs text : List ℕ) → is_proper ms ≡ true → AreLines (expressions ms) text → list_all is_non_eol cs ≡ true
+pub read_after : (ms : Members) (cs text : List ℕ) → is_proper ms ≡ true → AreLines (expressions ms) text → list_all is_non_eol cs ≡ true
     → parse_document (35 ∷ (cs ++ (10 ∷ text))) ≡ Some (sorted ms)
 unfolding along_header
-read_behind ms cs text proper h all =
+read_after ms cs text proper h all =
     let es = expressions ms in
     let x : List ℕ = 35 ∷ (cs ++ (10 ∷ text)) in
     let read = read_lines es text x (no_nodes, []) (suc (length x)) h (comment_skipped cs text all) (omega arith) in

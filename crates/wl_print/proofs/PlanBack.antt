@@ -27,9 +27,9 @@ use Rattle.wl_setup.specs.Reading.{text_answer}
 use Rattle.wl_setup.specs.TablePaths.{controller_faults, controller_tables, disturbance_fault_at, first_in, node_fault_at}
 use Rattle.wl_setup.specs.Texts.{disturbance_of, node_text_of, plan_of}
 use Rattle.wl_setup.specs.Version.{has_controllers, has_traffic, is_known_version}
-use Rattle.wl_print.specs.Printable.{PrintedBehindComment, PrintsBack, has_nodes, is_disturbance, is_node, is_number_of_key, is_printable, is_scale_if}
+use Rattle.wl_print.specs.Printable.{PrintedAfterComment, PrintsBack, has_nodes, is_disturbance, is_node, is_number_of_key, is_printable, is_scale_if}
 use Rattle.wl_print.specs.Written.{plan_words, sync_word}
-use Rattle.wl_print.proofs.Documents.{read_behind, read_document}
+use Rattle.wl_print.proofs.Documents.{read_after, read_document}
 use Rattle.wl_print.proofs.Entries.{AllAllowed, AllTaken, Allowed, AreProper, Entry, Taken, all_members, all_there, entries_of, found, no_fault, proper_entries, rows_proper, seen, tables_value, with_entry, with_rows_is, with_tables_is}
 use Rattle.wl_print.proofs.NodeBack.{entry_proper, map_back, map_same, node_entries, node_is, node_proper, node_quiet, node_read, quiet, tables_allowed, tables_seen, tables_taken}
 use Rattle.wl_print.proofs.PlanPlain.{AllPlain, asks_no_tick, document_same, measure_plain, table_plain, tables_plain}
@@ -298,12 +298,12 @@ printed_document p is =
       ap (λ (t : Members). plan_text_of (sorted t)) (plan_is p h) ∙ plan_text_reads p h,
     )
 
--- also behind a line of a comment
-pub printed_behind : PrintedBehindComment
-printed_behind p cs is all =
+-- also after a line of a comment
+pub printed_after : PrintedAfterComment
+printed_after p cs is all =
     let h = plan_facts p is in (
       sorted (plan_members p),
-      read_behind (plan_members p) cs (plan_words p) (plan_is_proper p h) (plan_lines p is) all,
+      read_after (plan_members p) cs (plan_words p) (plan_is_proper p h) (plan_lines p is) all,
       ap (λ (t : Members). plan_text_of (sorted t)) (plan_is p h) ∙ plan_text_reads p h,
     )
 

@@ -113,9 +113,9 @@ is_printable p =
 abbrev pub PrintedIsRead : Type 0
 PrintedIsRead = (p : PlanText) → is_printable p ≡ true → (top : Members) × (parse_document (plan_words p) ≡ Some top) × (plan_text_of top ≡ Ok p)
 
--- and so has what is printed behind a line of a comment
-abbrev pub PrintedBehindComment : Type 0
-PrintedBehindComment =
+-- and so has what is printed after a line of a comment
+abbrev pub PrintedAfterComment : Type 0
+PrintedAfterComment =
     (p : PlanText) (comment : List ℕ) → is_printable p ≡ true → list_all is_non_eol comment ≡ true
     → (top : Members) × (parse_document (codes "#" ++ (comment ++ (codes "\n" ++ plan_words p))) ≡ Some top) × (plan_text_of top ≡ Ok p)
 

@@ -1,5 +1,5 @@
 //! Laws on plan texts that are printed.
-ghost use Rattle.wl_print.specs.Printable.{PrintedBehindComment, PrintedIsRead, ReadIsPrintable};
+ghost use Rattle.wl_print.specs.Printable.{PrintedAfterComment, PrintedIsRead, ReadIsPrintable};
 
 /// Law: a plan text that keeps to the bounds of its keys and to the keys of its version is read as it is printed. The printed text is a TOML
 /// document, and its plan text is the one that was printed: the same version, each key's value, and the default of each key that is left out.
@@ -8,9 +8,9 @@ pub fn printed_is_read()
     ensures { PrintedIsRead }
 {}
 
-/// Law: the same of a text that is printed behind a line of a comment, as a member of a sweep is.
-pub fn printed_behind_comment()
-    ensures { PrintedBehindComment }
+/// Law: the same of a text that is printed after a line of a comment, as a member of a sweep is.
+pub fn printed_after_comment()
+    ensures { PrintedAfterComment }
 {}
 
 /// Law: a plan text that was read keeps to the bounds of its keys and to the keys of its version, if its plan can be run. In version 4 it keeps

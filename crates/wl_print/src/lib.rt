@@ -8,5 +8,5 @@ mod written;
 
 pub use fault::PrintFault;
 pub use format::format_run;
-pub use laws::{printed_behind_comment, printed_is_read, read_is_printable};
+pub use laws::{printed_after_comment, printed_is_read, read_is_printable};
 pub use written::{plan_text, push_plan};
