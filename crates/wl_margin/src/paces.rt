@@ -163,11 +163,7 @@ pub(crate) fn stray_at(
 }
 
 /// Returns the first node whose clock leaves its tolerance.
-pub fn first_stray(
-    deviations: &[Deviation],
-    plan: &CheckedPlan,
-    family: &Family,
-) -> Option<u8>
+pub fn first_stray(deviations: &[Deviation], plan: &CheckedPlan, family: &Family) -> Option<u8>
     requires deviations { length deviations.now ≡ length plan.now.nodes }
     requires members { length family.now.members ≡ length plan.now.nodes }
     ensures first { result ≡ first_stray deviations.now plan.now family.now }
