@@ -108,6 +108,7 @@ module _ (setup : NodeSetup) (levels : List Level) (level : Level) (old new : Bo
     where
       one : length (h.samples ++ (quantum, level) ∷ []) ≡ suc (length h.samples)
       one = (let e = length-append h.samples ((quantum, level) ∷ []) in omega arith)
+
       by : (b : Bool) → not (beq (not b) b) ≡ true
       by true = refl
       by false = refl
