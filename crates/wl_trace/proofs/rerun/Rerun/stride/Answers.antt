@@ -1,5 +1,4 @@
-use Rattle.std.proofs.Common.{◌≡◌, ◌∙◌, ◌<◌, ◌≤◌, ◌+◌, ◌-◌, ◌++◌, [], ℕ, List, length, replicate, sym, ap, subst, arith}
-use Rattle.wl_level.specs.declared.Level.{Level}
+use Rattle.std.proofs.Common.{◌∙◌, ◌≤◌, ◌+◌, ◌-◌, ◌++◌, [], ℕ, replicate, sym, ap, subst, arith}
 use Rattle.wl_node.specs.declared.setup.NodeSetup.{NodeSetup}
 use Rattle.wl_node.specs.History.{is_after, quanta_before}
 use Rattle.wl_trace.specs.StayingRerun.{RunsStaying, sample_if}

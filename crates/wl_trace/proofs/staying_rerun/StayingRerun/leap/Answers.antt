@@ -1,4 +1,4 @@
-use Rattle.std.proofs.Common.{◌≡◌, sym, subst, List}
+use Rattle.std.proofs.Common.{sym, subst, List}
 use Rattle.wl_trace.specs.declared.event.Noted.{Noted}
 use Rattle.wl_trace.specs.StayingRerun.{StaysOver}
 use Rattle.wl_trace.proofs.staying_rerun.StayingRerun.leap.Goals as goal
