@@ -14,6 +14,6 @@ mod units;
 
 pub use margin::{all_send_text, margin_text, oscillators, push_failure_line, push_reason};
 pub use numbers::{Hundredths, Thousandths};
-pub use paces::clocks_keep_pace;
+pub use paces::{clocks_keep_pace, first_stray, first_turning};
 pub use reasons::Asked;
 pub use searches::{Headroom, push_headroom};

@@ -162,12 +162,8 @@ pub(crate) fn stray_at(
     stray_by(&oscillator, &plan.node(i).clock, deviation.rates.as_slice())
 }
 
-/// Returns the first node whose clock does.
-pub(crate) fn first_stray(
-    deviations: &[Deviation],
-    plan: &CheckedPlan,
-    family: &Family,
-) -> Option<u8>
+/// Returns the first node whose clock leaves its tolerance.
+pub fn first_stray(deviations: &[Deviation], plan: &CheckedPlan, family: &Family) -> Option<u8>
     requires deviations { length deviations.now ≡ length plan.now.nodes }
     requires members { length family.now.members ≡ length plan.now.nodes }
     ensures first { result ≡ first_stray deviations.now plan.now family.now }
@@ -183,7 +179,7 @@ pub(crate) fn first_stray(
 }
 
 /// Returns the first node whose oscillator has several rates.
-pub(crate) fn first_turning(deviations: &[Deviation], plan: &CheckedPlan) -> Option<u8>
+pub fn first_turning(deviations: &[Deviation], plan: &CheckedPlan) -> Option<u8>
     requires deviations { length deviations.now ≡ length plan.now.nodes }
     ensures { result ≡ first_place (is_turning deviations.now) (length plan.now.nodes) }
 {
