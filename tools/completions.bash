@@ -17,12 +17,13 @@ _wireline() {
     vcd | page) options+=' --tick' ;;
     merge | horizon) options+=' --wide' ;;
     margin) options+=' --tick --all-send --format' ;;
+    respond) options+=' --tick --any-data --strict --format' ;;
     traffic) options+=' --tick --strict --format' ;;
     settings) options+=' --tick --best --plan' ;;
     sweep) options+=' --vary --step --runs --seed --keep-offsets --keep-ppm --worst --workers --print --page --part --join --format' ;;
   esac
   if [ "$COMP_CWORD" = 1 ]; then
-    mapfile -t COMPREPLY < <(compgen -W 'run check format explain trace candump vcd page margin traffic settings records merge horizon sweep build test completions help' -- "$word")
+    mapfile -t COMPREPLY < <(compgen -W 'run check format explain trace candump vcd page margin respond traffic settings records merge horizon sweep build test completions help' -- "$word")
   elif [[ $word = -* ]]; then mapfile -t COMPREPLY < <(compgen -W "$options" -- "$word")
   else mapfile -t COMPREPLY < <(compgen -f -- "$word"); fi
 }

@@ -58,7 +58,7 @@ hand_over() { # hand_over PROGRAM WORD..: becomes the program, with the words th
   done
   if [ "${1-}" = sweep ] && [[ " ${words[*]} " = *' --join '* ]]; then join_files "$program" "${said[@]}" "${words[@]}"; fi
   case ${1-} in
-    run | check | format | records | explain | trace | candump | vcd | page | margin | traffic | settings | merge | horizon | sweep)
+    run | check | format | records | explain | trace | candump | vcd | page | margin | respond | traffic | settings | merge | horizon | sweep)
       exec "$program" "$1" "${said[@]}" "${words[@]}"
       ;;
   esac
