@@ -1,10 +1,9 @@
 -- The text of a bus, by what was found of it.
-use Rattle.std.proofs.Common.{◌≡◌, ◌∙◌, ap, ap₂, sym, subst, ℕ, ◌==◌, ◌&&◌, Bool, List, length, map, Option, None, Result, Ok, Err}
+use Rattle.std.proofs.Common.{◌≡◌, ◌∙◌, ap, ap₂, subst, ℕ, ◌==◌, ◌&&◌, Bool, List, map, Option, None, Result, Ok, Err}
 use Rattle.std.specs.Prelude.{IfOk}
 use Rattle.std.specs.Option.{is_none}
 use Rattle.wl_bound.specs.Families.{Buses}
 use Rattle.wl_bound.specs.Rooms.{plain_bus}
-use Rattle.wl_level.specs.Places.{first_place}
 use Rattle.wl_setup.specs.declared.bus.Bus.{Bus}
 use Rattle.wl_setup.specs.declared.bus.Deviation.{Deviation}
 use Rattle.wl_respond.specs.declared.asked.Asked.{Asked}
@@ -14,7 +13,7 @@ use Rattle.wl_respond.specs.declared.premise.Lacking.{Lacking}
 use Rattle.wl_respond.specs.declared.verdict.Outcome.{Outcome}
 use Rattle.wl_respond.specs.Asks.{message_in}
 use Rattle.wl_respond.specs.Parts.{load_at_most}
-use Rattle.wl_respond.specs.Premises.{HasPremises, goes_by_priority}
+use Rattle.wl_respond.specs.Premises.{HasPremises}
 use Rattle.wl_respond.specs.Tests.{pass}
 use Rattle.wl_respond.specs.Texts.{IsTold, first_ordered, has_bounds, lines_of, lines_shown, missed_count, outcome_of, outcome_words}
 
