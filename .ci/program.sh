@@ -155,7 +155,7 @@ python3 -Bc 'import sys; sys.path.insert(0, "bench"); import worst; print(worst.
 python3 check/plain.py run < "$room/full.toml" > "$room/full"
 is "frames of full queues" [ "$(grep -c '^frame 0' "$room/full")" = 128 ]
 runs "run of full queues" "$room/full.toml" 0 "$room/full" "$room/none" run
-for word in candump vcd page margin traffic; do
+for word in candump vcd page margin respond traffic; do
   "$program" "$word" < "$room/full.toml" > "$room/$word" 2> "$room/err"
   is "$word of full queues" [ $? = 0 -a -s "$room/$word" -a ! -s "$room/err" ]
 done
@@ -432,6 +432,7 @@ check --format=
 explain --format yaml
 margin --format text/csv
 trace --format jsonl
+respond --format 2
 traffic --format 1
 sweep --format plan
 candump --format json
@@ -483,7 +484,7 @@ for word in candump vcd page settings; do
   printf '%s\n' "$tick" > "$room/fault"
   runs "a tick that is none, $word" examples/clean_500k.toml 2 "$room/none" "$room/fault" "$word" --tick 1ms
 done
-for word in margin traffic; do
+for word in margin respond traffic; do
   printf '%s, and --format text, json or csv\n' "$tick" > "$room/fault"
   runs "a tick that is none, $word" examples/clean_500k.toml 2 "$room/none" "$room/fault" "$word" --tick 1ms
   runs "a format that is none, $word" examples/clean_500k.toml 2 "$room/none" "$room/fault" "$word" --format xml
@@ -495,11 +496,11 @@ runs "the version" "$room/none" 2 "$room/none" "$room/fault" --version
 printf "error: the arguments can't be read\n" > "$room/fault"
 runs "words that are no text" examples/clean_500k.toml 2 "$room/none" "$room/fault" run $'\xff'
 
-for word in merge horizon check records run explain trace candump vcd page margin traffic settings sweep; do
+for word in merge horizon check records run explain trace candump vcd page margin respond traffic settings sweep; do
   printf 'fault: Read\n' > "$room/fault"
   runs "$word of a reader that fails" / 3 "$room/none" "$room/fault" "$word"
 done
-for word in merge horizon check records run explain trace candump vcd page margin traffic settings sweep; do
+for word in merge horizon check records run explain trace candump vcd page margin respond traffic settings sweep; do
   input=examples/clean_500k.toml
   case "$word" in merge | horizon) input=examples/records.txt ;; settings) input=examples/settings/mcp2515_500k.toml ;; esac
   printf 'fault: Write\n' > "$room/fault"

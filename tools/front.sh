@@ -58,7 +58,7 @@ hand_over() { # hand_over PROGRAM WORD..: becomes the program, with the words th
   done
   if [ "${1-}" = sweep ] && [[ " ${words[*]} " = *' --join '* ]]; then join_files "$program" "${said[@]}" "${words[@]}"; fi
   case ${1-} in
-    init | run | margin | explain | traffic | check | settings | sweep | trace | page | vcd | candump | records | format | merge | horizon)
+    init | run | margin | explain | respond | traffic | check | settings | sweep | trace | page | vcd | candump | records | format | merge | horizon)
       exec "$program" "$1" "${said[@]}" "${words[@]}"
       ;;
   esac

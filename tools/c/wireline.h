@@ -44,8 +44,8 @@ enum wireline_format { WIRELINE_TEXT = 0, WIRELINE_JSON = 1, WIRELINE_CSV = 2 };
 /* What is asked for beside the plan. All zeros, or a null pointer in its place, is the program without options. */
 struct wireline_asked {
     uint32_t format;   /* an enum wireline_format */
-    uint32_t tick;     /* how many picoseconds a tick of the plan takes: 1 to 999 ps, ns or us; 0 is 1 ns. wireline_margin and
-                          wireline_traffic read it */
+    uint32_t tick;     /* how many picoseconds a tick of the plan takes: 1 to 999 ps, ns or us; 0 is 1 ns. wireline_margin,
+                          wireline_traffic and wireline_respond read it */
     uint32_t all_send; /* of wireline_margin, who sends: 0 is the plan's senders, 1 all nodes that don't only listen */
 };
 
@@ -65,6 +65,9 @@ uint32_t wireline_margin(const uint8_t *plan, size_t plan_length, const struct w
 
 /* How busy the bus was, how long the messages of each node waited, and why the run didn't work. */
 uint32_t wireline_traffic(const uint8_t *plan, size_t plan_length, const struct wireline_asked *asked, uint8_t *out, size_t out_room, size_t *needed);
+
+/* How long each message may wait, at all offsets and clocks within their tolerance, and whether that is in time. */
+uint32_t wireline_respond(const uint8_t *plan, size_t plan_length, const struct wireline_asked *asked, uint8_t *out, size_t out_room, size_t *needed);
 
 #ifdef __cplusplus
 }

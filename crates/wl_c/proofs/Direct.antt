@@ -1,15 +1,12 @@
 -- What the runs of engines over a text in memory say of the text itself.
-use Rattle.std.proofs.Common.{◌≡◌, ◌≤◌, ◌<◌, ◌∙◌, ℕ, List, [], ◌++◌, length, sym, ap, subst, arith, inl, inr, if◌then◌else◌, MatchBool, Result, Ok, Err, length-append}
+use Rattle.std.proofs.Common.{◌≡◌, ◌≤◌, ◌<◌, ◌∙◌, ℕ, Bool, true, false, List, [], ◌++◌, length, sym, ap, subst, if◌then◌else◌, MatchBool, Result, Ok, Err}
 use Rattle.std.proofs.lemmas.Bool.{le-leb, lt-leb}
-use Rattle.std.proofs.lemmas.List.{append-nil}
 use Rattle.wl_device.specs.Bounded.{ReadsUpTo}
-use Rattle.wl_device.specs.Devices.{Run, moved_bytes}
-use Rattle.wl_device.specs.Limits.{most_calls-is}
 use Rattle.wl_device.specs.declared.bounded.Ended.{Ended}
 use Rattle.wl_device.specs.declared.bounded.Ended.TheVariants as reading
 use Rattle.wl_plan.specs.declared.plan.Plan.{Plan}
 use Rattle.wl_setup.specs.Buses.{GivesBus, bus_of_text}
-use Rattle.wl_setup.specs.Limits.{most_bytes, most_bytes-is}
+use Rattle.wl_setup.specs.Limits.{most_bytes}
 use Rattle.wl_setup.specs.Plans.{GivesPlan, after, named_plan_of}
 use Rattle.wl_setup.specs.Reading.{reading_answer, text_answer}
 use Rattle.wl_setup.specs.declared.bus.Bus.{Bus}
@@ -25,10 +22,13 @@ use Rattle.wl_engines.specs.Margin.{RunsBus}
 use Rattle.wl_engines.specs.Plans.{RunsPlan}
 use Rattle.wl_engines.specs.TrafficRun.{IsTrafficOutput, RunsTraffic}
 use Rattle.wl_engines.specs.declared.fault.RunFault.{RunFault}
+use Rattle.wl_engines.specs.declared.fault.RunFault.TheVariants as run
 use Rattle.wl_engines.specs.declared.fault.RunFault.TheVariants.{Setup}
-use Rattle.wl_c.proofs.Reading.{gives, takes, rest_came, none_left, never_fails, few_calls, wrote, wrote_front}
-use Rattle.wl_c.specs.Made.{ByMade, IsMade, without_reason}
-use Rattle.wl_c.specs.Texts.{AreWordsOn, ExplainsRefusal, HasNoBus, HasNoPlan, IsOfBus, IsOfPlan, bus_read, plan_read, text_read}
+use Rattle.wl_engines.proofs.Callers.{gives, too_long, unbroken, whole}
+use Rattle.wl_engines.specs.Responded.{IsResponse, Responds, RespondsReading}
+use Rattle.wl_c.proofs.Reading.{takes, wrote, wrote_front}
+use Rattle.wl_c.specs.Made.{ByMade, IsMade, without_met, without_reason}
+use Rattle.wl_c.specs.Texts.{AreWordsOn, ExplainsRefusal, HasNoBus, HasNoPlan, IsOfBus, IsOfPlan, IsResponseTo, bus_read, plan_read, text_read}
 use Rattle.wl_c.specs.declared.engines.Made.{Made}
 use Rattle.wl_c.specs.declared.engines.Made.TheVariants.{Output, Refusal, OutOfMemory}
 
@@ -37,27 +37,6 @@ within text few = ap (λ b. if b then text_answer text else Err setup.Size) (le-
 
 beyond : (text : List ℕ) → most_bytes < length text → text_read text ≡ Err setup.Size
 beyond text many = ap (λ b. if b then text_answer text else Err setup.Size) (lt-leb (length text) most_bytes many)
-
-module _ {S : Type 0} (rest : S → List ℕ) (s s' : S) (text : List ℕ) where
-  -- what was read up to its end is the text
-  whole : ReadsUpTo (gives rest) s most_bytes text reading.End s' → (text ≡ rest s) × (length text ≤ most_bytes)
-  whole (answers, by, few) =
-      let none : rest s' ≡ [] = none_left rest by.ends.0 s s' (subst (λ all. Run (gives rest) s all s') by.ends.1 by.run) in (
-        sym by.bytes_are ∙ sym (append-nil (moved_bytes answers)) ∙ ap (λ l. moved_bytes answers ++ l) (sym none) ∙ sym (rest_came rest answers s s' by.run),
-        subst (λ (l : List ℕ). length l ≤ most_bytes) by.bytes_are few,
-      )
-
-  -- the reader doesn't break off
-  unbroken : ReadsUpTo (gives rest) s most_bytes text reading.Broken s' → ⊥
-  unbroken (answers, by, few) = elim by.ends [
-    | inl f ↦ never_fails rest f.0 s s' (subst (λ all. Run (gives rest) s all s') f.1 by.run)
-    | inr f ↦ omega (arith, f.0, few, few_calls rest answers s s' f.1 by.run, most_calls-is, most_bytes-is)
-  ]
-
-  -- what is too much is of a text that is too long
-  too_long : ReadsUpTo (gives rest) s most_bytes text reading.Full s' → most_bytes < length (rest s)
-  too_long (answers, by, keep) =
-      omega (arith, keep.4, ap length (rest_came rest answers s s' by.run), length-append (moved_bytes answers) (rest s'))
 
 module _ {S : Type 0} (rest : S → List ℕ) (s s' : S) where
   read_is : (text : List ℕ) (e : Ended) → ReadsUpTo (gives rest) s most_bytes text e s' → text_read (rest s) ≡ reading_answer e text
@@ -111,6 +90,43 @@ module _ {S T : Type 0} (rest : S → List ℕ) (bytes : T → List ℕ) (s s' :
   traffic_made tick (Ok reason) (Refusal v) h m = cc
   traffic_made tick (Ok reason) OutOfMemory h m = tt
   traffic_made tick (Err fault) made h m = plan_made (IsTrafficOutput tick) (Err fault) made h m
+
+  -- of a run that wrote how long messages may wait
+  responded : (tick : Tick) (met : Bool) (text : List ℕ) (e : Ended) → ReadsUpTo (gives rest) s most_bytes text e s'
+      → RespondsReading (takes bytes) tick false e text t t' (Ok met) → IsResponseTo (rest s) tick (bytes t')
+  responded tick met text reading.End r h =
+      let w : (text ≡ rest s) × (length text ≤ most_bytes) = whole rest s s' text r in
+      let is : IsResponse tick false text (bytes t') met = subst (λ (x : List ℕ). IsResponse tick false text x met) (sym (wrote bytes h.0 t t' none h.2)) h.1 in
+      subst (λ (x : List ℕ). (length x ≤ most_bytes) × (met : Bool) × IsResponse tick false x (bytes t') met) w.0 (w.1, met, is)
+  responded tick met text reading.Broken r h = absurd (unbroken rest s s' text r)
+  responded tick met text reading.Full r h = let no : Ok met ≡ Err (Setup setup.Size) = h.0 in cc
+
+  unanswered : (tick : Tick) (fault : SetupFault) (text : List ℕ) (e : Ended) → ReadsUpTo (gives rest) s most_bytes text e s'
+      → RespondsReading (takes bytes) tick false e text t t' (Err (Setup fault)) → HasNoBus (rest s) (bytes t')
+  unanswered tick fault text reading.End r h =
+      (fault, h.0, ap (λ x. after x bus_of_text) (read_is rest s s' text reading.End r) ∙ h.1, ap bytes h.2 ∙ none)
+  unanswered tick fault text reading.Broken r h = absurd (unbroken rest s s' text r)
+  unanswered tick fault text reading.Full r h =
+      let is : fault ≡ setup.Size = let same : Err (Setup fault) ≡ Err (Setup setup.Size) = h.0 in cc in (
+        fault,
+        (λ e. cc),
+        ap (λ x. after x bus_of_text) (beyond (rest s) (too_long rest s s' text r)) ∙ ap (λ f. Err f) (sym is),
+        ap bytes h.1 ∙ none,
+      )
+
+  pub response_made : (tick : Tick) (answer : Result Bool RunFault) (made : Made) → Responds (gives rest) (takes bytes) tick false s s' t t' answer
+      → IsMade (without_met answer) (bytes t') made → ByMade (IsResponseTo (rest s) tick) (HasNoBus (rest s)) made
+  response_made tick (Ok met) (Output v) h m =
+      subst (λ (x : List ℕ). IsResponseTo (rest s) tick x) (sym m.1) (responded tick met h.0 h.1 h.2 h.3)
+  response_made tick (Err (Setup fault)) (Refusal v) h m =
+      subst (λ (x : List ℕ). HasNoBus (rest s) x) (sym m.2) (unanswered tick fault h.0 h.1 h.2 h.3)
+  response_made tick (Ok met) (Refusal v) h m = cc
+  response_made tick (Err fault) (Output v) h m = cc
+  response_made tick (Err (run.Text fault)) (Refusal v) h m = cc
+  response_made tick (Err (run.Work fault)) (Refusal v) h m = cc
+  response_made tick (Err run.Write) (Refusal v) h m = cc
+  response_made tick (Err run.Memory) (Refusal v) h m = cc
+  response_made tick answer OutOfMemory h m = tt
 
   -- of an explanation
   explained : (text : List ℕ) (e : Ended) → ReadsUpTo (gives rest) s most_bytes text e s'

@@ -1,41 +1,9 @@
--- Runs of a reader over a text, and of a writer into memory.
-use Rattle.std.proofs.Common.{◌≡◌, ◌≤◌, ℕ, List, [], ◌∷◌, ◌++◌, length, sym, ap, ◌∙◌, arith, append_assoc, length-append, Ok, Err, Result}
+-- Runs of a writer into memory.
+use Rattle.std.proofs.Common.{◌≡◌, ℕ, List, [], ◌∷◌, ◌++◌, sym, ap, ◌∙◌, append_assoc, Ok, Err, Result}
 use Rattle.std.proofs.lemmas.List.{append-nil}
-use Rattle.wl_device.specs.Devices.{Answer, moved, ended, again, failed, Run, moved_bytes, AllGoOn, Writes}
+use Rattle.wl_device.specs.Devices.{Answer, moved, ended, again, failed, Run, moved_bytes, Writes}
 use Rattle.wl_device.specs.declared.device.WriteFault.{WriteFault}
-use Rattle.wl_c.specs.Reader.{GivesRest}
 use Rattle.wl_engines.specs.Keeping.{KeepsMore}
-
-module _ {S : Type 0} (rest : S → List ℕ) where
-  abbrev pub gives : S → Answer → S → Type 0
-  gives s a t = GivesRest (rest s) a (rest t)
-
-  -- what was left at first is what came, and what is left now
-  pub rest_came : (answers : List Answer) (s t : S) → Run gives s answers t → rest s ≡ moved_bytes answers ++ rest t
-  rest_came [] s t e = ap rest e
-  rest_came (moved b ∷ answers) s t (m, g, r) =
-      g.0 ∙ ap (λ l. b ++ l) (rest_came answers m t r) ∙ sym (append_assoc b (moved_bytes answers) (rest t))
-  rest_came (ended ∷ answers) s t (m, g, r) = g.0 ∙ sym g.1 ∙ rest_came answers m t r
-  rest_came (again ∷ answers) s t (m, g, r) = absurd g
-  rest_came (failed ∷ answers) s t (m, g, r) = absurd g
-
-  -- after the end nothing is left
-  pub none_left : (front : List Answer) (s t : S) → Run gives s (front ++ ended ∷ []) t → rest t ≡ []
-  none_left [] s t (m, g, e) = ap rest (sym e) ∙ g.1
-  none_left (a ∷ front) s t (m, g, r) = none_left front m t r
-
-  -- it doesn't fail
-  pub never_fails : (front : List Answer) (s t : S) → Run gives s (front ++ failed ∷ []) t → ⊥
-  never_fails [] s t (m, g, e) = g
-  never_fails (a ∷ front) s t (m, g, r) = never_fails front m t r
-
-  -- each call before the end brings a byte at least
-  pub few_calls : (answers : List Answer) (s t : S) → AllGoOn answers → Run gives s answers t → length answers ≤ length (moved_bytes answers)
-  few_calls [] s t goes e = omega arith
-  few_calls (moved b ∷ answers) s t goes (m, g, r) = omega (arith, few_calls answers m t goes.1 r, g.1, length-append b (moved_bytes answers))
-  few_calls (ended ∷ answers) s t goes h = absurd goes.0
-  few_calls (again ∷ answers) s t goes (m, g, r) = absurd g
-  few_calls (failed ∷ answers) s t goes h = absurd goes.0
 
 module _ {T : Type 0} (bytes : T → List ℕ) where
   abbrev pub takes : T → Answer → T → Type 0

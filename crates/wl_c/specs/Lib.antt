@@ -1,6 +1,5 @@
 pub mod Calls
 pub mod Made
 pub mod Orders
-pub mod Reader
 pub mod Statuses
 pub mod Texts

@@ -1,5 +1,5 @@
 -- What an engine made of a text, before it is written (this project's profile).
-use Rattle.std.specs.Prelude.{◌≡◌, ℕ, List, Result, Ok, Err}
+use Rattle.std.specs.Prelude.{◌≡◌, ℕ, Bool, List, Result, Ok, Err}
 use Rattle.wl_setup.specs.declared.fault.SetupFault.{SetupFault}
 use Rattle.wl_traffic.specs.declared.reason.Reason.{Reason}
 use Rattle.wl_engines.specs.declared.fault.RunFault.{RunFault}
@@ -20,6 +20,11 @@ IsMade answer bytes OutOfMemory = Unit {0}
 abbrev pub without_reason : Result Reason RunFault → Result (Unit {0}) RunFault
 without_reason (Ok reason) = Ok tt
 without_reason (Err fault) = Err fault
+
+-- the answer of a run that wrote how long messages may wait, without whether all deadlines are met
+abbrev pub without_met : Result Bool RunFault → Result (Unit {0}) RunFault
+without_met (Ok met) = Ok tt
+without_met (Err fault) = Err fault
 
 -- an output has one property, and what is said of a refusal another
 abbrev pub ByMade : (IsOutput IsRefusal : List ℕ → Type 0) → Made → Type 0

@@ -10,7 +10,7 @@ use Rattle.wl_views.specs.declared.tick.Tick.{Tick}
 use Rattle.wl_c.specs.declared.asked.Asked.{Asked}
 use Rattle.wl_c.specs.declared.asked.Order.{Order}
 use Rattle.wl_c.specs.declared.asked.Task.{Task}
-use Rattle.wl_c.specs.declared.asked.Task.TheVariants.{Run, Check, Explain, Margin, Traffic}
+use Rattle.wl_c.specs.declared.asked.Task.TheVariants.{Run, Check, Explain, Margin, Traffic, Respond}
 
 -- the command's name for another format
 abbrev pub subject_name : Task → Subject
@@ -19,6 +19,7 @@ subject_name Check = subject.Check
 subject_name Explain = subject.Explain
 subject_name (Margin tick all) = subject.Margin
 subject_name (Traffic tick) = subject.Traffic
+subject_name (Respond tick) = subject.Respond
 
 -- the form of a number: text, JSON or CSV
 abbrev pub format_of : ℕ → Option (Option Format)
@@ -58,6 +59,9 @@ margin_task asked = option_map (λ tick. Margin tick (asks_all asked)) (asked_ti
 
 abbrev pub traffic_task : Asked → Option Task
 traffic_task asked = option_map (λ tick. Traffic tick) (asked_tick asked.tick)
+
+abbrev pub respond_task : Asked → Option Task
+respond_task asked = option_map (λ tick. Respond tick) (asked_tick asked.tick)
 
 -- a task in the form that is asked for
 abbrev pub order_in : Option Task → Asked → Option Order

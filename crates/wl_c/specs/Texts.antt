@@ -1,5 +1,5 @@
 -- What the commands say of a plan's text (this project's profile).
-use Rattle.std.specs.Prelude.{◌≡◌, ◌≢◌, nat_le, ℕ, MatchBool, List, [], ◌++◌, length, if◌then◌else◌, Result, Ok, Err}
+use Rattle.std.specs.Prelude.{◌≡◌, ◌≢◌, ◌≤◌, nat_le, ℕ, Bool, false, MatchBool, List, [], ◌++◌, length, if◌then◌else◌, Result, Ok, Err}
 use Rattle.wl_plan.specs.declared.plan.Plan.{Plan}
 use Rattle.wl_setup.specs.Buses.{bus_of_text}
 use Rattle.wl_setup.specs.Check.{IsPlanCheck}
@@ -14,9 +14,11 @@ use Rattle.wl_explain.specs.Condition.{IsExplanation}
 use Rattle.wl_explain.specs.Refusals.{IsRefusal, size_words}
 use Rattle.wl_engines.specs.Margin.{IsMarginOutput}
 use Rattle.wl_engines.specs.Plans.{IsRunOutput}
+use Rattle.wl_engines.specs.Responded.{IsResponse}
 use Rattle.wl_engines.specs.TrafficRun.{IsTrafficOutput}
+use Rattle.wl_views.specs.declared.tick.Tick.{Tick}
 use Rattle.wl_c.specs.declared.asked.Task.{Task}
-use Rattle.wl_c.specs.declared.asked.Task.TheVariants.{Run, Check, Explain, Margin, Traffic}
+use Rattle.wl_c.specs.declared.asked.Task.TheVariants.{Run, Check, Explain, Margin, Traffic, Respond}
 use Rattle.wl_c.specs.declared.status.Status.{Status}
 use Rattle.wl_c.specs.declared.status.Status.TheVariants.{Done, Refused, Asked, Memory, Room, Shape}
 
@@ -41,12 +43,17 @@ module _ (text : List ℕ) where
   abbrev pub IsOfBus : (Bus → List ℕ → Type 0) → List ℕ → Type 0
   IsOfBus IsOutput said = (bus : Bus) × (bus_read text ≡ Ok bus) × IsOutput bus said
 
+  -- how long messages may wait, each with its own data
+  abbrev pub IsResponseTo : Tick → List ℕ → Type 0
+  IsResponseTo tick said = (length text ≤ most_bytes) × (met : Bool) × IsResponse tick false text said met
+
   -- the output of a command
   abbrev pub IsOutputOf : Task → List ℕ → Type 0
   IsOutputOf Run said = IsOfPlan IsRunOutput said
   IsOutputOf Check said = IsOfPlan IsPlanCheck said
   IsOutputOf Explain said = IsOfBus IsExplanation said
   IsOutputOf (Margin tick all) said = IsOfBus (IsMarginOutput tick all) said
+  IsOutputOf (Respond tick) said = IsResponseTo tick said
   IsOutputOf (Traffic tick) said = IsOfPlan (IsTrafficOutput tick) said
 
   -- no plan is read from the text, but this fault, and nothing is said of that
@@ -72,6 +79,7 @@ module _ (text : List ℕ) where
   IsRefusalOf Explain said = ExplainsRefusal said
   IsRefusalOf (Margin tick all) said = HasNoBus said
   IsRefusalOf (Traffic tick) said = HasNoPlan said
+  IsRefusalOf (Respond tick) said = HasNoBus said
 
   -- what a command says, and whether it is the output or a refusal
   abbrev pub Says : Task → Status → List ℕ → Type 0

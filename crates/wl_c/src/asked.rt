@@ -1,7 +1,7 @@
 //! What a call asks for.
 ghost use Rattle.std.specs.Prelude.{◌≡◌, IfSome, ◌<◌};
 ghost use Rattle.wl_views.specs.Ticks.{tick_picoseconds};
-ghost use Rattle.wl_c.specs.Orders.{asked_picoseconds, format_of, margin_task, order_in, subject_name, asked_tick, traffic_task, unit_count};
+ghost use Rattle.wl_c.specs.Orders.{asked_picoseconds, format_of, margin_task, order_in, subject_name, asked_tick, respond_task, traffic_task, unit_count};
 
 use wl_formats::{Format, Subject};
 use wl_views::{Tick, TimeUnit};
@@ -12,7 +12,7 @@ use wl_views::{Tick, TimeUnit};
 pub struct Asked {
     /// The form of the output: 0 is text, 1 JSON, 2 CSV.
     pub format: u32,
-    /// How many picoseconds a tick of the plan takes: 1 to 999 ps, ns or us; 0 is 1 ns. `margin` and `traffic` read it.
+    /// How many picoseconds a tick of the plan takes: 1 to 999 ps, ns or us; 0 is 1 ns. `margin`, `traffic` and `respond` read it.
     pub tick: u32,
     /// For `margin`, who sends: 0 is the plan's senders, and any other number all nodes that don't only listen.
     pub all_send: u32,
@@ -31,6 +31,8 @@ pub enum Task {
     Margin(Tick, bool),
     /// How busy the bus was, at ticks of this length.
     Traffic(Tick),
+    /// How long messages may wait, at ticks of this length.
+    Respond(Tick),
 }
 
 impl Task {
@@ -44,6 +46,7 @@ impl Task {
             Task::Explain => Subject::Explain,
             Task::Margin(_, _) => Subject::Margin,
             Task::Traffic(_) => Subject::Traffic,
+            Task::Respond(_) => Subject::Respond,
         }
     }
 }
@@ -121,6 +124,14 @@ pub(crate) fn traffic_task(asked: &Asked) -> Option<Task>
 {
     let tick = asked_tick(asked.tick)?;
     Some(Task::Traffic(tick))
+}
+
+/// Returns the task of `respond` that is asked for.
+pub(crate) fn respond_task(asked: &Asked) -> Option<Task>
+    ensures { result ≡ respond_task asked.now }
+{
+    let tick = asked_tick(asked.tick)?;
+    Some(Task::Respond(tick))
 }
 
 /// Returns the order of a task in the form that is asked for.

@@ -1,12 +1,12 @@
 //! The engines over a text in memory.
 ghost use Rattle.std.specs.Prelude.{◌≡◌};
-ghost use Rattle.wl_c.specs.Made.{IsMade, Makes, without_reason};
+ghost use Rattle.wl_c.specs.Made.{IsMade, Makes, without_met, without_reason};
 
 use crate::asked::Task;
-use crate::reader::TextReader;
 use std::alloc::Global;
 use wl_engines::{
-    Kept, Reason, RunFault, check_run, explain_run, margin_run, plan_run, traffic_run,
+    Kept, Reason, RunFault, TextReader, check_run, explain_run, margin_run, plan_run, respond_run,
+    traffic_run,
 };
 use wl_views::Tick;
 
@@ -93,6 +93,27 @@ fn traffic_of(alloc: Global, tick: Tick, text: &[u8]) -> Made
     made_by(answer, kept)
 }
 
+/// Returns the answer of a run that wrote how long messages may wait, without whether all deadlines are met.
+fn without_met(answer: Result<bool, RunFault>) -> Result<(), RunFault>
+    ensures { result ≡ without_met answer }
+{
+    match answer {
+        Ok(_) => Ok(()),
+        Err(fault) => Err(fault),
+    }
+}
+
+/// Returns how long the messages of a plan may wait.
+fn response_of(alloc: Global, tick: Tick, text: &[u8]) -> Made
+    ensures { Makes (Task.Respond tick) text.now result }
+{
+    let mut reader = TextReader { rest: text };
+    let mut kept = Kept::new(alloc);
+    let found = respond_run(alloc, tick, false, &mut reader, &mut kept);
+    let answer = without_met(found);
+    made_by(answer, kept)
+}
+
 /// Returns what a command says of a text.
 pub(crate) fn make(alloc: Global, task: Task, text: &[u8]) -> Made
     ensures { Makes task text.now result }
@@ -103,5 +124,6 @@ pub(crate) fn make(alloc: Global, task: Task, text: &[u8]) -> Made
         Task::Explain => explanation_of(alloc, text),
         Task::Margin(tick, all_send) => margin_of(alloc, tick, all_send, text),
         Task::Traffic(tick) => traffic_of(alloc, tick, text),
+        Task::Respond(tick) => response_of(alloc, tick, text),
     }
 }

@@ -6,3 +6,5 @@ mod PageProofs
 mod TrafficProofs
 mod Explaining
 mod OutputLemmas
+pub mod Callers
+mod TextReading

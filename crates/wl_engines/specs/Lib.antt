@@ -6,6 +6,8 @@ pub mod Merge
 pub mod Plans
 pub mod Explained
 pub mod Margin
+pub mod Reader
+pub mod Responded
 pub mod TrafficRun
 pub mod Workers
 pub mod Keeping

@@ -9,6 +9,7 @@
 //! - `candump_run` writes the log of the frames that were sent, `vcd_run` the waveform, `trace_run` what happened to each node;
 //! - `explain_run` writes what is doubtful of a plan, and the figures of its nodes, or what is wrong with a refused one;
 //! - `margin_run` writes whether the plan's bus works, with how much to spare;
+//! - `respond_run` writes how long each message may wait;
 //! - `page_run` writes one page of HTML that shows a run;
 //! - `traffic_run` writes how busy the bus was and how long messages waited.
 #![tactic(auto)]
@@ -24,7 +25,9 @@ mod margin;
 mod merge;
 mod output;
 mod plan;
+mod reader;
 mod records;
+mod respond;
 mod run_page;
 mod traffic;
 mod view;
@@ -40,7 +43,9 @@ pub use laws::merges_as_one;
 pub use margin::margin_run;
 pub use merge::{merge_run, merge_run_within};
 pub use plan::{plan_run, plan_run_as};
+pub use reader::TextReader;
 pub use records::{records_run, records_run_within};
+pub use respond::respond_run;
 pub use run_page::page_run;
 pub use traffic::traffic_run;
 pub use views::{candump_run, candump_run_within, picked_trace_run, trace_run, vcd_run};

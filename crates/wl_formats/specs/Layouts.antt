@@ -9,6 +9,7 @@ use Rattle.wl_formats.specs.MarginLines.{margin_layout}
 use Rattle.wl_formats.specs.TraceLines.{trace_layout}
 use Rattle.wl_formats.specs.TrafficLines.{traffic_layout}
 use Rattle.wl_formats.specs.SweepLines.{sweep_layout}
+use Rattle.wl_formats.specs.RespondLines.{respond_layout}
 
 abbrev pub layout : Subject → Layout
 layout subject.Run = run_layout
@@ -18,3 +19,4 @@ layout subject.Margin = margin_layout
 layout subject.Trace = trace_layout
 layout subject.Traffic = traffic_layout
 layout subject.Sweep = sweep_layout
+layout subject.Respond = respond_layout

@@ -11,5 +11,6 @@ pub mod MarginLines
 pub mod TraceLines
 pub mod TrafficLines
 pub mod SweepLines
+pub mod RespondLines
 pub mod Layouts
 pub mod Formats

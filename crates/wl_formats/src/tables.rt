@@ -6,6 +6,7 @@ ghost use Rattle.wl_formats.specs.Layouts.{layout};
 mod check;
 mod explain;
 mod margin;
+mod respond;
 mod run;
 mod sweep;
 mod trace;
@@ -15,6 +16,7 @@ use crate::shape::Table;
 use check::check_table;
 use explain::explain_table;
 use margin::margin_table;
+use respond::respond_table;
 use run::run_table;
 use sweep::sweep_table;
 use trace::trace_table;
@@ -30,6 +32,7 @@ pub enum Subject {
     Trace,
     Traffic,
     Sweep,
+    Respond,
 }
 
 /// Returns the shapes of a command's lines.
@@ -44,5 +47,6 @@ pub(crate) fn table_of(subject: Subject) -> Table
         Subject::Trace => *trace_table(),
         Subject::Traffic => *traffic_table(),
         Subject::Sweep => *sweep_table(),
+        Subject::Respond => *respond_table(),
     }
 }

@@ -1,2 +1,3 @@
 mod Ordered
 mod Rows
+mod Told

@@ -3,3 +3,7 @@ pub mod Inequalities
 pub mod Tests
 pub mod Plans
 pub mod Levels
+pub mod Premises
+pub mod Asks
+pub mod Parts
+pub mod Texts

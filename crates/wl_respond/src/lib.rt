@@ -4,16 +4,26 @@
 //! test).
 #![tactic(auto)]
 
+mod asked;
 mod inequality;
 mod level;
 mod message;
+mod parts;
 mod plan;
+mod premise;
 mod row;
 mod search;
 mod table;
+mod text;
+mod verdict;
+mod words;
 
+pub use asked::Asked;
 pub use level::has_levels;
 pub use message::{MessageWait, pass};
+pub use parts::{Line, Met, Parts};
 pub use plan::keeps_table;
+pub use premise::{Lacking, first_lacking};
 pub use search::{Found, bounds_of};
 pub use table::{ONCE, table_of};
+pub use text::{Question, Response, respond_text};

@@ -35,7 +35,7 @@ pub struct MessageWait {
 }
 
 /// Returns the shortest quantum of node `i`, and 0 of a node that isn't there.
-fn shortest_at(family: &Family, i: u8) -> u128
+pub(crate) fn shortest_at(family: &Family, i: u8) -> u128
     ensures value { result ≡ shortest_at (plain_bus family.now) i }
     ensures most { result ≤ fast_limit }
 {
@@ -47,7 +47,7 @@ fn shortest_at(family: &Family, i: u8) -> u128
 }
 
 /// Returns a message in numbers.
-fn row(family: &Family, times: BusTimes, message: &MessageWait) -> Row
+pub(crate) fn row(family: &Family, times: BusTimes, message: &MessageWait) -> Row
     requires bit { times.bit < drift_limit }
     requires sample { times.sample < drift_limit }
     requires shift { times.shift < drift_limit }

@@ -5,8 +5,10 @@ use crate::level::level_for;
 use crate::message::MessageWait;
 use std::alloc::{AllocError, Global};
 use wl_bound::field_of;
+use wl_frame::frame::Frame;
 use wl_node::Queued;
 use wl_plan::CheckedPlan;
+use wl_setup::{FrameText, PlanText};
 
 /// The period of a message that comes once.
 pub const ONCE: u64 = u64::MAX;
@@ -79,15 +81,65 @@ fn see(seen: &mut Vec<Seen>, i: u8, entry: &Queued) -> Result<(), AllocError> {
     }
 }
 
-/// Returns the messages of a plan: the frames of one node with one field each, in the order of the first of them. The period of a message is the
-/// least number of quanta between two of its frames that follow one another, or `ONCE`. They have no bounds yet. Refused only when out of memory.
-pub fn table_of(alloc: Global, plan: &CheckedPlan) -> Result<Vec<MessageWait>, AllocError> {
-    let mut seen = Vec::new(alloc);
+/// Adds the messages of a plan's queues.
+fn see_plan(seen: &mut Vec<Seen>, plan: &CheckedPlan) -> Result<(), AllocError> {
     for i in 0..plan.nodes() {
         for entry in plan.node(i).queue.as_slice() {
-            see(&mut seen, i, entry)?;
+            see(seen, i, entry)?;
         }
     }
+    Ok(())
+}
+
+/// Returns the frame of a text, if it is one.
+fn frame_of(text: &FrameText) -> Option<Frame> {
+    let bytes = text.bytes.as_slice();
+    let made = if text.extended {
+        Frame::extended(text.id, text.remote, text.dlc, bytes)
+    } else {
+        Frame::base(text.id, text.remote, text.dlc, bytes)
+    };
+    made.ok()
+}
+
+/// Adds the message of a frame that the text has for node `i`, if it isn't there: none of its instances comes before the plan's end.
+fn see_frame(seen: &mut Vec<Seen>, i: u8, text: &FrameText) -> Result<(), AllocError> {
+    let Some(frame) = frame_of(text) else {
+        return Ok(());
+    };
+    let field = field_of(&frame);
+    if place_of(seen.as_slice(), i, field).is_some() {
+        return Ok(());
+    }
+    let bits = frame.stuffed().len() as u8;
+    let entry = Queued { frame, ready: 0 };
+    seen.push(first_entry(i, &entry, field, bits))?;
+    Ok(())
+}
+
+/// Adds the messages of a text that no queue has.
+fn see_text(seen: &mut Vec<Seen>, text: &PlanText) -> Result<(), AllocError> {
+    let mut i: u8 = 0;
+    for node in text.node.as_slice() {
+        for frame in node.frame.as_slice() {
+            see_frame(seen, i, frame)?;
+        }
+        i = i.saturating_add(1);
+    }
+    Ok(())
+}
+
+/// Returns the messages of a plan with this text: the frames of one node with one field each, in the order of the first of them, and after them
+/// those that no queue has before the plan's end. The period of a message is the least number of quanta between two of its frames that follow one
+/// another, or `ONCE`. They have no bounds yet. Refused only when out of memory.
+pub fn table_of(
+    alloc: Global,
+    plan: &CheckedPlan,
+    text: &PlanText,
+) -> Result<Vec<MessageWait>, AllocError> {
+    let mut seen = Vec::new(alloc);
+    see_plan(&mut seen, plan)?;
+    see_text(&mut seen, text)?;
     let mut messages = Vec::new(alloc);
     for one in seen.as_slice() {
         messages.push(one.message)?;

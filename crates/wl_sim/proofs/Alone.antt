@@ -137,7 +137,7 @@ each_alike = (
                             (refl, (refl, refl, refl), (refl, refl, refl)),
                             (
                               (refl, (refl, refl, refl), (refl, refl, refl)),
-                              ((refl, (refl, refl, refl), (refl, refl, refl)), tt),
+                              ((refl, (refl, refl, refl), (refl, refl, refl)), ((refl, (refl, refl, refl), (refl, refl, refl)), tt)),
                             ),
                           ),
                         ),

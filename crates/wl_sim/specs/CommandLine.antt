@@ -26,7 +26,7 @@ use Rattle.wl_init.specs.Wishes.{cable_said, kind_said, rate_said}
 use Rattle.wl_limits.specs.declared.Limits.{Limits}
 use Rattle.wl_limits.specs.declared.Limits.TheVariants.{Narrow, Wide}
 use Rattle.wl_sim.specs.declared.command.Task.{Task}
-use Rattle.wl_sim.specs.declared.command.Task.TheVariants.{Init, Merge, Horizon, Check, Upgrade, Records, Run, Explain, Trace, Candump, Vcd, Page, Margin, Traffic, Settings, Sweep}
+use Rattle.wl_sim.specs.declared.command.Task.TheVariants.{Init, Merge, Horizon, Check, Upgrade, Records, Run, Explain, Trace, Candump, Vcd, Page, Margin, Respond, Traffic, Settings, Sweep}
 use Rattle.wl_sim.specs.declared.sweep.Swept.{Swept}
 use Rattle.wl_sim.specs.declared.values.Values.{Values}
 use Rattle.wl_views.specs.declared.pick.EventKind.{EventKind}
@@ -52,6 +52,7 @@ task_word (Candump tick from window) = codes "candump"
 task_word (Vcd tick) = codes "vcd"
 task_word (Page tick) = codes "page"
 task_word (Margin tick all) = codes "margin"
+task_word (Respond tick any strict) = codes "respond"
 task_word (Traffic tick strict) = codes "traffic"
 task_word (Settings tick shown) = codes "settings"
 task_word (Sweep swept) = codes "sweep"
@@ -133,6 +134,10 @@ wide_app app = with_rule app (flag_rule (codes "wide"))
 -- of `margin`
 abbrev pub margin_app : App → App
 margin_app app = formatted_app (with_rule (timed_app app) (flag_rule (codes "all-send")))
+
+-- of `respond`
+abbrev pub respond_app : App → App
+respond_app app = formatted_app (with_rule (with_rule (timed_app app) (flag_rule (codes "any-data"))) (flag_rule (codes "strict")))
 
 -- of `traffic`
 abbrev pub traffic_app : App → App
@@ -229,7 +234,8 @@ optioned_app word app =
     (if bytes_eq word (codes "vcd") then timed_app app else (if bytes_eq word (codes "page") then timed_app app else
     (if bytes_eq word (codes "candump") then candump_app app else (if bytes_eq word (codes "margin") then margin_app app else
     (if bytes_eq word (codes "traffic") then traffic_app app else (if bytes_eq word (codes "settings") then settings_app app else
-    (if bytes_eq word (codes "sweep") then sweep_app app else (if bytes_eq word (codes "init") then init_app app else app))))))))))))))
+    (if bytes_eq word (codes "sweep") then sweep_app app else (if bytes_eq word (codes "init") then init_app app else
+    (if bytes_eq word (codes "respond") then respond_app app else app)))))))))))))))
 
 -- the subcommand of a word
 abbrev pub subcommand_app : Text → App
@@ -246,7 +252,7 @@ bare_program = on_top (λ s. record s { subcommand_required = true }) (on_top (�
 -- the words of the subcommands, in the order of the help
 abbrev pub task_words : List Text
 task_words =
-    codes "init" ∷ codes "run" ∷ codes "margin" ∷ codes "explain" ∷ codes "traffic" ∷ codes "check" ∷ codes "settings" ∷ codes "sweep" ∷ codes "trace"
+    codes "init" ∷ codes "run" ∷ codes "margin" ∷ codes "explain" ∷ codes "respond" ∷ codes "traffic" ∷ codes "check" ∷ codes "settings" ∷ codes "sweep" ∷ codes "trace"
     ∷ codes "page" ∷ codes "vcd" ∷ codes "candump" ∷ codes "records" ∷ codes "format" ∷ codes "merge" ∷ codes "horizon" ∷ []
 
 -- the program's command line
@@ -440,6 +446,7 @@ values_among rows = record {
   shown = shown_among rows;
   strict = is_flagged (codes "strict") rows;
   all_send = is_flagged (codes "all-send") rows;
+  any_data = is_flagged (codes "any-data") rows;
   limits = limits_among rows;
   from = number_among 32 (codes "from") rows;
   window = window_among rows;
@@ -456,6 +463,8 @@ HasValues given (Candump tick from window) =
 HasValues given (Vcd tick) = option_and_then (λ v. v.tick) given ≡ Some tick
 HasValues given (Page tick) = option_and_then (λ v. v.tick) given ≡ Some tick
 HasValues given (Margin tick all) = (option_and_then (λ v. v.tick) given ≡ Some tick) × (option_map (λ v. v.all_send) given ≡ Some all)
+HasValues given (Respond tick any strict) =
+    (option_and_then (λ v. v.tick) given ≡ Some tick) × (option_map (λ v. v.any_data) given ≡ Some any) × (option_map (λ v. v.strict) given ≡ Some strict)
 HasValues given (Traffic tick strict) = (option_and_then (λ v. v.tick) given ≡ Some tick) × (option_map (λ v. v.strict) given ≡ Some strict)
 HasValues given (Settings tick shown) = (option_and_then (λ v. v.tick) given ≡ Some tick) × (option_map (λ v. v.shown) given ≡ Some shown)
 HasValues given (Run workers kind brief) =
@@ -507,7 +516,8 @@ timed_task word values tick =
     else (if bytes_eq word (codes "margin") then Some (Margin tick values.all_send)
     else (if bytes_eq word (codes "traffic") then Some (Traffic tick values.strict)
     else (if bytes_eq word (codes "settings") then Some (Settings tick values.shown)
-    else None))))
+    else (if bytes_eq word (codes "respond") then Some (Respond tick values.any_data values.strict)
+    else None)))))
 
 -- the task that a word names with values of options
 abbrev pub valued_task : Text → Values → Option Task
@@ -561,6 +571,7 @@ plain_values = record {
   swept = Some plainly_swept;
   strict = false;
   all_send = false;
+  any_data = false;
   limits = Narrow;
   shown = Best None;
   from = Some 0;

@@ -4,7 +4,7 @@ ghost use Rattle.std.specs.List.{list_all};
 ghost use Rattle.wl_sweep.specs.Findings.{is_clean};
 ghost use Rattle.wl_sweep.specs.Tallies.{tally_of};
 ghost use Rattle.wl_sweep.specs.declared.finding.Finding.{Finding};
-ghost use Rattle.wl_sim.specs.Tasks.{AnswersSweep, done_by, of_format, of_format_fault, of_init, of_init_fault, of_map, of_print, of_settings, of_settings_fault, of_sweep, of_traffic, plainly, of_join, of_join_fault};
+ghost use Rattle.wl_sim.specs.Tasks.{AnswersSweep, done_by, of_format, of_format_fault, of_init, of_init_fault, of_map, of_print, of_settings, of_settings_fault, of_respond, of_sweep, of_traffic, plainly, of_join, of_join_fault};
 
 use thiserror::Error;
 use wl_engines::{Reason, RunFault};
@@ -19,7 +19,7 @@ use wl_sweep_engine::{JoinFault, SweepFault, Tally};
 pub enum Done {
     /// The output says all.
     Plain,
-    /// Some member of a sweep isn't clean, or a run doesn't work and its status is to say so.
+    /// Some member of a sweep isn't clean; or a run doesn't work, or a deadline isn't met, and the status is to say so.
     Unclean,
 }
 
@@ -198,6 +198,18 @@ pub(crate) fn of_init(answer: Result<(), InitFault>) -> Result<Done, Fault>
     match answer {
         Ok(()) => Ok(Done::Plain),
         Err(fault) => Err(of_init_fault(fault)),
+    }
+}
+
+/// Returns what the waits of a plan answered, whose status is to say whether all deadlines are met.
+pub(crate) fn of_respond(strict: bool, answer: Result<bool, RunFault>) -> Result<Done, Fault>
+    ensures { result ≡ of_respond strict answer }
+{
+    match answer {
+        Ok(true) => Ok(Done::Plain),
+        Ok(false) if strict => Ok(Done::Unclean),
+        Ok(false) => Ok(Done::Plain),
+        Err(fault) => Err(Fault::Run(fault)),
     }
 }
 

@@ -55,6 +55,9 @@ pub enum Task {
     /// Whether a plan's bus works, and with how much to spare, at ticks that take so long; of the plan's senders, or, if that is asked for, of
     /// all nodes that don't only listen.
     Margin(Tick, bool),
+    /// How long the messages of a plan may wait, at ticks that take so long: of any data, if that is asked for. If that is asked for, the status
+    /// says whether all deadlines are met.
+    Respond(Tick, bool, bool),
     /// How busy a plan's bus was, how long its messages waited, and why the run didn't work, at ticks that take so long. If that is asked
     /// for, the status says whether it worked.
     Traffic(Tick, bool),
@@ -149,6 +152,7 @@ fn timed_task(word: &str, tick: Tick, values: &Values) -> Option<Task>
         "margin" => Some(Task::Margin(tick, values.all_send)),
         "traffic" => Some(Task::Traffic(tick, values.strict)),
         "settings" => Some(Task::Settings(tick, values.shown)),
+        "respond" => Some(Task::Respond(tick, values.any_data, values.strict)),
         _ => None,
     }
 }
@@ -259,7 +263,7 @@ fn wanted(words: &[String]) -> &'static str {
             "check" | "explain" | "sweep" => "--format wants text, json or csv",
             "trace" =>
                 "--only wants lost, error, flag, frame, mode or sync, and --format text, json or csv",
-            "margin" | "traffic" => {
+            "margin" | "respond" | "traffic" => {
                 "--tick wants 1 to 999 and ps, ns or us, as 125ps, and --format text, json or csv"
             }
             _ => "--tick wants 1 to 999 and ps, ns or us, as 125ps",

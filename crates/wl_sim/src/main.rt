@@ -12,6 +12,7 @@
 //! - `trace` writes what happened to each node, and where;
 //! - `traffic` writes how busy the bus was and how long messages waited;
 //! - `margin` writes whether the plan's bus works, and with how much to spare;
+//! - `respond` writes how long each message may wait, and whether that is in time;
 //! - `explain` writes what is doubtful of a plan, and the figures of its nodes, or what is wrong with a plan that is refused;
 //! - `sweep` writes how many members of a family of plans are clean, also in parts that it joins.
 #![tactic(auto)]
@@ -55,7 +56,7 @@ mod texts;
 mod values;
 
 use crate::answer::{
-    of_format, of_init, of_join, of_map, of_print, of_settings, of_tally, of_traffic, plainly,
+    of_format, of_init, of_join, of_map, of_print, of_respond, of_settings, of_tally, of_traffic, plainly,
 };
 use crate::formats::{subject_of, write_kept};
 pub use answer::{Done, Fault};
@@ -64,8 +65,8 @@ pub use sweep::Swept;
 pub use wl_engines::{
     Crew, LinkKind, RunFault, candump_run_within, check_run, explain_run, horizon_run,
     horizon_run_within, margin_run, merge_run, merge_run_within, merges_as_one, page_run,
-    picked_trace_run, plan_run, plan_run_as, records_run_within, traffic_run, vcd_run, workers_run,
-    workers_run_as,
+    picked_trace_run, plan_run, plan_run_as, records_run_within, respond_run, traffic_run, vcd_run,
+    workers_run, workers_run_as,
 };
 
 /// The statuses that the program ends with beside 0.
@@ -438,6 +439,9 @@ fn run<H: Threads + Wait + Sync + Eprint + Clock, R: Source, W: Sink>(
         Task::Page(tick) => plainly(page_run(alloc, tick, reader, writer)),
         Task::Margin(tick, all_send) => {
             plainly(margin_run(alloc, tick, all_send, reader, writer))
+        }
+        Task::Respond(tick, any_data, strict) => {
+            of_respond(strict, respond_run(alloc, tick, any_data, reader, writer))
         }
         Task::Traffic(tick, strict) => of_traffic(strict, traffic_run(alloc, tick, reader, writer)),
         Task::Settings(tick, shown) => {

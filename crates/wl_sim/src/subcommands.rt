@@ -4,7 +4,7 @@ ghost use Rattle.clap.specs.Words.{app_of, rule_of, with_rule};
 ghost use Rattle.clap.specs.declared.builder.command.Command.TheViews.{out-Command};
 ghost use Rattle.wl_sim.specs.CommandLine.{FailsByMemory, MatchesWords, bare_program, is_task_word, optioned_app, program, program_alone, subcommand_app, with_word};
 ghost use Rattle.wl_sim.specs.CommandLine.{bitrate_rule, cable_rule, init_app, kind_rule, nodes_rule, reading_app};
-ghost use Rattle.wl_sim.specs.CommandLine.{best_rule, candump_app, filed, flag_rule, format_rule, formatted_app, from_rule, input_rule, link_rule, margin_app, node_rule, only_rule, output_rule, records_app, run_app, settings_app, sweep_app, tick_rule, ticks_rule, timed_app, trace_app, traffic_app, windowed_app, workers_rule};
+ghost use Rattle.wl_sim.specs.CommandLine.{best_rule, candump_app, filed, flag_rule, format_rule, formatted_app, from_rule, input_rule, link_rule, margin_app, node_rule, only_rule, output_rule, records_app, respond_app, run_app, settings_app, sweep_app, tick_rule, ticks_rule, timed_app, trace_app, traffic_app, windowed_app, workers_rule};
 
 use crate::sweep::{with_part_options, with_sweep_options};
 use clap::{Arg, ArgAction, ArgMatches, Command, Error, value_parser};
@@ -24,6 +24,13 @@ const PROGRESS: &str = "Says each second how long the run has taken, or of a swe
 
 /// What the help says of `--strict`.
 const STRICT: &str = "Ends with status 1 if the verdict is another than works";
+
+/// What the help says of `--strict` of `respond`.
+const IN_TIME: &str = "Ends with status 1 if a deadline is missed or a message has no bound";
+
+/// What the help says of `--any-data`.
+const ANY_DATA: &str =
+    "Counts the most bits that frames of so many bytes may have, whatever their data";
 
 /// What the help says of `--wide`.
 const WIDE: &str = "Takes records of plans of version 4: 64 nodes, 268435457 changes of each";
@@ -137,6 +144,8 @@ fn about(word: &str) -> &'static str {
             "Simulates the plan, and writes one page of HTML that shows all of it in a browser",
         "margin" =>
             "Tests the plan, and writes whether its bus works at all phases and clocks, and with how much to spare",
+        "respond" =>
+            "Tests the plan, and writes how long each message may wait, at all phases and clocks, and whether that is in time",
         "traffic" =>
             "Simulates the plan, and writes how busy the bus was, how long messages waited, and whether it works",
         "settings" =>
@@ -331,6 +340,18 @@ fn with_margin_options<'a>(alloc: Global, sub: Command<'a>) -> Result<Command<'a
     formatted(alloc, all_send)
 }
 
+/// Returns a subcommand with the options of `respond`.
+fn with_respond_options<'a>(alloc: Global, sub: Command<'a>) -> Result<Command<'a>, AllocError>
+    requires { (out-Command sub).has_globals ≡ false }
+    ensures app { IfOk result (λ all. app_of all ≡ respond_app (app_of sub.entry)) }
+    ensures local { IfOk result (λ all. (out-Command all).has_globals ≡ false) }
+{
+    let timed = timed(alloc, sub)?;
+    let any = with(timed, flag_option(alloc, "any-data", ANY_DATA))?;
+    let strict = with(any, flag_option(alloc, "strict", IN_TIME))?;
+    formatted(alloc, strict)
+}
+
 /// Returns a subcommand with the options of `traffic`.
 fn with_traffic_options<'a>(alloc: Global, sub: Command<'a>) -> Result<Command<'a>, AllocError>
     requires { (out-Command sub).has_globals ≡ false }
@@ -447,6 +468,7 @@ fn optioned<'a>(alloc: Global, word: &str, sub: Command<'a>) -> Result<Command<'
         "settings" => with_settings_options(alloc, sub),
         "sweep" => with_all_sweep_options(alloc, sub),
         "init" => with_init_options(alloc, sub),
+        "respond" => with_respond_options(alloc, sub),
         _ => Ok(sub),
     }
 }
@@ -501,7 +523,7 @@ fn command<'a>(alloc: Global) -> Result<Command<'a>, AllocError>
         alloc,
         bare(alloc),
         &[
-            "init", "run", "margin", "explain", "traffic", "check", "settings", "sweep", "trace",
+            "init", "run", "margin", "explain", "respond", "traffic", "check", "settings", "sweep", "trace",
             "page", "vcd", "candump", "records", "format", "merge", "horizon",
         ],
     )
@@ -523,6 +545,7 @@ fn is_task(word: &str) -> bool
         | "run"
         | "margin"
         | "explain"
+        | "respond"
         | "traffic"
         | "check"
         | "settings"

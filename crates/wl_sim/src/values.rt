@@ -35,6 +35,8 @@ pub(crate) struct Values {
     pub(crate) strict: bool,
     /// Whether all nodes send that don't only listen.
     pub(crate) all_send: bool,
+    /// Whether frames may have any data.
+    pub(crate) any_data: bool,
     /// By which limits a record text is refused.
     pub(crate) limits: Limits,
     /// The second of tick 0.
@@ -394,6 +396,7 @@ fn values_in(matches: &ArgMatches) -> Values
         shown: shown_in(matches),
         strict: flag_in(matches, "strict"),
         all_send: flag_in(matches, "all-send"),
+        any_data: flag_in(matches, "any-data"),
         limits: limits_in(matches),
         from: small_number_in(matches, "from"),
         window: window_in(matches),

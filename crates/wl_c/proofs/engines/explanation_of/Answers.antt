@@ -1,6 +1,6 @@
 use Rattle.wl_engines.specs.declared.kept.Kept.{Kept}
 use Rattle.wl_c.proofs.Direct.{explanation_made}
-use Rattle.wl_c.specs.declared.reader.TextReader.{TextReader}
+use Rattle.wl_engines.specs.declared.reader.TextReader.{TextReader}
 use Rattle.wl_c.proofs.engines.explanation_of.Goals as goal
 
 pub returns : goal.returns

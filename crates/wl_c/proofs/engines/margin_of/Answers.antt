@@ -1,7 +1,7 @@
 use Rattle.wl_engines.specs.declared.kept.Kept.{Kept}
 use Rattle.wl_engines.specs.Margin.{IsMarginOutput}
 use Rattle.wl_c.proofs.Direct.{bus_made}
-use Rattle.wl_c.specs.declared.reader.TextReader.{TextReader}
+use Rattle.wl_engines.specs.declared.reader.TextReader.{TextReader}
 use Rattle.wl_c.proofs.engines.margin_of.Goals as goal
 
 pub returns : goal.returns

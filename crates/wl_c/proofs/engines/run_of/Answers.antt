@@ -1,7 +1,7 @@
 use Rattle.wl_engines.specs.declared.kept.Kept.{Kept}
 use Rattle.wl_engines.specs.Plans.{IsRunOutput}
 use Rattle.wl_c.proofs.Direct.{plan_made}
-use Rattle.wl_c.specs.declared.reader.TextReader.{TextReader}
+use Rattle.wl_engines.specs.declared.reader.TextReader.{TextReader}
 use Rattle.wl_c.proofs.engines.run_of.Goals as goal
 
 pub returns : goal.returns

@@ -2,7 +2,7 @@ use Rattle.std.proofs.Common.{subst}
 use Rattle.wl_engines.specs.declared.kept.Kept.{Kept}
 use Rattle.wl_c.proofs.Direct.{traffic_made}
 use Rattle.wl_c.specs.Made.{IsMade}
-use Rattle.wl_c.specs.declared.reader.TextReader.{TextReader}
+use Rattle.wl_engines.specs.declared.reader.TextReader.{TextReader}
 use Rattle.wl_c.proofs.engines.traffic_of.Goals as goal
 
 pub returns : goal.returns

@@ -4,13 +4,13 @@ use wl_device::{Got, Source};
 
 /// Gives a text, and then its end.
 #[derive(Drop)]
-pub(crate) struct TextReader<'a> {
+pub struct TextReader<'a> {
     /// What is still to come.
-    pub(crate) rest: &'a [u8],
+    pub rest: &'a [u8],
 }
 
 impl<'a> Source for TextReader<'a> {
-    ghost use Rattle.wl_c.specs.Reader.{GivesRest};
+    ghost use Rattle.wl_engines.specs.Reader.{GivesRest};
 
     ghost gives = { λ s a t. GivesRest s.rest.now a t.rest.now };
 

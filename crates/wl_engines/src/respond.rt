@@ -1,0 +1,69 @@
+//! How long the messages of a plan may wait.
+ghost use Rattle.std.specs.Prelude.{◌≡◌, ◌≢◌, ◌≤◌, Ok, Err, IfOk, IfErr, length};
+ghost use Rattle.wl_engines.specs.Explained.{bus_answer};
+ghost use Rattle.wl_engines.specs.Responded.{Responds, RespondsTo};
+ghost use Rattle.wl_setup.specs.Limits.{most_bytes};
+ghost use Rattle.wl_setup.specs.Reading.{text_answer};
+
+use crate::fault::RunFault;
+use crate::reader::TextReader;
+use std::alloc::Global;
+use wl_device::{Ended, Sink, Source, write_all};
+use wl_respond::{Question, respond_text};
+use wl_setup::{PlanText, SetupFault, bus_of_bytes, read_bytes, read_text};
+use wl_views::Tick;
+
+/// Returns what a text in memory says, or its first fault.
+fn text_of(alloc: Global, text: &[u8]) -> Result<PlanText, SetupFault>
+    requires { length text.now ≤ most_bytes }
+    ensures read { IfOk result (λ plain. text_answer text.now ≡ Ok plain) }
+    ensures fault { IfErr result (λ e. e ≢ SetupFault.Memory → bus_answer text.now ≡ Err e) }
+{
+    let mut reader = TextReader { rest: text };
+    read_text(alloc, &mut reader)
+}
+
+/// Writes how long the messages of a text's plan may wait, and returns whether all deadlines are met.
+fn respond_to<W: Sink>(
+    alloc: Global,
+    tick: Tick,
+    any_data: bool,
+    text: &[u8],
+    writer: &mut W,
+) -> Result<bool, RunFault>
+    requires { length text.now ≤ most_bytes }
+    ensures { RespondsTo W.takes tick any_data text.now writer.old writer.new result }
+{
+    let plain = text_of(alloc, text)?;
+    let bus = bus_of_bytes(alloc, text)?;
+    let question = Question {
+        tick: tick.picoseconds(),
+        any_data,
+    };
+    let response = respond_text(alloc, question, &plain, &bus)?;
+    write_all(response.text.as_bytes(), writer)?;
+    Ok(response.met)
+}
+
+/// Reads a plan's text, tests whether the plan can be run, and writes how long each message may wait, at all offsets and clocks within their
+/// tolerance. Returns whether each has a bound, and meets its deadline. A tick of the plan takes as long as `tick` says. If `any_data`, a frame
+/// may have any data in the place of its own.
+///
+/// The whole output is made before the first write. If the input is refused, or memory runs out, the writer isn't called; if the writer
+/// fails, a prefix of the output has been written.
+pub fn respond_run<R: Source, W: Sink>(
+    alloc: Global,
+    tick: Tick,
+    any_data: bool,
+    reader: &mut R,
+    writer: &mut W,
+) -> Result<bool, RunFault>
+    ensures { Responds R.gives W.takes tick any_data reader.old reader.new writer.old writer.new result }
+{
+    let (text, ended) = read_bytes(alloc, reader)?;
+    match ended {
+        Ended::End => respond_to(alloc, tick, any_data, &text, writer),
+        Ended::Broken => Err(RunFault::Setup(SetupFault::Read)),
+        Ended::Full => Err(RunFault::Setup(SetupFault::Size)),
+    }
+}
