@@ -1,10 +1,7 @@
 -- What is asked of a plan beside the test of its table, so that the law on waits says something of it (`respond_law` of wl_proved).
-use Rattle.std.specs.Prelude.{◌≡◌, ℕ, Bool, true, false, List, length, None}
+use Rattle.std.specs.Prelude.{◌≡◌, ℕ, Bool, true, List, length, None}
 use Rattle.wl_level.specs.Places.{first_place}
-use Rattle.wl_node.specs.declared.setup.QueueOrder.{QueueOrder}
-use Rattle.wl_node.specs.declared.setup.QueueOrder.TheVariants.{Fifo, Priority}
 use Rattle.wl_plan.specs.declared.plan.Plan.{Plan}
-use Rattle.wl_plan.specs.PlanLine.{setup_at}
 use Rattle.wl_setup.specs.declared.bus.Deviation.{Deviation}
 use Rattle.wl_bound.specs.Covered.{is_covered}
 use Rattle.wl_bound.specs.Decides.{first_to_decide_twice}
@@ -14,19 +11,12 @@ use Rattle.wl_bound.specs.Verdicts.{verdict_of}
 use Rattle.wl_bound.specs.declared.verdict.Verdict.TheVariants.{ForAny}
 use Rattle.wl_margin.specs.Paces.{first_stray, is_turning}
 use Rattle.wl_respond.specs.declared.message.MessageWait.{MessageWait}
+use Rattle.wl_respond.specs.Levels.{has_levels}
 use Rattle.wl_respond.specs.Plans.{KeepsTable}
 use Rattle.wl_respond.specs.Tests.{pass}
 
--- a queue that isn't sent first in, first out
-abbrev pub is_priority : QueueOrder → Bool
-is_priority Fifo = false
-is_priority Priority = true
-
-abbrev pub goes_by_priority : Plan → ℕ → Bool
-goes_by_priority plan i = is_priority (setup_at plan i).order
-
--- Each clock keeps to its tolerance, and has one rate; `margin` says 'holds for any senders' of the plan, and 'proved'; nobody decides twice; queues are first in, first out; the plan keeps the table, and
--- that passes.
+-- Each clock keeps to its tolerance, and has one rate; `margin` says 'holds for any senders' of the plan, and 'proved'; nobody decides twice; the plan keeps the table, whose
+-- messages have the levels of their queues, and which passes.
 pub record HasPremises (deviations : List Deviation) (plan : Plan) (f : Buses) (messages : List MessageWait) : Type 0 where
   pub paces : first_stray deviations plan f ≡ None
   pub steady : first_place (is_turning deviations) (length plan.nodes) ≡ None
@@ -34,6 +24,6 @@ pub record HasPremises (deviations : List Deviation) (plan : Plan) (f : Buses) (
   pub covered : is_covered plan ≡ true
   pub room : leaves_room f ≡ true
   pub decides : first_to_decide_twice f ≡ None
-  pub fifo : first_place (goes_by_priority plan) (length plan.nodes) ≡ None
   pub keeps : KeepsTable plan messages
+  pub levels : has_levels plan messages ≡ true
   pub passes : pass (plain_bus f) messages ≡ true

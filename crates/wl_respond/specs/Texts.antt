@@ -1,6 +1,5 @@
 -- The text of how long the messages of a bus may wait (this project's profile).
 use Rattle.std.specs.Prelude.{◌≡◌, ℕ, ◌+◌, ◌==◌, ◌&&◌, nat_lt, Bool, true, false, List, [], ◌∷◌, ◌++◌, map, codes, length, slice_get, slice_index_or, if◌then◌else◌, Option, Some, None, option_and_then}
-use Rattle.std.specs.Option.{is_none}
 use Rattle.std.specs.Fmt.{decimal}
 use Rattle.wl_counts.specs.Counts.{one_if, sum_below}
 use Rattle.wl_level.specs.Places.{first_place}
@@ -23,11 +22,11 @@ use Rattle.wl_respond.specs.declared.parts.Met.{Met}
 use Rattle.wl_respond.specs.declared.parts.Met.TheVariants.{InTime, Late, Open}
 use Rattle.wl_respond.specs.declared.parts.Parts.{Parts}
 use Rattle.wl_respond.specs.declared.premise.Lacking.{Lacking}
-use Rattle.wl_respond.specs.declared.premise.Lacking.TheVariants.{Astray, Turning, Margin, Deciding, Priority, Table, Bounds}
+use Rattle.wl_respond.specs.declared.premise.Lacking.TheVariants.{Astray, Turning, Margin, Deciding, Table, Bounds}
 use Rattle.wl_respond.specs.declared.verdict.Outcome.{Outcome}
 use Rattle.wl_respond.specs.Asks.{asked_of, message_in, once}
 use Rattle.wl_respond.specs.Parts.{told_line, load_at_most}
-use Rattle.wl_respond.specs.Premises.{HasPremises, goes_by_priority}
+use Rattle.wl_respond.specs.Premises.{HasPremises}
 use Rattle.wl_respond.specs.Tests.{no_message, pass, row_for}
 
 abbrev pub no_asked : Asked
@@ -52,15 +51,11 @@ turning_words a = joined (codes "not proved: the clock of " ∷ a ∷ codes " ha
 abbrev pub deciding_words : List ℕ → List ℕ
 deciding_words a = joined (codes "not proved: twelve bits after an edge a bit of another node may come to " ∷ a ∷ codes " after its sample\n" ∷ [])
 
-abbrev pub priority_words : List ℕ → List ℕ
-priority_words a = joined (codes "not proved: " ∷ a ∷ codes " sends by priority\n" ∷ [])
-
 abbrev pub lack_line : List (List ℕ) → Lacking → List ℕ
 lack_line names (Astray i) = astray_lack (name_of names i)
 lack_line names (Turning i) = turning_words (name_of names i)
 lack_line names Margin = codes "not proved: margin doesn't say of this plan that it holds for any senders, proved\n"
 lack_line names (Deciding i) = deciding_words (name_of names i)
-lack_line names (Priority i) = priority_words (name_of names i)
 lack_line names Table = codes "not proved: a frame is ready before its node's eleventh sample, or waits out of order\n"
 lack_line names Bounds = codes "not proved: no waits pass the inequalities\n"
 
@@ -163,9 +158,6 @@ bounded_verdict names asked lines =
     if missed_count lines == 0 then codes "verdict all deadlines met\n" else late_verdict names asked lines
 
 -- or why there is no bound
-abbrev pub ordered_verdict : List ℕ → List ℕ
-ordered_verdict a = joined (codes "verdict no bound: " ∷ a ∷ codes " sends by priority\n" ∷ [])
-
 abbrev pub jitter_tail : List ℕ → List ℕ
 jitter_tail a = joined (codes " of " ∷ a ∷ codes " isn't less than its period\n" ∷ [])
 
@@ -185,41 +177,36 @@ abbrev pub jitter_verdict : List (List ℕ) → List Asked → ℕ → Option �
 jitter_verdict names asked load None = load_verdict load
 jitter_verdict names asked load (Some e) = jittered_verdict names (asked_at asked e).message
 
-abbrev pub open_verdict : List (List ℕ) → List Asked → ℕ → Option ℕ → List ℕ
-open_verdict names asked load None = jitter_verdict names asked load (first_place (has_no_period asked) (length asked))
-open_verdict names asked load (Some i) = ordered_verdict (name_of names i)
+abbrev pub open_verdict : List (List ℕ) → List Asked → ℕ → List ℕ
+open_verdict names asked load = jitter_verdict names asked load (first_place (has_no_period asked) (length asked))
 
 -- the whole text of a bus with these messages, by what lacks
 module _ (names : List (List ℕ)) (asked : List Asked) (lines : List Line) where
   abbrev pub lines_words : List ℕ
   lines_words = each_below (line_words names asked lines) (length lines)
 
-  abbrev pub verdict_words : (shown : Bool) → (load : ℕ) → Option ℕ → List ℕ
-  verdict_words true load ordered = bounded_verdict names asked lines
-  verdict_words false load ordered = open_verdict names asked load ordered
+  abbrev pub verdict_words : (shown : Bool) → (load : ℕ) → List ℕ
+  verdict_words true load = bounded_verdict names asked lines
+  verdict_words false load = open_verdict names asked load
 
--- bounds are shown if they pass, and all queues are first in, first out
+-- bounds are shown if they pass
 abbrev pub lines_shown : ℕ → families.Bus → Bool → List Asked → List Line
 lines_shown tick b shown asked = map (told_line tick b (times_of b) (map (row_for b (times_of b)) (map message_in asked)) shown) asked
 
 abbrev pub outcome_words : List (List ℕ) → List Asked → List Line → Outcome → List ℕ
 outcome_words names asked lines o =
-    lacking_words names o.lacking ++ load_words o.load ++ lines_words names asked lines ++ verdict_words names asked lines o.shown o.load o.ordered
+    lacking_words names o.lacking ++ load_words o.load ++ lines_words names asked lines ++ verdict_words names asked lines o.shown o.load
 
 -- The text of a bus with these messages. If its first line says 'proved', all premises hold.
 module _ (tick : ℕ) (bus : Bus) (f : families.Buses) (asked : List Asked) where
-  abbrev pub first_ordered : Option ℕ
-  first_ordered = first_place (goes_by_priority bus.plan) (length bus.plan.nodes)
-
   abbrev pub has_bounds : Bool
-  has_bounds = pass (plain_bus f) (map message_in asked) && is_none first_ordered
+  has_bounds = pass (plain_bus f) (map message_in asked)
 
   abbrev pub outcome_of : Option Lacking → Outcome
   outcome_of lacking = record {
     lacking = lacking;
     shown = has_bounds;
     load = load_at_most (plain_bus f) (map message_in asked);
-    ordered = first_ordered;
   }
 
   abbrev pub lines_of : List Line

@@ -1,15 +1,14 @@
 //! What lacks of the premises under which the bounds are proved.
 ghost use Rattle.std.specs.Prelude.{◌≡◌, None, length};
 ghost use Rattle.wl_bound.specs.Rooms.{plain_bus};
-ghost use Rattle.wl_level.specs.Places.{first_place};
-ghost use Rattle.wl_respond.specs.Premises.{HasPremises, goes_by_priority};
+ghost use Rattle.wl_respond.specs.Premises.{HasPremises};
 ghost use Rattle.wl_respond.specs.Tests.{pass};
 
+use crate::level::has_levels;
 use crate::message::MessageWait;
 use crate::plan::keeps_table;
 use wl_bound::{Family, Verdict, is_covered, judge};
 use wl_margin::{first_stray, first_turning};
-use wl_node::QueueOrder;
 use wl_plan::CheckedPlan;
 use wl_setup::Deviation;
 
@@ -24,25 +23,10 @@ pub enum Lacking {
     Margin,
     /// This node may decide a second time.
     Deciding(u8),
-    /// The queue of this node goes by priority.
-    Priority(u8),
     /// Some frame is ready before its node's eleventh sample, or waits out of order.
     Table,
     /// No bounds pass the test.
     Bounds,
-}
-
-/// Returns the first node whose queue goes by priority.
-pub(crate) fn first_by_priority(plan: &CheckedPlan) -> Option<u8>
-    ensures { result ≡ first_place (goes_by_priority plan.now) (length plan.now.nodes) }
-{
-    let mut first = None;
-    for i in 0..plan.nodes() {
-        if first.is_none() && plan.node(i).order == QueueOrder::Priority {
-            first = Some(i);
-        }
-    }
-    first
 }
 
 /// Returns the first premise that lacks of a plan with a table of messages.
@@ -70,10 +54,7 @@ pub fn first_lacking(
     if let Some(i) = family.first_to_decide_twice() {
         return Some(Lacking::Deciding(i));
     }
-    if let Some(i) = first_by_priority(plan) {
-        return Some(Lacking::Priority(i));
-    }
-    if !keeps_table(plan, messages) {
+    if !keeps_table(plan, messages) || !has_levels(plan, messages) {
         return Some(Lacking::Table);
     }
     if !passes {

@@ -1,6 +1,5 @@
 //! The text of how long the messages of a bus may wait.
 ghost use Rattle.std.specs.Prelude.{◌≡◌, ◌<◌, ◌^◌, ◌&&◌, ◌==◌, length, string_bytes, IfOk, OnOk};
-ghost use Rattle.std.specs.Option.{is_none};
 ghost use Rattle.wl_bound.specs.Families.{family_of};
 ghost use Rattle.wl_bound.specs.Rooms.{plain_bus};
 ghost use Rattle.wl_report.specs.Lines.{GrowsBy};
@@ -10,7 +9,7 @@ use crate::asked::{Asked, all_asked, messages_in};
 use crate::inequality::Common;
 use crate::message::{MessageWait, pass, rows};
 use crate::parts::{Case, Line, lines_of, load_at_most};
-use crate::premise::{first_by_priority, first_lacking};
+use crate::premise::first_lacking;
 use crate::search::bounds_of;
 use crate::table::table_of;
 use crate::verdict::{Outcome, missed_count, push_verdict};
@@ -82,13 +81,6 @@ fn searched(
     let messages = messages_in(alloc, asked.as_slice())?;
     let found = bounds_of(alloc, family, messages.as_slice())?;
     with_bounds(alloc, table.as_slice(), found.messages.as_slice())
-}
-
-/// True if bounds are shown: they pass, and all queues are first in, first out.
-fn is_shown(passes: bool, ordered: Option<u8>) -> bool
-    ensures { result ≡ passes && is_none ordered }
-{
-    passes && ordered.is_none()
 }
 
 /// Returns what is said of each message, with its bound or without. Refused only when out of memory.
@@ -165,8 +157,6 @@ fn told(
 {
     let messages = messages_in(alloc, asked)?;
     let passes = pass(alloc, family, messages.as_slice())?;
-    let ordered = first_by_priority(&bus.plan);
-    let shown = is_shown(passes, ordered);
     let outcome = Outcome {
         lacking: first_lacking(
             bus.deviations.as_slice(),
@@ -175,11 +165,10 @@ fn told(
             messages.as_slice(),
             passes,
         ),
-        shown,
+        shown: passes,
         load: load_at_most(family, messages.as_slice()),
-        ordered,
     };
-    let lines = all_lines(alloc, tick, family, shown, asked)?;
+    let lines = all_lines(alloc, tick, family, passes, asked)?;
     made_response(alloc, &bus.names, asked, lines.as_slice(), outcome)
 }
 

@@ -3,7 +3,7 @@ ghost use Rattle.std.specs.Prelude.{◌≡◌, ◌≤◌, ◌<◌, length, IfSom
 ghost use Rattle.wl_level.specs.Places.{first_place};
 ghost use Rattle.wl_margin.specs.Pieces.{each_below};
 ghost use Rattle.wl_report.specs.Lines.{GrowsBy};
-ghost use Rattle.wl_respond.specs.Texts.{bounded_verdict, count_words, full_verdict, has_no_period, is_missed, jitter_tail, jittered_verdict, late_verdict, missed_name, load_verdict, missed_count, missed_words, misses, open_verdict, ordered_verdict, verdict_words};
+ghost use Rattle.wl_respond.specs.Texts.{bounded_verdict, count_words, full_verdict, has_no_period, is_missed, jitter_tail, jittered_verdict, late_verdict, missed_name, load_verdict, missed_count, missed_words, misses, open_verdict, verdict_words};
 ghost use Rattle.wl_topology.specs.Driven.{any_below};
 
 use crate::asked::Asked;
@@ -122,13 +122,6 @@ fn push_bounded(
     text.push_str("\n")
 }
 
-/// Adds the verdict of a node that sends by priority.
-fn push_ordered(text: &mut String, a: &str) -> Result<(), AllocError>
-    ensures { OnOk result (GrowsBy text.old text.new (ordered_verdict a.now)) }
-{
-    writeln!(text, "verdict no bound: {a} sends by priority")
-}
-
 /// Adds whose message has a jitter that leaves nothing of its period.
 fn push_jitter_tail(text: &mut String, a: &str) -> Result<(), AllocError>
     ensures { OnOk result (GrowsBy text.old text.new (jitter_tail a.now)) }
@@ -185,13 +178,9 @@ fn push_open(
     names: &Names,
     asked: &[Asked],
     load: u128,
-    ordered: Option<u8>,
 ) -> Result<(), AllocError>
-    ensures { OnOk result (GrowsBy text.old text.new (open_verdict names.now asked.now load ordered)) }
+    ensures { OnOk result (GrowsBy text.old text.new (open_verdict names.now asked.now load)) }
 {
-    if let Some(i) = ordered {
-        return push_ordered(text, names.name_of(i as usize));
-    }
     match first_jittered(asked) {
         Some(e) => push_jittered(text, names, &asked[e].message),
         None => push_load_verdict(text, load),
@@ -207,8 +196,6 @@ pub(crate) struct Outcome {
     pub(crate) shown: bool,
     /// How busy the bus is at most, in hundredths of a per cent.
     pub(crate) load: u128,
-    /// The first node that sends by priority.
-    pub(crate) ordered: Option<u8>,
 }
 
 /// Adds the verdict.
@@ -221,11 +208,11 @@ pub(crate) fn push_verdict(
 ) -> Result<(), AllocError>
     requires { length asked.now ≡ length lines.now }
     ensures { OnOk result (GrowsBy text.old text.new
-        (verdict_words names.now asked.now lines.now outcome.shown outcome.load outcome.ordered)) }
+        (verdict_words names.now asked.now lines.now outcome.shown outcome.load)) }
 {
     if outcome.shown {
         push_bounded(text, names, asked, lines)
     } else {
-        push_open(text, names, asked, outcome.load, outcome.ordered)
+        push_open(text, names, asked, outcome.load)
     }
 }

@@ -1,7 +1,7 @@
 //! What is said of a message, and of what lacks, in words.
 ghost use Rattle.std.specs.Prelude.{◌≡◌, ◌++◌, ◌<◌, OnOk, length, string_bytes};
 ghost use Rattle.wl_report.specs.Lines.{GrowsBy};
-ghost use Rattle.wl_respond.specs.Texts.{asked_at, asked_words, astray_lack, blocker_words, bound_words, by_words, deadline_words, deciding_words, every_words, message_head, lack_line, lacking_words, told_line_at, line_words, load_words, met_word, parts_words, period_words, priority_words, time_words, times_words, told_words, turning_words};
+ghost use Rattle.wl_respond.specs.Texts.{asked_at, asked_words, astray_lack, blocker_words, bound_words, by_words, deadline_words, deciding_words, every_words, message_head, lack_line, lacking_words, told_line_at, line_words, load_words, met_word, parts_words, period_words, time_words, times_words, told_words, turning_words};
 
 use crate::asked::Asked;
 use crate::message::MessageWait;
@@ -40,13 +40,6 @@ fn push_deciding(text: &mut String, a: &str) -> Result<(), AllocError>
     )
 }
 
-/// Adds the line of a node that sends by priority.
-fn push_priority(text: &mut String, a: &str) -> Result<(), AllocError>
-    ensures { OnOk result (string_bytes text.new ≡ string_bytes text.old ++ priority_words a.now) }
-{
-    writeln!(text, "not proved: {a} sends by priority")
-}
-
 /// Adds the line of a premise that lacks.
 fn push_lack(text: &mut String, names: &Names, lacking: Lacking) -> Result<(), AllocError>
     ensures { OnOk result (string_bytes text.new ≡ string_bytes text.old ++ lack_line names.now lacking) }
@@ -58,7 +51,6 @@ fn push_lack(text: &mut String, names: &Names, lacking: Lacking) -> Result<(), A
             "not proved: margin doesn't say of this plan that it holds for any senders, proved\n",
         ),
         Lacking::Deciding(i) => push_deciding(text, names.name_of(i as usize)),
-        Lacking::Priority(i) => push_priority(text, names.name_of(i as usize)),
         Lacking::Table => text.push_str(
             "not proved: a frame is ready before its node's eleventh sample, or waits out of order\n",
         ),
