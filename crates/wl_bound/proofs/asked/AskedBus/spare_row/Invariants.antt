@@ -1,0 +1,9 @@
+use Rattle.std.proofs.Common.{◌≡◌}
+use Rattle.wl_bound.specs.Families.{only_listens}
+use Rattle.wl_bound.specs.Conditions.{is_asked}
+use Rattle.wl_bound.specs.Helps.{least, spare_at}
+use Rattle.wl_bound.proofs.asked.AskedBus.spare_row.Given as goal
+
+-- the worst pair so far
+abbrev pub invariant-loop-j : goal.invariant-loop-j
+invariant-loop-j l = l.spare ≡ least l.j (is_asked (only_listens l.self.bus.family.now.cable) l.inequality l.i) (spare_at l.self.bus.family.now l.self.bus.setting l.self.senders l.inequality l.i)
