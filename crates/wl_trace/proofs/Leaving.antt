@@ -10,7 +10,7 @@ use Rattle.wl_node.proofs.Callers.{AreThere, HaveLeft, all_of, are_there, away_d
 use Rattle.wl_trace.specs.declared.event.Noted.{Noted}
 use Rattle.wl_trace.specs.declared.rerun.Rerun.{Rerun}
 use Rattle.wl_trace.specs.declared.staying_rerun.StayingRerun.{StayingRerun}
-use Rattle.wl_trace.specs.Rerun.{RunsAgain, RunsOver, samples_of}
+use Rattle.wl_trace.specs.Rerun.{RunsAgain, RunsOver, samples_seen}
 use Rattle.wl_trace.specs.StayingRerun.{IsStayingRerun, RunsStaying, staying_samples}
 use Rattle.wl_trace.proofs.RunOver.{longer}
 use Rattle.wl_trace.specs.Snapshot.{mark, snapshot_of, staying_snapshot}
@@ -133,13 +133,13 @@ some_there (Some k) quantum most here some = (let l = leb-false k quantum here i
 
 -- its samples are those of a node that stays, by the levels before it leaves
 pub samples_there : (setup : NodeSetup) (levels more : List Level) (sampled : List (ℕ × Level)) → levels_there setup.until levels ≡ levels
-    → levels_there setup.until more ≡ more → staying_samples setup more ≡ staying_samples setup levels ++ sampled → samples_of setup more ≡ samples_of setup levels ++ sampled
+    → levels_there setup.until more ≡ more → staying_samples setup more ≡ staying_samples setup levels ++ sampled → samples_seen setup more ≡ samples_seen setup levels ++ sampled
 samples_there setup levels more sampled before after e =
     (same_past setup more).samples ∙ ap (staying_samples setup) after ∙ e
     ∙ ap (λ (xs : List (ℕ × Level)). xs ++ sampled) (sym ((same_past setup levels).samples ∙ ap (staying_samples setup) before))
 
 -- and no more come after that
 pub samples_away : (setup : NodeSetup) (levels more : List Level) → levels_there setup.until more ≡ levels_there setup.until levels
-    → samples_of setup more ≡ samples_of setup levels ++ []
+    → samples_seen setup more ≡ samples_seen setup levels ++ []
 samples_away setup levels more e =
-    (same_past setup more).samples ∙ ap (staying_samples setup) e ∙ sym (same_past setup levels).samples ∙ sym (append-nil (samples_of setup levels))
+    (same_past setup more).samples ∙ ap (staying_samples setup) e ∙ sym (same_past setup levels).samples ∙ sym (append-nil (samples_seen setup levels))

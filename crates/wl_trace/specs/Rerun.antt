@@ -23,8 +23,8 @@ abbrev pub sync_at_next : NodeSetup → List Level → Level → Option Noted
 sync_at_next setup levels level = if is_after setup.until (length levels) then None else sync_next setup (staying_history setup levels) level
 
 -- the samples of a node that saw these levels
-abbrev pub samples_of : NodeSetup → List Level → List (ℕ × Level)
-samples_of setup levels = (history_of setup levels).samples
+abbrev pub samples_seen : NodeSetup → List Level → List (ℕ × Level)
+samples_seen setup levels = (history_of setup levels).samples
 
 -- From one node to another so many quanta of this level have run, of which the first has this number, and how their edges synchronised it was added to a list.
 pub record RunsOver (setup : NodeSetup) (quantum n : ℕ) (level : Level) (old new : Rerun) (before after : List Noted) : Type 0 where

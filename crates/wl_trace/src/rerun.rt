@@ -3,7 +3,7 @@ ghost use Rattle.std.specs.Prelude.{◌≡◌, ℕ, ◌+◌, ◌-◌, ◌<◌, �
 ghost use Rattle.wl_level.specs.declared.Level.{Level};
 ghost use Rattle.wl_node.specs.declared.setup.NodeSetup.{NodeSetup};
 ghost use Rattle.wl_node.specs.History.{is_after, quanta_before};
-ghost use Rattle.wl_trace.specs.Rerun.{IsRerun, RunsAgain, RunsOver, samples_of, sync_at_next};
+ghost use Rattle.wl_trace.specs.Rerun.{IsRerun, RunsAgain, RunsOver, samples_seen, sync_at_next};
 ghost use Rattle.wl_trace.specs.StayingRerun.{sample_if};
 ghost use Rattle.wl_trace.specs.declared.event.Noted.{Noted as GivenNoted};
 ghost use Rattle.wl_trace.specs.Snapshot.{snapshot_of};
@@ -138,8 +138,8 @@ impl Rerun {
         ensures run { (levels : List Level) → length levels ≡ quantum → RunsAgain setup.now levels self.old
             → RunsAgain setup.now (levels ++ replicate result.quanta level) self.new }
         ensures samples { (levels : List Level) → length levels ≡ quantum → RunsAgain setup.now levels self.old
-            → samples_of setup.now (levels ++ replicate result.quanta level)
-            ≡ samples_of setup.now levels ++ sample_if result.sampled (quantum + result.quanta - 1) level }
+            → samples_seen setup.now (levels ++ replicate result.quanta level)
+            ≡ samples_seen setup.now levels ++ sample_if result.sampled (quantum + result.quanta - 1) level }
         ensures some { 0 < result.quanta }
         ensures few { result.quanta ≤ most }
     {

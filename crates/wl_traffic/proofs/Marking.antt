@@ -14,7 +14,7 @@ use Rattle.wl_machine.specs.Judged.{head_of, stretch_of}
 use Rattle.wl_traffic.specs.declared.entries.Entry.{Entry}
 use Rattle.wl_traffic.specs.declared.entries.Fate.{Fate}
 use Rattle.wl_traffic.specs.declared.entries.Fate.TheVariants.{Sent, Lost, Broken}
-use Rattle.wl_traffic.specs.Entries.{entries_after_event, entries_by, entries_tried, entries_with, entry_with, is_delimiter, is_pending, queue_after, queue_before, waiting_entry}
+use Rattle.wl_traffic.specs.Entries.{entries_after_event, entries_by, entries_tried, entries_with, entry_with, is_delimiter, is_pending, queue_with_sample, queue_before, waiting_entry}
 
 -- one of a list in the place of another
 set_there : (xs : List Entry) (k : ℕ) (d new : Entry) → k < length xs → set xs k new ≡ take k xs ++ new ∷ drop (k + 1) xs
@@ -83,10 +83,10 @@ module _ (P : Option ℕ → Type 0) (none : P None) where
       events_hold head quantum p told (entries_after_event head quantum es event) (event_holds head quantum p es event h)
 
   samples_hold : (setup : NodeSetup) (samples : List (ℕ × Level)) (r : SampledPast × List Entry) → All (λ s. P (Some s.0)) samples → All Holds r.1
-      → All Holds (fold (queue_after setup) r samples).1
+      → All Holds (fold (queue_with_sample setup) r samples).1
   samples_hold setup [] r p h = h
   samples_hold setup (s ∷ samples) r p h =
-      samples_hold setup samples (queue_after setup r s) (λ i d b. p (suc i) d (omega arith))
+      samples_hold setup samples (queue_with_sample setup r s) (λ i d b. p (suc i) d (omega arith))
       (events_hold (head_of (stretch_of r.0.inputs).sort) s.0 (p 0 s (omega arith)) (then_events setup r.0 s.0 s.1) r.1 h)
 
   first_hold : (queue : List Queued) → All Holds (map waiting_entry queue)

@@ -37,14 +37,14 @@ abbrev pub no_queued : Queued
 no_queued = record { frame = record { extended = false; id = 0; remote = false; dlc = 0; bytes = [] }; ready = 0 }
 
 -- one more, by a count of 64 bits; no run has so many samples that it stops
-abbrev pub one_more : ℕ → ℕ
-one_more count = min (count + 1) 18446744073709551615
+abbrev pub one_count_more : ℕ → ℕ
+one_count_more count = min (count + 1) 18446744073709551615
 
 -- a frame that was sent at a quantum, or with an attempt that failed
 abbrev pub entry_with : Fate → Entry → Entry
 entry_with (Sent quantum) e = record e { sent = Some quantum }
-entry_with Lost e = record e { lost = one_more e.lost }
-entry_with Broken e = record e { broken = one_more e.broken }
+entry_with Lost e = record e { lost = one_count_more e.lost }
+entry_with Broken e = record e { broken = one_count_more e.broken }
 
 -- it carries this and wasn't sent yet
 abbrev pub is_pending : Content → Entry → Bool
@@ -78,8 +78,8 @@ abbrev pub entries_after : (head : Option Content) → (quantum : ℕ) → List 
 entries_after head quantum entries events = fold (entries_after_event head quantum) entries events
 
 -- what came before a sample, and the frames of the queue then; the machine's stretch has the head with which it began
-abbrev pub queue_after : NodeSetup → SampledPast × List Entry → ℕ × Level → SampledPast × List Entry
-queue_after setup (p, entries) (quantum, level) =
+abbrev pub queue_with_sample : NodeSetup → SampledPast × List Entry → ℕ × Level → SampledPast × List Entry
+queue_with_sample setup (p, entries) (quantum, level) =
     (past_after setup p (quantum, level), entries_after (head_of (stretch_of p.inputs).sort) quantum entries (then_events setup p quantum level))
 
 abbrev pub queue_before : NodeSetup → SampledPast × List Entry
@@ -87,7 +87,7 @@ queue_before setup = (no_past, map waiting_entry setup.queue)
 
 -- what became of the frames of a node's queue with its samples
 unfoldable pub entries_by : NodeSetup → List (ℕ × Level) → List Entry
-entries_by setup samples = (fold (queue_after setup) (queue_before setup) samples).1
+entries_by setup samples = (fold (queue_with_sample setup) (queue_before setup) samples).1
 
 -- those of node i
 abbrev pub entries_of : Plan → ℕ → List Entry

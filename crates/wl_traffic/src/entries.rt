@@ -4,7 +4,7 @@ ghost use Rattle.std.specs.Option.{option_copied};
 ghost use Rattle.wl_serial.specs.Outcome.{outcome_of};
 ghost use Rattle.wl_trace.specs.declared.event.Noted.{Noted as GivenNoted};
 ghost use Rattle.wl_trace.specs.Replay.{IsWatchedNode, SampledPast, past_after};
-ghost use Rattle.wl_traffic.specs.Entries.{entries_after_event, entries_by, entries_of, entries_tried, entries_with, entry_with, is_pending, queue_after, waiting_entry};
+ghost use Rattle.wl_traffic.specs.Entries.{entries_after_event, entries_by, entries_of, entries_tried, entries_with, entry_with, is_pending, queue_with_sample, waiting_entry};
 
 use crate::nodes::node_at;
 use std::alloc::{AllocError, Global};
@@ -152,7 +152,7 @@ fn note_sample(
     ensures past { (p : SampledPast) → IsWatchedNode setup.now kept.old p
         → OnOk result (IsWatchedNode setup.now kept.new (past_after setup.now p sample)) }
     ensures entries { (p : SampledPast) → IsWatchedNode setup.now kept.old p
-        → OnOk result (entries.new.items ≡ (queue_after setup.now (p, entries.old.items) sample).1) }
+        → OnOk result (entries.new.items ≡ (queue_with_sample setup.now (p, entries.old.items) sample).1) }
 {
     let head = kept.head();
     let (quantum, level) = sample;
