@@ -29,11 +29,13 @@ import sys
 import tempfile
 import tomllib
 from bisect import bisect_left, bisect_right
+from fractions import Fraction
 from pathlib import Path
 
 from browser import SHIFT, Browser, is_here
 
 TOP = Path(__file__).resolve().parent.parent
+POWERS = {"fs": -15, "ps": -12, "ns": -9, "us": -6, "ms": -3, "s": 0, "um": -6, "mm": -3, "cm": -2, "m": 0, "km": 3}
 SWEEPS = [
     ("drifting_listener", ["--runs", "40", "--vary", "ps1=2..6:1", "--vary", "tolerance=0..6000:1500"]),
     ("cable_too_long", ["--runs", "10", "--keep-offsets", "--vary", "x=100..900:200", "--vary", "out=0..200:50", "--vary", "in=10..20:10"]),
@@ -264,9 +266,20 @@ def frame_length(bits):
     return control + 7 + (0 if bits[control] else 8 * min(code, 8)) + 15
 
 
+def whole_of(value, of):
+    """A value of a plan as a number, of a text with a unit how often it has another one."""
+    if not isinstance(value, str): return value
+    parts = [re.match(r"([\d.]+) ?([a-z]+)$", said) for said in (value, of)]
+    number, each = (Fraction(found[1]) * Fraction(10) ** POWERS[found[2]] for found in parts)
+    return int(number / each)
+
+
 def plan_faults(check, browser, plan):
     """Places along the cable and the table of disturbances, by the plan."""
     told = tomllib.loads(Path(plan).read_text())
+    for one in (*told["node"], *told.get("disturbance", [])):
+        if "x" in one: one["x"] = whole_of(one["x"], told.get("unit", "1m"))
+        for key in {"from", "to"} & one.keys(): one[key] = whole_of(one[key], told.get("tick", "1ns"))
     spots = browser.value("[...document.querySelectorAll('#cable circle')].map((one) => Number(one.getAttribute('cx')))")
     places = sorted(node["x"] for node in told["node"])
     check.want(len(spots) == len(places), f"{len(spots)} nodes on the cable")
