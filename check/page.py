@@ -40,6 +40,7 @@ SWEEPS = [
     ("drifting_listener", ["--runs", "40", "--vary", "ps1=2..6:1", "--vary", "tolerance=0..6000:1500"]),
     ("cable_too_long", ["--runs", "10", "--keep-offsets", "--vary", "x=100..900:200", "--vary", "out=0..200:50", "--vary", "in=10..20:10"]),
     ("clean_500k", ["--runs", "4", "--vary", "prop=0..7:1"]),
+    ("drifting_listener", ["--runs", "60", "--vary", "tolerance=4000..16000:1000"]),
 ]
 
 
@@ -550,6 +551,16 @@ def first_values(words):
     return kept
 
 
+def marks_of(told):
+    """What each cell of a map shows, by the rows of the sweep: of a row of which some member that was run isn't clean how many in a hundred are."""
+    marks = []
+    for clean, run, more in re.findall(r"^(?:\S+ -?\d+ )+clean in (\d+) of (\d+)(.*)$", told, re.M):
+        refused = sum(int(number) for number in re.findall(r"refused in (\d+)", more))
+        share = 100 * int(clean) // max(1, int(run))
+        marks.append("\u00b7" if int(clean) == int(run) else "\u2013" if int(clean) + refused == int(run) else str(share) if share else "\u00d7")
+    return marks
+
+
 def sweep_faults(program, name, words, browser, folder):
     plan, page = TOP / "examples" / (name + ".toml"), folder / f"{name}_sweep.html"
     told = said(program, "sweep", plan, *first_values(words), status=(0, 1))
@@ -557,6 +568,9 @@ def sweep_faults(program, name, words, browser, folder):
     took, check, rows = browser.open(f"file://{page}"), Checked(browser), rows_of(told)
     check.same("document.documentElement.dataset.ready", "yes", "drawn whole")
     check.same("document.querySelectorAll('#map td').length", len(rows), "cells")
+    cells = browser.value("[...document.querySelectorAll('#map td')].map((cell) => [cell.textContent, getComputedStyle(cell).backgroundColor])")
+    check.want([mark for mark, _ in cells] == marks_of(told), f"cells show {[mark for mark, _ in cells]}, and wanted {marks_of(told)}")
+    check.want(len({mark for mark, _ in cells}) == len({colour for _, colour in cells}) == len(set(map(tuple, cells))), f"shades: {sorted(set(map(tuple, cells)))}")
     options = [word for at, word in enumerate(words) if "--vary" not in words[max(0, at - 1):at + 1]]
     for number in sorted({0, 1, len(rows) // 2, len(rows) - 1}):
         alone = [word for key, value in rows[number] for word in ("--vary", f"{key}={value}..{value}")]
