@@ -29,15 +29,18 @@ import sys
 import tempfile
 import tomllib
 from bisect import bisect_left, bisect_right
+from fractions import Fraction
 from pathlib import Path
 
 from browser import SHIFT, Browser, is_here
 
 TOP = Path(__file__).resolve().parent.parent
+POWERS = {"fs": -15, "ps": -12, "ns": -9, "us": -6, "ms": -3, "s": 0, "um": -6, "mm": -3, "cm": -2, "m": 0, "km": 3}
 SWEEPS = [
     ("drifting_listener", ["--runs", "40", "--vary", "ps1=2..6:1", "--vary", "tolerance=0..6000:1500"]),
     ("cable_too_long", ["--runs", "10", "--keep-offsets", "--vary", "x=100..900:200", "--vary", "out=0..200:50", "--vary", "in=10..20:10"]),
     ("clean_500k", ["--runs", "4", "--vary", "prop=0..7:1"]),
+    ("drifting_listener", ["--runs", "60", "--vary", "tolerance=4000..16000:1000"]),
 ]
 
 
@@ -264,9 +267,20 @@ def frame_length(bits):
     return control + 7 + (0 if bits[control] else 8 * min(code, 8)) + 15
 
 
+def whole_of(value, of):
+    """A value of a plan as a number, of a text with a unit how often it has another one."""
+    if not isinstance(value, str): return value
+    parts = [re.match(r"([\d.]+) ?([a-z]+)$", said) for said in (value, of)]
+    number, each = (Fraction(found[1]) * Fraction(10) ** POWERS[found[2]] for found in parts)
+    return int(number / each)
+
+
 def plan_faults(check, browser, plan):
     """Places along the cable and the table of disturbances, by the plan."""
     told = tomllib.loads(Path(plan).read_text())
+    for one in (*told["node"], *told.get("disturbance", [])):
+        if "x" in one: one["x"] = whole_of(one["x"], told.get("unit", "1m"))
+        for key in {"from", "to"} & one.keys(): one[key] = whole_of(one[key], told.get("tick", "1ns"))
     spots = browser.value("[...document.querySelectorAll('#cable circle')].map((one) => Number(one.getAttribute('cx')))")
     places = sorted(node["x"] for node in told["node"])
     check.want(len(spots) == len(places), f"{len(spots)} nodes on the cable")
@@ -537,6 +551,16 @@ def first_values(words):
     return kept
 
 
+def marks_of(told):
+    """What each cell of a map shows, by the rows of the sweep: of a row of which some member that was run isn't clean how many in a hundred are."""
+    marks = []
+    for clean, run, more in re.findall(r"^(?:\S+ -?\d+ )+clean in (\d+) of (\d+)(.*)$", told, re.M):
+        refused = sum(int(number) for number in re.findall(r"refused in (\d+)", more))
+        share = 100 * int(clean) // max(1, int(run))
+        marks.append("\u00b7" if int(clean) == int(run) else "\u2013" if int(clean) + refused == int(run) else str(share) if share else "\u00d7")
+    return marks
+
+
 def sweep_faults(program, name, words, browser, folder):
     plan, page = TOP / "examples" / (name + ".toml"), folder / f"{name}_sweep.html"
     told = said(program, "sweep", plan, *first_values(words), status=(0, 1))
@@ -544,6 +568,9 @@ def sweep_faults(program, name, words, browser, folder):
     took, check, rows = browser.open(f"file://{page}"), Checked(browser), rows_of(told)
     check.same("document.documentElement.dataset.ready", "yes", "drawn whole")
     check.same("document.querySelectorAll('#map td').length", len(rows), "cells")
+    cells = browser.value("[...document.querySelectorAll('#map td')].map((cell) => [cell.textContent, getComputedStyle(cell).backgroundColor])")
+    check.want([mark for mark, _ in cells] == marks_of(told), f"cells show {[mark for mark, _ in cells]}, and wanted {marks_of(told)}")
+    check.want(len({mark for mark, _ in cells}) == len({colour for _, colour in cells}) == len(set(map(tuple, cells))), f"shades: {sorted(set(map(tuple, cells)))}")
     options = [word for at, word in enumerate(words) if "--vary" not in words[max(0, at - 1):at + 1]]
     for number in sorted({0, 1, len(rows) // 2, len(rows) - 1}):
         alone = [word for key, value in rows[number] for word in ("--vary", f"{key}={value}..{value}")]

@@ -10,8 +10,8 @@ pub(crate) const HEAD: &str = r##"<!doctype html>
 <meta name="viewport" content="width=device-width, initial-scale=1">
 <title>Wireline: a sweep</title>
 <style>
-:root { color-scheme: light dark; --back: #fff; --text: #1c2430; --faint: #c9d0d8; --link: #0b6fa4; --clean: #bfe3c4; --failing: #f3b6b1; --refused: #d5dae0; }
-@media (prefers-color-scheme: dark) { :root { --back: #14181d; --text: #dfe5ec; --faint: #3a434d; --link: #6db9e6; --clean: #24502c; --failing: #7d2a25; --refused: #3d454f; } }
+:root { color-scheme: light dark; --back: #fff; --text: #1c2430; --faint: #c9d0d8; --link: #0b6fa4; --clean: #bfe3c4; --failing: #f3b6b1; --nearly: #fbe9a8; --refused: #d5dae0; }
+@media (prefers-color-scheme: dark) { :root { --back: #14181d; --text: #dfe5ec; --faint: #3a434d; --link: #6db9e6; --clean: #24502c; --failing: #7d2a25; --nearly: #665010; --refused: #3d454f; } }
 body { margin: 0 auto; max-width: 1400px; padding: 0 16px 32px; background: var(--back); color: var(--text); font: 14px/1.45 system-ui, sans-serif; }
 h1 { font-size: 20px; margin: 16px 0 4px; }
 h2 { font-size: 16px; margin: 24px 0 6px; }
@@ -21,17 +21,17 @@ th { font-weight: normal; text-align: right; padding: 1px 6px; }
 td { min-width: 22px; height: 22px; text-align: center; border: 1px solid var(--back); cursor: pointer; print-color-adjust: exact; }
 td:focus-visible { outline: 2px solid var(--link); outline-offset: -1px; }
 td[aria-selected="true"] { outline: 2px solid var(--text); outline-offset: -1px; }
-.clean { background: var(--clean); } .failing { background: var(--failing); } .refused { background: var(--refused); }
+.clean { background: var(--clean); } .failing { background: color-mix(in srgb, var(--nearly) var(--share, 0%), var(--failing)); } .refused { background: var(--refused); }
 .key { display: inline-block; min-width: 22px; text-align: center; }
 pre { margin: 0; padding: 8px; border: 1px solid var(--faint); white-space: pre-wrap; overflow-wrap: anywhere; font: 12px/1.4 ui-monospace, monospace; }
-@media print { :root { --back: #fff; --text: #000; --clean: #bfe3c4; --failing: #f3b6b1; --refused: #d5dae0; } .scroll { overflow: visible; } }
+@media print { :root { --back: #fff; --text: #000; --clean: #bfe3c4; --failing: #f3b6b1; --nearly: #fbe9a8; --refused: #d5dae0; } .scroll { overflow: visible; } }
 </style>
 </head>
 <body>
 <h1>A sweep of a CAN bus, by Wireline</h1>
 <p id="counted"></p>
 <p id="held"></p>
-<p><span class="key clean">&middot;</span> each member is clean <span class="key failing">&times;</span> a member isn't clean <span class="key refused">&ndash;</span> a member is refused</p>
+<p><span class="key clean">&middot;</span> each member is clean <span class="key failing" style="--share: 90%">90</span> so many in a hundred are, rounded down <span class="key failing">&times;</span> none is, or less than one in a hundred <span class="key refused">&ndash;</span> a member is refused, and each other one is clean</p>
 <div class="scroll"><table id="map" role="grid" aria-describedby="help"></table></div>
 <p id="help">A click, or the arrow keys, Home and End, choose a cell: below is what a sweep of it alone says, and the first error of its first member that isn't clean.</p>
 <h2 id="chosen">Cell</h2>
@@ -94,13 +94,19 @@ function memberOf(number) {
 // ---- The table
 
 const MARKS = { clean: "\u00b7", failing: "\u00d7", refused: "\u2013" };
+// How many members of a cell in a hundred are clean, rounded down: between none, which is red, and nearly all, which is yellow.
+function shareOf(said) {
+  const [, clean, all] = said.match(/clean in (\d+) of (\d+)/) ?? [0, 0, 1];
+  return Math.floor((100 * clean) / Math.max(1, all));
+}
 const map = document.getElementById("map");
 const made = cells.map(({ found, said }, number) => {
   const values = valuesOf(number).map(([name, value]) => `${name} ${value}`).join(", ");
   const counted = said.match(/clean in \d+ of \d+.*/)?.[0] ?? "";
   const label = [values, found, counted].filter(Boolean).join(": ");
   const named = { "data-cell": number, "data-found": found, "aria-label": label, "aria-selected": "false", title: label };
-  return create("td", { role: "gridcell", class: found, tabindex: number === 0 ? "0" : "-1", ...named }, MARKS[found]);
+  const share = found === "failing" ? shareOf(said) : 0, mark = share > 0 ? String(share) : MARKS[found];
+  return create("td", { role: "gridcell", class: found, style: `--share: ${share}%`, tabindex: number === 0 ? "0" : "-1", ...named }, mark);
 });
 
 function drawTable() {

@@ -181,6 +181,27 @@ function readPlan(source) {
   }
 }
 
+// Quantities of texts with a unit, in seconds and in metres.
+const UNITS = { fs: 1e-15, ps: 1e-12, ns: 1e-9, us: 1e-6, ms: 1e-3, s: 1, um: 1e-6, mm: 1e-3, cm: 1e-2, m: 1, km: 1e3 };
+function quantityOf(said) {
+  const [, number, unit] = said.match(/^([\d.]+) ?([a-z]+)$/) ?? [];
+  return Number(number) * UNITS[unit];
+}
+
+// The plan with whole numbers of ticks and of units of length, where it has texts; a node has the delay of its controller if it has none of its own.
+function inUnits(plan) {
+  const tick = quantityOf(plan.tick ?? "1ns"), unit = quantityOf(plan.unit ?? "1m");
+  const whole = (value, of) => (typeof value === "string" ? Math.round(quantityOf(value) / of) : value);
+  const along = (value) => {
+    if (typeof value !== "string") return value;
+    const [time, length] = value.split("/");
+    return ((quantityOf(time) / UNITS[length]) * unit) / tick;
+  };
+  const node = plan.node.map((one) => ({ ...one, x: whole(one.x, unit), in: whole(one.in ?? plan.controller?.[one.controller]?.in, tick) }));
+  const disturbance = plan.disturbance.map((one) => ({ ...one, x: whole(one.x, unit), from: whole(one.from, tick), to: whole(one.to, tick) }));
+  return { ...plan, node, disturbance, end: whole(plan.end, tick), per: along(plan.per) };
+}
+
 // The disturbances, numbered from 1: {number, from, to, where, at}; `at` has the time at which each begins at each node, if it reaches the node.
 function readDisturbances({ node: nodes, disturbance, per }) {
   return disturbance.map(({ x, node, from, to }, index) => {
@@ -321,7 +342,7 @@ class NodeOfRun {
 }
 
 function readRun() {
-  const plan = readPlan(text("plan")), events = readTrace(text("trace")), raw = readWave(text("wave"));
+  const plan = inUnits(readPlan(text("plan"))), events = readTrace(text("trace")), raw = readWave(text("wave"));
   const wave = inTicks(raw, unitsOfTick(raw, events, plan));
   const nodes = wave.nodes.map((_, number) => new NodeOfRun(wave, number));
   for (const event of events) {

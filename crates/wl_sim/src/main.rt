@@ -56,7 +56,8 @@ mod texts;
 mod values;
 
 use crate::answer::{
-    of_format, of_init, of_join, of_map, of_print, of_respond, of_settings, of_tally, of_traffic, plainly,
+    of_format, of_init, of_join, of_map, of_print, of_respond, of_settings, of_tally, of_traffic,
+    plainly,
 };
 use crate::formats::{subject_of, write_kept};
 pub use answer::{Done, Fault};

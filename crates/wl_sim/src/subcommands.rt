@@ -523,8 +523,8 @@ fn command<'a>(alloc: Global) -> Result<Command<'a>, AllocError>
         alloc,
         bare(alloc),
         &[
-            "init", "run", "margin", "explain", "respond", "traffic", "check", "settings", "sweep", "trace",
-            "page", "vcd", "candump", "records", "format", "merge", "horizon",
+            "init", "run", "margin", "explain", "respond", "traffic", "check", "settings", "sweep",
+            "trace", "page", "vcd", "candump", "records", "format", "merge", "horizon",
         ],
     )
 }
