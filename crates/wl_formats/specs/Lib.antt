@@ -12,4 +12,6 @@ pub mod TraceLines
 pub mod TrafficLines
 pub mod SweepLines
 pub mod Layouts
+pub mod Ranks
+pub mod Aligned
 pub mod Formats
