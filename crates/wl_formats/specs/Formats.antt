@@ -1,13 +1,17 @@
 -- The output of a command in another format, as a definition of its text (this project's profile).
 use Rattle.std.specs.Prelude.{ℕ, ◌==◌, Bool, true, false, List, [], ◌∷◌, ◌++◌, codes, Option, Some, None, is_some, if◌then◌else◌}
 use Rattle.std.specs.List.{list_all}
+use Rattle.wl_formats.specs.declared.aligned.Paint.TheVariants.{Plain, Coloured}
 use Rattle.wl_formats.specs.declared.formats.Format.{Format}
-use Rattle.wl_formats.specs.declared.formats.Format.TheVariants.{Json, Csv}
+use Rattle.wl_formats.specs.declared.formats.Format.TheVariants as format
+use Rattle.wl_formats.specs.declared.formats.RecordForm.{RecordForm}
+use Rattle.wl_formats.specs.declared.formats.RecordForm.TheVariants.{Json, Csv}
 use Rattle.wl_formats.specs.declared.tables.Subject.{Subject}
 use Rattle.wl_formats.specs.Shapes.{Text, Form, Layout}
 use Rattle.wl_formats.specs.Matching.{form_for}
 use Rattle.wl_formats.specs.Json.{json_record, quoted}
 use Rattle.wl_formats.specs.Csv.{csv_header, csv_row}
+use Rattle.wl_formats.specs.Aligned.{aligned}
 use Rattle.wl_formats.specs.Layouts.{layout}
 
 abbrev pub is_newline : ℕ → Bool
@@ -27,19 +31,19 @@ abbrev pub separator : Bool → Text
 separator is_first = if is_first then codes "\n" else codes ",\n"
 
 -- the record of a line of this form
-abbrev pub form_bytes : Format → Layout → Bool → Form → Text → Text
+abbrev pub form_bytes : RecordForm → Layout → Bool → Form → Text → Text
 form_bytes Json layout is_first form line = separator is_first ++ json_record form line
 form_bytes Csv layout is_first form line = csv_row layout.columns form line
 
-abbrev pub formed : Format → Layout → Bool → Option Form → Text → Text
+abbrev pub formed : RecordForm → Layout → Bool → Option Form → Text → Text
 formed format layout is_first None line = []
 formed format layout is_first (Some form) line = form_bytes format layout is_first form line
 
 -- a line has the first form that it fits
-abbrev pub line_bytes : Format → Layout → Bool → Text → Text
+abbrev pub line_bytes : RecordForm → Layout → Bool → Text → Text
 line_bytes format layout is_first line = formed format layout is_first (form_for layout.forms line) line
 
-abbrev pub lines_bytes : Format → Layout → Bool → List Text → Text
+abbrev pub lines_bytes : RecordForm → Layout → Bool → List Text → Text
 lines_bytes format layout is_first [] = []
 lines_bytes format layout is_first (line ∷ lines) = line_bytes format layout is_first line ++ lines_bytes format layout false lines
 
@@ -50,20 +54,24 @@ all_fit layout lines = list_all (λ line. is_some (form_for layout.forms line)) 
 abbrev pub opening : Text → Text
 opening command = codes "{\"command\":" ++ quoted command ++ codes ",\"records\":["
 
-abbrev pub head_bytes : Format → Layout → Text
+abbrev pub head_bytes : RecordForm → Layout → Text
 head_bytes Json layout = opening layout.command
 head_bytes Csv layout = csv_header layout.columns
 
-abbrev pub foot_bytes : Format → Text
+abbrev pub foot_bytes : RecordForm → Text
 foot_bytes Json = codes "\n]}\n"
 foot_bytes Csv = []
 
--- the whole output, if each line fits a form
-abbrev pub formatted_by : Format → Layout → Text → Option Text
-formatted_by format layout text =
-    if all_fit layout (lines_of text)
-    then Some (head_bytes format layout ++ lines_bytes format layout true (lines_of text) ++ foot_bytes format)
-    else None
+-- the whole output as records, and as tables
+abbrev pub records : RecordForm → Layout → Text → Text
+records format layout text = head_bytes format layout ++ lines_bytes format layout true (lines_of text) ++ foot_bytes format
 
+abbrev pub formatted_text : Format → Subject → Text → Text
+formatted_text format.Json subject text = records Json (layout subject) text
+formatted_text format.Csv subject text = records Csv (layout subject) text
+formatted_text format.Table subject text = aligned Plain subject (layout subject).forms (lines_of text)
+formatted_text format.Coloured subject text = aligned Coloured subject (layout subject).forms (lines_of text)
+
+-- the whole output, if each line fits a form
 abbrev pub formatted : Format → Subject → Text → Option Text
-formatted format subject text = formatted_by format (layout subject) text
+formatted format subject text = if all_fit (layout subject) (lines_of text) then Some (formatted_text format subject text) else None

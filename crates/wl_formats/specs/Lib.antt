@@ -13,4 +13,6 @@ pub mod TrafficLines
 pub mod SweepLines
 pub mod RespondLines
 pub mod Layouts
+pub mod Ranks
+pub mod Aligned
 pub mod Formats

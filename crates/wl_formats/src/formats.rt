@@ -1,11 +1,13 @@
 //! The output of a command in another format.
-ghost use Rattle.std.specs.Prelude.{◌≡◌, ◌≢◌, ◌++◌, ◌∷◌, ◌<◌, ◌≤◌, true, false, IfOk, IfErr, IfSome, OnOk, Some, None, is_some, length, map, position};
+ghost use Rattle.std.specs.Prelude.{◌≡◌, ◌≢◌, ◌++◌, ◌∷◌, [], ◌<◌, ◌≤◌, true, false, IfOk, IfErr, IfSome, OnOk, Some, None, is_some, length, map, position};
 ghost use Rattle.std.specs.List.{position_or_len};
 ghost use Rattle.wl_formats.specs.Shapes.{form_of, layout_of};
 ghost use Rattle.wl_formats.specs.Matching.{form_for};
-ghost use Rattle.wl_formats.specs.Formats.{is_newline, lines_of, separator, form_bytes, line_bytes, lines_bytes, all_fit, opening, head_bytes, foot_bytes, formatted};
+ghost use Rattle.wl_formats.specs.Formats.{is_newline, lines_of, separator, form_bytes, line_bytes, lines_bytes, all_fit, opening, head_bytes, foot_bytes, records, formatted};
+ghost use Rattle.wl_formats.specs.Aligned.{aligned};
 ghost use Rattle.wl_formats.specs.declared.fault.FormatFault.TheVariants as FormatFault;
 
+use crate::aligned::{Paint, aligned};
 use crate::csv::{push_header, push_row};
 use crate::fault::FormatFault;
 use crate::json::{push_quoted, push_record};
@@ -20,6 +22,17 @@ pub enum Format {
     /// One object, with a list of all records.
     Json,
     /// One table with a header.
+    Csv,
+    /// Tables with aligned columns, for people.
+    Table,
+    /// The same in the colours of a terminal.
+    Coloured,
+}
+
+/// How records are written.
+#[derive(Clone, Copy)]
+enum RecordForm {
+    Json,
     Csv,
 }
 
@@ -68,7 +81,7 @@ fn separator(is_first: bool) -> &'static str
 /// Adds the record of a line of this shape.
 fn push_shape(
     text: &mut Vec<u8>,
-    format: Format,
+    format: RecordForm,
     table: &Table,
     is_first: bool,
     shape: &Shape,
@@ -78,18 +91,18 @@ fn push_shape(
         ++ form_bytes format (layout_of table.now) is_first (form_of shape.now) line.now) }
 {
     match format {
-        Format::Json => {
+        RecordForm::Json => {
             text.extend_from_slice(separator(is_first).as_bytes())?;
             push_record(text, shape, line)
         }
-        Format::Csv => push_row(text, table.columns, shape, line),
+        RecordForm::Csv => push_row(text, table.columns, shape, line),
     }
 }
 
 /// Adds the record of a line.
 fn push_line(
     text: &mut Vec<u8>,
-    format: Format,
+    format: RecordForm,
     table: &Table,
     is_first: bool,
     line: &[u8],
@@ -112,7 +125,7 @@ fn push_line(
 /// Adds the records of all lines.
 fn push_lines(
     text: &mut Vec<u8>,
-    format: Format,
+    format: RecordForm,
     table: &Table,
     lines: &[u8],
 ) -> Result<(), FormatFault>
@@ -143,23 +156,91 @@ fn push_opening(text: &mut Vec<u8>, command: &str) -> Result<(), AllocError>
 }
 
 /// Adds what comes before all records.
-fn push_head(text: &mut Vec<u8>, format: Format, table: &Table) -> Result<(), AllocError>
+fn push_head(text: &mut Vec<u8>, format: RecordForm, table: &Table) -> Result<(), AllocError>
     ensures { OnOk result (text.new.items ≡ text.old.items ++ head_bytes format (layout_of table.now)) }
 {
     match format {
-        Format::Json => push_opening(text, table.command),
-        Format::Csv => push_header(text, table.columns),
+        RecordForm::Json => push_opening(text, table.command),
+        RecordForm::Csv => push_header(text, table.columns),
     }
 }
 
 /// Adds what comes after all records.
-fn push_foot(text: &mut Vec<u8>, format: Format) -> Result<(), AllocError>
+fn push_foot(text: &mut Vec<u8>, format: RecordForm) -> Result<(), AllocError>
     ensures { OnOk result (text.new.items ≡ text.old.items ++ foot_bytes format) }
 {
     match format {
-        Format::Json => text.extend_from_slice("\n]}\n".as_bytes()),
-        Format::Csv => Ok(()),
+        RecordForm::Json => text.extend_from_slice("\n]}\n".as_bytes()),
+        RecordForm::Csv => Ok(()),
     }
+}
+
+/// Returns all records of a command's output.
+fn records(
+    alloc: Global,
+    format: RecordForm,
+    table: &Table,
+    text: &[u8],
+) -> Result<Vec<u8>, FormatFault>
+    ensures fits { OnOk result (all_fit (layout_of table.now) (lines_of text.now) ≡ true) }
+    ensures bytes { IfOk result (λ bytes. bytes.items ≡ records format (layout_of table.now) text.now) }
+    ensures fault { IfErr result (λ fault. fault ≢ FormatFault.Memory
+        → all_fit (layout_of table.now) (lines_of text.now) ≡ false) }
+{
+    let mut made = Vec::new(alloc);
+    push_head(&mut made, format, table)?;
+    push_lines(&mut made, format, table, text)?;
+    push_foot(&mut made, format)?;
+    Ok(made)
+}
+
+/// Adds a line.
+fn add_line<'a>(lines: &mut Vec<&'a [u8]>, line: &'a [u8]) -> Result<(), AllocError>
+    ensures { OnOk result (map (λ l. l.now) lines.new.items ≡ map (λ l. l.now) lines.old.items ++ line.now ∷ []) }
+{
+    lines.push(line)?;
+    Ok(())
+}
+
+/// Returns the lines of a text, each of which fits a shape of the table.
+fn fitting_lines<'a>(
+    alloc: Global,
+    table: &Table,
+    text: &'a [u8],
+) -> Result<Vec<&'a [u8]>, FormatFault>
+    ensures fits { OnOk result (all_fit (layout_of table.now) (lines_of text.now) ≡ true) }
+    ensures lines { IfOk result (λ lines. map (λ line. line.now) lines.items ≡ lines_of text.now) }
+    ensures fault { IfErr result (λ fault. fault ≢ FormatFault.Memory
+        → all_fit (layout_of table.now) (lines_of text.now) ≡ false) }
+{
+    let mut lines = Vec::new(alloc);
+    let mut rest = text;
+    'lines: while !rest.is_empty() {
+        let (line, later) = next_line(rest);
+        if shape_of(table, line).is_none() {
+            return Err(FormatFault::Shape);
+        }
+        add_line(&mut lines, line)?;
+        rest = later;
+    }
+    Ok(lines)
+}
+
+/// Returns a command's output as tables with aligned columns.
+fn tables(
+    alloc: Global,
+    paint: Paint,
+    subject: Subject,
+    table: &Table,
+    text: &[u8],
+) -> Result<Vec<u8>, FormatFault>
+    ensures fits { OnOk result (all_fit (layout_of table.now) (lines_of text.now) ≡ true) }
+    ensures bytes { IfOk result (λ bytes. bytes.items ≡ aligned paint subject (layout_of table.now).forms (lines_of text.now)) }
+    ensures fault { IfErr result (λ fault. fault ≢ FormatFault.Memory
+        → all_fit (layout_of table.now) (lines_of text.now) ≡ false) }
+{
+    let lines = fitting_lines(alloc, table, text)?;
+    Ok(aligned(alloc, paint, subject, table, &lines)?)
 }
 
 /// Returns the output of a command, given as its text, in another format.
@@ -175,9 +256,10 @@ pub fn formatted(
     ensures fault { IfErr result (λ fault. fault ≢ FormatFault.Memory → formatted format subject text.now ≡ None) }
 {
     let table = table_of(subject);
-    let mut made = Vec::new(alloc);
-    push_head(&mut made, format, &table)?;
-    push_lines(&mut made, format, &table, text)?;
-    push_foot(&mut made, format)?;
-    Ok(made)
+    match format {
+        Format::Json => records(alloc, RecordForm::Json, &table, text),
+        Format::Csv => records(alloc, RecordForm::Csv, &table, text),
+        Format::Table => tables(alloc, Paint::Plain, subject, &table, text),
+        Format::Coloured => tables(alloc, Paint::Coloured, subject, &table, text),
+    }
 }

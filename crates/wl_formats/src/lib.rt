@@ -3,12 +3,14 @@
 //! The lines of each command have shapes: fixed words with named fields between them. A line becomes a record of its fields.
 #![tactic(auto)]
 
+mod aligned;
 mod csv;
 mod fault;
 mod formats;
 mod json;
 mod matching;
 mod number;
+mod rank;
 mod shape;
 mod tables;
 

@@ -1,0 +1,97 @@
+-- Which rows of a table are the worst: those with the least, or the greatest, number in some fields (this project's profile).
+use Rattle.std.specs.Prelude.{ℕ, ◌+◌, ◌-◌, ◌*◌, ◌==◌, not, min, nat_eq, Bool, false, List, [], ◌∷◌, codes, drop, take, fold, Option, Some, None, if◌then◌else◌}
+use Rattle.std.specs.List.{list_all, starts_with}
+use Rattle.std.specs.Char.{is_ascii_digit}
+use Rattle.std.specs.Str.{bytes_eq}
+use Rattle.wl_formats.specs.declared.rank.Worst.{Worst}
+use Rattle.wl_formats.specs.declared.rank.Worst.TheVariants.{Least, Greatest, NoRow}
+use Rattle.wl_formats.specs.declared.tables.Subject.{Subject}
+use Rattle.wl_formats.specs.declared.tables.Subject.TheVariants as subject
+use Rattle.wl_formats.specs.Shapes.{Text, Part, literal, field, passed, given}
+use Rattle.wl_formats.specs.Numbers.{is_number}
+use Rattle.wl_formats.specs.Matching.{width}
+
+-- the digits of a number, without its point, as a whole number of at most 15 digits
+abbrev pub digits_after : ℕ → ℕ → ℕ
+digits_after n byte = if is_ascii_digit byte then min (n * 10 + (byte - 48)) 1000000000000000 else n
+
+abbrev pub magnitude : Text → ℕ
+magnitude value = fold digits_after 0 value
+
+-- The place of a number among others with as many digits after the point; a minus (45) comes first. What is no number has none.
+abbrev pub rank : Text → Option ℕ
+rank value =
+    if not (is_number value) then None
+    else if starts_with nat_eq value (45 ∷ []) then Some (1000000000000000 - magnitude value)
+    else Some (1000000000000000 + magnitude value)
+
+-- the lesser of two, if there are two
+abbrev pub lesser : Option ℕ → Option ℕ → Option ℕ
+lesser None other = other
+lesser (Some a) None = Some a
+lesser (Some a) (Some b) = Some (min a b)
+
+-- the other way round: of two places the lesser is the greater
+abbrev pub turned : Option ℕ → Option ℕ
+turned None = None
+turned (Some n) = Some (2000000000000000 - n)
+
+-- how bad a number is: the less, the worse
+abbrev pub badness : Worst → Text → Option ℕ
+badness NoRow value = None
+badness Least value = rank value
+badness Greatest value = turned (rank value)
+
+-- which of a command's rows are the worst, and by which fields: the margin that is the least, the longest wait, the fewest clean members
+abbrev pub worst_of : Subject → Worst
+worst_of subject.Check = Least
+worst_of subject.Margin = Least
+worst_of subject.Sweep = Least
+worst_of subject.Traffic = Greatest
+worst_of _ = NoRow
+
+abbrev pub judged_fields : Subject → List Text
+judged_fields subject.Check = codes "tolerance_ppm" ∷ []
+judged_fields subject.Margin = codes "late_quanta" ∷ codes "early_quanta" ∷ codes "drift_quanta" ∷ []
+judged_fields subject.Sweep = codes "clean" ∷ []
+judged_fields subject.Traffic = codes "greatest_us" ∷ []
+judged_fields _ = []
+
+abbrev pub is_field : Text → Part → Bool
+is_field name (field n class) = bytes_eq n name
+is_field name _ = false
+
+-- the value of the field of this name, or nothing if the line has none
+abbrev pub value_of : Text → List Part → Text → Text
+value_of name [] line = []
+value_of name (p ∷ parts) line = if is_field name p then take (width p line) line else value_of name parts (drop (width p line) line)
+
+-- how bad a row is: by the worst of its fields, and of what was found before
+abbrev pub row_badness_from : Option ℕ → Worst → List Text → List Part → Text → Option ℕ
+row_badness_from found worst [] parts line = found
+row_badness_from found worst (name ∷ names) parts line =
+    row_badness_from (lesser found (badness worst (value_of name parts line))) worst names parts line
+
+abbrev pub row_badness : Worst → List Text → List Part → Text → Option ℕ
+row_badness worst names parts line = row_badness_from None worst names parts line
+
+abbrev pub worst_from : Option ℕ → Worst → List Text → List Part → List Text → Option ℕ
+worst_from found worst names parts [] = found
+worst_from found worst names parts (line ∷ lines) =
+    worst_from (lesser found (row_badness worst names parts line)) worst names parts lines
+
+abbrev pub worst_among : Worst → List Text → List Part → List Text → Option ℕ
+worst_among worst names parts lines = worst_from None worst names parts lines
+
+abbrev pub same_badness : Option ℕ → Option ℕ → Bool
+same_badness (Some a) (Some b) = a == b
+same_badness _ _ = false
+
+-- all rows are as bad as that
+abbrev pub are_alike : Worst → List Text → List Part → Option ℕ → List Text → Bool
+are_alike worst names parts bad lines = list_all (λ line. same_badness (row_badness worst names parts line) bad) lines
+
+-- how bad the rows are that are marked: those that are as bad as the worst, unless all are
+abbrev pub marked_badness : Worst → List Text → List Part → List Text → Option ℕ
+marked_badness worst names parts lines =
+    if are_alike worst names parts (worst_among worst names parts lines) lines then None else worst_among worst names parts lines
