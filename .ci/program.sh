@@ -469,14 +469,14 @@ vcd --tick 1ms
 WORDS
 
 # What an option wants, where clap lets in a value that names nothing.
-printf 'error: --link wants hub or mail, and --format text, json or csv\n' > "$room/fault"
+printf 'error: --link wants hub or mail, and --format text, json, csv, table or coloured\n' > "$room/fault"
 runs "a link that is none" examples/clean_500k.toml 2 "$room/none" "$room/fault" run --link post
 runs "a format that is none, run" examples/clean_500k.toml 2 "$room/none" "$room/fault" run --format xml
-printf 'error: --format wants text, json or csv\n' > "$room/fault"
+printf 'error: --format wants text, json, csv, table or coloured\n' > "$room/fault"
 for word in check explain sweep; do
   runs "a format that is none, $word" examples/clean_500k.toml 2 "$room/none" "$room/fault" "$word" --format xml
 done
-printf 'error: --only wants lost, error, flag, frame, mode or sync, and --format text, json or csv\n' > "$room/fault"
+printf 'error: --only wants lost, error, flag, frame, mode or sync, and --format text, json, csv, table or coloured\n' > "$room/fault"
 runs "a format that is none, trace" examples/clean_500k.toml 2 "$room/none" "$room/fault" trace --format xml
 runs "events that are none, trace" examples/clean_500k.toml 2 "$room/none" "$room/fault" trace --only spikes
 tick='error: --tick wants 1 to 999 and ps, ns or us, as 125ps'
@@ -485,7 +485,7 @@ for word in candump vcd page settings; do
   runs "a tick that is none, $word" examples/clean_500k.toml 2 "$room/none" "$room/fault" "$word" --tick 1ms
 done
 for word in margin respond traffic; do
-  printf '%s, and --format text, json or csv\n' "$tick" > "$room/fault"
+  printf '%s, and --format text, json, csv, table or coloured\n' "$tick" > "$room/fault"
   runs "a tick that is none, $word" examples/clean_500k.toml 2 "$room/none" "$room/fault" "$word" --tick 1ms
   runs "a format that is none, $word" examples/clean_500k.toml 2 "$room/none" "$room/fault" "$word" --format xml
 done

@@ -5,7 +5,7 @@ _wireline() {
     --workers) mapfile -t COMPREPLY < <(compgen -W '1 2 3 4 5 6 7 8' -- "$word") && return ;;
     --link) mapfile -t COMPREPLY < <(compgen -W 'hub mail' -- "$word") && return ;;
     --only) mapfile -t COMPREPLY < <(compgen -W 'lost error flag frame mode sync' -- "$word") && return ;;
-    --format) mapfile -t COMPREPLY < <(compgen -W 'text json csv' -- "$word") && return ;;
+    --format) mapfile -t COMPREPLY < <(compgen -W 'text json csv table coloured' -- "$word") && return ;;
     --bitrate) mapfile -t COMPREPLY < <(compgen -W '10k 20k 50k 125k 250k 500k 800k 1M' -- "$word") && return ;;
     --kind) mapfile -t COMPREPLY < <(compgen -W 'sja1000 c_can bxcan mcp2515 at91 xilinx flexcan m_can fdcan tcan4550 mcp2518fd book' -- "$word") && return ;;
     completions) mapfile -t COMPREPLY < <(compgen -W 'bash zsh fish' -- "$word") && return ;;

@@ -2,7 +2,7 @@
 # Completions of ./wireline for zsh: source <(./wireline completions zsh)
 _wireline() {
   local -a options=('--hint[what to change after a fault]' '--progress[how long the run has taken]' '-o[the file to write]:file:_files' '--help' '*:file:_files')
-  local format='--format[the form of the output]:form:(text json csv)'
+  local format='--format[the form of the output]:form:(text json csv table coloured)'
   if (( CURRENT == 2 )); then
     compadd init run margin explain respond traffic check settings sweep trace page vcd candump records format merge horizon build test completions help
     return

@@ -48,6 +48,7 @@ worst_of subject.Check = Least
 worst_of subject.Margin = Least
 worst_of subject.Sweep = Least
 worst_of subject.Traffic = Greatest
+worst_of subject.Respond = Greatest
 worst_of _ = NoRow
 
 abbrev pub judged_fields : Subject → List Text
@@ -55,6 +56,7 @@ judged_fields subject.Check = codes "tolerance_ppm" ∷ []
 judged_fields subject.Margin = codes "late_quanta" ∷ codes "early_quanta" ∷ codes "drift_quanta" ∷ []
 judged_fields subject.Sweep = codes "clean" ∷ []
 judged_fields subject.Traffic = codes "greatest_us" ∷ []
+judged_fields subject.Respond = codes "bound_us" ∷ []
 judged_fields _ = []
 
 abbrev pub is_field : Text → Part → Bool

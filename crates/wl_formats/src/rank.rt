@@ -90,7 +90,7 @@ pub(crate) fn worst_of(subject: Subject) -> Worst
 {
     match subject {
         Subject::Check | Subject::Margin | Subject::Sweep => Worst::Least,
-        Subject::Traffic => Worst::Greatest,
+        Subject::Traffic | Subject::Respond => Worst::Greatest,
         Subject::Run | Subject::Explain | Subject::Trace => Worst::NoRow,
     }
 }
@@ -104,6 +104,7 @@ pub(crate) fn judged_fields(subject: Subject) -> &'static [&'static str]
         Subject::Margin => &["late_quanta", "early_quanta", "drift_quanta"],
         Subject::Sweep => &["clean"],
         Subject::Traffic => &["greatest_us"],
+        Subject::Respond => &["bound_us"],
         Subject::Run | Subject::Explain | Subject::Trace => &[],
     }
 }

@@ -14,7 +14,7 @@ use Rattle.clap.specs.declared.builder.action.ArgAction.TheVariants.{Append, Set
 use Rattle.clap.specs.declared.builder.value_parser.ValueParser.TheVariants.{Signed, Unsigned}
 use Rattle.clap.specs.Simple.{on_top}
 use Rattle.wl_formats.specs.declared.formats.Format.{Format}
-use Rattle.wl_formats.specs.declared.formats.Format.TheVariants.{Json, Csv}
+use Rattle.wl_formats.specs.declared.formats.Format.TheVariants.{Json, Csv, Table, Coloured}
 use Rattle.wl_settings.specs.declared.said.Shown.{Shown}
 use Rattle.wl_settings.specs.declared.said.Shown.TheVariants.{Best, Plan}
 use Rattle.wl_sweep.specs.declared.part.Share.{Share}
@@ -305,7 +305,8 @@ link_among rows = option_and_then read_link (first_of (codes "link") rows)
 abbrev pub read_format : Text → Option (Option Format)
 read_format text =
     if bytes_eq text (codes "text") then Some None
-    else (if bytes_eq text (codes "json") then Some (Some Json) else (if bytes_eq text (codes "csv") then Some (Some Csv) else None))
+    else (if bytes_eq text (codes "json") then Some (Some Json) else (if bytes_eq text (codes "csv") then Some (Some Csv) else
+    (if bytes_eq text (codes "table") then Some (Some Table) else (if bytes_eq text (codes "coloured") then Some (Some Coloured) else None))))
 
 -- the format that a subcommand's option gives; a subcommand that has no such option writes text
 abbrev pub format_among : List Row → Option (Option Format)

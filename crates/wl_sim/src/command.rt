@@ -259,12 +259,12 @@ fn refusal_of(kind: ErrorKind) -> Refusal
 fn wanted(words: &[String]) -> &'static str {
     match words.get(1) {
         Some(word) => match word.as_str() {
-            "run" => "--link wants hub or mail, and --format text, json or csv",
-            "check" | "explain" | "sweep" => "--format wants text, json or csv",
+            "run" => "--link wants hub or mail, and --format text, json, csv, table or coloured",
+            "check" | "explain" | "sweep" => "--format wants text, json, csv, table or coloured",
             "trace" =>
-                "--only wants lost, error, flag, frame, mode or sync, and --format text, json or csv",
+                "--only wants lost, error, flag, frame, mode or sync, and --format text, json, csv, table or coloured",
             "margin" | "respond" | "traffic" => {
-                "--tick wants 1 to 999 and ps, ns or us, as 125ps, and --format text, json or csv"
+                "--tick wants 1 to 999 and ps, ns or us, as 125ps, and --format text, json, csv, table or coloured"
             }
             _ => "--tick wants 1 to 999 and ps, ns or us, as 125ps",
         },

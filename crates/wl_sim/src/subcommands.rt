@@ -176,7 +176,7 @@ fn format_option<'a>(alloc: Global) -> Arg<'a>
     Arg::new(alloc, "format")
         .long("format")
         .value_name("FORMAT")
-        .help("The format of the output: text, json or csv")
+        .help("The format of the output: text, json, csv, table or coloured")
         .default_value("text")
 }
 

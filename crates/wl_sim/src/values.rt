@@ -100,6 +100,8 @@ fn format_named(text: &str) -> Option<Option<Format>>
         "text" => Some(None),
         "json" => Some(Some(Format::Json)),
         "csv" => Some(Some(Format::Csv)),
+        "table" => Some(Some(Format::Table)),
+        "coloured" => Some(Some(Format::Coloured)),
         _ => None,
     }
 }
