@@ -19,8 +19,8 @@ pub record Head : Type 0 where
   pub class : Class
   pub width : ℕ
 
-abbrev pub head_of : Column → Head
-head_of c = record { name = c.name.now; class = c.class; width = c.width }
+abbrev pub shown_head : Column → Head
+shown_head c = record { name = c.name.now; class = c.class; width = c.width }
 
 -- as wide as the name and each value
 abbrev pub widest : Text → List Part → ℕ → List Text → ℕ
@@ -75,13 +75,13 @@ neither Plain = []
 neither Coloured = 27 ∷ codes "[0m"
 
 -- the first line of a table
-abbrev pub head_line : Paint → List Head → Text
-head_line paint columns = bold paint ++ (codes " " ++ flat_map head_cell columns) ++ neither paint ++ 10 ∷ []
+abbrev pub title_line : Paint → List Head → Text
+title_line paint columns = bold paint ++ (codes " " ++ flat_map head_cell columns) ++ neither paint ++ 10 ∷ []
 
 -- a row; one that is marked has `*` in front
-abbrev pub row_line : Paint → Bool → List Part → List Head → Text → Text
-row_line paint true parts columns line = red paint ++ (codes "*" ++ flat_map (value_cell parts line) columns) ++ neither paint ++ 10 ∷ []
-row_line paint false parts columns line = codes " " ++ flat_map (value_cell parts line) columns ++ 10 ∷ []
+abbrev pub shown_row : Paint → Bool → List Part → List Head → Text → Text
+shown_row paint true parts columns line = red paint ++ (codes "*" ++ flat_map (value_cell parts line) columns) ++ neither paint ++ 10 ∷ []
+shown_row paint false parts columns line = codes " " ++ flat_map (value_cell parts line) columns ++ 10 ∷ []
 
 -- a line is one more of a form
 abbrev pub goes_on : Option Form → Text → Bool
@@ -92,11 +92,11 @@ module _ (paint : Paint) (worst : Worst) (names : List Text) where
   abbrev pub row_lines : List Part → List Head → Option ℕ → List Text → Text
   row_lines parts columns marked [] = []
   row_lines parts columns marked (line ∷ lines) =
-      row_line paint (same_badness (row_badness worst names parts line) marked) parts columns line ++ row_lines parts columns marked lines
+      shown_row paint (same_badness (row_badness worst names parts line) marked) parts columns line ++ row_lines parts columns marked lines
 
   -- some rows, below the names of their fields
   abbrev pub table : List Part → List Text → Text
-  table parts rows = head_line paint (heads parts parts rows) ++ row_lines parts (heads parts parts rows) (marked_badness worst names parts rows) rows
+  table parts rows = title_line paint (heads parts parts rows) ++ row_lines parts (heads parts parts rows) (marked_badness worst names parts rows) rows
 
   abbrev pub block : List Part → List Text → Text
   block parts [] = []

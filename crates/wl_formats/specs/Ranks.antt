@@ -19,17 +19,17 @@ abbrev pub magnitude : Text → ℕ
 magnitude value = fold digits_after 0 value
 
 -- The place of a number among others with as many digits after the point; a minus (45) comes first. What is no number has none.
-abbrev pub rank : Text → Option ℕ
-rank value =
+abbrev pub number_place : Text → Option ℕ
+number_place value =
     if not (is_number value) then None
     else if starts_with nat_eq value (45 ∷ []) then Some (1000000000000000 - magnitude value)
     else Some (1000000000000000 + magnitude value)
 
 -- the lesser of two, if there are two
-abbrev pub lesser : Option ℕ → Option ℕ → Option ℕ
-lesser None other = other
-lesser (Some a) None = Some a
-lesser (Some a) (Some b) = Some (min a b)
+abbrev pub lesser_badness : Option ℕ → Option ℕ → Option ℕ
+lesser_badness None other = other
+lesser_badness (Some a) None = Some a
+lesser_badness (Some a) (Some b) = Some (min a b)
 
 -- the other way round: of two places the lesser is the greater
 abbrev pub turned : Option ℕ → Option ℕ
@@ -39,8 +39,8 @@ turned (Some n) = Some (2000000000000000 - n)
 -- how bad a number is: the less, the worse
 abbrev pub badness : Worst → Text → Option ℕ
 badness NoRow value = None
-badness Least value = rank value
-badness Greatest value = turned (rank value)
+badness Least value = number_place value
+badness Greatest value = turned (number_place value)
 
 -- which of a command's rows are the worst, and by which fields: the margin that is the least, the longest wait, the fewest clean members
 abbrev pub worst_of : Subject → Worst
@@ -72,7 +72,7 @@ value_of name (p ∷ parts) line = if is_field name p then take (width p line) l
 abbrev pub row_badness_from : Option ℕ → Worst → List Text → List Part → Text → Option ℕ
 row_badness_from found worst [] parts line = found
 row_badness_from found worst (name ∷ names) parts line =
-    row_badness_from (lesser found (badness worst (value_of name parts line))) worst names parts line
+    row_badness_from (lesser_badness found (badness worst (value_of name parts line))) worst names parts line
 
 abbrev pub row_badness : Worst → List Text → List Part → Text → Option ℕ
 row_badness worst names parts line = row_badness_from None worst names parts line
@@ -80,7 +80,7 @@ row_badness worst names parts line = row_badness_from None worst names parts lin
 abbrev pub worst_from : Option ℕ → Worst → List Text → List Part → List Text → Option ℕ
 worst_from found worst names parts [] = found
 worst_from found worst names parts (line ∷ lines) =
-    worst_from (lesser found (row_badness worst names parts line)) worst names parts lines
+    worst_from (lesser_badness found (row_badness worst names parts line)) worst names parts lines
 
 abbrev pub worst_among : Worst → List Text → List Part → List Text → Option ℕ
 worst_among worst names parts lines = worst_from None worst names parts lines

@@ -2,7 +2,7 @@
 ghost use Rattle.std.specs.Prelude.{◌≡◌, ◌++◌, ◌∷◌, [], true, false, None, OnOk, IfOk, map, length, option_map};
 ghost use Rattle.std.specs.List.{flat_map};
 ghost use Rattle.wl_formats.specs.Shapes.{part_of, form_of, layout_of};
-ghost use Rattle.wl_formats.specs.Aligned.{head_of, heads, widest, spaces, is_numeric, cell, head_cell, value_cell, bold, red, neither, head_line, row_line, row_lines, table, block_of, goes_on, blocks, aligned};
+ghost use Rattle.wl_formats.specs.Aligned.{shown_head, heads, widest, spaces, is_numeric, cell, head_cell, value_cell, bold, red, neither, title_line, shown_row, row_lines, table, block_of, goes_on, blocks, aligned};
 ghost use Rattle.wl_formats.specs.Ranks.{marked_badness};
 
 use crate::matching::{fits, shape_of};
@@ -53,7 +53,7 @@ fn columns_of(
     pieces: &'static [Piece],
     rows: &[&[u8]],
 ) -> Result<Vec<Column>, AllocError>
-    ensures { IfOk result (λ columns. map head_of columns.items
+    ensures { IfOk result (λ columns. map shown_head columns.items
         ≡ heads (map part_of pieces.now) (map part_of pieces.now) (map (λ r. r.now) rows.now)) }
 {
     let mut columns = Vec::new(alloc);
@@ -91,7 +91,7 @@ fn is_numeric(class: Class) -> bool
 
 /// Adds a cell, two spaces after the one before.
 fn push_cell(text: &mut Vec<u8>, column: &Column, value: &[u8]) -> Result<(), AllocError>
-    ensures { OnOk result (text.new.items ≡ text.old.items ++ cell (head_of column.now) value.now) }
+    ensures { OnOk result (text.new.items ≡ text.old.items ++ cell (shown_head column.now) value.now) }
 {
     let gap = column.width.saturating_sub(value.len());
     text.extend_from_slice("  ".as_bytes())?;
@@ -106,7 +106,7 @@ fn push_cell(text: &mut Vec<u8>, column: &Column, value: &[u8]) -> Result<(), Al
 
 /// Adds the names of columns.
 fn push_names(text: &mut Vec<u8>, columns: &[Column]) -> Result<(), AllocError>
-    ensures { OnOk result (text.new.items ≡ text.old.items ++ flat_map head_cell (map head_of columns.now)) }
+    ensures { OnOk result (text.new.items ≡ text.old.items ++ flat_map head_cell (map shown_head columns.now)) }
 {
     for column in columns {
         push_cell(text, column, column.name.as_bytes())?;
@@ -122,7 +122,7 @@ fn push_values(
     line: &[u8],
 ) -> Result<(), AllocError>
     ensures { OnOk result (text.new.items ≡ text.old.items
-        ++ flat_map (value_cell (map part_of pieces.now) line.now) (map head_of columns.now)) }
+        ++ flat_map (value_cell (map part_of pieces.now) line.now) (map shown_head columns.now)) }
 {
     for column in columns {
         push_cell(text, column, value_of(column.name, pieces, line))?;
@@ -162,7 +162,7 @@ fn push_neither(text: &mut Vec<u8>, paint: Paint) -> Result<(), AllocError>
 
 /// Adds the first line of a table.
 fn push_head(text: &mut Vec<u8>, paint: Paint, columns: &[Column]) -> Result<(), AllocError>
-    ensures { OnOk result (text.new.items ≡ text.old.items ++ head_line paint (map head_of columns.now)) }
+    ensures { OnOk result (text.new.items ≡ text.old.items ++ title_line paint (map shown_head columns.now)) }
 {
     push_bold(text, paint)?;
     text.extend_from_slice(" ".as_bytes())?;
@@ -180,7 +180,7 @@ fn push_plain_row(
     line: &[u8],
 ) -> Result<(), AllocError>
     ensures { OnOk result (text.new.items ≡ text.old.items
-        ++ row_line paint false (map part_of pieces.now) (map head_of columns.now) line.now) }
+        ++ shown_row paint false (map part_of pieces.now) (map shown_head columns.now) line.now) }
 {
     text.extend_from_slice(" ".as_bytes())?;
     push_values(text, columns, pieces, line)?;
@@ -196,7 +196,7 @@ fn push_marked_row(
     line: &[u8],
 ) -> Result<(), AllocError>
     ensures { OnOk result (text.new.items ≡ text.old.items
-        ++ row_line paint true (map part_of pieces.now) (map head_of columns.now) line.now) }
+        ++ shown_row paint true (map part_of pieces.now) (map shown_head columns.now) line.now) }
 {
     push_red(text, paint)?;
     text.extend_from_slice("*".as_bytes())?;
@@ -214,8 +214,10 @@ fn push_rows(
     rows: &[&[u8]],
 ) -> Result<(), AllocError>
     ensures { OnOk result (text.new.items ≡ text.old.items
-        ++ row_lines look.paint look.worst (map (λ n. n.now) look.names.now) (map part_of pieces.now) (map head_of columns.now)
-        (marked_badness look.worst (map (λ n. n.now) look.names.now) (map part_of pieces.now) (map (λ r. r.now) rows.now))
+        ++ row_lines look.paint look.worst (map (λ n. n.now) look.names.now) (map part_of pieces.now)
+        (map shown_head columns.now)
+        (marked_badness look.worst (map (λ n. n.now) look.names.now) (map part_of pieces.now)
+        (map (λ r. r.now) rows.now))
         (map (λ r. r.now) rows.now)) }
 {
     let marked = marked_badness(look.worst, look.names, pieces, rows);
@@ -238,7 +240,8 @@ fn push_table(
     rows: &[&[u8]],
 ) -> Result<(), AllocError>
     ensures { OnOk result (text.new.items ≡ text.old.items
-        ++ table look.paint look.worst (map (λ n. n.now) look.names.now) (map part_of pieces.now) (map (λ r. r.now) rows.now)) }
+        ++ table look.paint look.worst (map (λ n. n.now) look.names.now) (map part_of pieces.now)
+        (map (λ r. r.now) rows.now)) }
 {
     let columns = columns_of(alloc, pieces, rows)?;
     push_head(text, look.paint, &columns)?;
@@ -254,7 +257,8 @@ fn push_block(
     rows: &[&[u8]],
 ) -> Result<(), AllocError>
     ensures { OnOk result (text.new.items ≡ text.old.items
-        ++ block_of look.paint look.worst (map (λ n. n.now) look.names.now) (option_map (λ s. form_of s.now) shape.entry)
+        ++ block_of look.paint look.worst (map (λ n. n.now) look.names.now)
+        (option_map (λ s. form_of s.now) shape.entry)
         (map (λ r. r.now) rows.now)) }
 {
     let Some(shape) = shape else {

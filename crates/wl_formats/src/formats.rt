@@ -202,7 +202,7 @@ fn add_line<'a>(lines: &mut Vec<&'a [u8]>, line: &'a [u8]) -> Result<(), AllocEr
     Ok(())
 }
 
-/// Returns the lines of a text, each of which fits a shape of the table.
+/// Returns the lines of a text. Refused if one fits no shape of the table.
 fn fitting_lines<'a>(
     alloc: Global,
     table: &Table,
@@ -215,7 +215,7 @@ fn fitting_lines<'a>(
 {
     let mut lines = Vec::new(alloc);
     let mut rest = text;
-    'lines: while !rest.is_empty() {
+    'fitting: while !rest.is_empty() {
         let (line, later) = next_line(rest);
         if shape_of(table, line).is_none() {
             return Err(FormatFault::Shape);
@@ -235,7 +235,8 @@ fn tables(
     text: &[u8],
 ) -> Result<Vec<u8>, FormatFault>
     ensures fits { OnOk result (all_fit (layout_of table.now) (lines_of text.now) ≡ true) }
-    ensures bytes { IfOk result (λ bytes. bytes.items ≡ aligned paint subject (layout_of table.now).forms (lines_of text.now)) }
+    ensures bytes { IfOk result (λ bytes. bytes.items
+        ≡ aligned paint subject (layout_of table.now).forms (lines_of text.now)) }
     ensures fault { IfErr result (λ fault. fault ≢ FormatFault.Memory
         → all_fit (layout_of table.now) (lines_of text.now) ≡ false) }
 {

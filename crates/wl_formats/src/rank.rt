@@ -1,7 +1,7 @@
 //! Which rows of a table are the worst.
 ghost use Rattle.std.specs.Prelude.{◌≡◌, ◌≤◌, map, IfSome};
 ghost use Rattle.wl_formats.specs.Shapes.{part_of};
-ghost use Rattle.wl_formats.specs.Ranks.{digits_after, magnitude, rank, lesser, turned, badness, worst_of, judged_fields, is_field, value_of, row_badness, worst_among, same_badness, are_alike, marked_badness};
+ghost use Rattle.wl_formats.specs.Ranks.{digits_after, magnitude, number_place, lesser_badness, turned, badness, worst_of, judged_fields, is_field, value_of, row_badness, worst_among, same_badness, are_alike, marked_badness};
 
 use crate::matching::width;
 use crate::number::is_number;
@@ -46,8 +46,8 @@ fn magnitude(value: &[u8]) -> u64
 }
 
 /// Returns the place of a number among others.
-fn rank(value: &[u8]) -> Option<u64>
-    ensures value { result ≡ rank value.now }
+fn number_place(value: &[u8]) -> Option<u64>
+    ensures value { result ≡ number_place value.now }
     ensures bound { IfSome result (λ n. n ≤ 2000000000000000) }
 {
     if !is_number(value) {
@@ -60,8 +60,8 @@ fn rank(value: &[u8]) -> Option<u64>
 }
 
 /// Returns the lesser of two, if there are two.
-fn lesser(a: Option<u64>, b: Option<u64>) -> Option<u64>
-    ensures { result ≡ lesser a b }
+fn lesser_badness(a: Option<u64>, b: Option<u64>) -> Option<u64>
+    ensures { result ≡ lesser_badness a b }
 {
     match (a, b) {
         (None, other) => other,
@@ -76,8 +76,8 @@ fn badness(worst: Worst, value: &[u8]) -> Option<u64>
 {
     match worst {
         Worst::NoRow => None,
-        Worst::Least => rank(value),
-        Worst::Greatest => match rank(value) {
+        Worst::Least => number_place(value),
+        Worst::Greatest => match number_place(value) {
             Some(n) => Some(2 * MOST - n),
             None => None,
         },
@@ -145,18 +145,19 @@ pub(crate) fn row_badness(
 {
     let mut found = None;
     for name in names {
-        found = lesser(found, badness(worst, value_of(name, pieces, line)));
+        found = lesser_badness(found, badness(worst, value_of(name, pieces, line)));
     }
     found
 }
 
 /// Returns how bad the worst of some rows is.
 fn worst_among(worst: Worst, names: &[&str], pieces: &[Piece], rows: &[&[u8]]) -> Option<u64>
-    ensures { result ≡ worst_among worst (map (λ n. n.now) names.now) (map part_of pieces.now) (map (λ r. r.now) rows.now) }
+    ensures { result ≡ worst_among worst (map (λ n. n.now) names.now) (map part_of pieces.now)
+        (map (λ r. r.now) rows.now) }
 {
     let mut found = None;
     for row in rows {
-        found = lesser(found, row_badness(worst, names, pieces, row));
+        found = lesser_badness(found, row_badness(worst, names, pieces, row));
     }
     found
 }
@@ -179,7 +180,8 @@ fn are_alike(
     bad: Option<u64>,
     rows: &[&[u8]],
 ) -> bool
-    ensures { result ≡ are_alike worst (map (λ n. n.now) names.now) (map part_of pieces.now) bad (map (λ r. r.now) rows.now) }
+    ensures { result ≡ are_alike worst (map (λ n. n.now) names.now) (map part_of pieces.now) bad
+        (map (λ r. r.now) rows.now) }
 {
     for row in rows {
         if !same_badness(row_badness(worst, names, pieces, row), bad) {
@@ -196,7 +198,8 @@ pub(crate) fn marked_badness(
     pieces: &[Piece],
     rows: &[&[u8]],
 ) -> Option<u64>
-    ensures { result ≡ marked_badness worst (map (λ n. n.now) names.now) (map part_of pieces.now) (map (λ r. r.now) rows.now) }
+    ensures { result ≡ marked_badness worst (map (λ n. n.now) names.now) (map part_of pieces.now)
+        (map (λ r. r.now) rows.now) }
 {
     let bad = worst_among(worst, names, pieces, rows);
     if are_alike(worst, names, pieces, bad, rows) {

@@ -27,8 +27,8 @@ unfoldable pub nodes_words : ℕ → List ℕ
 nodes_words nodes = codes "# A bus of " ++ decimal nodes ++ codes " nodes at "
 
 -- what the plan is
-abbrev pub head_line : Draft → List ℕ
-head_line d =
+abbrev pub title_words : Draft → List ℕ
+title_words d =
     nodes_words d.asked.nodes ++ rate_words d.asked.rate ++ fixed_words (codes " on a cable of ") ++ length_words d.asked.cable
     ++ fixed_words (codes ", to begin from: change what differs on yours.\n")
 
@@ -77,8 +77,8 @@ ecu_units d i = d.asked.cable * i / max (d.asked.nodes - 1) 1
 unfoldable pub line_end : ℕ → List ℕ → List ℕ
 line_end i remark = if i == 0 then codes "  # " ++ remark ++ codes "\n" else codes "\n"
 
-unfoldable pub line_words : ℕ → List ℕ → List ℕ → List ℕ
-line_words i line remark = line ++ line_end i remark
+unfoldable pub remarked_line : ℕ → List ℕ → List ℕ → List ℕ
+remarked_line i line remark = line ++ line_end i remark
 
 -- a node
 abbrev pub ecu_number : ℕ → ℕ
@@ -91,31 +91,31 @@ unfoldable pub ecu_offset : ℕ → List ℕ
 ecu_offset i = codes "offset = \"" ++ decimal i ++ codes "us\""
 
 abbrev pub ecu_place : Draft → ℕ → List ℕ
-ecu_place d i = fixed_words (codes "x = \"") ++ length_words (ecu_units d i) ++ line_words i (codes "\"") (codes "its place on the cable")
+ecu_place d i = fixed_words (codes "x = \"") ++ length_words (ecu_units d i) ++ remarked_line i (codes "\"") (codes "its place on the cable")
 
 abbrev pub ecu_lines : Draft → ℕ → List ℕ
 ecu_lines d i =
-    line_words i (codes "\n[[node]]") (codes "a controller on the cable") ++ ecu_name (ecu_number i)
+    remarked_line i (codes "\n[[node]]") (codes "a controller on the cable") ++ ecu_name (ecu_number i)
     ++ line_end i (codes "up to 32 letters, digits, _ and -")
-    ++ line_words i (codes "controller = \"ecu\"") (codes "the table above; a key here goes before its")
+    ++ remarked_line i (codes "controller = \"ecu\"") (codes "the table above; a key here goes before its")
     ++ ecu_offset i ++ line_end i (codes "when it is powered up") ++ ecu_place d i
 
 -- its frame
 abbrev pub id_of : ℕ → ℕ
 id_of i = 256 + i
 
-unfoldable pub id_words : ℕ → List ℕ
-id_words id = codes "id = 0x" ++ digits 16 false id
+unfoldable pub id_line : ℕ → List ℕ
+id_line id = codes "id = 0x" ++ digits 16 false id
 
 unfoldable pub cycle_words : List ℕ → ℕ → List ℕ
 cycle_words key cycle = key ++ codes " = \"" ++ decimal cycle ++ codes "ms\""
 
 abbrev pub data_lines : ℕ → List ℕ
 data_lines i =
-    line_words i (codes "\n[[node.frame]]") (codes "a message of the node, which may have several") ++ id_words (id_of i)
+    remarked_line i (codes "\n[[node.frame]]") (codes "a message of the node, which may have several") ++ id_line (id_of i)
     ++ line_end i (codes "identifier: of two the lesser goes first")
-    ++ line_words i (codes "dlc = 8") (codes "data length code: the number of bytes")
-    ++ line_words i (codes "bytes = [1, 2, 3, 4, 5, 6, 7, 8]") (codes "the data")
+    ++ remarked_line i (codes "dlc = 8") (codes "data length code: the number of bytes")
+    ++ remarked_line i (codes "bytes = [1, 2, 3, 4, 5, 6, 7, 8]") (codes "the data")
 
 abbrev pub time_lines : (cycle i : ℕ) → List ℕ
 time_lines cycle i =
@@ -133,4 +133,4 @@ tables_below d (suc n) = tables_below d n ++ node_tables d n
 
 -- the whole text
 abbrev pub first_plan_words : Draft → List ℕ
-first_plan_words d = head_line d ++ fixed_words TOP.now ++ end_line (end_of_run d) ++ fixed_words SYNC.now ++ controller_lines d ++ tables_below d d.asked.nodes
+first_plan_words d = title_words d ++ fixed_words TOP.now ++ end_line (end_of_run d) ++ fixed_words SYNC.now ++ controller_lines d ++ tables_below d d.asked.nodes

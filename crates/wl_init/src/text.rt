@@ -1,6 +1,6 @@
 //! The text of a plan to begin from.
 ghost use Rattle.std.specs.Prelude.{◌≡◌, IfOk, OnOk, string_bytes};
-ghost use Rattle.wl_init.specs.Texts.{HasGrownBy, bitrate_lines, clock_line, controller_lines, cycle_words, data_lines, end_of_run, head_line, id_of, id_words, sjw_line, kind_line, length_words, line_end, line_words, ecu_name, ecu_lines, node_tables, nodes_words, ecu_number, ecu_offset, ecu_place, ecu_units, first_plan_words, prescaler_words, rate_words, fixed_words, setting_lines, tables_below, time_lines, end_line, tseg1_line, tseg2_line};
+ghost use Rattle.wl_init.specs.Texts.{HasGrownBy, bitrate_lines, clock_line, controller_lines, cycle_words, data_lines, end_of_run, title_words, id_of, id_line, sjw_line, kind_line, length_words, line_end, remarked_line, ecu_name, ecu_lines, node_tables, nodes_words, ecu_number, ecu_offset, ecu_place, ecu_units, first_plan_words, prescaler_words, rate_words, fixed_words, setting_lines, tables_below, time_lines, end_line, tseg1_line, tseg2_line};
 
 use crate::bits::BitSetting;
 use crate::draft::{Draft, kind_word};
@@ -68,7 +68,7 @@ fn push_count(text: &mut String, nodes: u8) -> Result<(), AllocError>
 
 /// Adds the line that says what the plan is.
 fn push_head(text: &mut String, draft: Draft) -> Result<(), AllocError>
-    ensures { OnOk result (HasGrownBy text.old text.new (head_line draft)) }
+    ensures { OnOk result (HasGrownBy text.old text.new (title_words draft)) }
 {
     push_count(text, draft.asked.nodes)?;
     push_rate(text, draft.asked.rate)?;
@@ -206,9 +206,9 @@ fn push_end(text: &mut String, i: u8, remark: &str) -> Result<(), AllocError>
 }
 
 /// Adds a line that each node has, with a remark if this node is the first one.
-#[tactic(auto, unfolding(crate::specs::Texts::line_words))]
+#[tactic(auto, unfolding(crate::specs::Texts::remarked_line))]
 fn push_line(text: &mut String, i: u8, line: &str, remark: &str) -> Result<(), AllocError>
-    ensures { OnOk result (HasGrownBy text.old text.new (line_words i line.now remark.now)) }
+    ensures { OnOk result (HasGrownBy text.old text.new (remarked_line i line.now remark.now)) }
 {
     text.push_str(line)?;
     push_end(text, i, remark)
@@ -272,9 +272,9 @@ fn id_of(i: u8) -> u32
 }
 
 /// Adds an identifier.
-#[tactic(auto, unfolding(crate::specs::Texts::id_words))]
+#[tactic(auto, unfolding(crate::specs::Texts::id_line))]
 fn push_id(text: &mut String, id: u32) -> Result<(), AllocError>
-    ensures { OnOk result (HasGrownBy text.old text.new (id_words id)) }
+    ensures { OnOk result (HasGrownBy text.old text.new (id_line id)) }
 {
     write!(text, "id = 0x{id:x}")
 }

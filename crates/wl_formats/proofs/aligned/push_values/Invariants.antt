@@ -1,11 +1,11 @@
 use Rattle.std.proofs.Common.{◌≡◌, ◌++◌, map, drop}
 use Rattle.std.specs.List.{flat_map}
 use Rattle.wl_formats.specs.Shapes.{part_of}
-use Rattle.wl_formats.specs.Aligned.{head_of, value_cell}
+use Rattle.wl_formats.specs.Aligned.{shown_head, value_cell}
 use Rattle.wl_formats.proofs.aligned.push_values.Given as goal
 
 -- the values so far, and then those that are left
 abbrev pub invariant-loop-column : goal.invariant-loop-column
 invariant-loop-column l =
-    l.text.items ++ flat_map (value_cell (map part_of l.pieces) l.line) (map head_of (drop l.column-index l.columns))
-    ≡ l.fn.text.items ++ flat_map (value_cell (map part_of l.pieces) l.line) (map head_of l.columns)
+    l.text.items ++ flat_map (value_cell (map part_of l.pieces) l.line) (map shown_head (drop l.column-index l.columns))
+    ≡ l.fn.text.items ++ flat_map (value_cell (map part_of l.pieces) l.line) (map shown_head l.columns)
