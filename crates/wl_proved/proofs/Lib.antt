@@ -17,3 +17,4 @@ mod Starting
 mod Tables
 mod Stuffings
 mod Texts
+mod Bounded
