@@ -57,6 +57,10 @@ hand_over() { # hand_over PROGRAM WORD..: becomes the program, with the words th
     words+=("$word") before=$word
   done
   if [ "${1-}" = sweep ] && [[ " ${words[*]} " = *' --join '* ]]; then join_files "$program" "${said[@]}" "${words[@]}"; fi
+  # Somebody at a terminal reads tables, in colours if the terminal has them; programs and files get the text.
+  if [ -t 1 ] && [[ ${1-} =~ ^(margin|respond|traffic|check|sweep)$ && " ${words[*]} " != *' --format'* && " ${words[*]} " != *' -o'* ]]; then
+    if [ -n "${NO_COLOR-}" ] || [ "${TERM-dumb}" = dumb ]; then said+=(--format table); else said+=(--format coloured); fi
+  fi
   case ${1-} in
     init | run | margin | explain | respond | traffic | check | settings | sweep | trace | page | vcd | candump | records | format | merge | horizon)
       exec "$program" "$1" "${said[@]}" "${words[@]}"
