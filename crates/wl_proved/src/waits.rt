@@ -48,7 +48,8 @@ pub fn respond_means_bounded()
         → HasBoundedWaits f plan (map message_in asked) }
     ensures own { (tick : ℕ) (bus : Bus) (f : Buses) (asked : List Asked) (text : List ℕ) (met : Bool)
         (told : IsTold tick bus f asked text met) → told.lacking ≡ None → IsFamilyOf ThisPlan bus f
-        → IsRunnable bus.plan → length bus.deviations ≡ length bus.plan.nodes → HasBoundedWaits f bus.plan (map message_in asked) }
+        → IsRunnable bus.plan → length bus.deviations ≡ length bus.plan.nodes
+        → HasBoundedWaits f bus.plan (map message_in asked) }
 {
     wl_level::place_laws();
     wl_margin::clocks_keep_pace();
