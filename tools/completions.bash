@@ -11,7 +11,7 @@ _wireline() {
     completions) mapfile -t COMPREPLY < <(compgen -W 'bash zsh fish' -- "$word") && return ;;
   esac
   case ${COMP_WORDS[1]} in
-    init) options='--hint -o --help --nodes --bitrate --cable --kind' ;;
+    init) options+=' --nodes --bitrate --cable --kind' ;;
     run) options+=' --workers --link --brief --format' ;;
     check | explain) options+=' --format' ;;
     records) options+=' --from --to' ;;
