@@ -22,7 +22,6 @@ pub(crate) fn subject_of(task: Task) -> Option<Subject>
         Task::Explain => Some(Subject::Explain),
         Task::Trace(_) => Some(Subject::Trace),
         Task::Margin(_, _) => Some(Subject::Margin),
-        Task::Respond(_, _, _) => Some(Subject::Respond),
         Task::Traffic(_, _) => Some(Subject::Traffic),
         Task::Sweep(swept) => {
             if !swept.join && (swept.part.is_some() || swept.print.is_some() || swept.page) {
@@ -31,8 +30,7 @@ pub(crate) fn subject_of(task: Task) -> Option<Subject>
                 Some(Subject::Sweep)
             }
         }
-        Task::Init(_)
-        | Task::Merge(_)
+        Task::Merge(_)
         | Task::Horizon(_)
         | Task::Upgrade
         | Task::Records(_)
