@@ -25,7 +25,8 @@ for words in 'run none' 'run .' "vcd $plan --tick 5parsecs" "run --workers 9 $pl
   holds "old output, $words" old <(echo old)
 done
 said 'a file that is not there' 3 'fault: Read\nfile: none\n' run none
-said 'with a hint' 3 'fault: Read\nfile: none\nhint: Check that the file can be read.\n' run --hint none
+said 'with a hint' 3 'fault: Read\nfile: none\nhint: There is no such file. Check its name and its folder.\n' run --hint none
+said 'a hint on a folder' 3 'fault: Read\nfile: .\nhint: This is a folder. Name a file in it.\n' run --hint .
 said 'a folder to read' 3 'fault: Read\nfile: .\n' check .
 said 'a folder to read, records' 3 'fault: Read\nfile: .\n' merge .
 said 'a folder to write' 3 'fault: Write\nfile: .\n' check "$plan" -o .

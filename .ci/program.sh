@@ -155,7 +155,7 @@ python3 -Bc 'import sys; sys.path.insert(0, "bench"); import worst; print(worst.
 python3 check/plain.py run < "$room/full.toml" > "$room/full"
 is "frames of full queues" [ "$(grep -c '^frame 0' "$room/full")" = 128 ]
 runs "run of full queues" "$room/full.toml" 0 "$room/full" "$room/none" run
-for word in candump vcd page margin traffic; do
+for word in candump vcd page margin respond traffic; do
   "$program" "$word" < "$room/full.toml" > "$room/$word" 2> "$room/err"
   is "$word of full queues" [ $? = 0 -a -s "$room/$word" -a ! -s "$room/err" ]
 done
@@ -432,6 +432,7 @@ check --format=
 explain --format yaml
 margin --format text/csv
 trace --format jsonl
+respond --format 2
 traffic --format 1
 sweep --format plan
 candump --format json
@@ -468,14 +469,14 @@ vcd --tick 1ms
 WORDS
 
 # What an option wants, where clap lets in a value that names nothing.
-printf 'error: --link wants hub or mail, and --format text, json or csv\n' > "$room/fault"
+printf 'error: --link wants hub or mail, and --format text, json, csv, table or coloured\n' > "$room/fault"
 runs "a link that is none" examples/clean_500k.toml 2 "$room/none" "$room/fault" run --link post
 runs "a format that is none, run" examples/clean_500k.toml 2 "$room/none" "$room/fault" run --format xml
-printf 'error: --format wants text, json or csv\n' > "$room/fault"
+printf 'error: --format wants text, json, csv, table or coloured\n' > "$room/fault"
 for word in check explain sweep; do
   runs "a format that is none, $word" examples/clean_500k.toml 2 "$room/none" "$room/fault" "$word" --format xml
 done
-printf 'error: --only wants lost, error, flag, frame, mode or sync, and --format text, json or csv\n' > "$room/fault"
+printf 'error: --only wants lost, error, flag, frame, mode or sync, and --format text, json, csv, table or coloured\n' > "$room/fault"
 runs "a format that is none, trace" examples/clean_500k.toml 2 "$room/none" "$room/fault" trace --format xml
 runs "events that are none, trace" examples/clean_500k.toml 2 "$room/none" "$room/fault" trace --only spikes
 tick='error: --tick wants 1 to 999 and ps, ns or us, as 125ps'
@@ -483,8 +484,8 @@ for word in candump vcd page settings; do
   printf '%s\n' "$tick" > "$room/fault"
   runs "a tick that is none, $word" examples/clean_500k.toml 2 "$room/none" "$room/fault" "$word" --tick 1ms
 done
-for word in margin traffic; do
-  printf '%s, and --format text, json or csv\n' "$tick" > "$room/fault"
+for word in margin respond traffic; do
+  printf '%s, and --format text, json, csv, table or coloured\n' "$tick" > "$room/fault"
   runs "a tick that is none, $word" examples/clean_500k.toml 2 "$room/none" "$room/fault" "$word" --tick 1ms
   runs "a format that is none, $word" examples/clean_500k.toml 2 "$room/none" "$room/fault" "$word" --format xml
 done
@@ -495,11 +496,11 @@ runs "the version" "$room/none" 2 "$room/none" "$room/fault" --version
 printf "error: the arguments can't be read\n" > "$room/fault"
 runs "words that are no text" examples/clean_500k.toml 2 "$room/none" "$room/fault" run $'\xff'
 
-for word in merge horizon check records run explain trace candump vcd page margin traffic settings sweep; do
+for word in merge horizon check records run explain trace candump vcd page margin respond traffic settings sweep; do
   printf 'fault: Read\n' > "$room/fault"
   runs "$word of a reader that fails" / 3 "$room/none" "$room/fault" "$word"
 done
-for word in merge horizon check records run explain trace candump vcd page margin traffic settings sweep; do
+for word in merge horizon check records run explain trace candump vcd page margin respond traffic settings sweep; do
   input=examples/clean_500k.toml
   case "$word" in merge | horizon) input=examples/records.txt ;; settings) input=examples/settings/mcp2515_500k.toml ;; esac
   printf 'fault: Write\n' > "$room/fault"

@@ -31,10 +31,10 @@ INPUTS = {
     "plan-texts": (400, 60), "version-3": (200, 40), "settings": (60, 8), "formats": (60, 10), "sweeps": (60, 10), "hints": (100, 20), "workers": (20, 1),
 }
 PARTS = ["examples", "refused", "settings", "formats", "words"]
-ROWS = ["margins", "plans", "records", "settings", "sweeps"]
+ROWS = ["init", "margins", "plans", "records", "settings", "sweeps"]
 PAGES = [
     "README.md", *(f"docs/use/{it}.md" for it in ["commands", "examples", "explain", "faults", "first-hour", "formats", "plan-text", "record-text", "units"]),
-    *(f"docs/use/{it}.md" for it in ["reports", "settings", "sweeps", "trace", "traffic", "views"]), "docs/bus/any-senders.md",
+    *(f"docs/use/{it}.md" for it in ["reports", "respond", "settings", "sweeps", "trace", "traffic", "views"]), "docs/bus/any-senders.md",
 ]
 # What a build without proof doesn't get, and of the other parts what they leave out then: each of these takes it more than ten seconds.
 TOO_LONG = {"settings", "docs/use/sweeps.md"}
@@ -59,6 +59,7 @@ def parts_of(program, is_light):
     random = [Part(f"random inputs, {what}", ["check/compare.py", program, what, "--count", str(count)], count) for what, count in counts.items() if count]
     parts = [Part(it, [".ci/program.sh", program, it], 0) for it in PARTS if not (is_light and it in TOO_LONG)]
     rows = [Part(f"rows of {it}", ["check/rows.py", program, f"check/rows/{it}"], 0) for it in ROWS]
+    parts += [Part(f"plans that init writes, {it}", ["check/init.py", program, it], 0) for it in ["few", "refused"] if not is_light]
     pages = [Part(f"what {it} shows", [".ci/shown.py", it, program], 0) for it in PAGES if not (is_light and it in TOO_LONG)]
     return [parts[0], random[0], *parts[1:], *random[1:], *rows[::-1], *pages]
 

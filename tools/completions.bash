@@ -5,10 +5,13 @@ _wireline() {
     --workers) mapfile -t COMPREPLY < <(compgen -W '1 2 3 4 5 6 7 8' -- "$word") && return ;;
     --link) mapfile -t COMPREPLY < <(compgen -W 'hub mail' -- "$word") && return ;;
     --only) mapfile -t COMPREPLY < <(compgen -W 'lost error flag frame mode sync' -- "$word") && return ;;
-    --format) mapfile -t COMPREPLY < <(compgen -W 'text json csv' -- "$word") && return ;;
+    --format) mapfile -t COMPREPLY < <(compgen -W 'text json csv table coloured' -- "$word") && return ;;
+    --bitrate) mapfile -t COMPREPLY < <(compgen -W '10k 20k 50k 125k 250k 500k 800k 1M' -- "$word") && return ;;
+    --kind) mapfile -t COMPREPLY < <(compgen -W 'sja1000 c_can bxcan mcp2515 at91 xilinx flexcan m_can fdcan tcan4550 mcp2518fd book' -- "$word") && return ;;
     completions) mapfile -t COMPREPLY < <(compgen -W 'bash zsh fish' -- "$word") && return ;;
   esac
   case ${COMP_WORDS[1]} in
+    init) options+=' --nodes --bitrate --cable --kind' ;;
     run) options+=' --workers --link --brief --format' ;;
     check | explain) options+=' --format' ;;
     records) options+=' --from --to' ;;
@@ -17,12 +20,13 @@ _wireline() {
     vcd | page) options+=' --tick' ;;
     merge | horizon) options+=' --wide' ;;
     margin) options+=' --tick --all-send --format' ;;
+    respond) options+=' --tick --any-data --strict --format' ;;
     traffic) options+=' --tick --strict --format' ;;
     settings) options+=' --tick --best --plan' ;;
     sweep) options+=' --vary --step --runs --seed --keep-offsets --keep-ppm --worst --workers --print --page --part --join --format' ;;
   esac
   if [ "$COMP_CWORD" = 1 ]; then
-    mapfile -t COMPREPLY < <(compgen -W 'run check format explain trace candump vcd page margin traffic settings records merge horizon sweep build test completions help' -- "$word")
+    mapfile -t COMPREPLY < <(compgen -W 'init run margin explain respond traffic check settings sweep trace page vcd candump records format merge horizon build test completions help' -- "$word")
   elif [[ $word = -* ]]; then mapfile -t COMPREPLY < <(compgen -W "$options" -- "$word")
   else mapfile -t COMPREPLY < <(compgen -f -- "$word"); fi
 }

@@ -2,12 +2,16 @@
 # Completions of ./wireline for zsh: source <(./wireline completions zsh)
 _wireline() {
   local -a options=('--hint[what to change after a fault]' '--progress[how long the run has taken]' '-o[the file to write]:file:_files' '--help' '*:file:_files')
-  local format='--format[the form of the output]:form:(text json csv)'
+  local format='--format[the form of the output]:form:(text json csv table coloured)'
   if (( CURRENT == 2 )); then
-    compadd run check format explain trace candump vcd page margin traffic settings records merge horizon sweep build test completions help
+    compadd init run margin explain respond traffic check settings sweep trace page vcd candump records format merge horizon build test completions help
     return
   fi
   case $words[2] in
+    init) options=(
+      '--hint[what to change after a fault]' '-o[the file to write]:file:_files' '--help' '--nodes[how many nodes]:number:' '--bitrate[the bit rate]:rate:(10k 20k 50k 125k 250k 500k 800k 1M)'
+      '--cable[the length of the cable]:length:' '--kind[the kind of controllers]:kind:(sja1000 c_can bxcan mcp2515 at91 xilinx flexcan m_can fdcan tcan4550 mcp2518fd book)'
+    ) ;;
     run) options+=('--workers[how many threads]:number:(1 2 3 4 5 6 7 8)' '--link[what they hand records over by]:link:(hub mail)' '--brief[without lines of frames]' $format) ;;
     check | explain) options+=($format) ;;
     records) options+=('--from[the first tick of the window]:tick:' '--to[the first tick after it]:tick:') ;;
@@ -16,6 +20,7 @@ _wireline() {
     vcd | page) options+=('--tick[how long a tick takes]:time:') ;;
     merge | horizon) options+=('--wide[records of plans of version 4]') ;;
     margin) options+=('--tick[how long a tick takes]:time:' '--all-send[as if each node had frames]' $format) ;;
+    respond) options+=('--tick[how long a tick takes]:time:' '--any-data[whatever data the frames have]' '--strict[status 1 unless all deadlines are met]' $format) ;;
     traffic) options+=('--tick[how long a tick takes]:time:' '--strict[status 1 unless the run works]' $format) ;;
     settings) options+=('--tick[how long a tick takes]:time:' '--best[the most settings that are listed]:number:' '--plan[the plan of the best one]') ;;
     sweep) options+=(

@@ -46,7 +46,7 @@ hand_over() { # hand_over PROGRAM WORD..: becomes the program, with the words th
   local program=$1 said=(--hint) words=() before='' ended='' word
   shift
   if asks_for_help "$@"; then help_of "$program" "$@"; fi
-  if [ $# = 1 ] && [ -t 0 ]; then say "reading from the terminal, up to Ctrl-D; to read a file: $(basename "$0") $1 FILE"; fi
+  if [ $# = 1 ] && [ "$1" != init ] && [ -t 0 ]; then say "reading from the terminal, up to Ctrl-D; to read a file: $(basename "$0") $1 FILE"; fi
   [ ! -t 2 ] || said+=(--progress)
   for word in "${@:2}"; do
     [ "$word" != -- ] || ended=yes
@@ -57,8 +57,12 @@ hand_over() { # hand_over PROGRAM WORD..: becomes the program, with the words th
     words+=("$word") before=$word
   done
   if [ "${1-}" = sweep ] && [[ " ${words[*]} " = *' --join '* ]]; then join_files "$program" "${said[@]}" "${words[@]}"; fi
+  # Somebody at a terminal reads tables, in colours if the terminal has them; programs and files get the text.
+  if [ -t 1 ] && [[ ${1-} =~ ^(margin|respond|traffic|check|sweep)$ && " ${words[*]} " != *' --format'* && " ${words[*]} " != *' -o'* ]]; then
+    if [ -n "${NO_COLOR-}" ] || [ "${TERM-dumb}" = dumb ]; then said+=(--format table); else said+=(--format coloured); fi
+  fi
   case ${1-} in
-    run | check | format | records | explain | trace | candump | vcd | page | margin | traffic | settings | merge | horizon | sweep)
+    init | run | margin | explain | respond | traffic | check | settings | sweep | trace | page | vcd | candump | records | format | merge | horizon)
       exec "$program" "$1" "${said[@]}" "${words[@]}"
       ;;
   esac

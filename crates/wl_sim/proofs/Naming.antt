@@ -3,9 +3,9 @@ use Rattle.std.proofs.Common.{◌≡◌, ◌∙◌, refl, sym, subst, ap, ap₂,
 use Rattle.std.specs.Str.{bytes_eq}
 use Rattle.std.proofs.lemmas.Slice.Eq.{bytes_eq-Decides}
 use Rattle.clap.specs.Words.{Text}
-use Rattle.wl_sim.specs.CommandLine.{HasValues, NamedTask, candump_task, or_task, plain_task, run_task, sweep_task, task_named, task_word, timed_task, trace_task, valued_task}
+use Rattle.wl_sim.specs.CommandLine.{HasValues, NamedTask, candump_task, init_task, or_task, plain_task, run_task, sweep_task, task_named, task_word, timed_task, trace_task, valued_task}
 use Rattle.wl_sim.specs.declared.command.Task.{Task}
-use Rattle.wl_sim.specs.declared.command.Task.TheVariants.{Merge, Horizon, Check, Upgrade, Records, Run, Explain, Trace, Candump, Vcd, Page, Margin, Traffic, Settings, Sweep}
+use Rattle.wl_sim.specs.declared.command.Task.TheVariants.{Init, Merge, Horizon, Check, Upgrade, Records, Run, Explain, Trace, Candump, Vcd, Page, Margin, Respond, Traffic, Settings, Sweep}
 use Rattle.wl_sim.specs.declared.values.Values.{Values}
 use Rattle.wl_views.specs.declared.tick.Tick.{Tick}
 
@@ -49,7 +49,8 @@ module _ (v : Values) (w : Text) (t : Task) where
       (chosen w (codes "margin") _ _ t (is_named (Some v) w t (Margin tick v.all_send) (has, refl))
       (chosen w (codes "traffic") _ _ t (is_named (Some v) w t (Traffic tick v.strict) (has, refl))
       (chosen w (codes "settings") _ _ t (is_named (Some v) w t (Settings tick v.shown) (has, refl))
-      (λ (no : None ≡ Some t). cc)))))
+      (chosen w (codes "respond") _ _ t (is_named (Some v) w t (Respond tick v.any_data v.strict) (has, refl, refl))
+      (λ (no : None ≡ Some t). cc))))))
 
   run_named : w ≡ codes "run" → run_task v ≡ Some t → NamedTask (Some w) (Some v) t
   run_named is h =
@@ -73,6 +74,11 @@ module _ (v : Values) (w : Text) (t : Task) where
       let swept = some_map v.swept _ t h in
       is_named (Some v) w t (Sweep swept.0) swept.1 is (ap Some swept.2)
 
+  init_named : w ≡ codes "init" → init_task v ≡ Some t → NamedTask (Some w) (Some v) t
+  init_named is h =
+      let wish = some_map v.wish _ t h in
+      is_named (Some v) w t (Init wish.0) wish.1 is (ap Some wish.2)
+
   other_named : option_and_then (timed_task w v) v.tick ≡ Some t → NamedTask (Some w) (Some v) t
   other_named h =
       let tick = some_then v.tick _ t h in
@@ -83,7 +89,8 @@ module _ (v : Values) (w : Text) (t : Task) where
       chosen w (codes "merge") _ _ t (is_named (Some v) w t (Merge v.limits) refl) (chosen w (codes "horizon") _ _ t (is_named (Some v) w t (Horizon v.limits) refl)
       (chosen w (codes "records") _ _ t (is_named (Some v) w t (Records v.window) refl)
       (chosen w (codes "run") _ _ t run_named (chosen w (codes "trace") _ _ t trace_named
-      (chosen w (codes "candump") _ _ t candump_named (chosen w (codes "sweep") _ _ t sweep_named other_named))))))
+      (chosen w (codes "candump") _ _ t candump_named (chosen w (codes "sweep") _ _ t sweep_named
+      (chosen w (codes "init") _ _ t init_named other_named)))))))
 
 of_values : (w : Text) (t : Task) (given : Option Values) → option_and_then (valued_task w) given ≡ Some t → NamedTask (Some w) given t
 of_values w t (Some v) is = valued_named v w t is
@@ -103,6 +110,7 @@ found_by_word : (given : Option Values) (t : Task) → HasValues given t → tas
 found_by_word given Check h = refl
 found_by_word given Upgrade h = refl
 found_by_word given Explain h = refl
+found_by_word (Some v) (Init wish) h = ap (option_map (λ wish. Init wish)) h
 found_by_word (Some v) (Merge limits) h = ap (option_map (λ limits. Merge limits)) h
 found_by_word (Some v) (Horizon limits) h = ap (option_map (λ limits. Horizon limits)) h
 found_by_word (Some v) (Records window) h = ap (option_map (λ window. Records window)) h
@@ -117,8 +125,11 @@ found_by_word (Some v) (Sweep swept) h = ap (option_map (λ swept. Sweep swept))
 found_by_word (Some v) (Vcd tick) h = ap (option_map (λ tick. Vcd tick)) h
 found_by_word (Some v) (Page tick) h = ap (option_map (λ tick. Page tick)) h
 found_by_word (Some v) (Margin tick all) h = ap₂ (λ o p. option_map (λ tick. Margin tick (unwrap_or p all)) o) h.0 h.1
+found_by_word (Some v) (Respond tick any strict) h =
+    ap₂ (λ o p. option_map (λ tick. Respond tick (unwrap_or p any) v.strict) o) h.0 h.1 ∙ ap (λ q. Some (Respond tick any (unwrap_or q strict))) h.2
 found_by_word (Some v) (Traffic tick strict) h = ap₂ (λ o p. option_map (λ tick. Traffic tick (unwrap_or p strict)) o) h.0 h.1
 found_by_word (Some v) (Settings tick shown) h = ap₂ (λ o p. option_map (λ tick. Settings tick (unwrap_or p shown)) o) h.0 h.1
+found_by_word None (Init wish) h = let no : None ≡ Some wish = h in cc
 found_by_word None (Merge limits) h = let no : None ≡ Some limits = h in cc
 found_by_word None (Horizon limits) h = let no : None ≡ Some limits = h in cc
 found_by_word None (Records window) h = let no : None ≡ Some window = h in cc
@@ -129,6 +140,7 @@ found_by_word None (Sweep swept) h = let no : None ≡ Some swept = h in cc
 found_by_word None (Vcd tick) h = let no : None ≡ Some tick = h in cc
 found_by_word None (Page tick) h = let no : None ≡ Some tick = h in cc
 found_by_word None (Margin tick all) h = let no : None ≡ Some tick = h.0 in cc
+found_by_word None (Respond tick any strict) h = let no : None ≡ Some tick = h.0 in cc
 found_by_word None (Traffic tick strict) h = let no : None ≡ Some tick = h.0 in cc
 found_by_word None (Settings tick shown) h = let no : None ≡ Some tick = h.0 in cc
 

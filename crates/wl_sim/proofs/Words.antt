@@ -20,9 +20,11 @@ use Rattle.wl_engines.specs.declared.fault.RunFault.TheVariants as run
 use Rattle.wl_sweep.specs.declared.part.Share.{Share}
 use Rattle.wl_sweep.specs.Parts.{share_named}
 use Rattle.wl_sweep_engine.specs.declared.fault.SweepFault.TheVariants as sweep
+use Rattle.wl_init.specs.declared.fault.InitFault.TheVariants as init
+use Rattle.wl_init.specs.Wishes.{cable_said, kind_said, rate_said}
 use Rattle.wl_print.specs.declared.fault.PrintFault.TheVariants as print
 use Rattle.wl_settings.specs.declared.fault.SettingsFault.TheVariants as settings
-use Rattle.wl_sim.specs.CommandLine.{node_among, only_among, read_only, task_word, tick_among, workers_among, read_link, link_among, entered, file_among, file_in, file_named, format_among, format_in, read_format, is_flagged, is_set, number_among, number_or_zero, plain_values, ranges_among, ranges_in, values_among, word_in, Enters, HasValues, NamesTask, share_among}
+use Rattle.wl_sim.specs.CommandLine.{cable_among, kind_among, nodes_among, rate_among, node_among, only_among, read_only, task_word, tick_among, workers_among, read_link, link_among, entered, file_among, file_in, file_named, format_among, format_in, read_format, is_flagged, is_set, number_among, number_or_zero, plain_values, ranges_among, ranges_in, values_among, word_in, Enters, HasValues, NamesTask, share_among}
 use Rattle.wl_sweep_engine.specs.declared.join.JoinFault.TheVariants as join
 use Rattle.wl_views.specs.Ticks.{read_tick}
 use Rattle.wl_sim.proofs.Naming.{one_found}
@@ -37,12 +39,13 @@ use Rattle.wl_sim.specs.declared.command.Order.{Order}
 use Rattle.wl_sim.specs.declared.command.Refusal.{Refusal}
 use Rattle.wl_sim.specs.declared.command.Refusal.TheVariants.{Words, Memory}
 use Rattle.wl_sim.specs.declared.command.Task.{Task}
-use Rattle.wl_sim.specs.declared.command.Task.TheVariants.{Merge, Horizon, Check, Upgrade, Records, Run, Explain, Trace, Candump, Vcd, Page, Margin, Traffic, Settings, Sweep}
+use Rattle.wl_sim.specs.declared.command.Task.TheVariants.{Init, Merge, Horizon, Check, Upgrade, Records, Run, Explain, Trace, Candump, Vcd, Page, Margin, Respond, Traffic, Settings, Sweep}
 use Rattle.wl_sim.specs.declared.sweep.Swept.{Swept}
 
 -- the word of a task enters its subcommand, without a fault
 word_enters : (t : Task) (name : Text) → HasValues (Some plain_values) t → Enters t (name ∷ task_word t ∷ [])
 unfolding clap_on_literals
+word_enters (Init wish) name h = ((refl, h), refl, refl)
 word_enters (Merge limits) name h = ((refl, h), refl, refl)
 word_enters (Horizon limits) name h = ((refl, h), refl, refl)
 word_enters Check name h = ((refl, tt), refl, refl)
@@ -55,6 +58,7 @@ word_enters (Candump tick from window) name h = ((refl, h), refl, refl)
 word_enters (Vcd tick) name h = ((refl, h), refl, refl)
 word_enters (Page tick) name h = ((refl, h), refl, refl)
 word_enters (Margin tick all) name h = ((refl, h), refl, refl)
+word_enters (Respond tick any strict) name h = ((refl, h), refl, refl)
 word_enters (Traffic tick strict) name h = ((refl, h), refl, refl)
 word_enters (Settings tick shown) name h = ((refl, h), refl, refl)
 word_enters (Sweep swept) name h = ((refl, h), refl, refl)
@@ -66,6 +70,7 @@ NamesNothing words =
 
 word_names_none : (t : Task) (name : Text) → NamesNothing (name ∷ task_word t ∷ [])
 unfolding clap_on_literals
+word_names_none (Init wish) name = (refl, refl, refl)
 word_names_none (Merge limits) name = (refl, refl, refl)
 word_names_none (Horizon limits) name = (refl, refl, refl)
 word_names_none Check name = (refl, refl, refl)
@@ -78,6 +83,7 @@ word_names_none (Candump tick from window) name = (refl, refl, refl)
 word_names_none (Vcd tick) name = (refl, refl, refl)
 word_names_none (Page tick) name = (refl, refl, refl)
 word_names_none (Margin tick all) name = (refl, refl, refl)
+word_names_none (Respond tick any strict) name = (refl, refl, refl)
 word_names_none (Traffic tick strict) name = (refl, refl, refl)
 word_names_none (Settings tick shown) name = (refl, refl, refl)
 word_names_none (Sweep swept) name = (refl, refl, refl)
@@ -85,6 +91,7 @@ word_names_none (Sweep swept) name = (refl, refl, refl)
 -- and no format
 word_format : (t : Task) (name : Text) → format_in (entered (name ∷ task_word t ∷ [])) ≡ Some None
 unfolding clap_on_literals
+word_format (Init wish) name = refl
 word_format (Merge limits) name = refl
 word_format (Horizon limits) name = refl
 word_format Check name = refl
@@ -97,6 +104,7 @@ word_format (Candump tick from window) name = refl
 word_format (Vcd tick) name = refl
 word_format (Page tick) name = refl
 word_format (Margin tick all) name = refl
+word_format (Respond tick any strict) name = refl
 word_format (Traffic tick strict) name = refl
 word_format (Settings tick shown) name = refl
 word_format (Sweep swept) name = refl
@@ -131,6 +139,19 @@ node_text f = ap (option_map byte_or_zero) (sym (first_value-rows f (codes "node
 -- the kind of events of an option, by its text
 pub only_text : (f : Found) → only_among (rows_of f) ≡ option_map_or read_only (first_value f (codes "only")) (Some None)
 only_text f = ap (λ o. option_map_or read_only o (Some None)) (sym (first_value-rows f (codes "only")))
+
+-- what is asked for of a plan to begin from, by its texts
+pub nodes_text : (f : Found) → nodes_among (rows_of f) ≡ option_map byte_or_zero (first_value f (codes "nodes"))
+nodes_text f = ap (option_map byte_or_zero) (sym (first_value-rows f (codes "nodes")))
+
+pub rate_text : (f : Found) → rate_among (rows_of f) ≡ option_and_then rate_said (first_value f (codes "bitrate"))
+rate_text f = ap (option_and_then rate_said) (sym (first_value-rows f (codes "bitrate")))
+
+pub cable_text : (f : Found) → cable_among (rows_of f) ≡ option_and_then cable_said (first_value f (codes "cable"))
+cable_text f = ap (option_and_then cable_said) (sym (first_value-rows f (codes "cable")))
+
+pub kind_text : (f : Found) → kind_among (rows_of f) ≡ option_and_then kind_said (first_value f (codes "kind"))
+kind_text f = ap (option_and_then kind_said) (sym (first_value-rows f (codes "kind")))
 
 -- the part of a sweep, by its text
 pub part_text : (f : Found) → share_among (rows_of f) ≡ option_map share_named (first_value f (codes "part"))
@@ -211,22 +232,24 @@ module _ {S T : Type 0} (gives : S → Answer → S → Type 0) (takes : T → A
   swept_nothing s s' t t' swept false (Some share) h = (Err sweep.Memory, (some_count swept.workers).0, (some_count swept.workers).1, h, refl)
   swept_nothing s s' t t' swept false None h = sweeps_nothing s s' t t' swept swept.print swept.page h
 
-  does_nothing : (s s' : S) (t t' : T) (task : Task) → t' ≡ t → Does gives takes s s' t t' task [] (Err (fault.Run run.Memory))
-  does_nothing s s' t t' (Merge limits) h = (Err run.Memory, h, refl)
-  does_nothing s s' t t' (Horizon limits) h = (Err run.Memory, h, refl)
-  does_nothing s s' t t' Check h = (Err run.Memory, h, refl)
-  does_nothing s s' t t' Upgrade h = (Err print.Memory, inl (h, inl refl), refl)
-  does_nothing s s' t t' (Records window) h = (Err run.Memory, h, refl)
-  does_nothing s s' t t' (Run workers kind brief) h = (Err run.Memory, both_same (workers == 1) h, refl)
-  does_nothing s s' t t' Explain h = (Err run.Memory, h, refl)
-  does_nothing s s' t t' (Trace pick) h = (Err run.Memory, h, refl)
-  does_nothing s s' t t' (Candump tick from window) h = (Err run.Memory, h, refl)
-  does_nothing s s' t t' (Vcd tick) h = (Err run.Memory, h, refl)
-  does_nothing s s' t t' (Page tick) h = (Err run.Memory, h, refl)
-  does_nothing s s' t t' (Margin tick all) h = (Err run.Memory, h, refl)
-  does_nothing s s' t t' (Traffic tick strict) h = (Err run.Memory, h, refl)
-  does_nothing s s' t t' (Settings tick shown) h = (Err settings.Memory, inl (h, inl refl), refl)
-  does_nothing s s' t t' (Sweep swept) h = swept_nothing s s' t t' swept swept.join swept.part h
+  does_nothing : (s s' : S) (t t' : T) (task : Task) → s' ≡ s → t' ≡ t → Does gives takes s s' t t' task [] (Err (fault.Run run.Memory))
+  does_nothing s s' t t' (Init wish) g h = (Err init.Memory, g, inl (h, inl refl), refl)
+  does_nothing s s' t t' (Merge limits) g h = (Err run.Memory, h, refl)
+  does_nothing s s' t t' (Horizon limits) g h = (Err run.Memory, h, refl)
+  does_nothing s s' t t' Check g h = (Err run.Memory, h, refl)
+  does_nothing s s' t t' Upgrade g h = (Err print.Memory, inl (h, inl refl), refl)
+  does_nothing s s' t t' (Records window) g h = (Err run.Memory, h, refl)
+  does_nothing s s' t t' (Run workers kind brief) g h = (Err run.Memory, both_same (workers == 1) h, refl)
+  does_nothing s s' t t' Explain g h = (Err run.Memory, h, refl)
+  does_nothing s s' t t' (Trace pick) g h = (Err run.Memory, h, refl)
+  does_nothing s s' t t' (Candump tick from window) g h = (Err run.Memory, h, refl)
+  does_nothing s s' t t' (Vcd tick) g h = (Err run.Memory, h, refl)
+  does_nothing s s' t t' (Page tick) g h = (Err run.Memory, h, refl)
+  does_nothing s s' t t' (Margin tick all) g h = (Err run.Memory, h, refl)
+  does_nothing s s' t t' (Respond tick any strict) g h = (Err run.Memory, h, refl)
+  does_nothing s s' t t' (Traffic tick strict) g h = (Err run.Memory, h, refl)
+  does_nothing s s' t t' (Settings tick shown) g h = (Err settings.Memory, inl (h, inl refl), refl)
+  does_nothing s s' t t' (Sweep swept) g h = swept_nothing s s' t t' swept swept.join swept.part h
 
 -- what is done over an order without files is done over the standard devices
 module _ {S T F R W : Type 0} (gives : S → Answer → S → Type 0) (takes : T → Answer → T → Type 0)
@@ -259,7 +282,7 @@ module _ {S T F R W : Type 0} (gives : S → Answer → S → Type 0) (takes : T
       → NamesTask task words → Ends gives takes file_gives file_takes opens stands holds s s' t t' f f' (Err refusal) status
       → EndsPlainly gives takes file_gives file_takes opens stands holds s s' t t' f f' task status
   named_is_refused words Words task status none named h = absurd (none task (names_enters task words named))
-  named_is_refused words Memory task status none named h = ((Err (fault.Run run.Memory), does_nothing gives takes s s' t t' task h.1, h.3), h.2)
+  named_is_refused words Memory task status none named h = ((Err (fault.Run run.Memory), does_nothing gives takes s s' t t' task h.0 h.1, h.3), h.2)
 
   named_ends : (words : List Text) (read : Result Order Refusal) (task : Task) (status : ℕ) → ReadsOrder words read → NamesTask task words
       → Ends gives takes file_gives file_takes opens stands holds s s' t t' f f' read status

@@ -14,17 +14,19 @@ use Rattle.clap.specs.declared.builder.action.ArgAction.TheVariants.{Append, Set
 use Rattle.clap.specs.declared.builder.value_parser.ValueParser.TheVariants.{Signed, Unsigned}
 use Rattle.clap.specs.Simple.{on_top}
 use Rattle.wl_formats.specs.declared.formats.Format.{Format}
-use Rattle.wl_formats.specs.declared.formats.Format.TheVariants.{Json, Csv}
+use Rattle.wl_formats.specs.declared.formats.Format.TheVariants.{Json, Csv, Table, Coloured}
 use Rattle.wl_settings.specs.declared.said.Shown.{Shown}
 use Rattle.wl_settings.specs.declared.said.Shown.TheVariants.{Best, Plan}
 use Rattle.wl_sweep.specs.declared.part.Share.{Share}
 use Rattle.wl_sweep.specs.Parts.{share_named}
 use Rattle.wl_worker.specs.declared.by_links.LinkKind.{LinkKind}
 use Rattle.wl_worker.specs.declared.by_links.LinkKind.TheVariants.{Hub, Mail}
+use Rattle.wl_init.specs.declared.wish.Wish.{Wish}
+use Rattle.wl_init.specs.Wishes.{cable_said, kind_said, rate_said}
 use Rattle.wl_limits.specs.declared.Limits.{Limits}
 use Rattle.wl_limits.specs.declared.Limits.TheVariants.{Narrow, Wide}
 use Rattle.wl_sim.specs.declared.command.Task.{Task}
-use Rattle.wl_sim.specs.declared.command.Task.TheVariants.{Merge, Horizon, Check, Upgrade, Records, Run, Explain, Trace, Candump, Vcd, Page, Margin, Traffic, Settings, Sweep}
+use Rattle.wl_sim.specs.declared.command.Task.TheVariants.{Init, Merge, Horizon, Check, Upgrade, Records, Run, Explain, Trace, Candump, Vcd, Page, Margin, Respond, Traffic, Settings, Sweep}
 use Rattle.wl_sim.specs.declared.sweep.Swept.{Swept}
 use Rattle.wl_sim.specs.declared.values.Values.{Values}
 use Rattle.wl_views.specs.declared.pick.EventKind.{EventKind}
@@ -37,6 +39,7 @@ use Rattle.wl_views.specs.Ticks.{read_tick}
 
 -- the word of a task
 abbrev pub task_word : Task → Text
+task_word (Init wish) = codes "init"
 task_word (Merge limits) = codes "merge"
 task_word (Horizon limits) = codes "horizon"
 task_word Check = codes "check"
@@ -49,6 +52,7 @@ task_word (Candump tick from window) = codes "candump"
 task_word (Vcd tick) = codes "vcd"
 task_word (Page tick) = codes "page"
 task_word (Margin tick all) = codes "margin"
+task_word (Respond tick any strict) = codes "respond"
 task_word (Traffic tick strict) = codes "traffic"
 task_word (Settings tick shown) = codes "settings"
 task_word (Sweep swept) = codes "sweep"
@@ -65,10 +69,14 @@ output_rule = record (new_rule (codes "output")) { short = Some 111; value_names
 abbrev pub flag_rule : Text → Rule
 flag_rule name = record (new_rule name) { long = Some name; action = Some SetTrue }
 
--- a subcommand with what each has
+-- a subcommand, which reads a file unless it is `init`
+abbrev pub reading_app : Text → App
+reading_app word = if bytes_eq word (codes "init") then new_app word else with_rule (new_app word) input_rule
+
+-- and with what each has
 abbrev pub filed : Text → App
 filed word =
-    with_rule (with_rule (with_rule (with_rule (new_app word) input_rule) output_rule) (flag_rule (codes "hint"))) (flag_rule (codes "progress"))
+    with_rule (with_rule (with_rule (reading_app word) output_rule) (flag_rule (codes "hint"))) (flag_rule (codes "progress"))
 
 -- the option `--tick`, which is `1ns` where it isn't given
 abbrev pub tick_rule : Rule
@@ -127,6 +135,10 @@ wide_app app = with_rule app (flag_rule (codes "wide"))
 abbrev pub margin_app : App → App
 margin_app app = formatted_app (with_rule (timed_app app) (flag_rule (codes "all-send")))
 
+-- of `respond`
+abbrev pub respond_app : App → App
+respond_app app = formatted_app (with_rule (with_rule (timed_app app) (flag_rule (codes "any-data"))) (flag_rule (codes "strict")))
+
 -- of `traffic`
 abbrev pub traffic_app : App → App
 traffic_app app = formatted_app (with_rule (timed_app app) (flag_rule (codes "strict")))
@@ -151,6 +163,24 @@ best_rule = record (new_rule (codes "best")) { long = Some (codes "best"); value
 -- a subcommand with the options of `settings`
 abbrev pub settings_app : App → App
 settings_app app = with_rule (with_rule (timed_app app) best_rule) (flag_rule (codes "plan"))
+
+-- the options of `init`, whose nodes are 2 to 64: two nodes, 500 kbit/s, 40 m and an MCP2515 where nothing else is said
+abbrev pub nodes_rule : Rule
+nodes_rule =
+    record (new_rule (codes "nodes")) { long = Some (codes "nodes"); value_names = 1; defaults = codes "2" ∷ []; parser = Some (Signed (pos 2) (pos 64)) }
+
+abbrev pub bitrate_rule : Rule
+bitrate_rule = record (new_rule (codes "bitrate")) { long = Some (codes "bitrate"); value_names = 1; defaults = codes "500k" ∷ [] }
+
+abbrev pub cable_rule : Rule
+cable_rule = record (new_rule (codes "cable")) { long = Some (codes "cable"); value_names = 1; defaults = codes "40m" ∷ [] }
+
+abbrev pub kind_rule : Rule
+kind_rule = record (new_rule (codes "kind")) { long = Some (codes "kind"); value_names = 1; defaults = codes "mcp2515" ∷ [] }
+
+-- a subcommand with the options of `init`
+abbrev pub init_app : App → App
+init_app app = with_rule (with_rule (with_rule (with_rule app nodes_rule) bitrate_rule) cable_rule) kind_rule
 
 -- the options of `sweep`, of which `--vary` may come several times; the members that are run are 1000 at most, and drawn by seed 1, where nothing else is said
 abbrev pub vary_rule : Rule
@@ -204,7 +234,8 @@ optioned_app word app =
     (if bytes_eq word (codes "vcd") then timed_app app else (if bytes_eq word (codes "page") then timed_app app else
     (if bytes_eq word (codes "candump") then candump_app app else (if bytes_eq word (codes "margin") then margin_app app else
     (if bytes_eq word (codes "traffic") then traffic_app app else (if bytes_eq word (codes "settings") then settings_app app else
-    (if bytes_eq word (codes "sweep") then sweep_app app else app)))))))))))))
+    (if bytes_eq word (codes "sweep") then sweep_app app else (if bytes_eq word (codes "init") then init_app app else
+    (if bytes_eq word (codes "respond") then respond_app app else app)))))))))))))))
 
 -- the subcommand of a word
 abbrev pub subcommand_app : Text → App
@@ -221,8 +252,8 @@ bare_program = on_top (λ s. record s { subcommand_required = true }) (on_top (�
 -- the words of the subcommands, in the order of the help
 abbrev pub task_words : List Text
 task_words =
-    codes "merge" ∷ codes "horizon" ∷ codes "check" ∷ codes "format" ∷ codes "records" ∷ codes "run" ∷ codes "explain" ∷ codes "trace" ∷ codes "candump" ∷ codes "vcd"
-    ∷ codes "page" ∷ codes "margin" ∷ codes "traffic" ∷ codes "settings" ∷ codes "sweep" ∷ []
+    codes "init" ∷ codes "run" ∷ codes "margin" ∷ codes "explain" ∷ codes "respond" ∷ codes "traffic" ∷ codes "check" ∷ codes "settings" ∷ codes "sweep" ∷ codes "trace"
+    ∷ codes "page" ∷ codes "vcd" ∷ codes "candump" ∷ codes "records" ∷ codes "format" ∷ codes "merge" ∷ codes "horizon" ∷ []
 
 -- the program's command line
 abbrev pub program : App
@@ -274,7 +305,8 @@ link_among rows = option_and_then read_link (first_of (codes "link") rows)
 abbrev pub read_format : Text → Option (Option Format)
 read_format text =
     if bytes_eq text (codes "text") then Some None
-    else (if bytes_eq text (codes "json") then Some (Some Json) else (if bytes_eq text (codes "csv") then Some (Some Csv) else None))
+    else (if bytes_eq text (codes "json") then Some (Some Json) else (if bytes_eq text (codes "csv") then Some (Some Csv) else
+    (if bytes_eq text (codes "table") then Some (Some Table) else (if bytes_eq text (codes "coloured") then Some (Some Coloured) else None))))
 
 -- the format that a subcommand's option gives; a subcommand that has no such option writes text
 abbrev pub format_among : List Row → Option (Option Format)
@@ -384,6 +416,23 @@ only_among rows = option_map_or read_only (first_of (codes "only") rows) (Some N
 abbrev pub node_among : List Row → Option ℕ
 node_among rows = option_map byte_or_zero (first_of (codes "node") rows)
 
+-- what the options ask for of a plan to begin from
+abbrev pub nodes_among : List Row → Option ℕ
+nodes_among rows = option_map byte_or_zero (first_of (codes "nodes") rows)
+
+abbrev pub rate_among : List Row → Option ℕ
+rate_among rows = option_and_then rate_said (first_of (codes "bitrate") rows)
+
+abbrev pub cable_among : List Row → Option ℕ
+cable_among rows = option_and_then cable_said (first_of (codes "cable") rows)
+
+abbrev pub kind_among : List Row → Option ℕ
+kind_among rows = option_and_then kind_said (first_of (codes "kind") rows)
+
+abbrev pub wish_among : List Row → Option Wish
+wish_among rows =
+    option_map (λ nodes. record { nodes = nodes; rate = rate_among rows; cable = cable_among rows; kind = kind_among rows }) (nodes_among rows)
+
 -- which events the options ask for
 abbrev pub pick_among : List Row → Option Pick
 pick_among rows = option_map (λ only. record { window = window_among rows; node = node_among rows; only = only }) (only_among rows)
@@ -398,11 +447,13 @@ values_among rows = record {
   shown = shown_among rows;
   strict = is_flagged (codes "strict") rows;
   all_send = is_flagged (codes "all-send") rows;
+  any_data = is_flagged (codes "any-data") rows;
   limits = limits_among rows;
   from = number_among 32 (codes "from") rows;
   window = window_among rows;
   pick = pick_among rows;
   brief = is_flagged (codes "brief") rows;
+  wish = wish_among rows;
 }
 
 -- a task that has values of options has these
@@ -413,6 +464,8 @@ HasValues given (Candump tick from window) =
 HasValues given (Vcd tick) = option_and_then (λ v. v.tick) given ≡ Some tick
 HasValues given (Page tick) = option_and_then (λ v. v.tick) given ≡ Some tick
 HasValues given (Margin tick all) = (option_and_then (λ v. v.tick) given ≡ Some tick) × (option_map (λ v. v.all_send) given ≡ Some all)
+HasValues given (Respond tick any strict) =
+    (option_and_then (λ v. v.tick) given ≡ Some tick) × (option_map (λ v. v.any_data) given ≡ Some any) × (option_map (λ v. v.strict) given ≡ Some strict)
 HasValues given (Traffic tick strict) = (option_and_then (λ v. v.tick) given ≡ Some tick) × (option_map (λ v. v.strict) given ≡ Some strict)
 HasValues given (Settings tick shown) = (option_and_then (λ v. v.tick) given ≡ Some tick) × (option_map (λ v. v.shown) given ≡ Some shown)
 HasValues given (Run workers kind brief) =
@@ -425,6 +478,7 @@ HasValues given Check = Unit {0}
 HasValues given Upgrade = Unit {0}
 HasValues given (Records window) = option_map (λ v. v.window) given ≡ Some window
 HasValues given Explain = Unit {0}
+HasValues given (Init wish) = option_and_then (λ v. v.wish) given ≡ Some wish
 HasValues given (Trace pick) = option_and_then (λ v. v.pick) given ≡ Some pick
 
 -- this word and these values make this task
@@ -449,6 +503,9 @@ candump_task values = option_and_then (λ tick. option_map (λ from. Candump tic
 abbrev pub trace_task : Values → Option Task
 trace_task values = option_map (λ pick. Trace pick) values.pick
 
+abbrev pub init_task : Values → Option Task
+init_task values = option_map (λ wish. Init wish) values.wish
+
 abbrev pub sweep_task : Values → Option Task
 sweep_task values = option_map (λ swept. Sweep swept) values.swept
 
@@ -460,7 +517,13 @@ timed_task word values tick =
     else (if bytes_eq word (codes "margin") then Some (Margin tick values.all_send)
     else (if bytes_eq word (codes "traffic") then Some (Traffic tick values.strict)
     else (if bytes_eq word (codes "settings") then Some (Settings tick values.shown)
-    else None))))
+    else (if bytes_eq word (codes "respond") then Some (Respond tick values.any_data values.strict)
+    else None)))))
+
+-- the task that a word names if it is `init`, or over the ticks of the values
+abbrev pub begun_task : Text → Values → Option Task
+begun_task word values =
+    if bytes_eq word (codes "init") then init_task values else option_and_then (timed_task word values) values.tick
 
 -- the task that a word names with values of options
 abbrev pub valued_task : Text → Values → Option Task
@@ -472,7 +535,7 @@ valued_task word values =
     else (if bytes_eq word (codes "trace") then trace_task values
     else (if bytes_eq word (codes "candump") then candump_task values
     else (if bytes_eq word (codes "sweep") then sweep_task values
-    else option_and_then (timed_task word values) values.tick))))))
+    else begun_task word values))))))
 
 -- the first of two
 abbrev pub or_task : Option Task → Option Task → Option Task
@@ -513,12 +576,14 @@ plain_values = record {
   swept = Some plainly_swept;
   strict = false;
   all_send = false;
+  any_data = false;
   limits = Narrow;
   shown = Best None;
   from = Some 0;
   window = record { from = 0; to = None };
   pick = Some (record { window = record { from = 0; to = None }; node = None; only = None });
   brief = false;
+  wish = Some (record { nodes = 2; rate = rate_said (codes "500k"); cable = cable_said (codes "40m"); kind = kind_said (codes "mcp2515") });
 }
 
 -- the program's own name, and after it the word of the task alone: clap enters the task there, with plain values

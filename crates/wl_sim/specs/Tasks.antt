@@ -21,9 +21,13 @@ use Rattle.wl_engines.specs.Margin.{IsMarginOutput, RunsBus}
 use Rattle.wl_engines.specs.Merge.{Merges}
 use Rattle.wl_engines.specs.Paged.{Pages}
 use Rattle.wl_engines.specs.Plans.{RunsPlan, IsRecordsWithin, IsReportOutput, IsTracePicked, IsCandumpWithin, IsVcdOutput}
+use Rattle.wl_engines.specs.Responded.{Responds}
 use Rattle.wl_engines.specs.TrafficRun.{RunsTraffic}
 use Rattle.wl_engines.specs.Workers.{RunsByWorkersAs}
 use Rattle.wl_setup.specs.declared.fault.SetupFault.TheVariants as setup
+use Rattle.wl_init.specs.declared.fault.InitFault.{InitFault}
+use Rattle.wl_init.specs.declared.fault.InitFault.TheVariants as init
+use Rattle.wl_init.specs.Runs.{Inits}
 use Rattle.wl_print.specs.declared.fault.PrintFault.{PrintFault}
 use Rattle.wl_print.specs.declared.fault.PrintFault.TheVariants as print
 use Rattle.wl_print.specs.Formats.{Formats}
@@ -51,7 +55,7 @@ use Rattle.wl_sim.specs.declared.answer.Fault.TheVariants as fault
 use Rattle.wl_sim.specs.declared.command.Refusal.{Refusal}
 use Rattle.wl_sim.specs.declared.command.Refusal.TheVariants.{Words, Memory}
 use Rattle.wl_sim.specs.declared.command.Task.{Task}
-use Rattle.wl_sim.specs.declared.command.Task.TheVariants.{Merge, Horizon, Check, Upgrade, Records, Run, Explain, Trace, Candump, Vcd, Page, Margin, Traffic, Settings, Sweep}
+use Rattle.wl_sim.specs.declared.command.Task.TheVariants.{Init, Merge, Horizon, Check, Upgrade, Records, Run, Explain, Trace, Candump, Vcd, Page, Margin, Respond, Traffic, Settings, Sweep}
 use Rattle.wl_sim.specs.declared.sweep.Swept.{Swept}
 use Rattle.wl_views.specs.Ticks.{tick_picoseconds}
 
@@ -120,6 +124,16 @@ abbrev pub of_format : Result (Unit {0}) PrintFault → Result Done Fault
 of_format (Ok u) = Ok Plain
 of_format (Err f) = Err (of_format_fault f)
 
+-- a fault of a plan to begin from: of its devices or memory it is that of any engine; else it is one of what is asked for
+abbrev pub of_init_fault : InitFault → Fault
+of_init_fault init.Write = fault.Run run.Write
+of_init_fault init.Memory = fault.Run run.Memory
+of_init_fault f = fault.Init f
+
+abbrev pub of_init : Result (Unit {0}) InitFault → Result Done Fault
+of_init (Ok u) = Ok Plain
+of_init (Err f) = Err (of_init_fault f)
+
 -- what is answered for the traffic of a run: if the status is to say so, whether the run works
 abbrev pub of_traffic : (strict : Bool) → Result Reason RunFault → Result Done Fault
 of_traffic strict (Ok Works) = Ok Plain
@@ -127,13 +141,21 @@ of_traffic true (Ok reason) = Ok Unclean
 of_traffic false (Ok reason) = Ok Plain
 of_traffic strict (Err f) = Err (fault.Run f)
 
--- the status of a run: 0; 1 where the input was refused for what it says, some member of a sweep isn't clean, or a strict run doesn't work; 2 where its plan doesn't allow the words of a sweep;
+-- what is answered for the waits of a plan: if the status is to say so, whether all deadlines are met
+abbrev pub of_respond : (strict : Bool) → Result Bool RunFault → Result Done Fault
+of_respond strict (Ok true) = Ok Plain
+of_respond true (Ok false) = Ok Unclean
+of_respond false (Ok false) = Ok Plain
+of_respond strict (Err f) = Err (fault.Run f)
+
+-- the status of a run: 0; 1 where the input was refused for what it says, some member of a sweep isn't clean, or a strict run doesn't work; 2 where its plan doesn't allow the words of a sweep, or there is no plan for those of `init`;
 -- 3 when out of memory, for a fault of reading, writing or workers, or if a line has no other format
 abbrev pub run_status : Result Done Fault → ℕ
 run_status (Ok Plain) = 0
 run_status (Ok Unclean) = 1
 run_status (Err (fault.Run f)) = if is_refusal f then 1 else 3
 run_status (Err (fault.Word f)) = 2
+run_status (Err (fault.Init f)) = 2
 run_status (Err (fault.Settings f)) = 1
 run_status (Err (fault.Print f)) = 1
 run_status (Err (fault.Join f)) = 1
@@ -151,6 +173,7 @@ IsCount None count = (1 ≤ count) × (count ≤ 8)
 
 -- the command of a task, if its output has other formats; a member of a sweep is a plan, its map a page, and a part of it JSON
 abbrev pub subject_of : Task → Option Subject
+subject_of (Init wish) = None
 subject_of (Merge limits) = None
 subject_of (Horizon limits) = None
 subject_of Check = Some subject.Check
@@ -163,6 +186,7 @@ subject_of (Candump tick from window) = None
 subject_of (Vcd tick) = None
 subject_of (Page tick) = None
 subject_of (Margin tick all) = Some subject.Margin
+subject_of (Respond tick any strict) = Some subject.Respond
 subject_of (Traffic tick strict) = Some subject.Traffic
 subject_of (Settings tick shown) = None
 subject_of (Sweep swept) = if not swept.join && (is_some swept.part || is_some swept.print || swept.page) then None else Some subject.Sweep
@@ -191,12 +215,18 @@ module _ {S T : Type 0} (gives : S → Answer → S → Type 0) (takes : T → A
       × Parts gives takes ranges swept.asked s s' t t' share count answer × (r ≡ of_print answer)
   DoesSwept swept ranges false None r = DoesSweep swept ranges swept.print swept.page r
 
+  -- how long the messages of a plan may wait was written
+  abbrev pub DoesRespond : Tick → (any strict : Bool) → Result Done Fault → Type 0
+  DoesRespond tick any strict r = (answer : Result Bool RunFault) × Responds gives takes tick any s s' t t' answer × (r ≡ of_respond strict answer)
+
   -- the traffic of a run was written
   abbrev pub DoesTraffic : Tick → Bool → Result Done Fault → Type 0
   DoesTraffic tick strict r = (answer : Result Reason RunFault) × RunsTraffic gives takes tick s s' t t' answer × (r ≡ of_traffic strict answer)
 
   -- what was done for a task, over the ranges of a sweep
   abbrev pub Does : Task → List Text → Result Done Fault → Type 0
+  Does (Init wish) ranges r =
+      (answer : Result (Unit {0}) InitFault) × (s' ≡ s) × Inits takes wish t t' answer × (r ≡ of_init answer)
   Does (Merge limits) ranges r = Plainly (Merges limits gives takes s s' t t') r
   Does (Horizon limits) ranges r = Plainly (TellsHorizons limits gives takes s s' t t') r
   Does Check ranges r = Plainly (RunsPlan gives takes IsPlanCheck s s' t t') r
@@ -210,6 +240,7 @@ module _ {S T : Type 0} (gives : S → Answer → S → Type 0) (takes : T → A
   Does (Vcd tick) ranges r = Plainly (RunsPlan gives takes (IsVcdOutput tick) s s' t t') r
   Does (Page tick) ranges r = Plainly (Pages gives takes tick s s' t t') r
   Does (Margin tick all) ranges r = Plainly (RunsBus gives takes (IsMarginOutput tick all) s s' t t') r
+  Does (Respond tick any strict) ranges r = DoesRespond tick any strict r
   Does (Traffic tick strict) ranges r = DoesTraffic tick strict r
   Does (Settings tick shown) ranges r =
       (answer : Result (Unit {0}) SettingsFault) × RunsSettings gives takes (tick_picoseconds tick) shown s s' t t' answer × (r ≡ of_settings answer)

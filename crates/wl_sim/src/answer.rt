@@ -4,10 +4,11 @@ ghost use Rattle.std.specs.List.{list_all};
 ghost use Rattle.wl_sweep.specs.Findings.{is_clean};
 ghost use Rattle.wl_sweep.specs.Tallies.{tally_of};
 ghost use Rattle.wl_sweep.specs.declared.finding.Finding.{Finding};
-ghost use Rattle.wl_sim.specs.Tasks.{AnswersSweep, done_by, of_format, of_format_fault, of_map, of_print, of_settings, of_settings_fault, of_sweep, of_traffic, plainly, of_join, of_join_fault};
+ghost use Rattle.wl_sim.specs.Tasks.{AnswersSweep, done_by, of_format, of_format_fault, of_init, of_init_fault, of_map, of_print, of_settings, of_settings_fault, of_respond, of_sweep, of_traffic, plainly, of_join, of_join_fault};
 
 use thiserror::Error;
 use wl_engines::{Reason, RunFault};
+use wl_init::InitFault;
 use wl_print::PrintFault;
 use wl_settings::SettingsFault;
 use wl_setup::SetupFault;
@@ -18,7 +19,7 @@ use wl_sweep_engine::{JoinFault, SweepFault, Tally};
 pub enum Done {
     /// The output says all.
     Plain,
-    /// Some member of a sweep isn't clean, or a run doesn't work and its status is to say so.
+    /// Some member of a sweep isn't clean; or a run doesn't work, or a deadline isn't met, and the status is to say so.
     Unclean,
 }
 
@@ -37,6 +38,9 @@ pub enum Fault {
     /// The plan has no form in version 4.
     #[error("{0}")]
     Print(PrintFault),
+    /// There is no plan to begin from as the words ask for.
+    #[error("{0}")]
+    Init(InitFault),
     /// The texts aren't those of all parts of one sweep.
     #[error("{0}")]
     Join(JoinFault),
@@ -173,6 +177,39 @@ pub(crate) fn of_format(answer: Result<(), PrintFault>) -> Result<Done, Fault>
     match answer {
         Ok(()) => Ok(Done::Plain),
         Err(fault) => Err(of_format_fault(fault)),
+    }
+}
+
+/// Returns a fault of a plan to begin from: of its devices or memory it is that of any engine, else it is one of what is asked for.
+fn of_init_fault(fault: InitFault) -> Fault
+    ensures { result ≡ of_init_fault fault }
+{
+    match fault {
+        InitFault::Write => Fault::Run(RunFault::Write),
+        InitFault::Memory => Fault::Run(RunFault::Memory),
+        other => Fault::Init(other),
+    }
+}
+
+/// Returns what writing a plan to begin from answered.
+pub(crate) fn of_init(answer: Result<(), InitFault>) -> Result<Done, Fault>
+    ensures { result ≡ of_init answer }
+{
+    match answer {
+        Ok(()) => Ok(Done::Plain),
+        Err(fault) => Err(of_init_fault(fault)),
+    }
+}
+
+/// Returns what the waits of a plan answered, whose status is to say whether all deadlines are met.
+pub(crate) fn of_respond(strict: bool, answer: Result<bool, RunFault>) -> Result<Done, Fault>
+    ensures { result ≡ of_respond strict answer }
+{
+    match answer {
+        Ok(true) => Ok(Done::Plain),
+        Ok(false) if strict => Ok(Done::Unclean),
+        Ok(false) => Ok(Done::Plain),
+        Err(fault) => Err(Fault::Run(fault)),
     }
 }
 

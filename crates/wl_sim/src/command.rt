@@ -2,7 +2,7 @@
 ghost use Rattle.std.specs.Prelude.{◌≡◌, ◌≢◌, ◌↔◌, map, string_bytes, codes, IfOk, IfErr, Some, option_map};
 ghost use Rattle.clap.specs.Words.{kind_of, subcommand_rows_of};
 ghost use Rattle.wl_sim.specs.CommandLine.{Enters, FoundTask, file_in, has_flag, ranges_in};
-ghost use Rattle.wl_sim.specs.CommandLine.{candump_task, plain_task, run_task, sweep_task, task_named, timed_task, trace_task, valued_task};
+ghost use Rattle.wl_sim.specs.CommandLine.{candump_task, init_task, plain_task, run_task, sweep_task, task_named, timed_task, trace_task, valued_task};
 ghost use Rattle.wl_sim.specs.Orders.{FindsOrder, ReadsOrder};
 
 use crate::subcommands::matches_of;
@@ -18,6 +18,7 @@ use std::io;
 use std::rt::Env;
 use wl_engines::LinkKind;
 use wl_formats::Format;
+use wl_init::Wish;
 use wl_limits::Limits;
 use wl_settings::Shown;
 use wl_setup::Text;
@@ -26,6 +27,8 @@ use wl_views::{Pick, Tick, Window};
 /// What the program is asked to do.
 #[derive(Clone, Copy)]
 pub enum Task {
+    /// A plan to begin from, by a wish.
+    Init(Wish),
     /// The canonical text of a record text within these limits.
     Merge(Limits),
     /// What a record text within these limits says of each node, and up to which tick.
@@ -52,6 +55,9 @@ pub enum Task {
     /// Whether a plan's bus works, and with how much to spare, at ticks that take so long; of the plan's senders, or, if that is asked for, of
     /// all nodes that don't only listen.
     Margin(Tick, bool),
+    /// How long the messages of a plan may wait, at ticks that take so long: of any data, if that is asked for. If that is asked for, the status
+    /// says whether all deadlines are met.
+    Respond(Tick, bool, bool),
     /// How busy a plan's bus was, how long its messages waited, and why the run didn't work, at ticks that take so long. If that is asked
     /// for, the status says whether it worked.
     Traffic(Tick, bool),
@@ -129,6 +135,13 @@ fn sweep_task(values: &Values) -> Option<Task>
     Some(Task::Sweep(values.swept?))
 }
 
+/// Returns the task of `init`, if the values have what it wants.
+fn init_task(values: &Values) -> Option<Task>
+    ensures { result ≡ init_task values.now }
+{
+    Some(Task::Init(values.wish?))
+}
+
 /// Returns the task that a word names at ticks that take so long.
 fn timed_task(word: &str, tick: Tick, values: &Values) -> Option<Task>
     ensures { result ≡ timed_task word.now values.now tick }
@@ -139,7 +152,18 @@ fn timed_task(word: &str, tick: Tick, values: &Values) -> Option<Task>
         "margin" => Some(Task::Margin(tick, values.all_send)),
         "traffic" => Some(Task::Traffic(tick, values.strict)),
         "settings" => Some(Task::Settings(tick, values.shown)),
+        "respond" => Some(Task::Respond(tick, values.any_data, values.strict)),
         _ => None,
+    }
+}
+
+/// Returns the task that a word names if it is `init`, or a task over ticks that take so long.
+fn begun_task(word: &str, values: &Values) -> Option<Task>
+    ensures { result ≡ begun_task word.now values.now }
+{
+    match word {
+        "init" => init_task(values),
+        _ => timed_task(word, values.tick?, values),
     }
 }
 
@@ -155,7 +179,7 @@ fn valued_task(word: &str, values: &Values) -> Option<Task>
         "trace" => trace_task(values),
         "candump" => candump_task(values),
         "sweep" => sweep_task(values),
-        _ => timed_task(word, values.tick?, values),
+        _ => begun_task(word, values),
     }
 }
 
@@ -244,12 +268,12 @@ fn refusal_of(kind: ErrorKind) -> Refusal
 fn wanted(words: &[String]) -> &'static str {
     match words.get(1) {
         Some(word) => match word.as_str() {
-            "run" => "--link wants hub or mail, and --format text, json or csv",
-            "check" | "explain" | "sweep" => "--format wants text, json or csv",
+            "run" => "--link wants hub or mail, and --format text, json, csv, table or coloured",
+            "check" | "explain" | "sweep" => "--format wants text, json, csv, table or coloured",
             "trace" =>
-                "--only wants lost, error, flag, frame, mode or sync, and --format text, json or csv",
-            "margin" | "traffic" => {
-                "--tick wants 1 to 999 and ps, ns or us, as 125ps, and --format text, json or csv"
+                "--only wants lost, error, flag, frame, mode or sync, and --format text, json, csv, table or coloured",
+            "margin" | "respond" | "traffic" => {
+                "--tick wants 1 to 999 and ps, ns or us, as 125ps, and --format text, json, csv, table or coloured"
             }
             _ => "--tick wants 1 to 999 and ps, ns or us, as 125ps",
         },

@@ -22,6 +22,7 @@ pub(crate) fn subject_of(task: Task) -> Option<Subject>
         Task::Explain => Some(Subject::Explain),
         Task::Trace(_) => Some(Subject::Trace),
         Task::Margin(_, _) => Some(Subject::Margin),
+        Task::Respond(_, _, _) => Some(Subject::Respond),
         Task::Traffic(_, _) => Some(Subject::Traffic),
         Task::Sweep(swept) => {
             if !swept.join && (swept.part.is_some() || swept.print.is_some() || swept.page) {
@@ -30,7 +31,8 @@ pub(crate) fn subject_of(task: Task) -> Option<Subject>
                 Some(Subject::Sweep)
             }
         }
-        Task::Merge(_)
+        Task::Init(_)
+        | Task::Merge(_)
         | Task::Horizon(_)
         | Task::Upgrade
         | Task::Records(_)

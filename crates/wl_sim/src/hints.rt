@@ -2,13 +2,16 @@
 
 use crate::answer::Fault;
 use crate::command::Order;
+use crate::texts::{is_plan, is_settings};
 use std::alloc::{AllocError, Global};
 use wl_device::read_up_to;
 use wl_engines::RunFault;
-use wl_files::Folder;
+use wl_files::{Folder, Spot};
 use wl_hint::{
-    FREE_MEMORY, Hint, READ, READ_FILE, THREADS, WRITE, WRITE_FILE, hint_of_plan, hint_of_records,
+    FREE_MEMORY, Hint, IS_FOLDER, IS_PLAN, IS_SETTINGS, NO_FILE, READ, READ_FILE, THREADS, WRITE,
+    WRITE_FILE, hint_of_plan, hint_of_records,
 };
+use wl_init::InitFault;
 use wl_print::PrintFault;
 use wl_record::TextFault;
 use wl_settings::SettingsFault;
@@ -65,15 +68,35 @@ fn input_hint<F: Folder>(
     }
 }
 
-/// Returns what to change after a fault of another kind.
-fn advice(fault: &RunFault, has_name: bool) -> &'static str {
-    match (fault, has_name) {
+/// Returns what to change if a named file can't be read.
+fn unread_advice(spot: Spot) -> &'static str {
+    match spot {
+        Spot::Empty => NO_FILE,
+        Spot::Folder => IS_FOLDER,
+        Spot::Other => READ_FILE,
+    }
+}
+
+/// Returns what to change after a fault of another kind, in which a file of a name may have a part: what is at the name.
+fn advice(fault: &RunFault, spot: Option<Spot>) -> &'static str {
+    match (fault, spot.is_some()) {
         (RunFault::Write, true) => WRITE_FILE,
         (RunFault::Write, false) => WRITE,
         (RunFault::Work(_), _) => THREADS,
         (RunFault::Memory, _) => FREE_MEMORY,
-        (_, true) => READ_FILE,
+        (_, true) => unread_advice(spot.unwrap_or(Spot::Other)),
         (_, false) => READ,
+    }
+}
+
+/// True if a plan without a version is a text for `settings`.
+fn is_for_settings<F: Folder>(alloc: Global, order: &Order, fault: &RunFault, folder: &F) -> bool {
+    match fault {
+        RunFault::Setup(SetupFault::Missing(_)) => match input_again(alloc, order, folder) {
+            Ok(Some(text)) => is_settings(text.as_slice()),
+            _ => false,
+        },
+        _ => false,
     }
 }
 
@@ -85,12 +108,18 @@ fn say_hint<F: Folder>(
     fault: &RunFault,
     folder: &F,
 ) {
-    if fault.is_refusal() {
+    if is_for_settings(alloc, order, fault, folder) {
+        let _ = eprintln!(rt; "hint: {IS_SETTINGS}");
+    } else if fault.is_refusal() {
         if let Ok(Some(hint)) = input_hint(alloc, order, fault, folder) {
             let _ = eprintln!(rt; "hint: {hint}");
         }
     } else {
-        let advice = advice(fault, file_of(order, fault).is_some());
+        let spot = match file_of(order, fault) {
+            Some(name) => Some(folder.spot(name.as_str())),
+            None => None,
+        };
+        let advice = advice(fault, spot);
         let _ = eprintln!(rt; "hint: {advice}");
     }
 }
@@ -196,6 +225,66 @@ fn settings_advice(fault: &SettingsFault) -> &'static str {
     }
 }
 
+/// Says what to change of a text for `settings`, which may be a plan.
+fn say_of_settings<F: Folder>(
+    rt: &impl Eprint,
+    alloc: Global,
+    order: &Order,
+    fault: &SettingsFault,
+    folder: &F,
+) {
+    let is_a_plan = match (fault, input_again(alloc, order, folder)) {
+        (SettingsFault::Missing(_) | SettingsFault::Unknown(_), Ok(Some(text))) => {
+            is_plan(text.as_slice())
+        }
+        _ => false,
+    };
+    let advice = if is_a_plan {
+        IS_PLAN
+    } else {
+        settings_advice(fault)
+    };
+    let _ = eprintln!(rt; "hint: {advice}");
+}
+
+/// Says what to change of the words of `init`.
+fn say_of_init(rt: &impl Eprint, fault: InitFault) {
+    let _ = match fault {
+        InitFault::Bitrate => {
+            eprintln!(rt;
+                "hint: --bitrate: Give a bit rate of whole bit/s from 1k to 1M, as 250k or 250kbit/s."
+            )
+        }
+        InitFault::Cable => {
+            eprintln!(rt; "hint: --cable: Give a length in steps of 20 cm, as 60m or 12.4m.")
+        }
+        InitFault::Kind => {
+            eprintln!(rt;
+                "hint: --kind: Give sja1000, c_can, bxcan, mcp2515, at91, xilinx, flexcan, m_can, fdcan, tcan4550, mcp2518fd or book."
+            )
+        }
+        InitFault::NoSegments(Some(below), Some(above)) => {
+            eprintln!(rt;
+                "hint: --bitrate: With its usual clock this kind has no segments for it. The nearest bit rates are {below} and {above} bit/s."
+            )
+        }
+        InitFault::NoSegments(Some(nearest), None) | InitFault::NoSegments(None, Some(nearest)) => {
+            eprintln!(rt;
+                "hint: --bitrate: With its usual clock this kind has no segments for it. The nearest bit rate is {nearest} bit/s."
+            )
+        }
+        InitFault::TooLong(longest) => {
+            let (metres, tenths) = (longest / 5, longest % 5 * 2);
+            eprintln!(rt;
+                "hint: --cable: The way there and back doesn't fit before the sample. Give at most {metres}.{tenths}m, or a lower --bitrate."
+            )
+        }
+        InitFault::NoSegments(None, None) | InitFault::Write | InitFault::Memory => {
+            eprintln!(rt; "hint: {FREE_MEMORY}")
+        }
+    };
+}
+
 /// Returns what to change of a plan that has no form in version 4.
 fn print_advice(fault: &PrintFault) -> &'static str {
     match fault {
@@ -240,8 +329,12 @@ pub fn say_fault<F: Folder>(
         }
         Fault::Settings(fault) => {
             if order.hint {
-                let advice = settings_advice(fault);
-                let _ = eprintln!(rt; "hint: {advice}");
+                say_of_settings(rt, alloc, order, fault, folder);
+            }
+        }
+        Fault::Init(fault) => {
+            if order.hint {
+                say_of_init(rt, *fault);
             }
         }
         Fault::Print(fault) => {

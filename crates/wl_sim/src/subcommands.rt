@@ -3,7 +3,8 @@ ghost use Rattle.std.specs.Prelude.{◌≡◌, map, string_bytes, IfSome, IfOk, 
 ghost use Rattle.clap.specs.Words.{app_of, rule_of, with_rule};
 ghost use Rattle.clap.specs.declared.builder.command.Command.TheViews.{out-Command};
 ghost use Rattle.wl_sim.specs.CommandLine.{FailsByMemory, MatchesWords, bare_program, is_task_word, optioned_app, program, program_alone, subcommand_app, with_word};
-ghost use Rattle.wl_sim.specs.CommandLine.{best_rule, candump_app, filed, flag_rule, format_rule, formatted_app, from_rule, input_rule, link_rule, margin_app, node_rule, only_rule, output_rule, records_app, run_app, settings_app, sweep_app, tick_rule, ticks_rule, timed_app, trace_app, traffic_app, windowed_app, workers_rule};
+ghost use Rattle.wl_sim.specs.CommandLine.{bitrate_rule, cable_rule, init_app, kind_rule, nodes_rule, reading_app};
+ghost use Rattle.wl_sim.specs.CommandLine.{best_rule, candump_app, filed, flag_rule, format_rule, formatted_app, from_rule, input_rule, link_rule, margin_app, node_rule, only_rule, output_rule, records_app, respond_app, run_app, settings_app, sweep_app, tick_rule, ticks_rule, timed_app, trace_app, traffic_app, windowed_app, workers_rule};
 
 use crate::sweep::{with_part_options, with_sweep_options};
 use clap::{Arg, ArgAction, ArgMatches, Command, Error, value_parser};
@@ -24,6 +25,13 @@ const PROGRESS: &str = "Says each second how long the run has taken, or of a swe
 /// What the help says of `--strict`.
 const STRICT: &str = "Ends with status 1 if the verdict is another than works";
 
+/// What the help says of `--strict` of `respond`.
+const IN_TIME: &str = "Ends with status 1 if a deadline is missed or a message has no bound";
+
+/// What the help says of `--any-data`.
+const ANY_DATA: &str =
+    "Counts the most bits that frames of so many bytes may have, whatever their data";
+
 /// What the help says of `--wide`.
 const WIDE: &str = "Takes records of plans of version 4: 64 nodes, 268435457 changes of each";
 
@@ -42,6 +50,10 @@ const BRIEF: &str = "Leaves out the lines of frames";
 /// What the help says of `--plan`.
 const PLAN: &str =
     "Writes the plan of the first controller's first setting: two nodes at the ends of the cable";
+
+/// What the help says of `--kind`.
+const KIND: &str =
+    "The kind of its controllers: sja1000, c_can, bxcan, mcp2515, at91, xilinx, flexcan, m_can, fdcan, tcan4550, mcp2518fd or book";
 
 /// Returns the argument that names the file to read.
 fn input_argument<'a>(alloc: Global) -> Arg<'a>
@@ -84,13 +96,32 @@ pub(crate) fn with<'a>(sub: Command<'a>, option: Arg<'a>) -> Result<Command<'a>,
     sub.arg(option)
 }
 
+/// Tells whether a subcommand reads no file: `init` alone.
+fn reads_nothing(word: &str) -> bool
+    ensures { result ≡ bytes_eq word.now (codes "init") }
+{
+    word == "init"
+}
+
+/// Returns a subcommand with the argument that names the file to read, unless it is `init`, which reads none.
+fn reading<'a>(alloc: Global, word: &'a str) -> Result<Command<'a>, AllocError>
+    ensures app { IfOk result (λ sub. app_of sub ≡ reading_app word.now) }
+    ensures local { IfOk result (λ sub. (out-Command sub).has_globals ≡ false) }
+{
+    let named = Command::new(alloc, word).about(about(word));
+    if reads_nothing(word) {
+        Ok(named)
+    } else {
+        with(named, input_argument(alloc))
+    }
+}
+
 /// Returns a subcommand with the arguments that each has.
 fn filed<'a>(alloc: Global, word: &'a str) -> Result<Command<'a>, AllocError>
     ensures app { IfOk result (λ sub. app_of sub ≡ filed word.now) }
     ensures local { IfOk result (λ sub. (out-Command sub).has_globals ≡ false) }
 {
-    let named = Command::new(alloc, word).about(about(word));
-    let read = with(named, input_argument(alloc))?;
+    let read = reading(alloc, word)?;
     let written = with(read, output_option(alloc))?;
     let hinted = with(written, flag_option(alloc, "hint", HINT))?;
     with(hinted, flag_option(alloc, "progress", PROGRESS))
@@ -99,6 +130,8 @@ fn filed<'a>(alloc: Global, word: &'a str) -> Result<Command<'a>, AllocError>
 /// Returns what the help says of a subcommand.
 fn about(word: &str) -> &'static str {
     match word {
+        "init" =>
+            "Writes a plan to begin from: equal controllers along a cable, a remark on each key",
         "merge" => "Writes the canonical text of the records that standard input has",
         "horizon" => "Writes what the records tell of each node, and up to which tick",
         "check" =>
@@ -119,6 +152,8 @@ fn about(word: &str) -> &'static str {
             "Simulates the plan, and writes one page of HTML that shows all of it in a browser",
         "margin" =>
             "Tests the plan, and writes whether its bus works at all phases and clocks, and with how much to spare",
+        "respond" =>
+            "Tests the plan, and writes how long each message may wait, at all phases and clocks, and whether that is in time",
         "traffic" =>
             "Simulates the plan, and writes how busy the bus was, how long messages waited, and whether it works",
         "settings" =>
@@ -149,7 +184,7 @@ fn format_option<'a>(alloc: Global) -> Arg<'a>
     Arg::new(alloc, "format")
         .long("format")
         .value_name("FORMAT")
-        .help("The format of the output: text, json or csv")
+        .help("The format of the output: text, json, csv, table or coloured")
         .default_value("text")
 }
 
@@ -313,6 +348,18 @@ fn with_margin_options<'a>(alloc: Global, sub: Command<'a>) -> Result<Command<'a
     formatted(alloc, all_send)
 }
 
+/// Returns a subcommand with the options of `respond`.
+fn with_respond_options<'a>(alloc: Global, sub: Command<'a>) -> Result<Command<'a>, AllocError>
+    requires { (out-Command sub).has_globals ≡ false }
+    ensures app { IfOk result (λ all. app_of all ≡ respond_app (app_of sub.entry)) }
+    ensures local { IfOk result (λ all. (out-Command all).has_globals ≡ false) }
+{
+    let timed = timed(alloc, sub)?;
+    let any = with(timed, flag_option(alloc, "any-data", ANY_DATA))?;
+    let strict = with(any, flag_option(alloc, "strict", IN_TIME))?;
+    formatted(alloc, strict)
+}
+
 /// Returns a subcommand with the options of `traffic`.
 fn with_traffic_options<'a>(alloc: Global, sub: Command<'a>) -> Result<Command<'a>, AllocError>
     requires { (out-Command sub).has_globals ≡ false }
@@ -333,6 +380,67 @@ fn with_settings_options<'a>(alloc: Global, sub: Command<'a>) -> Result<Command<
     let timed = timed(alloc, sub)?;
     let counted = with(timed, best_option(alloc))?;
     with(counted, flag_option(alloc, "plan", PLAN))
+}
+
+/// Returns the option that says how many nodes a plan to begin from has.
+fn nodes_option<'a>(alloc: Global) -> Arg<'a>
+    ensures rule { rule_of result ≡ nodes_rule }
+    ensures local { result.global ≡ false }
+{
+    Arg::new(alloc, "nodes")
+        .long("nodes")
+        .value_name("N")
+        .help("How many nodes the bus has: 2 to 64")
+        .value_parser(value_parser!(u8).range(2..=64))
+        .default_value("2")
+}
+
+/// Returns the option that says which bit rate it has.
+fn bitrate_option<'a>(alloc: Global) -> Arg<'a>
+    ensures rule { rule_of result ≡ bitrate_rule }
+    ensures local { result.global ≡ false }
+{
+    Arg::new(alloc, "bitrate")
+        .long("bitrate")
+        .value_name("RATE")
+        .help("The bit rate: 1k to 1M, as 250k or 250kbit/s")
+        .default_value("500k")
+}
+
+/// Returns the option that says how long its cable is.
+fn cable_option<'a>(alloc: Global) -> Arg<'a>
+    ensures rule { rule_of result ≡ cable_rule }
+    ensures local { result.global ≡ false }
+{
+    Arg::new(alloc, "cable")
+        .long("cable")
+        .value_name("LENGTH")
+        .help("The length of the cable, in steps of 20 cm, as 60m or 12.4m")
+        .default_value("40m")
+}
+
+/// Returns the option that says which kind its controllers are of.
+fn kind_option<'a>(alloc: Global) -> Arg<'a>
+    ensures rule { rule_of result ≡ kind_rule }
+    ensures local { result.global ≡ false }
+{
+    Arg::new(alloc, "kind")
+        .long("kind")
+        .value_name("KIND")
+        .help(KIND)
+        .default_value("mcp2515")
+}
+
+/// Returns a subcommand with the options of `init`.
+fn with_init_options<'a>(alloc: Global, sub: Command<'a>) -> Result<Command<'a>, AllocError>
+    requires { (out-Command sub).has_globals ≡ false }
+    ensures app { IfOk result (λ all. app_of all ≡ init_app (app_of sub.entry)) }
+    ensures local { IfOk result (λ all. (out-Command all).has_globals ≡ false) }
+{
+    let counted = with(sub, nodes_option(alloc))?;
+    let rated = with(counted, bitrate_option(alloc))?;
+    let long = with(rated, cable_option(alloc))?;
+    with(long, kind_option(alloc))
 }
 
 /// Returns a subcommand with the options of `sweep`.
@@ -367,6 +475,8 @@ fn optioned<'a>(alloc: Global, word: &str, sub: Command<'a>) -> Result<Command<'
         "traffic" => with_traffic_options(alloc, sub),
         "settings" => with_settings_options(alloc, sub),
         "sweep" => with_all_sweep_options(alloc, sub),
+        "init" => with_init_options(alloc, sub),
+        "respond" => with_respond_options(alloc, sub),
         _ => Ok(sub),
     }
 }
@@ -421,8 +531,8 @@ fn command<'a>(alloc: Global) -> Result<Command<'a>, AllocError>
         alloc,
         bare(alloc),
         &[
-            "merge", "horizon", "check", "format", "records", "run", "explain", "trace", "candump",
-            "vcd", "page", "margin", "traffic", "settings", "sweep",
+            "init", "run", "margin", "explain", "respond", "traffic", "check", "settings", "sweep",
+            "trace", "page", "vcd", "candump", "records", "format", "merge", "horizon",
         ],
     )
 }
@@ -439,21 +549,23 @@ fn is_task(word: &str) -> bool
     ensures { result ≡ is_task_word word.now }
 {
     match word {
-        "merge"
-        | "horizon"
-        | "check"
-        | "format"
-        | "records"
+        "init"
         | "run"
-        | "explain"
-        | "trace"
-        | "candump"
-        | "vcd"
-        | "page"
         | "margin"
+        | "explain"
+        | "respond"
         | "traffic"
+        | "check"
         | "settings"
-        | "sweep" => true,
+        | "sweep"
+        | "trace"
+        | "page"
+        | "vcd"
+        | "candump"
+        | "records"
+        | "format"
+        | "merge"
+        | "horizon" => true,
         _ => false,
     }
 }

@@ -3,6 +3,7 @@ ghost use Rattle.std.specs.Prelude.{◌≡◌, map, string_bytes, IfOk, false, o
 ghost use Rattle.std.specs.Option.{option_map_or};
 ghost use Rattle.clap.specs.Words.{found_of, rows_of, subcommand_rows_of};
 ghost use Rattle.wl_sim.specs.CommandLine.{limits_among, file_among, file_named, is_flagged, is_set, link_among, node_among, number_among, only_among, pick_among, ranges_among, ranges_in};
+ghost use Rattle.wl_sim.specs.CommandLine.{cable_among, kind_among, nodes_among, rate_among, wish_among};
 ghost use Rattle.wl_sim.specs.CommandLine.{format_among, format_in, read_format, read_link, read_only, shown_among, swept_among, swept_by, tick_among, values_among, window_among, workers_among, share_among};
 
 use crate::sweep::Swept;
@@ -10,6 +11,7 @@ use clap::ArgMatches;
 use std::alloc::{AllocError, Global};
 use wl_engines::LinkKind;
 use wl_formats::Format;
+use wl_init::{Wish, cable_said, kind_said, rate_said};
 use wl_limits::Limits;
 use wl_settings::Shown;
 use wl_setup::Text;
@@ -33,6 +35,8 @@ pub(crate) struct Values {
     pub(crate) strict: bool,
     /// Whether all nodes send that don't only listen.
     pub(crate) all_send: bool,
+    /// Whether frames may have any data.
+    pub(crate) any_data: bool,
     /// By which limits a record text is refused.
     pub(crate) limits: Limits,
     /// The second of tick 0.
@@ -43,6 +47,8 @@ pub(crate) struct Values {
     pub(crate) pick: Option<Pick>,
     /// Whether a report has no lines of frames.
     pub(crate) brief: bool,
+    /// What is asked for of a plan to begin from.
+    pub(crate) wish: Option<Wish>,
 }
 
 /// Returns the tick that a subcommand's option gives.
@@ -94,6 +100,8 @@ fn format_named(text: &str) -> Option<Option<Format>>
         "text" => Some(None),
         "json" => Some(Some(Format::Json)),
         "csv" => Some(Some(Format::Csv)),
+        "table" => Some(Some(Format::Table)),
+        "coloured" => Some(Some(Format::Coloured)),
         _ => None,
     }
 }
@@ -324,6 +332,60 @@ fn pick_in(matches: &ArgMatches) -> Option<Pick>
     })
 }
 
+/// Returns how many nodes a subcommand's option gives. Its range keeps out what is no number from 2 to 64.
+fn nodes_in(matches: &ArgMatches) -> Option<u8>
+    ensures { result ≡ nodes_among (rows_of (found_of matches.now)) }
+{
+    let text = matches.get_str("nodes")?;
+    Some(text.parse().unwrap_or(0))
+}
+
+/// Returns the bit rate that a subcommand's option gives.
+#[tactic(auto, using(crate::proofs::Words::rate_text))]
+fn rate_in(matches: &ArgMatches) -> Option<u32>
+    ensures { result ≡ rate_among (rows_of (found_of matches.now)) }
+{
+    match matches.get_str("bitrate") {
+        Some(text) => rate_said(text),
+        None => None,
+    }
+}
+
+/// Returns the length of the cable that a subcommand's option gives.
+#[tactic(auto, using(crate::proofs::Words::cable_text))]
+fn cable_in(matches: &ArgMatches) -> Option<u32>
+    ensures { result ≡ cable_among (rows_of (found_of matches.now)) }
+{
+    match matches.get_str("cable") {
+        Some(text) => cable_said(text),
+        None => None,
+    }
+}
+
+/// Returns the kind of controllers that a subcommand's option gives.
+#[tactic(auto, using(crate::proofs::Words::kind_text))]
+fn kind_in(matches: &ArgMatches) -> Option<usize>
+    ensures { result ≡ kind_among (rows_of (found_of matches.now)) }
+{
+    match matches.get_str("kind") {
+        Some(text) => kind_said(text),
+        None => None,
+    }
+}
+
+/// Returns what the options of a subcommand ask for of a plan to begin from.
+fn wish_in(matches: &ArgMatches) -> Option<Wish>
+    ensures { result ≡ wish_among (rows_of (found_of matches.now)) }
+{
+    let nodes = nodes_in(matches)?;
+    Some(Wish {
+        nodes,
+        rate: rate_in(matches),
+        cable: cable_in(matches),
+        kind: kind_in(matches),
+    })
+}
+
 /// Returns what the options of a subcommand say.
 fn values_in(matches: &ArgMatches) -> Values
     ensures { result ≡ values_among (rows_of (found_of matches.now)) }
@@ -336,11 +398,13 @@ fn values_in(matches: &ArgMatches) -> Values
         shown: shown_in(matches),
         strict: flag_in(matches, "strict"),
         all_send: flag_in(matches, "all-send"),
+        any_data: flag_in(matches, "any-data"),
         limits: limits_in(matches),
         from: small_number_in(matches, "from"),
         window: window_in(matches),
         pick: pick_in(matches),
         brief: flag_in(matches, "brief"),
+        wish: wish_in(matches),
     }
 }
 
