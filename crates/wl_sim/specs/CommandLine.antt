@@ -70,8 +70,11 @@ abbrev pub flag_rule : Text → Rule
 flag_rule name = record (new_rule name) { long = Some name; action = Some SetTrue }
 
 -- a subcommand, which reads a file unless it is `init`
+abbrev pub reads_nothing : Text → Bool
+reads_nothing word = bytes_eq word (codes "init")
+
 abbrev pub reading_app : Text → App
-reading_app word = if bytes_eq word (codes "init") then new_app word else with_rule (new_app word) input_rule
+reading_app word = if reads_nothing word then new_app word else with_rule (new_app word) input_rule
 
 -- and with what each has
 abbrev pub filed : Text → App

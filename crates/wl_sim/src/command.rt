@@ -1,7 +1,7 @@
 //! The command line.
 ghost use Rattle.std.specs.Prelude.{◌≡◌, ◌≢◌, ◌↔◌, map, string_bytes, codes, IfOk, IfErr, Some, option_map};
 ghost use Rattle.clap.specs.Words.{kind_of, subcommand_rows_of};
-ghost use Rattle.wl_sim.specs.CommandLine.{Enters, FoundTask, file_in, has_flag, ranges_in};
+ghost use Rattle.wl_sim.specs.CommandLine.{begun_task, Enters, FoundTask, file_in, has_flag, ranges_in};
 ghost use Rattle.wl_sim.specs.CommandLine.{candump_task, init_task, plain_task, run_task, sweep_task, task_named, timed_task, trace_task, valued_task};
 ghost use Rattle.wl_sim.specs.Orders.{FindsOrder, ReadsOrder};
 

@@ -2,7 +2,7 @@
 ghost use Rattle.std.specs.Prelude.{◌≡◌, map, string_bytes, IfSome, IfOk, IfErr, false, fold};
 ghost use Rattle.clap.specs.Words.{app_of, rule_of, with_rule};
 ghost use Rattle.clap.specs.declared.builder.command.Command.TheViews.{out-Command};
-ghost use Rattle.wl_sim.specs.CommandLine.{FailsByMemory, MatchesWords, bare_program, is_task_word, optioned_app, program, program_alone, subcommand_app, with_word};
+ghost use Rattle.wl_sim.specs.CommandLine.{FailsByMemory, MatchesWords, bare_program, is_task_word, optioned_app, program, program_alone, subcommand_app, with_word, reads_nothing};
 ghost use Rattle.wl_sim.specs.CommandLine.{bitrate_rule, cable_rule, init_app, kind_rule, nodes_rule, reading_app};
 ghost use Rattle.wl_sim.specs.CommandLine.{best_rule, candump_app, filed, flag_rule, format_rule, formatted_app, from_rule, input_rule, link_rule, margin_app, node_rule, only_rule, output_rule, records_app, respond_app, run_app, settings_app, sweep_app, tick_rule, ticks_rule, timed_app, trace_app, traffic_app, windowed_app, workers_rule};
 
@@ -98,7 +98,7 @@ pub(crate) fn with<'a>(sub: Command<'a>, option: Arg<'a>) -> Result<Command<'a>,
 
 /// Tells whether a subcommand reads no file: `init` alone.
 fn reads_nothing(word: &str) -> bool
-    ensures { result ≡ bytes_eq word.now (codes "init") }
+    ensures { result ≡ reads_nothing word.now }
 {
     word == "init"
 }
