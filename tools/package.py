@@ -102,7 +102,7 @@ def man(program):
 
 def pages():
     """Returns the pages of 'use it', in the order of docs/README.md, as paths below the top."""
-    block = text_of(f"{TOP}/docs/README.md").split("## Use it")[1].split("\n\nThe rules")[0]
+    block = text_of(f"{TOP}/docs/README.md").split("## Use it")[1].split("\n## ")[0]
     found = [os.path.normpath(f"docs/{it}") for it in re.findall(r"\]\(([^)]+\.md)\)", block)]
     return list(dict.fromkeys(found))
 
