@@ -29,8 +29,8 @@ NAME = "wireline"
 SUMMARY = "simulates CAN 2.0 buses by time quanta, and judges them"
 ABOUT = """Wireline simulates CAN 2.0 buses at the level of time quanta, and says whether
 segment settings, oscillators and cable let a bus work, and with how much to
-spare. A plan in TOML goes in; reports, margins and pages come out. Each
-function of the program is proved to meet its contract."""
+spare. A plan in TOML goes in; reports, margins and pages come out. The file
+PROOF in its documentation says what is proved of the program."""
 MAINTAINER = "Wireline maintainers <maintainers@users.noreply.rintsovaky.example>"
 
 
