@@ -15,6 +15,7 @@ is() { # is NAME CONDITION..: counts one comparison
   if "$@"; then passed=$((passed + 1)); else failed=$((failed + 1)) && echo "differs: $name"; fi
 }
 
+for tool in cc c++; do command -v $tool > /dev/null || { echo "left out: the library for C, since there is no $tool on the path" && exit 0; }; done
 # The functions of the header are those that are called in C, and those of the crate
 sed -n 's/^uint32_t wireline_\([a-z]*\)(.*/\1/p' tools/c/wireline.h | sort > "$room/named"
 sed -n 's/^COMMAND(\(.*\))$/\1/p' tools/c/wireline.c | sort > "$room/calls"
