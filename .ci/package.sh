@@ -1,6 +1,7 @@
 #!/usr/bin/env bash
 # Packs a built program, installs both packages below a folder, and runs them as a user would.
-# usage: package.sh PROGRAM     the proved program of this tree is packed as that, and another one as built elsewhere
+# usage: package.sh PROGRAM     the proved program of this tree is packed as that, and another one as built elsewhere, with the library for C of the folder
+#                               that WIRELINE_LIBRARY names
 set -uo pipefail
 cd "$(dirname "$0")/.." || exit 1
 program=$(realpath "$1")
@@ -48,6 +49,20 @@ for root in "$room"/tar/wireline-* "$room/deb/usr"; do
   is "by a link" cmp -s "$room/out" examples/clean_500k.report
   rm "$room/link"
 done
+# The library for C as a package has it: its callers in C and in Python write what the installed program writes
+if [ -f "$root/lib/libwireline.a" ]; then
+  is "the caller in C compiles" cc -std=c99 -Wall -Wextra -Werror -I "$root/include" -o "$room/margin" "$root/share/wireline/examples/c/margin.c" "$root/lib/libwireline.a"
+  for plan in clean_500k bus_off; do
+    "${wireline[@]}" margin "examples/$plan.toml" > "$room/wanted" 2> /dev/null
+    "$room/margin" "examples/$plan.toml" > "$room/out" 2> "$room/err"
+    is "margin of $plan by C" cmp -s "$room/out" "$room/wanted"
+    python3 -B "$root/share/wireline/examples/c/report.py" "examples/$plan.toml" "$root/lib/libwireline.so" > "$room/out" 2> "$room/err"
+    is "the verdict of $plan by Python" [ "$(sed -n 's/^verdict: \([a-z_]*\),.*/\1/p' "$room/out")" = "$("${wireline[@]}" run "examples/$plan.toml" | sed -n 's/^verdict \([a-z_]*\).*/\1/p')" ]
+  done
+  is "PROOF has the library's sum" grep -q "^library   sha256 $(sha256sum < "$root/lib/libwireline.a" | cut -d' ' -f1) libwireline.a$" "$root/share/doc/wireline/PROOF"
+else
+  echo 'left out: the library for C, which this package does not have'
+fi
 # A program that is not the one of PROOF, and an example that differs, are seen
 root=$(echo "$room"/tar/wireline-*)
 printf x >> "$root/lib/wireline/wl_sim"

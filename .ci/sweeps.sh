@@ -91,7 +91,7 @@ refused 'a plan with fractions' "$room/strange" 1 'fault: Kind(quantum)\n'
 hinted() { # hinted FAULT WORDS..
   local fault=$1 remedy number word=''
   shift
-  remedy=$(grep -hF "| \`${fault/[0-9],/n,}\` |" docs/use/commands.md docs/use/sweeps.md | head -1 | sed 's/ |$//;s/.* | //')
+  remedy=$(grep -hF "| \`${fault/[0-9],/n,}\` |" docs/use/sweeps.md | head -1 | sed 's/ |$//;s/.* | //')
   if [[ $fault = Range* ]]; then
     number=${fault#Range(} number=${number%%,*}
     word="--vary $(grep -oP -- '(?<=--vary )\S+' <<< "$*" | sed -n "$((number + 1))p"): "

@@ -1,7 +1,7 @@
 #!/usr/bin/env python3
 """Looks for what makes the sources hard to read, and fails if it finds something that accepted.txt doesn't have with a reason.
 
-usage: house.py [--all] [repeats|wide|names|unused|long|english|large|wordy|trade|dated|comments|links|quotes|cites|edits|flags]..
+usage: house.py [--all] [repeats|wide|names|unused|long|english|large|wordy|trade|dated|shown|limits|comments|links|quotes|cites|edits|flags]..
        all of them if none is named; --all shows what is accepted, too
 
 repeats  lemma statements that stand more than once, up to the names of their variables (definitions and proofs are read, bodies not; a module's own
@@ -15,6 +15,8 @@ large    pages of more than 20 KB
 wordy    pages of which more than 8 % of the words are it, one, that, those, what, this, other, so or such: a thing is named again
 trade    words of ours in pages for which the trade has a word
 dated    dates in pages of docs/: a page says what is, and bench/results.tsv has what was measured when
+shown    pages with outputs of commands (`$ ..`) that .ci/test.py doesn't name, so that the gate wouldn't compare them
+limits   rows of a page's table of limits by versions of plans without the numbers of wl_limits
 comments of the doc comments of src/: sentences of more than 30 words, words to avoid, and functions with an answer whose comment doesn't begin with
          it ('Returns ..', 'True if ..') or with a verb
 flags    commands of the toolchain (`rt ..`) in pages, and their flags, that its help doesn't have; not looked at if there is no `rt` on the path
@@ -256,6 +258,41 @@ def dated():
                 yield path.relative_to(TOP), f"{path.relative_to(TOP)}:{at + 1} a date"
 
 
+def shown():
+    named = set(subprocess.run([sys.executable, "-B", TOP / ".ci" / "test.py", "pages"], check=True, stdout=subprocess.PIPE, text=True).stdout.split())
+    for path in pages():
+        name = str(path.relative_to(TOP))
+        if re.search(r"(?m)^```\n\$ ", path.read_text(encoding="utf-8")) and name not in named:
+            yield name, f"{name} has outputs of commands, and .ci/test.py doesn't name it"
+
+
+# What a limit is called in a page's table, and its function in wl_limits
+LIMITS = {
+    "nodes": "node", "offset": "offset", "power-up of a node": "offset", "from of a rate": "from", "end": "end", "to of a disturbance": "end",
+    "quanta of a node before the end": "quanta", "the same, if a sample may come every third quantum": "short_quanta", "frames that wait at a node": "queue",
+    "disturbances": "disturbance",
+}
+
+
+def limits():
+    source, found = (TOP / "crates/wl_limits/src/lib.rt").read_text(encoding="utf-8"), 0
+    numbers = {
+        it: [int(n.replace("_", "")) for n in (narrow, wide)]
+        for it, narrow, wide in re.findall(r"pub fn (\w+)_limit\(.*?Narrow => ([\d_]+),\s+Limits::Wide => ([\d_]+),", source, re.S)
+    }
+    for path in pages():
+        name = path.relative_to(TOP)
+        for table in re.findall(r"(?m)^\|[^\n]*\| [Vv]ersion 4 \|[^\n]*\n\|[-|]+\n((?:\|.*\n)+)", path.read_text(encoding="utf-8")):
+            for row in table.splitlines():
+                label, *cells = [it.strip().replace("`", "") for it in row.strip("|").split("|")]
+                said = [[2 ** int(a) if a else int(b.replace(",", "")) for a, b in re.findall(r"2\^(\d+)|(\d[\d,]*)", it)] for it in cells[:2]]
+                for what in [it.strip() for it in label.split(";") if it.strip() in LIMITS]:
+                    found += 1
+                    narrow, wide = numbers[LIMITS[what]]
+                    if narrow not in said[0] or wide not in said[1]: yield f"{name} {what}", f"{name}: '{what}' is {narrow} and {wide}, not: {row}"
+    if found < len(LIMITS): yield "rows", f"only {found} rows of limits were found in tables of pages"
+
+
 def doc_blocks(text):
     """Yields the place of each doc comment, its text, and the line of code below it."""
     said, begun = [], 0
@@ -411,7 +448,7 @@ def accepted():
 
 
 def main():
-    every = {it.__name__: it for it in (repeats, wide, names, unused, long, english, large, wordy, trade, dated, comments, links, quotes, cites, edits, flags)}
+    every = {it.__name__: it for it in (repeats, wide, names, unused, long, english, large, wordy, trade, dated, shown, limits, comments, links, quotes, cites, edits, flags)}
     words, left, bad = sys.argv[1:], accepted(), 0
     show = "--all" in words
     for kind in [it for it in words if it != "--all"] or every:

@@ -1,5 +1,5 @@
 #!/usr/bin/env python3
-"""Sweeps by an independent program: what `sweep` says of a plan, and the plans of its members, from docs/use/sweeps.md; members run by plain.py.
+"""Sweeps by an independent program: what `sweep` says of a plan, and the plans of its members, from docs/use/sweeps.md and crates/wl_sweep/specs/Family.antt; members run by plain.py.
 
 usage: sweeps.py [--program PROGRAM] [--jobs N] WORD.. < PLAN      standard output, standard error and status as `sweep WORD..` has them
 

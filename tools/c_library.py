@@ -11,6 +11,7 @@ packages gcc and binutils).
 import importlib.machinery
 import importlib.util
 import os
+import re
 import shutil
 import subprocess
 import sys
@@ -19,7 +20,6 @@ import tempfile
 sys.dont_write_bytecode = True
 TOP = os.path.dirname(os.path.dirname(os.path.realpath(__file__)))
 CRATE = "wl_c"
-FUNCTIONS = [f"wireline_{it}" for it in ("run", "check", "explain", "margin", "traffic", "respond")]
 
 
 def called(*words, folder=None):
@@ -51,6 +51,11 @@ def proved(archive):
     if ran.returncode: sys.exit(f"{ran.stdout.decode(errors='replace')}c_library.py: {CRATE} was not proved")
 
 
+def functions():
+    """Returns the functions of the header: no other one is seen from outside."""
+    with open(f"{TOP}/tools/c/wireline.h", encoding="utf-8") as it: return re.findall(r"(?m)^uint32_t (wireline_\w+)\(", it.read())
+
+
 def link(archive, folder):
     """Makes the library of a compiled crate."""
     with tempfile.TemporaryDirectory() as room:
@@ -59,7 +64,7 @@ def link(archive, folder):
         called("cc", "-std=c99", "-Wall", "-Wextra", "-O2", "-fPIC", "-c", f"{TOP}/tools/c/wireline.c", "-o", f"{room}/calls.o")
         objects = sorted(it for it in os.listdir(room) if it.endswith(".o"))
         called("ld", "-r", "-o", "wireline.all", *objects, folder=room)
-        called("objcopy", *(f"--keep-global-symbol={it}" for it in FUNCTIONS), "wireline.all", "wireline.o", folder=room)
+        called("objcopy", *(f"--keep-global-symbol={it}" for it in functions()), "wireline.all", "wireline.o", folder=room)
         called("ar", "rcsD", "libwireline.a", "wireline.o", folder=room)
         called("cc", "-shared", "-Wl,-soname,libwireline.so", "-Wl,-z,defs", "-Wl,--build-id=none", "-o", "libwireline.so", "-Wl,--whole-archive", "libwireline.a",
                "-Wl,--no-whole-archive", folder=room)

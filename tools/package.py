@@ -6,7 +6,8 @@ usage: package.py proved|elsewhere PROGRAM FOLDER    writes FOLDER/wireline-VERS
        package.py man PROGRAM                        writes the man page to standard output
 
 Both have the same files below one prefix: the program, the command `wireline`, the man page, completions, examples with their reports, the pages of 'use
-it' as one HTML file, and PROOF. Beside the proved program they also have the library for C with its header, if tools/c_library.py made it of these sources.
+it' as one HTML file, and PROOF. Beside the proved program they also have the library for C with its header, if tools/c_library.py made it of these sources;
+beside a program that was built elsewhere, the library of the folder that WIRELINE_LIBRARY names.
 The same sources and program give the same bytes: names are sorted, times are those of the commit, owners are root.
 It takes git, dpkg-deb, gzip and cmark-gfm (Debian's packages of these names).
 """
@@ -28,8 +29,8 @@ NAME = "wireline"
 SUMMARY = "simulates CAN 2.0 buses by time quanta, and judges them"
 ABOUT = """Wireline simulates CAN 2.0 buses at the level of time quanta, and says whether
 segment settings, oscillators and cable let a bus work, and with how much to
-spare. A plan in TOML goes in; reports, margins and pages come out. Each
-function of the program is proved to meet its contract."""
+spare. A plan in TOML goes in; reports, margins and pages come out. The file
+PROOF in its documentation says what is proved of the program."""
 MAINTAINER = "Wireline maintainers <maintainers@users.noreply.rintsovaky.example>"
 
 
@@ -101,7 +102,7 @@ def man(program):
 
 def pages():
     """Returns the pages of 'use it', in the order of docs/README.md, as paths below the top."""
-    block = text_of(f"{TOP}/docs/README.md").split("## Use it")[1].split("\n\nThe rules")[0]
+    block = text_of(f"{TOP}/docs/README.md").split("## Use it")[1].split("\n## ")[0]
     found = [os.path.normpath(f"docs/{it}") for it in re.findall(r"\]\(([^)]+\.md)\)", block)]
     return list(dict.fromkeys(found))
 
@@ -162,8 +163,9 @@ def sum_of(file):
     with open(file, "rb") as it: return hashlib.sha256(it.read()).hexdigest()
 
 
-def library_folder(sources):
-    """Returns where the library for C is, if it was made of these sources; else None."""
+def library_folder(sources, is_proved):
+    """Returns where the library for C is: the proved one if it was made of these sources, beside another program the one that is named; else None."""
+    if not is_proved: return os.environ.get("WIRELINE_LIBRARY")
     folder = f"{TOP}/out/c"
     note = f"{folder}/library.sum"
     return folder if os.path.isfile(note) and text_of(note).strip() == sources else None
@@ -178,7 +180,7 @@ def proof(program, version, is_proved):
     claims = "\n".join(f"- {title}. {text}" for title, text in unlinked)
     head = (f"Wireline {version}\n\ncommit    {said('git', 'rev-parse', 'HEAD').strip()}\nkit       {kit}\nsources   sha256 {sources} (./wireline sum)\n"
             f"program   sha256 {own}\n")
-    folder = library_folder(sources) if is_proved else None
+    folder = library_folder(sources, is_proved)
     head += "".join(f"library   sha256 {sum_of(f'{folder}/{name}')} {name}\n" for name, _ in LIBRARY if folder) + "\n"
     if not is_proved: return head + "The program was built elsewhere, and was not made from these sources here: nothing is said of a proof of it.\n"
     return (f"{head}Each function of the program is proved to meet its contract, by the kit that is named above. The promises are:\n\n{claims}\n\n"
@@ -250,7 +252,7 @@ def stage(program, version, root, is_proved):
     put("share/man/man1/wireline.1.gz", squeezed(man(program).encode()))
     put("share/doc/wireline/use.html", use_html(version))
     put("share/doc/wireline/PROOF", proof(program, version, is_proved))
-    folder = library_folder(said("./wireline", "sum").strip()) if is_proved else None
+    folder = library_folder(said("./wireline", "sum").strip(), is_proved)
     for name, place in LIBRARY if folder else []:
         with open(f"{folder}/{name}", "rb") as it: put(f"{place}/{name}", it.read())
     if not folder: print("left out: the library for C, which `tools/c_library.py out/c` makes beside the proved program")
