@@ -5,7 +5,8 @@
                                           (early_fits, late_fits, is_there, loops or not_early), on buses that break that inequality alone. Says how
                                           many frames were played, bits sampled and starts compared, and how many were refused
     senders.py answer RUNS SEED [LEFT]    the same up to the end of the frame, with its acknowledgement, on buses that have room for one. LEFT is one
-                                          of these but loops, which is_there implies; or chase: each station has an edge less to catch up
+                                          of late_fits, is_there and not_early; or chase: each station has an edge less to catch up; or overrun:
+                                          what an edge doesn't put right is left out, on buses that have some
     senders.py pace RUNS SEED [LEFT]      how long the same frames last, beside frame_time and tail_time of wl_buses::frame_times. LEFT is a term that is
                                           left out: shift, lag, jump, slowest (the winner's bits in the place of the longest), thirteen (a bit
                                           less) or sample. Says of how many frames a station is later, and by how many bits at most
@@ -22,6 +23,7 @@ and after it recessive, and any two stations are as close as specs/Acknowledged.
 import random
 import sys
 from fractions import Fraction
+from math import ceil
 
 import phase
 
@@ -79,7 +81,7 @@ class Bus:
         self.out = [rng.randint(1, loop) for _ in range(self.count)]
         self.into = [rng.randint(0, loop) for _ in range(self.count)]
         self.place = [rng.randint(0, rng.choice([1, 10, 100])) for _ in range(self.count)]
-        self.may = [False] * self.count
+        self.may, self.forgets = [False] * self.count, False
         for i in rng.sample(range(self.count), rng.randint(1, self.count)): self.may[i] = True
         self.stretch(1)
 
@@ -99,11 +101,20 @@ class Bus:
         if gain <= 0: return 0 if far <= 0 else None
         return max(0, -int(-far // gain) - 1)
 
-    def chased_way(self, chase, k, i):
+    def gathered_way(self, chase, k, i):
         """How long after its own the bit of station i reaches station k at most, if k catches up in so many edges; with the winner in none."""
         if None in (chase[i], chase[k]): return self.any_way(k, i)
         jumps = [self.lengths[w][3] * quantum(self.clocks[w]) for w in (i, k)]
         return self.any_way(k, i) + chase[k] * (10 * drift(self, i, k) + max(Fraction(0), jumps[0] - jumps[1]))
+
+    def overrun(self, chase, i):
+        """In how many ticks more, since a jump doesn't put all right of what has gathered before an edge."""
+        if self.forgets: return 0
+        jump = self.lengths[i][3] * quantum(self.clocks[i])
+        over = lambda k: self.gathered_way(chase, k, i) + 10 * drift(self, i, k) - self.delay[i][k] - self.delay[k][i] - jump
+        return max([0] + [ceil(over(k)) for k in range(self.count) if k != i])
+
+    def chased_way(self, chase, k, i): return self.gathered_way(chase, k, i) + self.overrun(chase, i)
 
     def chases(self, winner):
         return [None if k == winner else self.chase(k, winner) for k in range(self.count)]
@@ -119,7 +130,6 @@ class Bus:
             for k in range(self.count):
                 if i == k: continue
                 early = self.chased_way(chase, k, i) + 10 * drift(self, i, k) - self.delay[i][k] - self.delay[k][i]
-                if early > self.lengths[i][3] * mine: found.add("early_fits")
                 if 10 * drift(self, k, i) > self.lengths[i][3] * mine: found.add("late_fits")
                 if self.chased_way(chase, i, k) + 10 * drift(self, k, i) > sample_of(self.lengths[i]) * mine: found.add("is_there")
                 if early + 1 > self.lengths[i][2] * mine: found.add("not_early")
@@ -306,7 +316,7 @@ def compare_answer(bus, stations, length, counts, winner, chase):
         for k in nodes:
             if i == k: continue
             for n in range(length + 11):
-                gap = bus.chased_way(chase, k, i) + far[n] * drift(bus, i, k)
+                gap = (bus.chased_way if n > length else bus.gathered_way)(chase, k, i) + far[n] * drift(bus, i, k)
                 if not instant(bus.clocks[i], stations[i].place[n]) + bus.delay[i][k] < instant(bus.clocks[k], stations[k].place[n]) + gap: return f"{i} and {k} in bit {n}"
             if not tick(bus.clocks[i], stations[i].place[length] + sample_of(bus.lengths[i])) < tick(bus.clocks[k], stations[k].start[length + 1]) + bus.delay[k][i]: return f"{k} early for {i}"
     return None
@@ -319,9 +329,12 @@ def answered_frames(rng, left):
         # else the edges are ten bits apart, and the last one ten bits before the ACK slot
         bits = stuffed(rng) if rng.random() < 0.5 else [True] + [(length - 1 - n) % 10 >= 4 for n in range(1, BITS + 2)]
         winner = 0
-        bus = draw(rng, None if left == "chase" else left, lambda bus: bus.answers_broken(0) | (bus.broken() if bus.may[0] else set()))
+        bus = draw(rng, None if left in ("chase", "overrun") else left, lambda bus: bus.answers_broken(0) | (bus.broken() if bus.may[0] else set()))
         if not bus.may[0] or (left and bus.broken()): continue
         chase = bus.chases(0)
+        if left == "overrun":
+            if not any(bus.overrun(chase, i) for i in range(bus.count)): continue
+            bus.forgets = True
         if left == "chase":
             if not any(chase): continue
             chase = [c and max(0, c - 1) for c in chase]

@@ -12,7 +12,7 @@ use Rattle.wl_bound.specs.Families.{Bus, Buses}
 use Rattle.wl_bound.specs.Terms.{drift, jump, sends_but, sends_third}
 use Rattle.wl_bound.proofs.Greatest.{bounded}
 use Rattle.wl_bound.specs.Rooms.{IsShort, catches, comes_early, distance, edges_to, falls_behind, gain, gathering, has_long_quantum, have_room, is_crowded, lacks_room, least_chase, leaves_room, plain_bus}
-use Rattle.wl_buses.specs.OneFrame.Answers.{HasRoomToAnswer, gathered}
+use Rattle.wl_buses.specs.OneFrame.Answers.{HasRoomToAnswer, OneEdgeIsEnough, gathered}
 use Rattle.wl_buses.specs.FrameEnd.Again.{LeavesRoomToRest}
 use Rattle.wl_buses.proofs.BothProofs.Small.{greatest_each}
 
@@ -40,7 +40,7 @@ never : (v w : Bool) → (v ≡ true → w ≡ true) → (v && not w) ≡ false
 never true w h = not_from_true w (h refl)
 never false w h = refl
 
-module _ (b : Bus) (chase : ℕ → ℕ) (has : HasRoomToAnswer b chase) (rests : LeavesRoomToRest b chase) where
+module _ (b : Bus) (chase : ℕ → ℕ) (has : HasRoomToAnswer b chase) (jumps : OneEdgeIsEnough b chase) (rests : LeavesRoomToRest b chase) where
   near : (k w : ℕ) → k < b.nodes → w < b.nodes → sends_but b k w ≡ true → distance b k w ≤ suc (chase k) * gain b k w
   unfolding distance gain
   near k w nk nw sends =
@@ -75,7 +75,7 @@ module _ (b : Bus) (chase : ℕ → ℕ) (has : HasRoomToAnswer b chase) (rests 
       let apart : i ≢ k = λ e. eqb-false k i (not-true (k == i) other) (sym e) in
       let early = gathers_less i k nk in
       let late = gathers_less k i ni in
-      let jump_fits = has.drift_fits_jump i k ni nk apart in
+      let jump_fits = jumps i k ni nk apart in
       let there = has.bit_is_there_at_sample i k ni nk apart in
       let rest = rests i k ni nk apart in
       and_from _ _ (le-leb (10 * drift b i k + comes_early b i k) (jump b i) (omega arith))
@@ -91,8 +91,8 @@ module _ (b : Bus) (chase : ℕ → ℕ) (has : HasRoomToAnswer b chase) (rests 
       (any_none b.nodes (falls_behind b i) (λ w nw. never (sends_but b i w) (catches b i w) (λ sends. catches_up i w ni nw sends)))
       (any_none b.nodes (is_crowded b i) (λ k nk. never (not (k == i)) (have_room b i k) (λ other. pair i k ni nk other)))))
 
-pub passes : (f : Buses) (chase : ℕ → ℕ) → IsShort f → HasRoomToAnswer (plain_bus f) chase → LeavesRoomToRest (plain_bus f) chase → leaves_room f ≡ true
-passes f chase short has rests =
+pub passes : (f : Buses) (chase : ℕ → ℕ) → IsShort f → HasRoomToAnswer (plain_bus f) chase → OneEdgeIsEnough (plain_bus f) chase → LeavesRoomToRest (plain_bus f) chase → leaves_room f ≡ true
+passes f chase short has jumps rests =
     let none_long : any_below (length f.members) (has_long_quantum (plain_bus f)) ≡ false =
     any_none (length f.members) (has_long_quantum (plain_bus f)) (λ i ni. or_from _ _ (lt-leb _ _ (short i ni).0) (lt-leb _ _ (short i ni).1)) in
-    and_from _ _ (not_from_false _ none_long) (not_from_false _ (none_lacks (plain_bus f) chase has rests))
+    and_from _ _ (not_from_false _ none_long) (not_from_false _ (none_lacks (plain_bus f) chase has jumps rests))

@@ -5,13 +5,13 @@ use Rattle.wl_segments.specs.Lengths.{bit_quanta, sample_at}
 use Rattle.wl_topology.specs.Driven.{driven}
 use Rattle.wl_machine.specs.Frames.{stuffed_end}
 use Rattle.wl_phase.specs.Clocks.{steady_tick}
-use Rattle.wl_buses.specs.OneFrame.Stations.{AreStations, HaveRoom, Stations, shared_instant, shared_quantum}
+use Rattle.wl_buses.specs.OneFrame.Stations.{AreStations, HaveRoom, HaveRoomToSample, Stations, shared_instant, shared_quantum}
 use Rattle.wl_buses.specs.OneFrame.Starts.{Start, reaches_at}
 use Rattle.wl_buses.specs.OneFrame.Course.{bus_bit, since_edge}
 use Rattle.wl_buses.specs.OneFrame.Machines.{HasWon, bus_levels}
 use Rattle.wl_buses.specs.OneFrame.Acknowledged.{AreAllClose, CatchUp, answering, chased_way}
 use Rattle.wl_buses.specs.OneFrame.Expected.{IsOutset, Outset, edge_start, expected_bits, expected_drove, expected_end, expected_sample, wants}
-use Rattle.wl_buses.proofs.OneFrame.AckWays.{any_close, chased_stations}
+use Rattle.wl_buses.proofs.OneFrame.AckWays.{any_close, chased_stations, closer}
 use Rattle.wl_buses.proofs.OneFrame.Expecting.{course, plain_is}
 use Rattle.wl_buses.proofs.OneFrame.Measures.{drifted, instant_more, tick_next, ticks_before}
 use Rattle.wl_buses.proofs.OneFrame.Seeing.{driving_at, due_sample, from_low, on_bus, place_up, plain_when}
@@ -25,7 +25,7 @@ use Rattle.wl_buses.proofs.FrameEnd.Slot.{close, delimiter_place, drove_after, d
 module _ (m : MachineLaws) (s : Stations) (are : AreStations s) (room : HaveRoom s) (o : Outset) (is : IsOutset s o) (end : ℕ)
     (valid : (n : ℕ) → n < end → stuffed_end (bus_levels s (expected_bits s o) n) ≡ None)
     (over : stuffed_end (bus_levels s (expected_bits s o) end) ≡ Some end) (won : HasWon s (expected_bits s o) o.frames end)
-    (chase : ℕ → ℕ) (catch : CatchUp s won.station chase) (enough : HaveRoom (answering s (chased_way s won.station chase))) where
+    (chase : ℕ → ℕ) (catch : CatchUp s won.station chase) (enough : HaveRoomToSample (answering s (chased_way s won.station chase))) where
   abbrev bits : ℕ → Start
   bits = expected_bits s o
 
@@ -79,8 +79,9 @@ module _ (m : MachineLaws) (s : Stations) (are : AreStations s) (room : HaveRoom
 
   close_at : (n : ℕ) → n < end → AreAllClose s late (since_edge s bits n) (bits n).place
   close_at n less =
-      any_close s are room bits (expected_drove s o end) end (λ k. expected_end s o end) (course m.steps m.errors m.winner m.stuffed m.six m.ten s are room o is end valid) m.driven
-      won.station won.inside won.sends chase catch n less
+      closer s won.station chase (since_edge s bits n) (bits n).place
+      (any_close s are room bits (expected_drove s o end) end (λ k. expected_end s o end) (course m.steps m.errors m.winner m.stuffed m.six m.ten s are room o is end valid) m.driven
+      won.station won.inside won.sends chase catch n less)
 
   few_at_all : (n : ℕ) → n < end → since_edge s bits n ≤ 9
   few_at_all n less = (course m.steps m.errors m.winner m.stuffed m.six m.ten s are room o is end valid).few n less

@@ -22,7 +22,7 @@ use Rattle.wl_plan.specs.Simulation.{level, seen}
 use Rattle.wl_plan.specs.Sound.{IsCausal}
 use Rattle.wl_buses.specs.BothProofs.Expected.{IsExpected, levels_found}
 use Rattle.wl_buses.specs.BothProofs.Levels.{levels_before}
-use Rattle.wl_buses.specs.OneFrame.Stations.{AreStations, HaveRoom, Stations}
+use Rattle.wl_buses.specs.OneFrame.Stations.{AreStations, HaveRoom, HaveRoomToSample, Stations}
 use Rattle.wl_buses.specs.OneFrame.Starts.{Start}
 use Rattle.wl_buses.specs.OneFrame.Clocked.{BitIs}
 use Rattle.wl_buses.specs.OneFrame.Course.{bus_bit}
@@ -94,7 +94,7 @@ least_is (suc n) f own = elim (cases_lt (f n) (earliest_of n f own)) [
 module _ (m : MachineLaws) (clocks : ClockLaws) (goes_on : GoesOn) (l : Line) (setups : ℕ → NodeSetup) (s : Stations) (line : IsLineOf l setups s) (are : AreStations s) (room : HaveRoom s)
     (o : Outset) (is : IsOutset s o) (end : ℕ) (valid : (n : ℕ) → n < end → stuffed_end (bus_levels s (expected_bits s o) n) ≡ None)
     (over : stuffed_end (bus_levels s (expected_bits s o) end) ≡ Some end) (won : HasWon s (expected_bits s o) o.frames end)
-    (chase : ℕ → ℕ) (catch : CatchUp s won.station chase) (enough : HaveRoom (answering s (chased_way s won.station chase)))
+    (chase : ℕ → ℕ) (catch : CatchUp s won.station chase) (enough : HaveRoomToSample (answering s (chased_way s won.station chase)))
     (begin : (i : ℕ) → i < s.count → BeginsAsExpected l setups s o end i) where
   abbrev bits : ℕ → Start
   bits = expected_bits s o

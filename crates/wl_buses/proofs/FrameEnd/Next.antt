@@ -4,7 +4,7 @@ use Rattle.std.proofs.lemmas.Bool.{cases_eq, ne_eqb}
 use Rattle.wl_segments.specs.Lengths.{bit_quanta, sample_at}
 use Rattle.wl_machine.specs.Frames.{stuffed_end}
 use Rattle.wl_phase.specs.Clocks.{steady_tick}
-use Rattle.wl_buses.specs.OneFrame.Stations.{AreStations, HaveRoom, Stations, shared_instant, shared_quantum}
+use Rattle.wl_buses.specs.OneFrame.Stations.{AreStations, HaveRoom, HaveRoomToSample, Stations, shared_instant, shared_quantum}
 use Rattle.wl_buses.specs.OneFrame.Starts.{Start}
 use Rattle.wl_buses.specs.OneFrame.Machines.{HasWon, bus_levels}
 use Rattle.wl_buses.specs.OneFrame.Acknowledged.{CatchUp, answering, chased_way}
@@ -18,7 +18,7 @@ use Rattle.wl_buses.proofs.FrameEnd.Slot.{heard}
 module _ (m : MachineLaws) (s : Stations) (are : AreStations s) (room : HaveRoom s) (o : Outset) (is : IsOutset s o) (end : ℕ)
     (valid : (n : ℕ) → n < end → stuffed_end (bus_levels s (expected_bits s o) n) ≡ None)
     (over : stuffed_end (bus_levels s (expected_bits s o) end) ≡ Some end) (won : HasWon s (expected_bits s o) o.frames end)
-    (chase : ℕ → ℕ) (catch : CatchUp s won.station chase) (enough : HaveRoom (answering s (chased_way s won.station chase)))
+    (chase : ℕ → ℕ) (catch : CatchUp s won.station chase) (enough : HaveRoomToSample (answering s (chased_way s won.station chase)))
     (rest : HasRoomToRest s (chased_way s won.station chase)) where
   abbrev bits : ℕ → Start
   bits = expected_bits s o

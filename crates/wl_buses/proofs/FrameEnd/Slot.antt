@@ -17,15 +17,15 @@ use Rattle.wl_frame.specs.Laws.{IsEdge, up_to_ack}
 use Rattle.wl_frame.proofs.Callers.{length_more}
 use Rattle.wl_machine.specs.Frames.{stuffed_end}
 use Rattle.wl_phase.specs.Clocks.{steady_tick}
-use Rattle.wl_buses.specs.OneFrame.Stations.{AreStations, HaveRoom, Stations, bit_drift, shared_instant, shared_quantum}
-use Rattle.wl_buses.specs.OneFrame.Starts.{BeginBit, BeginsAlone, Drives, FindsFirst, FollowsSoft, Start, reaches_at}
+use Rattle.wl_buses.specs.OneFrame.Stations.{AreStations, HaveRoom, HaveRoomToSample, Stations, bit_drift, shared_instant, shared_quantum}
+use Rattle.wl_buses.specs.OneFrame.Starts.{BeginBit, Drives, Start, reaches_at}
 use Rattle.wl_buses.specs.OneFrame.OneBit.{FollowsOne}
 use Rattle.wl_buses.specs.OneFrame.Course.{begins_with_edge, bus_bit, since_edge}
 use Rattle.wl_buses.specs.OneFrame.Machines.{HasWon, bus_levels}
-use Rattle.wl_buses.specs.OneFrame.Acknowledged.{AreAllClose, CatchUp, IsAcknowledgedByAll, IsAnsweredByAll, answering, chased_way}
+use Rattle.wl_buses.specs.OneFrame.Acknowledged.{AreAllClose, CatchUp, IsAcknowledgedByAll, IsAnsweredByAll, answering, chased_way, gathered_way, most_overrun}
 use Rattle.wl_buses.specs.OneFrame.Expected.{IsOutset, Outset, edge_start, expected_bits, expected_drove, expected_end, plain_start, settled, wants}
 use Rattle.wl_buses.proofs.OneFrame.Acks.{acknowledged}
-use Rattle.wl_buses.proofs.OneFrame.AckWays.{any_close, chased_stations}
+use Rattle.wl_buses.proofs.OneFrame.AckWays.{any_close, begin_there, chased_stations, closer, fits_but, gathered_stations, there_drives}
 use Rattle.wl_buses.proofs.OneFrame.Settling.{begin_bit, begins_by, caught}
 use Rattle.wl_buses.proofs.OneFrame.Expecting.{course, drives_are, edge_is, from_all, from_sample, none_driven, plain_is}
 use Rattle.wl_buses.proofs.OneFrame.Measures.{drifted, instant_more, tick_next, ticks_before}
@@ -43,41 +43,6 @@ any_more n zero f none = (let e : n + 0 ≡ n = omega arith in ap (λ k. any_bel
 any_more n (suc p) f none =
     (let e : n + suc p ≡ suc (n + p) = omega arith in
     ap (λ k. any_below k f) e ∙ ap (λ b. any_below (n + p) f || b) (none p (omega arith)) ∙ no_or (any_below (n + p) f) false refl ∙ any_more n p f (λ j less. none j (omega arith)))
-
--- how a bit begins, at the same stations
-module _ (s : Stations) (late : ℕ → ℕ → ℕ) (b : Start) where
-  abbrev others : Stations
-  others = answering s late
-
-  pub there_drives : (i k : ℕ) → Drives s b i k → Drives others b i k
-  there_drives i k h = record { inside = h.inside; other = h.other; dominant = h.dominant }
-
-  back_drives : (i k : ℕ) → Drives others b i k → Drives s b i k
-  back_drives i k h = record { inside = h.inside; other = h.other; dominant = h.dominant }
-
-  there_finds : (i k found : ℕ) → FindsFirst s b i k found → FindsFirst others b i k found
-  there_finds i k found h = record { by = there_drives i k h.by; later = h.later; finds = h.finds; first = λ w drives. h.first w (back_drives i w drives) }
-
-  there_alone : (i : ℕ) → BeginsAlone s b i → BeginsAlone others b i
-  there_alone i h = record { dominant = h.dominant; place = h.place; from = h.from; unfound = λ k drives. h.unfound k (back_drives i k drives) }
-
-  there_soft : (i : ℕ) → FollowsSoft s b i → FollowsSoft others b i
-  there_soft i h = record {
-    by = h.by;
-    found = h.found;
-    finds = there_finds i h.by h.found h.finds;
-    place = h.place;
-    early = h.early;
-    from_low = h.from_low;
-    from_high = h.from_high;
-    not_before = h.not_before;
-  }
-
-  pub begin_there : BeginBit s b → BeginBit others b
-  begin_there begin i inside = elim (begin i inside) [
-    | inl itself ↦ inl (there_alone i itself)
-    | inr soft ↦ inr (there_soft i soft)
-  ]
 
 module _ (m : MachineLaws) (s : Stations) (are : AreStations s) (room : HaveRoom s) (o : Outset) (is : IsOutset s o) (end : ℕ)
     (valid : (n : ℕ) → n < end → stuffed_end (bus_levels s (expected_bits s o) n) ≡ None)
@@ -215,7 +180,7 @@ module _ (m : MachineLaws) (s : Stations) (are : AreStations s) (room : HaveRoom
       (ap (λ b. not (bus_bit s bits (suc end)) && b) bus_after ∙ and_right (not (bus_bit s bits (suc end))) false refl)
 
   -- the stations as if all might send
-  module _ (chase : ℕ → ℕ) (catch : CatchUp s won.station chase) (enough : HaveRoom (answering s (chased_way s won.station chase))) where
+  module _ (chase : ℕ → ℕ) (catch : CatchUp s won.station chase) (enough : HaveRoomToSample (answering s (chased_way s won.station chase))) where
     abbrev late : ℕ → ℕ → ℕ
     late = chased_way s won.station chase
 
@@ -228,16 +193,22 @@ module _ (m : MachineLaws) (s : Stations) (are : AreStations s) (room : HaveRoom
     abbrev since : ℕ
     since = suc (since_edge s bits last)
 
-    close_last : AreAllClose s late (since_edge s bits last) (bits last).place
+    abbrev way : ℕ → ℕ → ℕ
+    way = gathered_way s won.station chase
+
+    close_last : AreAllClose s way (since_edge s bits last) (bits last).place
     close_last =
         (let b = last_is in
         any_close s are room bits (expected_drove s o end) end (λ k. expected_end s o end) (course m.steps m.errors m.winner m.stuffed m.six m.ten s are room o is end valid) m.driven
         won.station won.inside won.sends chase catch last (omega arith))
 
+    close_by : AreAllClose s way since (bits end).place
+    close_by =
+        same_places (answering s way) (λ i. true) since (λ i. (bits last).place i + bit_quanta (s.lengths i)) (bits end).place (λ i inside. delimiter_place i)
+        (λ i k inside there other some. drifted (answering s way) (since_edge s bits last) i k ((bits last).place i) ((bits last).place k) (close_last i k inside there other some))
+
     pub close : AreAllClose s late since (bits end).place
-    close =
-        same_places t (λ i. true) since (λ i. (bits last).place i + bit_quanta (s.lengths i)) (bits end).place (λ i inside. delimiter_place i)
-        (λ i k inside there other some. drifted t (since_edge s bits last) i k ((bits last).place i) ((bits last).place k) (close_last i k inside there other some))
+    close = closer s won.station chase since (bits end).place close_by
 
     abbrev sample : ℕ → ℕ
     sample i = tick i ((bits end).place i + sample_at (s.lengths i))
@@ -423,5 +394,5 @@ module _ (m : MachineLaws) (s : Stations) (are : AreStations s) (room : HaveRoom
 
     pub heard : (until : ℕ → ℕ) → IsAcknowledgedByAll s late (bits end).place (bits (suc end)) (bits (suc (suc end))).from drove until
     heard until =
-        acknowledged s late are_there enough won.station (bits end).place (bits (suc end)) (bits (suc (suc end))).from drove until (answered until) since
-        (let f = few in omega arith) close m.driven
+        acknowledged s way (most_overrun s won.station chase) (gathered_stations s are.line won.station chase) (fits_but s are.line won.station chase) enough won.station (bits end).place (bits (suc end)) (bits (suc (suc end))).from drove until (answered until) since
+        (let f = few in omega arith) close_by m.driven

@@ -6,7 +6,7 @@ use Rattle.wl_segments.specs.Lengths.{bit_quanta}
 use Rattle.wl_topology.proofs.Callers.{any_none}
 use Rattle.wl_machine.specs.Frames.{stuffed_end}
 use Rattle.wl_phase.specs.Ways.{moved_to}
-use Rattle.wl_buses.specs.OneFrame.Stations.{AreStations, HaveRoom, Stations, bit_drift, shared_instant, shared_quantum, shared_tick}
+use Rattle.wl_buses.specs.OneFrame.Stations.{AreStations, HaveRoom, HaveRoomToSample, Stations, bit_drift, shared_instant, shared_quantum, shared_tick}
 use Rattle.wl_buses.specs.OneFrame.Starts.{BeginBit, BeginsAlone, FollowsSoft, Start}
 use Rattle.wl_buses.specs.OneFrame.OneBit.{AreRight}
 use Rattle.wl_buses.specs.OneFrame.Course.{IsCourse, IsSampled, RightUpTo, begins_with_edge, bus_bit, since_edge, still_sends}
@@ -47,7 +47,7 @@ module _ (s : Stations) (b : Start) (i : ℕ) where
 module _ (m : MachineLaws) (s : Stations) (are : AreStations s) (room : HaveRoom s) (o : Outset) (is : IsOutset s o) (end : ℕ)
     (valid : (n : ℕ) → n < end → stuffed_end (bus_levels s (expected_bits s o) n) ≡ None)
     (over : stuffed_end (bus_levels s (expected_bits s o) end) ≡ Some end) (won : HasWon s (expected_bits s o) o.frames end)
-    (chase : ℕ → ℕ) (catch : CatchUp s won.station chase) (enough : HaveRoom (answering s (chased_way s won.station chase)))
+    (chase : ℕ → ℕ) (catch : CatchUp s won.station chase) (enough : HaveRoomToSample (answering s (chased_way s won.station chase)))
     (rest : HasRoomToRest s (chased_way s won.station chase)) where
   abbrev bits : ℕ → Start
   bits = expected_bits s o

@@ -14,7 +14,7 @@ use Rattle.wl_phase.specs.Clocks.{steady_tick}
 use Rattle.wl_buses.specs.OneFrame.Acknowledged.{CatchUp, answering, chased_way}
 use Rattle.wl_buses.specs.OneFrame.Expected.{IsOutset, Outset, expected_bits, expected_drove, expected_sample, wants}
 use Rattle.wl_buses.specs.OneFrame.Machines.{HasWon, bus_levels}
-use Rattle.wl_buses.specs.OneFrame.Stations.{AreStations, HaveRoom, Stations}
+use Rattle.wl_buses.specs.OneFrame.Stations.{AreStations, HaveRoom, HaveRoomToSample, Stations}
 use Rattle.wl_buses.proofs.OneFrame.Expecting.{after_there, from_sample}
 use Rattle.wl_buses.proofs.OneFrame.Machines.{level_back}
 use Rattle.wl_buses.proofs.OneFrame.Measures.{tick_next}
@@ -27,7 +27,7 @@ use Rattle.wl_buses.proofs.NextFrames.Windows.{any_alone}
 module _ (m : MachineLaws) (s : Stations) (are : AreStations s) (room : HaveRoom s) (o : Outset) (is : IsOutset s o) (end : ℕ)
     (valid : (n : ℕ) → n < end → stuffed_end (bus_levels s (expected_bits s o) n) ≡ None)
     (over : stuffed_end (bus_levels s (expected_bits s o) end) ≡ Some end) (won : HasWon s (expected_bits s o) o.frames end)
-    (chase : ℕ → ℕ) (catch : CatchUp s won.station chase) (enough : HaveRoom (answering s (chased_way s won.station chase)))
+    (chase : ℕ → ℕ) (catch : CatchUp s won.station chase) (enough : HaveRoomToSample (answering s (chased_way s won.station chase)))
     (asked : EndAsAsked s o end won.station won.frame) (i : ℕ) (inside : i < s.count) where
   abbrev S : ℕ → ℕ
   S n = expected_sample s o n i

@@ -2,19 +2,22 @@
 use Rattle.std.proofs.Common.{◌≡◌, ◌≢◌, ◌∙◌, ◌⊎◌, inl, inr, refl, sym, ap, subst, ℕ, zero, suc, ◌+◌, ◌-◌, ◌*◌, ◌<◌, ◌≤◌, Bool, true, false, not, cond, max, ◌||◌, arith}
 use Rattle.std.specs.Prelude.{◌==◌}
 use Rattle.std.proofs.lemmas.Bool.{and_parts, cases_eq, cases_lt, cases_Bool, ne_eqb}
+use Rattle.std.proofs.lemmas.Grind.{div_ceil_times}
 use Rattle.std.proofs.Math.Nat.{mul-le-mul_left, mul-le-mul_right}
+use Rattle.wl_bound.specs.Terms.{greatest}
 use Rattle.wl_segments.specs.Lengths.{bit_quanta}
 use Rattle.wl_topology.specs.Driven.{DrivenLaws}
 use Rattle.wl_phase.specs.Clocks.{steady_tick}
 use Rattle.wl_phase.specs.Ways.{moved_to}
-use Rattle.wl_buses.specs.OneFrame.Stations.{Stations, AreStations, AreClose, AreOnALine, HaveRoom, ReachesBy, bit_drift, shared_tick, shared_quantum, shared_instant}
+use Rattle.wl_buses.specs.OneFrame.Stations.{Stations, AreStations, AreClose, AreOnALine, FitsBut, HaveRoom, ReachesBy, bit_drift, shared_tick, shared_quantum, shared_instant}
 use Rattle.wl_buses.specs.OneFrame.Starts.{Start, Drives, AreAllowed, AreSenders, BeginBit, BeginFrame, BeginsAlone, FindsFirst, FollowsHard, FollowsSoft}
 use Rattle.wl_buses.specs.OneFrame.Course.{IsCourse, begins_with_edge, bus_bit, since_edge, still_sends}
-use Rattle.wl_buses.specs.OneFrame.Acknowledged.{AreAllClose, CatchUp, answering, any_way, chased_way, gathers, jump_gap}
-use Rattle.wl_buses.proofs.OneFrame.Measures.{exact_before, instant_high, instant_low, instant_more, same_tick, tick_next}
-use Rattle.wl_buses.proofs.OneFrame.Nearing.{ahead_by, due_by, from_by, stays_below}
+use Rattle.wl_buses.specs.OneFrame.Acknowledged.{AreAllClose, CatchUp, answering, any_way, chased_way, gathered_way, gathers, jump_gap, most_overrun, overrun}
+use Rattle.wl_buses.proofs.OneFrame.Measures.{exact_before, some_tick, instant_high, instant_low, instant_more, same_tick, tick_next}
+use Rattle.wl_buses.proofs.OneFrame.Nearing.{ahead_by, due_by, fits_all, from_by, stays_below}
 use Rattle.wl_buses.proofs.OneFrame.Passing as passing
-use Rattle.wl_buses.proofs.OneFrame.Starting.{alone, followed, frame_close}
+use Rattle.wl_buses.proofs.BothProofs.Small.{greatest_each}
+use Rattle.wl_buses.proofs.OneFrame.Starting.{alone, followed, frame_close, no_more}
 use Rattle.wl_phase.proofs.Callers.{few_of}
 
 -- such ways are as long as an edge takes
@@ -47,11 +50,34 @@ module _ (s : Stations) (line : AreOnALine s) (late : ℕ → ℕ → ℕ) (long
     };
   }
 
+longer : (a b c d : ℕ) → a ≤ max a b + c + d
+longer a b c d = omega arith
+
+pub gathered_stations : (s : Stations) → AreOnALine s → (winner : ℕ) → (chase : ℕ → ℕ) → AreStations (answering s (gathered_way s winner chase))
+gathered_stations s line winner chase =
+    any_stations s line (gathered_way s winner chase) (λ k i. (let h = longer (any_way s k i) (s.way k i) (gathers s winner chase k i) 0 in omega arith))
+
 pub chased_stations : (s : Stations) → AreOnALine s → (winner : ℕ) → (chase : ℕ → ℕ) → AreStations (answering s (chased_way s winner chase))
-chased_stations s line winner chase = any_stations s line (chased_way s winner chase) (λ k i. longer (any_way s k i) (s.way k i) (gathers s winner chase k i))
-  where
-    longer : (a b c : ℕ) → a ≤ max a b + c
-    longer a b c = omega arith
+chased_stations s line winner chase =
+    any_stations s line (chased_way s winner chase)
+    (λ k i. longer (any_way s k i) (s.way k i) (gathers s winner chase k i) (most_overrun s winner chase i * shared_tick s i k))
+
+-- the most that a jump leaves is enough
+pub fits_but : (s : Stations) → AreOnALine s → (winner : ℕ) → (chase : ℕ → ℕ) → FitsBut (answering s (gathered_way s winner chase)) (most_overrun s winner chase)
+unfolding most_overrun
+fits_but s line winner chase i k inside there other may =
+    let some = some_tick (answering s (gathered_way s winner chase)) (gathered_stations s line winner chase) i k inside there in
+    let lack : ℕ =
+    gathered_way s winner chase k i + 10 * bit_drift s i k - ((s.delay k i + s.delay i k) * shared_tick s i k + (s.lengths i).sjw * shared_quantum s i k) in
+    let upper : lack ≤ overrun s winner chase i k * shared_tick s i k = (div_ceil_times lack (shared_tick s i k) some).0 in
+    let each = greatest_each s.count (λ a. not (a == i)) (overrun s winner chase i) k there (ap not (ne_eqb k i (λ e. other (sym e)))) in
+    let all : overrun s winner chase i k * shared_tick s i k ≤ greatest s.count (λ a. not (a == i)) (overrun s winner chase i) * shared_tick s i k = mul-le-mul_right (shared_tick s i k) each in
+    omega arith
+
+-- close before an edge is close enough after it
+pub closer : (s : Stations) (winner : ℕ) (chase : ℕ → ℕ) (since : ℕ) (place : ℕ → ℕ) → AreAllClose s (gathered_way s winner chase) since place
+    → AreAllClose s (chased_way s winner chase) since place
+closer s winner chase since place close i k inside there other some = (let near = close i k inside there other some in omega arith)
 
 -- between two others so much gathers
 pub gathers_is : (s : Stations) (winner : ℕ) (chase : ℕ → ℕ) (k i : ℕ) → i ≢ winner → k ≢ winner → gathers s winner chase k i ≡ chase k * (10 * bit_drift s i k + jump_gap s i k)
@@ -63,7 +89,7 @@ module _ (s : Stations) (late : ℕ → ℕ → ℕ) (b : Start) where
   abbrev t : Stations
   t = answering s late
 
-  there_drives : (i k : ℕ) → Drives s b i k → Drives t b i k
+  pub there_drives : (i k : ℕ) → Drives s b i k → Drives t b i k
   there_drives i k h = record { inside = h.inside; other = h.other; dominant = h.dominant }
 
   pub back_drives : (i k : ℕ) → Drives t b i k → Drives s b i k
@@ -74,6 +100,24 @@ module _ (s : Stations) (late : ℕ → ℕ → ℕ) (b : Start) where
 
   there_alone : (i : ℕ) → BeginsAlone s b i → BeginsAlone t b i
   there_alone i h = record { dominant = h.dominant; place = h.place; from = h.from; unfound = λ k drives. h.unfound k (back_drives i k drives) }
+
+  there_soft : (i : ℕ) → FollowsSoft s b i → FollowsSoft t b i
+  there_soft i h = record {
+    by = h.by;
+    found = h.found;
+    finds = there_finds i h.by h.found h.finds;
+    place = h.place;
+    early = h.early;
+    from_low = h.from_low;
+    from_high = h.from_high;
+    not_before = h.not_before;
+  }
+
+  pub begin_there : BeginBit s b → BeginBit t b
+  begin_there begin i inside = elim (begin i inside) [
+    | inl itself ↦ inl (there_alone i itself)
+    | inr soft ↦ inr (there_soft i soft)
+  ]
 
   there_hard : (i : ℕ) → FollowsHard s b i → FollowsHard t b i
   there_hard i h = record { by = h.by; found = h.found; finds = there_finds i h.by h.found h.finds; place = h.place; from = h.from }
@@ -111,17 +155,21 @@ module _ (s : Stations) (are : AreStations s) (room : HaveRoom s) (sends : ℕ �
 
   alone_near : (i k : ℕ) → i < s.count → k < s.count → i ≢ k → BeginsAlone s b k → ReachesBy u 0 i k (b.place i) (b.place k)
   alone_near i k inside there other itself =
-      alone u them b (λ w third e. refl) i k inside there other itself.dominant
-      (ahead_by s are room sends since few b close senders allowed begin i k inside (record { inside = there; other = λ e. other (sym e); dominant = itself.dominant }) (begin i inside)) itself.from
+      let near =
+      alone u them no_more b (λ w third e. refl) i k inside there other itself.dominant
+      (ahead_by s are no_more (fits_all s room) room.samples.late_fits sends since few b close senders allowed begin i k inside (record { inside = there; other = λ e. other (sym e); dominant = itself.dominant }) (begin i inside)) itself.from in
+      omega arith
 
   soft_near : (i k : ℕ) → i < s.count → k < s.count → i ≢ k → (soft : FollowsSoft s b k) → soft.found ≤ suc (b.place k) → ReachesBy u 0 i k (b.place i) (b.place k)
   soft_near i k inside there other soft near_it =
       let up = tick_next s are k there soft.found (suc (b.place k)) near_it in
       let seen = soft.finds.finds.seen in
-      followed u them b (λ w third e. refl) i k inside there (other, inl refl)
-      (λ w drives. ahead_by s are room sends since few b close senders allowed begin i w inside (back_drives s (any_way s) b i w drives) (begin i inside))
-      (from_by s are room sends since few b close senders allowed begin i (begin i inside))
-      (record { by = soft.by; drives = record { inside = soft.finds.by.inside; other = soft.finds.by.other; dominant = soft.finds.by.dominant }; found = omega arith })
+      let close_to =
+      followed u them no_more b (λ w third e. refl) i k inside there (other, inl refl)
+      (λ w drives. ahead_by s are no_more (fits_all s room) room.samples.late_fits sends since few b close senders allowed begin i w inside (back_drives s (any_way s) b i w drives) (begin i inside))
+      (from_by s are no_more (fits_all s room) room.samples.late_fits sends since few b close senders allowed begin i (begin i inside))
+      (record { by = soft.by; drives = record { inside = soft.finds.by.inside; other = soft.finds.by.other; dominant = soft.finds.by.dominant }; found = omega arith }) in
+      omega arith
 
   pub near_or_forward : (k : ℕ) → k < s.count → IsNear k ⊎ IsForward k
   near_or_forward k there = elim (begin k there) [
@@ -160,7 +208,7 @@ module _ (s : Stations) (are : AreStations s) (room : HaveRoom s) (sends : ℕ �
       → shared_instant s w k (b.due w) + s.delay w k * shared_tick s w k + more < shared_instant s k w (b.due k) + way
       → shared_instant s w k (b.place w) + s.delay w k * shared_tick s w k + more + (s.lengths k).sjw * shared_quantum s k w < shared_instant s k w (b.place k) + way
   forward_to w k more way inside there dominant h was =
-      let by = due_by s are room sends since few b close senders allowed begin w (begin w inside) dominant in
+      let by = due_by s are no_more (fits_all s room) room.samples.late_fits sends since few b close senders allowed begin w (begin w inside) dominant in
       let own : b.place w + (b.due w - b.place w) ≡ b.due w = omega arith in
       let up = instant_more s are w k inside there (b.place w) (b.due w - b.place w) in
       let e : shared_instant s w k (b.place w + (b.due w - b.place w)) ≡ shared_instant s w k (b.due w) = ap (shared_instant s w k) own in
@@ -361,7 +409,7 @@ module _ (s : Stations) (are : AreStations s) (room : HaveRoom s) (bits : ℕ �
           let near =
           forward_to s are room (still_sends s bits (suc n)) (suc (since n)) few (bits (suc n)) close_sent sent allowed begin winner k (edges * jump k) (s.way k winner + suc (since n) * bit_drift s winner k)
           inside there dominant h (early_due k edges there other r) in
-          let fits = room.late_fits k winner there inside other may in
+          let fits = room.samples.late_fits k winner there inside other may in
           let drift = few_of (suc (since n)) (bit_drift s winner k) few in
           let one : suc edges * jump k ≡ edges * jump k + jump k = omega arith in
           omega arith
@@ -412,7 +460,7 @@ module _ (s : Stations) (are : AreStations s) (room : HaveRoom s) (bits : ℕ �
   within x y way any few many t h f = omega arith
 
   at_winner : (n : ℕ) → n < length → (i k : ℕ) → i < s.count → k < s.count → i ≢ k → (still_sends s bits (suc n) i ≡ true) ⊎ (still_sends s bits (suc n) k ≡ true)
-      → ReachesBy (answering s (chased_way s winner chase)) (since n) i k ((bits n).place i) ((bits n).place k)
+      → ReachesBy (answering s (gathered_way s winner chase)) (since n) i k ((bits n).place i) ((bits n).place k)
   at_winner n less i k ni nk other some =
       grows (shared_instant s i k ((bits n).place i) + s.delay i k * shared_tick s i k) (shared_instant s k i ((bits n).place k)) (s.way k i) (any_way s k i)
       (gathers s winner chase k i) (since n * bit_drift s i k) ((reached n less).close i k ni nk other some)
@@ -421,7 +469,7 @@ module _ (s : Stations) (are : AreStations s) (room : HaveRoom s) (bits : ℕ �
       grows x y way any more t h = omega arith
 
   between : (n : ℕ) → n < length → (i k : ℕ) → i < s.count → k < s.count → i ≢ k → i ≢ winner → k ≢ winner
-      → ReachesBy (answering s (chased_way s winner chase)) (since n) i k ((bits n).place i) ((bits n).place k)
+      → ReachesBy (answering s (gathered_way s winner chase)) (since n) i k ((bits n).place i) ((bits n).place k)
   between n less i k ni nk other apart third =
       let r = chases n less k nk in
       let near = r.1.close i ni other in
@@ -430,7 +478,7 @@ module _ (s : Stations) (are : AreStations s) (room : HaveRoom s) (bits : ℕ �
       within (shared_instant s i k ((bits n).place i) + s.delay i k * shared_tick s i k) (shared_instant s k i ((bits n).place k)) (s.way k i) (any_way s k i)
       (r.0 * (10 * bit_drift s i k + jump_gap s i k)) (gathers s winner chase k i) (since n * bit_drift s i k) near (omega arith)
 
-  pub any_close : (n : ℕ) → n < length → AreAllClose s (chased_way s winner chase) (since n) (bits n).place
+  pub any_close : (n : ℕ) → n < length → AreAllClose s (gathered_way s winner chase) (since n) (bits n).place
   any_close n less i k ni nk other some = elim (cases_eq i winner) [
     | inl own ↦ at_winner n less i k ni nk other (inl (subst (λ w. still_sends s bits (suc n) w ≡ true) (sym own) (wins_at (suc n) (length - suc n) (omega arith))))
     | inr apart ↦ elim (cases_eq k winner) [

@@ -5,12 +5,13 @@ use Rattle.wl_segments.specs.Lengths.{bit_quanta}
 use Rattle.wl_topology.specs.Driven.{DrivenLaws, driven, any_below}
 use Rattle.wl_topology.proofs.Callers.{any_from, any_one}
 use Rattle.wl_phase.specs.Clocks.{steady_tick}
-use Rattle.wl_buses.specs.OneFrame.Stations.{Stations, AreStations, AreClose, HaveRoom}
+use Rattle.wl_buses.specs.OneFrame.Stations.{Stations, AreStations, AreClose, FitsBut, HaveRoomToSample, with_longer_ways}
 use Rattle.wl_buses.specs.OneFrame.Starts.{Start, reaches_at}
 use Rattle.wl_buses.specs.OneFrame.OneBit.{OneBit, AreRight, sampled_at}
 use Rattle.wl_buses.specs.OneFrame.Acknowledged.{AreAllClose, IsAcknowledgedByAll, IsAnsweredByAll, answering, recessive_bit}
 use Rattle.wl_buses.proofs.OneFrame.Measures.{drifted}
-use Rattle.wl_buses.proofs.OneFrame.Nearing.{bit_close}
+use Rattle.wl_buses.proofs.OneFrame.AckWays.{begin_there}
+use Rattle.wl_buses.proofs.OneFrame.Nearing.{bit_later}
 use Rattle.wl_buses.proofs.OneFrame.Passing.{begun_by, same_places}
 use Rattle.wl_buses.proofs.OneFrame.Sampled.{all_right, is_there, next_later}
 
@@ -25,15 +26,41 @@ another w = elim (cases_eq w 0) [
   | inr other ↦ (0, omega arith, (λ e. other (sym e)))
 ]
 
-module _ (s : Stations) (late : ℕ → ℕ → ℕ) (are : AreStations (answering s late)) (room : HaveRoom (answering s late)) (winner : ℕ) (place : ℕ → ℕ) (slot : Start) (over : ℕ → ℕ)
-    (drove : ℕ → ℕ → Bool) (until : ℕ → ℕ) (is : IsAnsweredByAll s late winner place slot over drove until) (since : ℕ) (few : since ≤ 9) (close : AreAllClose s late since place) (laws : DrivenLaws) where
+-- the same stations with longer ways
+later_stations : (s : Stations) (more : ℕ → ℕ) → AreStations s → AreStations (with_longer_ways s more)
+later_stations s more are = record {
+  line = record { steady = are.line.steady; book = are.line.book; later = are.line.later; detours = are.line.detours };
+  ways = record {
+    there_and_back = λ i k inside there pair may. (let way = are.ways.there_and_back i k inside there pair may in omega arith);
+    over = λ i k a inside there third pair apart other may. (let way = are.ways.over i k a inside there third pair apart other may in omega arith);
+    straight = λ i k inside there pair may. (let way = are.ways.straight i k inside there pair may in omega arith);
+  };
+}
+
+module _ (s : Stations) (way : ℕ → ℕ → ℕ) (more : ℕ → ℕ) (are_before : AreStations (answering s way)) (fits : FitsBut (answering s way) more) (room : HaveRoomToSample (with_longer_ways (answering s way) more)) (winner : ℕ) (place : ℕ → ℕ) (slot : Start) (over : ℕ → ℕ)
+    (drove : ℕ → ℕ → Bool) (until : ℕ → ℕ) (is : IsAnsweredByAll s (with_longer_ways (answering s way) more).way winner place slot over drove until) (since : ℕ) (few : since ≤ 9) (near_before : AreAllClose s way since place) (laws : DrivenLaws) where
+  abbrev late : ℕ → ℕ → ℕ
+  late = (with_longer_ways (answering s way) more).way
+
+  abbrev u : Stations
+  u = answering s way
+
   abbrev t : Stations
   t = answering s late
+
+  are : AreStations t
+  are = later_stations u more are_before
+
+  close : AreAllClose s late since place
+  close i k inside there other some = (let near = near_before i k inside there other some in omega arith)
 
   abbrev all : ℕ → Bool
   all = λ k. true
 
   -- so many bits later
+  next_before : (n : ℕ) (place : ℕ → ℕ) → AreClose u all n place → AreClose u all (suc n) (λ i. place i + bit_quanta (s.lengths i))
+  next_before n place near i k inside there other some = drifted u n i k (place i) (place k) (near i k inside there other some)
+
   next_bit : (n : ℕ) (place : ℕ → ℕ) → AreClose t all n place → AreClose t all (suc n) (λ i. place i + bit_quanta (s.lengths i))
   next_bit n place near i k inside there other some = drifted t n i k (place i) (place k) (near i k inside there other some)
 
@@ -64,8 +91,8 @@ module _ (s : Stations) (late : ℕ → ℕ → ℕ) (are : AreStations (answeri
       (λ w third before. delimited w third) refl (omega arith)
 
   -- the ACK slot
-  close_due : AreClose t all (suc since) slot.due
-  close_due = same_places t all (suc since) (λ i. place i + bit_quanta (s.lengths i)) slot.due is.due (next_bit since place close)
+  close_due : AreClose u all (suc since) slot.due
+  close_due = same_places u all (suc since) (λ i. place i + bit_quanta (s.lengths i)) slot.due is.due (next_before since place near_before)
 
   either : (i k : ℕ) → i < s.count → k < s.count → i ≢ k → (slot.drives i ≡ true) ⊎ (slot.drives k ≡ true)
   either i k inside there other = elim (cases_eq i winner) [
@@ -75,7 +102,8 @@ module _ (s : Stations) (late : ℕ → ℕ → ℕ) (are : AreStations (answeri
 
   close_slot : AreClose t all 0 slot.place
   close_slot i k inside there other some =
-      bit_close t are room all (suc since) (omega arith) slot close_due (λ w third e. refl) (λ w third e. refl) (is.begin delimited) i k inside there other
+      bit_later u are_before more fits room.late_fits all (suc since) (omega arith) slot close_due (λ w third e. refl) (λ w third e. refl)
+      (begin_there (answering s late) way slot (is.begin delimited)) i k inside there other
       (either i k inside there other)
 
   acknowledgement : OneBit t all 0 slot (recessive_bit over) drove

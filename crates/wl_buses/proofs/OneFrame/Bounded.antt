@@ -472,4 +472,4 @@ module _ (bus : Bus) (s : Stations) (line : AreOnALine s) (of : HasStations bus 
       loop_by bus s line of i ni (omega arith)
 
   pub has_room : HaveRoom s
-  has_room = record { early_fits = early_fits; late_fits = late_fits; is_there = there; loops = loop; not_early = not_early }
+  has_room = record { early_fits = early_fits; samples = record { late_fits = late_fits; is_there = there; loops = loop; not_early = not_early } }

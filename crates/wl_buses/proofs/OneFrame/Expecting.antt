@@ -108,7 +108,7 @@ module _ (steps : StayInStep) (errors : FindNoErrors) (winner : LeastWins) (stuf
     alone_early : (i k : ℕ) → i < s.count → k < s.count → i ≢ k → d k ≡ true → settled s d (dues n) k ≡ dues n k → sample i < reaches_at s e k i
     alone_early i k inside there other dominant from =
         let near = close i k inside there other (inr (sender k there dominant)) in
-        let fits = room.not_early i k inside there other (may (suc n) k there (sender k there dominant)) in
+        let fits = room.samples.not_early i k inside there other (may (suc n) k there (sender k there dominant)) in
         let drift : suc (since n) * bit_drift s i k ≤ 10 * bit_drift s i k = mul-le-mul_right (bit_drift s i k) (let f = few_at n on in let g : suc (since n) ≤ 10 = omega arith in g) in
         let more : suc (since n) * bit_drift s i k ≡ since n * bit_drift s i k + bit_drift s i k = omega arith in
         let own = instant_more s are i k inside there ((bits n).place i) (sample_at (s.lengths i)) in

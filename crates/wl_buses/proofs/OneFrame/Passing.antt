@@ -174,7 +174,7 @@ module _ (s : Stations) (are : AreStations s) (room : HaveRoom s) (bits : ℕ �
   }
 
   right_at : (n : ℕ) → n < length → Reached n → AreRight s (bits n) drove
-  right_at n less r = all_right s are room (sends (suc n)) (since n) (bits n) (bits (suc n)) drove (one n less r) laws
+  right_at n less r = all_right s are room.samples (sends (suc n)) (since n) (bits n) (bits (suc n)) drove (one n less r) laws
 
   -- the start of frame
   first : 0 < length → Reached 0
@@ -276,7 +276,7 @@ module _ (s : Stations) (are : AreStations s) (room : HaveRoom s) (bits : ℕ �
         → IsHeld (suc n) i k (steady_tick (s.clocks k) ((bits (suc (suc n))).from k))
     held_plain i k inside there sender recessive plain = record {
       begin = steady_tick (s.clocks k) ((bits (suc n)).from k);
-      before = is_there s are room (sends (suc n)) (since (suc n)) (let f = is.few (suc n) less in omega arith) (bits (suc n)) (λ k there e. still_allowed s bits is.allowed (suc n) k there e) (close_plain plain) i k inside there sender (is.plain n k less there right plain).1;
+      before = is_there s are room.samples (sends (suc n)) (since (suc n)) (let f = is.few (suc n) less in omega arith) (bits (suc n)) (λ k there e. still_allowed s bits is.allowed (suc n) k there e) (close_plain plain) i k inside there sender (is.plain n k less there right plain).1;
       recessive = λ t from before. is.drives (suc n) k t less there (right k there) sender from before ∙ recessive;
     }
 

@@ -3,10 +3,10 @@ use Rattle.std.proofs.Common.{◌≡◌, ℕ, zero, suc, ◌+◌, Bool, true, fa
 use Rattle.wl_level.specs.declared.Level.TheVariants.{Dominant}
 use Rattle.wl_clock.specs.Timing.{tick_of}
 use Rattle.wl_bound.specs.Families.{Bus}
-use Rattle.wl_bound.specs.Terms.{drift, jump}
+use Rattle.wl_bound.specs.Terms.{drift, jump, look}
 use Rattle.wl_buses.specs.OneFrame.Stations.{Stations, shared_tick, shared_quantum, shared_instant, bit_drift}
-use Rattle.wl_buses.specs.OneFrame.Acknowledged.{any_way, chased_way, jump_gap}
-use Rattle.wl_buses.specs.OneFrame.Answers.{gathered}
+use Rattle.wl_buses.specs.OneFrame.Acknowledged.{any_way, chased_way, gathered_way, jump_gap, most_overrun, overrun}
+use Rattle.wl_buses.specs.OneFrame.Answers.{beyond_jump, gathered, left_over}
 use Rattle.wl_buses.specs.OneFrame.Bounds.{bus_way, following_way}
 use Rattle.wl_buses.specs.OneFrame.Starts.{Start, reaches_at}
 use Rattle.wl_buses.specs.OneFrame.Course.{since_edge, still_sends}
@@ -78,11 +78,19 @@ any = refl
 longer : jump_gap s 1 0 ≡ 2
 longer = refl
 
-in_two_edges : chased_way s 2 (λ k. 2) 0 1 ≡ 254
+in_two_edges : gathered_way s 2 (λ k. 2) 0 1 ≡ 254
 in_two_edges = refl
 
-to_the_winner : chased_way s 1 (λ k. 2) 0 1 ≡ 50
+to_the_winner : gathered_way s 1 (λ k. 2) 0 1 ≡ 50
 to_the_winner = refl
+
+-- A look of 14 half ticks and ten bits' drift of 100 are 72 more than a jump of 42: an edge leaves 36 ticks at station 1.
+not_put_right : overrun s 1 (λ k. 2) 1 0 ≡ 36
+not_put_right = refl
+
+after_an_edge : chased_way s 1 (λ k. 2) 0 1 ≡ 122
+unfolding most_overrun
+after_an_edge = refl
 
 -- on a bus of three senders ten bits drift 100 units apart, and a jump of 22 units is 2 longer than the shortest one
 abbrev bus : Bus
@@ -102,6 +110,16 @@ bus = record {
 gathers_twice : gathered bus (λ k. 2) 0 1 ≡ 204
 unfolding drift jump
 gathers_twice = refl
+
+-- ten bits' drift of 100, a look of 3 and these are 287 more than a jump of 20, and a tick comes on top
+beyond_a_jump : left_over bus (λ k. 2) 0 ≡ 288
+unfolding drift jump look left_over beyond_jump
+beyond_a_jump = refl
+
+-- without drift a jump puts a look right
+put_right : left_over (record bus { longest = λ i. 10 }) (λ k. 0) 0 ≡ 0
+unfolding drift jump look left_over beyond_jump
+put_right = refl
 
 of_two_nodes : gathered (record bus { nodes = 2 }) (λ k. 2) 0 1 ≡ 0
 of_two_nodes = refl

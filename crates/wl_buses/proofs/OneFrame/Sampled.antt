@@ -7,13 +7,13 @@ use Rattle.wl_topology.specs.Driven.{DrivenLaws, driven, any_below}
 use Rattle.wl_topology.proofs.Callers.{any_one}
 use Rattle.wl_phase.specs.Clocks.{steady_tick, instant}
 use Rattle.wl_phase.proofs.Callers.{floor_low, floor_high}
-use Rattle.wl_buses.specs.OneFrame.Stations.{Stations, AreStations, AreClose, HaveRoom, shared_quantum, shared_instant, bit_drift}
+use Rattle.wl_buses.specs.OneFrame.Stations.{Stations, AreStations, AreClose, HaveRoomToSample, shared_quantum, shared_instant, bit_drift}
 use Rattle.wl_buses.specs.OneFrame.Starts.{Start, AreAllowed, reaches_at}
 use Rattle.wl_buses.specs.OneFrame.OneBit.{OneBit, AreRight, IsRight, sampled_at}
 use Rattle.wl_buses.proofs.OneFrame.Measures.{same_tick, instant_more, reaches_by, ticks_before, tick_next}
 use Rattle.wl_buses.proofs.BothProofs.Small.{none_below}
 
-module _ (s : Stations) (are : AreStations s) (room : HaveRoom s) (sends : ℕ → Bool) (since : ℕ) (few : since ≤ 10) (b : Start) (allowed : AreAllowed s sends) (close : AreClose s sends since b.place) where
+module _ (s : Stations) (are : AreStations s) (room : HaveRoomToSample s) (sends : ℕ → Bool) (since : ℕ) (few : since ≤ 10) (b : Start) (allowed : AreAllowed s sends) (close : AreClose s sends since b.place) where
   -- a bit that a sender begins with its place 0 is there at the sample of each other station, and at its own
   there_other : (i k : ℕ) → i < s.count → k < s.count → i ≢ k → sends k ≡ true → b.from k ≡ b.place k → reaches_at s b k i ≤ sampled_at s b i
   there_other i k inside there other sender from =
@@ -42,7 +42,7 @@ module _ (s : Stations) (are : AreStations s) (room : HaveRoom s) (sends : ℕ �
     | inr other ↦ there_other i k inside there (λ e. other (sym e)) sender from
   ]
 
-module _ (s : Stations) (are : AreStations s) (room : HaveRoom s) (sends : ℕ → Bool) (since : ℕ) (b c : Start) (drove : ℕ → ℕ → Bool) (one : OneBit s sends since b c drove) where
+module _ (s : Stations) (are : AreStations s) (room : HaveRoomToSample s) (sends : ℕ → Bool) (since : ℕ) (b c : Start) (drove : ℕ → ℕ → Bool) (one : OneBit s sends since b c drove) where
   -- a dominant bit has one that began by itself
   origin : (n k : ℕ) → k < s.count → b.drives k ≡ true → steady_tick (s.clocks k) (b.from k) < n → (w : ℕ) × (w < s.count) × (b.drives w ≡ true) × (b.from w ≡ b.place w)
   origin zero k there dominant less = absurd (omega arith)

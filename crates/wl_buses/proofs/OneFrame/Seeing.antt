@@ -79,14 +79,14 @@ module _ (steps : StayInStep) (errors : FindNoErrors) (winner : LeastWins) (stuf
   -- no sender's bit comes before the sample of the one before
   pub not_before : (n i k : ℕ) → n < length → i < s.count → k < s.count → sends (suc n) k ≡ true → sampled_at s (bits n) i < reaches_at s (bits (suc n)) k i
   not_before n i k less inside there sender =
-      next_later s are room (sends (suc n)) (since_edge s bits n) (bits n) (bits (suc n)) drove
+      next_later s are room.samples (sends (suc n)) (since_edge s bits n) (bits n) (bits (suc n)) drove
       (one_bit s are room bits drove length (λ k. expected_end s o length) the_course laws n less)
       (suc (tick k ((bits (suc n)).from k))) i k inside there (λ w lt before. right_at n w less lt) sender (omega arith)
 
   -- a sender's next bit is there at the sample that each station would make of it if no edge came
   due_there : (n i k : ℕ) → n < length → i < s.count → k < s.count → sends (suc n) k ≡ true → tick k (dues n k) + s.delay k i ≤ tick i (dues n i + sample_at (s.lengths i))
   due_there n i k less inside there sender =
-      is_there s are room (sends (suc n)) (suc (since_edge s bits n)) (let f = few_at steps errors winner stuffed six ten s are room o is n (valid n less) in omega arith)
+      is_there s are room.samples (sends (suc n)) (suc (since_edge s bits n)) (let f = few_at steps errors winner stuffed six ten s are room o is n (valid n less) in omega arith)
       (record { drives = λ k. true; due = dues n; place = dues n; from = dues n }) (λ w lt x. may steps errors winner stuffed six ten s are room o is (suc n) w lt x)
       (λ i k inside there other some. drifted s (since_edge s bits n) i k ((bits n).place i) ((bits n).place k) (close_at n less i k inside there other some))
       i k inside there sender refl

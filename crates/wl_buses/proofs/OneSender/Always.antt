@@ -579,11 +579,11 @@ module _ (laws : Laws) (stay : StayLaws) (b : SenderBus) (stuffed : Content → 
     pub due : (k m : ℕ) → (ep.rest.node a is.sender).start ≤ k → AreInside l a k → m ≤ length (sender_queue b) → due_quantum b lengths m ≤ k → m ≤ long a k
 
   -- by the counts of the sender and of the others, where one more frame isn't due
-  later_by : (t n : ℕ) (ep : Epoch t n) (more left : List Content) → ComeFrom (b.setups a) (ep.line ++ more) left
+  with_longer_ways : (t n : ℕ) (ep : Epoch t n) (more left : List Content) → ComeFrom (b.setups a) (ep.line ++ more) left
       → ((i k : ℕ) → (inside : i < l.nodes) → (ep.rest.node i inside).start ≤ k → AreInside l i k → IsGood laws b is (ep.line ++ more) i k) → ((k : ℕ) → (ep.rest.node a is.sender).start ≤ k → AreInside l a k → OwnCount t n ep k)
       → ((j : ℕ) (p : IsListener b j) (k : ℕ) → (ep.rest.node j p.0).start ≤ k → AreInside l j k → OtherCount t n ep j p k)
       → ((k : ℕ) → (ep.rest.node a is.sender).start ≤ k → AreInside l a k → n < length (sender_queue b) → due_quantum b lengths (suc n) ≤ k → ⊥) → Later t n ep
-  later_by t n ep more left from good own other none = record {
+  with_longer_ways t n ep more left from good own other none = record {
     line = ep.line ++ more;
     more = more;
     on = refl;
@@ -685,12 +685,12 @@ module _ (laws : Laws) (stay : StayLaws) (b : SenderBus) (stuffed : Content → 
       → Later (after_it t n ep m head d) (suc n) (next_epoch t n ep m head d in_time)) → Later t n ep
   later_from t n ep go = elim (find (b.setups a) (gone t n ep) (base t n ep) (S a) (B a) l.stop) [
     | inr none ↦
-        later_by t n ep [] (queued_contents (left t n ep)) (subst (λ x. ComeFrom (b.setups a) x (queued_contents (left t n ep))) (sym (append-nil ep.line)) ep.from)
+        with_longer_ways t n ep [] (queued_contents (left t n ep)) (subst (λ x. ComeFrom (b.setups a) x (queued_contents (left t n ep))) (sym (append-nil ep.line)) ep.from)
         (λ i k inside late soon. subst (λ x. IsGood laws b is x i k) (sym (append-nil ep.line)) (good_calm t n ep none i k inside late soon)) (λ k late soon. own_calm t n ep none k late soon)
         (λ j p k late soon. other_calm t n ep none j p k late soon) (λ k late soon more by. calm_due t n ep none k soon more by)
     | inl found ↦ elim (cases_lt l.stop (after_it t n ep found.0 found.1 found.2)) [
       | inl beyond ↦
-          later_by t n ep (found.1 ∷ [])
+          with_longer_ways t n ep (found.1 ∷ [])
           (queued_contents (left_of (b.setups a) (gone t n ep ++ record { sent = true; quantum = 0; frame = found.1 } ∷ [])))
           (come_on t n ep found.0 found.1 found.2 (record { sent = true; quantum = 0; frame = found.1 }) refl refl)
           (λ i k inside late soon. good_frame t n ep found.0 found.1 found.2 i k inside late (λ q less. (let f = soon q less in omega arith)))

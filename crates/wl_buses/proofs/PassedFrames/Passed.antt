@@ -29,7 +29,7 @@ use Rattle.wl_buses.specs.OneFrame.Lines.{BeginsAfter}
 use Rattle.wl_buses.specs.OneFrame.Machines.{HasWon, MayBegin, bus_levels}
 use Rattle.wl_buses.specs.OneFrame.Nodes.{IsRun, clock_sees}
 use Rattle.wl_buses.specs.OneFrame.Starts.{Drives, reaches_at}
-use Rattle.wl_buses.specs.OneFrame.Stations.{AreStations, HaveRoom, Stations}
+use Rattle.wl_buses.specs.OneFrame.Stations.{AreStations, HaveRoom, HaveRoomToSample, Stations}
 use Rattle.wl_buses.proofs.OneFrame.Expecting.{from_sample}
 use Rattle.wl_buses.proofs.OneFrame.TakenOn.{TakesOn}
 use Rattle.wl_buses.specs.FirstFrame.Faults.{is_fault}
@@ -60,7 +60,7 @@ passing_place false = (omega arith, omega arith)
 module _ (m : MachineLaws) (ways : WayLaws) (calm_clock : NoEdgeLaws) (s : Stations) (are : AreStations s) (room : HaveRoom s) (o : Outset) (is : IsOutset s o) (end : ℕ) (some : 0 < end)
     (valid : (n : ℕ) → n < end → stuffed_end (bus_levels s (expected_bits s o) n) ≡ None)
     (over : stuffed_end (bus_levels s (expected_bits s o) end) ≡ Some end) (won : HasWon s (expected_bits s o) o.frames end)
-    (chase : ℕ → ℕ) (catch : CatchUp s won.station chase) (enough : HaveRoom (answering s (chased_way s won.station chase)))
+    (chase : ℕ → ℕ) (catch : CatchUp s won.station chase) (enough : HaveRoomToSample (answering s (chased_way s won.station chase)))
     (asked : EndAsAsked s o end won.station won.frame) (i : ℕ) (inside : i < s.count)
     (setup : NodeSetup) (segments : setup.segments ≡ s.lengths i) (levels : ℕ → Level) (node : ℕ → History) (run : IsRun setup levels node) (since rest : ℕ)
     (after : BeginsAfter s o i rest) (rests : RestsAgain s (o.past i) i levels node rest since)

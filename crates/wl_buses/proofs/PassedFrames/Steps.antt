@@ -33,7 +33,7 @@ use Rattle.wl_buses.specs.OneFrame.Expected.{HasSampled, IsOutset, Outset, SeesE
 use Rattle.wl_buses.specs.OneFrame.Machines.{AreMachines, HasWon, bus_levels}
 use Rattle.wl_buses.specs.OneFrame.Nodes.{IsInBit, IsRun, clock_sees}
 use Rattle.wl_buses.specs.OneFrame.Starts.{Start}
-use Rattle.wl_buses.specs.OneFrame.Stations.{AreStations, HaveRoom, Stations}
+use Rattle.wl_buses.specs.OneFrame.Stations.{AreStations, HaveRoom, HaveRoomToSample, Stations}
 use Rattle.wl_buses.proofs.OneFrame.Expecting.{after_there, drives_are}
 use Rattle.wl_buses.proofs.OneFrame.Machines.{goes, levels_length}
 use Rattle.wl_buses.proofs.OneFrame.Nodes.{has_expected}
@@ -55,7 +55,7 @@ use Rattle.wl_buses.proofs.PassedFrames.Samples as samples
 module _ (m : MachineLaws) (ways : WayLaws) (s : Stations) (are : AreStations s) (room : HaveRoom s) (o : Outset) (is : IsOutset s o) (end : ℕ) (some : 0 < end)
     (valid : (n : ℕ) → n < end → stuffed_end (bus_levels s (expected_bits s o) n) ≡ None)
     (over : stuffed_end (bus_levels s (expected_bits s o) end) ≡ Some end) (won : HasWon s (expected_bits s o) o.frames end)
-    (chase : ℕ → ℕ) (catch : CatchUp s won.station chase) (enough : HaveRoom (answering s (chased_way s won.station chase)))
+    (chase : ℕ → ℕ) (catch : CatchUp s won.station chase) (enough : HaveRoomToSample (answering s (chased_way s won.station chase)))
     (asked : EndAsAsked s o end won.station won.frame) (i : ℕ) (inside : i < s.count) where
   abbrev bits : ℕ → Start
   bits = expected_bits s o

@@ -6,7 +6,7 @@ use Rattle.wl_frame.specs.Grammar.{Content, content_of, is_crc_right}
 use Rattle.wl_machine.specs.declared.state.Role.TheVariants.{Rx, Tx}
 use Rattle.wl_machine.specs.Frames.{frame_role, stuffed_end}
 use Rattle.wl_machine.specs.Judged.{head_of, stretch_of}
-use Rattle.wl_buses.specs.OneFrame.Stations.{HaveRoom, Stations}
+use Rattle.wl_buses.specs.OneFrame.Stations.{HaveRoomToSample, Stations}
 use Rattle.wl_buses.specs.OneFrame.Course.{bus_bit}
 use Rattle.wl_buses.specs.OneFrame.Acknowledged.{CatchUp, answering, chased_way}
 use Rattle.wl_buses.specs.OneFrame.Machines.{bus_levels}
@@ -25,7 +25,7 @@ pub record EndsBefore (s : Stations) (o : Outset) (end : ℕ) : Type 0 where
 -- The frame of the winner can be acknowledged: each other station catches up with it in so many edges, and there is room for acknowledgements.
 pub record CanBeAnswered (s : Stations) (winner : ℕ) (chase : ℕ → ℕ) : Type 0 where
   pub catch : CatchUp s winner chase
-  pub room : HaveRoom (answering s (chased_way s winner chase))
+  pub room : HaveRoomToSample (answering s (chased_way s winner chase))
 
 -- the frame with which station k has begun, if it began one
 abbrev pub begun_frame : Stations → Outset → (end k : ℕ) → Option Content

@@ -1,9 +1,11 @@
 -- The acknowledgement of a frame: of its senders one is left, and each other station drives the ACK slot dominant.
-use Rattle.std.specs.Prelude.{◌≡◌, ◌≢◌, ◌⊎◌, ℕ, suc, ◌+◌, ◌-◌, ◌*◌, ◌<◌, ◌≤◌, ◌==◌, ◌||◌, max, Bool, true, false, if◌then◌else◌}
+use Rattle.std.specs.Prelude.{◌≡◌, ◌≢◌, ◌⊎◌, ℕ, suc, ◌+◌, ◌-◌, ◌*◌, ◌<◌, ◌≤◌, ◌==◌, ◌||◌, max, not, Bool, true, false, if◌then◌else◌}
+use Rattle.std.specs.Int.{div_ceil}
 use Rattle.wl_segments.specs.Lengths.{sample_at, bit_quanta}
 use Rattle.wl_topology.specs.Driven.{driven}
 use Rattle.wl_phase.specs.Clocks.{steady_tick}
-use Rattle.wl_buses.specs.OneFrame.Stations.{Stations, AreClose, bit_drift, shared_quantum, shared_tick}
+use Rattle.wl_bound.specs.Terms.{greatest}
+use Rattle.wl_buses.specs.OneFrame.Stations.{Stations, AreClose, bit_drift, with_longer_ways, shared_quantum, shared_tick}
 use Rattle.wl_buses.specs.OneFrame.Starts.{Start, BeginBit, reaches_at}
 use Rattle.wl_buses.specs.OneFrame.OneBit.{AreRight, FollowsOne, IsRight, sampled_at}
 
@@ -27,8 +29,20 @@ jump_gap s i k = (s.lengths i).sjw * shared_quantum s i k - (s.lengths k).sjw * 
 abbrev pub gathers : Stations → (winner : ℕ) → (chase : ℕ → ℕ) → (k i : ℕ) → ℕ
 gathers s winner chase k i = if i == winner || k == winner then 0 else chase k * (10 * bit_drift s i k + jump_gap s i k)
 
+abbrev pub gathered_way : Stations → (winner : ℕ) → (chase : ℕ → ℕ) → (k i : ℕ) → ℕ
+gathered_way s winner chase k i = max (any_way s k i) (s.way k i) + gathers s winner chase k i
+
+-- A bit of station i may be so much later than the edge of station k that a jump doesn't put it right: by so many ticks, and by the most of them over all others.
+abbrev pub overrun : Stations → (winner : ℕ) → (chase : ℕ → ℕ) → (i k : ℕ) → ℕ
+overrun s winner chase i k =
+    div_ceil (gathered_way s winner chase k i + 10 * bit_drift s i k - ((s.delay k i + s.delay i k) * shared_tick s i k + (s.lengths i).sjw * shared_quantum s i k)) (shared_tick s i k)
+
+unfoldable pub most_overrun : Stations → (winner : ℕ) → (chase : ℕ → ℕ) → ℕ → ℕ
+most_overrun s winner chase i = greatest s.count (λ k. not (k == i)) (overrun s winner chase i)
+
+-- how long the way can be after an acknowledgement too
 abbrev pub chased_way : Stations → (winner : ℕ) → (chase : ℕ → ℕ) → (k i : ℕ) → ℕ
-chased_way s winner chase k i = max (any_way s k i) (s.way k i) + gathers s winner chase k i
+chased_way s winner chase = (with_longer_ways (answering s (gathered_way s winner chase)) (most_overrun s winner chase)).way
 
 -- With so many edges at most a station catches up with the winner: each takes a jump but for ten bits' drift away from how early it may be, and it needn't be nearer than a quantum.
 abbrev pub CatchUp : Stations → (winner : ℕ) → (chase : ℕ → ℕ) → Type 0

@@ -62,15 +62,31 @@ pub record AreStations (s : Stations) : Type 0 where
   pub line : AreOnALine s
   pub ways : HaveWays s
 
--- The inequalities of the condition, of a station i, a station k that may send, and ten bits' drift.
-pub record HaveRoom (s : Stations) : Type 0 where
-  -- an edge puts right what has gathered since the one before (Bosch CAN 2.0 part B, section 10: the resynchronisation jump width)
-  pub early_fits : (i k : ℕ) → i < s.count → k < s.count → i ≢ k → s.may_send k ≡ true
-      → s.way k i + 10 * bit_drift s i k ≤ (s.delay k i + s.delay i k) * shared_tick s i k + (s.lengths i).sjw * shared_quantum s i k
-  pub late_fits : (i k : ℕ) → i < s.count → k < s.count → i ≢ k → s.may_send k ≡ true → 10 * bit_drift s k i ≤ (s.lengths i).sjw * shared_quantum s i k
+-- A jump of station i puts right what ten bits of a station k drift that may send (Bosch CAN 2.0 part B, section 10: the resynchronisation jump width).
+abbrev pub DriftFitsJump : Stations → Type 0
+DriftFitsJump s = (i k : ℕ) → i < s.count → k < s.count → i ≢ k → s.may_send k ≡ true → 10 * bit_drift s k i ≤ (s.lengths i).sjw * shared_quantum s i k
+
+-- The inequalities of the condition for what stations sample, of a station i, a station k that may send, and ten bits' drift.
+pub record HaveRoomToSample (s : Stations) : Type 0 where
+  pub late_fits : DriftFitsJump s
   -- a bit is there at each sample, as late as it may be (Bosch CAN 2.0 part B, section 10: PROP_SEG)
   pub is_there : (i k : ℕ) → i < s.count → k < s.count → i ≢ k → s.may_send k ≡ true → s.way i k + 10 * bit_drift s k i ≤ sample_at (s.lengths i) * shared_quantum s i k
   pub loops : (i : ℕ) → i < s.count → s.may_send i ≡ true → (s.clocks i).den * s.delay i i ≤ sample_at (s.lengths i) * (s.clocks i).num
   -- and the next one isn't there yet
   pub not_early : (i k : ℕ) → i < s.count → k < s.count → i ≢ k → s.may_send k ≡ true
       → s.way k i + 10 * bit_drift s i k + shared_tick s i k ≤ (s.delay k i + s.delay i k) * shared_tick s i k + (s.lengths i).ps2 * shared_quantum s i k
+
+-- The inequalities of the condition, with one more: an edge puts right what has gathered since the one before.
+pub record HaveRoom (s : Stations) : Type 0 where
+  pub early_fits : (i k : ℕ) → i < s.count → k < s.count → i ≢ k → s.may_send k ≡ true
+      → s.way k i + 10 * bit_drift s i k ≤ (s.delay k i + s.delay i k) * shared_tick s i k + (s.lengths i).sjw * shared_quantum s i k
+  pub samples : HaveRoomToSample s
+
+-- The same stations, with ways that are longer by so many ticks: for each station i by those of its own.
+abbrev pub with_longer_ways : Stations → (more : ℕ → ℕ) → Stations
+with_longer_ways s more = record s { way = λ k i. s.way k i + more i * shared_tick s i k }
+
+-- An edge puts right what has gathered since the one before, but for so many ticks.
+abbrev pub FitsBut : Stations → (more : ℕ → ℕ) → Type 0
+FitsBut s more = (i k : ℕ) → i < s.count → k < s.count → i ≢ k → s.may_send k ≡ true
+    → s.way k i + 10 * bit_drift s i k ≤ (s.delay k i + s.delay i k) * shared_tick s i k + (s.lengths i).sjw * shared_quantum s i k + more i * shared_tick s i k

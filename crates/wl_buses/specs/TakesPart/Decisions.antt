@@ -15,7 +15,7 @@ HasRoomToDecide s late = (i k : ℕ) → i < s.count → k < s.count → i ≢ k
 abbrev pub AllMayDecide : Stations → (chase : ℕ → ℕ) → Type 0
 AllMayDecide s chase = (w : ℕ) → w < s.count → s.may_send w ≡ true → HasRoomToDecide s (chased_way s w chase)
 
--- The inequality for that, of any two nodes of a bus as if both sent, wherever within its tolerance each clock lies.
+-- The inequality for that, of any two nodes of a bus as if both sent, wherever within its tolerance each clock lies, if one edge puts all right.
 abbrev pub LeavesRoomToDecide : Bus → (chase : ℕ → ℕ) → Type 0
 LeavesRoomToDecide bus chase = (i k : ℕ) → i < bus.nodes → k < bus.nodes → i ≢ k
     → bus.delay i k + bus.delay k i + look bus i + gathered bus chase k i + 12 * drift bus k i ≤ sample_at (bus.lengths i) * bus.shortest i

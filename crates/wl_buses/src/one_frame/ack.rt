@@ -2,35 +2,41 @@
 
 ghost use Rattle.std.specs.Prelude.{◌≡◌, ◌<◌, ◌≤◌, ℕ, suc, true, Bool};
 ghost use Rattle.wl_bound.specs.Families.{Bus};
-ghost use Rattle.wl_buses.specs.OneFrame.Acknowledged.{AreAllClose, CatchUp, IsAcknowledgedByAll, IsAnsweredByAll, answering, chased_way};
+ghost use Rattle.wl_buses.specs.OneFrame.Acknowledged.{AreAllClose, CatchUp, IsAcknowledgedByAll, IsAnsweredByAll, answering, chased_way, gathered_way, most_overrun};
 ghost use Rattle.wl_buses.specs.OneFrame.Answers.{HasRoomToAnswer};
 ghost use Rattle.wl_buses.specs.OneFrame.Bounds.{HasStations};
 ghost use Rattle.wl_buses.specs.OneFrame.Course.{IsCourse, since_edge, still_sends};
 ghost use Rattle.wl_buses.specs.OneFrame.Starts.{Start};
-ghost use Rattle.wl_buses.specs.OneFrame.Stations.{AreOnALine, AreStations, HaveRoom, Stations};
+ghost use Rattle.wl_buses.specs.OneFrame.Stations.{AreOnALine, AreStations, FitsBut, HaveRoom, HaveRoomToSample, Stations, with_longer_ways};
 
 /// Law: an acknowledgement is sampled by all. One sender is left, and each other station drives the ACK slot dominant. If any two are
 /// close, and there is room for bits of each, then each station samples the slot dominant, and the delimiters on both sides recessive.
-/// From then on the line is recessive up to the next frame.
+/// From then on the line is recessive up to the next frame. A jump may leave some ticks of what has gathered before the slot: then each two
+/// are close afterwards but for these, and there is room with them.
 pub fn all_sample_the_acknowledgement()
-    ensures { (s : Stations) (late : ℕ → ℕ → ℕ) (winner : ℕ) (place : ℕ → ℕ) (slot : Start) (over : ℕ → ℕ)
-        (drove : ℕ → ℕ → Bool) (until : ℕ → ℕ) (since : ℕ) → AreStations (answering s late)
-        → HaveRoom (answering s late) → IsAnsweredByAll s late winner place slot over drove until → since ≤ 9
-        → AreAllClose s late since place → IsAcknowledgedByAll s late place slot over drove until }
+    ensures { (s : Stations) (way : ℕ → ℕ → ℕ) (more : ℕ → ℕ) (winner : ℕ) (place : ℕ → ℕ) (slot : Start) (over : ℕ → ℕ)
+        (drove : ℕ → ℕ → Bool) (until : ℕ → ℕ) (since : ℕ) → AreStations (answering s way)
+        → FitsBut (answering s way) more → HaveRoomToSample (with_longer_ways (answering s way) more)
+        → IsAnsweredByAll s (with_longer_ways (answering s way) more).way winner place slot over drove until → since ≤ 9
+        → AreAllClose s way since place
+        → IsAcknowledgedByAll s (with_longer_ways (answering s way) more).way place slot over drove until }
 {
     wl_topology::driven_laws();
 }
 
 /// Law: any two stations stay close over a frame, also two that don't send: but for there and back, a look if the loop of one is short, and
 /// what gathers while one catches up with the winner. Two that go forward with an edge may drift apart, and it may move the one further.
-/// `chase` has the number of edges in which each station catches up.
+/// `chase` has the number of edges in which each station catches up. An edge more puts all of that right but for `most_overrun`.
 pub fn any_two_stay_close()
     ensures ways { (s : Stations) (winner : ℕ) (chase : ℕ → ℕ) → AreOnALine s
-        → AreStations (answering s (chased_way s winner chase)) }
+        → AreStations (answering s (gathered_way s winner chase))
+        × AreStations (answering s (chased_way s winner chase)) }
+    ensures fits { (s : Stations) (winner : ℕ) (chase : ℕ → ℕ) → AreOnALine s
+        → FitsBut (answering s (gathered_way s winner chase)) (most_overrun s winner chase) }
     ensures close { (s : Stations) (bits : ℕ → Start) (drove : ℕ → ℕ → Bool) (length : ℕ) (until : ℕ → ℕ) (winner : ℕ)
         (chase : ℕ → ℕ) → AreStations s → HaveRoom s → IsCourse s bits drove length until → winner < s.count
         → still_sends s bits length winner ≡ true → CatchUp s winner chase
-        → (n : ℕ) → n < length → AreAllClose s (chased_way s winner chase) (since_edge s bits n) (bits n).place }
+        → (n : ℕ) → n < length → AreAllClose s (gathered_way s winner chase) (since_edge s bits n) (bits n).place }
 {
     wl_topology::driven_laws();
 }
@@ -41,7 +47,7 @@ pub fn a_frame_is_acknowledged()
     ensures { (s : Stations) (bits : ℕ → Start) (drove : ℕ → ℕ → Bool) (n : ℕ) (until : ℕ → ℕ) (winner : ℕ)
         (chase : ℕ → ℕ) (slot : Start) (over after : ℕ → ℕ) → AreStations s → HaveRoom s
         → IsCourse s bits drove (suc n) until → winner < s.count → still_sends s bits (suc n) winner ≡ true
-        → CatchUp s winner chase → HaveRoom (answering s (chased_way s winner chase)) → since_edge s bits n ≤ 8
+        → CatchUp s winner chase → HaveRoomToSample (answering s (chased_way s winner chase)) → since_edge s bits n ≤ 8
         → IsAnsweredByAll s (chased_way s winner chase) winner (bits (suc n)).due slot over drove after
         → IsAcknowledgedByAll s (chased_way s winner chase) (bits (suc n)).due slot over drove after }
 {
@@ -55,7 +61,7 @@ pub fn a_bus_has_room_to_answer()
     ensures room { (bus : Bus) (s : Stations) (chase : ℕ → ℕ) → AreOnALine s → HasStations bus s
         → HasRoomToAnswer bus chase
         → (winner : ℕ) → winner < s.count → s.may_send winner ≡ true
-        → HaveRoom (answering s (chased_way s winner chase)) }
+        → HaveRoomToSample (answering s (chased_way s winner chase)) }
     ensures catch { (bus : Bus) (s : Stations) (chase : ℕ → ℕ) → AreOnALine s → HasStations bus s
         → HasRoomToAnswer bus chase
         → (winner : ℕ) → winner < s.count → s.may_send winner ≡ true → CatchUp s winner chase }
