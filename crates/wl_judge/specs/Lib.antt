@@ -1,0 +1,6 @@
+pub mod Judgements
+pub mod Weakest
+pub mod Trials
+pub mod Measures
+pub mod Answers
+pub mod Laws
