@@ -69,12 +69,16 @@ INPUTS = [
 ]
 
 
+HEAD = """| input | wall, ms: ours, other | ratio | processor, ms: ours, other | ratio | of it system, ms: ours, other | peak, MiB: ours, other | output |
+|---|---:|---:|---:|---:|---:|---:|---|"""
+
+
 def once(program, command, path, out):
     with open(path, "rb") as source, open(out, "wb") as sink:
         start = time.monotonic()
         child = subprocess.Popen(["/usr/bin/env", "-i", program, command], stdin=source, stdout=sink)
         _, status, usage = os.wait4(child.pid, 0)
-        return time.monotonic() - start, usage.ru_utime + usage.ru_stime, os.waitstatus_to_exitcode(status)
+        return time.monotonic() - start, usage.ru_utime + usage.ru_stime, usage.ru_stime, os.waitstatus_to_exitcode(status)
 
 
 def peak(program, command, path, out):
@@ -141,7 +145,7 @@ def commands(programs, runs):
         least, sizes = [1e9] * len(cases), [0] * len(cases)
         for _ in range(runs):
             for case, (program, command) in enumerate(cases):
-                _, processor, status = once(program, command, path, out)
+                _, processor, _, status = once(program, command, path, out)
                 assert status == 0, f"{command}: status {status} of {program}"
                 least[case], sizes[case] = min(least[case], processor), os.path.getsize(out)
     print("| command | processor, ms | of the other's `run` | bytes out |\n|---|---:|---:|---:|")
@@ -151,6 +155,30 @@ def commands(programs, runs):
     print(f"`run` of the other program: {least[0] * 1000:.1f} ms")
 
 
+def compared(programs, runs, name, command, text):
+    """Prints the line of an input: wall and processor time, and how much of the latter is the system's, which callgrind doesn't count. Returns our least
+    wall and processor time by those of the other program."""
+    timed = os.path.exists("/usr/bin/time")
+    with tempfile.TemporaryDirectory() as room:
+        path, outs = os.path.join(room, "in"), [os.path.join(room, which) for which in ("ours", "other")]
+        with open(path, "wb") as file: file.write(text)
+        least = [[1e9] * 3, [1e9] * 3]
+        for _ in range(runs):
+            for which in (0, 1):
+                *times, status = once(programs[which], command, path, outs[which])
+                assert status == 0, f"{name}: status {status} of {programs[which]}"
+                least[which] = [min(pair) for pair in zip(least[which], times)]
+        same = len({hashlib.sha256(open(out, "rb").read()).digest() for out in outs}) == 1
+        peaks = [peak(programs[which], command, path, outs[which]) if timed else 0 for which in (0, 1)]
+    (wall, cpu, system), (wall2, cpu2, system2) = least
+    ratio = cpu / max(cpu2, 1e-4)
+    print(f"| {name} | {wall * 1000:.1f}, {wall2 * 1000:.1f} | {wall / wall2:.2f} | {cpu * 1000:.1f}, {cpu2 * 1000:.1f} | {ratio:.2f} |",
+          f"{system * 1000:.1f}, {system2 * 1000:.1f} |",
+          f"{peaks[0]:.0f}, {peaks[1]:.0f} | {'the same' if same else 'DIFFERS'} |", flush=True)
+    if same: kept("beside plain Rust", name, ("ours", cpu * 1000, "ms"), ("plain Rust", cpu2 * 1000, "ms"), ("ratio", ratio, ""), ("peak", peaks[0], "MiB"))
+    return wall / wall2, ratio
+
+
 def main():
     if len(sys.argv) < 3: sys.exit(sys.stderr.write(__doc__) and 2)
     programs, words, runs = sys.argv[1:3], sys.argv[3:], int(os.environ.get("RUNS", "15"))
@@ -158,27 +186,9 @@ def main():
     if words == ["commands"]:
         commands(programs, runs)
         return said(runs)
-    timed = os.path.exists("/usr/bin/time")
-    print("| input | wall, ms: ours, other | ratio | processor, ms: ours, other | ratio | peak, MiB: ours, other | output |\n|---|---:|---:|---:|---:|---:|---|")
+    print(HEAD)
     for name, command, make in INPUTS:
-        if words and not any(word in name for word in words): continue
-        with tempfile.TemporaryDirectory() as room:
-            path, outs = os.path.join(room, "in"), [os.path.join(room, which) for which in ("ours", "other")]
-            with open(path, "wb") as file: file.write(make())
-            least = [[1e9, 1e9], [1e9, 1e9]]
-            for _ in range(runs):
-                for which in (0, 1):
-                    wall, processor, status = once(programs[which], command, path, outs[which])
-                    assert status == 0, f"{name}: status {status} of {programs[which]}"
-                    least[which] = [min(least[which][0], wall), min(least[which][1], processor)]
-            same = len({hashlib.sha256(open(out, "rb").read()).digest() for out in outs}) == 1
-            peaks = [peak(programs[which], command, path, outs[which]) if timed else 0 for which in (0, 1)]
-        (wall, cpu), (wall2, cpu2) = least
-        print(f"| {name} | {wall * 1000:.1f}, {wall2 * 1000:.1f} | {wall / wall2:.2f} | {cpu * 1000:.1f}, {cpu2 * 1000:.1f} | {cpu / max(cpu2, 1e-4):.2f} |",
-              f"{peaks[0]:.0f}, {peaks[1]:.0f} | {'the same' if same else 'DIFFERS'} |", flush=True)
-        if same:
-            ratio = cpu / max(cpu2, 1e-4)
-            kept("beside plain Rust", name, ("ours", cpu * 1000, "ms"), ("plain Rust", cpu2 * 1000, "ms"), ("ratio", ratio, ""), ("peak", peaks[0], "MiB"))
+        if not words or any(word in name for word in words): compared(programs, runs, name, command, make())
     said(runs)
 
 

@@ -10,8 +10,8 @@ use crate::kept::Kept;
 use crate::output::write_made;
 use std::alloc::{AllocError, Global};
 use wl_device::{Ended, Sink, Source};
-use wl_explain::explain_plan;
-use wl_margin::margin_text;
+use wl_explain::explain_found;
+use wl_margin::margin_of;
 use wl_page::{Texts, page};
 use wl_plan::CheckedPlan;
 use wl_report::report_of_totals;
@@ -51,13 +51,13 @@ fn bus_texts(alloc: Global, tick: Tick, bus: &Bus) -> Result<BusTexts, AllocErro
     requires deviations { length bus.now.deviations ≡ length bus.now.plan.nodes }
     ensures { IfOk result (ShowsBus tick bus.now) }
 {
-    let figures = explain_plan(alloc, bus)?;
+    let margin = margin_of(alloc, tick.picoseconds(), bus)?;
+    let figures = explain_found(alloc, bus, margin.headroom)?;
     let settings = check_plan(alloc, &bus.plan, &bus.names)?;
-    let margin = margin_text(alloc, tick.picoseconds(), bus)?;
     Ok(BusTexts {
         figures,
         settings,
-        margin,
+        margin: margin.text,
     })
 }
 

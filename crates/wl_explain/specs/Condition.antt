@@ -1,5 +1,5 @@
 -- What is doubtful of clocks, ways and cables together: the condition for a sound bus, for each pair of nodes (this project's profile).
-use Rattle.std.specs.Prelude.{◌≡◌, ℕ, ◌+◌, ◌-◌, ◌*◌, ◌/◌, ◌||◌, nat_lt, Bool, true, false, List, [], ◌∷◌, ◌++◌, codes, length, if◌then◌else◌, Option, Some, None, option_map}
+use Rattle.std.specs.Prelude.{◌≡◌, ℕ, ◌+◌, ◌-◌, ◌*◌, ◌/◌, ◌||◌, nat_lt, Bool, true, false, List, [], ◌∷◌, ◌++◌, codes, length, if◌then◌else◌, Option, Some, None}
 use Rattle.std.specs.Fmt.{decimal}
 use Rattle.wl_level.specs.Places.{first_place}
 use Rattle.wl_clock.specs.Timing.{Timing}
@@ -14,12 +14,12 @@ use Rattle.wl_bound.specs.declared.condition.Failure.{Failure}
 use Rattle.wl_bound.specs.declared.condition.Senders.TheVariants.{Any, One}
 use Rattle.wl_bound.specs.declared.verdict.Outside.{Outside}
 use Rattle.wl_bound.specs.declared.verdict.Outside.TheVariants.{FewNodes, NoFrames, ListenerSends, NobodyAcknowledges, NotByTheBook, SameIdentifier, NobodyIdle}
-use Rattle.wl_bound.specs.Families.{Buses, family_of, member_at}
+use Rattle.wl_bound.specs.Families.{Buses, member_at}
 use Rattle.wl_bound.specs.Oscillators.{Pace, shortest_of, longest_of}
 use Rattle.wl_bound.specs.Conditions.{plain, pair_failure}
 use Rattle.wl_bound.specs.Verdicts.{outside_of, without_book}
 use Rattle.wl_margin.specs.Pieces.{joined, each_below}
-use Rattle.wl_margin.specs.Margins.{paces_of, failure_line, no_clock_words, outside_reason, TellsHeadroom}
+use Rattle.wl_margin.specs.Margins.{failure_line, bus_family, no_clock_words, outside_reason, TellsHeadroom}
 use Rattle.wl_explain.specs.Figures.{quanta_begun, ticks_of}
 use Rattle.wl_explain.specs.Doubts.{difference, greatest_difference}
 use Rattle.wl_explain.specs.Words.{bit_rate, unlike_words, doubts_with, node_doubts, room_doubts, timing_figures, figures_line}
@@ -131,15 +131,12 @@ TellsFigures plan names None (Some f) old new = TellsHeadroomOf (nat_lt (length 
 TellsFigures plan names None None old new = new ≡ old ++ timing_lines plan names
 TellsFigures plan names (Some i) family old new = new ≡ old ++ each_below (figures_line plan names) (length plan.nodes)
 
--- the first node that doesn't synchronise by the book, and the family of a bus
+-- the first node that doesn't synchronise by the book
 abbrev pub other_of : Plan → Option ℕ
 other_of plan = first_place (without_book plan) (length plan.nodes)
-
-abbrev pub family_in : Bus → Option Buses
-family_in bus = option_map (family_of bus.plan) (paces_of bus.deviations)
 
 -- the whole text
 abbrev pub IsExplanation : Bus → List ℕ → Type 0
 IsExplanation bus text =
-    TellsFigures bus.plan bus.names (other_of bus.plan) (family_in bus)
-    (doubts_text bus.plan bus.names (other_of bus.plan) (family_in bus)) text
+    TellsFigures bus.plan bus.names (other_of bus.plan) (bus_family bus)
+    (doubts_text bus.plan bus.names (other_of bus.plan) (bus_family bus)) text

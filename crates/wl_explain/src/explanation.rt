@@ -1,12 +1,13 @@
 //! The text of an explanation.
 ghost use Rattle.std.specs.Prelude.{◌≡◌, ◌<◌, ◌++◌, string_bytes, length, IfOk, IfSome, OnOk};
-ghost use Rattle.wl_explain.specs.Condition.{IsExplanation, TellsFigures, clock_doubts, doubt_lead, doubts_text, family_in, outside_line, rest_doubts, timing_line, timing_lines};
+ghost use Rattle.wl_margin.specs.Margins.{IsHeadroomFound, bus_family};
+ghost use Rattle.wl_explain.specs.Condition.{IsExplanation, TellsFigures, clock_doubts, doubt_lead, doubts_text, outside_line, rest_doubts, timing_line, timing_lines};
 
 use crate::condition::push_family;
 use crate::words::{push_all_figures, push_nodes, push_pairs, push_room, push_timing};
 use std::alloc::{AllocError, Global};
 use wl_bound::{Family, Outside, cause_outside, first_without_book};
-use wl_margin::{oscillators, push_headroom, push_reason};
+use wl_margin::{Headroom, oscillators, push_headroom, push_reason};
 use wl_plan::CheckedPlan;
 use wl_setup::{Bus, Names};
 
@@ -108,27 +109,28 @@ fn push_timing_lines(text: &mut String, plan: &CheckedPlan, names: &Names) -> Re
     Ok(())
 }
 
-/// Adds the figures.
+/// Adds the figures of a bus. How much longer its cable may be and how much wider its tolerances is searched unless it is found already.
 fn push_figures_of(
     text: &mut String,
-    plan: &CheckedPlan,
-    names: &Names,
+    bus: &Bus,
     other: Option<u8>,
     family: &Option<Family>,
+    found: Option<(Headroom, Headroom)>,
 ) -> Result<(), AllocError>
-    ensures { OnOk result (TellsFigures plan.now names.now other family.now
+    requires { IsHeadroomFound found family.now }
+    ensures { OnOk result (TellsFigures bus.now.plan bus.now.names other family.now
         (string_bytes text.old) (string_bytes text.new)) }
 {
     if other.is_some() {
-        return push_all_figures(text, plan, names);
+        return push_all_figures(text, &bus.plan, &bus.names);
     }
-    push_timing_lines(text, plan, names)?;
+    push_timing_lines(text, &bus.plan, &bus.names)?;
     match family {
         Some(family) => {
-            if plan.nodes() < 2 {
+            if bus.plan.nodes() < 2 {
                 return Ok(());
             }
-            push_headroom(text, family)
+            push_headroom(text, family, found)
         }
         None => Ok(()),
     }
@@ -137,7 +139,7 @@ fn push_figures_of(
 /// Returns the family of a bus, if the rates from which its clocks deviate make clocks.
 fn family_in(alloc: Global, bus: &Bus) -> Result<Option<Family>, AllocError>
     requires deviations { length bus.now.deviations ≡ length bus.now.plan.nodes }
-    ensures family { IfOk result (λ family. family ≡ family_in bus.now) }
+    ensures family { IfOk result (λ family. family ≡ bus_family bus.now) }
     ensures nodes { IfOk result (λ family. IfSome family (λ f. length f.members ≡ length bus.now.plan.nodes)) }
 {
     bus.plan.laws();
@@ -168,10 +170,24 @@ pub fn explain_plan(alloc: Global, bus: &Bus) -> Result<String, AllocError>
     requires deviations { length bus.now.deviations ≡ length bus.now.plan.nodes }
     ensures { IfOk result (λ text. IsExplanation bus.now (string_bytes text)) }
 {
+    explain_found(alloc, bus, None)
+}
+
+/// Returns the same explanation. How much longer the cable may be and how much wider every tolerance isn't searched if a margin of the bus found
+/// it (`wl_margin::margin_of`).
+pub fn explain_found(
+    alloc: Global,
+    bus: &Bus,
+    found: Option<(Headroom, Headroom)>,
+) -> Result<String, AllocError>
+    requires deviations { length bus.now.deviations ≡ length bus.now.plan.nodes }
+    requires found { IsHeadroomFound found (bus_family bus.now) }
+    ensures { IfOk result (λ text. IsExplanation bus.now (string_bytes text)) }
+{
     let mut text = String::new(alloc);
     let family = family_in(alloc, bus)?;
     let other = first_without_book(&bus.plan);
     push_doubts(&mut text, &bus.plan, &bus.names, other, &family)?;
-    push_figures_of(&mut text, &bus.plan, &bus.names, other, &family)?;
+    push_figures_of(&mut text, bus, other, &family, found)?;
     Ok(text)
 }

@@ -223,6 +223,16 @@ pub record IsHeadroom (proved : Bool) (f : Buses) (longer wider : Headroom) : Ty
 abbrev pub TellsHeadroom : Buses → List ℕ → List ℕ → Type 0
 TellsHeadroom f old new = (longer : Headroom) × (wider : Headroom) × IsHeadroom false f longer wider × (new ≡ old ++ headroom_words longer wider)
 
+-- it without how much may grow so that it stays proved
+abbrev pub unproved : Headroom → Headroom
+unproved headroom = record { one = headroom.one; any = headroom.any; proved = None }
+
+-- what a search of a bus's family found, if it was searched and if there is one
+abbrev pub IsHeadroomFound : Option (Headroom × Headroom) → Option Buses → Type 0
+IsHeadroomFound None family = Unit {0}
+IsHeadroomFound (Some found) None = ⊥
+IsHeadroomFound (Some found) (Some f) = IsHeadroom false f found.0 found.1
+
 -- these, and which change helps most
 abbrev pub results_words : SearchResults → List ℕ
 results_words found = headroom_words found.longer found.wider ++ help_words found.help_one found.help_any
@@ -286,6 +296,10 @@ no_clock_words = codes "no bound is known: without its ppm a quantum takes less 
 abbrev pub family_asked : Asked → Buses → Buses
 family_asked ThisPlan f = f
 family_asked AllNodes f = if nat_lt (length f.members) 2 then f else all_sending f
+
+-- the family of a bus
+abbrev pub bus_family : Bus → Option Buses
+bus_family bus = option_map (family_of bus.plan) (paces_of bus.deviations)
 
 abbrev pub IsTextOfPaces : Asked → ℕ → Bus → Option (List Pace) → List ℕ → Type 0
 IsTextOfPaces asked tick bus None text = text ≡ no_clock_words

@@ -13,8 +13,8 @@ mod sentences;
 mod units;
 
 pub use margin::{
-    Standing, Surety, all_send_text, bus_standing, margin_text, oscillators, push_failure_line,
-    push_reason, push_spare, push_standing_reasons,
+    Margin, Standing, Surety, all_send_text, bus_standing, margin_of, margin_text, oscillators,
+    push_failure_line, push_reason, push_spare, push_standing_reasons,
 };
 pub use numbers::{Hundredths, Thousandths};
 pub use paces::{clocks_keep_pace, first_stray, first_turning};

@@ -1,5 +1,5 @@
 //! The text of a bus's margin.
-ghost use Rattle.std.specs.Prelude.{◌≡◌, ◌++◌, ◌<◌, ◌^◌, false, string_bytes, length, IfOk, OnOk};
+ghost use Rattle.std.specs.Prelude.{◌≡◌, ◌++◌, ◌<◌, ◌^◌, false, string_bytes, length, IfOk, OnOk, Some, None, option_map};
 ghost use Rattle.wl_topology.specs.Driven.{any_below};
 ghost use Rattle.wl_setup.specs.Names.{name_of};
 ghost use Rattle.wl_bound.specs.Conditions.{first_failure_of, plain};
@@ -10,13 +10,13 @@ ghost use Rattle.wl_margin.specs.Sentences.{failure_words, rest_words};
 ghost use Rattle.wl_margin.specs.Paces.{stray_at};
 ghost use Rattle.wl_margin.specs.Pieces.{each_below};
 ghost use Rattle.wl_margin.specs.Reasons.{cause_words, astray_line};
-ghost use Rattle.wl_margin.specs.Margins.{IsAllSendText, IsFamilyText, IsMarginText, IsTextFor, IsVerdictText, all_pairs, any_failure, any_lead, any_reason, any_word, failure_line, family_asked, family_words, is_law_abiding, is_proved, lone_words, mute_words, one_lead, one_reason, one_word, outside_lead, outside_reason, outside_words, paces_of, pair_line, pair_words, pairs_of, proved_of, sender_words, senders_words, sends_at, shared_words, spare_of, unheard_words, unless_proved, verdict_asked, verdict_words};
+ghost use Rattle.wl_margin.specs.Margins.{IsAllSendText, IsFamilyText, IsHeadroomFound, IsMarginText, IsTextFor, IsVerdictText, all_pairs, any_failure, any_lead, any_reason, any_word, failure_line, family_asked, bus_family, family_words, is_law_abiding, is_proved, lone_words, mute_words, no_clock_words, one_lead, one_reason, one_word, outside_lead, outside_reason, outside_words, paces_of, pair_line, pair_words, pairs_of, proved_of, sender_words, senders_words, sends_at, shared_words, spare_of, unheard_words, unless_proved, verdict_asked, verdict_words};
 
 mod readers;
 
 use crate::paces::{any_turning, first_stray, stray_at};
 use crate::reasons::{Asked, Cause, any_cause, one_cause, push_astray, push_cause};
-use crate::searches::{push_results, search};
+use crate::searches::{Headroom, push_results, search};
 use crate::sentences::{Rest, Spare, push_failure};
 use crate::units::units_at;
 pub use readers::{Standing, Surety, bus_standing, push_spare, push_standing_reasons};
@@ -546,28 +546,45 @@ fn is_proved(proved: Proved, verdict: Verdict) -> bool
     }
 }
 
-/// Returns the text of a family whose clocks keep to their tolerances.
-fn verdict_text(
+/// The margin of a bus.
+#[derive(Drop)]
+pub struct Margin {
+    /// As text.
+    pub text: String,
+    /// How much longer the cable may be and how much wider every tolerance, if that was searched: as `push_headroom` asks it.
+    pub headroom: Option<(Headroom, Headroom)>,
+}
+
+/// Returns the margin of a family whose clocks keep to their tolerances.
+fn verdict_margin(
     alloc: Global,
     asked: Asked,
     bus: &Bus,
     family: &Family,
     tick: u64,
-) -> Result<String, AllocError>
+) -> Result<Margin, AllocError>
     requires tick { tick < 2 ^ 36 }
     requires deviations { length bus.now.deviations ≡ length bus.now.plan.nodes }
-    ensures { IfOk result (λ text. IsVerdictText asked tick bus.now.deviations bus.now.plan bus.now.names family.now
-        (string_bytes text)) }
+    ensures text { IfOk result (λ m. IsVerdictText asked tick bus.now.deviations bus.now.plan bus.now.names family.now
+        (string_bytes m.text)) }
+    ensures headroom { IfOk result (λ m. IsHeadroomFound m.headroom (Some family.now)) }
 {
     let mut text = String::new(alloc);
     push_verdict(&mut text, asked, bus, family, tick)?;
     let verdict = verdict_asked(asked, &bus.plan, family);
     if let Verdict::NoBound(_) = verdict {
-        return Ok(text);
+        return Ok(Margin {
+            text,
+            headroom: None,
+        });
     }
     let proved = is_proved(proved_of(asked, bus, family), verdict);
-    push_results(&mut text, search(family, proved))?;
-    Ok(text)
+    let found = search(family, proved);
+    push_results(&mut text, found)?;
+    Ok(Margin {
+        text,
+        headroom: Some(found.headroom()),
+    })
 }
 
 /// Returns the text of a family if the clock of node `i` leaves its tolerance.
@@ -586,23 +603,27 @@ fn stray_text(alloc: Global, bus: &Bus, family: &Family, i: u8) -> Result<String
     Ok(text)
 }
 
-/// Returns the text of a family.
-fn family_text(
+/// Returns the margin of a family.
+fn family_margin(
     alloc: Global,
     asked: Asked,
     bus: &Bus,
     family: &Family,
     tick: u64,
-) -> Result<String, AllocError>
+) -> Result<Margin, AllocError>
     requires tick { tick < 2 ^ 36 }
     requires deviations { length bus.now.deviations ≡ length bus.now.plan.nodes }
     requires members { length family.now.members ≡ length bus.now.plan.nodes }
-    ensures { IfOk result (λ text. IsFamilyText asked tick bus.now.deviations bus.now.plan bus.now.names family.now
-        (string_bytes text)) }
+    ensures text { IfOk result (λ m. IsFamilyText asked tick bus.now.deviations bus.now.plan bus.now.names family.now
+        (string_bytes m.text)) }
+    ensures headroom { IfOk result (λ m. IsHeadroomFound m.headroom (Some family.now)) }
 {
     match first_stray(bus.deviations.as_slice(), &bus.plan, family) {
-        Some(i) => stray_text(alloc, bus, family, i),
-        None => verdict_text(alloc, asked, bus, family, tick),
+        Some(i) => Ok(Margin {
+            text: stray_text(alloc, bus, family, i)?,
+            headroom: None,
+        }),
+        None => verdict_margin(alloc, asked, bus, family, tick),
     }
 }
 
@@ -622,22 +643,35 @@ fn family_asked(alloc: Global, asked: Asked, family: Family) -> Result<Family, A
     }
 }
 
-/// Returns the text on those who are asked about.
-fn text_for(alloc: Global, asked: Asked, tick: u64, bus: &Bus) -> Result<String, AllocError>
+/// Returns the margin of a bus without clocks.
+fn clockless_margin(alloc: Global) -> Result<Margin, AllocError>
+    ensures { IfOk result (λ m. (string_bytes m.text ≡ no_clock_words) × (m.headroom ≡ None)) }
+{
+    let text = String::from_str(
+        alloc,
+        "no bound is known: without its ppm a quantum takes less than a tick or more than 1,048,576\n",
+    )?;
+    Ok(Margin {
+        text,
+        headroom: None,
+    })
+}
+
+/// Returns the margin for those who are asked about.
+fn margin_for(alloc: Global, asked: Asked, tick: u64, bus: &Bus) -> Result<Margin, AllocError>
     requires tick { tick < 2 ^ 36 }
     requires deviations { length bus.now.deviations ≡ length bus.now.plan.nodes }
-    ensures { IfOk result (λ text. IsTextFor asked tick bus.now (string_bytes text)) }
+    ensures text { IfOk result (λ m. IsTextFor asked tick bus.now (string_bytes m.text)) }
+    ensures headroom { IfOk result (λ m.
+        IsHeadroomFound m.headroom (option_map (family_asked asked) (bus_family bus.now))) }
 {
     match oscillators(alloc, bus.deviations.as_slice())? {
         Some(oscillators) => {
             let own = Family::of_plan(alloc, &bus.plan, oscillators.as_slice())?;
             let judged = family_asked(alloc, asked, own)?;
-            family_text(alloc, asked, bus, &judged, tick)
+            family_margin(alloc, asked, bus, &judged, tick)
         }
-        None => String::from_str(
-            alloc,
-            "no bound is known: without its ppm a quantum takes less than a tick or more than 1,048,576\n",
-        ),
+        None => clockless_margin(alloc),
     }
 }
 
@@ -656,7 +690,18 @@ pub fn margin_text(alloc: Global, tick: u64, bus: &Bus) -> Result<String, AllocE
     requires deviations { length bus.now.deviations ≡ length bus.now.plan.nodes }
     ensures { IfOk result (λ text. IsMarginText tick bus.now (string_bytes text)) }
 {
-    text_for(alloc, Asked::ThisPlan, tick, bus)
+    Ok(margin_of(alloc, tick, bus)?.text)
+}
+
+/// Returns the same text, and how much longer the cable may be and how much wider every tolerance, if that was searched: then whoever says
+/// that, too, need not search it.
+pub fn margin_of(alloc: Global, tick: u64, bus: &Bus) -> Result<Margin, AllocError>
+    requires tick { tick < 2 ^ 36 }
+    requires deviations { length bus.now.deviations ≡ length bus.now.plan.nodes }
+    ensures text { IfOk result (λ m. IsMarginText tick bus.now (string_bytes m.text)) }
+    ensures headroom { IfOk result (λ m. IsHeadroomFound m.headroom (bus_family bus.now)) }
+{
+    margin_for(alloc, Asked::ThisPlan, tick, bus)
 }
 
 /// Returns the margin of a bus on which all nodes may send that don't only listen. The plan's frames and offsets don't count, nor its
@@ -666,5 +711,5 @@ pub fn all_send_text(alloc: Global, tick: u64, bus: &Bus) -> Result<String, Allo
     requires deviations { length bus.now.deviations ≡ length bus.now.plan.nodes }
     ensures { IfOk result (λ text. IsAllSendText tick bus.now (string_bytes text)) }
 {
-    text_for(alloc, Asked::AllNodes, tick, bus)
+    Ok(margin_for(alloc, Asked::AllNodes, tick, bus)?.text)
 }

@@ -1,9 +1,10 @@
 //! What the searches over a family find, and its text.
-ghost use Rattle.std.specs.Prelude.{◌≡◌, ◌++◌, string_bytes, OnOk};
+ghost use Rattle.std.specs.Prelude.{◌≡◌, ◌++◌, Bool, false, Some, string_bytes, OnOk};
+ghost use Rattle.wl_bound.specs.Families.{Buses};
 ghost use Rattle.wl_bound.specs.Searches.{IsLongerCable, IsWiderTolerance, cable_ticks};
 ghost use Rattle.wl_bound.specs.declared.condition.Senders.TheVariants.{Any, One};
 ghost use Rattle.wl_bound.specs.declared.search.Growth.TheVariants.{Longer, Wider};
-ghost use Rattle.wl_margin.specs.Margins.{AreSearchResults, IsHeadroom, IsProvedGrowth, TellsHeadroom, change_words, figure_words, results_words, growth_words, help_line, help_words, headroom_words};
+ghost use Rattle.wl_margin.specs.Margins.{AreSearchResults, IsHeadroom, IsProvedGrowth, TellsHeadroom, change_words, figure_words, results_words, growth_words, help_line, help_words, headroom_words, IsHeadroomFound, unproved};
 
 use std::alloc::AllocError;
 use std::fmt;
@@ -18,6 +19,19 @@ pub struct Headroom {
     pub any: Option<u32>,
     /// For any senders, and so that it stays proved; `None` too if it isn't asked.
     pub proved: Option<u32>,
+}
+
+impl Headroom {
+    /// Returns it without how much may grow so that it stays proved.
+    fn unproved(self) -> Headroom
+        ensures { result ≡ unproved self }
+    {
+        Headroom {
+            one: self.one,
+            any: self.any,
+            proved: None,
+        }
+    }
 }
 
 /// What the searches find.
@@ -100,6 +114,16 @@ pub(crate) fn search(family: &Family, proved: bool) -> SearchResults
         wider,
         help_one: family.first_help(Senders::One),
         help_any: family.first_help(Senders::Any),
+    }
+}
+
+impl SearchResults {
+    /// Returns how much longer the cable may be and how much wider every tolerance, as `push_headroom` asks it.
+    pub(crate) fn headroom(&self) -> (Headroom, Headroom)
+        ensures { (proved : Bool) → (f : Buses) → AreSearchResults proved f self.now
+            → IsHeadroom false f result.0 result.1 }
+    {
+        (self.longer.unproved(), self.wider.unproved())
     }
 }
 
@@ -216,10 +240,27 @@ pub(crate) fn push_results(text: &mut String, found: SearchResults) -> Result<()
     push_help(text, found.help_one, found.help_any)
 }
 
-/// Adds how much longer the cable of a family may be, and how much wider every tolerance, a line each.
-pub fn push_headroom(text: &mut String, family: &Family) -> Result<(), AllocError>
+/// Returns how much longer the cable of a family may be, and how much wider every tolerance, as it is found already, or else searched.
+fn found_or_searched(family: &Family, found: Option<(Headroom, Headroom)>) -> (Headroom, Headroom)
+    requires { IsHeadroomFound found (Some family.now) }
+    ensures { IsHeadroom false family.now result.0 result.1 }
+{
+    match found {
+        Some(found) => found,
+        None => headrooms(family, false),
+    }
+}
+
+/// Adds how much longer the cable of a family may be, and how much wider every tolerance, a line each. That is searched unless it is found
+/// already (`margin_of`).
+pub fn push_headroom(
+    text: &mut String,
+    family: &Family,
+    found: Option<(Headroom, Headroom)>,
+) -> Result<(), AllocError>
+    requires { IsHeadroomFound found (Some family.now) }
     ensures { OnOk result (TellsHeadroom family.now (string_bytes text.old) (string_bytes text.new)) }
 {
-    let (longer, wider) = headrooms(family, false);
+    let (longer, wider) = found_or_searched(family, found);
     push_headroom_lines(text, longer, wider)
 }

@@ -2,7 +2,7 @@ use Rattle.std.proofs.Common.{◌≡◌, ◌∙◌, Some, ap, length, sym}
 use Rattle.wl_bound.specs.Families.{Buses}
 use Rattle.wl_margin.specs.Margins.{paces_of}
 use Rattle.wl_margin.proofs.PaceLemmas.{members-length, paces-length}
-use Rattle.wl_margin.proofs.margin.text_for.Goals as goal
+use Rattle.wl_margin.proofs.margin.margin_for.Goals as goal
 
 pub of_plan-requires : goal.of_plan-requires
 of_plan-requires c =
@@ -10,8 +10,8 @@ of_plan-requires c =
     let are : paces_of c.args.bus.now.deviations ≡ Some c.in-Some.oscillators = sym all ∙ c.in-Some.is in
     record { one_each = rw c.as_slice-in-Some.ensures (paces-length c.args.bus.now.deviations c.in-Some.oscillators are ∙ c.requires.deviations) }
 
-pub family_text-requires-clause-members : goal.family_text-requires-clause-members
-family_text-requires-clause-members c =
+pub family_margin-requires-clause-members : goal.family_margin-requires-clause-members
+family_margin-requires-clause-members c =
     let all = rw c.as_slice.ensures at c.in_ok-oscillators.ensures in
     let are : paces_of c.args.bus.now.deviations ≡ Some c.in-Some.oscillators = sym all ∙ c.in-Some.is in
     let made = rw c.as_slice-in-Some.ensures at c.in_ok-own-in-Some.ensures in
