@@ -10,7 +10,7 @@ Kollmann, Pollex, Slomka 2011: with the lengths that the frames have, and with t
 
 A line has the set, its load, how many of its messages a run let wait longer than the classical figure by lengths says, and than `respond` says; and the least,
 the median and the greatest of three ratios: `respond` by the classical figure by lengths, by the one of the books, and the longest wait by `respond`. Status 1
-if a run passes `respond`.
+if a run passes `respond`. A classical figure over a busy period of a thousand times the longest period is none.
 """
 import random
 import statistics
@@ -43,16 +43,18 @@ def plan_of(nodes, end): return dict(version=4, end=end, per=5, sync="book", nod
 def listed(rng, rate, queue, messages):
     """A set by lines of bytes, period in ms and node."""
     nodes = [node(i, rate, queue) for i in range(1 + max(n for _, _, n in messages))]
-    for k, (size, period, n) in enumerate(messages): nodes[n]["frame"].append(frame(rng, 0x50 + 37 * k, size, period * 1_000_000 // nodes[n]["quantum"]))
+    for k, (size, period, n) in enumerate(messages): nodes[n]["frame"].append(frame(rng, 0x50 + 13 * k, size, period * 1_000_000 // nodes[n]["quantum"]))
     return nodes
 
 
 def drawn(rng, rate, queue, count, load):
-    """Eight bytes mostly, the shares of the periods as in power trains: 10, 20, 50, 100 and 1000 ms."""
-    while True:
-        some = [(rng.choice([8, 8, 8, 6, 4, 2]), rng.choice([10, 10, 20, 20, 50, 100, 100, 1000]), k % count if k < count else rng.randrange(count)) for k in range(3 * count)]
-        share = sum((55 + 9.5 * size) / rate / period for size, period, _ in some)
-        if abs(share - load) < 0.04: return listed(rng, rate, queue, sorted(some, key=lambda m: m[1]))
+    """Eight bytes mostly, the shares of the periods as in power trains: 10, 20, 50, 100 and 1000 ms. Messages up to a load."""
+    some, share = [], 0
+    while share < load:
+        size, period = rng.choice([8, 8, 8, 6, 4, 2]), rng.choice([10, 10, 20, 20, 50, 100, 100, 1000])
+        some.append((size, period, len(some) % count))
+        share += (55 + 9.5 * size) / rate / period
+    return listed(rng, rate, queue, sorted(some, key=lambda m: m[1]))
 
 
 def davis(rng, queue):
@@ -63,7 +65,7 @@ def sets(rng):
     for queue in ("fifo", "priority"):
         for rate in (125, 250, 500): yield f"SAE, {rate} kbit/s, {queue}", listed(rng, rate, queue, SAE), 400_000_000
         for rate, count, load in ((125, 4, 0.45), (250, 5, 0.5), (250, 6, 0.65), (500, 8, 0.4), (500, 10, 0.55), (500, 12, 0.7)):
-            yield f"{3 * count} messages of {count} nodes, {rate} kbit/s, {queue}", drawn(rng, rate, queue, count, load), 200_000_000
+            yield f"{count} nodes, {rate} kbit/s, {queue}", drawn(rng, rate, queue, count, load), 200_000_000
         yield f"Davis and others 2007, {queue}", davis(rng, queue), 60_000_000
 
 
@@ -73,7 +75,7 @@ def classical(plan, books):
     all_ = [Message(bus, i, f, books) for i, x in enumerate(plan["node"]) for f in x["frame"]]
     bit = bus.bits[0] * T * plan["node"][0]["quantum"]
     for m in all_: m.level, m.cost, m.period, m.wait = m.field if by_priority else max(e.field for e in all_ if e.node == m.node), (m.bits + 13) * bit, m.every * T * plan["node"][m.node]["quantum"], 0
-    grew = True
+    grew, longest = True, max(m.period for m in all_)
     while grew:
         grew = False
         for m in all_:
@@ -82,7 +84,7 @@ def classical(plan, books):
             least, busy, wait = 0, m.cost, 0
             while least < busy:
                 least, busy = busy, blocked + sum(ceil(busy + jitter[e], e.period) * e.cost for e in within)
-                if busy > 10**17: return None
+                if busy > 1000 * longest: return None
             for x in range(0, busy, m.period):
                 w, needed = -1, blocked
                 while w < needed:
@@ -112,6 +114,9 @@ def main(program, runs="40", seed="1"):
                 if r["kind"] == "message" and r["greatest_quanta"]: worst[key(r)], frames = max(worst[key(r)], r["greatest_quanta"]), frames + r["sent"]
         quantum = {i: x["quantum"] for i, x in enumerate(nodes)}
         wrong += sum(worst[k] > bound[k]["bound_quanta"] for k in bound)
+        if not exact or not books:
+            print(f"{name}: {records[0].get('proved', 'not proved')}; no classical figure", flush=True)
+            continue
         over = sum(worst[k] * quantum[k[0]] * T > exact[k] for k in bound)
         passed, longer = passed + over, longer + (over > 0)
         ours = {k: bound[k]["bound_us"] * 1000 * T for k in bound}
