@@ -1,12 +1,16 @@
 #!/usr/bin/env python3
 """How long messages may wait: the bounds of `respond`, computed by a program of its own, and the waits of runs.
 
-usage: respond.py PROGRAM [BUSES [PLANS [SEED]]]     500 buses, 4 plans of each, and seed 1 if nothing is named
+usage: respond.py PROGRAM [BUSES [PLANS [SEED]]]           500 buses, 4 plans of each, and seed 1 if nothing is named
+       respond.py search PROGRAM [SECONDS [PLANS [SEED]]]   900 s, 60 plans of each bus
 
-Each bus is a random one of 2 to 6 nodes with 1 to 4 messages each, at 10 to 90 % load, base and extended, with jitter and deadlines by chance. The bounds of
-`respond --format json` have to be those that this file computes (Davis, Burns, Bril, Lukkien 2007, with what frames take at the level of quanta; docs/use/respond.md),
-their parts have to add up, and `met` has to follow. Then plans of the bus are run, with other offsets and other first frames: no wait that `traffic` says may be
+Each bus is a random one of 2 to 6 nodes with 1 to 4 messages each, at 10 to 90 % load, base and extended, with queues of both orders, jitter and deadlines by
+chance. The bounds of `respond --format json` have to be those that this file computes (Davis, Burns, Bril, Lukkien 2007, with what frames take at the level of
+quanta; docs/use/respond.md), their parts have to add up, and `met` has to follow. Then plans of the bus are run, with other offsets and other first frames: no wait that `traffic` says may be
 longer. The last line says how many there were, how many differ, and the longest wait by its bound. Status 1 if anything differs.
+
+`search` looks for long waits: it changes the plan in which one message of a bus, its target, waited longest so far. A line for each order of queues and each
+range of loads has the median and the least of the longest wait of the targets by their bounds. Status 1 if any frame waits longer than its bound.
 """
 import json
 import random
@@ -63,7 +67,8 @@ class Bus:
         self.sample = [1 + x["prop"] + x["ps1"] for x in nodes]
         self.bits = [s + x["ps2"] for s, x in zip(self.sample, nodes)]
         self.d = [[T * (a["out"] + abs(a["x"] - b["x"]) * plan["per"] + b["in"]) for b in nodes] for a in nodes]
-        sends, others = [bool(x.get("frame")) for x in nodes], lambda k: [j for j in range(self.n) if j != k]
+        # A node whose frames all come after the plan's end sends none.
+        sends, others = [any(x["offset"] + f["ready"] * x["quantum"] < plan["end"] for f in x.get("frame", [])) for x in nodes], lambda k: [j for j in range(self.n) if j != k]
 
         def way(k, i):
             late = self.d[k][i] + self.d[i][k] if sends[k] else 0
@@ -93,7 +98,7 @@ def bounds(plan, any_data):
     """The messages with their bounds, or without (wait None)."""
     bus = Bus(plan)
     all_ = [Message(bus, i, f, any_data) for i, x in enumerate(bus.nodes) for f in x.get("frame", [])]
-    for m in all_: m.level = max(e.field for e in all_ if e.node == m.node)
+    for m in all_: m.level = m.field if bus.nodes[m.node].get("queue") == "priority" else max(e.field for e in all_ if e.node == m.node)
     if any(m.period == 0 for m in all_): return bus, all_, False
     grew = True
     while grew:
@@ -116,7 +121,7 @@ def made(rng):
     nodes, fields = [], set()
     for i in range(rng.randint(2, 6)):
         node = dict(name=f"n{i}", offset=0, quantum=quantum, ppm=0, tolerance=rng.choice([0, 50, 100, 300]), prop=prop, ps1=ps1, ps2=ps2, sjw=rng.randint(1, min(4, ps1, ps2)), x=rng.randint(0, 20), out=rng.randint(20, 100))
-        node["in"], node["frame"] = rng.randint(20, 100), []
+        node["in"], node["frame"], node["queue"] = rng.randint(20, 100), [], rng.choice(["fifo", "priority"])
         for _ in range(rng.randint(1, 4)):
             extended, size = rng.random() < 0.3, rng.randint(0, 8)
             frame = dict(id=rng.randrange(1 << (29 if extended else 11)), dlc=size, bytes=[rng.choice([0, 255, rng.randrange(256)]) for _ in range(size)], extended=extended)
@@ -208,5 +213,61 @@ def main(program, buses="500", plans="4", seed="1"):
     return 1 if differ or longer else 0
 
 
+LOADS = [(0.1, 0.5), (0.5, 0.85), (0.85, 0.98)]
+
+
+def loaded(rng, load, order):
+    """A random bus with this load, without jitter. Its queues have this order, or one of the two each."""
+    plan = made(rng)
+    frames = [(x, f) for x in plan["node"] for f in x["frame"]]
+    now = sum((stuffed(f) + 13) * (1 + x["prop"] + x["ps1"] + x["ps2"]) / f["every"] for x, f in frames)
+    for x in plan["node"]: x["queue"] = rng.choice(["fifo", "priority"]) if order == "both" else order
+    for x, f in frames:
+        f.pop("jitter", None), f.pop("deadline", None)
+        f["every"], f["ready"] = max(1, round(f["every"] * now / load)), 12 * (1 + x["prop"] + x["ps1"] + x["ps2"])
+    return dict(plan, end=rng.randint(4, 16) * 1000 * plan["node"][0]["quantum"] * 16)
+
+
+def changed(rng, plan):
+    """The plan with another first frame or offset."""
+    nodes = [dict(x, frame=[dict(f) for f in x["frame"]]) for x in plan["node"]]
+    for _ in range(rng.randint(1, 3)):
+        x = rng.choice(nodes)
+        f, bit = rng.choice(x["frame"]), 1 + x["prop"] + x["ps1"] + x["ps2"]
+        if rng.random() < 0.2: x["offset"] = rng.randrange(40 * x["quantum"])
+        else: f["ready"] = max(12 * bit, f["ready"] + rng.choice([-1, 1]) * rng.randrange(1, rng.choice([3, bit, 20 * bit, 200 * bit])))
+    return dict(plan, node=nodes)
+
+
+def search(program, seconds="900", plans="60", seed="1"):
+    import statistics
+    import time
+    rng, until, ratios, frames, longer, buses = random.Random(int(seed)), time.monotonic() + float(seconds), {}, 0, 0, 0
+    while time.monotonic() < until:
+        order, range_ = rng.choice(["fifo", "priority", "both"]), rng.choice(LOADS)
+        plan = loaded(rng, rng.uniform(*range_), order)
+        records = said(program, "respond", text=random_plans.toml_text(plan, True))
+        if isinstance(records, str) or records[0]["kind"] != "proof": continue
+        bound = {(r["node"], r["id"]): r["bound_quanta"] for r in records if r["kind"] == "message"}
+        target, best, buses = rng.choice(sorted(bound)), (0, plan), buses + 1
+        for n in range(int(plans)):
+            tried = moved(rng, plan) if n < int(plans) // 3 else changed(rng, best[1])
+            ran = said(program, "traffic", text=random_plans.toml_text(tried, True))
+            if isinstance(ran, str): continue
+            for r in ran:
+                if r["kind"] != "message" or r["greatest_quanta"] is None: continue
+                frames += r["sent"]
+                if r["greatest_quanta"] > bound[r["node"], r["id"]]:
+                    longer += 1
+                    print(f"bus {buses} of seed {seed}: {r['name']} {r['id']} waits {r['greatest_quanta']} quanta, beyond {bound[r['node'], r['id']]}")
+                if (r["node"], r["id"]) == target and r["greatest_quanta"] > best[0]: best = r["greatest_quanta"], tried
+        ratios.setdefault((order, range_), []).append(best[0] / bound[target])
+    for (order, (low, high)), found in sorted(ratios.items()):
+        print(f"{order} {100 * low:.0f} to {100 * high:.0f} %: {len(found)} buses, median {statistics.median(found):.3f}, least {min(found):.3f}, greatest {max(found):.4f}")
+    print(f"{buses} buses, {frames} frames, {longer} wait longer")
+    return 1 if longer else 0
+
+
 if __name__ == "__main__":
+    if sys.argv[1:2] == ["search"]: sys.exit(search(*sys.argv[2:]))
     sys.exit(main(*sys.argv[1:]) if 2 <= len(sys.argv) <= 5 else sys.stderr.write(__doc__) and 2)
