@@ -1,20 +1,26 @@
 -- How long the messages of a plan wait at most. This project's.
-use Rattle.std.specs.Prelude.{◌≡◌, ℕ, ◌<◌, ◌&&◌, nat_le, nat_lt, Bool, true, false, List, length, unwrap_or, if◌then◌else◌}
+use Rattle.std.specs.Prelude.{◌≡◌, ℕ, ◌<◌, ◌&&◌, nat_le, nat_lt, Bool, true, false, List, length, map, unwrap_or, if◌then◌else◌}
 use Rattle.wl_phase.specs.Clocks.{Steady, steady_timing}
 use Rattle.wl_node.specs.declared.setup.QueueOrder.{QueueOrder}
 use Rattle.wl_node.specs.declared.setup.QueueOrder.TheVariants.{Fifo, Priority}
 use Rattle.wl_plan.specs.declared.plan.Plan.{Plan}
 use Rattle.wl_plan.specs.PlanLine.{setup_at}
+use Rattle.wl_setup.specs.declared.bus.Bus.{Bus}
+use Rattle.wl_setup.specs.declared.plan_text.PlanText.{PlanText}
+use Rattle.wl_margin.specs.declared.reasons.Asked.TheVariants.{ThisPlan}
 use Rattle.wl_bound.specs.Families.{Buses}
 use Rattle.wl_bound.specs.Rooms.{plain_bus}
 use Rattle.wl_respond.specs.declared.message.MessageWait.{MessageWait}
+use Rattle.wl_respond.specs.Asks.{asked_of, message_in}
 use Rattle.wl_respond.specs.Levels.{top_of}
 use Rattle.wl_respond.specs.Plans.{message_of}
 use Rattle.wl_respond.specs.Tests.{message_at}
+use Rattle.wl_respond.specs.Texts.{IsRespondText}
 use Rattle.wl_buses.specs.FamilyPlans.FamilyStations.{stations_of}
 use Rattle.wl_buses.specs.CleanPlans.Clean.{AllGetThrough}
 use Rattle.wl_buses.specs.BoundedWaits.Bounds.{PassInTime, WaitInQuanta}
 use Rattle.wl_buses.specs.BoundedWaits.Messages.{Messages}
+use Rattle.wl_proved.specs.Words.{IsFamilyOf}
 
 -- a queue is first in, first out
 abbrev pub is_fifo : QueueOrder → Bool
@@ -44,3 +50,14 @@ pub record HasBoundedWaits (f : Buses) (plan : Plan) (messages : List MessageWai
   pub all : AllGetThrough plan (stations_of f plan clocks)
   pub waits : WaitInQuanta plan (stations_of f plan clocks) all.bus (messages_in plan messages) (plain_bus f).shortest (wait_of messages)
   pub passes : PassInTime plan (stations_of f plan clocks) all (messages_in plan messages) (plain_bus f).shortest (wait_of messages)
+
+-- the messages of a table as a plan's text asks them, with their bounds
+abbrev pub messages_asked : Buses → (any : Bool) → PlanText → List MessageWait → List MessageWait
+messages_asked f any plain table = map message_in (map (asked_of (plain_bus f) any plain) table)
+
+-- On the plan of a bus no frame waits longer than the text of `respond` says.
+pub record HasBoundedText (tick : ℕ) (any : Bool) (plain : PlanText) (bus : Bus) (text : List ℕ) (met : Bool) : Type 0 where
+  pub family : Buses
+  pub of : IsFamilyOf ThisPlan bus family
+  pub told : IsRespondText tick any plain bus family text met
+  pub waits : HasBoundedWaits family bus.plan (messages_asked family any plain told.0)

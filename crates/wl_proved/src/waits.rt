@@ -1,24 +1,22 @@
 //! What the test of a table of messages promises, proved as the contract of a function that does nothing.
 
-ghost use Rattle.std.specs.Prelude.{◌≡◌, ℕ, Bool, true, List, None, length, map};
+ghost use Rattle.std.specs.Prelude.{◌≡◌, ℕ, Bool, true, List, length};
 ghost use Rattle.wl_plan.specs.declared.plan.Plan.{Plan};
 ghost use Rattle.wl_setup.specs.declared.bus.Bus.{Bus};
-ghost use Rattle.wl_margin.specs.declared.reasons.Asked.TheVariants.{ThisPlan};
+ghost use Rattle.wl_setup.specs.declared.plan_text.PlanText.{PlanText};
 ghost use Rattle.wl_bound.specs.Conditions.{first_failure_of, plain};
 ghost use Rattle.wl_bound.specs.Decides.{leaves_room_to_decide};
 ghost use Rattle.wl_bound.specs.Families.{Buses};
 ghost use Rattle.wl_bound.specs.Rooms.{leaves_room, plain_bus};
 ghost use Rattle.wl_bound.specs.declared.condition.Senders.TheVariants.{Any};
-ghost use Rattle.wl_respond.specs.declared.asked.Asked.{Asked};
 ghost use Rattle.wl_respond.specs.declared.message.MessageWait.{MessageWait};
-ghost use Rattle.wl_respond.specs.Asks.{message_in};
 ghost use Rattle.wl_respond.specs.Levels.{has_levels};
 ghost use Rattle.wl_respond.specs.Plans.{KeepsTable};
 ghost use Rattle.wl_respond.specs.Tests.{pass};
-ghost use Rattle.wl_respond.specs.Texts.{IsTold};
+ghost use Rattle.wl_respond.specs.Texts.{IsRespondText, IsTextOfBus};
 ghost use Rattle.wl_proved.specs.PlansOfFamily.{IsPlanOfFamily, IsRunnable};
-ghost use Rattle.wl_proved.specs.Waits.{HasBoundedWaits};
-ghost use Rattle.wl_proved.specs.Words.{IsFamilyOf};
+ghost use Rattle.wl_proved.specs.Waits.{HasBoundedText, HasBoundedWaits, messages_asked};
+ghost use Rattle.wl_proved.specs.Words.{SaysBounded};
 
 /// Law: let a table of messages pass its test. Take a plan of the family whose queues have frames of these messages. Let each message have
 /// the level that its queue gives it, first in, first out or by priority. Then no frame waits longer than its message says, whatever the
@@ -39,17 +37,18 @@ pub fn respond_law()
     wl_buses::bounded_waits::laws::waits_are_bounded();
 }
 
-/// Law: let no premise lack in a text of `respond`, so that its first line says 'proved'. On each plan of the family that keeps the text's table of messages no frame waits longer
-/// than its message says there. The plan that the text is about is such a plan.
+/// Law: let the first line of a text of `respond` be 'proved: waits_are_bounded'. On each plan of the family that keeps the text's table of
+/// messages no frame waits longer than its message says there. The plan that the text is about is such a plan.
 pub fn respond_means_bounded()
-    ensures any { (tick : ℕ) (bus : Bus) (f : Buses) (asked : List Asked) (text : List ℕ) (met : Bool)
-        (told : IsTold tick bus f asked text met) → told.lacking ≡ None → (plan : Plan) → IsPlanOfFamily f plan
-        → KeepsTable plan (map message_in asked) → has_levels plan (map message_in asked) ≡ true
-        → HasBoundedWaits f plan (map message_in asked) }
-    ensures own { (tick : ℕ) (bus : Bus) (f : Buses) (asked : List Asked) (text : List ℕ) (met : Bool)
-        (told : IsTold tick bus f asked text met) → told.lacking ≡ None → IsFamilyOf ThisPlan bus f
+    ensures any { (tick : ℕ) (any : Bool) (plain : PlanText) (bus : Bus) (f : Buses) (text : List ℕ) (met : Bool)
+        (told : IsRespondText tick any plain bus f text met) → SaysBounded bus.names text
+        → (plan : Plan) → IsPlanOfFamily f plan → KeepsTable plan (messages_asked f any plain told.0)
+        → has_levels plan (messages_asked f any plain told.0) ≡ true
+        → HasBoundedWaits f plan (messages_asked f any plain told.0) }
+    ensures own { (tick : ℕ) (any : Bool) (plain : PlanText) (bus : Bus) (text : List ℕ) (met : Bool)
+        → IsTextOfBus tick any plain bus text met → SaysBounded bus.names text
         → IsRunnable bus.plan → length bus.deviations ≡ length bus.plan.nodes
-        → HasBoundedWaits f bus.plan (map message_in asked) }
+        → HasBoundedText tick any plain bus text met }
 {
     wl_level::place_laws();
     wl_margin::clocks_keep_pace();

@@ -1,3 +1,5 @@
 mod Ordered
 mod Rows
 mod Told
+pub mod Longest
+pub mod Listing

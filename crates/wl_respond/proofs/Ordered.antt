@@ -1,8 +1,8 @@
 -- Entries that go in order are a queue of messages.
-use Rattle.std.proofs.Common.{◌≡◌, ◌∙◌, refl, sym, subst, inl, inr, ℕ, zero, suc, ◌+◌, ◌<◌, ◌≤◌, Bool, true, false, cond, ◌&&◌, List, [], ◌∷◌, length, Option, Some, None, arith}
+use Rattle.std.proofs.Common.{◌≡◌, ◌∙◌, ap, refl, sym, subst, inl, inr, ℕ, zero, suc, ◌+◌, ◌<◌, ◌≤◌, Bool, true, false, cond, ◌&&◌, List, [], ◌∷◌, length, Option, Some, None, arith}
 use Rattle.std.specs.Prelude.{◌==◌, nat_le}
-use Rattle.std.specs.Bool.{OnTrue}
-use Rattle.std.proofs.lemmas.Bool.{OnTrue_at, OnTrue_from, and_parts, cases_lt, eq-eqb, leb-true}
+use Rattle.std.specs.Bool.{Decides}
+use Rattle.std.proofs.lemmas.Bool.{and_parts, cases_lt, eq-eqb, eqb-true, le-leb, leb-true}
 use Rattle.wl_node.specs.declared.setup.Queued.{Queued}
 use Rattle.wl_bound.specs.Fields.{field_of}
 use Rattle.wl_respond.specs.declared.message.MessageWait.{MessageWait}
@@ -74,13 +74,57 @@ module _ (messages : List MessageWait) (i from : ℕ) where
   }
   in_order (entry ∷ later) go = one_before entry later go.0 go.1 (in_order later go.1)
 
+  -- So it is the other way round.
+  later_ones : (entry : Queued) (later : List Queued) → HasMessages messages i from (entry ∷ later) → HasMessages messages i from later
+  later_ones entry later has = record {
+    known = λ n less. has.known (suc n) (omega arith);
+    late = λ n less. has.late (suc n) (omega arith);
+    ordered = λ m n before less. has.ordered (suc m) (suc n) (omega arith) (omega arith);
+    apart = λ m n before less. has.apart (suc m) (suc n) (omega arith) (omega arith);
+  }
+
+  starts : (ready : ℕ) (later : List Queued) → ((n : ℕ) → n < length later → ready ≤ (entry_at later n).ready) → starts_after ready later ≡ true
+  starts ready [] none = refl
+  starts ready (next ∷ later) each = le-leb ready next.ready (each zero (omega arith))
+
+  comes : (field earliest : ℕ) (later : List Queued) → AllFrom field earliest later → comes_from field earliest later ≡ true
+  comes field earliest [] each = refl
+  comes field earliest (next ∷ later) each =
+      by (field_of next.frame == field) (comes field earliest later (λ n less same. each (suc n) (omega arith) same)) refl
+    where
+      by : (v : Bool) → comes_from field earliest later ≡ true → (field_of next.frame == field) ≡ v → cond v (nat_le earliest next.ready) (comes_from field earliest later) ≡ true
+      by true rest is = le-leb earliest next.ready (each zero (omega arith) (sym (eqb-true (field_of next.frame) field is)))
+      by false rest is = rest
+
+  pub goes_in_order : (queue : List Queued) → HasMessages messages i from queue → GoInOrder messages i from queue
+  goes_in_order [] has = tt
+  goes_in_order (entry ∷ later) has =
+      let first = has.known zero (omega arith) in
+      let spaced : comes_from (field_of entry.frame) (entry.ready + (message_at messages first.message).every) later ≡ true =
+      comes (field_of entry.frame) (entry.ready + (message_at messages first.message).every) later
+      (λ n less same. has.apart zero (suc n) (omega arith) (omega arith) first.message first.is same) in (
+        record {
+          late = has.late zero (omega arith);
+          known = first;
+          order = starts entry.ready later (λ n less. has.ordered zero (suc n) (omega arith) (omega arith));
+          spaced = ap (spaced_by messages entry later) first.is ∙ spaced;
+        },
+        goes_in_order later (later_ones entry later has),
+      )
+
 -- one node more
-pub one_more : (k h v : Bool) (n : ℕ) (P Q : ℕ → Type 0) → v ≡ k && h → ((j : ℕ) → Q j → P j) → OnTrue k ((j : ℕ) → j < n → P j) → OnTrue h (Q n) → OnTrue v ((j : ℕ) → j < n + 1 → P j)
-one_more k h v n P Q is gives before here =
-    OnTrue_from v _
-    (λ e j less.
-    (let parts = and_parts k h (sym is ∙ e) in
-    elim (cases_lt j n) [
-      | inl below ↦ OnTrue_at parts.0 before j below
-      | inr past ↦ subst P (let last : n ≡ j = omega arith in last) (gives n (OnTrue_at parts.1 here))
-    ]))
+pub one_more : (k h v : Bool) (n : ℕ) (P Q : ℕ → Type 0) → v ≡ k && h → ((j : ℕ) → Q j → P j) → ((j : ℕ) → P j → Q j) → Decides k ((j : ℕ) → j < n → P j) → Decides h (Q n)
+    → Decides v ((j : ℕ) → j < n + 1 → P j)
+one_more k h v n P Q is gives back before here = (
+  λ e j less.
+      (let parts = and_parts k h (sym is ∙ e) in
+      elim (cases_lt j n) [
+        | inl below ↦ before.0 parts.0 j below
+        | inr past ↦ subst P (let last : n ≡ j = omega arith in last) (gives n (here.0 parts.1))
+      ]),
+  λ each. is ∙ both_true k h (before.1 (λ j less. each j (omega arith))) (here.1 (back n (each n (omega arith)))),
+)
+  where
+    both_true : (k h : Bool) → k ≡ true → h ≡ true → k && h ≡ true
+    both_true true h a b = b
+    both_true false h a b = cc

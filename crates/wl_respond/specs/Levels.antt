@@ -18,9 +18,11 @@ abbrev pub level_by : QueueOrder → (top field : ℕ) → ℕ
 level_by Fifo top field = top
 level_by Priority top field = field
 
+abbrev pub level_in : Plan → List MessageWait → MessageWait → ℕ
+level_in plan messages x = level_by (setup_at plan x.node).order (top_of messages x.node) x.field
+
 abbrev pub level_for : Plan → List MessageWait → ℕ → ℕ
-level_for plan messages e =
-    level_by (setup_at plan (message_at messages e).node).order (top_of messages (message_at messages e).node) (message_at messages e).field
+level_for plan messages e = level_in plan messages (message_at messages e)
 
 -- each message has that level
 abbrev pub lacks_level : Plan → List MessageWait → ℕ → Bool

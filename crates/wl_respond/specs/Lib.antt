@@ -5,5 +5,6 @@ pub mod Plans
 pub mod Levels
 pub mod Premises
 pub mod Asks
+pub mod Tables
 pub mod Parts
 pub mod Texts

@@ -1,5 +1,5 @@
 -- How long a message waits, and for what: the parts of its bound, in thousandths of a microsecond (this project's profile; the parts are those of Davis, Burns, Bril, Lukkien 2007, section 3.1).
-use Rattle.std.specs.Prelude.{ℕ, ◌+◌, ◌-◌, ◌*◌, ◌/◌, ◌^◌, ◌==◌, ◌&&◌, nat_le, not, max, min, Bool, true, false, List, [], ◌∷◌, map, length, if◌then◌else◌, Option, Some, None}
+use Rattle.std.specs.Prelude.{ℕ, ◌+◌, ◌-◌, ◌*◌, ◌/◌, ◌^◌, ◌==◌, ◌&&◌, nat_le, not, max, min, Bool, true, false, List, [], ◌∷◌, length, if◌then◌else◌, Option, Some, None}
 use Rattle.std.specs.Int.{div_ceil}
 use Rattle.wl_level.specs.Places.{first_place}
 use Rattle.wl_counts.specs.Counts.{sum_below}

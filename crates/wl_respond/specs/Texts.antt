@@ -26,7 +26,8 @@ use Rattle.wl_respond.specs.declared.premise.Lacking.TheVariants.{Astray, Turnin
 use Rattle.wl_respond.specs.declared.verdict.Outcome.{Outcome}
 use Rattle.wl_respond.specs.Asks.{asked_of, message_in, once}
 use Rattle.wl_respond.specs.Parts.{told_line, load_at_most}
-use Rattle.wl_respond.specs.Premises.{HasPremises}
+use Rattle.wl_respond.specs.Premises.{FirstLack}
+use Rattle.wl_respond.specs.Tables.{IsTable}
 use Rattle.wl_respond.specs.Tests.{no_message, pass, row_for}
 
 abbrev pub no_asked : Asked
@@ -197,7 +198,7 @@ abbrev pub outcome_words : List (List ℕ) → List Asked → List Line → Outc
 outcome_words names asked lines o =
     lacking_words names o.lacking ++ load_words o.load ++ lines_words names asked lines ++ verdict_words names asked lines o.shown o.load
 
--- The text of a bus with these messages. If its first line says 'proved', all premises hold.
+-- The text of a bus with these messages. Its first line has the first premise that lacks, or says 'proved' if none does.
 module _ (tick : ℕ) (bus : Bus) (f : families.Buses) (asked : List Asked) where
   abbrev pub has_bounds : Bool
   has_bounds = pass (plain_bus f) (map message_in asked)
@@ -216,12 +217,12 @@ module _ (tick : ℕ) (bus : Bus) (f : families.Buses) (asked : List Asked) wher
     pub lacking : Option Lacking
     pub is : text ≡ outcome_words bus.names asked lines_of (outcome_of lacking)
     pub met_is : met ≡ (has_bounds && (missed_count lines_of == 0))
-    pub proved : lacking ≡ None → HasPremises bus.deviations bus.plan f (map message_in asked)
+    pub first : FirstLack bus.deviations bus.plan f (map message_in asked) lacking
 
--- It has a table of messages, with the bounds of each, and what the plan's text asks of it.
+-- It is about the table of the plan's messages, with bounds of each, and what the plan's text asks of it.
 abbrev pub IsRespondText : (tick : ℕ) → (any : Bool) → PlanText → Bus → families.Buses → List ℕ → Bool → Type 0
 IsRespondText tick any plain bus f text met =
-    (table : List MessageWait) × IsTold tick bus f (map (asked_of (plain_bus f) any plain) table) text met
+    (table : List MessageWait) × IsTable bus.plan plain table × IsTold tick bus f (map (asked_of (plain_bus f) any plain) table) text met
 
 abbrev pub IsResponseOfPaces : ℕ → Bool → PlanText → Bus → Option (List Pace) → List ℕ → Bool → Type 0
 IsResponseOfPaces tick any plain bus None text met = (text ≡ no_clock_words) × (met ≡ false)

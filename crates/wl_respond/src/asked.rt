@@ -140,7 +140,7 @@ fn least_apart(family: &Family, i: u8, every: u64, jitter: u64) -> u64
 }
 
 /// Returns the frames that the text has for node `i`.
-fn frames_at(text: &PlanText, i: u8) -> &[FrameText]
+pub(crate) fn frames_at(text: &PlanText, i: u8) -> &[FrameText]
     ensures { result.now ≡ frames_at text.now i }
 {
     match text.node.as_slice().get(i as usize) {

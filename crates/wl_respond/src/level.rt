@@ -2,7 +2,7 @@
 ghost use Rattle.std.specs.Prelude.{◌≡◌, ◌<◌, length};
 ghost use Rattle.wl_topology.specs.Driven.{any_below};
 ghost use Rattle.wl_plan.specs.PlanLine.{setup_at};
-ghost use Rattle.wl_respond.specs.Levels.{has_levels, lacks_level, level_for, top_of};
+ghost use Rattle.wl_respond.specs.Levels.{has_levels, lacks_level, level_for, level_in, top_of};
 ghost use Rattle.wl_respond.specs.Tests.{message_at};
 
 use crate::message::MessageWait;
@@ -33,12 +33,10 @@ fn order_at(plan: &CheckedPlan, i: u8) -> QueueOrder
     }
 }
 
-/// Returns the level of message `e`: the greatest field of its node's messages if the queue is first in, first out, and else its own.
-pub(crate) fn level_for(plan: &CheckedPlan, messages: &[MessageWait], e: usize) -> u64
-    requires { e < length messages.now }
-    ensures { result ≡ level_for plan.now messages.now e }
+/// Returns the level of a message among all: the greatest field of its node's messages if the queue is first in, first out, and else its own.
+pub(crate) fn level_in(plan: &CheckedPlan, messages: &[MessageWait], message: &MessageWait) -> u64
+    ensures { result ≡ level_in plan.now messages.now message.now }
 {
-    let message = messages[e];
     match order_at(plan, message.node) {
         QueueOrder::Fifo => top_of(messages, message.node),
         QueueOrder::Priority => message.field,
@@ -50,7 +48,7 @@ fn lacks_level(plan: &CheckedPlan, messages: &[MessageWait], e: usize) -> bool
     requires { e < length messages.now }
     ensures { result ≡ lacks_level plan.now messages.now e }
 {
-    messages[e].level != level_for(plan, messages, e)
+    messages[e].level != level_in(plan, messages, &messages[e])
 }
 
 /// True if each message has the level that its node's queue gives it.

@@ -1,6 +1,6 @@
 //! Whether the queues of a plan have the frames of a table of messages.
 ghost use Rattle.std.specs.Prelude.{◌≡◌, ◌+◌, ◌*◌, ◌<◌, ◌==◌, ◌&&◌, length, IfSome};
-ghost use Rattle.std.specs.Bool.{OnTrue};
+ghost use Rattle.std.specs.Bool.{Decides};
 ghost use Rattle.wl_bound.specs.Fields.{field_of};
 ghost use Rattle.wl_level.specs.Places.{first_place};
 ghost use Rattle.wl_respond.specs.Plans.{GoInOrder, HasMessage, IsWithinBits, KeepsTable, comes_from, eleventh_sample, is_message, is_spaced, message_of, starts_after};
@@ -22,7 +22,7 @@ fn is_message(messages: &[MessageWait], i: u8, field: u64, e: usize) -> bool
 }
 
 /// Returns the first message of node `i` with the field of a frame.
-fn message_of(messages: &[MessageWait], i: u8, frame: &Frame) -> Option<usize>
+pub(crate) fn message_of(messages: &[MessageWait], i: u8, frame: &Frame) -> Option<usize>
     ensures first { result ≡ message_of messages.now i frame.now }
     ensures inside { IfSome result (λ e. e < length messages.now) }
 {
@@ -46,7 +46,7 @@ fn bits_at(messages: &[MessageWait], e: usize) -> u8
 
 /// True if a frame has no more bits up to the end of its CRC sequence, stuff bits among them.
 fn is_within_bits(frame: &Frame, most: u8) -> bool
-    ensures { OnTrue result (IsWithinBits frame.now most) }
+    ensures { Decides result (IsWithinBits frame.now most) }
 {
     wl_frame::laws::a_list_has_one_stuffing();
     let bits = frame.stuffed();
@@ -55,7 +55,7 @@ fn is_within_bits(frame: &Frame, most: u8) -> bool
 
 /// True if an entry of node `i` is a frame of a message, and no longer than that says.
 fn has_message(messages: &[MessageWait], i: u8, entry: &Queued) -> bool
-    ensures { OnTrue result (HasMessage messages.now i entry.now) }
+    ensures { Decides result (HasMessage messages.now i entry.now) }
 {
     match message_of(messages, i, &entry.frame) {
         Some(e) => is_within_bits(&entry.frame, bits_at(messages, e)),
@@ -105,7 +105,7 @@ fn is_spaced(messages: &[MessageWait], i: u8, entry: &Queued, later: &[Queued]) 
 /// True if the queue of node `i` has frames of these messages, in the order in which they become ready. None is ready before that quantum, and
 /// two of one message are its period apart.
 fn go_in_order(messages: &[MessageWait], i: u8, from: u64, queue: &[Queued]) -> bool
-    ensures { OnTrue result (GoInOrder messages.now i from queue.now) }
+    ensures { Decides result (GoInOrder messages.now i from queue.now) }
 {
     match queue {
         [] => true,
@@ -122,7 +122,7 @@ fn go_in_order(messages: &[MessageWait], i: u8, from: u64, queue: &[Queued]) -> 
 /// True if it is so at a node of a plan, from the node's eleventh sample on.
 fn node_keeps(plan: &CheckedPlan, messages: &[MessageWait], i: u8) -> bool
     requires { i < length plan.now.nodes }
-    ensures { OnTrue result (GoInOrder messages.now i (eleventh_sample plan.now i) (setup_at plan.now i).queue) }
+    ensures { Decides result (GoInOrder messages.now i (eleventh_sample plan.now i) (setup_at plan.now i).queue) }
 {
     let node = plan.node(i);
     let from = 10 * node.segments.bit_quanta() + node.segments.sample_at();
@@ -136,10 +136,10 @@ fn both(one: bool, other: bool) -> bool
     one && other
 }
 
-/// True if the queues of a plan have the frames of these messages, each in the order in which they become ready and none before its node's
-/// eleventh sample; and two frames of one message are its period apart.
+/// True if the queues of a plan have the frames of these messages, and only then. Each queue has them in the order in which they become ready,
+/// and none before its node's eleventh sample. Two frames of one message are its period apart.
 pub fn keeps_table(plan: &CheckedPlan, messages: &[MessageWait]) -> bool
-    ensures { OnTrue result (KeepsTable plan.now messages.now) }
+    ensures { Decides result (KeepsTable plan.now messages.now) }
 {
     let mut keeps = true;
     for i in 0..plan.nodes() {

@@ -1,7 +1,8 @@
 //! What lacks of the premises under which the bounds are proved.
-ghost use Rattle.std.specs.Prelude.{◌≡◌, None, length};
+ghost use Rattle.std.specs.Prelude.{◌≡◌, length};
+ghost use Rattle.std.specs.Bool.{Decides};
 ghost use Rattle.wl_bound.specs.Rooms.{plain_bus};
-ghost use Rattle.wl_respond.specs.Premises.{HasPremises};
+ghost use Rattle.wl_respond.specs.Premises.{FirstLack, IsForAny, IsOnTable};
 ghost use Rattle.wl_respond.specs.Tests.{pass};
 
 use crate::level::has_levels;
@@ -29,7 +30,21 @@ pub enum Lacking {
     Bounds,
 }
 
-/// Returns the first premise that lacks of a plan with a table of messages.
+/// True if `margin` says of a plan that it holds for any senders, proved, and only then.
+fn is_for_any(plan: &CheckedPlan, family: &Family) -> bool
+    ensures { Decides result (IsForAny plan.now family.now) }
+{
+    judge(plan, family) == Verdict::ForAny && is_covered(plan) && family.leaves_room()
+}
+
+/// True if a plan keeps a table whose messages have the levels of their queues, and only then.
+fn is_on_table(plan: &CheckedPlan, messages: &[MessageWait]) -> bool
+    ensures { Decides result (IsOnTable plan.now messages.now) }
+{
+    keeps_table(plan, messages) && has_levels(plan, messages)
+}
+
+/// Returns the first premise that lacks of a plan with a table of messages, in the order of [`Lacking`].
 pub fn first_lacking(
     deviations: &[Deviation],
     plan: &CheckedPlan,
@@ -40,7 +55,7 @@ pub fn first_lacking(
     requires deviations { length deviations.now ≡ length plan.now.nodes }
     requires members { length family.now.members ≡ length plan.now.nodes }
     requires passes { passes ≡ pass (plain_bus family.now) messages.now }
-    ensures { result ≡ None → HasPremises deviations.now plan.now family.now messages.now }
+    ensures { FirstLack deviations.now plan.now family.now messages.now result }
 {
     if let Some(i) = first_stray(deviations, plan, family) {
         return Some(Lacking::Astray(i));
@@ -48,13 +63,13 @@ pub fn first_lacking(
     if let Some(i) = first_turning(deviations, plan) {
         return Some(Lacking::Turning(i));
     }
-    if judge(plan, family) != Verdict::ForAny || !is_covered(plan) || !family.leaves_room() {
+    if !is_for_any(plan, family) {
         return Some(Lacking::Margin);
     }
     if let Some(i) = family.first_to_decide_twice() {
         return Some(Lacking::Deciding(i));
     }
-    if !keeps_table(plan, messages) || !has_levels(plan, messages) {
+    if !is_on_table(plan, messages) {
         return Some(Lacking::Table);
     }
     if !passes {

@@ -3,6 +3,7 @@ ghost use Rattle.std.specs.Prelude.{◌≡◌, ◌<◌, ◌^◌, ◌&&◌, ◌==
 ghost use Rattle.wl_bound.specs.Families.{family_of};
 ghost use Rattle.wl_bound.specs.Rooms.{plain_bus};
 ghost use Rattle.wl_report.specs.Lines.{GrowsBy};
+ghost use Rattle.wl_respond.specs.Tables.{AreSameButBounds, IsBounded, IsTable};
 ghost use Rattle.wl_respond.specs.Texts.{IsRespondText, IsTextOfBus, IsTold, lines_shown, lines_words, missed_count, outcome_words};
 
 use crate::asked::{Asked, all_asked, messages_in};
@@ -46,36 +47,46 @@ fn push_lines(
     Ok(())
 }
 
+/// Returns a message with the window and the wait of another one, if there is one.
+fn with_bound(message: &MessageWait, bounded: Option<&MessageWait>) -> MessageWait
+    ensures { IsBounded message.now result }
+{
+    match bounded {
+        Some(other) => MessageWait {
+            window: other.window,
+            wait: other.wait,
+            ..*message
+        },
+        None => *message,
+    }
+}
+
 /// Returns the messages with the windows and waits of others. Refused only when out of memory.
 fn with_bounds(
     alloc: Global,
     messages: &[MessageWait],
     bounded: &[MessageWait],
-) -> Result<Vec<MessageWait>, AllocError> {
+) -> Result<Vec<MessageWait>, AllocError>
+    ensures { IfOk result (λ all. AreSameButBounds messages.now all.items) }
+{
     let mut all = Vec::new(alloc);
     for e in 0..messages.len() {
-        let (window, wait) = match bounded.get(e) {
-            Some(other) => (other.window, other.wait),
-            None => (0, 0),
-        };
-        all.push(MessageWait {
-            window,
-            wait,
-            ..messages[e]
-        })?;
+        all.push(with_bound(&messages[e], bounded.get(e)))?;
     }
     Ok(all)
 }
 
-/// Returns the messages of a plan with bounds that were searched: with the bits and the periods of the plan's own frames. Refused only when out
-/// of memory.
+/// Returns the table of a plan's messages with bounds that were searched: with the bits and the periods of the plan's own frames. Refused only
+/// when out of memory.
 fn searched(
     alloc: Global,
     family: &Family,
     any: bool,
     text: &PlanText,
     plan: &CheckedPlan,
-) -> Result<Vec<MessageWait>, AllocError> {
+) -> Result<Vec<MessageWait>, AllocError>
+    ensures { IfOk result (λ table. IsTable plan.now text.now table.items) }
+{
     let table = table_of(alloc, plan, text)?;
     let asked = all_asked(alloc, family, any, text, table.as_slice())?;
     let messages = messages_in(alloc, asked.as_slice())?;
