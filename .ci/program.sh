@@ -304,6 +304,11 @@ second=4294967295 logged 37 54 --from=4294967295 --tick 125ps
 runs "vcd" examples/one_megabit_25m.toml 0 examples/one_megabit_25m.vcd "$room/none" vcd
 sed -E 's/^(\$timescale 1 )ns/\1us/; s/^#([0-9]+)$/#\10/; s/^#00$/#0/' examples/one_megabit_25m.vcd > "$room/wave"
 runs "vcd --tick 10us" examples/one_megabit_25m.toml 0 "$room/wave" "$room/none" vcd --tick 10us
+for word in vcd page; do
+  timeout 300 "$program" "$word" --from 100000 --to 110000 examples/burst.toml > "$room/wave"
+  is "a window of $word" [ -s "$room/wave" ]
+  runs "the same window of $word by times" examples/burst.toml 0 "$room/wave" "$room/none" "$word" --from 100us --to 0.11ms
+done
 fi
 
 if part refused; then
@@ -433,7 +438,10 @@ candump --from -1
 candump --from 1.5
 candump --from 4294967296
 run --from 1
-vcd --from 1
+vcd --from
+vcd --from -1
+page --to 1 --to 2
+settings --to 1
 run --tick 1ns
 explain --tick 1ns
 trace --tick 1ns
@@ -466,7 +474,13 @@ printf 'error: --only wants lost, error, flag, frame, mode or sync, and --format
 runs "a format that is none, trace" examples/clean_500k.toml 2 "$room/none" "$room/fault" trace --format xml
 runs "events that are none, trace" examples/clean_500k.toml 2 "$room/none" "$room/fault" trace --only spikes
 tick='error: --tick wants 1 to 999 and ps, ns or us, as 125ps'
-for word in candump vcd page settings; do
+printf '%s, and --from and --to ticks, as 4000, or a time of whole ticks, as 3ms\n' "$tick" > "$room/fault"
+for word in vcd page; do
+  runs "a tick that is none, $word" examples/clean_500k.toml 2 "$room/none" "$room/fault" "$word" --tick 1ms
+  runs "a time that is none, $word" examples/clean_500k.toml 2 "$room/none" "$room/fault" "$word" --from 3m
+  runs "a time that isn't whole in ticks, $word" examples/clean_500k.toml 2 "$room/none" "$room/fault" "$word" --to 0.5ns
+done
+for word in candump settings; do
   printf '%s\n' "$tick" > "$room/fault"
   runs "a tick that is none, $word" examples/clean_500k.toml 2 "$room/none" "$room/fault" "$word" --tick 1ms
 done

@@ -3,6 +3,7 @@
 
 usage: page.py PROGRAM [PLAN..]               the pages of these plans and of IDLE; without one those of all examples, another one with ticks of 125 ps, and the pages of some sweeps
        page.py PROGRAM --sweeps               the pages of sweeps alone
+       page.py PROGRAM --part PLAN [WORD..]   the page of a window of a run, by these words, or of a run that is too long for one page
        page.py PROGRAM --busy [SECONDS]       how long the page of 16 nodes with 60,000 quanta each takes to open; it may be 2 seconds
        page.py PROGRAM --lint                 the scripts of the pages by a linter: node's reader, and the rules of RULES
        page.py PROGRAM --plans                each plan of the repository, as the script of a page reads it (by node) and as Python's tomllib does
@@ -50,6 +51,8 @@ def said(program, *words, status=(0,)):
     return ran.stdout.decode()
 
 
+# windows of runs: around an error, within a frame, and of a plan whose run is long what its page shows by itself
+PARTS = [("burst.toml", ["--from", "95000", "--to", "135000"]), ("clean_500k.toml", ["--from", "150001", "--to", "220001"]), ("six_ecus.toml", [])]
 NOTES = ("no frame has edges", "each sender has one frame more")  # on the plan, and of no cell
 
 
@@ -529,6 +532,41 @@ def run_faults(program, plan, browser, folder, words=()):
     return len(check.wrong)
 
 
+def part_faults(program, plan, browser, folder, words=()):
+    """The page of a part of a run: of a window, or, without its words, of what the page of a long run shows by itself."""
+    page = folder / (Path(plan).stem + "_part.html")
+    said(program, "page", *words, plan, "-o", page)
+    took, check = browser.open(f"file://{page}"), Checked(browser)
+    low, high, end = (int(number) for number in re.search(r'<pre id="part" hidden>(\d+) (\d+) (\d+)', page.read_text()).groups())
+    window = ["--from", str(low), "--to", str(high)]
+    events = events_of(said(program, "trace", *window, plan))
+    changes, last = changes_of(said(program, "vcd", *window, plan))
+    check.same("document.documentElement.dataset.ready", "yes", "drawn whole")
+    check.want(check.shown() == (low, high) and last == high, f"ticks {low} to {high} aren't shown, but {check.shown()}")
+    shown = check.said("shown")
+    for wanted in (time_said(low, 1000), time_said(high, 1000), time_said(end, 1000), f"--from {high} --to {min(end, 2 * high - low)}"):
+        check.want(wanted in shown, f"it doesn't say {wanted}, but {shown}")
+    count = {kind: sum(what.split(" ")[0] == kind for *_, what in events) for kind in ("sent", "received", "error")}
+    for wanted in (f"in this part {count['sent']} frame", f"{count['received']} received", f"{count['error']} error"):
+        check.want(wanted in check.said("counted"), f"it doesn't count {wanted}, but {check.said('counted')}")
+    report = said(program, "run", "--brief", plan)
+    check.same("document.getElementById('report').textContent.trim()", report.strip(), "report")
+    errors = [tick for tick, *_, what in events if what.startswith("error ")]
+    browser.value("plot.focus()")
+    browser.press("e")
+    if errors: check.want(time_said(errors[0], 1000) in check.said("reading"), f"e doesn't lead to the first error, at {errors[0]}, but says {check.said('reading')}")
+    browser.press("Escape")
+    browser.press("0")
+    figure_faults(check, browser, program, plan, ())
+    for number, (letter, name) in [(number, one) for number in range(browser.value("nodes.length")) for one in (("t", "drives"), ("r", "finds"))]:
+        ticks, levels = changes[letter + str(number)]
+        check.same(f"[nodes[{number}].{name}.times, nodes[{number}].{name}.values]", [list(ticks), list(levels)], f"node {number} {name}")
+    check.want(not browser.said, f"the console says {browser.said}")
+    check.want(page.stat().st_size <= 5_000_000 and took < 2000, f"{page.stat().st_size:,} bytes, shown after {took / 1000:.2f} s")
+    print(f"part {low} to {high} of {Path(plan).stem}: {page.stat().st_size:,} bytes, {len(events)} events, shown after {took / 1000:.2f} s", *check.wrong, sep="\n  ")
+    return len(check.wrong)
+
+
 def word_of(told):
     """How a row of a sweep is coloured, by what the sweep says."""
     return "failing" if "\nfirst that isn't: " in told else "refused" if "\nfirst refused: " in told else "clean"
@@ -611,7 +649,7 @@ RULES = [
     (r"innerHTML|outerHTML|insertAdjacentHTML|document\.write", "HTML made of text"), (r"https?://(?!www\.w3\.org/)|\bfetch\b|XMLHttpRequest|\bimport\b", "a network"),
     (r"\S\s$", "a blank at the end"), (r"^.{181}", "a line of more than 180 columns"),
 ]
-MOST_LINES = 1200
+MOST_LINES = 1300
 
 
 def lint_faults(name, script, folder):
@@ -713,6 +751,7 @@ def main():
         if words[:1] == ["--commands"]: sys.exit(commands(program, folder))
         if not is_here(): sys.exit("no chromium here")
         with Browser() as browser:
+            if words[:1] == ["--part"]: sys.exit(part_faults(program, words[1], browser, folder, words[2:]) > 0)
             if words[:1] == ["--busy"]: sys.exit(busy(program, float((words + ["2", "2"])[1]), browser, folder))
             if words[:1] == ["--picture"]:
                 page = folder / "page.html"
@@ -725,10 +764,12 @@ def main():
             (folder / "idle.toml").write_text(IDLE)
             plans = [] if words == ["--sweeps"] else [*(words or sorted((TOP / "examples").glob("*.toml"))), folder / "idle.toml"]
             sweeps = SWEEPS if words in ([], ["--sweeps"]) else []
+            parts = PARTS if not words else []
             wrong = sum(run_faults(program, plan, browser, folder) for plan in plans)
             if not words: wrong += run_faults(program, TOP / "examples" / "burst.toml", browser, folder, TICKED)
+            wrong += sum(part_faults(program, TOP / "examples" / name, browser, folder, window) for name, window in parts)
             wrong += sum(sweep_faults(program, name, asked, browser, folder) for name, asked in sweeps)
-    print(f"{len(plans) + len(sweeps)} pages, {wrong} faults")
+    print(f"{len(plans) + len(parts) + len(sweeps)} pages, {wrong} faults")
     sys.exit(1 if wrong else 0)
 
 

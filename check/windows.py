@@ -3,10 +3,12 @@
 usage: check/windows.py PROGRAM [--plans N] [--seed N]
 
 Plans are random ones, of which most are refused for nothing and many have errors. Each is asked for a window at random, whose ends are often ticks of
-the text itself: `trace` also for one node and one kind of events, `records`, `candump` at ticks of a microsecond, which its times have whole, and
-`run --brief`.
+the text itself: `trace` also for one node and one kind of events, `records`, `candump` at ticks of a microsecond, which its times have whole, `vcd`,
+of one plan in five also the texts of `page`, and `run --brief`.
 """
+import html
 import random
+import re
 import sys
 
 sys.dont_write_bytecode = True
@@ -45,6 +47,42 @@ def words_of(first_word, window):
     return words
 
 
+def name_of(line):
+    """The signal that a line of a dump is about."""
+    return line.split()[1] if line[0] in "rs" else line[1:].rstrip()
+
+
+def wave_part(whole, window):
+    """The waveform of a window by that of the whole run: all values at its first tick, or the last of the run if it begins later, and the changes after it."""
+    head, rest = whole.split("$dumpvars\n")
+    first, later = rest.split("$end\n", 1)
+    values, ticks, last = {name_of(line): line for line in first.splitlines(True)}, {}, 0
+    for line in later.splitlines(True):
+        if line[0] == "#": last = int(line[1:])
+        else: ticks.setdefault(last, []).append(line)
+    low = min(window[0] or 0, max(0, last - 1))
+    high = max(low, last if window[1] is None else min(window[1], last))
+    for tick, lines in ticks.items():
+        if tick <= low: values.update((name_of(line), line) for line in lines)
+    changes = [line for tick, lines in ticks.items() if low < tick < high for line in (f"#{tick}\n", *lines)]
+    return "".join([head.rsplit("#", 1)[0], f"#{low}\n$dumpvars\n", *values.values(), "$end\n", *changes, f"#{high}\n"])
+
+
+def texts_of(page):
+    return {name: html.unescape(found) for name, found in re.findall(r'<pre id="(\w+)"[^>]*>(.*?)</pre>', page, re.S)}
+
+
+def compare_page(tally, program, text, window):
+    """Compares the texts of a window's page with what the commands write of the window."""
+    words = words_of("--from", window)
+    page = asked(program, "page", *words, text=text)[0]
+    found, brief = texts_of(page), [] if not words else ["--brief"]
+    if window[0] in (None, 0) and window[1] is None: brief = []
+    wanted = {"trace": asked(program, "trace", *words, text=text)[0], "wave": asked(program, "vcd", *words, text=text)[0],
+              "report": asked(program, "run", *brief, text=text)[0], "traffic": asked(program, "traffic", text=text)[0]}
+    tally.compare("page", "page", text, {name: found[name] for name in wanted}, wanted)
+
+
 def compare(tally, program, rng, text):
     """Compares each command on one plan."""
     whole, _, status = asked(program, "trace", text=text)
@@ -62,6 +100,10 @@ def compare(tally, program, rng, text):
         window = random_window(rng, [tick_of(line) for line in lines])
         shown = "".join(line for line in lines if is_within(window, tick_of(line)))
         tally.compare("window", word, text, asked(program, word, *more, *words_of(first, window), text=text), (shown, "", 0))
+    whole = asked(program, "vcd", text=text)[0]
+    window = random_window(rng, [int(line[1:]) for line in whole.splitlines() if line[0] == "#"])
+    tally.compare("window", "vcd", text, asked(program, "vcd", *words_of("--from", window), text=text), (wave_part(whole, window), "", 0))
+    if rng.random() < 0.2: compare_page(tally, program, text, window)
     shown = "".join(line for line in asked(program, "run", text=text)[0].splitlines(True) if not line.startswith("frame "))
     workers = rng.choice([[], [], [], ["--workers", "2"]])
     tally.compare("brief", "run", text, asked(program, "run", "--brief", *workers, text=text), (shown, "", 0))

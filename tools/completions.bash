@@ -17,7 +17,7 @@ _wireline() {
     records) options+=' --from --to' ;;
     trace) options+=' --from --to --node --only --format' ;;
     candump) options+=' --tick --from --since --to' ;;
-    vcd | page) options+=' --tick' ;;
+    vcd | page) options+=' --tick --from --to' ;;
     merge | horizon) options+=' --wide' ;;
     margin) options+=' --tick --all-send --format' ;;
     respond) options+=' --tick --any-data --strict --format' ;;

@@ -11,6 +11,7 @@ pub mod Responded
 pub mod TrafficRun
 pub mod Workers
 pub mod Keeping
+pub mod Shown
 pub mod Paged
 pub mod Output
 pub mod View

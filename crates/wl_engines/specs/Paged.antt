@@ -1,5 +1,5 @@
 -- The page of a run goes out (this project's profile).
-use Rattle.std.specs.Prelude.{◌≡◌, ◌≢◌, ℕ, List, Result, Ok, Err, string_bytes}
+use Rattle.std.specs.Prelude.{◌≡◌, ◌≢◌, ℕ, not, List, Option, Some, None, Result, Ok, Err, string_bytes}
 use Rattle.wl_device.specs.Bounded.{ReadsUpTo}
 use Rattle.wl_device.specs.Devices.{Answer, Writes}
 use Rattle.wl_device.specs.declared.bounded.Ended.{Ended}
@@ -18,18 +18,22 @@ use Rattle.wl_setup.specs.declared.fault.SetupFault.TheVariants as setup
 use Rattle.wl_traffic.specs.Traffic.{traffic_text}
 use Rattle.wl_views.specs.declared.tick.Tick.{Tick}
 use Rattle.wl_views.specs.Ticks.{tick_picoseconds}
-use Rattle.wl_views.specs.TraceText.{trace_text}
+use Rattle.wl_views.specs.declared.window.Window.{Window}
+use Rattle.wl_views.specs.Picks.{trace_text}
 use Rattle.wl_views.specs.Vcd.{vcd_text}
 use Rattle.wl_engines.specs.Explained.{bus_answer}
+use Rattle.wl_engines.specs.Plans.{shown_totals}
 use Rattle.wl_engines.specs.Ran.{Ran}
+use Rattle.wl_engines.specs.Shown.{is_whole_run, shown_by, shown_text, pick_of}
 use Rattle.wl_engines.specs.declared.fault.RunFault.{RunFault}
 use Rattle.wl_engines.specs.declared.fault.RunFault.TheVariants.{Setup, Memory}
 use Rattle.wl_engines.specs.declared.run_page.BusTexts.{BusTexts}
 use Rattle.wl_engines.specs.declared.run_page.RunTexts.{RunTexts}
 
--- the page of a bus with its text: what the other commands write of it, each once and whole, and the text itself
-unfoldable pub IsPage : Tick → List ℕ → Bus → List ℕ → Type 0
-IsPage tick text bus whole =
+-- the page of a bus with its text: what the other commands write of it, each once, and the text itself. If the page leaves something out
+-- the report has no lines of frames, and trace and waveform are those of the window that is shown.
+unfoldable pub IsPage : Tick → Option Window → List ℕ → Bus → List ℕ → Type 0
+IsPage tick asked text bus whole =
     (figures settings margin : List ℕ) × IsExplanation bus figures × IsPlanCheck bus.plan bus.names settings
     × IsMarginText (tick_picoseconds tick) bus margin
     × (whole ≡ page_of (record {
@@ -37,10 +41,11 @@ IsPage tick text bus whole =
       settings = settings;
       margin = margin;
       traffic = traffic_text tick bus.plan bus.names;
-      report = report_text (totals_of (outcome_of bus.plan));
+      report = report_text (shown_totals (not (is_whole_run (shown_by asked bus.plan))) (totals_of (outcome_of bus.plan)));
       plan = text;
-      trace = trace_text bus.plan bus.names;
-      wave = vcd_text tick bus.plan bus.names;
+      part = shown_text (shown_by asked bus.plan) bus.plan;
+      trace = trace_text (pick_of (shown_by asked bus.plan)) bus.plan bus.names;
+      wave = vcd_text tick (shown_by asked bus.plan) bus.plan bus.names;
     }))
 
 -- what is shown of a bus without a run
@@ -49,17 +54,19 @@ ShowsBus tick bus texts =
     IsExplanation bus (string_bytes texts.figures) × IsPlanCheck bus.plan bus.names (string_bytes texts.settings)
     × IsMarginText (tick_picoseconds tick) bus (string_bytes texts.margin)
 
--- what is shown of a run
-abbrev pub ShowsRun : Tick → Plan → List (List ℕ) → RunTexts → Type 0
-ShowsRun tick plan names texts =
-    (string_bytes texts.traffic ≡ traffic_text tick plan names) × (texts.report.items ≡ report_text (totals_of (outcome_of plan)))
-    × (texts.trace.items ≡ trace_text plan names) × (texts.wave.items ≡ vcd_text tick plan names)
+-- what is shown of a window of a run
+abbrev pub ShowsRun : Tick → Window → Plan → List (List ℕ) → RunTexts → Type 0
+ShowsRun tick shown plan names texts =
+    (string_bytes texts.traffic ≡ traffic_text tick plan names)
+    × (texts.report.items ≡ report_text (shown_totals (not (is_whole_run shown)) (totals_of (outcome_of plan))))
+    × (string_bytes texts.part ≡ shown_text shown plan)
+    × (texts.trace.items ≡ trace_text (pick_of shown) plan names) × (texts.wave.items ≡ vcd_text tick shown plan names)
 
-module _ {T : Type 0} (takes : T → Answer → T → Type 0) (tick : Tick) (text : List ℕ) (t t' : T) where
+module _ {T : Type 0} (takes : T → Answer → T → Type 0) (tick : Tick) (asked : Option Window) (text : List ℕ) (t t' : T) where
   -- the page of the text's bus went out, as far as it went
   abbrev pub WritesPage : Result (Unit {0}) WriteFault → Type 0
   WritesPage r =
-      (bus : Bus) × (whole : List ℕ) × (bus_answer text ≡ Ok bus) × IsPage tick text bus whole × Writes takes t whole r t'
+      (bus : Bus) × (whole : List ℕ) × (bus_answer text ≡ Ok bus) × IsPage tick asked text bus whole × Writes takes t whole r t'
 
   -- the first fault of the text, which is not out of memory
   abbrev pub RefusesText : RunFault → Type 0
@@ -71,13 +78,20 @@ module _ {T : Type 0} (takes : T → Answer → T → Type 0) (tick : Tick) (tex
   PagesText = Ran RefusesText WritesPage t t'
 
 -- what was done with what was read, by how the reading ended
-abbrev pub PagesReading : {T : Type 0} → (T → Answer → T → Type 0) → Tick → Ended → List ℕ → T → T → Result (Unit {0}) RunFault → Type 0
-PagesReading takes tick ended.End text t t' r = PagesText takes tick text t t' r
-PagesReading takes tick ended.Broken text t t' r = (r ≡ Err (Setup setup.Read)) × (t' ≡ t)
-PagesReading takes tick ended.Full text t t' r = (r ≡ Err (Setup setup.Size)) × (t' ≡ t)
+abbrev pub PagesReading : {T : Type 0} → (T → Answer → T → Type 0) → Tick → Option Window → Ended → List ℕ → T → T → Result (Unit {0}) RunFault → Type 0
+PagesReading takes tick asked ended.End text t t' r = PagesText takes tick asked text t t' r
+PagesReading takes tick asked ended.Broken text t t' r = (r ≡ Err (Setup setup.Read)) × (t' ≡ t)
+PagesReading takes tick asked ended.Full text t t' r = (r ≡ Err (Setup setup.Size)) × (t' ≡ t)
 
 -- what a page's run did: memory ran out and the writer wasn't called, or that with what the reader gave in one reading
+abbrev pub PagesAsked : {S T : Type 0} → (S → Answer → S → Type 0) → (T → Answer → T → Type 0) → Tick → Option Window → S → S → T → T → Result (Unit {0}) RunFault → Type 0
+PagesAsked gives takes tick asked s s' t t' (Err Memory) = t' ≡ t
+PagesAsked gives takes tick asked s s' t t' r =
+    (text : List ℕ) × (e : Ended) × ReadsUpTo gives s most_bytes text e s' × PagesReading takes tick asked e text t t' r
+
+-- of all of the run, and of a window
 abbrev pub Pages : {S T : Type 0} → (S → Answer → S → Type 0) → (T → Answer → T → Type 0) → Tick → S → S → T → T → Result (Unit {0}) RunFault → Type 0
-Pages gives takes tick s s' t t' (Err Memory) = t' ≡ t
-Pages gives takes tick s s' t t' r =
-    (text : List ℕ) × (e : Ended) × ReadsUpTo gives s most_bytes text e s' × PagesReading takes tick e text t t' r
+Pages gives takes tick s s' t t' r = PagesAsked gives takes tick None s s' t t' r
+
+abbrev pub PagesWithin : {S T : Type 0} → (S → Answer → S → Type 0) → (T → Answer → T → Type 0) → Tick → Window → S → S → T → T → Result (Unit {0}) RunFault → Type 0
+PagesWithin gives takes tick window s s' t t' r = PagesAsked gives takes tick (Some window) s s' t t' r

@@ -19,7 +19,7 @@ use Rattle.wl_views.specs.declared.tick.Tick.{Tick}
 use Rattle.wl_views.specs.Candump.{log_text}
 use Rattle.wl_views.specs.Vcd.{vcd_text}
 use Rattle.wl_views.specs.declared.pick.Pick.{Pick}
-use Rattle.wl_views.specs.Picks.{picked_text}
+use Rattle.wl_views.specs.Picks.{trace_text}
 use Rattle.wl_views.specs.declared.window.Window.{Window}
 use Rattle.wl_views.specs.Windows.{is_within}
 use Rattle.wl_setup.specs.declared.fault.SetupFault.TheVariants as setup
@@ -81,13 +81,17 @@ IsCandumpWithin tick from window plan names text = text ≡ log_text tick from w
 abbrev pub IsCandumpOutput : Tick → ℕ → Plan → List (List ℕ) → List ℕ → Type 0
 IsCandumpOutput tick from = IsCandumpWithin tick from whole
 
--- the waveform of the one-thread simulation, at ticks that last so long, under the names of the nodes
+-- the waveform of a window of the one-thread simulation, at ticks that last so long, under the names of the nodes
+abbrev pub IsVcdWithin : Tick → Window → Plan → List (List ℕ) → List ℕ → Type 0
+IsVcdWithin tick window plan names text = text ≡ vcd_text tick window plan names
+
+-- all of it
 abbrev pub IsVcdOutput : Tick → Plan → List (List ℕ) → List ℕ → Type 0
-IsVcdOutput tick plan names text = text ≡ vcd_text tick plan names
+IsVcdOutput tick = IsVcdWithin tick whole
 
 -- the lines of the trace of the one-thread simulation that are picked, under the names of the nodes
 abbrev pub IsTracePicked : Pick → Plan → List (List ℕ) → List ℕ → Type 0
-IsTracePicked pick plan names text = text ≡ picked_text pick plan names
+IsTracePicked pick plan names text = text ≡ trace_text pick plan names
 
 -- all of them
 abbrev pub IsTraceOutput : Plan → List (List ℕ) → List ℕ → Type 0

@@ -2,7 +2,7 @@
 use Rattle.std.specs.Prelude.{ℕ, List}
 use Rattle.wl_plan.specs.declared.plan.Plan.{Plan}
 use Rattle.wl_setup.specs.Check.{IsPlanCheck}
-use Rattle.wl_engines.specs.Plans.{IsRecordsWithin, IsReportOutput, IsTracePicked, IsCandumpWithin, IsVcdOutput}
+use Rattle.wl_engines.specs.Plans.{IsRecordsWithin, IsReportOutput, IsTracePicked, IsCandumpWithin, IsVcdWithin}
 use Rattle.wl_engines.specs.declared.view.View.{View}
 use Rattle.wl_engines.specs.declared.view.View.TheVariants.{Check, Records, Report, Trace, Candump, Vcd}
 
@@ -13,4 +13,4 @@ IsOutputOf (Records window) = IsRecordsWithin window
 IsOutputOf (Report brief) = IsReportOutput brief
 IsOutputOf (Trace pick) = IsTracePicked pick
 IsOutputOf (Candump tick from window) = IsCandumpWithin tick from window
-IsOutputOf (Vcd tick) = IsVcdOutput tick
+IsOutputOf (Vcd tick window) = IsVcdWithin tick window

@@ -29,6 +29,7 @@ mod reader;
 mod records;
 mod respond;
 mod run_page;
+mod shown;
 mod traffic;
 mod view;
 mod views;
@@ -46,9 +47,11 @@ pub use plan::{plan_run, plan_run_as};
 pub use reader::TextReader;
 pub use records::{records_run, records_run_within};
 pub use respond::respond_run;
-pub use run_page::page_run;
+pub use run_page::{page_run, page_run_within};
 pub use traffic::traffic_run;
-pub use views::{candump_run, candump_run_within, picked_trace_run, trace_run, vcd_run};
+pub use views::{
+    candump_run, candump_run_within, picked_trace_run, trace_run, vcd_run, vcd_run_within,
+};
 pub use wl_traffic::Reason;
 pub use wl_worker::LinkKind;
 pub use workers::{Crew, workers_run, workers_run_as, workers_run_by};

@@ -1,38 +1,42 @@
 //! A run of a plan as one page.
 ghost use Rattle.std.specs.Prelude.{◌≡◌, IfOk, length};
 ghost use Rattle.wl_report.specs.Report.{report_text};
-ghost use Rattle.wl_serial.specs.Outcome.{outcome_of, totals_of};
+ghost use Rattle.wl_serial.specs.Outcome.{drives_of, outcome_of, totals_of};
 ghost use Rattle.wl_views.specs.Vcd.{vcd_text};
-ghost use Rattle.wl_engines.specs.Paged.{IsPage, Pages, PagesText, ShowsBus, ShowsRun};
+ghost use Rattle.wl_engines.specs.Paged.{IsPage, Pages, PagesAsked, PagesText, PagesWithin, ShowsBus, ShowsRun};
+ghost use Rattle.wl_engines.specs.Plans.{shown_totals};
+ghost use Rattle.wl_engines.specs.Shown.{shown_by};
 
 use crate::fault::RunFault;
 use crate::kept::Kept;
 use crate::output::write_made;
+use crate::plan::report_as;
+use crate::shown::{is_whole_run, pick_of, shown_by, shown_text};
 use std::alloc::{AllocError, Global};
 use wl_device::{Ended, Sink, Source};
 use wl_explain::explain_found;
 use wl_margin::margin_of;
 use wl_page::{Texts, page};
 use wl_plan::CheckedPlan;
-use wl_report::report_of_totals;
-use wl_serial::{Outcome, run_serial};
+use wl_serial::{Drives, Outcome, run_serial};
 use wl_setup::{Bus, Names, SetupFault, bus_of_bytes, check_plan, read_bytes};
 use wl_traffic::traffic_of;
-use wl_views::{Tick, trace, vcd};
+use wl_views::{Tick, Window, trace, vcd};
 
-/// Returns the waveform of a plan's simulation, whole.
+/// Returns the waveform of a window of a plan's simulation.
 fn wave_of(
     alloc: Global,
     tick: Tick,
+    window: Window,
     plan: &CheckedPlan,
     names: &Names,
-    outcome: &Outcome,
+    drives: &Drives,
 ) -> Result<Vec<u8>, AllocError>
-    requires outcome { outcome.now ≡ outcome_of plan.now }
-    ensures { IfOk result (λ text. text.items ≡ vcd_text tick plan.now names.now) }
+    requires drives { drives.now ≡ drives_of (outcome_of plan.now) }
+    ensures { IfOk result (λ text. text.items ≡ vcd_text tick window plan.now names.now) }
 {
     let mut kept = Kept::new(alloc);
-    match vcd(alloc, tick, plan, names, outcome, &mut kept) {
+    match vcd(alloc, tick, window, plan, names, drives, &mut kept) {
         Ok(()) => Ok(kept.bytes),
         Err(_) => Err(AllocError),
     }
@@ -66,61 +70,74 @@ fn bus_texts(alloc: Global, tick: Tick, bus: &Bus) -> Result<BusTexts, AllocErro
 struct RunTexts {
     traffic: String,
     report: Vec<u8>,
+    part: String,
     trace: Vec<u8>,
     wave: Vec<u8>,
 }
 
-/// Returns the report of a run.
-fn report_of_run(alloc: Global, outcome: &Outcome) -> Result<Vec<u8>, AllocError>
-    ensures { IfOk result (λ text. text.items ≡ report_text (totals_of outcome.now)) }
+/// Returns the report of a run, without the lines of frames if it is to be brief.
+fn report_of_run(alloc: Global, brief: bool, outcome: &Outcome) -> Result<Vec<u8>, AllocError>
+    ensures { IfOk result (λ text. text.items ≡ report_text (shown_totals brief (totals_of outcome.now))) }
 {
     let totals = outcome.totals(alloc)?;
-    report_of_totals(alloc, &totals)
+    report_as(alloc, brief, &totals)
 }
 
-/// Returns what the page shows of a run of a plan, which has this outcome.
+/// Returns what the page shows of a window of a run of a plan, which has this outcome.
 fn run_texts_of(
     alloc: Global,
     tick: Tick,
+    shown: Window,
     plan: &CheckedPlan,
     names: &Names,
     outcome: &Outcome,
 ) -> Result<RunTexts, AllocError>
     requires outcome { outcome.now ≡ outcome_of plan.now }
-    ensures { IfOk result (ShowsRun tick plan.now names.now) }
+    ensures { IfOk result (ShowsRun tick shown plan.now names.now) }
 {
     let traffic = traffic_of(alloc, tick, plan, names, outcome)?.text;
-    let report = report_of_run(alloc, outcome)?;
-    let trace = trace(alloc, plan, names, outcome)?;
-    let wave = wave_of(alloc, tick, plan, names, outcome)?;
+    let report = report_of_run(alloc, !is_whole_run(shown), outcome)?;
+    let part = shown_text(alloc, shown, plan, outcome)?;
+    let trace = trace(alloc, &pick_of(shown), plan, names, outcome)?;
+    let drives = outcome.drives(alloc)?;
+    let wave = wave_of(alloc, tick, shown, plan, names, &drives)?;
     Ok(RunTexts {
         traffic,
         report,
+        part,
         trace,
         wave,
     })
 }
 
-/// Returns what the page shows of a simulation of a plan, which is run once.
+/// Returns what a page shows of a simulation of a plan, which is run once.
 fn run_texts(
     alloc: Global,
     tick: Tick,
+    asked: Option<Window>,
     plan: &CheckedPlan,
     names: &Names,
 ) -> Result<RunTexts, AllocError>
-    ensures { IfOk result (ShowsRun tick plan.now names.now) }
+    ensures { IfOk result (ShowsRun tick (shown_by asked plan.now) plan.now names.now) }
 {
     let outcome = run_serial(alloc, plan)?;
-    run_texts_of(alloc, tick, plan, names, &outcome)
+    let shown = shown_by(alloc, asked, plan, &outcome)?;
+    run_texts_of(alloc, tick, shown, plan, names, &outcome)
 }
 
 /// Returns the page of a bus, whose text is given: the simulation of its plan is run once.
-fn page_of_bus(alloc: Global, tick: Tick, text: &[u8], bus: &Bus) -> Result<Vec<u8>, AllocError>
+fn page_of_bus(
+    alloc: Global,
+    tick: Tick,
+    asked: Option<Window>,
+    text: &[u8],
+    bus: &Bus,
+) -> Result<Vec<u8>, AllocError>
     requires deviations { length bus.now.deviations ≡ length bus.now.plan.nodes }
-    ensures { IfOk result (λ whole. IsPage tick text.now bus.now whole.items) }
+    ensures { IfOk result (λ whole. IsPage tick asked text.now bus.now whole.items) }
 {
     let known = bus_texts(alloc, tick, bus)?;
-    let run = run_texts(alloc, tick, &bus.plan, &bus.names)?;
+    let run = run_texts(alloc, tick, asked, &bus.plan, &bus.names)?;
     page(
         alloc,
         &Texts {
@@ -130,6 +147,7 @@ fn page_of_bus(alloc: Global, tick: Tick, text: &[u8], bus: &Bus) -> Result<Vec<
             traffic: run.traffic.as_bytes(),
             report: &run.report,
             plan: text,
+            part: run.part.as_bytes(),
             trace: &run.trace,
             wave: &run.wave,
         },
@@ -140,14 +158,33 @@ fn page_of_bus(alloc: Global, tick: Tick, text: &[u8], bus: &Bus) -> Result<Vec<
 fn page_text<W: Sink>(
     alloc: Global,
     tick: Tick,
+    asked: Option<Window>,
     text: &[u8],
     writer: &mut W,
 ) -> Result<(), RunFault>
-    ensures { PagesText W.takes tick text.now writer.old writer.new result }
+    ensures { PagesText W.takes tick asked text.now writer.old writer.new result }
 {
     match bus_of_bytes(alloc, text) {
-        Ok(bus) => write_made(page_of_bus(alloc, tick, text, &bus), writer),
+        Ok(bus) => write_made(page_of_bus(alloc, tick, asked, text, &bus), writer),
         Err(fault) => Err(RunFault::from(fault)),
+    }
+}
+
+/// Writes the page of a window of a plan's run if one is given, and else of all of it.
+fn page_asked<R: Source, W: Sink>(
+    alloc: Global,
+    tick: Tick,
+    asked: Option<Window>,
+    reader: &mut R,
+    writer: &mut W,
+) -> Result<(), RunFault>
+    ensures { PagesAsked R.gives W.takes tick asked reader.old reader.new writer.old writer.new result }
+{
+    let (text, ended) = read_bytes(alloc, reader)?;
+    match ended {
+        Ended::End => page_text(alloc, tick, asked, &text, writer),
+        Ended::Broken => Err(RunFault::Setup(SetupFault::Read)),
+        Ended::Full => Err(RunFault::Setup(SetupFault::Size)),
     }
 }
 
@@ -164,10 +201,21 @@ pub fn page_run<R: Source, W: Sink>(
 ) -> Result<(), RunFault>
     ensures { Pages R.gives W.takes tick reader.old reader.new writer.old writer.new result }
 {
-    let (text, ended) = read_bytes(alloc, reader)?;
-    match ended {
-        Ended::End => page_text(alloc, tick, &text, writer),
-        Ended::Broken => Err(RunFault::Setup(SetupFault::Read)),
-        Ended::Full => Err(RunFault::Setup(SetupFault::Size)),
-    }
+    page_asked(alloc, tick, None, reader, writer)
+}
+
+/// Does as `page_run`, but trace and waveform are those of a window, and the report has no lines of frames.
+///
+/// The run may be longer than a page shows. If `window` leaves out no tick then, the page is of a window around the first error. It is of the
+/// begin if there is none.
+pub fn page_run_within<R: Source, W: Sink>(
+    alloc: Global,
+    tick: Tick,
+    window: Window,
+    reader: &mut R,
+    writer: &mut W,
+) -> Result<(), RunFault>
+    ensures { PagesWithin R.gives W.takes tick window reader.old reader.new writer.old writer.new result }
+{
+    page_asked(alloc, tick, Some(window), reader, writer)
 }

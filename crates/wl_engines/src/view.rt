@@ -31,8 +31,8 @@ pub(crate) enum View {
     Trace(Pick),
     /// The log of the frames that were sent within a window, at ticks that take so long, the first of them at this second.
     Candump(Tick, u32, Window),
-    /// The waveform, at ticks that take so long.
-    Vcd(Tick),
+    /// The waveform of a window, at ticks that take so long.
+    Vcd(Tick, Window),
 }
 
 /// Writes a view of a plan under these names of its nodes. If memory runs out the writer isn't called.
@@ -53,7 +53,7 @@ fn write_view<W: Sink>(
         View::Candump(tick, from, window) => {
             write_made(log_text(alloc, tick, from, window, plan), writer)
         }
-        View::Vcd(tick) => write_wave(alloc, tick, plan, names, writer),
+        View::Vcd(tick, window) => write_wave(alloc, tick, window, plan, names, writer),
     }
 }
 

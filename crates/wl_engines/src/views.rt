@@ -1,18 +1,19 @@
 //! Views of a plan's simulation in the formats of other tools.
 ghost use Rattle.std.specs.Prelude.{◌≡◌, IfOk};
 ghost use Rattle.wl_views.specs.Candump.{log_text};
-ghost use Rattle.wl_views.specs.Picks.{picked_text};
+ghost use Rattle.wl_views.specs.Picks.{trace_text};
 ghost use Rattle.wl_engines.specs.Output.{Outputs};
-ghost use Rattle.wl_engines.specs.Plans.{RunsPlan, IsCandumpOutput, IsCandumpWithin, IsTraceOutput, IsTracePicked, IsVcdOutput};
+ghost use Rattle.wl_engines.specs.Plans.{RunsPlan, IsCandumpOutput, IsCandumpWithin, IsTraceOutput, IsTracePicked, IsVcdOutput, IsVcdWithin};
 
 use crate::fault::RunFault;
+use crate::shown::pick_of;
 use crate::view::{View, WHOLE, run_view};
 use std::alloc::{AllocError, Global};
 use wl_device::{Sink, Source};
 use wl_plan::CheckedPlan;
-use wl_serial::{run_serial, run_totals};
+use wl_serial::{run_drives, run_serial, run_totals};
 use wl_setup::Names;
-use wl_views::{Pick, Tick, Window, candump, picked_trace, sent_in_time, vcd};
+use wl_views::{Pick, Tick, Window, candump, sent_in_time, trace, vcd};
 
 /// Returns the log of the frames that a plan's simulation sent within a window. Its nodes only count.
 pub(crate) fn log_text(
@@ -62,27 +63,42 @@ pub fn candump_run<R: Source, W: Sink>(
     candump_run_within(alloc, tick, from, WHOLE, reader, writer)
 }
 
-/// Writes the waveform of a plan's simulation by pieces, as it is found. Memory is asked for before the first of them.
+/// Writes the waveform of a window of a plan's simulation by pieces, as it is found. The nodes only count. Memory is asked for before the
+/// first piece.
 pub(crate) fn write_wave<W: Sink>(
     alloc: Global,
     tick: Tick,
+    window: Window,
     plan: &CheckedPlan,
     names: &Names,
     writer: &mut W,
 ) -> Result<(), RunFault>
-    ensures { Outputs W.takes (IsVcdOutput tick plan.now names.now) writer.old writer.new result }
+    ensures { Outputs W.takes (IsVcdWithin tick window plan.now names.now) writer.old writer.new result }
 {
-    let outcome = run_serial(alloc, plan)?;
-    vcd(alloc, tick, plan, names, &outcome, writer)?;
+    let drives = run_drives(alloc, plan)?;
+    vcd(alloc, tick, window, plan, names, &drives, writer)?;
     Ok(())
 }
 
-/// Reads a plan's text, simulates the plan, and writes the waveform as a Value Change Dump (IEEE 1364-2005, clause 18.2). Of each node that
-/// is its drive, what it finds on the line, the cable and the disturbances at its place, its samples and bit starts, and its state. A tick
-/// of the plan takes as long as `tick` says.
+/// Reads a plan's text, simulates the plan, and writes the waveform of a window as a Value Change Dump (IEEE 1364-2005, clause 18.2). Of each
+/// node that is its drive, what it finds on the line, the cable and the disturbances at its place, its samples and bit starts, and its
+/// state. A tick of the plan takes as long as `tick` says. First are all values at the window's first tick, then the changes after it.
 ///
 /// The output goes out by pieces, as it is found; memory is asked for before the first of them. If the input is refused, or memory runs
 /// out, the writer isn't called; if the writer fails, a prefix of the output has been written.
+pub fn vcd_run_within<R: Source, W: Sink>(
+    alloc: Global,
+    tick: Tick,
+    window: Window,
+    reader: &mut R,
+    writer: &mut W,
+) -> Result<(), RunFault>
+    ensures { RunsPlan R.gives W.takes (IsVcdWithin tick window) reader.old reader.new writer.old writer.new result }
+{
+    run_view(alloc, View::Vcd(tick, window), reader, writer)
+}
+
+/// Does as `vcd_run_within`, and leaves out no change.
 pub fn vcd_run<R: Source, W: Sink>(
     alloc: Global,
     tick: Tick,
@@ -91,7 +107,7 @@ pub fn vcd_run<R: Source, W: Sink>(
 ) -> Result<(), RunFault>
     ensures { RunsPlan R.gives W.takes (IsVcdOutput tick) reader.old reader.new writer.old writer.new result }
 {
-    run_view(alloc, View::Vcd(tick), reader, writer)
+    vcd_run_within(alloc, tick, WHOLE, reader, writer)
 }
 
 /// Returns the lines of the trace of a plan's simulation that are picked, under these names of its nodes.
@@ -101,10 +117,10 @@ pub(crate) fn trace_text(
     plan: &CheckedPlan,
     names: &Names,
 ) -> Result<Vec<u8>, AllocError>
-    ensures { IfOk result (λ text. text.items ≡ picked_text pick plan.now names.now) }
+    ensures { IfOk result (λ text. text.items ≡ trace_text pick plan.now names.now) }
 {
     let outcome = run_serial(alloc, plan)?;
-    picked_trace(alloc, &pick, plan, names, &outcome)
+    trace(alloc, &pick, plan, names, &outcome)
 }
 
 /// Reads a plan's text, simulates the plan, and writes a line for each event of each node that is picked, in the order of their ticks.
@@ -130,10 +146,5 @@ pub fn trace_run<R: Source, W: Sink>(
 ) -> Result<(), RunFault>
     ensures { RunsPlan R.gives W.takes IsTraceOutput reader.old reader.new writer.old writer.new result }
 {
-    let pick = Pick {
-        window: WHOLE,
-        node: None,
-        only: None,
-    };
-    picked_trace_run(alloc, pick, reader, writer)
+    picked_trace_run(alloc, pick_of(WHOLE), reader, writer)
 }

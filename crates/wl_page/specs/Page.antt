@@ -2,7 +2,7 @@
 use Rattle.std.specs.Prelude.{ℕ, List, [], ◌∷◌, ◌++◌, ◌==◌, if◌then◌else◌, codes}
 use Rattle.std.specs.List.{flat_map}
 use Rattle.wl_page.specs.declared.texts.Texts.{Texts}
-use Rattle.wl_page.specs.declared.template.TheConstants.{HEAD, TO_SETTINGS, TO_MARGIN, TO_TRAFFIC, TO_REPORT, TO_PLAN, TO_TRACE, TO_WAVE, TO_SCRIPT}
+use Rattle.wl_page.specs.declared.template.TheConstants.{HEAD, TO_SETTINGS, TO_MARGIN, TO_TRAFFIC, TO_REPORT, TO_PLAN, TO_PART, TO_TRACE, TO_WAVE, TO_SCRIPT}
 use Rattle.wl_page.specs.declared.reading.TheConstants.{READING}
 use Rattle.wl_page.specs.declared.drawing.TheConstants.{DRAWING}
 use Rattle.wl_page.specs.declared.moving.TheConstants.{MOVING}
@@ -36,6 +36,7 @@ pub record PageTexts : Type 0 where
   pub traffic : List ℕ
   pub report : List ℕ
   pub plan : List ℕ
+  pub part : List ℕ
   pub trace : List ℕ
   pub wave : List ℕ
 
@@ -48,7 +49,8 @@ page_of texts =
     let to_traffic = with_part to_margin TO_TRAFFIC.now texts.traffic in
     let to_report = with_part to_traffic TO_REPORT.now texts.report in
     let to_plan = with_part to_report TO_PLAN.now texts.plan in
-    let to_trace = with_part to_plan TO_TRACE.now texts.trace in
+    let to_part = with_part to_plan TO_PART.now texts.part in
+    let to_trace = with_part to_part TO_TRACE.now texts.trace in
     with_script (with_part to_trace TO_WAVE.now texts.wave)
 
 -- the texts that are handed over
@@ -60,6 +62,7 @@ texts_of t = record {
   traffic = t.traffic.now;
   report = t.report.now;
   plan = t.plan.now;
+  part = t.part.now;
   trace = t.trace.now;
   wave = t.wave.now;
 }

@@ -22,7 +22,9 @@ const SMALL = "11px system-ui, sans-serif", LARGE = "bold 12px system-ui, sans-s
 const places = () => view.width - LEFT - PAD;
 const place = (tick) => LEFT + ((tick - view.from) / (view.to - view.from)) * places();
 const tickAt = (x) => view.from + ((x - LEFT) / places()) * (view.to - view.from);
-const wholePlace = (tick) => LEFT + ((tick - wave.begin) / (wave.end - wave.begin)) * places();
+// What the strip above has: the whole run, also if only a part of it is shown.
+const strip = run.part ? { begin: 0, end: run.part.end } : wave;
+const wholePlace = (tick) => LEFT + ((tick - strip.begin) / (strip.end - strip.begin)) * places();
 const bitLength = () => run.bits[view.node];
 
 // ---- Numbers
@@ -34,6 +36,9 @@ const digits = (value, decimals = 0) => formats[decimals].format(value);
 const microseconds = (ticks) => `${digits(ticks * TICK, DECIMALS)} us`;
 const timeOf = (ticks) => (view.inTicks ? digits(Math.round(ticks)) : digits(ticks * TICK, DECIMALS));
 const timed = (ticks) => (view.inTicks ? `tick ${timeOf(ticks)}` : microseconds(ticks));
+// A tick of so many picoseconds, and the words for the page of a part.
+const tickWord = (tick) => (tick % 1e6 === 0 ? `${tick / 1e6}us` : tick % 1e3 === 0 ? `${tick / 1e3}ns` : `${tick}ps`);
+const partWords = (from, to) => `./wireline page PLAN${wave.tick === 1000 ? "" : ` --tick ${tickWord(wave.tick)}`} --from ${from} --to ${to}`;
 const bitsOf = (ticks) => `${digits(ticks / bitLength(), 2)} bits`;
 
 // ---- Parts of the picture
@@ -274,16 +279,26 @@ function drawCursors(pen, top, height) {
   }
 }
 
+// The load of each part of the run, by the bits of its frames, without stuff bits, and by a bit of the first node.
+function drawParts(pen, { end, parts }, wide) {
+  parts.forEach(({ bits }, at) => {
+    const high = Math.min(1, (bits * run.bits[0] * parts.length) / end) * (OVERVIEW - 4);
+    pen.fillRect(LEFT + at * wide, OVERVIEW - 2 - high, wide, high);
+  });
+}
+const partsWithErrors = ({ end, parts }) => parts.flatMap(({ errors: found }, at) => (found > 0 ? [((at + 0.5) * end) / parts.length] : []));
+
 // The whole run in a strip: how busy the line is in each column of pixels, where disturbances and errors are, and the part that is shown.
 function drawOverview(pen) {
-  const { frames, frameEnds } = nodes[0].read, scale = places() / (wave.end - wave.begin);
+  const scale = places() / (strip.end - strip.begin);
   pen.fillStyle = ink.field;
-  for (const { from, to } of frames) pen.fillRect(wholePlace(from), 2, Math.max(0.3, (to - from) * scale), OVERVIEW - 4);
+  if (run.part) drawParts(pen, run.part, places() / run.part.parts.length);
+  else for (const { from, to } of nodes[0].read.frames) pen.fillRect(wholePlace(from), 2, Math.max(0.3, (to - from) * scale), OVERVIEW - 4);
   pen.fillStyle = ink.disturb;
   for (const { from, length } of run.disturbances) pen.fillRect(wholePlace(from), OVERVIEW - 4, Math.max(1, length * scale), 3);
   pen.fillStyle = ink.error;
   let drawn = -1;
-  for (const tick of errorTicks) {
+  for (const tick of run.part ? partsWithErrors(run.part) : errorTicks) {
     const x = Math.round(wholePlace(tick));
     if (x !== drawn) pen.fillRect(x - 0.75, 0, 1.5, OVERVIEW);
     drawn = x;

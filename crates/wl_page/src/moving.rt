@@ -7,7 +7,7 @@ pub(crate) const MOVING: &str = r##"
 const status = document.getElementById("status"), reading = document.getElementById("reading"), under = document.getElementById("under");
 
 function say() {
-  const [from, to, end] = [view.from, view.to, wave.end].map(timeOf), shown = bitsOf(view.to - view.from);
+  const [from, to, end] = [view.from, view.to, strip.end].map(timeOf), shown = bitsOf(view.to - view.from);
   status.textContent = view.inTicks ? `ticks ${from} to ${to} of ${end}; ${shown}` : `${from} to ${to} of ${end} us; ${shown}`;
   reading.textContent = [readingOf("cursor", view.cursor), readingOf("mark", view.mark), differenceOf(view.cursor, view.mark)].filter(Boolean).join("; ");
   redraw();
@@ -210,7 +210,7 @@ function belowPointer(hand) {
   const struck = strikersOf(node.number, tick - near, tick + near).map(({ number, where, from, length }) =>
     `disturbance ${number} at ${where}, from ${timed(from)} for ${microseconds(length)}`);
   const found = node.marks.slice(countUpTo(node.ticks, tick - near), countUpTo(node.ticks, tick + near)).map((event) => event.what);
-  const parts = [field && field.from <= tick && wordsOf(field)[0], isWithin && `bit ${sample} is ${levels[sample]}${stuff[sample] ? ", a stuff bit" : ""}`];
+  const parts = [field && field.from <= tick && wordsOf(field)[0], isWithin && `bit ${Number.isNaN(node.firstBit) ? "" : `${sample + node.firstBit} `}is ${levels[sample]}${stuff[sample] ? ", a stuff bit" : ""}`];
   return [`${timed(tick)}, ${node.name}`, ...parts, ...struck, ...found].filter(Boolean).join("; ");
 }
 
@@ -244,11 +244,19 @@ function turn(turned) {
   else zoom(turned.deltaY > 0 ? 1.25 : 0.8, around);
 }
 
+// What a part of the run has that isn't shown, and the words for its page.
+function sayOther({ from, to, end, parts }, tick) {
+  const at = Math.min(parts.length - 1, Math.floor((tick * parts.length) / end)), { frames, errors: found } = parts[at], half = (to - from) / 2;
+  const begin = Math.max(0, Math.floor(tick - half));
+  return `near ${timed(tick)}: ${frames} frames, ${found} errors in a thousandth of the run; its page: ${partWords(begin, Math.ceil(tick + half))}`;
+}
+
 // The strip of the whole run: what is shown goes to the pointer.
 function pickPart(pressed) {
   if (pressed.type === "pointermove" && pressed.buttons === 0) return;
-  const share = Math.min(1, Math.max(0, (xOf(pressed) - LEFT) / places())), tick = wave.begin + share * (wave.end - wave.begin);
+  const share = Math.min(1, Math.max(0, (xOf(pressed) - LEFT) / places())), tick = strip.begin + share * (strip.end - strip.begin);
   if (pressed.type === "pointerdown") axis.setPointerCapture(pressed.pointerId);
+  if (tick < wave.begin || tick > wave.end) { under.textContent = sayOther(run.part, tick); return; }
   show(tick - (view.to - view.from) / 2, tick + (view.to - view.from) / 2);
 }
 

@@ -71,6 +71,7 @@ function readWave(dump) {
     }
   }
   wave.begin = begin ?? 0;
+  wave.last = now;
   wave.end = Math.max(wave.begin + 1, now);
   return wave;
 }
@@ -89,8 +90,15 @@ const isBad = (event) => event.kind === "error" || event.kind === "flag";
 const isFrame = (event) => event.kind === "sent" || event.kind === "received";
 const isSync = (event) => event.kind === "sync";
 
-// How many units of the dump a tick takes: by a sample that the trace names by its tick and its number, else by the end of the plan.
-function unitsOfTick(wave, events, plan) {
+// Which part of the run is shown, {from, to, end} in ticks, and the run in equal parts, {frames, bits, errors}; null if all of it is shown.
+function readPart() {
+  const [[from, to, end], ...lines] = text("part").trim().split("\n").map((line) => line.split(" ").map(Number));
+  return end === undefined ? null : { from, to, end, parts: lines.map(([frames, bits, found]) => ({ frames, bits, errors: found })) };
+}
+
+// How many units of the dump a tick takes: by the end of a part, else by a sample that the trace names by its tick and its number, or by the end of the plan.
+function unitsOfTick(wave, events, plan, part) {
+  if (part) return Math.max(1, Math.round(wave.last / Math.max(1, part.to)));
   const known = events.find((event) => !isSync(event) && event.tick > 0);
   const time = known ? wave.signals.get("s" + known.node).times[known.bit + 1] : wave.end;
   const units = Math.round(time / (known ? known.tick : plan.end));
@@ -296,10 +304,15 @@ function readBits(wave, node) {
     frames.push({ from: fields[first].from, to: fields.at(-1).to, identifier: frame.identifier, isComplete: frame.isComplete });
     return null;
   };
-  let frame = null;
+  let frame = null, isCut = wave.isPart && isFraming(states.values[0]); // a part may begin within a frame
   samples.forEach((tick, sample) => {
     const level = rx.values[rxAt(tick)], framing = isFraming(states.values[stateAt(tick)]), state = states.values[stateBefore(tick - 1)];
     levels[sample] = level;
+    if (isCut) {
+      add(sample, "?", true);
+      isCut = framing;
+      return;
+    }
     if (!isFraming(state)) frame = end(frame);
     if (frame === null && level === 0 && (framing || isFraming(state))) frame = new FrameBits();
     if (frame === null) add(sample, state.replaceAll("_", " "), true);
@@ -338,17 +351,22 @@ class NodeOfRun {
   }
   get read() { return (this.kept ??= readBits(this.wave, this.number)); }
   get steps() { return (this.keptSteps ??= readSteps(this.wave, this.number)); }
+  // The number of its first sample that is shown, by an event; not known in a part without events.
+  get firstBit() {
+    const [known] = this.marks;
+    return known ? known.bit - countUpTo(this.read.samples, known.tick) + 1 : this.wave.isPart ? NaN : 0;
+  }
   get stepTimes() { return (this.keptTimes ??= this.steps.map((step) => step.time)); }
 }
 
 function readRun() {
-  const plan = inUnits(readPlan(text("plan"))), events = readTrace(text("trace")), raw = readWave(text("wave"));
-  const wave = inTicks(raw, unitsOfTick(raw, events, plan));
+  const plan = inUnits(readPlan(text("plan"))), events = readTrace(text("trace")), raw = readWave(text("wave")), part = readPart();
+  const wave = Object.assign(inTicks(raw, unitsOfTick(raw, events, plan, part)), { isPart: part !== null });
   const nodes = wave.nodes.map((_, number) => new NodeOfRun(wave, number));
   for (const event of events) {
     const node = nodes[event.node];
     if (isSync(event)) node.syncs.push(event.tick); else { node.marks.push(event); node.ticks.push(event.tick); }
   }
-  return { plan, wave, nodes, events, bits: readBitLengths(wave.nodes), disturbances: readDisturbances(plan) };
+  return { plan, part, wave, nodes, events, bits: readBitLengths(wave.nodes), disturbances: readDisturbances(plan) };
 }
 "##;

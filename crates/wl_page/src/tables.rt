@@ -44,11 +44,20 @@ function fillEvents() {
   begin();
 }
 
+// Which part of the run the page shows, and how to get another.
+function sayPart({ from, to, end }) {
+  const shown = document.getElementById("shown"), ticks = (tick) => create("span", { "data-tick": tick });
+  shown.hidden = false;
+  shown.append("This page shows a part of the run: from ", ticks(from), " to ", ticks(to), " of ", ticks(end), " ", create("span", { class: "unit" }));
+  shown.append(". Waveform and events are those of this part; traffic, report and margin are those of the whole run. The next part: ", create("code", {}, partWords(to, Math.min(end, 2 * to - from))), ".");
+}
+
 function fillHead() {
   const count = (isCounted) => run.events.filter(isCounted).length, ofKind = (kind) => count((event) => event.kind === kind);
   const parts = [counted(ofKind("sent"), "frame sent", "frames sent"), `${ofKind("received")} received`];
   parts.push(counted(errors.length, "error", "errors"), counted(count(isSync), "synchronisation", "synchronisations"));
-  document.getElementById("counted").textContent = parts.join(", ");
+  document.getElementById("counted").textContent = (run.part ? "in this part " : "") + parts.join(", ");
+  if (run.part) sayPart(run.part);
   const first = document.getElementById("first");
   if (errors.length === 0) return;
   first.hidden = false;

@@ -67,6 +67,7 @@ svg .struck { fill: url(#hatch); stroke: var(--disturb); } svg .hatch { stroke: 
 <header>
 <h1>A run of a CAN bus, by Wireline</h1>
 <p><strong id="verdict"></strong>: <span id="counted"></span>. <button type="button" id="first" class="bad" hidden></button></p>
+<p id="shown" hidden></p>
 </header>
 <main>
 <section id="waves" aria-labelledby="waveform">
@@ -132,9 +133,13 @@ pub(crate) const TO_PLAN: &str = r##"</pre></section>
 <section aria-labelledby="planned"><h2 id="planned">Plan</h2>
 <pre id="plan" tabindex="0" role="group" aria-labelledby="planned">"##;
 
-/// From the plan to the trace.
-pub(crate) const TO_TRACE: &str = r##"</pre></section>
+/// From the plan to the part that is shown.
+pub(crate) const TO_PART: &str = r##"</pre></section>
 </div>
+<pre id="part" hidden>"##;
+
+/// From the part to the trace.
+pub(crate) const TO_TRACE: &str = r##"</pre>
 <pre id="trace" hidden>"##;
 
 /// From the trace to the waveform.

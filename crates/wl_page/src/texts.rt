@@ -8,7 +8,8 @@ use crate::moving::MOVING;
 use crate::reading::READING;
 use crate::tables::TABLES;
 use crate::template::{
-    HEAD, TO_MARGIN, TO_PLAN, TO_REPORT, TO_SCRIPT, TO_SETTINGS, TO_TRACE, TO_TRAFFIC, TO_WAVE,
+    HEAD, TO_MARGIN, TO_PART, TO_PLAN, TO_REPORT, TO_SCRIPT, TO_SETTINGS, TO_TRACE, TO_TRAFFIC,
+    TO_WAVE,
 };
 use std::alloc::{AllocError, Global};
 
@@ -27,6 +28,8 @@ pub struct Texts<'a> {
     pub report: &'a [u8],
     /// The plan itself.
     pub plan: &'a [u8],
+    /// Which part of the run trace and waveform have, and the end of the run; no letter if they have all of it.
+    pub part: &'a [u8],
     /// What happened to each node, and where.
     pub trace: &'a [u8],
     /// The waveform, as value changes.
@@ -69,6 +72,7 @@ pub fn page(alloc: Global, texts: &Texts) -> Result<Vec<u8>, AllocError>
     push_part(&mut page, TO_TRAFFIC, texts.traffic)?;
     push_part(&mut page, TO_REPORT, texts.report)?;
     push_part(&mut page, TO_PLAN, texts.plan)?;
+    push_part(&mut page, TO_PART, texts.part)?;
     push_part(&mut page, TO_TRACE, texts.trace)?;
     push_part(&mut page, TO_WAVE, texts.wave)?;
     push_script(&mut page)?;

@@ -51,6 +51,10 @@ node_totals n = record {
 abbrev pub totals_of : Outcome → List NodeTotals
 totals_of outcome = map node_totals outcome.nodes
 
+-- the ticks at which the drive of each node changed
+abbrev pub drives_of : Outcome → List (List ℕ)
+drives_of outcome = map (λ n. n.changes) outcome.nodes
+
 -- of one node more: what came before, and the outcome of that node
 abbrev pub GoesNodeByNode : Type 0
 GoesNodeByNode =

@@ -1,6 +1,6 @@
 //! The outcome of a simulation, and what a report says of it.
 ghost use Rattle.std.specs.Prelude.{◌≡◌, IfOk, map};
-ghost use Rattle.wl_serial.specs.Outcome.{node_totals, totals_of};
+ghost use Rattle.wl_serial.specs.Outcome.{drives_of, node_totals, totals_of};
 
 use std::alloc::{AllocError, Global};
 use wl_confine::Counters;
@@ -9,6 +9,9 @@ use wl_node::{Passed, PhaseTotals, SampleList};
 
 /// Ticks, in order. At the first one the drive becomes dominant.
 pub type Changes = Listed<u64>;
+
+/// The ticks at which the drive of each node changed, of node `i` at place `i`.
+pub type Drives = Listed<Changes>;
 
 /// The frames that a node sent or received, in order.
 pub type Frames = Listed<Passed>;
@@ -100,5 +103,17 @@ impl Outcome {
             totals.push(node.totals(alloc)?)?;
         }
         Ok(totals)
+    }
+
+    /// Returns the ticks at which the drive of each node changed. Refused only when out of memory.
+    pub fn drives(&self, alloc: Global) -> Result<Drives, AllocError>
+        ensures { IfOk result (λ drives. drives ≡ drives_of self.now) }
+    {
+        let mut drives = Listed::new(alloc);
+        let nodes = self.nodes.as_slice();
+        for node in nodes {
+            drives.push(node.changes.clone_in(alloc)?)?;
+        }
+        Ok(drives)
     }
 }

@@ -1,18 +1,21 @@
-//! The records of a simulation whose nodes only count.
-ghost use Rattle.std.specs.Prelude.{◌≡◌, ◌<◌, ◌≤◌, ℕ, IfOk, length};
+//! The records of a simulation whose nodes only count, and the changes of its nodes' drives.
+ghost use Rattle.std.specs.Prelude.{◌≡◌, ◌<◌, ◌≤◌, ℕ, IfOk, length, map};
+ghost use Rattle.std.specs.List.{range_with_len};
 ghost use Rattle.wl_plan.specs.Checked.{IsChecked};
 ghost use Rattle.wl_plan.specs.declared.plan.Plan.{Plan as GivenPlan};
 ghost use Rattle.wl_plan.specs.PlanLine.{table_of};
-ghost use Rattle.wl_serial.specs.Outcome.{outcome_of};
+ghost use Rattle.wl_serial.specs.Outcome.{drives_of, outcome_of};
 ghost use Rattle.wl_serial.specs.Records.{outcome_records};
 ghost use Rattle.wl_serial.specs.Running.{AreRunning, IsRunning, NoneBefore};
 
 use crate::checked::Checked;
 use crate::engine::simulate;
 use crate::laws::outcome_is_recordable;
+use crate::outcome::{Changes, Drives};
 use crate::records::push_node;
 use crate::running_node::Running;
 use std::alloc::{AllocError, Global};
+use wl_level::Listed;
 use wl_plan::Plan;
 use wl_record_core::Record;
 
@@ -56,4 +59,42 @@ fn records_at_end(
         push_node(&mut records, i as u8, changes_at_end(node), plan.end())?;
     }
     Ok(records)
+}
+
+/// Returns the ticks at which the drive of each node changed, in the outcome of [`run_serial`](crate::run_serial). Nothing else of it is
+/// listed, which takes less memory and time.
+///
+/// Refused only when out of memory.
+pub fn run_drives(alloc: Global, plan: &Plan) -> Result<Drives, AllocError>
+    requires { IsChecked plan.now }
+    ensures { IfOk result (λ drives. drives ≡ drives_of (outcome_of plan.now)) }
+{
+    let checked = Checked::new(plan);
+    let nodes = simulate(alloc, &checked, false)?;
+    let drives = drives_at_end(alloc, &checked, nodes)?;
+    Ok(drives)
+}
+
+/// Returns the ticks at which a node's drive changed; it has run all its quanta before the end.
+fn drive_at_end(node: Running) -> Changes
+    ensures { (plan : GivenPlan) (i : ℕ) → IsChecked plan → i < length plan.nodes → IsRunning plan i node
+        → plan.end ≤ node.next → result ≡ table_of plan i }
+{
+    wl_plan::checked_is_sound();
+    wl_plan::simulation_laws();
+    node.changes
+}
+
+/// Returns those of the nodes; all have run to the end.
+fn drives_at_end(alloc: Global, plan: &Checked, running: Vec<Running>) -> Result<Drives, AllocError>
+    requires running { AreRunning plan.now running.items }
+    requires ended { NoneBefore plan.now.end running.items }
+    ensures { IfOk result (λ drives. drives ≡ map (table_of plan.now) (range_with_len 0 (length plan.now.nodes))) }
+{
+    plan.laws();
+    let mut drives = Listed::new(alloc);
+    for r in running {
+        drives.push(drive_at_end(r))?;
+    }
+    Ok(drives)
 }

@@ -3,7 +3,7 @@ use Rattle.std.proofs.Common.{◌≡◌, ◌∙◌, refl, sym, subst, ap, ap₂,
 use Rattle.std.specs.Str.{bytes_eq}
 use Rattle.std.proofs.lemmas.Slice.Eq.{bytes_eq-Decides}
 use Rattle.clap.specs.Words.{Text}
-use Rattle.wl_sim.specs.CommandLine.{HasValues, NamedTask, candump_task, init_task, or_task, plain_task, run_task, sweep_task, task_named, task_word, timed_task, trace_task, valued_task}
+use Rattle.wl_sim.specs.CommandLine.{HasValues, NamedTask, candump_task, init_task, or_task, page_task, plain_task, run_task, sweep_task, task_named, task_word, timed_task, trace_task, valued_task, vcd_task}
 use Rattle.wl_sim.specs.declared.command.Task.{Task}
 use Rattle.wl_sim.specs.declared.command.Task.TheVariants.{Init, Merge, Horizon, Check, Upgrade, Records, Run, Explain, Trace, Candump, Vcd, Page, Margin, Respond, Traffic, Settings, Sweep}
 use Rattle.wl_sim.specs.declared.values.Values.{Values}
@@ -43,9 +43,19 @@ module _ (given : Option Values) (w : Text) (t : Task) where
       (λ (no : None ≡ Some t). cc)))
 
 module _ (v : Values) (w : Text) (t : Task) where
+  vcd_named : (tick : Tick) → v.tick ≡ Some tick → w ≡ codes "vcd" → vcd_task v tick ≡ Some t → NamedTask (Some w) (Some v) t
+  vcd_named tick has is h =
+      let window = some_map v.wave _ t h in
+      is_named (Some v) w t (Vcd tick window.0) (has, window.1) is (ap Some window.2)
+
+  page_named : (tick : Tick) → v.tick ≡ Some tick → w ≡ codes "page" → page_task v tick ≡ Some t → NamedTask (Some w) (Some v) t
+  page_named tick has is h =
+      let window = some_map v.wave _ t h in
+      is_named (Some v) w t (Page tick window.0) (has, window.1) is (ap Some window.2)
+
   timed_named : (tick : Tick) → v.tick ≡ Some tick → timed_task w v tick ≡ Some t → NamedTask (Some w) (Some v) t
   timed_named tick has =
-      chosen w (codes "vcd") _ _ t (is_named (Some v) w t (Vcd tick) has) (chosen w (codes "page") _ _ t (is_named (Some v) w t (Page tick) has)
+      chosen w (codes "vcd") _ _ t (vcd_named tick has) (chosen w (codes "page") _ _ t (page_named tick has)
       (chosen w (codes "margin") _ _ t (is_named (Some v) w t (Margin tick v.all_send) (has, refl))
       (chosen w (codes "traffic") _ _ t (is_named (Some v) w t (Traffic tick v.strict) (has, refl))
       (chosen w (codes "settings") _ _ t (is_named (Some v) w t (Settings tick v.shown) (has, refl))
@@ -122,8 +132,8 @@ found_by_word (Some v) (Candump tick from window) h =
     ap₂ (λ o p. option_and_then (λ tick. option_map (λ from. Candump tick from v.window) p) o) h.0 h.1
     ∙ ap (λ q. Some (Candump tick from (unwrap_or q window))) h.2
 found_by_word (Some v) (Sweep swept) h = ap (option_map (λ swept. Sweep swept)) h
-found_by_word (Some v) (Vcd tick) h = ap (option_map (λ tick. Vcd tick)) h
-found_by_word (Some v) (Page tick) h = ap (option_map (λ tick. Page tick)) h
+found_by_word (Some v) (Vcd tick window) h = ap₂ (λ o p. option_and_then (λ tick. option_map (λ window. Vcd tick window) p) o) h.0 h.1
+found_by_word (Some v) (Page tick window) h = ap₂ (λ o p. option_and_then (λ tick. option_map (λ window. Page tick window) p) o) h.0 h.1
 found_by_word (Some v) (Margin tick all) h = ap₂ (λ o p. option_map (λ tick. Margin tick (unwrap_or p all)) o) h.0 h.1
 found_by_word (Some v) (Respond tick any strict) h =
     ap₂ (λ o p. option_map (λ tick. Respond tick (unwrap_or p any) v.strict) o) h.0 h.1 ∙ ap (λ q. Some (Respond tick any (unwrap_or q strict))) h.2
@@ -137,8 +147,8 @@ found_by_word None (Trace pick) h = let no : None ≡ Some pick = h in cc
 found_by_word None (Run workers link brief) h = let no : None ≡ Some workers = h.0 in cc
 found_by_word None (Candump tick from window) h = let no : None ≡ Some tick = h.0 in cc
 found_by_word None (Sweep swept) h = let no : None ≡ Some swept = h in cc
-found_by_word None (Vcd tick) h = let no : None ≡ Some tick = h in cc
-found_by_word None (Page tick) h = let no : None ≡ Some tick = h in cc
+found_by_word None (Vcd tick window) h = let no : None ≡ Some tick = h.0 in cc
+found_by_word None (Page tick window) h = let no : None ≡ Some tick = h.0 in cc
 found_by_word None (Margin tick all) h = let no : None ≡ Some tick = h.0 in cc
 found_by_word None (Respond tick any strict) h = let no : None ≡ Some tick = h.0 in cc
 found_by_word None (Traffic tick strict) h = let no : None ≡ Some tick = h.0 in cc

@@ -24,8 +24,9 @@ use Rattle.wl_init.specs.declared.fault.InitFault.TheVariants as init
 use Rattle.wl_init.specs.Wishes.{cable_said, kind_said, rate_said}
 use Rattle.wl_print.specs.declared.fault.PrintFault.TheVariants as print
 use Rattle.wl_settings.specs.declared.fault.SettingsFault.TheVariants as settings
-use Rattle.wl_sim.specs.CommandLine.{cable_among, kind_among, nodes_among, rate_among, node_among, only_among, read_only, task_word, tick_among, workers_among, read_link, link_among, entered, file_among, file_in, file_named, format_among, format_in, read_format, is_flagged, is_set, number_among, number_or_zero, plain_values, ranges_among, ranges_in, values_among, word_in, Enters, HasValues, NamesTask, share_among}
+use Rattle.wl_sim.specs.CommandLine.{cable_among, kind_among, nodes_among, rate_among, node_among, only_among, read_only, task_word, tick_among, workers_among, read_link, link_among, entered, file_among, file_in, file_named, format_among, format_in, read_format, is_flagged, is_set, end_among, end_said, is_number, number_among, number_or_zero, plain_values, ranges_among, ranges_in, values_among, word_in, Enters, HasValues, NamesTask, share_among}
 use Rattle.wl_sweep_engine.specs.declared.join.JoinFault.TheVariants as join
+use Rattle.wl_views.specs.declared.tick.Tick.{Tick}
 use Rattle.wl_views.specs.Ticks.{read_tick}
 use Rattle.wl_sim.proofs.Naming.{one_found}
 use Rattle.wl_sim.specs.Tasks.{Does, DoesSweep, DoesSwept, IsCount, run_status}
@@ -55,8 +56,8 @@ word_enters (Run workers kind brief) name h = ((refl, h), refl, refl)
 word_enters Explain name h = ((refl, tt), refl, refl)
 word_enters (Trace pick) name h = ((refl, h), refl, refl)
 word_enters (Candump tick from window) name h = ((refl, h), refl, refl)
-word_enters (Vcd tick) name h = ((refl, h), refl, refl)
-word_enters (Page tick) name h = ((refl, h), refl, refl)
+word_enters (Vcd tick window) name h = ((refl, h), refl, refl)
+word_enters (Page tick window) name h = ((refl, h), refl, refl)
 word_enters (Margin tick all) name h = ((refl, h), refl, refl)
 word_enters (Respond tick any strict) name h = ((refl, h), refl, refl)
 word_enters (Traffic tick strict) name h = ((refl, h), refl, refl)
@@ -80,8 +81,8 @@ word_names_none (Run workers kind brief) name = (refl, refl, refl)
 word_names_none Explain name = (refl, refl, refl)
 word_names_none (Trace pick) name = (refl, refl, refl)
 word_names_none (Candump tick from window) name = (refl, refl, refl)
-word_names_none (Vcd tick) name = (refl, refl, refl)
-word_names_none (Page tick) name = (refl, refl, refl)
+word_names_none (Vcd tick window) name = (refl, refl, refl)
+word_names_none (Page tick window) name = (refl, refl, refl)
 word_names_none (Margin tick all) name = (refl, refl, refl)
 word_names_none (Respond tick any strict) name = (refl, refl, refl)
 word_names_none (Traffic tick strict) name = (refl, refl, refl)
@@ -101,8 +102,8 @@ word_format (Run workers kind brief) name = refl
 word_format Explain name = refl
 word_format (Trace pick) name = refl
 word_format (Candump tick from window) name = refl
-word_format (Vcd tick) name = refl
-word_format (Page tick) name = refl
+word_format (Vcd tick window) name = refl
+word_format (Page tick window) name = refl
 word_format (Margin tick all) name = refl
 word_format (Respond tick any strict) name = refl
 word_format (Traffic tick strict) name = refl
@@ -172,21 +173,28 @@ digits_of (d ∷ ds) e =
     let parts = both _ _ e in
     (ltb-true _ _ parts.0, digits_of ds parts.1)
 
-abbrev is_number : ℕ → List ℕ → Bool
-is_number bits ds = nat_lt 0 (length ds) && list_all (λ d. nat_lt (digit_value d) 10) ds && nat_lt (digits_value 10 ds) (2 ^ bits)
-
-pub number_read : {E : Type 0} (bits : ℕ) (text : Text) (r : Result ℕ E) → ParsesUnsigned bits 10 text r → result_unwrap_or r 0 ≡ number_or_zero bits text
-number_read bits text (Ok n) h =
+pub read_is : {E : Type 0} (bits : ℕ) (text : Text) (n : ℕ) → ParsesUnsigned {E = E} bits 10 text (Ok n) → is_number bits text ≡ true
+read_is bits text n h =
     let ds = without_leading_plus text in
-    rw (lt-ltb 0 (length ds) h.0.0.0, all_digits ds h.0.0.1, lt-ltb (digits_value 10 ds) (2 ^ bits) h.0.1) h.1
-number_read bits text (Err e) h = go (is_number bits (without_leading_plus text)) refl
+    rw (lt-ltb 0 (length ds) h.0.0.0, all_digits ds h.0.0.1, lt-ltb (digits_value 10 ds) (2 ^ bits) h.0.1) refl
+
+pub unread_is : {E : Type 0} (bits : ℕ) (text : Text) (e : E) → ParsesUnsigned {E = E} bits 10 text (Err e) → is_number bits text ≡ false
+unread_is bits text e h = go (is_number bits text) refl
   where
-    go : (b : Bool) → is_number bits (without_leading_plus text) ≡ b → 0 ≡ number_or_zero bits text
-    go false t = rw t refl
+    go : (b : Bool) → is_number bits text ≡ b → is_number bits text ≡ false
+    go false t = t
     go true t =
         let outer = both _ _ t in
         let inner = both _ _ outer.0 in
         absurd (h ((ltb-true _ _ inner.0, digits_of (without_leading_plus text) inner.1), ltb-true _ _ outer.1))
+
+pub number_read : {E : Type 0} (bits : ℕ) (text : Text) (r : Result ℕ E) → ParsesUnsigned bits 10 text r → result_unwrap_or r 0 ≡ number_or_zero bits text
+number_read bits text (Ok n) h = rw (read_is bits text n h) h.1
+number_read bits text (Err e) h = rw (unread_is bits text e h) refl
+
+-- the end of a window of an option, by its text
+pub end_text : (tick : Tick) (id : Text) (f : Found) → end_among tick id (rows_of f) ≡ option_map_or (end_said tick) (first_value f id) (Some None)
+end_text tick id f = ap (λ o. option_map_or (end_said tick) o (Some None)) (sym (first_value-rows f id))
 
 pub number_text : (bits : ℕ) (id : Text) (f : Found) → number_among bits id (rows_of f) ≡ option_map (number_or_zero bits) (first_value f id)
 number_text bits id f = ap (option_map (number_or_zero bits)) (sym (first_value-rows f id))
@@ -243,8 +251,8 @@ module _ {S T : Type 0} (gives : S → Answer → S → Type 0) (takes : T → A
   does_nothing s s' t t' Explain g h = (Err run.Memory, h, refl)
   does_nothing s s' t t' (Trace pick) g h = (Err run.Memory, h, refl)
   does_nothing s s' t t' (Candump tick from window) g h = (Err run.Memory, h, refl)
-  does_nothing s s' t t' (Vcd tick) g h = (Err run.Memory, h, refl)
-  does_nothing s s' t t' (Page tick) g h = (Err run.Memory, h, refl)
+  does_nothing s s' t t' (Vcd tick window) g h = (Err run.Memory, h, refl)
+  does_nothing s s' t t' (Page tick window) g h = (Err run.Memory, h, refl)
   does_nothing s s' t t' (Margin tick all) g h = (Err run.Memory, h, refl)
   does_nothing s s' t t' (Respond tick any strict) g h = (Err run.Memory, h, refl)
   does_nothing s s' t t' (Traffic tick strict) g h = (Err run.Memory, h, refl)

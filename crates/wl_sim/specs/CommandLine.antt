@@ -1,5 +1,5 @@
 -- The words of the command line (this project's profile).
-use Rattle.std.specs.Prelude.{◌≡◌, ◌^◌, ◌-◌, ◌&&◌, nat_lt, ℕ, Bool, true, false, List, [], ◌∷◌, length, codes, pos, fold, Option, Some, None, is_some, unwrap_or, if◌then◌else◌, option_and_then, option_map}
+use Rattle.std.specs.Prelude.{◌≡◌, ◌^◌, ◌-◌, ◌*◌, ◌&&◌, nat_lt, ℕ, Bool, true, false, List, [], ◌∷◌, length, codes, pos, fold, Option, Some, None, is_some, unwrap_or, if◌then◌else◌, option_and_then, option_map}
 use Rattle.std.specs.Char.{digit_value}
 use Rattle.std.specs.List.{list_all, list_any}
 use Rattle.std.specs.Option.{option_map_or}
@@ -35,7 +35,10 @@ use Rattle.wl_views.specs.declared.pick.Pick.{Pick}
 use Rattle.wl_views.specs.declared.tick.Tick.{Tick}
 use Rattle.wl_views.specs.declared.tick.TimeUnit.TheVariants.{Nanosecond}
 use Rattle.wl_views.specs.declared.window.Window.{Window}
-use Rattle.wl_views.specs.Ticks.{read_tick}
+use Rattle.wl_views.specs.Ticks.{read_tick, tick_picoseconds}
+use Rattle.wl_units.specs.Scales.{number_said}
+use Rattle.wl_units.specs.declared.quantity.Measure.TheVariants.{Time}
+use Rattle.wl_units.specs.declared.scale.Scale.{Scale}
 
 -- the word of a task
 abbrev pub task_word : Task → Text
@@ -49,8 +52,8 @@ task_word (Run workers kind brief) = codes "run"
 task_word Explain = codes "explain"
 task_word (Trace pick) = codes "trace"
 task_word (Candump tick from window) = codes "candump"
-task_word (Vcd tick) = codes "vcd"
-task_word (Page tick) = codes "page"
+task_word (Vcd tick window) = codes "vcd"
+task_word (Page tick window) = codes "page"
 task_word (Margin tick all) = codes "margin"
 task_word (Respond tick any strict) = codes "respond"
 task_word (Traffic tick strict) = codes "traffic"
@@ -113,6 +116,14 @@ windowed_app first app = with_rule (with_rule app (ticks_rule (codes "since") fi
 -- a subcommand with the options of `candump`, whose `--from` isn't a window's
 abbrev pub candump_app : App → App
 candump_app app = windowed_app (codes "since") (with_rule (timed_app app) from_rule)
+
+-- an option with a tick or a time, by its name on the command line
+abbrev pub time_rule : Text → Text → Rule
+time_rule id name = record (new_rule id) { long = Some name; value_names = 1 }
+
+-- of `vcd` and `page`, whose window may be said by times
+abbrev pub wave_app : App → App
+wave_app app = with_rule (with_rule (timed_app app) (time_rule (codes "begin") (codes "from"))) (time_rule (codes "stop") (codes "to"))
 
 -- of `records`
 abbrev pub records_app : App → App
@@ -234,7 +245,7 @@ optioned_app word app =
     (if bytes_eq word (codes "records") then records_app app else
     (if bytes_eq word (codes "check") then formatted_app app else (if bytes_eq word (codes "explain") then formatted_app app else
     (if bytes_eq word (codes "trace") then trace_app app else (if bytes_eq word (codes "run") then run_app app else
-    (if bytes_eq word (codes "vcd") then timed_app app else (if bytes_eq word (codes "page") then timed_app app else
+    (if bytes_eq word (codes "vcd") then wave_app app else (if bytes_eq word (codes "page") then wave_app app else
     (if bytes_eq word (codes "candump") then candump_app app else (if bytes_eq word (codes "margin") then margin_app app else
     (if bytes_eq word (codes "traffic") then traffic_app app else (if bytes_eq word (codes "settings") then settings_app app else
     (if bytes_eq word (codes "sweep") then sweep_app app else (if bytes_eq word (codes "init") then init_app app else
@@ -343,11 +354,15 @@ is_flagged id rows = option_map_or is_set (first_of id rows) false
 abbrev pub has_flag : Text → Option (Text × List Row) → Bool
 has_flag id found = option_map_or (λ p. is_flagged id p.1) found false
 
+-- a text is a number below 2^bits in decimal digits
+abbrev pub is_number : ℕ → Text → Bool
+is_number bits text =
+    let ds = without_leading_plus text in
+    nat_lt 0 (length ds) && list_all (λ d. nat_lt (digit_value d) 10) ds && nat_lt (digits_value 10 ds) (2 ^ bits)
+
 -- the number that a text writes, below 2^bits; its option lets no other text in
 abbrev pub number_or_zero : ℕ → Text → ℕ
-number_or_zero bits text =
-    let ds = without_leading_plus text in
-    if nat_lt 0 (length ds) && list_all (λ d. nat_lt (digit_value d) 10) ds && nat_lt (digits_value 10 ds) (2 ^ bits) then digits_value 10 ds else 0
+number_or_zero bits text = if is_number bits text then digits_value 10 (without_leading_plus text) else 0
 
 -- the number that an option of a subcommand gives
 abbrev pub number_among : ℕ → Text → List Row → Option ℕ
@@ -399,6 +414,31 @@ limits_among rows = if is_flagged (codes "wide") rows then Wide else Narrow
 -- the window that the options say: from tick 0 on where no first tick is given
 abbrev pub window_among : List Row → Window
 window_among rows = record { from = unwrap_or (number_among 64 (codes "since") rows) 0; to = number_among 64 (codes "until") rows }
+
+-- how a text says ticks that take so long
+abbrev pub scale_of : Tick → Scale
+scale_of tick = record { tick = 1000 * tick_picoseconds tick; unit = 1 }
+
+-- how many of them a text says: a number of ticks, or a time that is whole in them
+abbrev pub ticks_said : Tick → Text → Option ℕ
+ticks_said tick text = if is_number 64 text then Some (digits_value 10 (without_leading_plus text)) else number_said Time (scale_of tick) text
+
+-- that of an end of a window
+abbrev pub end_said : Tick → Text → Option (Option ℕ)
+end_said tick text = option_map (λ n. Some n) (ticks_said tick text)
+
+-- the end that an option gives, if it is there
+abbrev pub end_among : Tick → Text → List Row → Option (Option ℕ)
+end_among tick id rows = option_map_or (end_said tick) (first_of id rows) (Some None)
+
+-- the window that the options say by ticks that take so long: from tick 0 on where no first tick is given
+abbrev pub wave_by : List Row → Tick → Option Window
+wave_by rows tick =
+    option_and_then (λ from. option_map (λ to. record { from = unwrap_or from 0; to = to }) (end_among tick (codes "stop") rows))
+    (end_among tick (codes "begin") rows)
+
+abbrev pub wave_among : List Row → Option Window
+wave_among rows = option_and_then (wave_by rows) (tick_among rows)
 
 -- the kind of events that a text names
 abbrev pub read_only : Text → Option (Option EventKind)
@@ -454,6 +494,7 @@ values_among rows = record {
   limits = limits_among rows;
   from = number_among 32 (codes "from") rows;
   window = window_among rows;
+  wave = wave_among rows;
   pick = pick_among rows;
   brief = is_flagged (codes "brief") rows;
   wish = wish_among rows;
@@ -464,8 +505,8 @@ abbrev pub HasValues : Option Values → Task → Type 0
 HasValues given (Candump tick from window) =
     (option_and_then (λ v. v.tick) given ≡ Some tick) × (option_and_then (λ v. v.from) given ≡ Some from)
     × (option_map (λ v. v.window) given ≡ Some window)
-HasValues given (Vcd tick) = option_and_then (λ v. v.tick) given ≡ Some tick
-HasValues given (Page tick) = option_and_then (λ v. v.tick) given ≡ Some tick
+HasValues given (Vcd tick window) = (option_and_then (λ v. v.tick) given ≡ Some tick) × (option_and_then (λ v. v.wave) given ≡ Some window)
+HasValues given (Page tick window) = (option_and_then (λ v. v.tick) given ≡ Some tick) × (option_and_then (λ v. v.wave) given ≡ Some window)
 HasValues given (Margin tick all) = (option_and_then (λ v. v.tick) given ≡ Some tick) × (option_map (λ v. v.all_send) given ≡ Some all)
 HasValues given (Respond tick any strict) =
     (option_and_then (λ v. v.tick) given ≡ Some tick) × (option_map (λ v. v.any_data) given ≡ Some any) × (option_map (λ v. v.strict) given ≡ Some strict)
@@ -512,11 +553,17 @@ init_task values = option_map (λ wish. Init wish) values.wish
 abbrev pub sweep_task : Values → Option Task
 sweep_task values = option_map (λ swept. Sweep swept) values.swept
 
+abbrev pub vcd_task : Values → Tick → Option Task
+vcd_task values tick = option_map (λ window. Vcd tick window) values.wave
+
+abbrev pub page_task : Values → Tick → Option Task
+page_task values tick = option_map (λ window. Page tick window) values.wave
+
 -- the task that a word names with a tick
 abbrev pub timed_task : Text → Values → Tick → Option Task
 timed_task word values tick =
-    if bytes_eq word (codes "vcd") then Some (Vcd tick)
-    else (if bytes_eq word (codes "page") then Some (Page tick)
+    if bytes_eq word (codes "vcd") then vcd_task values tick
+    else (if bytes_eq word (codes "page") then page_task values tick
     else (if bytes_eq word (codes "margin") then Some (Margin tick values.all_send)
     else (if bytes_eq word (codes "traffic") then Some (Traffic tick values.strict)
     else (if bytes_eq word (codes "settings") then Some (Settings tick values.shown)
@@ -584,6 +631,7 @@ plain_values = record {
   shown = Best None;
   from = Some 0;
   window = record { from = 0; to = None };
+  wave = Some (record { from = 0; to = None });
   pick = Some (record { window = record { from = 0; to = None }; node = None; only = None });
   brief = false;
   wish = Some (record { nodes = 2; rate = rate_said (codes "500k"); cable = cable_said (codes "40m"); kind = kind_said (codes "mcp2515") });

@@ -19,8 +19,8 @@ use Rattle.wl_engines.specs.Faults.{is_refusal}
 use Rattle.wl_engines.specs.Horizon.{TellsHorizons}
 use Rattle.wl_engines.specs.Margin.{IsMarginOutput, RunsBus}
 use Rattle.wl_engines.specs.Merge.{Merges}
-use Rattle.wl_engines.specs.Paged.{Pages}
-use Rattle.wl_engines.specs.Plans.{RunsPlan, IsRecordsWithin, IsReportOutput, IsTracePicked, IsCandumpWithin, IsVcdOutput}
+use Rattle.wl_engines.specs.Paged.{PagesWithin}
+use Rattle.wl_engines.specs.Plans.{RunsPlan, IsRecordsWithin, IsReportOutput, IsTracePicked, IsCandumpWithin, IsVcdWithin}
 use Rattle.wl_engines.specs.Responded.{Responds}
 use Rattle.wl_engines.specs.TrafficRun.{RunsTraffic}
 use Rattle.wl_engines.specs.Workers.{RunsByWorkersAs}
@@ -183,8 +183,8 @@ subject_of (Run workers kind brief) = Some subject.Run
 subject_of Explain = Some subject.Explain
 subject_of (Trace pick) = Some subject.Trace
 subject_of (Candump tick from window) = None
-subject_of (Vcd tick) = None
-subject_of (Page tick) = None
+subject_of (Vcd tick window) = None
+subject_of (Page tick window) = None
 subject_of (Margin tick all) = Some subject.Margin
 subject_of (Respond tick any strict) = Some subject.Respond
 subject_of (Traffic tick strict) = Some subject.Traffic
@@ -237,8 +237,8 @@ module _ {S T : Type 0} (gives : S → Answer → S → Type 0) (takes : T → A
   Does Explain ranges r = Plainly (Explains gives takes s s' t t') r
   Does (Trace pick) ranges r = Plainly (RunsPlan gives takes (IsTracePicked pick) s s' t t') r
   Does (Candump tick from window) ranges r = Plainly (RunsPlan gives takes (IsCandumpWithin tick from window) s s' t t') r
-  Does (Vcd tick) ranges r = Plainly (RunsPlan gives takes (IsVcdOutput tick) s s' t t') r
-  Does (Page tick) ranges r = Plainly (Pages gives takes tick s s' t t') r
+  Does (Vcd tick window) ranges r = Plainly (RunsPlan gives takes (IsVcdWithin tick window) s s' t t') r
+  Does (Page tick window) ranges r = Plainly (PagesWithin gives takes tick window s s' t t') r
   Does (Margin tick all) ranges r = Plainly (RunsBus gives takes (IsMarginOutput tick all) s s' t t') r
   Does (Respond tick any strict) ranges r = DoesRespond tick any strict r
   Does (Traffic tick strict) ranges r = DoesTraffic tick strict r

@@ -2,7 +2,7 @@
 ghost use Rattle.std.specs.Prelude.{◌≡◌, ◌≢◌, ◌↔◌, map, string_bytes, codes, IfOk, IfErr, Some, option_map};
 ghost use Rattle.clap.specs.Words.{kind_of, subcommand_rows_of};
 ghost use Rattle.wl_sim.specs.CommandLine.{begun_task, Enters, FoundTask, file_in, has_flag, ranges_in};
-ghost use Rattle.wl_sim.specs.CommandLine.{candump_task, init_task, plain_task, run_task, sweep_task, task_named, timed_task, trace_task, valued_task};
+ghost use Rattle.wl_sim.specs.CommandLine.{candump_task, init_task, page_task, plain_task, run_task, sweep_task, task_named, timed_task, trace_task, valued_task, vcd_task};
 ghost use Rattle.wl_sim.specs.Orders.{FindsOrder, ReadsOrder};
 
 use crate::subcommands::matches_of;
@@ -48,10 +48,10 @@ pub enum Task {
     Trace(Pick),
     /// The log of the frames that a plan's simulation sends within a window, at ticks that take so long, the first of them at this second.
     Candump(Tick, u32, Window),
-    /// The waveform of a plan's simulation, at ticks that take so long.
-    Vcd(Tick),
-    /// One page of HTML that shows a plan's simulation, at ticks that take so long.
-    Page(Tick),
+    /// The waveform of a window of a plan's simulation, at ticks that take so long.
+    Vcd(Tick, Window),
+    /// One page of HTML that shows a plan's simulation, and the events and the waveform of a window, at ticks that take so long.
+    Page(Tick, Window),
     /// Whether a plan's bus works, and with how much to spare, at ticks that take so long; of the plan's senders, or, if that is asked for, of
     /// all nodes that don't only listen.
     Margin(Tick, bool),
@@ -142,13 +142,27 @@ fn init_task(values: &Values) -> Option<Task>
     Some(Task::Init(values.wish?))
 }
 
+/// Returns the task of `vcd`, if the values have what it wants.
+fn vcd_task(tick: Tick, values: &Values) -> Option<Task>
+    ensures { result ≡ vcd_task values.now tick }
+{
+    Some(Task::Vcd(tick, values.wave?))
+}
+
+/// Returns the task of `page`, if the values have what it wants.
+fn page_task(tick: Tick, values: &Values) -> Option<Task>
+    ensures { result ≡ page_task values.now tick }
+{
+    Some(Task::Page(tick, values.wave?))
+}
+
 /// Returns the task that a word names at ticks that take so long.
 fn timed_task(word: &str, tick: Tick, values: &Values) -> Option<Task>
     ensures { result ≡ timed_task word.now values.now tick }
 {
     match word {
-        "vcd" => Some(Task::Vcd(tick)),
-        "page" => Some(Task::Page(tick)),
+        "vcd" => vcd_task(tick, values),
+        "page" => page_task(tick, values),
         "margin" => Some(Task::Margin(tick, values.all_send)),
         "traffic" => Some(Task::Traffic(tick, values.strict)),
         "settings" => Some(Task::Settings(tick, values.shown)),
@@ -275,6 +289,8 @@ fn wanted(words: &[String]) -> &'static str {
             "margin" | "respond" | "traffic" => {
                 "--tick wants 1 to 999 and ps, ns or us, as 125ps, and --format text, json, csv, table or coloured"
             }
+            "vcd" | "page" =>
+                "--tick wants 1 to 999 and ps, ns or us, as 125ps, and --from and --to ticks, as 4000, or a time of whole ticks, as 3ms",
             _ => "--tick wants 1 to 999 and ps, ns or us, as 125ps",
         },
         None => "no task is named",

@@ -37,8 +37,8 @@ pub(crate) fn subject_of(task: Task) -> Option<Subject>
         | Task::Upgrade
         | Task::Records(_)
         | Task::Candump(_, _, _)
-        | Task::Vcd(_)
-        | Task::Page(_)
+        | Task::Vcd(_, _)
+        | Task::Page(_, _)
         | Task::Settings(_, _) => None,
     }
 }

@@ -65,9 +65,9 @@ pub use command::{Order, Refusal, Task};
 pub use sweep::Swept;
 pub use wl_engines::{
     Crew, LinkKind, RunFault, candump_run_within, check_run, explain_run, horizon_run,
-    horizon_run_within, margin_run, merge_run, merge_run_within, merges_as_one, page_run,
-    picked_trace_run, plan_run, plan_run_as, records_run_within, respond_run, traffic_run, vcd_run,
-    workers_run, workers_run_as,
+    horizon_run_within, margin_run, merge_run, merge_run_within, merges_as_one, page_run_within,
+    picked_trace_run, plan_run, plan_run_as, records_run_within, respond_run, traffic_run,
+    vcd_run_within, workers_run, workers_run_as,
 };
 
 /// The statuses that the program ends with beside 0.
@@ -436,8 +436,8 @@ fn run<H: Threads + Wait + Sync + Eprint + Clock, R: Source, W: Sink>(
         Task::Candump(tick, from, window) => {
             plainly(candump_run_within(alloc, tick, from, window, reader, writer))
         }
-        Task::Vcd(tick) => plainly(vcd_run(alloc, tick, reader, writer)),
-        Task::Page(tick) => plainly(page_run(alloc, tick, reader, writer)),
+        Task::Vcd(tick, window) => plainly(vcd_run_within(alloc, tick, window, reader, writer)),
+        Task::Page(tick, window) => plainly(page_run_within(alloc, tick, window, reader, writer)),
         Task::Margin(tick, all_send) => {
             plainly(margin_run(alloc, tick, all_send, reader, writer))
         }

@@ -4,7 +4,7 @@ ghost use Rattle.clap.specs.Words.{app_of, rule_of, with_rule};
 ghost use Rattle.clap.specs.declared.builder.command.Command.TheViews.{out-Command};
 ghost use Rattle.wl_sim.specs.CommandLine.{FailsByMemory, MatchesWords, bare_program, is_task_word, optioned_app, program, program_alone, subcommand_app, with_word, reads_nothing};
 ghost use Rattle.wl_sim.specs.CommandLine.{bitrate_rule, cable_rule, init_app, kind_rule, nodes_rule, reading_app};
-ghost use Rattle.wl_sim.specs.CommandLine.{best_rule, candump_app, filed, flag_rule, format_rule, formatted_app, from_rule, input_rule, link_rule, margin_app, node_rule, only_rule, output_rule, records_app, respond_app, run_app, settings_app, sweep_app, tick_rule, ticks_rule, timed_app, trace_app, traffic_app, windowed_app, workers_rule};
+ghost use Rattle.wl_sim.specs.CommandLine.{best_rule, candump_app, filed, flag_rule, format_rule, formatted_app, from_rule, input_rule, link_rule, margin_app, node_rule, only_rule, output_rule, records_app, respond_app, run_app, settings_app, sweep_app, tick_rule, ticks_rule, time_rule, timed_app, trace_app, traffic_app, wave_app, windowed_app, workers_rule};
 
 use crate::sweep::{with_part_options, with_sweep_options};
 use clap::{Arg, ArgAction, ArgMatches, Command, Error, value_parser};
@@ -149,7 +149,7 @@ fn about(word: &str) -> &'static str {
             "Simulates the plan, and writes the frames that were sent as can-utils logs them",
         "vcd" => "Simulates the plan, and writes the waveform of its nodes as a Value Change Dump",
         "page" =>
-            "Simulates the plan, and writes one page of HTML that shows all of it in a browser",
+            "Simulates the plan, and writes one page of HTML that shows it in a browser, of a long run a part",
         "margin" =>
             "Tests the plan, and writes whether its bus works at all phases and clocks, and with how much to spare",
         "respond" =>
@@ -238,6 +238,14 @@ fn ticks_option<'a>(alloc: Global, id: &'a str, name: &'a str, help: &'a str) ->
         .value_name("TICK")
         .help(help)
         .value_parser(value_parser!(u64))
+}
+
+/// Returns the option with a tick or a time that has this name on the command line.
+fn time_option<'a>(alloc: Global, id: &'a str, name: &'a str, help: &'a str) -> Arg<'a>
+    ensures rule { rule_of result ≡ time_rule id.now name.now }
+    ensures local { result.global ≡ false }
+{
+    Arg::new(alloc, id).long(name).value_name("TIME").help(help)
 }
 
 /// Returns the option that says whose events are written.
@@ -335,6 +343,17 @@ fn with_log_options<'a>(alloc: Global, sub: Command<'a>) -> Result<Command<'a>, 
     let timed = timed(alloc, sub)?;
     let dated = with(timed, from_option(alloc))?;
     windowed(alloc, "since", dated)
+}
+
+/// Returns a subcommand with the options of `vcd` and `page`.
+fn with_wave_options<'a>(alloc: Global, sub: Command<'a>) -> Result<Command<'a>, AllocError>
+    requires { (out-Command sub).has_globals ≡ false }
+    ensures app { IfOk result (λ all. app_of all ≡ wave_app (app_of sub.entry)) }
+    ensures local { IfOk result (λ all. (out-Command all).has_globals ≡ false) }
+{
+    let timed = timed(alloc, sub)?;
+    let since = with(timed, time_option(alloc, "begin", "from", SINCE))?;
+    with(since, time_option(alloc, "stop", "to", UNTIL))
 }
 
 /// Returns a subcommand with the options of `margin`.
@@ -468,8 +487,8 @@ fn optioned<'a>(alloc: Global, word: &str, sub: Command<'a>) -> Result<Command<'
         "explain" => formatted(alloc, sub),
         "trace" => with_trace_options(alloc, sub),
         "run" => with_run_options(alloc, sub),
-        "vcd" => timed(alloc, sub),
-        "page" => timed(alloc, sub),
+        "vcd" => with_wave_options(alloc, sub),
+        "page" => with_wave_options(alloc, sub),
         "candump" => with_log_options(alloc, sub),
         "margin" => with_margin_options(alloc, sub),
         "traffic" => with_traffic_options(alloc, sub),

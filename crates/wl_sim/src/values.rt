@@ -3,6 +3,7 @@ ghost use Rattle.std.specs.Prelude.{◌≡◌, map, string_bytes, IfOk, false, o
 ghost use Rattle.std.specs.Option.{option_map_or};
 ghost use Rattle.clap.specs.Words.{found_of, rows_of, subcommand_rows_of};
 ghost use Rattle.wl_sim.specs.CommandLine.{limits_among, file_among, file_named, is_flagged, is_set, link_among, node_among, number_among, only_among, pick_among, ranges_among, ranges_in};
+ghost use Rattle.wl_sim.specs.CommandLine.{end_among, end_said, scale_of, ticks_said, wave_among, wave_by};
 ghost use Rattle.wl_sim.specs.CommandLine.{cable_among, kind_among, nodes_among, rate_among, wish_among};
 ghost use Rattle.wl_sim.specs.CommandLine.{format_among, format_in, read_format, read_link, read_only, shown_among, swept_among, swept_by, tick_among, values_among, window_among, workers_among, share_among};
 
@@ -16,6 +17,7 @@ use wl_limits::Limits;
 use wl_settings::Shown;
 use wl_setup::Text;
 use wl_sweep_engine::{Asked, Options, Share};
+use wl_units::{Measure, Scale};
 use wl_views::{EventKind, Pick, Tick, Window};
 
 /// What the options of a subcommand say that only some tasks have.
@@ -43,6 +45,8 @@ pub(crate) struct Values {
     pub(crate) from: Option<u32>,
     /// Which part of a run is written.
     pub(crate) window: Window,
+    /// Which part of a run is drawn.
+    pub(crate) wave: Option<Window>,
     /// Which events of a trace are written.
     pub(crate) pick: Option<Pick>,
     /// Whether a report has no lines of frames.
@@ -286,6 +290,65 @@ fn window_in(matches: &ArgMatches) -> Window
     }
 }
 
+/// Returns how a text says ticks that take so long.
+fn scale_of(tick: Tick) -> Scale
+    ensures { result ≡ scale_of tick }
+{
+    Scale {
+        tick: 1_000 * tick.picoseconds(),
+        unit: 1,
+    }
+}
+
+/// Returns how many ticks a text says: a number of them, or a time with its unit. `None` if it says neither, or if the time isn't whole in
+/// ticks or has 2^48 of them.
+fn ticks_said(tick: Tick, text: &str) -> Option<u64>
+    ensures { result ≡ ticks_said tick text.now }
+{
+    match text.parse::<u64>() {
+        Ok(ticks) => Some(ticks),
+        Err(_) => scale_of(tick).number_said(Measure::Time, text),
+    }
+}
+
+/// Returns the end of a window that a text says. `None` if it says none.
+fn end_said(tick: Tick, text: &str) -> Option<Option<u64>>
+    ensures { result ≡ end_said tick text.now }
+{
+    let ticks = ticks_said(tick, text)?;
+    Some(Some(ticks))
+}
+
+/// Returns the end of a window that a subcommand's option gives, if it gives one. `None` if its text says none.
+#[tactic(auto, using(crate::proofs::Words::end_text))]
+fn end_in(matches: &ArgMatches, tick: Tick, id: &str) -> Option<Option<u64>>
+    ensures { result ≡ end_among tick id.now (rows_of (found_of matches.now)) }
+{
+    match matches.get_str(id) {
+        Some(text) => end_said(tick, text),
+        None => Some(None),
+    }
+}
+
+/// Returns the window that the options of a subcommand say by ticks that take so long.
+fn wave_by(matches: &ArgMatches, tick: Tick) -> Option<Window>
+    ensures { result ≡ wave_by (rows_of (found_of matches.now)) tick }
+{
+    let from = end_in(matches, tick, "begin")?;
+    let to = end_in(matches, tick, "stop")?;
+    Some(Window {
+        from: from.unwrap_or(0),
+        to,
+    })
+}
+
+/// Returns the window that the options of `vcd` and `page` say.
+fn wave_in(matches: &ArgMatches) -> Option<Window>
+    ensures { result ≡ wave_among (rows_of (found_of matches.now)) }
+{
+    wave_by(matches, tick_in(matches)?)
+}
+
 /// Returns the kind of events that a text names. `None` if there is no such kind.
 fn only_named(text: &str) -> Option<Option<EventKind>>
     ensures { result ≡ read_only text.now }
@@ -402,6 +465,7 @@ fn values_in(matches: &ArgMatches) -> Values
         limits: limits_in(matches),
         from: small_number_in(matches, "from"),
         window: window_in(matches),
+        wave: wave_in(matches),
         pick: pick_in(matches),
         brief: flag_in(matches, "brief"),
         wish: wish_in(matches),

@@ -2,6 +2,7 @@ pub mod Callers
 mod InTime
 mod Lists
 mod Pieces
+mod Picking
 mod Seeing
 mod SignalProofs
 mod Turns

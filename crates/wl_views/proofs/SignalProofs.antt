@@ -1,5 +1,7 @@
 -- The signals of nodes by their changes and samples.
-use Rattle.std.proofs.Common.{◌≡◌, ◌∙◌, sym, ap, ap₂, add-one, zero-add, ℕ, suc, ◌-◌, ◌<◌, ◌&&◌, List, length, get_or, nat_le}
+use Rattle.std.proofs.Common.{◌≡◌, ◌∙◌, sym, ap, ap₂, add-one, zero-add, ℕ, suc, ◌-◌, ◌<◌, ◌&&◌, List, length, get_or, map, nat_le}
+use Rattle.std.specs.List.{range_with_len}
+use Rattle.std.proofs.lemmas.Simd.{map-map}
 use Rattle.std.proofs.lemmas.List.FromFn.{get_or-map-range_with_len, length-map-range_with_len}
 use Rattle.wl_topology.specs.Delays.{delay_of}
 use Rattle.wl_record_core.specs.Truth.{count_below, odd}
@@ -10,7 +12,7 @@ use Rattle.wl_plan.specs.SimulationLaws.{SimulationLaws}
 use Rattle.wl_plan.specs.Sound.{IsSound}
 use Rattle.wl_serial.specs.declared.outcome.NodeOutcome.{NodeOutcome}
 use Rattle.wl_serial.specs.declared.outcome.Outcome.{Outcome}
-use Rattle.wl_serial.specs.Outcome.{node_outcome_of, outcome_of}
+use Rattle.wl_serial.specs.Outcome.{drives_of, node_outcome_of, outcome_of}
 use Rattle.wl_pulse.specs.Pulses.{drove}
 use Rattle.wl_pulse.specs.declared.pulse.Pulse.{Pulse}
 use Rattle.wl_views.specs.PlaceLine.{Lasts}
@@ -27,6 +29,18 @@ node_is plan outcome i d is b =
 
 pub nodes_all : (plan : Plan) (outcome : Outcome) → outcome ≡ outcome_of plan → length outcome.nodes ≡ length plan.nodes
 nodes_all plan outcome is = ap (λ (o : Outcome). length o.nodes) is ∙ length-map-range_with_len (node_outcome_of plan) 0 (length plan.nodes)
+
+-- the changes of a node among those of all
+drives_are : (plan : Plan) (drives : List (List ℕ)) → drives ≡ drives_of (outcome_of plan) → drives ≡ map (table_of plan) (range_with_len 0 (length plan.nodes))
+drives_are plan drives is = is ∙ map-map (λ (n : NodeOutcome). n.changes) (node_outcome_of plan) (range_with_len 0 (length plan.nodes))
+
+pub drive_is : (plan : Plan) (drives : List (List ℕ)) (i : ℕ) (d : List ℕ) → drives ≡ drives_of (outcome_of plan) → i < length plan.nodes
+    → get_or drives i d ≡ table_of plan i
+drive_is plan drives i d is b =
+    ap (λ (xs : List (List ℕ)). get_or xs i d) (drives_are plan drives is) ∙ get_or-map-range_with_len (table_of plan) 0 (length plan.nodes) i i d b (zero-add i)
+
+pub drives_all : (plan : Plan) (drives : List (List ℕ)) → drives ≡ drives_of (outcome_of plan) → length drives ≡ length plan.nodes
+drives_all plan drives is = ap length (drives_are plan drives is) ∙ length-map-range_with_len (table_of plan) 0 (length plan.nodes)
 
 module _ (laws : SimulationLaws) (plan : Plan) (sound : IsSound (line_of plan)) (i : ℕ) (b : i < length plan.nodes) where
   -- what comes from a node

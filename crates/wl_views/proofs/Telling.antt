@@ -22,12 +22,12 @@ all_numbers : {A : Type 0} (P : A → Type 0) (f : ℕ → List A) (a n : ℕ) �
 all_numbers P f a zero each = All-nil P
 all_numbers P f a (suc n) each = All-append P (f a) _ (each a (omega arith)) (all_numbers P f (a + 1) n (λ i b. each i (omega arith)))
 
--- one node more
-pub told_more : (plan : Plan) (i : ℕ) → flat_map (told_at_end plan) (range_with_len 0 (i + 1)) ≡ flat_map (told_at_end plan) (range_with_len 0 i) ++ told_at_end plan i
-told_more plan i =
-    ap (flat_map (told_at_end plan)) (ap (range_with_len 0) {x = i + 1} {y = suc i} (omega arith) ∙ range_more 0 i ∙ ap (λ (m : ℕ). range_with_len 0 i ++ m ∷ []) (zero-add i))
-    ∙ flat_map-append (told_at_end plan) (range_with_len 0 i) (i ∷ [])
-    ∙ ap (λ zs. flat_map (told_at_end plan) (range_with_len 0 i) ++ zs) (append-nil (told_at_end plan i))
+-- one number more
+pub one_more : {A : Type 0} (f : ℕ → List A) (i : ℕ) → flat_map f (range_with_len 0 (i + 1)) ≡ flat_map f (range_with_len 0 i) ++ f i
+one_more f i =
+    ap (flat_map f) (ap (range_with_len 0) {x = i + 1} {y = suc i} (omega arith) ∙ range_more 0 i ∙ ap (λ (m : ℕ). range_with_len 0 i ++ m ∷ []) (zero-add i))
+    ∙ flat_map-append f (range_with_len 0 i) (i ∷ [])
+    ∙ ap (λ zs. flat_map f (range_with_len 0 i) ++ zs) (append-nil (f i))
 
 module _ (laws : SimulationLaws) (tells : TraceLaws) (plan : Plan) (sound : IsSound (line_of plan)) where
   -- quanta that have run, of node i

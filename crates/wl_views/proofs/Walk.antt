@@ -1,5 +1,6 @@
 -- A dump that looks only where something may change tells every tick.
 use Rattle.std.proofs.Common.{◌≡◌, ◌∙◌, eq-eqb, cond, refl, sym, ap, ap₂, arith, add-one, ℕ, zero, suc, ◌+◌, ◌-◌, ◌<◌, ◌≤◌, Bool, true, false, List, [], ◌∷◌, ◌++◌, length, get_or, take, append-nil, append_assoc}
+use Rattle.std.specs.Prelude.{min}
 use Rattle.std.specs.List.{flat_map, range_with_len}
 use Rattle.std.proofs.lemmas.List.Concat.{flat_map-append}
 use Rattle.std.proofs.lemmas.Slice.Eq.{bytes_eq-Decides}
@@ -82,32 +83,33 @@ module _ (tick : Tick) (levels : ℕ → List NodeSignals) where
       ap₂ (λ x y. x ++ y) (quiet a (same a (omega arith) (omega arith) ∙ sym (same (a - 1) (omega arith) (omega arith))))
       (quiet_range now (a + 1) n (omega arith) (λ u from below. same u (omega arith) (omega arith)))
 
-  -- what is told of tick t, and nothing up to another tick
-  pub told_until : (t until : ℕ) (was now : List NodeSignals) → 1 ≤ t → t < until → levels (t - 1) ≡ was → ((u : ℕ) → t ≤ u → u < until → levels u ≡ now)
-      → lines (range_with_len 1 (until - 1)) ≡ lines (range_with_len 1 (t - 1)) ++ under (time_line tick t) (changes_from 0 was now)
+  -- what is told of tick t, and nothing up to another tick, after what was told from tick a on
+  pub told_until : (a t until : ℕ) (was now : List NodeSignals) → 1 ≤ a → a ≤ t → t < until → levels (t - 1) ≡ was → ((u : ℕ) → t ≤ u → u < until → levels u ≡ now)
+      → lines (range_with_len a (until - a)) ≡ lines (range_with_len a (t - a)) ++ under (time_line tick t) (changes_from 0 was now)
   unfolding tick_lines
-  told_until t until was now some later before same =
-      ap (λ (n : ℕ). lines (range_with_len 1 n)) {x = until - 1} {y = (t - 1) + suc (until - t - 1)} (omega arith)
-      ∙ ap lines (range_parts 1 (t - 1) (suc (until - t - 1)) ∙ ap (λ (k : ℕ). range_with_len 1 (t - 1) ++ range_with_len k (suc (until - t - 1))) {x = 1 + (t - 1)} {y = t} (omega arith))
-      ∙ flat_map-append (tick_lines tick levels) (range_with_len 1 (t - 1)) (range_with_len t (suc (until - t - 1)))
-      ∙ ap (λ ys. lines (range_with_len 1 (t - 1)) ++ ys)
+  told_until a t until was now some from later before same =
+      ap (λ (n : ℕ). lines (range_with_len a n)) {x = until - a} {y = (t - a) + suc (until - t - 1)} (omega arith)
+      ∙ ap lines (range_parts a (t - a) (suc (until - t - 1)) ∙ ap (λ (k : ℕ). range_with_len a (t - a) ++ range_with_len k (suc (until - t - 1))) {x = a + (t - a)} {y = t} (omega arith))
+      ∙ flat_map-append (tick_lines tick levels) (range_with_len a (t - a)) (range_with_len t (suc (until - t - 1)))
+      ∙ ap (λ ys. lines (range_with_len a (t - a)) ++ ys)
       (ap₂ (λ x y. x ++ y) (ap₂ (λ x y. under (time_line tick t) (changes_from 0 x y)) before (same t (omega arith) later))
       (quiet_range now (t + 1) (until - t - 1) (omega arith) (λ u from below. same u (omega arith) (omega arith)))
       ∙ append-nil (under (time_line tick t) (changes_from 0 was now)))
 
-  -- the same, where the text of what came before stands
-  pub tick_more : (t until : ℕ) → 1 ≤ t → t < until → ((u : ℕ) → t ≤ u → u < until → levels u ≡ levels t)
-      → lines (range_with_len 1 (until - 1)) ≡ lines (range_with_len 1 (t - 1)) ++ tick_lines tick levels t
+  -- the same, where the text of what came before stands, up to the end of a span
+  pub tick_more : (a t until to : ℕ) → 1 ≤ a → a ≤ t → t < until → t < to → ((u : ℕ) → t ≤ u → u < until → levels u ≡ levels t)
+      → lines (range_with_len a (min until to - a)) ≡ lines (range_with_len a (t - a)) ++ tick_lines tick levels t
   unfolding tick_lines
-  tick_more t until some later same = told_until t until (levels (t - 1)) (levels t) some later refl same
+  tick_more a t until to some from later inside same =
+      told_until a t (min until to) (levels (t - 1)) (levels t) some from (omega arith) refl (λ u high low. same u high (omega arith))
 
   -- what comes from tick t on
-  pub rest_of : (t end : ℕ) → 1 ≤ t → t ≤ end
-      → lines (range_with_len 1 (end - 1)) ≡ lines (range_with_len 1 (t - 1)) ++ lines (range_with_len t (end - t))
-  rest_of t end some inside =
-      ap (λ (n : ℕ). lines (range_with_len 1 n)) {x = end - 1} {y = (t - 1) + (end - t)} (omega arith)
-      ∙ ap lines (range_parts 1 (t - 1) (end - t) ∙ ap (λ (k : ℕ). range_with_len 1 (t - 1) ++ range_with_len k (end - t)) {x = 1 + (t - 1)} {y = t} (omega arith))
-      ∙ flat_map-append (tick_lines tick levels) (range_with_len 1 (t - 1)) (range_with_len t (end - t))
+  pub rest_of : (a t end : ℕ) → a ≤ t → t ≤ end
+      → lines (range_with_len a (end - a)) ≡ lines (range_with_len a (t - a)) ++ lines (range_with_len t (end - t))
+  rest_of a t end from inside =
+      ap (λ (n : ℕ). lines (range_with_len a n)) {x = end - a} {y = (t - a) + (end - t)} (omega arith)
+      ∙ ap lines (range_parts a (t - a) (end - t) ∙ ap (λ (k : ℕ). range_with_len a (t - a) ++ range_with_len k (end - t)) {x = a + (t - a)} {y = t} (omega arith))
+      ∙ flat_map-append (tick_lines tick levels) (range_with_len a (t - a)) (range_with_len t (end - t))
 
 pub under_some : (time more : List ℕ) → 0 < length more → under time more ≡ time ++ more
 under_some time [] some = absurd (omega arith)

@@ -11,4 +11,5 @@ pub mod Vcd
 pub mod Streams
 pub mod TraceText
 pub mod Picks
+pub mod Parts
 pub mod Calendar

@@ -38,6 +38,10 @@ is_asked_node (Some node) i = node == i
 abbrev pub is_picked : Pick → ℕ × (ℕ × Noted) → Bool
 is_picked pick (t, (i, n)) = is_within pick.window t && (is_asked_node pick.node i && is_asked_kind pick.only n.event)
 
--- the lines of the trace that are about events that are shown, in their order
-abbrev pub picked_text : Pick → Plan → List (List ℕ) → List ℕ
-picked_text pick plan names = flat_map (trace_line names) (filter (is_picked pick) (by_tick plan.end (all_told plan)))
+-- all errors
+abbrev pub all_errors : Pick
+all_errors = record { window = record { from = 0; to = None }; node = None; only = Some kinds.Error }
+
+-- a line for each event that is shown, tick by tick up to the end; those of one tick node by node
+abbrev pub trace_text : Pick → Plan → List (List ℕ) → List ℕ
+trace_text pick plan names = flat_map (trace_line names) (filter (is_picked pick) (by_tick plan.end (all_told plan)))

@@ -1,5 +1,5 @@
 -- The trace of a simulation: a line for each event of each node, in the order of their ticks (this project's profile).
-use Rattle.std.specs.Prelude.{ℕ, Bool, true, false, List, [], ◌∷◌, ◌++◌, map, length, codes, if◌then◌else◌}
+use Rattle.std.specs.Prelude.{ℕ, Bool, true, false, List, [], ◌∷◌, ◌++◌, map, length, codes, Option, Some, None, if◌then◌else◌}
 use Rattle.std.specs.List.{flat_map, range_with_len}
 use Rattle.std.specs.Fmt.{decimal, signed_decimal}
 use Rattle.wl_clock.specs.Timing.{Timing, tick_of}
@@ -101,10 +101,6 @@ told_at_end plan i = told_by (setup_at plan i).clock i (syncs_at_end plan i) ++ 
 abbrev pub all_told : Plan → List (ℕ × (ℕ × Noted))
 all_told plan = flat_map (told_at_end plan) (range_with_len 0 (length plan.nodes))
 
--- the lines of all events, tick by tick up to the end; those of one tick node by node
-abbrev pub trace_text : Plan → List (List ℕ) → List ℕ
-trace_text plan names = flat_map (trace_line names) (by_tick plan.end (all_told plan))
-
 abbrev pub is_error : NodeEvent → Bool
 is_error (events.ArbitrationLost place) = false
 is_error (events.Error kind sends stuff place) = true
@@ -123,3 +119,12 @@ first_error_in names (told ∷ later) = if is_error told.1.1.event then trace_li
 -- that of the trace
 abbrev pub first_error_text : Plan → List (List ℕ) → List ℕ
 first_error_text plan names = first_error_in names (by_tick plan.end (all_told plan))
+
+-- the tick of the first error of some events, if there is one
+abbrev pub first_error_at : List (ℕ × (ℕ × Noted)) → Option ℕ
+first_error_at [] = None
+first_error_at (told ∷ later) = if is_error told.1.1.event then Some told.0 else first_error_at later
+
+-- that of the trace
+abbrev pub first_error_tick : Plan → Option ℕ
+first_error_tick plan = first_error_at (by_tick plan.end (all_told plan))

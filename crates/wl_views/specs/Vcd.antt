@@ -1,6 +1,6 @@
 -- Value Change Dump (IEEE 1364-2005, clause 18.2): the signals of a simulation, with the ticks at which they change. Which signals
 -- there are and how they are named is this project's profile.
-use Rattle.std.specs.Prelude.{ℕ, suc, ◌-◌, ◌*◌, ◌==◌, bytes_eq, Bool, List, [], ◌∷◌, ◌++◌, codes, if◌then◌else◌}
+use Rattle.std.specs.Prelude.{ℕ, suc, ◌+◌, ◌-◌, ◌*◌, ◌==◌, bytes_eq, Bool, List, [], ◌∷◌, ◌++◌, codes, if◌then◌else◌}
 use Rattle.std.specs.List.{flat_map, range_with_len, enumerate_from}
 use Rattle.std.specs.Fmt.{decimal}
 use Rattle.wl_plan.specs.declared.plan.Plan.{Plan}
@@ -13,7 +13,10 @@ use Rattle.wl_views.specs.declared.tick.TimeUnit.{TimeUnit}
 use Rattle.wl_views.specs.declared.tick.TimeUnit.TheVariants.{Picosecond, Nanosecond, Microsecond}
 use Rattle.wl_views.specs.declared.tick.Tick.{Tick}
 use Rattle.wl_views.specs.declared.signals.NodeSignals.{NodeSignals}
+use Rattle.wl_views.specs.declared.window.Span.{Span}
+use Rattle.wl_views.specs.declared.window.Window.{Window}
 use Rattle.wl_views.specs.Signals.{signals}
+use Rattle.wl_views.specs.Windows.{span_of}
 
 abbrev pub unit_word : TimeUnit → List ℕ
 unit_word Picosecond = codes "ps"
@@ -162,15 +165,16 @@ under time (byte ∷ more) = time ++ (byte ∷ more)
 unfoldable pub tick_lines : Tick → (ℕ → List NodeSignals) → ℕ → List ℕ
 tick_lines tick levels t = under (time_line tick t) (changes_from 0 (levels (t - 1)) (levels t))
 
--- all levels at tick 0
-abbrev pub first_lines : Tick → List NodeSignals → List ℕ
-first_lines tick now = time_line tick 0 ++ codes "$dumpvars\n" ++ flat_map node_values (enumerate_from 0 now) ++ codes "$end\n"
+-- all levels, as those at tick t
+abbrev pub first_lines : Tick → ℕ → List NodeSignals → List ℕ
+first_lines tick t now = time_line tick t ++ codes "$dumpvars\n" ++ flat_map node_values (enumerate_from 0 now) ++ codes "$end\n"
 
--- the levels at tick 0, what changes at each tick after it and below the end, and the time of the end
-abbrev pub dump_lines : Tick → (ℕ → List NodeSignals) → ℕ → List ℕ
-dump_lines tick levels end =
-    first_lines tick (levels 0) ++ flat_map (tick_lines tick levels) (range_with_len 1 (end - 1)) ++ time_line tick end
+-- the levels at the first tick of a span, what changes at each tick after it and below the end of the span, and the time of that end
+abbrev pub dump_lines : Tick → (ℕ → List NodeSignals) → Span → List ℕ
+dump_lines tick levels span =
+    first_lines tick span.from (levels span.from)
+    ++ flat_map (tick_lines tick levels) (range_with_len (span.from + 1) (span.to - (span.from + 1))) ++ time_line tick span.to
 
--- the dump of what the one-thread simulation does, under these names of the nodes
-abbrev pub vcd_text : Tick → Plan → List (List ℕ) → List ℕ
-vcd_text tick plan names = header tick names ++ dump_lines tick (signals plan) plan.end
+-- the dump of what the one-thread simulation does within a window, under these names of the nodes
+abbrev pub vcd_text : Tick → Window → Plan → List (List ℕ) → List ℕ
+vcd_text tick window plan names = header tick names ++ dump_lines tick (signals plan) (span_of window plan.end)

@@ -214,11 +214,12 @@ fn push_values(text: &mut String, i: usize, now: NodeSignals) -> Result<(), Allo
     push_state(text, i, now.state)
 }
 
-/// Adds the levels of all signals of all nodes, as those at tick 0.
-fn push_first(text: &mut String, tick: Tick, now: &[NodeSignals]) -> Result<(), AllocError>
-    ensures { OnOk result (GrowsBy text.old text.new (first_lines tick now.now)) }
+/// Adds the levels of all signals of all nodes, as those at tick `t`.
+fn push_first(text: &mut String, tick: Tick, t: u64, now: &[NodeSignals]) -> Result<(), AllocError>
+    requires { t ≤ latest_end }
+    ensures { OnOk result (GrowsBy text.old text.new (first_lines tick t now.now)) }
 {
-    push_time(text, tick, 0)?;
+    push_time(text, tick, t)?;
     text.push_str("$dumpvars\n")?;
     push_all_values(text, now)?;
     text.push_str("$end\n")
@@ -234,17 +235,19 @@ fn push_all_values(text: &mut String, now: &[NodeSignals]) -> Result<(), AllocEr
     Ok(())
 }
 
-/// Returns what is before the first change after tick 0: the signals, and their levels at tick 0, which are these.
+/// Returns what is before the first change after tick `t`: the signals, and their levels at that tick, which are these.
 pub(crate) fn front(
     alloc: Global,
     tick: Tick,
     names: &Names,
+    t: u64,
     now: &[NodeSignals],
 ) -> Result<String, AllocError>
-    ensures { IfOk result (λ text. string_bytes text ≡ header tick names.now ++ first_lines tick now.now) }
+    requires { t ≤ latest_end }
+    ensures { IfOk result (λ text. string_bytes text ≡ header tick names.now ++ first_lines tick t now.now) }
 {
     let mut text = String::new(alloc);
     push_header(&mut text, tick, names)?;
-    push_first(&mut text, tick, now)?;
+    push_first(&mut text, tick, t, now)?;
     Ok(text)
 }

@@ -1,12 +1,13 @@
 //! Which events of a trace are shown.
 ghost use Rattle.std.specs.Prelude.{◌≡◌, OnOk, IfOk};
-ghost use Rattle.std.specs.List.{filter, flat_map};
+ghost use Rattle.std.specs.List.{flat_map};
 ghost use Rattle.wl_report.specs.Lines.{GrowsBy};
 ghost use Rattle.wl_serial.specs.Outcome.{outcome_of};
-ghost use Rattle.wl_views.specs.Picks.{is_asked_kind, is_asked_node, is_event_of, is_picked, picked_text};
+ghost use Rattle.wl_views.specs.Picks.{all_errors, is_asked_kind, is_asked_node, is_event_of, is_picked, trace_text};
 ghost use Rattle.wl_views.specs.TraceText.{trace_line};
 
-use crate::trace_text::{push_line, told_in_order};
+use crate::told::told_in_order;
+use crate::trace_text::push_line;
 use crate::window::Window;
 use std::alloc::{AllocError, Global};
 use wl_plan::CheckedPlan;
@@ -79,8 +80,19 @@ fn is_asked_node(node: Option<u8>, i: usize) -> bool
 }
 
 impl Pick {
+    /// Returns that all errors are picked.
+    pub(crate) fn errors() -> Pick
+        ensures { result ≡ all_errors }
+    {
+        Pick {
+            window: Window { from: 0, to: None },
+            node: None,
+            only: Some(EventKind::Error),
+        }
+    }
+
     /// True if an event of node `i` at a tick is shown.
-    fn shows(&self, tick: u64, i: usize, noted: &Noted) -> bool
+    pub(crate) fn shows(&self, tick: u64, i: usize, noted: &Noted) -> bool
         ensures { result ≡ is_picked self.now (tick, (i, noted.now)) }
     {
         self.window.has(tick)
@@ -89,27 +101,24 @@ impl Pick {
     }
 }
 
-/// Adds the lines of these events that are shown.
-fn push_picked(
+/// Adds the lines of these events.
+fn push_lines(
     text: &mut String,
-    pick: &Pick,
     names: &Names,
     told: &[(u64, (usize, Noted))],
 ) -> Result<(), AllocError>
-    ensures { OnOk result (GrowsBy text.old text.new
-        (flat_map (trace_line names.now) (filter (is_picked pick.now) told.now))) }
+    ensures { OnOk result (GrowsBy text.old text.new (flat_map (trace_line names.now) told.now)) }
 {
     for (tick, (i, noted)) in told {
-        if pick.shows(*tick, *i, noted) {
-            push_line(text, names, *tick, *i, *noted)?;
-        }
+        push_line(text, names, *tick, *i, *noted)?;
     }
     Ok(())
 }
 
-/// Returns the lines of the trace of a plan's simulation, which is `outcome`, that are about the events that are picked, in the order of
-/// the trace. Refused only when out of memory.
-pub fn picked_trace(
+/// Returns the trace of a plan's simulation, which is `outcome`, under these names of its nodes: for each event that is picked a line
+/// `{tick} {node} {name} q {quantum} b {bit} {what}`, in the order of their ticks; those of one tick node by node. Refused only when out of
+/// memory.
+pub fn trace(
     alloc: Global,
     pick: &Pick,
     plan: &CheckedPlan,
@@ -117,10 +126,10 @@ pub fn picked_trace(
     outcome: &Outcome,
 ) -> Result<Vec<u8>, AllocError>
     requires outcome { outcome.now ≡ outcome_of plan.now }
-    ensures { IfOk result (λ text. text.items ≡ picked_text pick.now plan.now names.now) }
+    ensures { IfOk result (λ text. text.items ≡ trace_text pick.now plan.now names.now) }
 {
-    let told = told_in_order(alloc, plan, outcome)?;
+    let told = told_in_order(alloc, pick, plan, outcome)?;
     let mut text = String::new(alloc);
-    push_picked(&mut text, pick, names, &told)?;
+    push_lines(&mut text, names, &told)?;
     Ok(text.into_bytes())
 }

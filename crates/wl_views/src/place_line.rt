@@ -5,13 +5,13 @@ ghost use Rattle.wl_plan.specs.Limits.{latest_end};
 ghost use Rattle.wl_plan.specs.Line.{found};
 ghost use Rattle.wl_plan.specs.PlanLine.{line_of};
 ghost use Rattle.wl_plan.specs.Simulation.{level};
-ghost use Rattle.wl_serial.specs.Outcome.{outcome_of};
+ghost use Rattle.wl_serial.specs.Outcome.{drives_of, outcome_of};
 ghost use Rattle.wl_views.specs.PlaceLine.{Hears, Lasts, Remembers, heard_until};
 
 use crate::signals::driven;
 use wl_plan::CheckedPlan;
 use wl_pulse::{Pulse, SILENCE, disturbed_at};
-use wl_serial::Outcome;
+use wl_serial::Drives;
 use wl_topology::MOST_NODES;
 
 /// What is known of the line at a node's place, from a tick on.
@@ -55,15 +55,15 @@ impl PlaceLine {
     }
 
     /// Asks again for cable and disturbances at node `i` if what was known of them has run out at tick `t`.
-    pub(crate) fn hear(&mut self, plan: &CheckedPlan, outcome: &Outcome, i: usize, t: u64)
-        requires outcome { outcome.now ≡ outcome_of plan.now }
+    pub(crate) fn hear(&mut self, plan: &CheckedPlan, drives: &Drives, i: usize, t: u64)
+        requires drives { drives.now ≡ drives_of (outcome_of plan.now) }
         requires node { i < length plan.now.nodes }
         requires early { t ≤ latest_end }
         requires remembers { Remembers plan.now i t self.old }
         ensures { Hears plan.now i t self.new }
     {
         if self.cable.until <= t {
-            self.cable = driven(plan, outcome, i, t, &mut self.come, &mut self.sources);
+            self.cable = driven(plan, drives, i, t, &mut self.come, &mut self.sources);
         }
         if self.disturbance.until <= t {
             self.disturbance = disturbed_at(plan, i, t);

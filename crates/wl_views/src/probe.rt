@@ -10,7 +10,7 @@ ghost use Rattle.wl_plan.specs.Limits.{latest_end};
 ghost use Rattle.wl_plan.specs.Line.{found};
 ghost use Rattle.wl_plan.specs.PlanLine.{line_of};
 ghost use Rattle.wl_plan.specs.Simulation.{level};
-ghost use Rattle.wl_serial.specs.Outcome.{outcome_of};
+ghost use Rattle.wl_serial.specs.Outcome.{drives_of, outcome_of};
 ghost use Rattle.wl_trace.specs.Rerun.{IsRerun};
 ghost use Rattle.wl_trace.specs.Snapshot.{snapshot_of};
 ghost use Rattle.wl_views.specs.PlaceLine.{Hears, Remembers, heard_until};
@@ -22,7 +22,7 @@ use std::alloc::{AllocError, Global};
 use wl_clock::Clock;
 use wl_level::Level;
 use wl_plan::CheckedPlan;
-use wl_serial::Outcome;
+use wl_serial::Drives;
 use wl_trace::{NodeSnapshot, Rerun};
 
 /// A probe of a node: its signals at a tick, and up to which tick they stay.
@@ -104,8 +104,8 @@ impl Probe {
     }
 
     /// Goes on to tick `t`.
-    pub(crate) fn go(&mut self, plan: &CheckedPlan, outcome: &Outcome, i: usize, t: u64)
-        requires outcome { outcome.now ≡ outcome_of plan.now }
+    pub(crate) fn go(&mut self, plan: &CheckedPlan, drives: &Drives, i: usize, t: u64)
+        requires drives { drives.now ≡ drives_of (outcome_of plan.now) }
         requires node { i < length plan.now.nodes }
         requires early { t ≤ latest_end }
         requires remembers { Remembers plan.now i t self.old.line }
@@ -113,14 +113,30 @@ impl Probe {
         requires awaits { Awaits plan.now i t self.old }
         ensures { Watches plan.now i t self.new }
     {
-        self.listen(plan, outcome, i, t);
+        self.listen(plan, drives, i, t);
         self.see(plan, i, t);
         self.pass(plan, i, t);
     }
 
+    /// Goes on from tick 0 to tick `t`, by way of the ticks at which its signals may change.
+    pub(crate) fn follow(&mut self, plan: &CheckedPlan, drives: &Drives, i: usize, t: u64)
+        requires drives { drives.now ≡ drives_of (outcome_of plan.now) }
+        requires node { i < length plan.now.nodes }
+        requires early { t ≤ latest_end }
+        requires watches { Watches plan.now i 0 self.old }
+        ensures { Watches plan.now i t self.new }
+    {
+        plan.laws();
+        wl_plan::simulation_laws();
+        while self.until <= t {
+            let until = self.until;
+            self.go(plan, drives, i, until);
+        }
+    }
+
     /// Asks again what the line is if that has run out at tick `t`.
-    fn listen(&mut self, plan: &CheckedPlan, outcome: &Outcome, i: usize, t: u64)
-        requires outcome { outcome.now ≡ outcome_of plan.now }
+    fn listen(&mut self, plan: &CheckedPlan, drives: &Drives, i: usize, t: u64)
+        requires drives { drives.now ≡ drives_of (outcome_of plan.now) }
         requires node { i < length plan.now.nodes }
         requires early { t ≤ latest_end }
         requires remembers { Remembers plan.now i t self.old.line }
@@ -133,7 +149,7 @@ impl Probe {
         if t < self.line.found().until {
             return;
         }
-        self.line.hear(plan, outcome, i, t);
+        self.line.hear(plan, drives, i, t);
         let (clock, end) = (&plan.nodes.as_slice()[i].clock, plan.end);
         self.limit = clock.first_not_before(self.line.found().until.min(end));
     }

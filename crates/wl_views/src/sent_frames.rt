@@ -30,7 +30,7 @@ fn push_sent(
 }
 
 /// Returns the frames that all nodes sent, node by node.
-fn all_sent(
+pub(crate) fn all_sent(
     alloc: Global,
     plan: &Plan,
     totals: &[NodeTotals],

@@ -9,7 +9,7 @@ ghost use Rattle.wl_plan.specs.Line.{found};
 ghost use Rattle.wl_plan.specs.PlanLine.{disturbed, is_at, line_of};
 ghost use Rattle.wl_plan.specs.Simulation.{level};
 ghost use Rattle.wl_serial.specs.LineAt.{comes};
-ghost use Rattle.wl_serial.specs.Outcome.{outcome_of};
+ghost use Rattle.wl_serial.specs.Outcome.{drives_of, outcome_of};
 ghost use Rattle.wl_views.specs.Limits.{longest_node_changes, longest_tick_changes, piece_room};
 ghost use Rattle.wl_views.specs.PlaceLine.{Comes, Lasts};
 ghost use Rattle.wl_views.specs.Probe.{AllWatched, IsCalendarOf, Watches};
@@ -22,7 +22,7 @@ use crate::probe::Probe;
 use std::alloc::{AllocError, Global};
 use wl_plan::CheckedPlan;
 use wl_pulse::{Pulse, pulse_of};
-use wl_serial::Outcome;
+use wl_serial::Drives;
 use wl_topology::MOST_NODES;
 use wl_trace::NodeState;
 
@@ -49,14 +49,14 @@ pub struct NodeSignals {
 /// `t`; else it is read from the node's changes, and kept in `held`.
 fn ask_again(
     plan: &CheckedPlan,
-    outcome: &Outcome,
+    drives: &Drives,
     i: usize,
     j: usize,
     t: u64,
     come: &mut usize,
     held: &mut Pulse,
 ) -> Pulse
-    requires outcome { outcome.now ≡ outcome_of plan.now }
+    requires drives { drives.now ≡ drives_of (outcome_of plan.now) }
     requires from { i < length plan.now.nodes }
     requires node { j < length plan.now.nodes }
     requires early { t ≤ latest_end }
@@ -70,8 +70,8 @@ fn ask_again(
         return *held;
     }
     let delay = plan.topology.delay(i as u8, j as u8);
-    let nodes = outcome.nodes.as_slice();
-    let changes = nodes[i].changes.as_slice();
+    let all = drives.as_slice();
+    let changes = all[i].as_slice();
     *held = pulse_of(changes, delay, t, come);
     *held
 }
@@ -80,13 +80,13 @@ fn ask_again(
 /// is dominant is enough, so those after it aren't asked.
 pub(crate) fn driven(
     plan: &CheckedPlan,
-    outcome: &Outcome,
+    drives: &Drives,
     j: usize,
     t: u64,
     come: &mut [usize; MOST_NODES],
     sources: &mut [Pulse; MOST_NODES],
 ) -> Pulse
-    requires outcome { outcome.now ≡ outcome_of plan.now }
+    requires drives { drives.now ≡ drives_of (outcome_of plan.now) }
     requires node { j < length plan.now.nodes }
     requires early { t ≤ latest_end }
     requires was { Comes plan.now j t sources.old }
@@ -96,7 +96,7 @@ pub(crate) fn driven(
     plan.laws();
     let mut until = u64::MAX;
     for i in 0..plan.nodes.len() {
-        let held = ask_again(plan, outcome, i, j, t, &mut come[i], &mut sources[i]);
+        let held = ask_again(plan, drives, i, j, t, &mut come[i], &mut sources[i]);
         if held.dominant {
             return held;
         }
@@ -109,33 +109,35 @@ pub(crate) fn driven(
     }
 }
 
-/// Returns a probe of each node, from tick 0 on. Refused only if memory runs out.
+/// Returns a probe of each node, from tick `at` on. Refused only if memory runs out.
 pub(crate) fn all_probes(
     alloc: Global,
     plan: &CheckedPlan,
-    outcome: &Outcome,
+    drives: &Drives,
+    at: u64,
 ) -> Result<Vec<Probe>, AllocError>
-    requires outcome { outcome.now ≡ outcome_of plan.now }
-    ensures { IfOk result (λ probes. AllWatched plan.now 0 probes.items) }
+    requires drives { drives.now ≡ drives_of (outcome_of plan.now) }
+    requires early { at ≤ latest_end }
+    ensures { IfOk result (λ probes. AllWatched plan.now at probes.items) }
 {
     let nodes = plan.nodes.len();
     let mut probes = Vec::with_capacity(alloc, nodes)?;
     for i in 0..nodes {
         let mut node = Probe::new(alloc, plan, i)?;
-        node.go(plan, outcome, i, 0);
+        node.go(plan, drives, i, 0);
+        node.follow(plan, drives, i, at);
         probes.push(node)?;
     }
     Ok(probes)
 }
 
-/// Returns the signals of all nodes at tick 0, by their probes. Refused only if memory runs out.
+/// Returns the signals of all nodes at the tick of their probes. Refused only if memory runs out.
 pub(crate) fn first_signals(
     alloc: Global,
     plan: &CheckedPlan,
     probes: &[Probe],
 ) -> Result<Vec<NodeSignals>, AllocError>
-    requires probes { AllWatched plan.now 0 probes.now }
-    ensures { IfOk result (λ now. now.items ≡ signals plan.now 0) }
+    ensures { IfOk result (λ now. (t : ℕ) → AllWatched plan.now t probes.now → now.items ≡ signals plan.now t) }
 {
     plan.laws();
     wl_plan::simulation_laws();
@@ -148,7 +150,7 @@ pub(crate) fn first_signals(
 
 /// Returns when the turn of each node comes: its signals stay up to then.
 pub(crate) fn calendar_of(plan: &CheckedPlan, probes: &[Probe]) -> Calendar
-    requires probes { AllWatched plan.now 0 probes.now }
+    requires probes { (t : ℕ) × AllWatched plan.now t probes.now }
     ensures { IsCalendarOf plan.now.end probes.now result }
 {
     plan.laws();
@@ -163,12 +165,12 @@ pub(crate) fn calendar_of(plan: &CheckedPlan, probes: &[Probe]) -> Calendar
 fn push_node(
     text: &mut Lines,
     plan: &CheckedPlan,
-    outcome: &Outcome,
+    drives: &Drives,
     i: usize,
     t: u64,
     probe: &mut Probe,
 )
-    requires outcome { outcome.now ≡ outcome_of plan.now }
+    requires drives { drives.now ≡ drives_of (outcome_of plan.now) }
     requires node { i < length plan.now.nodes }
     requires some { 0 < t }
     requires early { t ≤ latest_end }
@@ -183,7 +185,7 @@ fn push_node(
     plan.laws();
     wl_plan::simulation_laws();
     let was = probe.signals();
-    probe.go(plan, outcome, i, t);
+    probe.go(plan, drives, i, t);
     push_node_changes(text, i, was, probe.signals());
 }
 
@@ -192,12 +194,12 @@ fn push_node(
 pub(crate) fn push_changes(
     text: &mut Lines,
     plan: &CheckedPlan,
-    outcome: &Outcome,
+    drives: &Drives,
     t: u64,
     probes: &mut [Probe],
     calendar: &mut Calendar,
 ) -> u64
-    requires outcome { outcome.now ≡ outcome_of plan.now }
+    requires drives { drives.now ≡ drives_of (outcome_of plan.now) }
     requires some { 0 < t }
     requires early { t < plan.now.end }
     requires probes { AllWatched plan.now (t - 1) probes.old }
@@ -217,7 +219,7 @@ pub(crate) fn push_changes(
     let mut first = calendar.first();
     while next < probes.len() && first.0 <= t {
         let i = first.1;
-        push_node(text, plan, outcome, i, t, &mut probes[i]);
+        push_node(text, plan, drives, i, t, &mut probes[i]);
         calendar.put(i, probes[i].until.min(plan.end));
         next = i + 1;
         first = calendar.first();

@@ -1,26 +1,22 @@
-//! The trace of a run: what happened to each node, a line for each event.
-ghost use Rattle.std.specs.Prelude.{◌≡◌, ◌+◌, ◌-◌, ◌<◌, ◌≤◌, ◌++◌, OnOk, IfOk, length, string_bytes};
-ghost use Rattle.std.specs.List.{All};
+//! The lines of a trace, one for each event.
+ghost use Rattle.std.specs.Prelude.{◌≡◌, ◌+◌, ◌≤◌, ◌++◌, OnOk, IfOk, string_bytes};
 ghost use Rattle.std.specs.Fmt.{decimal};
 ghost use Rattle.arrayvec.specs.ArrayString.{array_string_len};
-ghost use Rattle.wl_node.specs.Limits.{most_run_quanta};
 ghost use Rattle.wl_report.specs.Lines.{GrowsBy};
 ghost use Rattle.wl_serial.specs.Outcome.{outcome_of};
-ghost use Rattle.wl_level.specs.ByTick.{by_tick};
-ghost use Rattle.wl_views.specs.TraceText.{all_told, error_kind_word, event_text, events_at_end, field_word, first_error_in, first_error_text, flag_word, is_error, line_start, place_text, sample_words, syncs_at_end, told_at_end, told_by, trace_line, trace_text};
+ghost use Rattle.wl_views.specs.TraceText.{error_kind_word, event_text, field_word, first_error_at, first_error_in, first_error_text, first_error_tick, flag_word, is_error, line_start, place_text, sample_words, trace_line};
 
-use crate::place_line::PlaceLine;
-use crate::probe::level_of;
+use crate::pick::Pick;
+use crate::told::told_in_order;
 use arrayvec::ArrayString;
 use itoa::Buffer;
 use std::alloc::{AllocError, Global};
-use wl_clock::Clock;
 use wl_confine::{Counters, ErrorKind};
 use wl_plan::CheckedPlan;
 use wl_report::{mode_word, push_content};
 use wl_serial::Outcome;
 use wl_setup::Names;
-use wl_trace::{FlagForm, FrameField, FramePlace, NodeEvent, Noted, Rerun, node_events};
+use wl_trace::{FlagForm, FrameField, FramePlace, NodeEvent, Noted};
 
 /// Returns the word of a field.
 fn field_word(field: FrameField) -> &'static str
@@ -197,147 +193,6 @@ pub(crate) fn push_line(
     Ok(())
 }
 
-/// Adds the events of node `i`, each with its tick.
-fn push_told(
-    told: &mut Vec<(u64, (usize, Noted))>,
-    clock: &Clock,
-    i: usize,
-    events: &[Noted],
-) -> Result<(), AllocError>
-    requires { All (λ n. n.quantum ≤ most_run_quanta) events.now }
-    ensures { OnOk result (told.new.items ≡ told.old.items ++ told_by clock.now i events.now) }
-{
-    for noted in events {
-        told.push((clock.at(noted.quantum), (i, *noted)))?;
-    }
-    Ok(())
-}
-
-/// Returns how node `i` was synchronised: it runs again up to the end, from one change of the line at its place to the next.
-fn syncs_at_end(
-    alloc: Global,
-    plan: &CheckedPlan,
-    outcome: &Outcome,
-    i: usize,
-) -> Result<Vec<Noted>, AllocError>
-    requires outcome { outcome.now ≡ outcome_of plan.now }
-    requires node { i < length plan.now.nodes }
-    ensures { IfOk result (λ syncs. syncs.items ≡ syncs_at_end plan.now i) }
-{
-    plan.laws();
-    wl_plan::simulation_laws();
-    let (setup, end) = (&plan.nodes.as_slice()[i], plan.end);
-    let mut line = PlaceLine::new();
-    let mut node = Rerun::new(alloc, setup)?;
-    let mut syncs = Vec::new(alloc);
-    let mut quanta = 0;
-    let mut t = 0;
-    while t < end {
-        line.hear(plan, outcome, i, t);
-        let found = line.found();
-        let until = found.until.min(end);
-        let next = setup.clock.first_not_before(until);
-        let level = level_of(found.dominant);
-        node.go(setup, quanta, level, next - quanta, &mut syncs)?;
-        quanta = next;
-        t = until;
-    }
-    Ok(syncs)
-}
-
-/// Returns what the samples of node `i` did.
-fn events_at_end(
-    alloc: Global,
-    plan: &CheckedPlan,
-    outcome: &Outcome,
-    i: usize,
-) -> Result<Vec<Noted>, AllocError>
-    requires outcome { outcome.now ≡ outcome_of plan.now }
-    requires node { i < length plan.now.nodes }
-    ensures { IfOk result (λ events. events.items ≡ events_at_end plan.now i) }
-{
-    let setups = plan.nodes.as_slice();
-    let nodes = outcome.nodes.as_slice();
-    let samples = nodes[i].samples.list(alloc)?;
-    let events = node_events(alloc, &setups[i], samples.as_slice())?;
-    Ok(events)
-}
-
-/// Adds how node `i` was synchronised and what its samples did, each with its tick.
-fn push_node(
-    alloc: Global,
-    told: &mut Vec<(u64, (usize, Noted))>,
-    plan: &CheckedPlan,
-    outcome: &Outcome,
-    i: usize,
-) -> Result<(), AllocError>
-    requires outcome { outcome.now ≡ outcome_of plan.now }
-    requires node { i < length plan.now.nodes }
-    ensures { OnOk result (told.new.items ≡ told.old.items ++ told_at_end plan.now i) }
-{
-    plan.laws();
-    wl_plan::simulation_laws();
-    wl_trace::trace_laws();
-    let clock = &plan.nodes.as_slice()[i].clock;
-    let syncs = syncs_at_end(alloc, plan, outcome, i)?;
-    push_told(told, clock, i, &syncs)?;
-    let events = events_at_end(alloc, plan, outcome, i)?;
-    push_told(told, clock, i, &events)?;
-    Ok(())
-}
-
-/// Returns the events of all nodes, node by node, each with its tick.
-fn all_told(
-    alloc: Global,
-    plan: &CheckedPlan,
-    outcome: &Outcome,
-) -> Result<Vec<(u64, (usize, Noted))>, AllocError>
-    requires outcome { outcome.now ≡ outcome_of plan.now }
-    ensures { IfOk result (λ told. told.items ≡ all_told plan.now) }
-{
-    let mut told = Vec::new(alloc);
-    for i in 0..plan.nodes.len() {
-        push_node(alloc, &mut told, plan, outcome, i)?;
-    }
-    Ok(told)
-}
-
-/// Returns the events of all nodes in the order of their ticks; those of one tick node by node.
-pub(crate) fn told_in_order(
-    alloc: Global,
-    plan: &CheckedPlan,
-    outcome: &Outcome,
-) -> Result<Vec<(u64, (usize, Noted))>, AllocError>
-    requires outcome { outcome.now ≡ outcome_of plan.now }
-    ensures { IfOk result (λ told. told.items ≡ by_tick plan.now.end (all_told plan.now)) }
-{
-    plan.laws();
-    wl_plan::simulation_laws();
-    wl_trace::trace_laws();
-    let mut told = all_told(alloc, plan, outcome)?;
-    told.sort_by_cached_key(|(tick, _)| *tick)?;
-    Ok(told)
-}
-
-/// Returns the trace of a plan's simulation, which is `outcome`, under these names of its nodes: for each event a line
-/// `{tick} {node} {name} q {quantum} b {bit} {what}`, in the order of their ticks; those of one tick node by node.
-pub fn trace(
-    alloc: Global,
-    plan: &CheckedPlan,
-    names: &Names,
-    outcome: &Outcome,
-) -> Result<Vec<u8>, AllocError>
-    requires outcome { outcome.now ≡ outcome_of plan.now }
-    ensures { IfOk result (λ text. text.items ≡ trace_text plan.now names.now) }
-{
-    let told = told_in_order(alloc, plan, outcome)?;
-    let mut text = String::new(alloc);
-    for (tick, (i, noted)) in told.iter() {
-        push_line(&mut text, names, *tick, *i, *noted)?;
-    }
-    Ok(text.into_bytes())
-}
-
 /// True if an event is an error.
 fn is_error(event: NodeEvent) -> bool
     ensures { result ≡ is_error event }
@@ -375,8 +230,33 @@ pub fn first_error(
     requires outcome { outcome.now ≡ outcome_of plan.now }
     ensures { IfOk result (λ text. string_bytes text ≡ first_error_text plan.now names.now) }
 {
-    let told = told_in_order(alloc, plan, outcome)?;
+    let errors = told_in_order(alloc, &Pick::errors(), plan, outcome)?;
     let mut text = String::new(alloc);
-    push_first_error(&mut text, names, &told)?;
+    push_first_error(&mut text, names, &errors)?;
     Ok(text)
+}
+
+/// Returns the tick of the first error of some events, if there is one.
+fn first_error_at(told: &[(u64, (usize, Noted))]) -> Option<u64>
+    ensures { result ≡ first_error_at told.now }
+{
+    for (tick, (_, noted)) in told {
+        if is_error(noted.event) {
+            return Some(*tick);
+        }
+    }
+    None
+}
+
+/// Returns the tick of the first error of a plan's simulation, which is `outcome`, if there was one. Refused only when out of memory.
+pub fn first_error_tick(
+    alloc: Global,
+    plan: &CheckedPlan,
+    outcome: &Outcome,
+) -> Result<Option<u64>, AllocError>
+    requires outcome { outcome.now ≡ outcome_of plan.now }
+    ensures { IfOk result (λ tick. tick ≡ first_error_tick plan.now) }
+{
+    let errors = told_in_order(alloc, &Pick::errors(), plan, outcome)?;
+    Ok(first_error_at(&errors))
 }

@@ -3,7 +3,7 @@ ghost use Rattle.std.specs.Prelude.{◌≡◌, ℕ, ◌+◌, ◌-◌, ◌<◌, �
 ghost use Rattle.std.specs.List.{flat_map, range_with_len};
 ghost use Rattle.arrayvec.specs.ArrayVec.{array_vec_len};
 ghost use Rattle.wl_device.specs.Devices.{Writes};
-ghost use Rattle.wl_serial.specs.Outcome.{outcome_of};
+ghost use Rattle.wl_serial.specs.Outcome.{drives_of, outcome_of};
 ghost use Rattle.wl_views.specs.Limits.{full_piece, longest_piece};
 ghost use Rattle.wl_views.specs.Probe.{AllWatched, IsCalendarOf};
 ghost use Rattle.wl_views.specs.Signals.{signals};
@@ -19,11 +19,12 @@ use crate::probe::Probe;
 use crate::signals::{all_probes, calendar_of, first_signals, push_changes};
 use crate::stamp::Stamp;
 use crate::tick::Tick;
+use crate::window::{Span, Window};
 use arrayvec::ArrayVec;
 use std::alloc::Global;
 use wl_device::{Sink, WriteFault, send};
 use wl_plan::CheckedPlan;
-use wl_serial::Outcome;
+use wl_serial::Drives;
 use wl_setup::Names;
 
 /// Adds what changes at tick `t` under its time, and returns a later tick up to which nothing changes again.
@@ -32,12 +33,12 @@ fn push_tick(
     stamp: &mut Stamp,
     tick: Tick,
     plan: &CheckedPlan,
-    outcome: &Outcome,
+    drives: &Drives,
     t: u64,
     probes: &mut [Probe],
     calendar: &mut Calendar,
 ) -> u64
-    requires outcome { outcome.now ≡ outcome_of plan.now }
+    requires drives { drives.now ≡ drives_of (outcome_of plan.now) }
     requires some { 0 < t }
     requires early { t < plan.now.end }
     requires probes { AllWatched plan.now (t - 1) probes.old }
@@ -55,27 +56,30 @@ fn push_tick(
     let before = text.len();
     push_time(text, stamp, tick, t);
     let timed = text.len();
-    let until = push_changes(text, plan, outcome, t, probes, calendar);
+    let until = push_changes(text, plan, drives, t, probes, calendar);
     if text.len() == timed {
         text.truncate(before);
     }
     until
 }
 
-/// Writes this front and all that changes from tick 1 on, by pieces and without memory.
+/// Writes this front, all that changes at ticks of a span after its first one, and the time of its end, by pieces and without memory.
 fn write_from<W: Sink>(
     front: &[u8],
     tick: Tick,
+    span: Span,
     plan: &CheckedPlan,
-    outcome: &Outcome,
+    drives: &Drives,
     probes: &mut [Probe],
     writer: &mut W,
 ) -> Result<(), WriteFault>
-    requires outcome { outcome.now ≡ outcome_of plan.now }
-    requires probes { AllWatched plan.now 0 probes.old }
+    requires drives { drives.now ≡ drives_of (outcome_of plan.now) }
+    requires begun { span.from ≤ plan.now.end - 1 }
+    requires ended { span.to ≤ plan.now.end }
+    requires probes { AllWatched plan.now span.from probes.old }
     ensures { Writes W.takes writer.old
-        (front.now ++ (flat_map (tick_lines tick (signals plan.now)) (range_with_len 1 (plan.now.end - 1))
-        ++ time_line tick plan.now.end))
+        (front.now ++ (flat_map (tick_lines tick (signals plan.now))
+        (range_with_len (span.from + 1) (span.to - (span.from + 1))) ++ time_line tick span.to))
         result writer.new }
 {
     plan.laws();
@@ -83,12 +87,11 @@ fn write_from<W: Sink>(
         Ok(made) => made,
         Err(fault) => return Err(fault),
     };
-    let end = plan.end;
     let mut calendar = calendar_of(plan, probes);
     let mut text: Lines = ArrayVec::new();
     let mut stamp = Stamp::new();
-    let mut t = 1;
-    while t < end {
+    let mut t = span.from + 1;
+    while t < span.to {
         if text.len() > FULL_PIECE {
             calls = match send(text.as_slice(), writer, calls) {
                 Ok(made) => made,
@@ -101,38 +104,53 @@ fn write_from<W: Sink>(
             &mut stamp,
             tick,
             plan,
-            outcome,
+            drives,
             t,
             probes,
             &mut calendar,
         );
     }
-    push_time(&mut text, &mut stamp, tick, end);
+    push_time(&mut text, &mut stamp, tick, span.to);
     match send(text.as_slice(), writer, calls) {
         Ok(_) => Ok(()),
         Err(fault) => Err(fault),
     }
 }
 
-/// Writes the Value Change Dump of a plan's simulation, which is `outcome`, under these names of its nodes, by pieces.
+/// Writes the Value Change Dump of a window of a plan's simulation, under these names of its nodes, by pieces; `drives` are the changes of its
+/// drives.
+///
+/// The dump has all values at the window's first tick, or at the last of the run if the window begins later. Then it has the changes at each
+/// tick after it and below the window's end, or the run's.
 ///
 /// Memory is asked for before the first write. If it runs out, the writer isn't called; if the writer fails, a prefix of the dump has been
 /// written.
 pub fn vcd<W: Sink>(
     alloc: Global,
     tick: Tick,
+    window: Window,
     plan: &CheckedPlan,
     names: &Names,
-    outcome: &Outcome,
+    drives: &Drives,
     writer: &mut W,
 ) -> Result<(), ViewFault>
-    requires outcome { outcome.now ≡ outcome_of plan.now }
-    ensures { Streams W.takes writer.old (vcd_text tick plan.now names.now) writer.new result }
+    requires drives { drives.now ≡ drives_of (outcome_of plan.now) }
+    ensures { Streams W.takes writer.old (vcd_text tick window plan.now names.now) writer.new result }
 {
-    let mut probes = all_probes(alloc, plan, outcome)?;
+    plan.laws();
+    let span = window.span(plan.end);
+    let mut probes = all_probes(alloc, plan, drives, span.from)?;
     let now = first_signals(alloc, plan, &probes)?;
-    let front = front(alloc, tick, names, &now)?;
-    let written = write_from(front.as_bytes(), tick, plan, outcome, &mut probes, writer);
+    let front = front(alloc, tick, names, span.from, &now)?;
+    let written = write_from(
+        front.as_bytes(),
+        tick,
+        span,
+        plan,
+        drives,
+        &mut probes,
+        writer,
+    );
     match written {
         Ok(()) => Ok(()),
         Err(fault) => Err(ViewFault::from(fault)),

@@ -14,9 +14,10 @@ returns c =
     let margin = c.as_bytes-3.ensures.value in
     let traffic = c.as_bytes-4.ensures.value ∙ run.0 in
     let report = c.deref.ensures.value ∙ run.1 in
-    let trace = c.deref-2.ensures.value ∙ run.2 in
-    let wave = c.deref-3.ensures.value ∙ run.3 in
-    let same = same_page c.args.text.now figures settings margin traffic report trace wave in
+    let part = c.as_bytes-5.ensures.value ∙ run.2 in
+    let trace = c.deref-2.ensures.value ∙ run.3 in
+    let wave = c.deref-3.ensures.value ∙ run.4 in
+    let same = same_page c.args.text.now figures settings margin traffic report part trace wave in
     ok_so c.page.result
     (λ whole is. (
       string_bytes c.in_ok-known.known.figures,

@@ -7,6 +7,7 @@ pub returns : goal.returns
 unfolding page_of
 returns c =
     rw c.in_ok-push_script.ensures
+    rw c.in_ok-push_part-9.ensures
     rw c.in_ok-push_part-8.ensures
     rw c.in_ok-push_part-7.ensures
     rw c.in_ok-push_part-6.ensures

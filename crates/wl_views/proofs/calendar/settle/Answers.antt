@@ -1,4 +1,4 @@
-use Rattle.std.proofs.Common.{◌∙◌, ℕ, ◌*◌, ◌/◌, ◌<◌, ◌≤◌, arith, get_or-set_other}
+use Rattle.std.proofs.Common.{◌∙◌, ℕ, ◌/◌, ◌<◌, ◌≤◌, arith, get_or-set_other}
 use Rattle.wl_views.proofs.Calendars.{settled}
 use Rattle.wl_views.proofs.calendar.settle.Goals as goal
 

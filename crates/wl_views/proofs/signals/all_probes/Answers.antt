@@ -9,12 +9,12 @@ loop-i-preserved c =
     let plan = c.args.plan.now in
     let i : ℕ = c.loop-i.i in
     let all : List Probe = c.loop-i.probes.items in
-    let w : Probe = c.go.new.self in
+    let w : Probe = c.follow.new.self in
     record {
       long = ap length c.in_ok-push.ensures.items ∙ length-append all (w ∷ []) ∙ ap (λ (n : ℕ). n + 1) c.loop-i.invariant.long;
       known = λ k d below.
-          subst (λ (xs : List Probe). Watches plan k 0 (get_or xs k d)) (sym c.in_ok-push.ensures.items)
-          (known_behind (λ m x. Watches plan m 0 x) all i w c.loop-i.invariant.long c.loop-i.invariant.known c.go.ensures k d below);
+          subst (λ (xs : List Probe). Watches plan k c.args.at (get_or xs k d)) (sym c.in_ok-push.ensures.items)
+          (known_behind (λ m x. Watches plan m c.args.at x) all i w c.loop-i.invariant.long c.loop-i.invariant.known c.follow.ensures k d below);
     }
 
 pub go-requires-clause-limit : goal.go-requires-clause-limit

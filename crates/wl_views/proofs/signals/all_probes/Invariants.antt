@@ -7,5 +7,5 @@ use Rattle.wl_views.proofs.signals.all_probes.Given as goal
 abbrev pub invariant-loop-i : goal.invariant-loop-i
 invariant-loop-i l = record {
   long : length l.probes.items ≡ l.i;
-  known : (k : ℕ) (d : Probe) → k < l.i → Watches l.plan k 0 (get_or l.probes.items k d);
+  known : (k : ℕ) (d : Probe) → k < l.i → Watches l.plan k l.at (get_or l.probes.items k d);
 }

@@ -1,0 +1,7 @@
+use Rattle.std.proofs.Common.{◌≡◌, length, map}
+use Rattle.std.specs.List.{range_with_len}
+use Rattle.wl_plan.specs.PlanLine.{table_of}
+use Rattle.wl_serial.proofs.recorded.drives_at_end.Given as goal
+
+abbrev pub invariant-loop-r : goal.invariant-loop-r
+invariant-loop-r l = l.drives ≡ map (table_of l.plan) (range_with_len 0 (length l.yielded))

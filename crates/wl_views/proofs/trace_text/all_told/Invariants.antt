@@ -1,8 +1,0 @@
-use Rattle.std.proofs.Common.{◌≡◌}
-use Rattle.std.specs.List.{flat_map, range_with_len}
-use Rattle.wl_views.specs.TraceText.{told_at_end}
-use Rattle.wl_views.proofs.trace_text.all_told.Given as goal
-
--- those of the nodes so far
-abbrev pub invariant-loop-i : goal.invariant-loop-i
-invariant-loop-i l = l.told.items ≡ flat_map (told_at_end l.plan) (range_with_len 0 l.i)

@@ -1,0 +1,151 @@
+//! The events of a run that are picked, in the order of their ticks.
+ghost use Rattle.std.specs.Prelude.{◌≡◌, ◌-◌, ◌<◌, ◌≤◌, ◌++◌, OnOk, IfOk, length};
+ghost use Rattle.std.specs.List.{All, filter};
+ghost use Rattle.wl_node.specs.Limits.{most_run_quanta};
+ghost use Rattle.wl_serial.specs.Outcome.{drives_of, outcome_of};
+ghost use Rattle.wl_level.specs.ByTick.{by_tick};
+ghost use Rattle.wl_views.specs.Picks.{is_picked};
+ghost use Rattle.wl_views.specs.TraceText.{all_told, events_at_end, syncs_at_end, told_at_end, told_by};
+
+use crate::pick::Pick;
+use crate::place_line::PlaceLine;
+use crate::probe::level_of;
+use std::alloc::{AllocError, Global};
+use wl_clock::Clock;
+use wl_plan::CheckedPlan;
+use wl_serial::{Drives, Outcome};
+use wl_trace::{Noted, Rerun, node_events};
+
+/// Adds those of these events of node `i` that are picked, each with its tick.
+fn push_told(
+    told: &mut Vec<(u64, (usize, Noted))>,
+    pick: &Pick,
+    clock: &Clock,
+    i: usize,
+    events: &[Noted],
+) -> Result<(), AllocError>
+    requires { All (λ n. n.quantum ≤ most_run_quanta) events.now }
+    ensures { OnOk result (told.new.items
+        ≡ told.old.items ++ filter (is_picked pick.now) (told_by clock.now i events.now)) }
+{
+    for noted in events {
+        let tick = clock.at(noted.quantum);
+        if pick.shows(tick, i, noted) {
+            told.push((tick, (i, *noted)))?;
+        }
+    }
+    Ok(())
+}
+
+/// Returns how node `i` was synchronised: it runs again up to the end, from one change of the line at its place to the next.
+fn syncs_at_end(
+    alloc: Global,
+    plan: &CheckedPlan,
+    drives: &Drives,
+    i: usize,
+) -> Result<Vec<Noted>, AllocError>
+    requires drives { drives.now ≡ drives_of (outcome_of plan.now) }
+    requires node { i < length plan.now.nodes }
+    ensures { IfOk result (λ syncs. syncs.items ≡ syncs_at_end plan.now i) }
+{
+    plan.laws();
+    wl_plan::simulation_laws();
+    let (setup, end) = (&plan.nodes.as_slice()[i], plan.end);
+    let mut line = PlaceLine::new();
+    let mut node = Rerun::new(alloc, setup)?;
+    let mut syncs = Vec::new(alloc);
+    let mut quanta = 0;
+    let mut t = 0;
+    while t < end {
+        line.hear(plan, drives, i, t);
+        let found = line.found();
+        let until = found.until.min(end);
+        let next = setup.clock.first_not_before(until);
+        let level = level_of(found.dominant);
+        node.go(setup, quanta, level, next - quanta, &mut syncs)?;
+        quanta = next;
+        t = until;
+    }
+    Ok(syncs)
+}
+
+/// Returns what the samples of node `i` did.
+fn events_at_end(
+    alloc: Global,
+    plan: &CheckedPlan,
+    outcome: &Outcome,
+    i: usize,
+) -> Result<Vec<Noted>, AllocError>
+    requires outcome { outcome.now ≡ outcome_of plan.now }
+    requires node { i < length plan.now.nodes }
+    ensures { IfOk result (λ events. events.items ≡ events_at_end plan.now i) }
+{
+    let setups = plan.nodes.as_slice();
+    let nodes = outcome.nodes.as_slice();
+    let samples = nodes[i].samples.list(alloc)?;
+    let events = node_events(alloc, &setups[i], samples.as_slice())?;
+    Ok(events)
+}
+
+/// Adds how node `i` was synchronised and what its samples did, each with its tick, as far as it is picked.
+fn push_node(
+    alloc: Global,
+    told: &mut Vec<(u64, (usize, Noted))>,
+    pick: &Pick,
+    plan: &CheckedPlan,
+    outcome: &Outcome,
+    drives: &Drives,
+    i: usize,
+) -> Result<(), AllocError>
+    requires outcome { outcome.now ≡ outcome_of plan.now }
+    requires drives { drives.now ≡ drives_of (outcome_of plan.now) }
+    requires node { i < length plan.now.nodes }
+    ensures { OnOk result (told.new.items ≡ told.old.items ++ filter (is_picked pick.now) (told_at_end plan.now i)) }
+{
+    plan.laws();
+    wl_plan::simulation_laws();
+    wl_trace::trace_laws();
+    let clock = &plan.nodes.as_slice()[i].clock;
+    let syncs = syncs_at_end(alloc, plan, drives, i)?;
+    push_told(told, pick, clock, i, &syncs)?;
+    let events = events_at_end(alloc, plan, outcome, i)?;
+    push_told(told, pick, clock, i, &events)?;
+    Ok(())
+}
+
+/// Returns the events of all nodes that are picked, node by node, each with its tick.
+fn all_told(
+    alloc: Global,
+    pick: &Pick,
+    plan: &CheckedPlan,
+    outcome: &Outcome,
+) -> Result<Vec<(u64, (usize, Noted))>, AllocError>
+    requires outcome { outcome.now ≡ outcome_of plan.now }
+    ensures { IfOk result (λ told. told.items ≡ filter (is_picked pick.now) (all_told plan.now)) }
+{
+    let drives = outcome.drives(alloc)?;
+    let mut told = Vec::new(alloc);
+    for i in 0..plan.nodes.len() {
+        push_node(alloc, &mut told, pick, plan, outcome, &drives, i)?;
+    }
+    Ok(told)
+}
+
+/// Returns the events of all nodes that are picked in the order of their ticks; those of one tick node by node.
+pub(crate) fn told_in_order(
+    alloc: Global,
+    pick: &Pick,
+    plan: &CheckedPlan,
+    outcome: &Outcome,
+) -> Result<Vec<(u64, (usize, Noted))>, AllocError>
+    requires outcome { outcome.now ≡ outcome_of plan.now }
+    ensures { IfOk result (λ told. told.items
+        ≡ filter (is_picked pick.now) (by_tick plan.now.end (all_told plan.now))) }
+{
+    plan.laws();
+    wl_plan::simulation_laws();
+    wl_trace::trace_laws();
+    let mut told = all_told(alloc, pick, plan, outcome)?;
+    told.sort_by_cached_key(|(tick, _)| *tick)?;
+    Ok(told)
+}
