@@ -135,16 +135,18 @@ class Bus:
         far = {(k, w): d(k, w) + d(w, k) + self.look[k] + max(0, self.high[w] - d(w, w)) - self.low[k] for k in nodes for w in self.others(k)}
         step = {(k, w): max(0, self.jump[k] - 10 * self.drift(w, k)) for k, w in far}
         chase = [max([0] + [-(-far[k, w] // step[k, w]) - 1 for w in self.others(k) if w in self.sends and step[k, w]]) for k in nodes]
+        beyond = [max([0] + [10 * self.drift(i, k) + self.look[k] + self.gathered(chase, i, k) - self.jump[i] for k in self.others(i)]) for i in nodes]
+        left = [over and over + self.tick for over in beyond]
         for i in nodes:
             sample, rest = self.sample[i] * self.low[i], self.ps2[i] * self.low[i]
             if d(i, i) > sample: yield "loop", i, i, d(i, i), sample
             for w in self.others(i):
                 if w in self.sends and far[i, w] > (chase[i] + 1) * step[i, w]: yield "chase", i, w, far[i, w], (chase[i] + 1) * step[i, w]
             for k in self.others(i):
-                early, late = self.look[k] + self.gathered(chase, i, k), self.look[i] + self.gathered(chase, k, i)
-                taken = {"look": 10 * self.drift(i, k) + early, "drift": 10 * self.drift(k, i),
+                early, late = self.look[k] + self.gathered(chase, i, k) + left[i], self.look[i] + self.gathered(chase, k, i) + left[k]
+                taken = {"drift": 10 * self.drift(k, i),
                          "late": d(i, k) + d(k, i) + late + 10 * self.drift(k, i), "rest": early + 12 * self.drift(i, k) + self.tick}
-                there = {"look": self.jump[i], "drift": self.jump[i], "late": sample, "rest": rest}
+                there = {"drift": self.jump[i], "late": sample, "rest": rest}
                 yield from ((kind, i, k, taken[kind], there[kind]) for kind in taken if taken[kind] > there[kind])
 
     def leaves_room(self):
@@ -368,7 +370,6 @@ class Text:
         if kind == "late": return self.failure(LATE, i, k, left, right)
         if kind == "drift": return f"in ten bits {b} falls behind {a} by up to {taken}, and an edge puts right {there}"
         if kind == "chase": return f"{a} can be {taken} off the bits of {b}, and its edges put right {there}"
-        if kind == "look": return f"the look of {b}, ten bits of drift and what gathers take up to {taken} at {a}, and an edge puts right {there}"
         return f"twelve bits after an edge a bit of {b} comes to {a} up to {taken} too early, and its PHASE_SEG2 has {there}"
 
     def causes(self, room):

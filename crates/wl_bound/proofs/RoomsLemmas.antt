@@ -19,12 +19,11 @@ second_is : (v w : Bool) → (v && not w) ≡ false → v ≡ true → w ≡ tru
 second_is true w e is = not-false w e
 second_is false w e is = cc
 
-all_four : (p q r s : Bool) → (p && (q && (r && s))) ≡ true → (p ≡ true) × (q ≡ true) × (r ≡ true) × (s ≡ true)
-all_four p q r s e =
-    let first = and_parts p (q && (r && s)) e in
-    let second = and_parts q (r && s) first.1 in
-    let third = and_parts r s second.1 in
-    (first.0, second.0, third.0, third.1)
+all_three : (p q r : Bool) → (p && (q && r)) ≡ true → (p ≡ true) × (q ≡ true) × (r ≡ true)
+all_three p q r e =
+    let first = and_parts p (q && r) e in
+    let second = and_parts q r first.1 in
+    (first.0, second.0, second.1)
 
 pub all_short : (f : Buses) → any_below (length f.members) (has_long_quantum (plain_bus f)) ≡ false → IsShort f
 all_short f none i less =
@@ -51,7 +50,7 @@ module _ (b : Bus) (has : has_room b ≡ true) where
 
   abbrev HavePairRoom : (i k : ℕ) → Type 0
   HavePairRoom i k =
-      (10 * drift b i k + comes_early b i k ≤ jump b i) × (10 * drift b k i ≤ jump b i)
+      (10 * drift b k i ≤ jump b i)
       × (b.delay i k + b.delay k i + comes_early b k i + 10 * drift b k i ≤ sample_at (b.lengths i) * b.shortest i)
       × (comes_early b i k + 12 * drift b i k + b.tick ≤ (b.lengths i).ps2 * b.shortest i)
 
@@ -60,18 +59,17 @@ module _ (b : Bus) (has : has_room b ≡ true) where
       let none = none_below b.nodes (is_crowded b i) (node i ni).1.1 k nk in
       let other : not (k == i) ≡ true = ap not (ne_eqb k i (λ e. apart (sym e))) in
       let have = second_is (not (k == i)) (have_room b i k) none other in
-      let four = all_four
-      (nat_le (10 * drift b i k + comes_early b i k) (jump b i)) (nat_le (10 * drift b k i) (jump b i))
+      let three = all_three
+      (nat_le (10 * drift b k i) (jump b i))
       (nat_le (b.delay i k + b.delay k i + comes_early b k i + 10 * drift b k i) (sample_at (b.lengths i) * b.shortest i))
       (nat_le (comes_early b i k + 12 * drift b i k + b.tick) ((b.lengths i).ps2 * b.shortest i)) have in
-      (leb-true _ _ four.0, leb-true _ _ four.1, leb-true _ _ four.2, leb-true _ _ four.3)
+      (leb-true _ _ three.0, leb-true _ _ three.1, leb-true _ _ three.2)
 
   pub is_room : HasAllRoom b
   is_room = record {
     catches = catches_up;
     loop_is_there = λ i ni. leb-true _ _ (not-false _ (node i ni).0);
-    drift_fits_jump = λ i k ni nk apart. (pair i k ni nk apart).0;
-    drift_fits_both = λ i k ni nk apart. (pair i k ni nk apart).1;
-    bit_is_there_at_sample = λ i k ni nk apart. (pair i k ni nk apart).2;
-    no_bit_too_early = λ i k ni nk apart. (pair i k ni nk apart).3;
+    drift_fits_both = λ i k ni nk apart. (pair i k ni nk apart).0;
+    bit_is_there_at_sample = λ i k ni nk apart. (pair i k ni nk apart).1;
+    no_bit_too_early = λ i k ni nk apart. (pair i k ni nk apart).2;
   }

@@ -6,14 +6,13 @@ use Rattle.wl_bound.specs.Families.{Bus, Buses}
 use Rattle.wl_bound.specs.Terms.{drift, jump}
 use Rattle.wl_bound.specs.declared.lack.Lack.{Lack}
 use Rattle.wl_bound.specs.declared.lack.Shortage.{Shortage}
-use Rattle.wl_bound.specs.declared.lack.Shortage.TheVariants.{OwnBit, CatchingUp, LookInJump, DriftInJump, WayToSample, Rest}
+use Rattle.wl_bound.specs.declared.lack.Shortage.TheVariants.{OwnBit, CatchingUp, DriftInJump, WayToSample, Rest}
 use Rattle.wl_bound.specs.Rooms.{distance, falls_behind, gain, is_crowded, lacks_room, least_chase, longest_said, plain_bus, said_early}
 
 -- The tests of `has_room`, for nodes i and k: what takes time, and the time that there is.
 abbrev pub room_left : Bus → Shortage → (i k : ℕ) → ℕ
 room_left b OwnBit i k = b.delay i i
 room_left b CatchingUp i k = distance b i k
-room_left b LookInJump i k = 10 * drift b i k + said_early b i k
 room_left b DriftInJump i k = 10 * drift b k i
 room_left b WayToSample i k = b.delay i k + b.delay k i + said_early b k i + 10 * drift b k i
 room_left b Rest i k = said_early b i k + 12 * drift b i k + b.tick
@@ -21,7 +20,6 @@ room_left b Rest i k = said_early b i k + 12 * drift b i k + b.tick
 abbrev pub room_right : Bus → Shortage → (i k : ℕ) → ℕ
 room_right b OwnBit i k = sample_at (b.lengths i) * b.shortest i
 room_right b CatchingUp i k = min (suc (least_chase b i) * gain b i k) longest_said
-room_right b LookInJump i k = jump b i
 room_right b DriftInJump i k = jump b i
 room_right b WayToSample i k = sample_at (b.lengths i) * b.shortest i
 room_right b Rest i k = (b.lengths i).ps2 * b.shortest i
@@ -34,11 +32,10 @@ lack_of b shortage i k =
 abbrev pub falls_short : Lack → Bool
 falls_short lack = not (nat_le lack.sides.left lack.sides.right)
 
--- the first of the four that fails for two nodes without room
+-- the first of the three that fails for two nodes without room
 abbrev pub pair_lack : Bus → (i k : ℕ) → Lack
 pair_lack b i k =
-    if falls_short (lack_of b LookInJump i k) then lack_of b LookInJump i k
-    else if falls_short (lack_of b DriftInJump i k) then lack_of b DriftInJump i k
+    if falls_short (lack_of b DriftInJump i k) then lack_of b DriftInJump i k
     else if falls_short (lack_of b WayToSample i k) then lack_of b WayToSample i k
     else lack_of b Rest i k
 

@@ -74,7 +74,7 @@ late_limit = 2 ^ 106
 abbrev pub side_limit : ℕ
 side_limit = 2 ^ 107
 
--- a look, with what gathers up to `longest_said`
+-- a look, with what gathers up to `longest_said` and what an edge leaves up to `longest_left`
 abbrev pub said_limit : ℕ
 said_limit = 2 ^ 101
 

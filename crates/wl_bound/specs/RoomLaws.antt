@@ -9,7 +9,6 @@ use Rattle.wl_bound.specs.Rooms.{comes_early, distance, gain, least_chase, leave
 pub record HasAllRoom (b : Bus) : Type 0 where
   pub catches : (k w : ℕ) → k < b.nodes → w < b.nodes → k ≢ w → b.sends w ≡ true → distance b k w ≤ suc (least_chase b k) * gain b k w
   pub loop_is_there : (i : ℕ) → i < b.nodes → b.delay i i ≤ sample_at (b.lengths i) * b.shortest i
-  pub drift_fits_jump : (i k : ℕ) → i < b.nodes → k < b.nodes → i ≢ k → 10 * drift b i k + comes_early b i k ≤ jump b i
   pub drift_fits_both : (i k : ℕ) → i < b.nodes → k < b.nodes → i ≢ k → 10 * drift b k i ≤ jump b i
   pub bit_is_there_at_sample : (i k : ℕ) → i < b.nodes → k < b.nodes → i ≢ k
       → b.delay i k + b.delay k i + comes_early b k i + 10 * drift b k i ≤ sample_at (b.lengths i) * b.shortest i

@@ -39,25 +39,34 @@ unfoldable pub gathering : Bus → (i k : ℕ) → ℕ
 gathering b i k =
     if any_below b.nodes (sends_third b i k) then least_chase b k * (10 * drift b i k + ((b.lengths i).sjw * b.longest i - jump b k)) else 0
 
+-- What an edge doesn't put right at node i: a jump takes off what ten bits drift, a look, and what gathers. It is counted in whole ticks, so it takes a tick more at most.
+unfoldable pub beyond_jump : Bus → (gathers : ℕ → ℕ → ℕ) → ℕ → ℕ
+beyond_jump b gathers i = greatest b.nodes (λ k. not (k == i)) (λ k. 10 * drift b i k + look b k + gathers i k - jump b i)
+
+unfoldable pub left_over : Bus → (gathers : ℕ → ℕ → ℕ) → ℕ → ℕ
+left_over b gathers i = if beyond_jump b gathers i == 0 then 0 else beyond_jump b gathers i + b.tick
+
 -- how early a bit of node k can be at node i, without drift
 abbrev pub comes_early : Bus → (i k : ℕ) → ℕ
-comes_early b i k = look b k + gathering b i k
+comes_early b i k = look b k + gathering b i k + left_over b (gathering b) i
 
--- So it is said: what gathers counts up to 2^100 units. No time that there is takes longer, so a test that it fails stays failed.
+-- So it is said: what gathers counts up to 2^100 units, and what an edge leaves up to 2^99. No time that there is takes longer, so a test that it fails stays failed.
 abbrev pub longest_said : ℕ
 longest_said = 1267650600228229401496703205376
 
-abbrev pub said_early : Bus → (i k : ℕ) → ℕ
-said_early b i k = look b k + min (gathering b i k) longest_said
+abbrev pub longest_left : ℕ
+longest_left = 633825300114114700748351602688
 
--- Nodes i and k have room, as if both sent: ten bits' drift and what comes early fit a jump, a bit is there at the sample, and the next one isn't yet after twelve bits without an edge. So many
--- are from the ACK slot to the next frame (Bosch CAN 2.0 part B, section 3.1: end of frame and intermission).
+abbrev pub said_early : Bus → (i k : ℕ) → ℕ
+said_early b i k = look b k + min (gathering b i k) longest_said + min (left_over b (gathering b) i) longest_left
+
+-- Nodes i and k have room, as if both sent: ten bits' drift fit a jump, a bit is there at the sample, and the next one isn't yet after twelve bits without an edge. So many are from the ACK slot to
+-- the next frame (Bosch CAN 2.0 part B, section 3.1: end of frame and intermission).
 abbrev pub have_room : Bus → (i k : ℕ) → Bool
 have_room b i k =
-    nat_le (10 * drift b i k + comes_early b i k) (jump b i)
-    && (nat_le (10 * drift b k i) (jump b i)
+    nat_le (10 * drift b k i) (jump b i)
     && (nat_le (b.delay i k + b.delay k i + comes_early b k i + 10 * drift b k i) (sample_at (b.lengths i) * b.shortest i)
-    && nat_le (comes_early b i k + 12 * drift b i k + b.tick) ((b.lengths i).ps2 * b.shortest i)))
+    && nat_le (comes_early b i k + 12 * drift b i k + b.tick) ((b.lengths i).ps2 * b.shortest i))
 
 -- what node i lacks: it doesn't catch up with a sender, its own bit isn't back by its sample, or another node has no room with it
 abbrev pub falls_behind : Bus → (i w : ℕ) → Bool

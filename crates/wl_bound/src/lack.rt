@@ -17,8 +17,6 @@ pub enum Shortage {
     OwnBit,
     /// The node doesn't catch up with the other one: no edge brings it nearer.
     CatchingUp,
-    /// Ten bits of drift, the look of the other node and what gathers don't fit the node's jump.
-    LookInJump,
     /// Ten bits of the other node's drift don't.
     DriftInJump,
     /// A bit of the other node isn't there by the node's sample.
@@ -36,7 +34,8 @@ pub struct Lack {
     pub node: u8,
     /// The other node; the same one if it is its own bit.
     pub other: u8,
-    /// What takes time and the time that there is, in millionths of a tick. What gathers counts up to 2^100.
+    /// What takes time and the time that there is, in millionths of a tick. What gathers counts up to 2^100, what an edge
+    /// leaves up to 2^99.
     pub sides: Sides,
 }
 
@@ -57,7 +56,6 @@ impl<'f> OneBus<'f> {
         match shortage {
             Shortage::OwnBit => self.delay(i, i),
             Shortage::CatchingUp => self.distance(i, k),
-            Shortage::LookInJump => 10 * self.drift(i, k) + self.said_early(i, k),
             Shortage::DriftInJump => 10 * self.drift(k, i),
             Shortage::WayToSample => {
                 let round = self.delay(i, k) + self.delay(k, i);
@@ -83,7 +81,7 @@ impl<'f> OneBus<'f> {
                 let gained = edges.saturating_mul(self.gain(i, k));
                 gained.min(LONGEST_SAID)
             }
-            Shortage::LookInJump | Shortage::DriftInJump => self.jump(i),
+            Shortage::DriftInJump => self.jump(i),
             Shortage::Rest => self.phase_two(i),
         }
     }
@@ -111,10 +109,6 @@ impl<'f> OneBus<'f> {
         requires other { k < (the_bus self.now).nodes }
         ensures { result ≡ pair_lack (the_bus self.now) i k }
     {
-        let look = self.lack_of(Shortage::LookInJump, i, k);
-        if falls_short(&look) {
-            return look;
-        }
         let drift = self.lack_of(Shortage::DriftInJump, i, k);
         if falls_short(&drift) {
             return drift;

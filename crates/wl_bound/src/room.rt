@@ -1,9 +1,10 @@
 //! What room a bus has.
-ghost use Rattle.std.specs.Prelude.{◌≡◌, ◌<◌, min};
+ghost use Rattle.std.specs.Prelude.{◌≡◌, ◌+◌, ◌-◌, ◌*◌, ◌<◌, min};
 ghost use Rattle.wl_topology.specs.Driven.{any_below};
 ghost use Rattle.wl_bound.specs.Limits.{jump_limit, said_limit, way_limit};
 ghost use Rattle.wl_bound.specs.OneBuses.{the_bus};
-ghost use Rattle.wl_bound.specs.Rooms.{catches, distance, edges_to, falls_behind, gain, gathering, has_long_quantum, have_room, is_crowded, is_roomy, lacks_room, least_chase, leaves_room, longest_said, said_early};
+ghost use Rattle.wl_bound.specs.Terms.{drift, jump, look};
+ghost use Rattle.wl_bound.specs.Rooms.{beyond_jump, catches, distance, edges_to, falls_behind, gain, gathering, has_long_quantum, have_room, is_crowded, is_roomy, lacks_room, least_chase, leaves_room, left_over, longest_left, longest_said, said_early};
 
 use crate::bus::OneBus;
 use crate::family::Family;
@@ -13,6 +14,9 @@ const MOST_QUANTUM: u128 = 281_474_976_710_656;
 
 /// What gathers is counted up to 2^100 units, which is more than any time that there is.
 pub(crate) const LONGEST_SAID: u128 = 1 << 100;
+
+/// What an edge leaves is counted up to 2^99 units.
+const LONGEST_LEFT: u128 = 1 << 99;
 
 impl<'f> OneBus<'f> {
     /// Returns how far node `k` may have to catch up with the bits of node `w`.
@@ -97,6 +101,49 @@ impl<'f> OneBus<'f> {
         gathers.min(LONGEST_SAID)
     }
 
+    /// Returns the most that ten bits of drift, a look and what gathers of another node take beyond a jump of node `i`. What gathers counts up
+    /// to 2^100 units.
+    #[tactic(auto, unfolding(crate::specs::Rooms::beyond_jump))]
+    fn beyond_jump(&self, i: u8) -> u128
+        requires node { i < (the_bus self.now).nodes }
+        ensures value { min result longest_left
+            ≡ min (beyond_jump (the_bus self.now) (gathering (the_bus self.now)) i) longest_left }
+        ensures most { result < said_limit }
+    {
+        let mut most = 0;
+        for k in 0..self.nodes() {
+            if k != i {
+                most = most.max(self.beyond_jump_by(i, k));
+            }
+        }
+        most
+    }
+
+    /// Returns what they take of node `k`.
+    fn beyond_jump_by(&self, i: u8, k: u8) -> u128
+        requires one { i < (the_bus self.now).nodes }
+        requires other { k < (the_bus self.now).nodes }
+        ensures value { min result longest_left ≡ min (10 * drift (the_bus self.now) i k + look (the_bus self.now) k
+            + gathering (the_bus self.now) i k - jump (the_bus self.now) i) longest_left }
+        ensures most { result < said_limit }
+    {
+        let early = 10 * self.drift(i, k) + self.look(k) + self.gathering(i, k);
+        early.saturating_sub(self.jump(i))
+    }
+
+    /// Returns how much later than an edge a bit of node `i` can be, since a jump doesn't put all right, up to 2^99 units.
+    #[tactic(auto, unfolding(crate::specs::Rooms::left_over))]
+    fn left_over(&self, i: u8) -> u128
+        requires node { i < (the_bus self.now).nodes }
+        ensures { result ≡ min (left_over (the_bus self.now) (gathering (the_bus self.now)) i) longest_left }
+    {
+        let beyond = self.beyond_jump(i);
+        if beyond == 0 {
+            return 0;
+        }
+        (beyond + self.tick()).min(LONGEST_LEFT)
+    }
+
     /// Returns how early a bit of node `k` can be at node `i`, without drift, with what gathers up to 2^100 units.
     pub(crate) fn said_early(&self, i: u8, k: u8) -> u128
         requires one { i < (the_bus self.now).nodes }
@@ -104,7 +151,7 @@ impl<'f> OneBus<'f> {
         ensures value { result ≡ said_early (the_bus self.now) i k }
         ensures most { result < said_limit }
     {
-        self.look(k) + self.gathering(i, k)
+        self.look(k) + self.gathering(i, k) + self.left_over(i)
     }
 
     /// True if nodes `i` and `k` have room, as if both sent.
@@ -118,8 +165,7 @@ impl<'f> OneBus<'f> {
         let round = self.delay(i, k) + self.delay(k, i);
         let drift = self.drift(i, k);
         let jump = self.jump(i);
-        10 * drift + early <= jump
-            && 10 * self.drift(k, i) <= jump
+        10 * self.drift(k, i) <= jump
             && round + late <= self.sample(i)
             && early + 12 * drift + self.tick() <= self.phase_two(i)
     }
@@ -224,8 +270,8 @@ impl<'f> OneBus<'f> {
 impl Family {
     /// True if the bus of a family has room for acknowledgements of any senders, and to rest after each frame.
     ///
-    /// Any two nodes have room as if both sent. Ten bits' drift, a look and what gathers while they catch up with a winner fit a jump. A bit is
-    /// there at each sample, and after twelve bits without an edge the next one isn't there yet.
+    /// Any two nodes have room as if both sent. Ten bits' drift fit a jump. A bit is there at each sample, and after twelve bits without an edge
+    /// the next one isn't there yet: with a look, what gathers while they catch up with a winner, and what a jump doesn't put right of these.
     pub fn leaves_room(&self) -> bool
         ensures { result ≡ leaves_room self.now }
     {

@@ -41,11 +41,6 @@ chase_parts =
     literal (codes "not proved: ") ∷ field (codes "name") Word ∷ literal (codes " can be ")
     ∷ taken_parts (literal (codes " quanta) off the bits of ") ∷ field (codes "other_name") Word ∷ literal (codes ", and its edges put right ") ∷ [])
 
-abbrev pub look_parts : List Part
-look_parts =
-    literal (codes "not proved: the look of ") ∷ field (codes "other_name") Word ∷ literal (codes ", ten bits of drift and what gathers take up to ")
-    ∷ taken_parts (literal (codes " quanta) at ") ∷ field (codes "name") Word ∷ literal (codes ", and an edge puts right ") ∷ [])
-
 abbrev pub drift_parts : List Part
 drift_parts =
     literal (codes "not proved: in ten bits ") ∷ (two_names (codes "other_name") (codes " falls behind ") (codes "name")
@@ -59,7 +54,7 @@ rest_parts =
 abbrev pub lack_forms : List Form
 lack_forms =
     lack_form (codes "own_bit") (back_parts (codes "not proved: ")) ∷ lack_form (codes "catching_up") chase_parts ∷
-    lack_form (codes "look_in_jump") look_parts ∷ lack_form (codes "drift_in_jump") drift_parts ∷
+    lack_form (codes "drift_in_jump") drift_parts ∷
     lack_form (codes "way_to_sample") (late_parts (codes "not proved: ")) ∷ lack_form (codes "rest") rest_parts ∷
     a_form (codes "not_proved") (literal (codes "not proved: ") ∷ field (codes "reason") Rest ∷ []) ∷ []
 

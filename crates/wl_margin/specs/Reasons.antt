@@ -16,7 +16,7 @@ use Rattle.wl_bound.specs.Verdicts.{idle_at, is_ready_from}
 use Rattle.wl_bound.specs.Lacks.{first_lack}
 use Rattle.wl_bound.specs.declared.lack.Lack.{Lack}
 use Rattle.wl_bound.specs.declared.lack.Shortage.{Shortage}
-use Rattle.wl_bound.specs.declared.lack.Shortage.TheVariants.{OwnBit, CatchingUp, LookInJump, DriftInJump, WayToSample, Rest}
+use Rattle.wl_bound.specs.declared.lack.Shortage.TheVariants.{OwnBit, CatchingUp, DriftInJump, WayToSample, Rest}
 use Rattle.wl_margin.specs.Paces.{is_turning, least_ticks, most_ticks}
 use Rattle.wl_margin.specs.Pieces.{joined, each_below}
 use Rattle.wl_margin.specs.Sentences.{Measure, around_words, drift_words, late_words, loop_words, measure_of, within_words}
@@ -121,11 +121,6 @@ module _ (plan : Plan) (names : List (List ℕ)) where
 abbrev pub chase_words : (a b taken there : List ℕ) → List ℕ
 chase_words a b taken there = joined (a ∷ codes " can be " ∷ taken ∷ codes " off the bits of " ∷ b ∷ codes ", and its edges put right " ∷ there ∷ [])
 
-abbrev pub look_words : (a b taken there : List ℕ) → List ℕ
-look_words a b taken there =
-    joined (codes "the look of " ∷ b ∷ codes ", ten bits of drift and what gathers take up to " ∷ taken ∷ codes " at " ∷ a
-    ∷ codes ", and an edge puts right " ∷ there ∷ [])
-
 abbrev pub resting_words : (a b taken there : List ℕ) → List ℕ
 resting_words a b taken there =
     joined (codes "twelve bits after an edge a bit of " ∷ b ∷ codes " comes to " ∷ a ∷ codes " up to " ∷ taken
@@ -134,7 +129,6 @@ resting_words a b taken there =
 abbrev pub shortage_words : Shortage → (a b taken there : List ℕ) → List ℕ
 shortage_words OwnBit a b taken there = loop_words a taken there
 shortage_words CatchingUp a b taken there = chase_words a b taken there
-shortage_words LookInJump a b taken there = look_words a b taken there
 shortage_words DriftInJump a b taken there = drift_words b a taken there
 shortage_words WayToSample a b taken there = late_words a b taken there
 shortage_words Rest a b taken there = resting_words a b taken there

@@ -5,7 +5,7 @@ ghost use Rattle.wl_topology.specs.Driven.{any_below};
 ghost use Rattle.wl_bound.specs.Covered.{finds_one_busy};
 ghost use Rattle.wl_margin.specs.Pieces.{each_below};
 ghost use Rattle.wl_margin.specs.Sentences.{amount_words};
-ghost use Rattle.wl_margin.specs.Reasons.{any_cause, cause_before, cause_words, chase_words, first_leaver, first_listener, idle_but, idle_quantum, is_kept_by, kept_words, lack_sentence, look_words, of_line, one_cause, quantum_words, ready_words, resting_words, astray_line, astray_words, beyond_words, taken_words, waiting_words};
+ghost use Rattle.wl_margin.specs.Reasons.{any_cause, cause_before, cause_words, chase_words, first_leaver, first_listener, idle_but, idle_quantum, is_kept_by, kept_words, lack_sentence, of_line, one_cause, quantum_words, ready_words, resting_words, astray_line, astray_words, beyond_words, taken_words, waiting_words};
 
 use crate::paces::{Stray, first_turning, least_ticks, most_ticks};
 use crate::sentences::{Amount, push_drift, push_late, push_loop};
@@ -261,23 +261,6 @@ fn push_chase(
     )
 }
 
-/// Adds the sentence of a jump that the look of another node doesn't fit.
-fn push_look(
-    text: &mut String,
-    a: &str,
-    b: &str,
-    taken: Amount,
-    there: Amount,
-) -> Result<(), AllocError>
-    ensures { OnOk result (string_bytes text.new ≡ string_bytes text.old ++ look_words a.now b.now
-        (amount_words taken.picoseconds taken.quanta) (amount_words there.picoseconds there.quanta)) }
-{
-    write!(
-        text,
-        "the look of {b}, ten bits of drift and what gathers take up to {taken} at {a}, and an edge puts right {there}"
-    )
-}
-
 /// Adds the sentence of a node that has no room to rest after a frame.
 fn push_resting(
     text: &mut String,
@@ -306,7 +289,6 @@ fn push_lack(text: &mut String, units: Units, names: &Names, lack: Lack) -> Resu
     match lack.shortage {
         Shortage::OwnBit => push_loop(text, a, taken, there),
         Shortage::CatchingUp => push_chase(text, a, b, taken, there),
-        Shortage::LookInJump => push_look(text, a, b, taken, there),
         Shortage::DriftInJump => push_drift(text, b, a, taken, there),
         Shortage::WayToSample => push_late(text, a, b, taken, there),
         Shortage::Rest => push_resting(text, a, b, taken, there),

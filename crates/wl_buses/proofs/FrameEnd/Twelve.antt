@@ -2,9 +2,10 @@
 use Rattle.std.proofs.Common.{◌≡◌, ap, ℕ, ◌+◌, ◌*◌, ◌<◌, ◌≤◌, true, arith}
 use Rattle.std.proofs.Math.Nat.{mul-le-mul_left, le_of_mul-le-mul_left}
 use Rattle.wl_bound.specs.Families.{Bus}
+use Rattle.wl_bound.specs.Rooms.{left_over}
 use Rattle.wl_bound.specs.Terms.{drift, look}
 use Rattle.wl_buses.specs.OneFrame.Acknowledged.{chased_way}
-use Rattle.wl_buses.specs.OneFrame.Answers.{HasRoomToAnswer, gathered, left_over}
+use Rattle.wl_buses.specs.OneFrame.Answers.{HasRoomToAnswer, gathered}
 use Rattle.wl_buses.specs.OneFrame.Bounds.{HasStations}
 use Rattle.wl_buses.specs.OneFrame.Stations.{AreOnALine, Stations, bit_drift, shared_quantum, shared_tick}
 use Rattle.wl_buses.proofs.OneFrame.AckBounds.{drift_high, extra, extra_high, late_is}
@@ -26,6 +27,6 @@ room_to_rest bus s line of winner wins may chase has leaves i k ni nk apart =
     let h = leaves i k (inside_bus bus s line of i ni) (inside_bus bus s line of k nk) apart in
     let p : (bus.lengths i).ps2 * bus.shortest i ≡ (s.lengths i).ps2 * bus.shortest i = ap (λ l. l.ps2 * bus.shortest i) (of.lengths i) in
     fits_twelve bus.tick (shared_tick s i k) (chased_way s winner chase k i) (bit_drift s i k) ((s.delay k i + s.delay i k) * shared_tick s i k)
-    (extra bus s line of winner wins may chase has i k) (look bus k + gathered bus chase i k + left_over bus chase i) (drift bus i k) ((s.lengths i).ps2 * shared_quantum s i k) ((s.lengths i).ps2 * bus.shortest i)
+    (extra bus s line of winner wins may chase has i k) (look bus k + gathered bus chase i k + left_over bus (gathered bus chase) i) (drift bus i k) ((s.lengths i).ps2 * shared_quantum s i k) ((s.lengths i).ps2 * bus.shortest i)
     of.some (late_is bus s line of winner wins may chase has i k ni nk) (extra_high bus s line of winner wins may chase has i k ni nk) (drift_high bus s line of winner wins may chase has i k ni nk)
     (quanta_low bus s line of i k (s.lengths i).ps2 ni) (omega arith)

@@ -9,13 +9,13 @@ use Rattle.wl_buses.proofs.BothProofs.Small.{distinct, greatest_each}
 use Rattle.wl_segments.specs.Lengths.{sample_at, bit_quanta}
 use Rattle.wl_topology.specs.Driven.{any_below}
 use Rattle.wl_topology.proofs.Callers.{any_from}
-use Rattle.wl_bound.proofs.Greatest.{bounded}
 use Rattle.wl_bound.specs.Families.{Bus}
+use Rattle.wl_bound.specs.Rooms.{beyond_jump, left_over}
 use Rattle.wl_bound.specs.Terms.{drift, greatest, jump, look, sends_third}
 use Rattle.wl_buses.specs.OneFrame.Acknowledged.{CatchUp, answering, any_way, chased_way, gathered_way, gathers, jump_gap, most_overrun, overrun}
 use Rattle.wl_buses.proofs.OneFrame.AckWays.{gathered_stations, gathers_is}
 use Rattle.wl_buses.proofs.OneFrame.Measures.{some_tick}
-use Rattle.wl_buses.specs.OneFrame.Answers.{HasRoomToAnswer, OneEdgeIsEnough, beyond_jump, gathered, left_over}
+use Rattle.wl_buses.specs.OneFrame.Answers.{HasRoomToAnswer, gathered}
 use Rattle.wl_buses.specs.OneFrame.Bounds.{HasStations}
 use Rattle.wl_buses.specs.OneFrame.Stations.{AreOnALine, HaveRoomToSample, Stations, bit_drift, shared_quantum, shared_tick}
 use Rattle.wl_buses.proofs.OneFrame.Bounded.{drift_is, fits, follows_by, inside, jump_is, look_high, loop_by, over_by, own_is, own_none, quanta_back, quanta_high, quanta_low, quanta_there, way_is}
@@ -72,18 +72,6 @@ rounds_up u m parts units (suc most) some there high each =
     rw (ne_eqb (suc most) 0 (λ e. cc))
     (let few : u * div_ceil parts m < suc most + u = lt_of_mul-lt-mul_left m (scaled u m (div_ceil parts m) parts units (suc most) some (div_ceil_times parts m there).1 high each) in
     omega arith)
-
--- nothing is left if one edge puts all right
-pub none_left : (bus : Bus) (chase : ℕ → ℕ) → OneEdgeIsEnough bus chase → (i : ℕ) → i < bus.nodes → left_over bus chase i ≡ 0
-unfolding left_over beyond_jump
-none_left bus chase enough i ni = ap (λ n. cond (n == 0) 0 (n + bus.tick)) none
-  where
-    none : beyond_jump bus chase i ≡ 0
-    none =
-        (let few =
-        bounded bus.nodes (λ k. not (k == i)) (λ k. 10 * drift bus i k + look bus k + gathered bus chase i k - jump bus i) 0
-        (λ k nk other. (let h = enough i k ni nk (λ e. distinct k i other (sym e)) in omega arith)) in
-        omega arith)
 
 module _ (bus : Bus) (s : Stations) (line : AreOnALine s) (of : HasStations bus s) (winner : ℕ) (wins : winner < s.count) (may_win : s.may_send winner ≡ true)
     (chase : ℕ → ℕ) (has : HasRoomToAnswer bus chase) where
@@ -189,7 +177,7 @@ module _ (bus : Bus) (s : Stations) (line : AreOnALine s) (of : HasStations bus 
       let m : bus.tick * lack i k ≤ bus.tick * (near i k + 10 * bit_drift s i k - (s.lengths i).sjw * shared_quantum s i k) = mul-le-mul_left bus.tick smaller in
       omega arith
 
-  over_each : (i k : ℕ) → i < s.count → k < s.count → i ≢ k → bus.tick * overrun s winner chase i k ≤ left_over bus chase i
+  over_each : (i k : ℕ) → i < s.count → k < s.count → i ≢ k → bus.tick * overrun s winner chase i k ≤ left_over bus (gathered bus chase) i
   unfolding left_over beyond_jump lack
   over_each i k ni nk apart =
       rounds_up bus.tick (shared_tick s i k) (lack i k) (10 * drift bus i k + look bus k + gathered bus chase i k - jump bus i)
@@ -197,19 +185,19 @@ module _ (bus : Bus) (s : Stations) (line : AreOnALine s) (of : HasStations bus 
       of.some (shared_some i k ni nk) (lack_high i k ni nk)
       (greatest_each bus.nodes (λ a. not (a == i)) (λ a. 10 * drift bus i a + look bus a + gathered bus chase i a - jump bus i) k (inside bus s line of k nk) (ap not (ne_eqb k i (λ e. apart (sym e)))))
 
-  over_high : (i : ℕ) → i < s.count → bus.tick * most_overrun s winner chase i ≤ left_over bus chase i
+  over_high : (i : ℕ) → i < s.count → bus.tick * most_overrun s winner chase i ≤ left_over bus (gathered bus chase) i
   unfolding most_overrun
-  over_high i ni = bounded_times s.count (λ k. not (k == i)) (overrun s winner chase i) bus.tick (left_over bus chase i) (λ k nk other. over_each i k ni nk (λ e. distinct k i other (sym e)))
+  over_high i ni = bounded_times s.count (λ k. not (k == i)) (overrun s winner chase i) bus.tick (left_over bus (gathered bus chase) i) (λ k nk other. over_each i k ni nk (λ e. distinct k i other (sym e)))
 
   -- all that, with what an edge leaves
   pub extra : (i k : ℕ) → ℕ
   extra i k = near i k + most_overrun s winner chase i * shared_tick s i k
 
-  pub extra_high : (i k : ℕ) → i < s.count → k < s.count → bus.tick * extra i k ≤ shared_tick s i k * (look bus k + gathered bus chase i k + left_over bus chase i)
+  pub extra_high : (i k : ℕ) → i < s.count → k < s.count → bus.tick * extra i k ≤ shared_tick s i k * (look bus k + gathered bus chase i k + left_over bus (gathered bus chase) i)
   unfolding extra
   extra_high i k ni nk =
-      let over : shared_tick s i k * (bus.tick * most_overrun s winner chase i) ≤ shared_tick s i k * left_over bus chase i = mul-le-mul_left (shared_tick s i k) (over_high i ni) in
-      add bus.tick (shared_tick s i k) (near i k) (most_overrun s winner chase i * shared_tick s i k) (look bus k + gathered bus chase i k) (left_over bus chase i)
+      let over : shared_tick s i k * (bus.tick * most_overrun s winner chase i) ≤ shared_tick s i k * left_over bus (gathered bus chase) i = mul-le-mul_left (shared_tick s i k) (over_high i ni) in
+      add bus.tick (shared_tick s i k) (near i k) (most_overrun s winner chase i * shared_tick s i k) (look bus k + gathered bus chase i k) (left_over bus (gathered bus chase) i)
       (near_high i k ni nk) (omega arith)
 
   pub late_is : (i k : ℕ) → i < s.count → k < s.count → late k i ≤ (s.delay k i + s.delay i k) * shared_tick s i k + extra i k
@@ -238,7 +226,7 @@ module _ (bus : Bus) (s : Stations) (line : AreOnALine s) (of : HasStations bus 
       let f =
       fits bus.tick (shared_tick s i k) 1 (bit_quanta (s.lengths i) * shared_quantum s i k) (bit_quanta (s.lengths k) * shared_quantum s k i)
       (bit_quanta (s.lengths i) * bus.longest i) (bit_quanta (s.lengths k) * bus.shortest k) ((s.lengths i).ps2 * bus.shortest i) ((s.lengths i).ps2 * shared_quantum s i k)
-      (extra i k) (look bus k + gathered bus chase i k + left_over bus chase i)
+      (extra i k) (look bus k + gathered bus chase i k + left_over bus (gathered bus chase) i)
       of.some (quanta_high bus s line of i k (bit_quanta (s.lengths i)) ni) (quanta_back bus s line of i k (bit_quanta (s.lengths k)) nk) (quanta_low bus s line of i k (s.lengths i).ps2 ni)
       (extra_high i k ni nk) (omega arith) in
       omega arith
@@ -255,7 +243,7 @@ module _ (bus : Bus) (s : Stations) (line : AreOnALine s) (of : HasStations bus 
       let f =
       fits bus.tick (shared_tick s k i) (s.delay i k + s.delay k i) (bit_quanta (s.lengths k) * shared_quantum s k i) (bit_quanta (s.lengths i) * shared_quantum s i k)
       (bit_quanta (s.lengths k) * bus.longest k) (bit_quanta (s.lengths i) * bus.shortest i) (sample_at (s.lengths i) * bus.shortest i) (sample_at (s.lengths i) * shared_quantum s i k)
-      (extra k i) (look bus i + gathered bus chase k i + left_over bus chase k)
+      (extra k i) (look bus i + gathered bus chase k i + left_over bus (gathered bus chase) k)
       of.some (quanta_high bus s line of k i (bit_quanta (s.lengths k)) nk) (quanta_back bus s line of k i (bit_quanta (s.lengths i)) ni) (quanta_back bus s line of k i (sample_at (s.lengths i)) ni)
       (extra_high k i nk ni) (omega arith) in
       omega arith

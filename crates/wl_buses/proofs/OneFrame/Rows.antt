@@ -3,10 +3,11 @@ use Rattle.std.proofs.Common.{◌≡◌, ℕ, zero, suc, ◌+◌, Bool, true, fa
 use Rattle.wl_level.specs.declared.Level.TheVariants.{Dominant}
 use Rattle.wl_clock.specs.Timing.{tick_of}
 use Rattle.wl_bound.specs.Families.{Bus}
+use Rattle.wl_bound.specs.Rooms.{beyond_jump, left_over}
 use Rattle.wl_bound.specs.Terms.{drift, jump, look}
 use Rattle.wl_buses.specs.OneFrame.Stations.{Stations, shared_tick, shared_quantum, shared_instant, bit_drift}
 use Rattle.wl_buses.specs.OneFrame.Acknowledged.{any_way, chased_way, gathered_way, jump_gap, most_overrun, overrun}
-use Rattle.wl_buses.specs.OneFrame.Answers.{beyond_jump, gathered, left_over}
+use Rattle.wl_buses.specs.OneFrame.Answers.{gathered}
 use Rattle.wl_buses.specs.OneFrame.Bounds.{bus_way, following_way}
 use Rattle.wl_buses.specs.OneFrame.Starts.{Start, reaches_at}
 use Rattle.wl_buses.specs.OneFrame.Course.{since_edge, still_sends}
@@ -112,12 +113,12 @@ unfolding drift jump
 gathers_twice = refl
 
 -- ten bits' drift of 100, a look of 3 and these are 287 more than a jump of 20, and a tick comes on top
-beyond_a_jump : left_over bus (λ k. 2) 0 ≡ 288
+beyond_a_jump : left_over bus (gathered bus (λ k. 2)) 0 ≡ 288
 unfolding drift jump look left_over beyond_jump
 beyond_a_jump = refl
 
 -- without drift a jump puts a look right
-put_right : left_over (record bus { longest = λ i. 10 }) (λ k. 0) 0 ≡ 0
+put_right : left_over (record bus { longest = λ i. 10 }) (λ i k. 0) 0 ≡ 0
 unfolding drift jump look left_over beyond_jump
 put_right = refl
 

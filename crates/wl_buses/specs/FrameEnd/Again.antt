@@ -13,8 +13,9 @@ use Rattle.wl_node.specs.History.{History}
 use Rattle.wl_phase.specs.InStep.{seen_before}
 use Rattle.wl_wire.specs.Wire.{Handed, sampled}
 use Rattle.wl_bound.specs.Families.{Bus}
+use Rattle.wl_bound.specs.Rooms.{left_over}
 use Rattle.wl_bound.specs.Terms.{drift, look}
-use Rattle.wl_buses.specs.OneFrame.Answers.{gathered, left_over}
+use Rattle.wl_buses.specs.OneFrame.Answers.{gathered}
 use Rattle.wl_buses.specs.OneFrame.Stations.{Stations, bit_drift, shared_quantum, shared_tick}
 use Rattle.wl_buses.specs.OneFrame.Clocked.{SamplesBy}
 use Rattle.wl_buses.specs.OneFrame.Expected.{Outset, past_at}
@@ -32,7 +33,7 @@ HasRoomToRest s late = (i k : ℕ) → i < s.count → k < s.count → i ≢ k
 -- The inequality for that, of any two nodes of a bus as if both sent, wherever within its tolerance each clock lies.
 abbrev pub LeavesRoomToRest : Bus → (chase : ℕ → ℕ) → Type 0
 LeavesRoomToRest bus chase = (i k : ℕ) → i < bus.nodes → k < bus.nodes → i ≢ k
-    → look bus k + gathered bus chase i k + left_over bus chase i + 12 * drift bus i k + bus.tick ≤ (bus.lengths i).ps2 * bus.shortest i
+    → look bus k + gathered bus chase i k + left_over bus (gathered bus chase) i + 12 * drift bus i k + bus.tick ≤ (bus.lengths i).ps2 * bus.shortest i
 
 -- A node rests, as before a first frame (`RestsBefore`): it has sampled a recessive bit with its place 0 at the quantum `rest`, and no edge has moved that bit. Its machine is where `past`
 -- puts it, nothing has counted, and it has driven nothing since a quantum.

@@ -2,6 +2,7 @@
 use Rattle.std.specs.Prelude.{◌≡◌, ◌≢◌, ℕ, ◌+◌, ◌*◌, ◌<◌, ◌≤◌, true}
 use Rattle.wl_segments.specs.Lengths.{sample_at}
 use Rattle.wl_bound.specs.Families.{Bus}
+use Rattle.wl_bound.specs.Rooms.{left_over}
 use Rattle.wl_bound.specs.Terms.{drift, look}
 use Rattle.wl_buses.specs.OneFrame.Acknowledged.{chased_way}
 use Rattle.wl_buses.specs.OneFrame.Answers.{gathered}
@@ -15,7 +16,7 @@ HasRoomToDecide s late = (i k : ℕ) → i < s.count → k < s.count → i ≢ k
 abbrev pub AllMayDecide : Stations → (chase : ℕ → ℕ) → Type 0
 AllMayDecide s chase = (w : ℕ) → w < s.count → s.may_send w ≡ true → HasRoomToDecide s (chased_way s w chase)
 
--- The inequality for that, of any two nodes of a bus as if both sent, wherever within its tolerance each clock lies, if one edge puts all right.
+-- The inequality for that, of any two nodes of a bus as if both sent, wherever within its tolerance each clock lies.
 abbrev pub LeavesRoomToDecide : Bus → (chase : ℕ → ℕ) → Type 0
 LeavesRoomToDecide bus chase = (i k : ℕ) → i < bus.nodes → k < bus.nodes → i ≢ k
-    → bus.delay i k + bus.delay k i + look bus i + gathered bus chase k i + 12 * drift bus k i ≤ sample_at (bus.lengths i) * bus.shortest i
+    → bus.delay i k + bus.delay k i + look bus i + gathered bus chase k i + left_over bus (gathered bus chase) k + 12 * drift bus k i ≤ sample_at (bus.lengths i) * bus.shortest i

@@ -9,7 +9,7 @@ ghost use Rattle.wl_bound.specs.Verdicts.{outside_of};
 ghost use Rattle.wl_bound.specs.Rooms.{IsShort, least_chase, leaves_room, plain_bus};
 ghost use Rattle.wl_buses.specs.BothProofs.Plans.{IsOfFamily};
 ghost use Rattle.wl_buses.specs.BothProofs.Plans.{IsSteadyPlan};
-ghost use Rattle.wl_buses.specs.OneFrame.Answers.{HasRoomToAnswer, OneEdgeIsEnough};
+ghost use Rattle.wl_buses.specs.OneFrame.Answers.{HasRoomToAnswer};
 ghost use Rattle.wl_buses.specs.OneFrame.Bounds.{HasStations};
 ghost use Rattle.wl_buses.specs.OneFrame.Plans.{IsPlanOf};
 ghost use Rattle.wl_buses.specs.OneFrame.Stations.{Stations};
@@ -18,20 +18,19 @@ ghost use Rattle.wl_buses.specs.FrameEnd.Again.{LeavesRoomToRest};
 ghost use Rattle.wl_buses.specs.FamilyPlans.FamilyStations.{AreContents, NoneListens, SendAsFamily, stations_of};
 
 /// Law: a family whose bus leaves room has it for acknowledgements, and to rest after each frame. Each node catches up in the least number of
-/// edges that does. One edge puts all right then, which is more than the law on any senders asks.
+/// edges that does.
 pub fn a_family_leaves_room()
     ensures answers { (f : Buses) → leaves_room f ≡ true → HasRoomToAnswer (plain_bus f) (least_chase (plain_bus f)) }
-    ensures jumps { (f : Buses) → leaves_room f ≡ true → OneEdgeIsEnough (plain_bus f) (least_chase (plain_bus f)) }
     ensures rests { (f : Buses) → leaves_room f ≡ true → LeavesRoomToRest (plain_bus f) (least_chase (plain_bus f)) }
 {
     wl_bound::room_law();
 }
 
-/// Law: the test asks no more of a bus than that. Let it have the room with any numbers of edges in which nodes catch up, and one edge put
-/// all right. Then it passes, since it has the room with the least ones. Its quanta are short, as those of oscillators are.
+/// Law: the test asks no more of a bus than that. Let it have the room with any numbers of edges in which nodes catch up. Then it passes,
+/// since it has the room with the least ones. Its quanta are short, as those of oscillators are.
 pub fn no_more_room_is_asked()
     ensures { (f : Buses) (chase : ℕ → ℕ) → IsShort f → HasRoomToAnswer (plain_bus f) chase
-        → OneEdgeIsEnough (plain_bus f) chase → LeavesRoomToRest (plain_bus f) chase → leaves_room f ≡ true }
+        → LeavesRoomToRest (plain_bus f) chase → leaves_room f ≡ true }
 {}
 
 /// Law: the nodes of a family's plan are stations, and the bus of the family is theirs, if none only listens.

@@ -8,7 +8,7 @@ ghost use Rattle.wl_machine.specs.States.{stretch_by};
 ghost use Rattle.wl_wire.specs.Winner.{Beats};
 ghost use Rattle.wl_phase.specs.Clocks.{steady_tick};
 ghost use Rattle.wl_bound.specs.Families.{Bus};
-ghost use Rattle.wl_buses.specs.OneFrame.Answers.{HasRoomToAnswer, OneEdgeIsEnough};
+ghost use Rattle.wl_buses.specs.OneFrame.Answers.{HasRoomToAnswer};
 ghost use Rattle.wl_buses.specs.OneFrame.Bounds.{HasStations};
 ghost use Rattle.wl_buses.specs.OneFrame.Expected.{IsOutset, Outset, expected_bits, expected_sample};
 ghost use Rattle.wl_buses.specs.OneFrame.Machines.{HasWon};
@@ -82,7 +82,7 @@ pub fn nobody_decides_twice()
 /// `bit_is_there_at_sample` of `HasRoomToAnswer`, with twelve bits' drift in the place of ten.
 pub fn a_bus_has_room_to_decide()
     ensures { (bus : Bus) (s : Stations) (chase : ℕ → ℕ) → AreOnALine s → HasStations bus s → HasRoomToAnswer bus chase
-        → OneEdgeIsEnough bus chase → LeavesRoomToDecide bus chase → AllMayDecide s chase }
+        → LeavesRoomToDecide bus chase → AllMayDecide s chase }
 {}
 
 /// Law: of frames that follow one another each begins at every station before any later one is sampled there. So it does before another

@@ -98,13 +98,6 @@ static VERDICTS: &[Shape] = &[
         Field("available_quanta", Number), Fixed(" quanta)"),
     ] },
     Shape { kind: "not_proved", pieces: &[
-        Given("room", Word, "look_in_jump"), Fixed("not proved: the look of "), Field("other_name", Word),
-        Fixed(", ten bits of drift and what gathers take up to "), Field("taken_ns", Number), Fixed(" ns ("), Field("taken_quanta", Number),
-        Fixed(" quanta) at "), Field("name", Word), Fixed(", and an edge puts right "),
-        Field("available_ns", Number), Fixed(" ns ("),
-        Field("available_quanta", Number), Fixed(" quanta)"),
-    ] },
-    Shape { kind: "not_proved", pieces: &[
         Given("room", Word, "drift_in_jump"), Fixed("not proved: in ten bits "), Field("other_name", Word), Fixed(" falls behind "), Field("name", Word),
         Fixed(" by up to "), Field("taken_ns", Number), Fixed(" ns ("), Field("taken_quanta", Number),
         Fixed(" quanta), and an edge puts right "), Field("available_ns", Number), Fixed(" ns ("),

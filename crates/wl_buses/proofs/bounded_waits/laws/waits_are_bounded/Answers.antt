@@ -5,7 +5,7 @@ use Rattle.wl_plan.specs.PlanLine.{setup_at}
 use Rattle.wl_bound.specs.Conditions.{IsSound, plain}
 use Rattle.wl_bound.specs.Families.{Bus}
 use Rattle.wl_bound.specs.Rooms.{least_chase, plain_bus}
-use Rattle.wl_buses.specs.OneFrame.Answers.{HasRoomToAnswer, OneEdgeIsEnough}
+use Rattle.wl_buses.specs.OneFrame.Answers.{HasRoomToAnswer}
 use Rattle.wl_buses.specs.OneFrame.Bounds.{HasStations}
 use Rattle.wl_buses.specs.OneFrame.Plans.{IsPlanOf}
 use Rattle.wl_buses.specs.OneFrame.Stations.{AreStations, HaveRoom, Stations}
@@ -38,16 +38,16 @@ exact c plan s bus t ms d chase blocking whole r w of are room for_all decide ha
 
 -- on a bus
 in_quanta : goal.After-waits_are_bounded_if_frames_last_no_longer → (plan : Plan) (s : Stations) (bus_of : Bus) (chase : ℕ → ℕ) (bus : FramesOfPlan plan s) (ms : Messages) (d : Delays) (blocking whole r : ℕ → ℕ) (w : ℕ → ℕ → ℕ)
-    → IsPlanOf plan s → HasStations bus_of s → IsSound bus_of → HasRoomToAnswer bus_of chase → OneEdgeIsEnough bus_of chase → LeavesRoomToRest bus_of chase
+    → IsPlanOf plan s → HasStations bus_of s → IsSound bus_of → HasRoomToAnswer bus_of chase → LeavesRoomToRest bus_of chase
     → LeavesRoomToDecide bus_of chase → HasFirstFrames plan (queues_of plan) s → HaveMessages s (setup_at plan) ms → AreReadyLate s (setup_at plan) → BusDelaysNoLonger bus_of ms d → BlockNoLonger (terms_of (bus_times bus_of) ms d) blocking
     → AreEnoughByInstances (table_by (terms_of (bus_times bus_of) ms d) blocking r) d.period whole w r → WaitInQuanta plan s bus ms bus_of.shortest r
-in_quanta c plan s bus_of chase bus ms d blocking whole r w of has_bus sound answer jumps rest decide has have late delays blocks enough =
+in_quanta c plan s bus_of chase bus ms d blocking whole r w of has_bus sound answer rest decide has have late delays blocks enough =
     let line = c.a_plan_is_on_a_line.ensures plan s of in
     let are : AreStations s = record { line = line; ways = c.a_sound_bus_has_room.ensures.ways bus_of s line has_bus } in
     let room = c.a_sound_bus_has_room.ensures.room bus_of s line has_bus sound in
     let waits =
     exact c plan s bus (bus_times bus_of) ms d chase blocking whole r w of are room (c.a_bus_has_room_for_all.ensures bus_of s chase line has_bus answer rest)
-    (c.a_bus_has_room_to_decide.ensures bus_of s chase line has_bus answer jumps decide) has (c.a_bus_has_times.ensures.exact bus_of s line has_bus) have late
+    (c.a_bus_has_room_to_decide.ensures bus_of s chase line has_bus answer decide) has (c.a_bus_has_times.ensures.exact bus_of s line has_bus) have late
     (delays_of bus_of s (bus_times bus_of) line has_bus refl ms d delays) blocks enough in
     wait_in_quanta bus_of plan s bus (bus_times bus_of) line has_bus refl ms r (wins plan s bus) waits
 
@@ -63,6 +63,6 @@ returns-clause-covered c = λ f plan clocks ms d blocking whole r w steady of co
     let has_bus = c.a_plan_has_stations.ensures.bus f plan clocks of speaks in
     let waits =
     in_quanta c plan (stations_of f plan clocks) (plain_bus f) (least_chase (plain_bus f)) all.bus ms d blocking whole r w (c.a_plan_has_stations.ensures.plan f plan clocks steady of speaks) has_bus
-    ((c.condition_laws.ensures.any f plain).0 v.1) (c.a_family_leaves_room.ensures.answers f room) (c.a_family_leaves_room.ensures.jumps f room) (c.a_family_leaves_room.ensures.rests f room) decide
+    ((c.condition_laws.ensures.any f plain).0 v.1) (c.a_family_leaves_room.ensures.answers f room) (c.a_family_leaves_room.ensures.rests f room) decide
     (c.a_covered_plan_has_first_frames.ensures.first f plan clocks steady of covered v.0 contents sends) have late delays blocks enough in
     (all, waits, pass_in_time plan (stations_of f plan clocks) all ms (plain_bus f).shortest r (wins plan (stations_of f plan clocks) all.bus) waits))
