@@ -20,7 +20,7 @@ LONGER, WIDER = of_margin.longer_cable, of_margin.wider_tolerance  # settings.py
 import settings as of_settings
 import sweeps as of_sweeps
 import versions
-from tally import asked
+from tally import asked, asked_bare
 
 TICKS = ["1ns"] * 4 + ["125ps", "999us", "1ps", "40ns"]
 
@@ -69,7 +69,7 @@ def margin(tally, program, seed, numbers, options):
         tally.compare(name, " ".join(["margin", *all_send]), text, got, wanted)
         if number % 2 or all_send: continue
         doubted = plain.answer("explain", text)
-        explained = asked(program, "explain", text=text)
+        explained = asked_bare(program, "explain", text=text)
         if doubted[2] == 1 and explained[2] == 1: doubted = explained[0], *doubted[1:]  # of a refused plan: `refusals`
         tally.compare(name, "explain", text, explained, doubted)
         of_both(tally, name, text, got[0], explained[0])

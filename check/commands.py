@@ -9,7 +9,7 @@ from collections import Counter
 sys.dont_write_bytecode = True
 import plain
 import random_plans
-from tally import asked
+from tally import asked_bare
 
 # ---- The rows that random plans must reach
 
@@ -226,7 +226,7 @@ def commands(tally, program, seed, numbers, options):
             out, fault, status = plain.answer(command, text)
             tally.count("answers", re.sub(r"\b[0-9]+\b", "n", fault[7:-1]) or "no fault")
             if program == "-": continue
-            got = asked(program, command, text=text)
+            got = asked_bare(program, command, text=text)
             # What `explain` says of a refused plan is compared by `refusals`; plain.py has no words for it.
             if command == "explain" and status == 1 and re.fullmatch("wrong: .*\nchange: .*\n", got[0]): out = got[0]
             tally.compare(f"input {number} of seed {seed}", command, text, got, (out, fault, status))

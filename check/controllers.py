@@ -10,7 +10,7 @@ sys.dont_write_bytecode = True
 import plain
 import random_plans
 import traffic  # gives plain.py that command
-from tally import asked
+from tally import asked_bare
 
 QUANTA = (8, 10, 16, 25, 40, 64, 80, 100, 128, 129, 160, 200, 256, 320, 385)
 OTHERS = ("check", "records", "trace", "traffic")
@@ -106,4 +106,4 @@ def version_4(tally, program, seed, numbers, options):
         for command in ("check",) if is_spoiled else ("run", rng.choice(OTHERS)):
             wanted = plain.answer(command, text)
             tally.count("answers", wanted[1].split("(")[0].strip() or f"{command} {wanted[0].splitlines()[-1].split()[1] if command == 'run' else ''}".strip())
-            tally.compare(f"plan {number} of seed {seed}", command, text, asked(program, command, text=text), wanted)
+            tally.compare(f"plan {number} of seed {seed}", command, text, asked_bare(program, command, text=text), wanted)

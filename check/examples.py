@@ -14,7 +14,7 @@ import log
 import plain
 import random_plans
 import traffic  # gives plain.py that command
-from tally import asked
+from tally import asked, asked_bare
 
 WHOLE_SECOND = "thirty_nodes_29bit"  # 120 million quanta: the gate asks its report, and what check and candump write
 WITH_UNITS = "six_ecus"  # plain.py reads no units: units.py compares such plans with those of numbers
@@ -50,7 +50,7 @@ def examples(tally, program, seed, numbers, options):
         wanted |= {"run": (path.with_suffix(".report").read_text(), "", 0), "candump": (log.log_text(tables, "1ns"), "", 0)}
         wanted["traffic"] = plain.answer("traffic", text)
         tally.tried += 1
-        for command, answer in wanted.items(): tally.compare(path.stem, command, text, asked(program, command, text=text), answer)
+        for command, answer in wanted.items(): tally.compare(path.stem, command, text, asked_bare(program, command, text=text), answer)
         is_traced(tally, program, path.stem, text, plain.answer("trace", text))
 
 

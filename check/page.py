@@ -209,12 +209,12 @@ def event_faults(check, browser, events, picoseconds):
 
 def figure_faults(check, browser, program, plan, words):
     """The figures of the tables of traffic and margin: each number of their lines, in their order."""
-    for name, begin in (("traffic", "message "), ("margin", "pair ")):
+    for name, begin in (("traffic", ("message ", "bound ")), ("margin", "pair ")):
         rows = browser.value(f"[...document.querySelectorAll('#{name}-table tbody tr')].map((row) => [...row.cells].map((cell) => cell.textContent).join(' '))")
         lines = [line for line in said(program, name, *words, plan).splitlines() if line.startswith(begin)]
         number = re.compile(r"(?<![\w.-])-?\d[\d.]*(?![\w.-]*\w)")
         for row, line in zip(rows, lines):
-            found = number.findall(re.sub(r"^message \d+ \S+ \w+", "", line) if name == "traffic" else line)
+            found = number.findall(re.sub(r"^(message|bound) \d+ \S+ \w+", "", line) if name == "traffic" else line)
             check.want([word for word in number.findall(row) if word in found][-len(found):] == found, f"{name}: the row {row} isn't {line}")
         if name == "margin": check.want(len(rows) == len(lines) or not rows, f"{name}: {len(rows)} rows of {len(lines)}")
 

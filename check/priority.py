@@ -16,6 +16,7 @@ sys.dont_write_bytecode = True
 import plain
 import random_plans
 import traffic
+from tally import WAITS
 
 
 def made(rng):
@@ -36,7 +37,7 @@ def made(rng):
 
 def said(program, command, text):
     ran = subprocess.run([program, command], input=text, stdout=subprocess.PIPE, stderr=subprocess.PIPE, check=False)
-    return ran.stdout.decode() or ran.stderr.decode()
+    return WAITS.sub("", ran.stdout.decode()) or ran.stderr.decode()
 
 
 def wanted(command, path):

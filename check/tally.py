@@ -1,4 +1,5 @@
 """What the comparisons share: the order of their words, how a program is asked, and what was counted."""
+import re
 import subprocess
 import sys
 import tempfile
@@ -28,6 +29,16 @@ def asked(program, *words, text=b"", limit=None):
     try: done = subprocess.run([program, *words], input=text, capture_output=True, timeout=limit)
     except subprocess.TimeoutExpired: return "", "no answer", None
     return done.stdout.decode("utf-8", "replace"), done.stderr.decode("utf-8", "replace"), done.returncode
+
+
+# The lines of `traffic` and `explain` by the waits of messages: plain.py has no such waits, and check/respond.py compares these lines.
+WAITS = re.compile(r"(?m)^(bound .*, proved|doubt: (\w+ of \S+ may take|the jitter of \w+ of|the bus load is up to) .*)\n")
+
+
+def asked_bare(program, *words, text=b""):
+    """The same without the lines by the waits of messages."""
+    out, err, status = asked(program, *words, text=text)
+    return WAITS.sub("", out), err, status
 
 
 def rows_of_part(name):

@@ -1,6 +1,6 @@
 #!/usr/bin/env python3
 """The traffic of plans by a second program, over plain.py's simulation: load and gap of the bus, what each message waited, and why a run
-didn't work. It shares no line with the proved program. The definitions are in docs/use/traffic.md.
+didn't work. It shares no line with the proved program. The definitions are in docs/use/traffic.md. Bounds of waits are in check/respond.py.
 
 usage: traffic.py text [TICK]      the traffic of a plan from standard input
 
@@ -16,7 +16,7 @@ from pathlib import Path
 sys.dont_write_bytecode = True
 import plain
 import random_plans
-from tally import asked
+from tally import asked_bare
 
 PICOSECONDS = {"ps": 1, "ns": 1_000, "us": 1_000_000}
 EXAMPLE = Path(__file__).resolve().parent.parent / "examples/periodic_500k.toml"
@@ -205,7 +205,7 @@ def traffic(tally, program, seed, numbers, options):
         wanted = plain.answer("traffic", text)
         tally.tried += 1
         tally.count("answers", (wanted[0].splitlines() or ["refused"])[-1])
-        tally.compare(f"plan {number} of seed {seed}", "traffic", text, asked(program, "traffic", text=text), wanted)
+        tally.compare(f"plan {number} of seed {seed}", "traffic", text, asked_bare(program, "traffic", text=text), wanted)
 
 
 def main():

@@ -1,5 +1,5 @@
 -- What the runs of engines over a text in memory say of the text itself.
-use Rattle.std.proofs.Common.{◌≡◌, ◌≤◌, ◌<◌, ◌∙◌, ℕ, Bool, true, false, List, [], ◌++◌, length, sym, ap, subst, if◌then◌else◌, MatchBool, Result, Ok, Err}
+use Rattle.std.proofs.Common.{◌≡◌, ◌≤◌, ◌<◌, ◌∙◌, ℕ, true, false, List, [], ◌++◌, length, sym, ap, subst, if◌then◌else◌, MatchBool, Result, Ok, Err}
 use Rattle.std.proofs.lemmas.Bool.{le-leb, lt-leb}
 use Rattle.wl_device.specs.Bounded.{ReadsUpTo}
 use Rattle.wl_device.specs.declared.bounded.Ended.{Ended}
@@ -12,23 +12,18 @@ use Rattle.wl_setup.specs.Reading.{reading_answer, text_answer}
 use Rattle.wl_setup.specs.declared.bus.Bus.{Bus}
 use Rattle.wl_setup.specs.declared.fault.SetupFault.{SetupFault}
 use Rattle.wl_setup.specs.declared.fault.SetupFault.TheVariants as setup
-use Rattle.wl_explain.specs.Condition.{IsExplanation}
 use Rattle.wl_explain.specs.Refusals.{IsRefusal, size_words}
-use Rattle.wl_traffic.specs.Traffic.{traffic_text}
-use Rattle.wl_traffic.specs.declared.reason.Reason.{Reason}
-use Rattle.wl_views.specs.declared.tick.Tick.{Tick}
-use Rattle.wl_engines.specs.Explained.{Explains, ExplainsReading}
+use Rattle.wl_engines.specs.Answered.{Answers, AnswersReading}
+use Rattle.wl_engines.specs.Explained.{Explains, ExplainsReading, IsExplanationOf}
 use Rattle.wl_engines.specs.Margin.{RunsBus}
 use Rattle.wl_engines.specs.Plans.{RunsPlan}
-use Rattle.wl_engines.specs.TrafficRun.{IsTrafficOutput, RunsTraffic}
 use Rattle.wl_engines.specs.declared.fault.RunFault.{RunFault}
 use Rattle.wl_engines.specs.declared.fault.RunFault.TheVariants as run
 use Rattle.wl_engines.specs.declared.fault.RunFault.TheVariants.{Setup}
 use Rattle.wl_engines.proofs.Callers.{gives, too_long, unbroken, whole}
-use Rattle.wl_engines.specs.Responded.{IsResponse, Responds, RespondsReading}
 use Rattle.wl_c.proofs.Reading.{takes, wrote, wrote_front}
-use Rattle.wl_c.specs.Made.{ByMade, IsMade, without_met, without_reason}
-use Rattle.wl_c.specs.Texts.{AreWordsOn, ExplainsRefusal, HasNoBus, HasNoPlan, IsOfBus, IsOfPlan, IsResponseTo, bus_read, plan_read, text_read}
+use Rattle.wl_c.specs.Made.{ByMade, IsMade, without_answer}
+use Rattle.wl_c.specs.Texts.{AreWordsOn, ExplainsRefusal, HasNoBus, HasNoPlan, IsAnswered, IsOfBus, IsOfPlan, bus_read, plan_read, text_read}
 use Rattle.wl_c.specs.declared.engines.Made.{Made}
 use Rattle.wl_c.specs.declared.engines.Made.TheVariants.{Output, Refusal, OutOfMemory}
 
@@ -78,61 +73,51 @@ module _ {S T : Type 0} (rest : S → List ℕ) (bytes : T → List ℕ) (s s' :
       (m.0, r.0.0, bus_is rest s s' (Err m.0) r.0.1, m.2 ∙ ap bytes r.1 ∙ none)
   bus_made IsOutput answer OutOfMemory h m = tt
 
-  -- of a run that wrote the traffic
-  traffic_done : (tick : Tick) (reason : Reason) → RunsTraffic (gives rest) (takes bytes) tick s s' t t' (Ok reason)
-      → IsOfPlan (rest s) (IsTrafficOutput tick) (bytes t')
-  traffic_done tick reason h = (h.0, h.1, plan_is rest s s' (Ok (h.0, h.1)) h.2, wrote bytes (traffic_text tick h.0 h.1) t t' none h.4)
+  -- of a run that has an answer besides: the traffic, or how long messages may wait
+  module _ {A : Type 0} (IsSaid : (text said : List ℕ) → A → Type 0) where
+    answered : (a : A) (text : List ℕ) (e : Ended) → ReadsUpTo (gives rest) s most_bytes text e s'
+        → AnswersReading IsSaid (takes bytes) e text t t' (Ok a) → IsAnswered (rest s) IsSaid (bytes t')
+    answered a text reading.End r h =
+        let w : (text ≡ rest s) × (length text ≤ most_bytes) = whole rest s s' text r in
+        let is : IsSaid text (bytes t') a = subst (λ (x : List ℕ). IsSaid text x a) (sym (wrote bytes h.0 t t' none h.2)) h.1 in
+        subst (λ (x : List ℕ). (length x ≤ most_bytes) × (a : A) × IsSaid x (bytes t') a) w.0 (w.1, a, is)
+    answered a text reading.Broken r h = absurd (unbroken rest s s' text r)
+    answered a text reading.Full r h = let no : Ok a ≡ Err (Setup setup.Size) = h.0 in cc
 
-  pub traffic_made : (tick : Tick) (answer : Result Reason RunFault) (made : Made)
-      → RunsTraffic (gives rest) (takes bytes) tick s s' t t' answer → IsMade (without_reason answer) (bytes t') made
-      → ByMade (IsOfPlan (rest s) (IsTrafficOutput tick)) (HasNoPlan (rest s)) made
-  traffic_made tick (Ok reason) (Output v) h m = subst (λ (x : List ℕ). IsOfPlan (rest s) (IsTrafficOutput tick) x) (sym m.1) (traffic_done tick reason h)
-  traffic_made tick (Ok reason) (Refusal v) h m = cc
-  traffic_made tick (Ok reason) OutOfMemory h m = tt
-  traffic_made tick (Err fault) made h m = plan_made (IsTrafficOutput tick) (Err fault) made h m
+    unanswered : (fault : SetupFault) (text : List ℕ) (e : Ended) → ReadsUpTo (gives rest) s most_bytes text e s'
+        → AnswersReading IsSaid (takes bytes) e text t t' (Err (Setup fault)) → HasNoBus (rest s) (bytes t')
+    unanswered fault text reading.End r h =
+        (fault, h.0, ap (λ x. after x bus_of_text) (read_is rest s s' text reading.End r) ∙ h.1, ap bytes h.2 ∙ none)
+    unanswered fault text reading.Broken r h = absurd (unbroken rest s s' text r)
+    unanswered fault text reading.Full r h =
+        let is : fault ≡ setup.Size = let same : Err {A = A} (Setup fault) ≡ Err (Setup setup.Size) = h.0 in cc in (
+          fault,
+          (λ e. cc),
+          ap (λ x. after x bus_of_text) (beyond (rest s) (too_long rest s s' text r)) ∙ ap (λ f. Err f) (sym is),
+          ap bytes h.1 ∙ none,
+        )
 
-  -- of a run that wrote how long messages may wait
-  responded : (tick : Tick) (met : Bool) (text : List ℕ) (e : Ended) → ReadsUpTo (gives rest) s most_bytes text e s'
-      → RespondsReading (takes bytes) tick false e text t t' (Ok met) → IsResponseTo (rest s) tick (bytes t')
-  responded tick met text reading.End r h =
-      let w : (text ≡ rest s) × (length text ≤ most_bytes) = whole rest s s' text r in
-      let is : IsResponse tick false text (bytes t') met = subst (λ (x : List ℕ). IsResponse tick false text x met) (sym (wrote bytes h.0 t t' none h.2)) h.1 in
-      subst (λ (x : List ℕ). (length x ≤ most_bytes) × (met : Bool) × IsResponse tick false x (bytes t') met) w.0 (w.1, met, is)
-  responded tick met text reading.Broken r h = absurd (unbroken rest s s' text r)
-  responded tick met text reading.Full r h = let no : Ok met ≡ Err (Setup setup.Size) = h.0 in cc
-
-  unanswered : (tick : Tick) (fault : SetupFault) (text : List ℕ) (e : Ended) → ReadsUpTo (gives rest) s most_bytes text e s'
-      → RespondsReading (takes bytes) tick false e text t t' (Err (Setup fault)) → HasNoBus (rest s) (bytes t')
-  unanswered tick fault text reading.End r h =
-      (fault, h.0, ap (λ x. after x bus_of_text) (read_is rest s s' text reading.End r) ∙ h.1, ap bytes h.2 ∙ none)
-  unanswered tick fault text reading.Broken r h = absurd (unbroken rest s s' text r)
-  unanswered tick fault text reading.Full r h =
-      let is : fault ≡ setup.Size = let same : Err (Setup fault) ≡ Err (Setup setup.Size) = h.0 in cc in (
-        fault,
-        (λ e. cc),
-        ap (λ x. after x bus_of_text) (beyond (rest s) (too_long rest s s' text r)) ∙ ap (λ f. Err f) (sym is),
-        ap bytes h.1 ∙ none,
-      )
-
-  pub response_made : (tick : Tick) (answer : Result Bool RunFault) (made : Made) → Responds (gives rest) (takes bytes) tick false s s' t t' answer
-      → IsMade (without_met answer) (bytes t') made → ByMade (IsResponseTo (rest s) tick) (HasNoBus (rest s)) made
-  response_made tick (Ok met) (Output v) h m =
-      subst (λ (x : List ℕ). IsResponseTo (rest s) tick x) (sym m.1) (responded tick met h.0 h.1 h.2 h.3)
-  response_made tick (Err (Setup fault)) (Refusal v) h m =
-      subst (λ (x : List ℕ). HasNoBus (rest s) x) (sym m.2) (unanswered tick fault h.0 h.1 h.2 h.3)
-  response_made tick (Ok met) (Refusal v) h m = cc
-  response_made tick (Err fault) (Output v) h m = cc
-  response_made tick (Err (run.Text fault)) (Refusal v) h m = cc
-  response_made tick (Err (run.Work fault)) (Refusal v) h m = cc
-  response_made tick (Err run.Write) (Refusal v) h m = cc
-  response_made tick (Err run.Memory) (Refusal v) h m = cc
-  response_made tick answer OutOfMemory h m = tt
+    pub answer_made : (answer : Result A RunFault) (made : Made) → Answers IsSaid (gives rest) (takes bytes) s s' t t' answer
+        → IsMade (without_answer answer) (bytes t') made → ByMade (IsAnswered (rest s) IsSaid) (HasNoBus (rest s)) made
+    answer_made (Ok a) (Output v) h m =
+        subst (λ (x : List ℕ). IsAnswered (rest s) IsSaid x) (sym m.1) (answered a h.0 h.1 h.2 h.3)
+    answer_made (Err (Setup fault)) (Refusal v) h m =
+        subst (λ (x : List ℕ). HasNoBus (rest s) x) (sym m.2) (unanswered fault h.0 h.1 h.2 h.3)
+    answer_made (Ok a) (Refusal v) h m = cc
+    answer_made (Err fault) (Output v) h m = cc
+    answer_made (Err (run.Text fault)) (Refusal v) h m = cc
+    answer_made (Err (run.Work fault)) (Refusal v) h m = cc
+    answer_made (Err run.Write) (Refusal v) h m = cc
+    answer_made (Err run.Memory) (Refusal v) h m = cc
+    answer_made answer OutOfMemory h m = tt
 
   -- of an explanation
   explained : (text : List ℕ) (e : Ended) → ReadsUpTo (gives rest) s most_bytes text e s'
-      → ExplainsReading (takes bytes) e text t t' (Ok tt) → IsOfBus (rest s) IsExplanation (bytes t')
+      → ExplainsReading (takes bytes) e text t t' (Ok tt) → IsOfBus (rest s) (IsExplanationOf (rest s)) (bytes t')
   explained text reading.End r h =
-      (h.0, ap (λ x. after x bus_of_text) (read_is rest s s' text reading.End r) ∙ h.2, subst (λ (x : List ℕ). IsExplanation h.0 x) (sym (wrote bytes h.1 t t' none h.4)) h.3)
+      let w : (text ≡ rest s) × (length text ≤ most_bytes) = whole rest s s' text r in
+      let is : IsExplanationOf text h.0 (bytes t') = subst (λ (x : List ℕ). IsExplanationOf text h.0 x) (sym (wrote bytes h.1 t t' none h.4)) h.3 in
+      (h.0, ap (λ x. after x bus_of_text) (read_is rest s s' text reading.End r) ∙ h.2, subst (λ (x : List ℕ). IsExplanationOf x h.0 (bytes t')) w.0 is)
   explained text reading.Broken r h = absurd (unbroken rest s s' text r)
   explained text reading.Full r h = cc
 
@@ -163,10 +148,10 @@ module _ {S T : Type 0} (rest : S → List ℕ) (bytes : T → List ℕ) (s s' :
 
   pub explanation_made : (answer : Result (Unit {0}) RunFault) (made : Made)
       → Explains (gives rest) (takes bytes) s s' t t' answer → IsMade answer (bytes t') made
-      → ByMade (IsOfBus (rest s) IsExplanation) (ExplainsRefusal (rest s)) made
+      → ByMade (IsOfBus (rest s) (IsExplanationOf (rest s))) (ExplainsRefusal (rest s)) made
   explanation_made answer (Output v) h m =
       let r : Explains (gives rest) (takes bytes) s s' t t' (Ok tt) = subst (λ a. Explains (gives rest) (takes bytes) s s' t t' a) m.0 h in
-      subst (IsOfBus (rest s) IsExplanation) (sym m.1) (explained r.0 r.1 r.2 r.3)
+      subst (IsOfBus (rest s) (IsExplanationOf (rest s))) (sym m.1) (explained r.0 r.1 r.2 r.3)
   explanation_made answer (Refusal v) h m =
       let r : Explains (gives rest) (takes bytes) s s' t t' (Err (Setup m.0)) = subst (λ a. Explains (gives rest) (takes bytes) s s' t t' a) m.1 h in
       subst (ExplainsRefusal (rest s)) (sym m.2) (refused r.0 r.1 m.0 r.2 r.3)

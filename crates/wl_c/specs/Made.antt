@@ -1,7 +1,6 @@
 -- What an engine made of a text, before it is written (this project's profile).
-use Rattle.std.specs.Prelude.{◌≡◌, ℕ, Bool, List, Result, Ok, Err}
+use Rattle.std.specs.Prelude.{◌≡◌, ℕ, List, Result, Ok, Err}
 use Rattle.wl_setup.specs.declared.fault.SetupFault.{SetupFault}
-use Rattle.wl_traffic.specs.declared.reason.Reason.{Reason}
 use Rattle.wl_engines.specs.declared.fault.RunFault.{RunFault}
 use Rattle.wl_engines.specs.declared.fault.RunFault.TheVariants.{Setup}
 use Rattle.wl_c.specs.Texts.{Says}
@@ -16,15 +15,10 @@ IsMade answer bytes (Output said) = (answer ≡ Ok tt) × (said.items ≡ bytes)
 IsMade answer bytes (Refusal said) = (fault : SetupFault) × (answer ≡ Err (Setup fault)) × (said.items ≡ bytes)
 IsMade answer bytes OutOfMemory = Unit {0}
 
--- the answer of a run whose traffic was written, without why it didn't work
-abbrev pub without_reason : Result Reason RunFault → Result (Unit {0}) RunFault
-without_reason (Ok reason) = Ok tt
-without_reason (Err fault) = Err fault
-
--- the answer of a run that wrote how long messages may wait, without whether all deadlines are met
-abbrev pub without_met : Result Bool RunFault → Result (Unit {0}) RunFault
-without_met (Ok met) = Ok tt
-without_met (Err fault) = Err fault
+-- whether a run wrote its output, without what it answered: why a run of traffic didn't work, or whether all deadlines are met
+abbrev pub without_answer : {A : Type 0} → Result A RunFault → Result (Unit {0}) RunFault
+without_answer (Ok answer) = Ok tt
+without_answer (Err fault) = Err fault
 
 -- an output has one property, and what is said of a refusal another
 abbrev pub ByMade : (IsOutput IsRefusal : List ℕ → Type 0) → Made → Type 0

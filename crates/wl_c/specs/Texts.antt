@@ -10,8 +10,8 @@ use Rattle.wl_setup.specs.declared.bus.Bus.{Bus}
 use Rattle.wl_setup.specs.declared.fault.SetupFault.{SetupFault}
 use Rattle.wl_setup.specs.declared.fault.SetupFault.TheVariants as setup
 use Rattle.wl_setup.specs.declared.plan_text.PlanText.{PlanText}
-use Rattle.wl_explain.specs.Condition.{IsExplanation}
 use Rattle.wl_explain.specs.Refusals.{IsRefusal, size_words}
+use Rattle.wl_engines.specs.Explained.{IsExplanationOf}
 use Rattle.wl_engines.specs.Margin.{IsMarginOutput}
 use Rattle.wl_engines.specs.Plans.{IsRunOutput}
 use Rattle.wl_engines.specs.Responded.{IsResponse}
@@ -43,18 +43,19 @@ module _ (text : List ℕ) where
   abbrev pub IsOfBus : (Bus → List ℕ → Type 0) → List ℕ → Type 0
   IsOfBus IsOutput said = (bus : Bus) × (bus_read text ≡ Ok bus) × IsOutput bus said
 
-  -- how long messages may wait, each with its own data
-  abbrev pub IsResponseTo : Tick → List ℕ → Type 0
-  IsResponseTo tick said = (length text ≤ most_bytes) × (met : Bool) × IsResponse tick false text said met
+  -- the output of a command that has an answer besides
+  module _ {A : Type 0} (IsSaid : (text said : List ℕ) → A → Type 0) where
+    abbrev pub IsAnswered : List ℕ → Type 0
+    IsAnswered said = (length text ≤ most_bytes) × (a : A) × IsSaid text said a
 
   -- the output of a command
   abbrev pub IsOutputOf : Task → List ℕ → Type 0
   IsOutputOf Run said = IsOfPlan IsRunOutput said
   IsOutputOf Check said = IsOfPlan IsPlanCheck said
-  IsOutputOf Explain said = IsOfBus IsExplanation said
+  IsOutputOf Explain said = IsOfBus (IsExplanationOf text) said
   IsOutputOf (Margin tick all) said = IsOfBus (IsMarginOutput tick all) said
-  IsOutputOf (Respond tick) said = IsResponseTo tick said
-  IsOutputOf (Traffic tick) said = IsOfPlan (IsTrafficOutput tick) said
+  IsOutputOf (Respond tick) said = IsAnswered (IsResponse tick false) said
+  IsOutputOf (Traffic tick) said = IsAnswered (IsTrafficOutput tick) said
 
   -- no plan is read from the text, but this fault, and nothing is said of that
   abbrev pub HasNoPlan : List ℕ → Type 0
@@ -78,7 +79,7 @@ module _ (text : List ℕ) where
   IsRefusalOf Check said = HasNoPlan said
   IsRefusalOf Explain said = ExplainsRefusal said
   IsRefusalOf (Margin tick all) said = HasNoBus said
-  IsRefusalOf (Traffic tick) said = HasNoPlan said
+  IsRefusalOf (Traffic tick) said = HasNoBus said
   IsRefusalOf (Respond tick) said = HasNoBus said
 
   -- what a command says, and whether it is the output or a refusal

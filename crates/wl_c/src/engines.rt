@@ -1,6 +1,6 @@
 //! The engines over a text in memory.
 ghost use Rattle.std.specs.Prelude.{◌≡◌};
-ghost use Rattle.wl_c.specs.Made.{IsMade, Makes, without_met, without_reason};
+ghost use Rattle.wl_c.specs.Made.{IsMade, Makes, without_answer};
 
 use crate::asked::Task;
 use std::alloc::Global;
@@ -74,7 +74,7 @@ fn margin_of(alloc: Global, tick: Tick, all_send: bool, text: &[u8]) -> Made
 
 /// Returns the answer of a run whose traffic was written, without why it didn't work.
 fn without_reason(answer: Result<Reason, RunFault>) -> Result<(), RunFault>
-    ensures { result ≡ without_reason answer }
+    ensures { result ≡ without_answer answer }
 {
     match answer {
         Ok(_) => Ok(()),
@@ -95,7 +95,7 @@ fn traffic_of(alloc: Global, tick: Tick, text: &[u8]) -> Made
 
 /// Returns the answer of a run that wrote how long messages may wait, without whether all deadlines are met.
 fn without_met(answer: Result<bool, RunFault>) -> Result<(), RunFault>
-    ensures { result ≡ without_met answer }
+    ensures { result ≡ without_answer answer }
 {
     match answer {
         Ok(_) => Ok(()),

@@ -10,9 +10,8 @@ use Rattle.wl_setup.specs.Buses.{bus_of_text}
 use Rattle.wl_setup.specs.Document.{fault_path, plan_text_of}
 use Rattle.wl_setup.specs.Plans.{after}
 use Rattle.wl_setup.specs.Reading.{document_answer, document_of}
-use Rattle.wl_explain.specs.Condition.{IsExplanation}
 use Rattle.wl_explain.specs.Refusals.{IsDocumentRefusal, IsRefusal, refusal_words, toml_words}
-use Rattle.wl_engines.specs.Explained.{ExplainsText, bus_answer}
+use Rattle.wl_engines.specs.Explained.{ExplainsText, IsExplanationOf, bus_answer}
 use Rattle.wl_engines.specs.Output.{WritesText}
 use Rattle.wl_engines.specs.declared.fault.RunFault.{RunFault}
 use Rattle.wl_engines.specs.declared.fault.RunFault.TheVariants.{Text, Setup, Work, Write, Memory}
@@ -32,7 +31,7 @@ no_toml text place said none within same = subst (λ o. IsDocumentRefusal o text
 -- the doubts of a text's bus were made and went out, or memory ran out
 module _ {T : Type 0} (takes : T → Answer → T → Type 0) (t t' : T) where
   pub explains_bus : {Z E : Type 0} (text : List ℕ) (bus : Bus) → bus_answer text ≡ Ok bus → (made : Result (Vec ℕ Z) E) (r : Result (Unit {0}) RunFault)
-      → IfOk made (λ said. IsExplanation bus said.items) → MatchResult made (λ said. WritesText takes said.items t t' r) (λ e. (r ≡ Err Memory) × (t' ≡ t))
+      → IfOk made (λ said. IsExplanationOf text bus said.items) → MatchResult made (λ said. WritesText takes said.items t t' r) (λ e. (r ≡ Err Memory) × (t' ≡ t))
       → ExplainsText takes text t t' r
   explains_bus text bus answer (Ok said) (Ok u) is wrote = (bus, said.items, answer, is, wrote)
   explains_bus text bus answer (Ok said) (Err Write) is wrote = (wrote.0, (bus, said.items, answer, is, wrote.1))

@@ -3,7 +3,6 @@ mod MergeLaws
 mod NamedNodes
 mod Working
 mod PageProofs
-mod TrafficProofs
 mod Explaining
 mod OutputLemmas
 pub mod Callers

@@ -8,6 +8,7 @@ use Rattle.wl_device.specs.declared.device.WriteFault.{WriteFault}
 use Rattle.wl_setup.specs.declared.bus.Bus.{Bus}
 use Rattle.wl_setup.specs.declared.fault.SetupFault.{SetupFault}
 use Rattle.wl_setup.specs.declared.fault.SetupFault.TheVariants as setup
+use Rattle.wl_setup.specs.declared.plan_text.PlanText.{PlanText}
 use Rattle.wl_setup.specs.Limits.{most_bytes}
 use Rattle.wl_setup.specs.Plans.{after}
 use Rattle.wl_setup.specs.Buses.{bus_of_text}
@@ -21,15 +22,19 @@ use Rattle.wl_engines.specs.declared.fault.RunFault.TheVariants.{Setup, Write, M
 abbrev pub bus_answer : List ℕ → Result Bus SetupFault
 bus_answer text = after (text_answer text) bus_of_text
 
+-- what is doubtful of a text's bus, and the figures, under the names of the nodes
+abbrev pub IsExplanationOf : List ℕ → Bus → List ℕ → Type 0
+IsExplanationOf text bus said = (plain : PlanText) × (text_answer text ≡ Ok plain) × IsExplanation plain bus said
+
 module _ {T : Type 0} (takes : T → Answer → T → Type 0) where
   -- these bytes went out, as far as they went
   abbrev pub Said : List ℕ → T → T → Type 0
   Said text t t' = (r : Result (Unit {0}) WriteFault) × Writes takes t text r t'
 
-  -- of a plan that can be run: what is doubtful of its bus, and the figures, under the names of the nodes
+  -- that of a plan that can be run went out, as far as it went
   abbrev pub WritesDoubts : List ℕ → Result (Unit {0}) WriteFault → T → T → Type 0
   WritesDoubts text r t t' =
-      (bus : Bus) × (said : List ℕ) × (bus_answer text ≡ Ok bus) × IsExplanation bus said × Writes takes t said r t'
+      (bus : Bus) × (said : List ℕ) × (bus_answer text ≡ Ok bus) × IsExplanationOf text bus said × Writes takes t said r t'
 
   -- of a text that is refused: its first fault, and on it what is wrong and what to change
   abbrev pub TellsRefusal : List ℕ → SetupFault → T → T → Type 0

@@ -5,6 +5,7 @@ pub mod Horizon
 pub mod Merge
 pub mod Plans
 pub mod Explained
+pub mod Answered
 pub mod Margin
 pub mod Reader
 pub mod Responded

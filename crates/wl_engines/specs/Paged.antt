@@ -8,14 +8,15 @@ use Rattle.wl_device.specs.declared.device.WriteFault.{WriteFault}
 use Rattle.wl_explain.specs.Condition.{IsExplanation}
 use Rattle.wl_margin.specs.Margins.{IsMarginText}
 use Rattle.wl_page.specs.Page.{page_of}
-use Rattle.wl_plan.specs.declared.plan.Plan.{Plan}
 use Rattle.wl_report.specs.Report.{report_text}
 use Rattle.wl_serial.specs.Outcome.{outcome_of, totals_of}
 use Rattle.wl_setup.specs.Check.{IsPlanCheck}
 use Rattle.wl_setup.specs.Limits.{most_bytes}
+use Rattle.wl_setup.specs.Reading.{text_answer}
 use Rattle.wl_setup.specs.declared.bus.Bus.{Bus}
+use Rattle.wl_setup.specs.declared.plan_text.PlanText.{PlanText}
 use Rattle.wl_setup.specs.declared.fault.SetupFault.TheVariants as setup
-use Rattle.wl_traffic.specs.Traffic.{traffic_text}
+use Rattle.wl_traffic.specs.Traffic.{IsTrafficOfBus}
 use Rattle.wl_views.specs.declared.tick.Tick.{Tick}
 use Rattle.wl_views.specs.Ticks.{tick_picoseconds}
 use Rattle.wl_views.specs.declared.window.Window.{Window}
@@ -34,13 +35,13 @@ use Rattle.wl_engines.specs.declared.run_page.RunTexts.{RunTexts}
 -- the report has no lines of frames, and trace and waveform are those of the window that is shown.
 unfoldable pub IsPage : Tick → Option Window → List ℕ → Bus → List ℕ → Type 0
 IsPage tick asked text bus whole =
-    (figures settings margin : List ℕ) × IsExplanation bus figures × IsPlanCheck bus.plan bus.names settings
-    × IsMarginText (tick_picoseconds tick) bus margin
+    (plain : PlanText) × (figures settings margin traffic : List ℕ) × (text_answer text ≡ Ok plain) × IsExplanation plain bus figures
+    × IsPlanCheck bus.plan bus.names settings × IsMarginText (tick_picoseconds tick) bus margin × IsTrafficOfBus tick plain bus traffic
     × (whole ≡ page_of (record {
       figures = figures;
       settings = settings;
       margin = margin;
-      traffic = traffic_text tick bus.plan bus.names;
+      traffic = traffic;
       report = report_text (shown_totals (not (is_whole_run (shown_by asked bus.plan))) (totals_of (outcome_of bus.plan)));
       plan = text;
       part = shown_text (shown_by asked bus.plan) bus.plan;
@@ -49,18 +50,19 @@ IsPage tick asked text bus whole =
     }))
 
 -- what is shown of a bus without a run
-abbrev pub ShowsBus : Tick → Bus → BusTexts → Type 0
-ShowsBus tick bus texts =
-    IsExplanation bus (string_bytes texts.figures) × IsPlanCheck bus.plan bus.names (string_bytes texts.settings)
+abbrev pub ShowsBus : Tick → PlanText → Bus → BusTexts → Type 0
+ShowsBus tick plain bus texts =
+    IsExplanation plain bus (string_bytes texts.figures) × IsPlanCheck bus.plan bus.names (string_bytes texts.settings)
     × IsMarginText (tick_picoseconds tick) bus (string_bytes texts.margin)
 
 -- what is shown of a window of a run
-abbrev pub ShowsRun : Tick → Window → Plan → List (List ℕ) → RunTexts → Type 0
-ShowsRun tick shown plan names texts =
-    (string_bytes texts.traffic ≡ traffic_text tick plan names)
-    × (texts.report.items ≡ report_text (shown_totals (not (is_whole_run shown)) (totals_of (outcome_of plan))))
-    × (string_bytes texts.part ≡ shown_text shown plan)
-    × (texts.trace.items ≡ trace_text (pick_of shown) plan names) × (texts.wave.items ≡ vcd_text tick shown plan names)
+abbrev pub ShowsRun : Tick → Window → PlanText → Bus → RunTexts → Type 0
+ShowsRun tick shown plain bus texts =
+    IsTrafficOfBus tick plain bus (string_bytes texts.traffic)
+    × (texts.report.items ≡ report_text (shown_totals (not (is_whole_run shown)) (totals_of (outcome_of bus.plan))))
+    × (string_bytes texts.part ≡ shown_text shown bus.plan)
+    × (texts.trace.items ≡ trace_text (pick_of shown) bus.plan bus.names)
+    × (texts.wave.items ≡ vcd_text tick shown bus.plan bus.names)
 
 module _ {T : Type 0} (takes : T → Answer → T → Type 0) (tick : Tick) (asked : Option Window) (text : List ℕ) (t t' : T) where
   -- the page of the text's bus went out, as far as it went

@@ -1,13 +1,14 @@
 //! The explanation of a plan.
-ghost use Rattle.std.specs.Prelude.{◌≡◌, ℕ, List, Some, Err, IfOk, length};
+ghost use Rattle.std.specs.Prelude.{◌≡◌, ◌≤◌, ℕ, List, Some, Err, IfOk, length};
 ghost use Rattle.toml.specs.View.{table_view};
-ghost use Rattle.wl_explain.specs.Condition.{IsExplanation};
 ghost use Rattle.wl_setup.specs.Buses.{IsBusOf};
+ghost use Rattle.wl_setup.specs.Limits.{most_bytes};
 ghost use Rattle.wl_setup.specs.Reading.{document_of};
-ghost use Rattle.wl_engines.specs.Explained.{Explains, ExplainsText};
+ghost use Rattle.wl_engines.specs.Explained.{Explains, ExplainsText, IsExplanationOf};
 
 use crate::fault::RunFault;
 use crate::output::write_made;
+use crate::respond::plain_of;
 use std::alloc::{AllocError, Global};
 use toml::Table;
 use wl_device::{Ended, Sink, Source, write_all};
@@ -40,12 +41,14 @@ pub fn explain_run<R: Source, W: Sink>(
     }
 }
 
-/// Returns what is doubtful of a bus, and its figures.
-fn doubts_of(alloc: Global, bus: &Bus) -> Result<Vec<u8>, AllocError>
-    requires { length bus.now.deviations ≡ length bus.now.plan.nodes }
-    ensures { IfOk result (λ said. IsExplanation bus.now said.items) }
+/// Returns what is doubtful of a text's bus, and its figures.
+fn doubts_of(alloc: Global, text: &[u8], bus: &Bus) -> Result<Vec<u8>, AllocError>
+    requires size { length text.now ≤ most_bytes }
+    requires deviations { length bus.now.deviations ≡ length bus.now.plan.nodes }
+    ensures { IfOk result (λ said. IsExplanationOf text.now bus.now said.items) }
 {
-    Ok(explain_plan(alloc, bus)?.into_bytes())
+    let plain = plain_of(alloc, text)?;
+    Ok(explain_plan(alloc, &plain, bus)?.into_bytes())
 }
 
 /// Writes what is wrong with a plan's document and what to change, and returns its fault.
@@ -67,23 +70,30 @@ fn write_refusal<W: Sink>(
     Err(RunFault::Setup(placed.fault))
 }
 
-/// Writes the explanation of a plan's document.
-fn explain_document<W: Sink>(alloc: Global, top: &Table, writer: &mut W) -> Result<(), RunFault>
-    ensures { (text : List ℕ) → document_of text ≡ Some (table_view top.now)
-        → ExplainsText W.takes text writer.old writer.new result }
+/// Writes the explanation of a plan's text, which has this document.
+fn explain_document<W: Sink>(
+    alloc: Global,
+    text: &[u8],
+    top: &Table,
+    writer: &mut W,
+) -> Result<(), RunFault>
+    requires size { length text.now ≤ most_bytes }
+    requires document { document_of text.now ≡ Some (table_view top.now) }
+    ensures { ExplainsText W.takes text.now writer.old writer.new result }
 {
     match bus_of_document(alloc, top) {
-        Ok(bus) => write_made(doubts_of(alloc, &bus), writer),
+        Ok(bus) => write_made(doubts_of(alloc, text, &bus), writer),
         Err(placed) => write_refusal(alloc, top, placed, writer),
     }
 }
 
 /// Writes the explanation of a plan's text that was read whole.
 fn explain_text<W: Sink>(alloc: Global, text: &[u8], writer: &mut W) -> Result<(), RunFault>
+    requires { length text.now ≤ most_bytes }
     ensures { ExplainsText W.takes text.now writer.old writer.new result }
 {
     match document_or_place(alloc, text) {
-        Ok(top) => explain_document(alloc, &top, writer),
+        Ok(top) => explain_document(alloc, text, &top, writer),
         Err(NoDocument::At(place)) => {
             let said = explain_toml(alloc, &text[..place])?;
             let _ = write_all(said.as_bytes(), writer);

@@ -1,26 +1,38 @@
 //! How long the messages of a plan may wait.
 ghost use Rattle.std.specs.Prelude.{◌≡◌, ◌≢◌, ◌≤◌, Ok, Err, IfOk, IfErr, length};
+ghost use Rattle.wl_engines.specs.Answered.{AnswersText};
 ghost use Rattle.wl_engines.specs.Explained.{bus_answer};
-ghost use Rattle.wl_engines.specs.Responded.{Responds, RespondsTo};
+ghost use Rattle.wl_engines.specs.Responded.{IsResponse, Responds};
 ghost use Rattle.wl_setup.specs.Limits.{most_bytes};
 ghost use Rattle.wl_setup.specs.Reading.{text_answer};
 
 use crate::fault::RunFault;
 use crate::reader::TextReader;
-use std::alloc::Global;
+use std::alloc::{AllocError, Global};
 use wl_device::{Ended, Sink, Source, write_all};
 use wl_respond::{Question, respond_text};
 use wl_setup::{PlanText, SetupFault, bus_of_bytes, read_bytes, read_text};
 use wl_views::Tick;
 
 /// Returns what a text in memory says, or its first fault.
-fn text_of(alloc: Global, text: &[u8]) -> Result<PlanText, SetupFault>
+pub(crate) fn text_of(alloc: Global, text: &[u8]) -> Result<PlanText, SetupFault>
     requires { length text.now ≤ most_bytes }
     ensures read { IfOk result (λ plain. text_answer text.now ≡ Ok plain) }
     ensures fault { IfErr result (λ e. e ≢ SetupFault.Memory → bus_answer text.now ≡ Err e) }
 {
     let mut reader = TextReader { rest: text };
     read_text(alloc, &mut reader)
+}
+
+/// Returns what a text in memory says. A text with a bus is refused only when out of memory.
+pub(crate) fn plain_of(alloc: Global, text: &[u8]) -> Result<PlanText, AllocError>
+    requires { length text.now ≤ most_bytes }
+    ensures { IfOk result (λ plain. text_answer text.now ≡ Ok plain) }
+{
+    match text_of(alloc, text) {
+        Ok(plain) => Ok(plain),
+        Err(_) => Err(AllocError),
+    }
 }
 
 /// Writes how long the messages of a text's plan may wait, and returns whether all deadlines are met.
@@ -32,7 +44,7 @@ fn respond_to<W: Sink>(
     writer: &mut W,
 ) -> Result<bool, RunFault>
     requires { length text.now ≤ most_bytes }
-    ensures { RespondsTo W.takes tick any_data text.now writer.old writer.new result }
+    ensures { AnswersText (IsResponse tick any_data) W.takes text.now writer.old writer.new result }
 {
     let plain = text_of(alloc, text)?;
     let bus = bus_of_bytes(alloc, text)?;

@@ -1,7 +1,8 @@
 //! A run of a plan as one page.
-ghost use Rattle.std.specs.Prelude.{◌≡◌, IfOk, length};
+ghost use Rattle.std.specs.Prelude.{◌≡◌, ◌≤◌, IfOk, length};
 ghost use Rattle.wl_report.specs.Report.{report_text};
 ghost use Rattle.wl_serial.specs.Outcome.{drives_of, outcome_of, totals_of};
+ghost use Rattle.wl_setup.specs.Limits.{most_bytes};
 ghost use Rattle.wl_views.specs.Vcd.{vcd_text};
 ghost use Rattle.wl_engines.specs.Paged.{IsPage, Pages, PagesAsked, PagesText, PagesWithin, ShowsBus, ShowsRun};
 ghost use Rattle.wl_engines.specs.Plans.{shown_totals};
@@ -11,6 +12,7 @@ use crate::fault::RunFault;
 use crate::kept::Kept;
 use crate::output::write_made;
 use crate::plan::report_as;
+use crate::respond::plain_of;
 use crate::shown::{is_whole_run, pick_of, shown_by, shown_text};
 use std::alloc::{AllocError, Global};
 use wl_device::{Ended, Sink, Source};
@@ -19,8 +21,8 @@ use wl_margin::margin_of;
 use wl_page::{Texts, page};
 use wl_plan::CheckedPlan;
 use wl_serial::{Drives, Outcome, run_serial};
-use wl_setup::{Bus, Names, SetupFault, bus_of_bytes, check_plan, read_bytes};
-use wl_traffic::traffic_of;
+use wl_setup::{Bus, Names, PlanText, SetupFault, bus_of_bytes, check_plan, read_bytes};
+use wl_traffic::traffic_of_bus;
 use wl_views::{Tick, Window, trace, vcd};
 
 /// Returns the waveform of a window of a plan's simulation.
@@ -51,12 +53,12 @@ struct BusTexts {
 }
 
 /// Returns what the page shows of a bus without a run.
-fn bus_texts(alloc: Global, tick: Tick, bus: &Bus) -> Result<BusTexts, AllocError>
+fn bus_texts(alloc: Global, tick: Tick, plain: &PlanText, bus: &Bus) -> Result<BusTexts, AllocError>
     requires deviations { length bus.now.deviations ≡ length bus.now.plan.nodes }
-    ensures { IfOk result (ShowsBus tick bus.now) }
+    ensures { IfOk result (ShowsBus tick plain.now bus.now) }
 {
     let margin = margin_of(alloc, tick.picoseconds(), bus)?;
-    let figures = explain_found(alloc, bus, margin.headroom)?;
+    let figures = explain_found(alloc, plain, bus, margin.headroom)?;
     let settings = check_plan(alloc, &bus.plan, &bus.names)?;
     Ok(BusTexts {
         figures,
@@ -88,19 +90,20 @@ fn run_texts_of(
     alloc: Global,
     tick: Tick,
     shown: Window,
-    plan: &CheckedPlan,
-    names: &Names,
+    plain: &PlanText,
+    bus: &Bus,
     outcome: &Outcome,
 ) -> Result<RunTexts, AllocError>
-    requires outcome { outcome.now ≡ outcome_of plan.now }
-    ensures { IfOk result (ShowsRun tick shown plan.now names.now) }
+    requires deviations { length bus.now.deviations ≡ length bus.now.plan.nodes }
+    requires outcome { outcome.now ≡ outcome_of bus.now.plan }
+    ensures { IfOk result (ShowsRun tick shown plain.now bus.now) }
 {
-    let traffic = traffic_of(alloc, tick, plan, names, outcome)?.text;
+    let traffic = traffic_of_bus(alloc, tick, plain, bus, outcome)?.text;
     let report = report_of_run(alloc, !is_whole_run(shown), outcome)?;
-    let part = shown_text(alloc, shown, plan, outcome)?;
-    let trace = trace(alloc, &pick_of(shown), plan, names, outcome)?;
+    let part = shown_text(alloc, shown, &bus.plan, outcome)?;
+    let trace = trace(alloc, &pick_of(shown), &bus.plan, &bus.names, outcome)?;
     let drives = outcome.drives(alloc)?;
-    let wave = wave_of(alloc, tick, shown, plan, names, &drives)?;
+    let wave = wave_of(alloc, tick, shown, &bus.plan, &bus.names, &drives)?;
     Ok(RunTexts {
         traffic,
         report,
@@ -115,14 +118,15 @@ fn run_texts(
     alloc: Global,
     tick: Tick,
     asked: Option<Window>,
-    plan: &CheckedPlan,
-    names: &Names,
+    plain: &PlanText,
+    bus: &Bus,
 ) -> Result<RunTexts, AllocError>
-    ensures { IfOk result (ShowsRun tick (shown_by asked plan.now) plan.now names.now) }
+    requires deviations { length bus.now.deviations ≡ length bus.now.plan.nodes }
+    ensures { IfOk result (ShowsRun tick (shown_by asked bus.now.plan) plain.now bus.now) }
 {
-    let outcome = run_serial(alloc, plan)?;
-    let shown = shown_by(alloc, asked, plan, &outcome)?;
-    run_texts_of(alloc, tick, shown, plan, names, &outcome)
+    let outcome = run_serial(alloc, &bus.plan)?;
+    let shown = shown_by(alloc, asked, &bus.plan, &outcome)?;
+    run_texts_of(alloc, tick, shown, plain, bus, &outcome)
 }
 
 /// Returns the page of a bus, whose text is given: the simulation of its plan is run once.
@@ -133,11 +137,13 @@ fn page_of_bus(
     text: &[u8],
     bus: &Bus,
 ) -> Result<Vec<u8>, AllocError>
+    requires size { length text.now ≤ most_bytes }
     requires deviations { length bus.now.deviations ≡ length bus.now.plan.nodes }
     ensures { IfOk result (λ whole. IsPage tick asked text.now bus.now whole.items) }
 {
-    let known = bus_texts(alloc, tick, bus)?;
-    let run = run_texts(alloc, tick, asked, &bus.plan, &bus.names)?;
+    let plain = plain_of(alloc, text)?;
+    let known = bus_texts(alloc, tick, &plain, bus)?;
+    let run = run_texts(alloc, tick, asked, &plain, bus)?;
     page(
         alloc,
         &Texts {
@@ -162,6 +168,7 @@ fn page_text<W: Sink>(
     text: &[u8],
     writer: &mut W,
 ) -> Result<(), RunFault>
+    requires { length text.now ≤ most_bytes }
     ensures { PagesText W.takes tick asked text.now writer.old writer.new result }
 {
     match bus_of_bytes(alloc, text) {

@@ -1,33 +1,39 @@
 //! The traffic of a run.
-ghost use Rattle.wl_engines.specs.TrafficRun.{RunsTraffic, WritesTraffic};
+ghost use Rattle.std.specs.Prelude.{◌≤◌, length};
+ghost use Rattle.wl_engines.specs.Answered.{AnswersText};
+ghost use Rattle.wl_engines.specs.TrafficRun.{IsTrafficOutput, RunsTraffic};
+ghost use Rattle.wl_setup.specs.Limits.{most_bytes};
 
 use crate::fault::RunFault;
+use crate::respond::text_of;
 use std::alloc::Global;
-use wl_device::{Sink, Source, write_all};
-use wl_plan::CheckedPlan;
+use wl_device::{Ended, Sink, Source, write_all};
 use wl_serial::run_serial;
-use wl_setup::{Names, read_checked};
-use wl_traffic::{Reason, traffic_of};
+use wl_setup::{SetupFault, bus_of_bytes, read_bytes};
+use wl_traffic::{Reason, traffic_of_bus};
 use wl_views::Tick;
 
-/// Simulates a plan, writes its traffic under these names of its nodes, and returns why the run didn't work.
-fn write_traffic<W: Sink>(
+/// Simulates the plan of a text, writes its traffic, and returns why the run didn't work.
+fn traffic_of_text<W: Sink>(
     alloc: Global,
     tick: Tick,
-    plan: &CheckedPlan,
-    names: &Names,
+    text: &[u8],
     writer: &mut W,
 ) -> Result<Reason, RunFault>
-    ensures { WritesTraffic W.takes tick plan.now names.now writer.old writer.new result }
+    requires { length text.now ≤ most_bytes }
+    ensures { AnswersText (IsTrafficOutput tick) W.takes text.now writer.old writer.new result }
 {
-    let outcome = run_serial(alloc, plan)?;
-    let found = traffic_of(alloc, tick, plan, names, &outcome)?;
+    let plain = text_of(alloc, text)?;
+    let bus = bus_of_bytes(alloc, text)?;
+    let outcome = run_serial(alloc, &bus.plan)?;
+    let found = traffic_of_bus(alloc, tick, &plain, &bus, &outcome)?;
     write_all(found.text.as_bytes(), writer)?;
     Ok(found.reason)
 }
 
 /// Reads a plan's text, simulates the plan, and writes how busy the bus was, how long the messages of each node waited, and why the run
-/// didn't work. Returns that reason. A tick of the plan takes as long as `tick` says.
+/// didn't work. Returns that reason. A tick of the plan takes as long as `tick` says. If `respond` says of the text that the waits are bounded,
+/// the bound of each message is written too.
 ///
 /// The whole output is made before the first write. If the input is refused, or memory runs out, the writer isn't called; if the writer
 /// fails, a prefix of the output has been written.
@@ -39,8 +45,10 @@ pub fn traffic_run<R: Source, W: Sink>(
 ) -> Result<Reason, RunFault>
     ensures { RunsTraffic R.gives W.takes tick reader.old reader.new writer.old writer.new result }
 {
-    match read_checked(alloc, reader) {
-        Ok((plan, names)) => write_traffic(alloc, tick, &plan, &names, writer),
-        Err(fault) => Err(RunFault::from(fault)),
+    let (text, ended) = read_bytes(alloc, reader)?;
+    match ended {
+        Ended::End => traffic_of_text(alloc, tick, &text, writer),
+        Ended::Broken => Err(RunFault::Setup(SetupFault::Read)),
+        Ended::Full => Err(RunFault::Setup(SetupFault::Size)),
     }
 }

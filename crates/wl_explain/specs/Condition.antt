@@ -7,6 +7,10 @@ use Rattle.wl_node.specs.declared.setup.NodeSetup.{NodeSetup}
 use Rattle.wl_plan.specs.declared.plan.Plan.{Plan}
 use Rattle.wl_plan.specs.PlanLine.{setup_at}
 use Rattle.wl_setup.specs.declared.bus.Bus.{Bus}
+use Rattle.wl_setup.specs.declared.plan_text.PlanText.{PlanText}
+use Rattle.wl_respond.specs.declared.bounds.Waits.{Waits}
+use Rattle.wl_respond.specs.Bounds.{AreWaitsOfBus}
+use Rattle.wl_explain.specs.Waits.{wait_doubts}
 use Rattle.wl_setup.specs.Names.{name_of}
 use Rattle.wl_bound.specs.declared.condition.Inequality.{Inequality}
 use Rattle.wl_bound.specs.declared.condition.Inequality.TheVariants.{DriftFitsJump, BitIsThereAtSample, NoBitTooEarly}
@@ -135,8 +139,9 @@ TellsFigures plan names (Some i) family old new = new ≡ old ++ each_below (fig
 abbrev pub other_of : Plan → Option ℕ
 other_of plan = first_place (without_book plan) (length plan.nodes)
 
--- the whole text
-abbrev pub IsExplanation : Bus → List ℕ → Type 0
-IsExplanation bus text =
-    TellsFigures bus.plan bus.names (other_of bus.plan) (bus_family bus)
-    (doubts_text bus.plan bus.names (other_of bus.plan) (bus_family bus)) text
+-- the whole text: of clocks, ways and nodes what is doubtful, then of messages, and then the figures
+abbrev pub IsExplanation : PlanText → Bus → List ℕ → Type 0
+IsExplanation plain bus text =
+    (waits : Option Waits) × AreWaitsOfBus nanosecond plain bus waits
+    × TellsFigures bus.plan bus.names (other_of bus.plan) (bus_family bus)
+    (doubts_text bus.plan bus.names (other_of bus.plan) (bus_family bus) ++ wait_doubts bus.names waits) text

@@ -4,12 +4,17 @@ ghost use Rattle.wl_margin.specs.Margins.{IsHeadroomFound, bus_family};
 ghost use Rattle.wl_explain.specs.Condition.{IsExplanation, TellsFigures, clock_doubts, doubt_lead, doubts_text, outside_line, rest_doubts, timing_line, timing_lines};
 
 use crate::condition::push_family;
+use crate::waits::push_waits;
 use crate::words::{push_all_figures, push_nodes, push_pairs, push_room, push_timing};
 use std::alloc::{AllocError, Global};
 use wl_bound::{Family, Outside, cause_outside, first_without_book};
 use wl_margin::{Headroom, oscillators, push_headroom, push_reason};
 use wl_plan::CheckedPlan;
-use wl_setup::{Bus, Names};
+use wl_respond::waits_of_bus;
+use wl_setup::{Bus, Names, PlanText};
+
+/// How many picoseconds a tick takes: it is taken for a nanosecond.
+const NANOSECOND: u64 = 1_000;
 
 /// Returns whether a plan outside of the condition is doubtful, or no bound is known for it.
 fn doubt_lead(cause: Outside) -> &'static str
@@ -149,7 +154,7 @@ fn family_in(alloc: Global, bus: &Bus) -> Result<Option<Family>, AllocError>
     }
 }
 
-/// Returns the explanation of a plan that can be run: what is doubtful of it, one a line, and then its figures.
+/// Returns the explanation of a plan's text and its bus, which can be run: what is doubtful of it, one a line, and then its figures.
 ///
 /// First comes what lies outside of the condition for a sound bus. If all nodes synchronise by the book, each inequality that fails
 /// follows, by node, by the other node and by inequality: for one sender at a time, or if several nodes send at once. Two nodes whose bit
@@ -159,35 +164,39 @@ fn family_in(alloc: Global, bus: &Bus) -> Result<Option<Family>, AllocError>
 /// allow, and a way there and back for which the earlier sample is too early.
 ///
 /// Then come, for each node: a jump width above PHASE_SEG2; its first frame that becomes ready at the end or later; its first that becomes
-/// ready before all nodes have counted 11 bits. Last comes, for each node, an end that leaves no room for its frames.
+/// ready before all nodes have counted 11 bits. Then comes, for each node, an end that leaves no room for its frames. Last come messages that
+/// may miss their deadlines, or why no wait is bounded: a jitter that leaves nothing of a period, or a bus that may be full.
 ///
 /// The figures of a node are bit rate in kbit/s, sample point in per cent and quantum in nanoseconds. By the book two lines follow, unless
 /// there is one node alone: how much longer the cable and how much wider every tolerance may be. Without the book each node has its
 /// tolerance in parts per million, and how much of it the other clocks leave to both nodes of a pair. It also has the longest cable, in
 /// nanoseconds along it and in metres at 5 ns each. A quantum is the mean of those that the node runs before the end. A tick is taken for a
 /// nanosecond. Refused out of memory alone.
-pub fn explain_plan(alloc: Global, bus: &Bus) -> Result<String, AllocError>
+pub fn explain_plan(alloc: Global, plain: &PlanText, bus: &Bus) -> Result<String, AllocError>
     requires deviations { length bus.now.deviations ≡ length bus.now.plan.nodes }
-    ensures { IfOk result (λ text. IsExplanation bus.now (string_bytes text)) }
+    ensures { IfOk result (λ text. IsExplanation plain.now bus.now (string_bytes text)) }
 {
-    explain_found(alloc, bus, None)
+    explain_found(alloc, plain, bus, None)
 }
 
 /// Returns the same explanation. How much longer the cable may be and how much wider every tolerance isn't searched if a margin of the bus found
 /// it (`wl_margin::margin_of`).
 pub fn explain_found(
     alloc: Global,
+    plain: &PlanText,
     bus: &Bus,
     found: Option<(Headroom, Headroom)>,
 ) -> Result<String, AllocError>
     requires deviations { length bus.now.deviations ≡ length bus.now.plan.nodes }
     requires found { IsHeadroomFound found (bus_family bus.now) }
-    ensures { IfOk result (λ text. IsExplanation bus.now (string_bytes text)) }
+    ensures { IfOk result (λ text. IsExplanation plain.now bus.now (string_bytes text)) }
 {
     let mut text = String::new(alloc);
     let family = family_in(alloc, bus)?;
+    let waits = waits_of_bus(alloc, NANOSECOND, plain, bus)?;
     let other = first_without_book(&bus.plan);
     push_doubts(&mut text, &bus.plan, &bus.names, other, &family)?;
+    push_waits(&mut text, &bus.names, &waits)?;
     push_figures_of(&mut text, bus, other, &family, found)?;
     Ok(text)
 }

@@ -18,6 +18,7 @@ mod explanation;
 mod laws;
 mod refusal;
 mod remedies;
+mod waits;
 mod words;
 
 pub use doubts::{

@@ -1,6 +1,6 @@
 -- The lines of `explain`, each kind with its fields (this project's profile).
 use Rattle.std.specs.Prelude.{List, [], ◌∷◌, ◌++◌, codes}
-use Rattle.wl_formats.specs.declared.shape.Class.TheVariants.{Measure, Number, Rest, Word}
+use Rattle.wl_formats.specs.declared.shape.Class.TheVariants.{Hexadecimal, Measure, Number, Rest, Word}
 use Rattle.wl_formats.specs.Shapes.{Form, Layout, Part, Text, literal, field, given}
 use Rattle.wl_formats.specs.Sentences.{back_parts, early_parts, late_parts, behind_parts, growing_forms, a_form}
 
@@ -12,7 +12,8 @@ explain_columns =
     codes "available_ticks" ∷ codes "tolerance_ppm" ∷ codes "jump_quanta" ∷ codes "phase_seg2_quanta" ∷
     codes "frame" ∷ codes "idle_tick" ∷ codes "needed_bits" ∷ codes "sample_point_percent" ∷ codes "quantum_ns" ∷
     codes "left_ppm" ∷ codes "cable_ns" ∷ codes "cable_m" ∷ codes "one_sender_units" ∷ codes "any_senders_units" ∷
-    codes "one_sender_ppm" ∷ codes "any_senders_ppm" ∷ codes "wrong" ∷ codes "change" ∷ []
+    codes "one_sender_ppm" ∷ codes "any_senders_ppm" ∷ codes "wrong" ∷ codes "change" ∷ codes "id" ∷ codes "taken_us" ∷
+    codes "available_us" ∷ codes "load_percent" ∷ []
 
 -- a doubt, by its name in `doubt`
 abbrev pub doubt_form : Text → List Part → Form
@@ -62,6 +63,13 @@ other_doubt_forms =
     doubt_form (codes "no_room") (literal (codes "doubt: 11 bits and the frames of ") ∷ field (codes "name") Word ∷
     literal (codes " take at least ") ∷ field (codes "needed_bits") Number ∷
     literal (codes " bits, beyond the end") ∷ []) ∷
+    doubt_form (codes "beyond_deadline") (literal (codes "doubt: ") ∷ field (codes "id") Hexadecimal ∷ literal (codes " of ") ∷
+    field (codes "name") Word ∷ literal (codes " may take ") ∷ field (codes "taken_us") Number ∷
+    literal (codes " us, and its deadline is ") ∷ field (codes "available_us") Number ∷ literal (codes " us") ∷ []) ∷
+    doubt_form (codes "jitter_beyond_period") (literal (codes "doubt: the jitter of ") ∷ field (codes "id") Hexadecimal ∷
+    literal (codes " of ") ∷ field (codes "name") Word ∷ literal (codes " isn't less than its period") ∷ []) ∷
+    doubt_form (codes "bus_full") (literal (codes "doubt: the bus load is up to ") ∷ field (codes "load_percent") Number ∷
+    literal (codes " %, so no wait is bounded") ∷ []) ∷
     doubt_form (codes "other") (literal (codes "doubt: ") ∷ field (codes "reason") Rest ∷ []) ∷
     []
 

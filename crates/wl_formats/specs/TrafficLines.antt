@@ -20,7 +20,7 @@ traffic_layout = record {
       codes "load_percent" ∷ codes "gap_us" ∷ codes "node" ∷ codes "name" ∷ codes "id" ∷ codes "sent" ∷ codes "left" ∷
       codes "waiting" ∷ codes "lost" ∷ codes "broken" ∷ codes "least_quanta" ∷ codes "mean_quanta" ∷
       codes "greatest_quanta" ∷ codes "least_us" ∷ codes "mean_us" ∷ codes "greatest_us" ∷ codes "verdict" ∷ codes "full_us" ∷
-      codes "waits_us" ∷ codes "allowed_us" ∷ codes "passed" ∷ codes "most_passed" ∷ [];
+      codes "waits_us" ∷ codes "allowed_us" ∷ codes "passed" ∷ codes "most_passed" ∷ codes "bound_quanta" ∷ codes "bound_us" ∷ [];
   forms =
       record {
         kind = codes "bus";
@@ -41,6 +41,14 @@ traffic_layout = record {
             field (codes "greatest_quanta") Measure ∷ literal (codes " us least ") ∷ field (codes "least_us") Measure ∷
             literal (codes " mean ") ∷ field (codes "mean_us") Measure ∷ literal (codes " greatest ") ∷
             field (codes "greatest_us") Measure ∷ [];
+      } ∷
+      record {
+        kind = codes "bound";
+        parts =
+            literal (codes "bound ") ∷ field (codes "node") Number ∷ literal (codes " ") ∷ field (codes "name") Word ∷
+            literal (codes " ") ∷ field (codes "id") Hexadecimal ∷ literal (codes " at most ") ∷
+            field (codes "bound_quanta") Number ∷ literal (codes " quanta ") ∷ field (codes "bound_us") Number ∷
+            literal (codes " us, proved") ∷ [];
       } ∷
       record {
         kind = codes "full";

@@ -74,14 +74,17 @@ function fillReport() {
   document.getElementById("verdict").textContent = linesOf("report").at(-1);
 }
 
-// Lines of one form as the rows of a table, each once; all others as they are, in their places before or after it.
-function fillLines(id, form, names, row) {
-  const section = document.getElementById(id + "-table"), lines = linesOf(id);
-  const rows = lines.map((line) => line.match(form)).filter(Boolean);
-  const first = lines.findIndex((line) => form.test(line)), plain = lines.map((line, at) => [line, at]).filter(([line]) => !form.test(line));
-  const said = (isHere) => plain.filter(([, at]) => isHere(at)).map(([line]) => create("p", {}, line));
-  section.append(...said((at) => rows.length === 0 || at < first));
-  if (rows.length > 0) section.append(table(section.getAttribute("aria-labelledby"), names(rows[0]), rows.map(row)), ...said((at) => at > first));
+// Lines of a form as the rows of a table, in the place of the first of them; all others as they are, in their places.
+function fillLines(id, ...forms) {
+  const section = document.getElementById(id + "-table"), lines = linesOf(id), filled = new Set();
+  for (const line of lines) {
+    const kind = forms.find(({ form }) => form.test(line));
+    if (kind === undefined) section.append(create("p", {}, line));
+    if (kind === undefined || filled.has(kind)) continue;
+    filled.add(kind);
+    const rows = lines.map((each) => each.match(kind.form)).filter(Boolean);
+    section.append(table(section.getAttribute("aria-labelledby"), kind.names(rows[0]), rows.map(kind.row)));
+  }
 }
 
 // The words of a message's line as pairs of name and value: `sent 5 .. us least 232 mean 259.80`.
@@ -98,10 +101,16 @@ function pairsOf(said) {
 
 function fillTables() {
   const MESSAGE = /^message \d+ (.*) ([0-9a-f]{8}|[0-9a-f]{3}) (sent .*)$/, PAIR = /^pair (.*): late (.*), early (.*), drift (.*)$/;
-  const spared = (said) => cell(said, said.startsWith("-") ? { class: "bad" } : {});
-  fillLines("margin", PAIR, () => ["pair", "late", "early", "drift"], ([, pair, ...spare]) => named(pair, spare.map(spared)));
-  fillLines("traffic", MESSAGE, (first) => ["node", "identifier", ...pairsOf(first[3]).map(([name]) => name)],
-    ([, node, identifier, said]) => named(node, [identifier, ...pairsOf(said).map(([, value]) => value)].map((value) => cell(value))));
+  const BOUND = /^bound \d+ (.*) ([0-9a-f]{8}|[0-9a-f]{3}) at most (.*) quanta (.*) us, proved$/;
+  const spared = (said) => cell(said, said.startsWith("-") ? { class: "bad" } : {}), cells = (all) => all.map((value) => cell(value));
+  fillLines("margin", { form: PAIR, names: () => ["pair", "late", "early", "drift"], row: ([, pair, ...spare]) => named(pair, spare.map(spared)) });
+  const messages = {
+    form: MESSAGE,
+    names: (first) => ["node", "identifier", ...pairsOf(first[3]).map(([name]) => name)],
+    row: ([, node, identifier, said]) => named(node, cells([identifier, ...pairsOf(said).map(([, value]) => value)])),
+  };
+  const bounds = { form: BOUND, names: () => ["node", "identifier", "quanta at most", "us at most, proved"], row: ([, node, ...said]) => named(node, cells(said)) };
+  fillLines("traffic", messages, bounds);
 }
 
 function fillDisturbances() {

@@ -7,4 +7,5 @@ pub mod Messages
 pub mod Late
 pub mod Reasons
 pub mod Causes
+pub mod Bounds
 pub mod Traffic

@@ -1,11 +1,16 @@
 -- The traffic of a run as text: the bus, the messages, and why the run didn't work (this project's profile).
-use Rattle.std.specs.Prelude.{ℕ, List, [], ◌∷◌, ◌++◌, codes}
+use Rattle.std.specs.Prelude.{◌≡◌, ℕ, List, [], ◌∷◌, ◌++◌, codes, Option, None}
 use Rattle.std.specs.Fmt.{decimal}
 use Rattle.wl_margin.specs.Pieces.{hundredths, joined}
 use Rattle.wl_plan.specs.declared.plan.Plan.{Plan}
+use Rattle.wl_respond.specs.declared.bounds.Waits.{Waits}
+use Rattle.wl_respond.specs.Bounds.{AreWaitsOfBus}
+use Rattle.wl_setup.specs.declared.bus.Bus.{Bus}
+use Rattle.wl_setup.specs.declared.plan_text.PlanText.{PlanText}
 use Rattle.wl_views.specs.declared.tick.Tick.{Tick}
-use Rattle.wl_views.specs.Ticks.{microseconds}
+use Rattle.wl_views.specs.Ticks.{microseconds, tick_picoseconds}
 use Rattle.wl_serial.specs.Outcome.{outcome_of}
+use Rattle.wl_traffic.specs.Bounds.{bound_lines}
 use Rattle.wl_traffic.specs.Bus.{bus_load, share_of}
 use Rattle.wl_traffic.specs.Causes.{cause_lines, found_of}
 use Rattle.wl_traffic.specs.Messages.{all_messages}
@@ -21,8 +26,17 @@ bus_line tick end bus =
 abbrev pub verdict_words : Reason → List ℕ
 verdict_words reason = joined (codes "verdict " ∷ reason_word reason ∷ codes "\n" ∷ [])
 
--- the bus, the messages of each node, what the reason rests on, and the reason
+-- the bus, the messages of each node, bounds of their waits, what the reason rests on, and the reason
+abbrev pub bounded_text : Tick → Plan → List (List ℕ) → Option Waits → List ℕ
+bounded_text tick plan names waits =
+    bus_line tick plan.end (bus_load plan) ++ all_messages tick plan names ++ bound_lines names waits
+    ++ cause_lines tick names (found_of plan) (outcome_of plan).nodes ++ verdict_words (reason_of plan)
+
+-- of a run alone, without bounds
 abbrev pub traffic_text : Tick → Plan → List (List ℕ) → List ℕ
-traffic_text tick plan names =
-    bus_line tick plan.end (bus_load plan) ++ all_messages tick plan names ++ cause_lines tick names (found_of plan) (outcome_of plan).nodes
-    ++ verdict_words (reason_of plan)
+traffic_text tick plan names = bounded_text tick plan names None
+
+-- of a bus with the plan's text, with its bounds
+abbrev pub IsTrafficOfBus : Tick → PlanText → Bus → List ℕ → Type 0
+IsTrafficOfBus tick plain bus text =
+    (waits : Option Waits) × AreWaitsOfBus (tick_picoseconds tick) plain bus waits × (text ≡ bounded_text tick bus.plan bus.names waits)

@@ -1,6 +1,7 @@
 //! The traffic of a run as text: how busy the bus was, how long each message waited, and why a run didn't work.
 #![tactic(auto)]
 
+mod bounds;
 mod bus;
 mod causes;
 mod entries;
@@ -17,4 +18,4 @@ mod text;
 mod waits;
 
 pub use reason::Reason;
-pub use text::{Traffic, traffic_of};
+pub use text::{Traffic, traffic_of, traffic_of_bus};

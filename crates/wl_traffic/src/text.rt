@@ -1,10 +1,11 @@
 //! The traffic of a run as text.
-ghost use Rattle.std.specs.Prelude.{◌≡◌, string_bytes, IfOk, OnOk};
+ghost use Rattle.std.specs.Prelude.{◌≡◌, length, string_bytes, IfOk, IfSome, OnOk};
 ghost use Rattle.wl_report.specs.Lines.{GrowsBy};
 ghost use Rattle.wl_serial.specs.Outcome.{outcome_of};
 ghost use Rattle.wl_traffic.specs.Reasons.{reason_of};
-ghost use Rattle.wl_traffic.specs.Traffic.{bus_line, traffic_text, verdict_words};
+ghost use Rattle.wl_traffic.specs.Traffic.{IsTrafficOfBus, bus_line, bounded_text, traffic_text, verdict_words};
 
+use crate::bounds::push_bounds;
 use crate::causes::{microseconds_of, push_causes};
 use crate::found::found_of;
 use crate::load::{Load, share};
@@ -14,8 +15,9 @@ use crate::reason::Reason;
 use std::alloc::{AllocError, Global};
 use wl_margin::Hundredths;
 use wl_plan::CheckedPlan;
+use wl_respond::{Waits, waits_of_bus};
 use wl_serial::Outcome;
-use wl_setup::Names;
+use wl_setup::{Bus, Names, PlanText};
 use wl_views::Tick;
 
 /// The traffic of a run.
@@ -44,6 +46,33 @@ fn push_reason(text: &mut String, reason: Reason) -> Result<(), AllocError>
     writeln!(text, "verdict {word}")
 }
 
+/// Returns the traffic of a plan's simulation, with these bounds of its messages.
+fn traffic_with(
+    alloc: Global,
+    tick: Tick,
+    plan: &CheckedPlan,
+    names: &Names,
+    outcome: &Outcome,
+    waits: &Option<Waits>,
+) -> Result<Traffic, AllocError>
+    requires outcome { outcome.now ≡ outcome_of plan.now }
+    requires lines { IfSome waits.now (λ w. length w.asked ≡ length w.lines) }
+    ensures text { IfOk result (λ t. string_bytes t.text ≡ bounded_text tick plan.now names.now waits.now) }
+    ensures reason { IfOk result (λ t. t.reason ≡ reason_of plan.now) }
+{
+    let queues = node_queues(alloc, plan, outcome)?;
+    queues_are_known(plan);
+    let found = found_of(alloc, plan, outcome, queues.as_slice())?;
+    let mut text = String::new(alloc);
+    push_bus(&mut text, tick, plan.end, found.load)?;
+    push_messages(alloc, &mut text, tick, plan, names, queues.as_slice())?;
+    push_bounds(&mut text, names, waits)?;
+    push_causes(&mut text, tick, names, &found, outcome.nodes.as_slice())?;
+    push_reason(&mut text, found.reason)?;
+    let reason = found.reason;
+    Ok(Traffic { text, reason })
+}
+
 /// Returns the traffic of a plan's simulation, which is `outcome`, under these names of its nodes. A tick takes as long as `tick` says.
 ///
 /// The first line says for which share of the time the bus was busy, and for how long it wasn't at most. Then follows a line for each
@@ -62,14 +91,24 @@ pub fn traffic_of(
     ensures text { IfOk result (λ t. string_bytes t.text ≡ traffic_text tick plan.now names.now) }
     ensures reason { IfOk result (λ t. t.reason ≡ reason_of plan.now) }
 {
-    let queues = node_queues(alloc, plan, outcome)?;
-    queues_are_known(plan);
-    let found = found_of(alloc, plan, outcome, queues.as_slice())?;
-    let mut text = String::new(alloc);
-    push_bus(&mut text, tick, plan.end, found.load)?;
-    push_messages(alloc, &mut text, tick, plan, names, queues.as_slice())?;
-    push_causes(&mut text, tick, names, &found, outcome.nodes.as_slice())?;
-    push_reason(&mut text, found.reason)?;
-    let reason = found.reason;
-    Ok(Traffic { text, reason })
+    traffic_with(alloc, tick, plan, names, outcome, &None)
+}
+
+/// Returns the traffic of the simulation of a bus's plan, which is `outcome`. It is the text of [`traffic_of`]. After the lines of messages it
+/// has a line for each message that comes again, with the longest time that it waits on any run, if that is proved. The bus is that of the
+/// plan's text. Refused out of memory alone.
+pub fn traffic_of_bus(
+    alloc: Global,
+    tick: Tick,
+    plain: &PlanText,
+    bus: &Bus,
+    outcome: &Outcome,
+) -> Result<Traffic, AllocError>
+    requires deviations { length bus.now.deviations ≡ length bus.now.plan.nodes }
+    requires outcome { outcome.now ≡ outcome_of bus.now.plan }
+    ensures text { IfOk result (λ t. IsTrafficOfBus tick plain.now bus.now (string_bytes t.text)) }
+    ensures reason { IfOk result (λ t. t.reason ≡ reason_of bus.now.plan) }
+{
+    let waits = waits_of_bus(alloc, tick.picoseconds(), plain, bus)?;
+    traffic_with(alloc, tick, &bus.plan, &bus.names, outcome, &waits)
 }

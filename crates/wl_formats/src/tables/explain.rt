@@ -3,7 +3,7 @@ ghost use Rattle.std.specs.Prelude.{◌≡◌, map};
 ghost use Rattle.wl_formats.specs.Shapes.{form_of, layout_of};
 ghost use Rattle.wl_formats.specs.ExplainLines.{doubt_forms, explain_columns, explain_layout, figure_forms};
 
-use crate::shape::Class::{Measure, Number, Rest, Word};
+use crate::shape::Class::{Hexadecimal, Measure, Number, Rest, Word};
 use crate::shape::Piece::{Field, Fixed, Given, Passed};
 use crate::shape::{Shape, Table};
 
@@ -13,7 +13,7 @@ static COLUMNS: &[&str] = &[
     "rate_kbit_s", "other_rate_kbit_s", "taken_ppm", "available_ppm", "taken_ticks", "available_ticks", "tolerance_ppm",
     "jump_quanta", "phase_seg2_quanta", "frame", "idle_tick", "needed_bits", "sample_point_percent", "quantum_ns",
     "left_ppm", "cable_ns", "cable_m", "one_sender_units", "any_senders_units", "one_sender_ppm", "any_senders_ppm",
-    "wrong", "change",
+    "wrong", "change", "id", "taken_us", "available_us", "load_percent",
 ];
 
 #[rattlefmt::skip]
@@ -111,6 +111,19 @@ static DOUBTS: &[Shape] = &[
     Shape { kind: "doubt", pieces: &[
         Given("doubt", Word, "no_room"), Fixed("doubt: 11 bits and the frames of "), Field("name", Word),
         Fixed(" take at least "), Field("needed_bits", Number), Fixed(" bits, beyond the end"),
+    ] },
+    Shape { kind: "doubt", pieces: &[
+        Given("doubt", Word, "beyond_deadline"), Fixed("doubt: "), Field("id", Hexadecimal), Fixed(" of "),
+        Field("name", Word), Fixed(" may take "), Field("taken_us", Number), Fixed(" us, and its deadline is "),
+        Field("available_us", Number), Fixed(" us"),
+    ] },
+    Shape { kind: "doubt", pieces: &[
+        Given("doubt", Word, "jitter_beyond_period"), Fixed("doubt: the jitter of "), Field("id", Hexadecimal),
+        Fixed(" of "), Field("name", Word), Fixed(" isn't less than its period"),
+    ] },
+    Shape { kind: "doubt", pieces: &[
+        Given("doubt", Word, "bus_full"), Fixed("doubt: the bus load is up to "), Field("load_percent", Number),
+        Fixed(" %, so no wait is bounded"),
     ] },
     Shape { kind: "doubt", pieces: &[
         Given("doubt", Word, "other"), Fixed("doubt: "), Field("reason", Rest),

@@ -13,7 +13,7 @@ static TRAFFIC: Table = Table {
     columns: &[
         "load_percent", "gap_us", "node", "name", "id", "sent", "left", "waiting", "lost", "broken", "least_quanta",
         "mean_quanta", "greatest_quanta", "least_us", "mean_us", "greatest_us", "verdict", "full_us", "waits_us",
-        "allowed_us", "passed", "most_passed",
+        "allowed_us", "passed", "most_passed", "bound_quanta", "bound_us",
     ],
     shapes: &[
         Shape { kind: "bus", pieces: &[
@@ -26,6 +26,10 @@ static TRAFFIC: Table = Table {
             Fixed(" quanta least "), Field("least_quanta", Measure), Fixed(" mean "), Field("mean_quanta", Measure),
             Fixed(" greatest "), Field("greatest_quanta", Measure), Fixed(" us least "), Field("least_us", Measure),
             Fixed(" mean "), Field("mean_us", Measure), Fixed(" greatest "), Field("greatest_us", Measure),
+        ] },
+        Shape { kind: "bound", pieces: &[
+            Fixed("bound "), Field("node", Number), Fixed(" "), Field("name", Word), Fixed(" "), Field("id", Hexadecimal),
+            Fixed(" at most "), Field("bound_quanta", Number), Fixed(" quanta "), Field("bound_us", Number), Fixed(" us, proved"),
         ] },
         Shape { kind: "full", pieces: &[
             Fixed("full for the last "), Field("full_us", Number), Fixed(" us"),

@@ -1,13 +1,14 @@
 use Rattle.std.proofs.Common.{subst}
 use Rattle.wl_engines.specs.declared.kept.Kept.{Kept}
-use Rattle.wl_c.proofs.Direct.{traffic_made}
+use Rattle.wl_c.proofs.Direct.{answer_made}
 use Rattle.wl_c.specs.Made.{IsMade}
+use Rattle.wl_engines.specs.TrafficRun.{IsTrafficOutput}
 use Rattle.wl_engines.specs.declared.reader.TextReader.{TextReader}
 use Rattle.wl_c.proofs.engines.traffic_of.Goals as goal
 
 pub returns : goal.returns
 returns c =
     let made = subst (λ a. IsMade a c.traffic_run-found.new.writer.bytes.items c.made_by.result) c.without_reason-answer.ensures c.made_by.ensures in
-    traffic_made (λ (s : TextReader). s.rest.now) (λ (k : Kept). k.bytes.items) (record { rest = c.args.text }) c.traffic_run-found.new.reader
-    c.new-kept.result c.traffic_run-found.new.writer c.new-kept.ensures c.args.tick c.traffic_run-found.result c.made_by.result
+    answer_made (λ (s : TextReader). s.rest.now) (λ (k : Kept). k.bytes.items) (record { rest = c.args.text }) c.traffic_run-found.new.reader
+    c.new-kept.result c.traffic_run-found.new.writer c.new-kept.ensures (IsTrafficOutput c.args.tick) c.traffic_run-found.result c.made_by.result
     c.traffic_run-found.ensures made

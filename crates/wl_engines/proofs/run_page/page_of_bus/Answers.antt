@@ -12,7 +12,7 @@ returns c =
     let figures = c.as_bytes.ensures.value in
     let settings = c.as_bytes-2.ensures.value in
     let margin = c.as_bytes-3.ensures.value in
-    let traffic = c.as_bytes-4.ensures.value ∙ run.0 in
+    let traffic = c.as_bytes-4.ensures.value in
     let report = c.deref.ensures.value ∙ run.1 in
     let part = c.as_bytes-5.ensures.value ∙ run.2 in
     let trace = c.deref-2.ensures.value ∙ run.3 in
@@ -20,11 +20,15 @@ returns c =
     let same = same_page c.args.text.now figures settings margin traffic report part trace wave in
     ok_so c.page.result
     (λ whole is. (
+      c.in_ok-plain.plain,
       string_bytes c.in_ok-known.known.figures,
       string_bytes c.in_ok-known.known.settings,
       string_bytes c.in_ok-known.known.margin,
+      string_bytes c.in_ok-run.run.traffic,
+      c.in_ok-plain.ensures,
       known.0,
       known.1,
       known.2,
+      run.0,
       is ∙ same,
     )) c.page.ensures
