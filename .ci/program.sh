@@ -426,6 +426,7 @@ check --format=
 explain --format yaml
 margin --format text/csv
 trace --format jsonl
+judge --format 2
 respond --format 2
 traffic --format 1
 sweep --format plan
@@ -487,7 +488,7 @@ for word in candump settings; do
   printf '%s\n' "$tick" > "$room/fault"
   runs "a tick that is none, $word" examples/clean_500k.toml 2 "$room/none" "$room/fault" "$word" --tick 1ms
 done
-for word in margin respond traffic; do
+for word in judge margin respond traffic; do
   printf '%s, and --format text, json, csv, table or coloured\n' "$tick" > "$room/fault"
   runs "a tick that is none, $word" examples/clean_500k.toml 2 "$room/none" "$room/fault" "$word" --tick 1ms
   runs "a format that is none, $word" examples/clean_500k.toml 2 "$room/none" "$room/fault" "$word" --format xml
@@ -499,11 +500,11 @@ runs "the version" "$room/none" 2 "$room/none" "$room/fault" --version
 printf "error: the arguments can't be read\n" > "$room/fault"
 runs "words that are no text" examples/clean_500k.toml 2 "$room/none" "$room/fault" run $'\xff'
 
-for word in merge horizon check records run explain trace candump vcd page margin respond traffic settings sweep; do
+for word in merge horizon check records run explain trace candump vcd page judge margin respond traffic settings sweep; do
   printf 'fault: Read\n' > "$room/fault"
   runs "$word of a reader that fails" / 3 "$room/none" "$room/fault" "$word"
 done
-for word in merge horizon check records run explain trace candump vcd page margin respond traffic settings sweep; do
+for word in merge horizon check records run explain trace candump vcd page judge margin respond traffic settings sweep; do
   input=examples/clean_500k.toml
   case "$word" in merge | horizon) input=examples/records.txt ;; settings) input=examples/settings/mcp2515_500k.toml ;; esac
   printf 'fault: Write\n' > "$room/fault"

@@ -33,7 +33,7 @@ INPUTS = {
 PARTS = ["examples", "refused", "settings", "formats", "words"]
 ROWS = ["init", "margins", "plans", "records", "settings", "sweeps"]
 PAGES = [
-    "README.md", *(f"docs/use/{it}.md" for it in ["commands", "examples", "explain", "faults", "first-hour", "formats", "margins", "plan-text", "record-text", "units"]),
+    "README.md", *(f"docs/use/{it}.md" for it in ["commands", "examples", "explain", "faults", "first-hour", "formats", "judge", "margins", "plan-text", "record-text", "units"]),
     *(f"docs/use/{it}.md" for it in ["reports", "respond", "settings", "sweeps", "trace", "traffic", "views"]), "docs/bus/any-senders.md",
 ]
 # What a build without proof doesn't get, and of the other parts what they leave out then: each of these takes it more than ten seconds.

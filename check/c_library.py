@@ -21,7 +21,7 @@ from report import Asked
 from tally import asked
 
 DONE, REFUSED, ASKED, MEMORY, ROOM, POINTER = range(6)
-COMMANDS, FORMATS = ["run", "check", "explain", "margin", "traffic", "respond"], ["text", "json", "csv"]
+COMMANDS, FORMATS = ["run", "check", "explain", "margin", "traffic", "respond", "judge"], ["text", "json", "csv"]
 TICKS = {"1ps": 1, "125ps": 125, "999ps": 999, "1ns": 1_000, "25ns": 25_000, "999ns": 999_000, "1us": 1_000_000, "999us": 999_000_000}
 NO_TICKS = [1_001, 1_000_000_001, 1_000_000_000, 4_294_967_295, 12_345_678]
 EDGE = b"\xa5" * 64
@@ -84,14 +84,14 @@ def compare(counts, program, library, name, plan):
 
 def options(counts, program, library, plan):
     for word, tick in TICKS.items():
-        for command in "margin", "traffic", "respond":
+        for command in "margin", "traffic", "respond", "judge":
             counts.same(f"{command} --tick {word}", library.said(command, plan, (0, tick, 0)), by_program(program, command, plan, "--tick", word))
     for all_send in 1, 2, 4_294_967_295:
         counts.same(f"margin --all-send, {all_send}", library.said("margin", plan, (1, 0, all_send)), by_program(program, "margin", plan, "--all-send", "--format", "json"))
     for tick in NO_TICKS:
         for command in COMMANDS:
             status = library.call(command, plan, (0, tick, 0))[0]
-            counts.same(f"{command} with a tick of {tick} ps", status, ASKED if command in ("margin", "traffic", "respond") else DONE)
+            counts.same(f"{command} with a tick of {tick} ps", status, ASKED if command in ("margin", "traffic", "respond", "judge") else DONE)
     for form in 3, 256, 4_294_967_295:
         for command in COMMANDS: counts.same(f"{command} with format {form}", library.call(command, plan, (form, 0, 0))[::2], (ASKED, 0))
 

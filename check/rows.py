@@ -176,7 +176,7 @@ def by_another(words, text):
     word, options = words[0], words[1:]
     if word == "run" and options[:1] == ["--workers"]: options = options[2:]
     if word in OWN: script = [OWN[word]]
-    elif options: return None
+    elif options or word == "judge": return None
     else: script = ["plain.py", word]
     return by_program(sys.executable, ["-B", TOP / "check" / script[0], *script[1:], *options], text)
 

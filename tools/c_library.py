@@ -20,6 +20,7 @@ import tempfile
 sys.dont_write_bytecode = True
 TOP = os.path.dirname(os.path.dirname(os.path.realpath(__file__)))
 CRATE = "wl_c"
+FUNCTIONS = [f"wireline_{it}" for it in ("run", "check", "explain", "margin", "traffic", "respond", "judge")]
 
 
 def called(*words, folder=None):

@@ -20,13 +20,14 @@ _wireline() {
     vcd | page) options+=' --tick --from --to' ;;
     merge | horizon) options+=' --wide' ;;
     margin) options+=' --tick --all-send --format' ;;
+    judge) options+=' --tick --explain --format' ;;
     respond) options+=' --tick --any-data --strict --format' ;;
     traffic) options+=' --tick --strict --format' ;;
     settings) options+=' --tick --best --plan' ;;
     sweep) options+=' --vary --step --runs --seed --keep-offsets --keep-ppm --worst --workers --print --page --part --join --format' ;;
   esac
   if [ "$COMP_CWORD" = 1 ]; then
-    mapfile -t COMPREPLY < <(compgen -W 'init run margin explain respond traffic check settings sweep trace page vcd candump records format merge horizon build test completions help' -- "$word")
+    mapfile -t COMPREPLY < <(compgen -W 'init judge run margin explain respond traffic check settings sweep trace page vcd candump records format merge horizon build test completions help' -- "$word")
   elif [[ $word = -* ]]; then mapfile -t COMPREPLY < <(compgen -W "$options" -- "$word")
   else mapfile -t COMPREPLY < <(compgen -f -- "$word"); fi
 }

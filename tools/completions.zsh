@@ -4,7 +4,7 @@ _wireline() {
   local -a options=('--hint[what to change after a fault]' '--progress[how long the run has taken]' '-o[the file to write]:file:_files' '--help' '*:file:_files')
   local format='--format[the form of the output]:form:(text json csv table coloured)'
   if (( CURRENT == 2 )); then
-    compadd init run margin explain respond traffic check settings sweep trace page vcd candump records format merge horizon build test completions help
+    compadd init judge run margin explain respond traffic check settings sweep trace page vcd candump records format merge horizon build test completions help
     return
   fi
   case $words[2] in
@@ -20,6 +20,7 @@ _wireline() {
     vcd | page) options+=('--tick[how long a tick takes]:time:' '--from[the first tick of the window]:time:' '--to[the first tick after it]:time:') ;;
     merge | horizon) options+=('--wide[records of plans of version 4]') ;;
     margin) options+=('--tick[how long a tick takes]:time:' '--all-send[as if each node had frames]' $format) ;;
+    judge) options+=('--tick[how long a tick takes]:time:' '--explain[which command says each part]' $format) ;;
     respond) options+=('--tick[how long a tick takes]:time:' '--any-data[whatever data the frames have]' '--strict[status 1 unless all deadlines are met]' $format) ;;
     traffic) options+=('--tick[how long a tick takes]:time:' '--strict[status 1 unless the run works]' $format) ;;
     settings) options+=('--tick[how long a tick takes]:time:' '--best[the most settings that are listed]:number:' '--plan[the plan of the best one]') ;;

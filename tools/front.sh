@@ -62,7 +62,7 @@ hand_over() { # hand_over PROGRAM WORD..: becomes the program, with the words th
     if [ -n "${NO_COLOR-}" ] || [ "${TERM-dumb}" = dumb ]; then said+=(--format table); else said+=(--format coloured); fi
   fi
   case ${1-} in
-    init | run | margin | explain | respond | traffic | check | settings | sweep | trace | page | vcd | candump | records | format | merge | horizon)
+    init | judge | run | margin | explain | respond | traffic | check | settings | sweep | trace | page | vcd | candump | records | format | merge | horizon)
       exec "$program" "$1" "${said[@]}" "${words[@]}"
       ;;
   esac

@@ -92,7 +92,7 @@ def man(program):
     out += [".SS test\\-install", "Runs each example that is installed, and compares its report with the stored one.",
             ".SH EXIT STATUS", ".TP", ".B 0", "The output is written; of help, too.", ".TP", ".B 1",
             "The input is refused, or of commands that say so the bus doesn\\(aqt work.", ".TP", ".B 2", "The words on the command line, or the plan, are refused.",
-            ".TP", ".B 3", "Reading, writing or memory failed.", ".SH FILES", ".TP", f".I /usr/share/{NAME}/examples", "Plans with their reports.",
+            ".TP", ".B 3", "Reading, writing or memory failed.", ".TP", ".B 4", "Of judge: it isn\\(aqt known whether the bus works.", ".SH FILES", ".TP", f".I /usr/share/{NAME}/examples", "Plans with their reports.",
             ".TP", f".I /usr/share/doc/{NAME}/PROOF", "What is proved of this program, and by what.", ".TP", f".I /usr/share/doc/{NAME}/use.html",
             "The pages for users."]
     return "\n".join(out) + "\n"

@@ -9,7 +9,7 @@
 
 typedef uint32_t command(const uint8_t *, size_t, const struct wireline_asked *, uint8_t *, size_t, size_t *);
 
-static command *const commands[] = {wireline_run, wireline_check, wireline_explain, wireline_margin, wireline_traffic, wireline_respond};
+static command *const commands[] = {wireline_run, wireline_check, wireline_explain, wireline_margin, wireline_traffic, wireline_respond, wireline_judge};
 static int failed;
 
 static void is(int holds, const char *what) {

@@ -4,7 +4,7 @@
 
 typedef uint32_t command(const uint8_t *, size_t, const struct wireline_asked *, uint8_t *, size_t, size_t *);
 
-command wl_c_run, wl_c_check, wl_c_explain, wl_c_margin, wl_c_traffic, wl_c_respond;
+command wl_c_run, wl_c_check, wl_c_explain, wl_c_margin, wl_c_traffic, wl_c_respond, wl_c_judge;
 
 static int overlap(const void *one, size_t one_length, const void *other, size_t other_length) {
     uintptr_t a = (uintptr_t)one, b = (uintptr_t)other;
@@ -37,3 +37,4 @@ COMMAND(explain)
 COMMAND(margin)
 COMMAND(traffic)
 COMMAND(respond)
+COMMAND(judge)

@@ -45,7 +45,7 @@ enum wireline_format { WIRELINE_TEXT = 0, WIRELINE_JSON = 1, WIRELINE_CSV = 2 };
 struct wireline_asked {
     uint32_t format;   /* an enum wireline_format */
     uint32_t tick;     /* how many picoseconds a tick of the plan takes: 1 to 999 ps, ns or us; 0 is 1 ns. wireline_margin,
-                          wireline_traffic and wireline_respond read it */
+                          wireline_traffic, wireline_respond and wireline_judge read it */
     uint32_t all_send; /* of wireline_margin, who sends: 0 is the plan's senders, 1 all nodes that don't only listen */
 };
 
@@ -68,6 +68,9 @@ uint32_t wireline_traffic(const uint8_t *plan, size_t plan_length, const struct 
 
 /* How long each message may wait, at all offsets and clocks within their tolerance, and whether that is in time. */
 uint32_t wireline_respond(const uint8_t *plan, size_t plan_length, const struct wireline_asked *asked, uint8_t *out, size_t out_room, size_t *needed);
+
+/* Whether the bus works, how sure that is, where it is weakest, which change gives most, and how long messages may wait. */
+uint32_t wireline_judge(const uint8_t *plan, size_t plan_length, const struct wireline_asked *asked, uint8_t *out, size_t out_room, size_t *needed);
 
 #ifdef __cplusplus
 }

@@ -10,7 +10,7 @@ use Rattle.wl_views.specs.declared.tick.Tick.{Tick}
 use Rattle.wl_c.specs.declared.asked.Asked.{Asked}
 use Rattle.wl_c.specs.declared.asked.Order.{Order}
 use Rattle.wl_c.specs.declared.asked.Task.{Task}
-use Rattle.wl_c.specs.declared.asked.Task.TheVariants.{Run, Check, Explain, Margin, Traffic, Respond}
+use Rattle.wl_c.specs.declared.asked.Task.TheVariants.{Run, Check, Explain, Margin, Traffic, Respond, Judge}
 
 -- the command's name for another format
 abbrev pub subject_name : Task → Subject
@@ -20,6 +20,7 @@ subject_name Explain = subject.Explain
 subject_name (Margin tick all) = subject.Margin
 subject_name (Traffic tick) = subject.Traffic
 subject_name (Respond tick) = subject.Respond
+subject_name (Judge tick) = subject.Judge
 
 -- the form of a number: text, JSON or CSV
 abbrev pub format_of : ℕ → Option (Option Format)
@@ -62,6 +63,9 @@ traffic_task asked = option_map (λ tick. Traffic tick) (asked_tick asked.tick)
 
 abbrev pub respond_task : Asked → Option Task
 respond_task asked = option_map (λ tick. Respond tick) (asked_tick asked.tick)
+
+abbrev pub judge_task : Asked → Option Task
+judge_task asked = option_map (λ tick. Judge tick) (asked_tick asked.tick)
 
 -- a task in the form that is asked for
 abbrev pub order_in : Option Task → Asked → Option Order

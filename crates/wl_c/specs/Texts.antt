@@ -1,5 +1,5 @@
 -- What the commands say of a plan's text (this project's profile).
-use Rattle.std.specs.Prelude.{◌≡◌, ◌≢◌, ◌≤◌, nat_le, ℕ, Bool, false, MatchBool, List, [], ◌++◌, length, if◌then◌else◌, Result, Ok, Err}
+use Rattle.std.specs.Prelude.{◌≡◌, ◌≢◌, ◌≤◌, nat_le, ℕ, false, MatchBool, List, [], ◌++◌, length, if◌then◌else◌, Result, Ok, Err}
 use Rattle.wl_plan.specs.declared.plan.Plan.{Plan}
 use Rattle.wl_setup.specs.Buses.{bus_of_text}
 use Rattle.wl_setup.specs.Check.{IsPlanCheck}
@@ -12,13 +12,13 @@ use Rattle.wl_setup.specs.declared.fault.SetupFault.TheVariants as setup
 use Rattle.wl_setup.specs.declared.plan_text.PlanText.{PlanText}
 use Rattle.wl_explain.specs.Refusals.{IsRefusal, size_words}
 use Rattle.wl_engines.specs.Explained.{IsExplanationOf}
+use Rattle.wl_engines.specs.Judged.{IsJudged}
 use Rattle.wl_engines.specs.Margin.{IsMarginOutput}
 use Rattle.wl_engines.specs.Plans.{IsRunOutput}
 use Rattle.wl_engines.specs.Responded.{IsResponse}
 use Rattle.wl_engines.specs.TrafficRun.{IsTrafficOutput}
-use Rattle.wl_views.specs.declared.tick.Tick.{Tick}
 use Rattle.wl_c.specs.declared.asked.Task.{Task}
-use Rattle.wl_c.specs.declared.asked.Task.TheVariants.{Run, Check, Explain, Margin, Traffic, Respond}
+use Rattle.wl_c.specs.declared.asked.Task.TheVariants.{Run, Check, Explain, Margin, Traffic, Respond, Judge}
 use Rattle.wl_c.specs.declared.status.Status.{Status}
 use Rattle.wl_c.specs.declared.status.Status.TheVariants.{Done, Refused, Asked, Memory, Room, Shape}
 
@@ -56,6 +56,7 @@ module _ (text : List ℕ) where
   IsOutputOf (Margin tick all) said = IsOfBus (IsMarginOutput tick all) said
   IsOutputOf (Respond tick) said = IsAnswered (IsResponse tick false) said
   IsOutputOf (Traffic tick) said = IsAnswered (IsTrafficOutput tick) said
+  IsOutputOf (Judge tick) said = IsAnswered (IsJudged tick false) said
 
   -- no plan is read from the text, but this fault, and nothing is said of that
   abbrev pub HasNoPlan : List ℕ → Type 0
@@ -81,6 +82,7 @@ module _ (text : List ℕ) where
   IsRefusalOf (Margin tick all) said = HasNoBus said
   IsRefusalOf (Traffic tick) said = HasNoBus said
   IsRefusalOf (Respond tick) said = HasNoBus said
+  IsRefusalOf (Judge tick) said = HasNoBus said
 
   -- what a command says, and whether it is the output or a refusal
   abbrev pub Says : Task → Status → List ℕ → Type 0

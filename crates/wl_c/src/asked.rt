@@ -1,7 +1,7 @@
 //! What a call asks for.
 ghost use Rattle.std.specs.Prelude.{◌≡◌, IfSome, ◌<◌};
 ghost use Rattle.wl_views.specs.Ticks.{tick_picoseconds};
-ghost use Rattle.wl_c.specs.Orders.{asked_picoseconds, format_of, margin_task, order_in, subject_name, asked_tick, respond_task, traffic_task, unit_count};
+ghost use Rattle.wl_c.specs.Orders.{asked_picoseconds, format_of, judge_task, margin_task, order_in, subject_name, asked_tick, respond_task, traffic_task, unit_count};
 
 use wl_formats::{Format, Subject};
 use wl_views::{Tick, TimeUnit};
@@ -12,7 +12,7 @@ use wl_views::{Tick, TimeUnit};
 pub struct Asked {
     /// The form of the output: 0 is text, 1 JSON, 2 CSV.
     pub format: u32,
-    /// How many picoseconds a tick of the plan takes: 1 to 999 ps, ns or us; 0 is 1 ns. `margin`, `traffic` and `respond` read it.
+    /// How many picoseconds a tick of the plan takes: 1 to 999 ps, ns or us; 0 is 1 ns. `margin`, `traffic`, `respond` and `judge` read it.
     pub tick: u32,
     /// For `margin`, who sends: 0 is the plan's senders, and any other number all nodes that don't only listen.
     pub all_send: u32,
@@ -33,6 +33,8 @@ pub enum Task {
     Traffic(Tick),
     /// How long messages may wait, at ticks of this length.
     Respond(Tick),
+    /// Whether the bus works, and what would help, at ticks of this length.
+    Judge(Tick),
 }
 
 impl Task {
@@ -47,6 +49,7 @@ impl Task {
             Task::Margin(_, _) => Subject::Margin,
             Task::Traffic(_) => Subject::Traffic,
             Task::Respond(_) => Subject::Respond,
+            Task::Judge(_) => Subject::Judge,
         }
     }
 }
@@ -132,6 +135,14 @@ pub(crate) fn respond_task(asked: &Asked) -> Option<Task>
 {
     let tick = asked_tick(asked.tick)?;
     Some(Task::Respond(tick))
+}
+
+/// Returns the task of `judge` that is asked for.
+pub(crate) fn judge_task(asked: &Asked) -> Option<Task>
+    ensures { result ≡ judge_task asked.now }
+{
+    let tick = asked_tick(asked.tick)?;
+    Some(Task::Judge(tick))
 }
 
 /// Returns the order of a task in the form that is asked for.

@@ -5,8 +5,8 @@ ghost use Rattle.wl_c.specs.Made.{IsMade, Makes, without_answer};
 use crate::asked::Task;
 use std::alloc::Global;
 use wl_engines::{
-    Kept, Reason, RunFault, TextReader, check_run, explain_run, margin_run, plan_run, respond_run,
-    traffic_run,
+    Kept, RunFault, TextReader, check_run, explain_run, judge_run, margin_run, plan_run,
+    respond_run, traffic_run,
 };
 use wl_views::Tick;
 
@@ -72,8 +72,8 @@ fn margin_of(alloc: Global, tick: Tick, all_send: bool, text: &[u8]) -> Made
     made_by(answer, kept)
 }
 
-/// Returns the answer of a run whose traffic was written, without why it didn't work.
-fn without_reason(answer: Result<Reason, RunFault>) -> Result<(), RunFault>
+/// Returns whether a run wrote its output, without what it answered beside that.
+fn without_answer<A: Copy>(answer: Result<A, RunFault>) -> Result<(), RunFault>
     ensures { result ≡ without_answer answer }
 {
     match answer {
@@ -89,18 +89,8 @@ fn traffic_of(alloc: Global, tick: Tick, text: &[u8]) -> Made
     let mut reader = TextReader { rest: text };
     let mut kept = Kept::new(alloc);
     let found = traffic_run(alloc, tick, &mut reader, &mut kept);
-    let answer = without_reason(found);
+    let answer = without_answer(found);
     made_by(answer, kept)
-}
-
-/// Returns the answer of a run that wrote how long messages may wait, without whether all deadlines are met.
-fn without_met(answer: Result<bool, RunFault>) -> Result<(), RunFault>
-    ensures { result ≡ without_answer answer }
-{
-    match answer {
-        Ok(_) => Ok(()),
-        Err(fault) => Err(fault),
-    }
 }
 
 /// Returns how long the messages of a plan may wait.
@@ -110,7 +100,18 @@ fn response_of(alloc: Global, tick: Tick, text: &[u8]) -> Made
     let mut reader = TextReader { rest: text };
     let mut kept = Kept::new(alloc);
     let found = respond_run(alloc, tick, false, &mut reader, &mut kept);
-    let answer = without_met(found);
+    let answer = without_answer(found);
+    made_by(answer, kept)
+}
+
+/// Returns whether the bus of a plan works.
+fn judgement_of(alloc: Global, tick: Tick, text: &[u8]) -> Made
+    ensures { Makes (Task.Judge tick) text.now result }
+{
+    let mut reader = TextReader { rest: text };
+    let mut kept = Kept::new(alloc);
+    let found = judge_run(alloc, tick, false, &mut reader, &mut kept);
+    let answer = without_answer(found);
     made_by(answer, kept)
 }
 
@@ -125,5 +126,6 @@ pub(crate) fn make(alloc: Global, task: Task, text: &[u8]) -> Made
         Task::Margin(tick, all_send) => margin_of(alloc, tick, all_send, text),
         Task::Traffic(tick) => traffic_of(alloc, tick, text),
         Task::Respond(tick) => response_of(alloc, tick, text),
+        Task::Judge(tick) => judgement_of(alloc, tick, text),
     }
 }

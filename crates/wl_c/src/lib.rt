@@ -1,4 +1,4 @@
-//! `run`, `check`, `explain`, `margin`, `traffic` and `respond` as functions for C: a plan's text in, what the command writes and a status out.
+//! `run`, `check`, `explain`, `margin`, `traffic`, `respond` and `judge` as functions for C: a plan's text in, what the command writes and a status out.
 //!
 //! Each call reads the text, puts what the program's command writes at the front of the caller's buffer, and returns a status. Nothing is
 //! kept from call to call. The header's functions (`tools/c/wireline.h`) test pointers, and call these.
@@ -6,7 +6,7 @@
 
 ghost use Rattle.std.specs.Prelude.{Some};
 ghost use Rattle.wl_c.specs.Calls.{EndsCall};
-ghost use Rattle.wl_c.specs.Orders.{margin_task, order_in, respond_task, traffic_task};
+ghost use Rattle.wl_c.specs.Orders.{judge_task, margin_task, order_in, respond_task, traffic_task};
 
 mod answer;
 mod asked;
@@ -14,7 +14,7 @@ mod engines;
 mod status;
 
 use crate::answer::answer;
-use crate::asked::{margin_task, order_in, respond_task, traffic_task};
+use crate::asked::{judge_task, margin_task, order_in, respond_task, traffic_task};
 pub use asked::{Asked, Order, Task};
 pub use status::Status;
 use std::alloc::Global;
@@ -125,4 +125,18 @@ pub extern "C" fn wl_c_respond(
         out,
         needed,
     )
+}
+
+/// Writes whether the plan's bus works, how sure that is, and what would help, as `judge` does, and returns the status.
+#[unsafe(no_mangle)]
+pub extern "C" fn wl_c_judge(
+    alloc: Global,
+    plan: &[u8],
+    asked: &Asked,
+    out: &mut [u8],
+    needed: &mut usize,
+) -> u32
+    ensures { EndsCall (order_in (judge_task asked.now) asked.now) plan.now out.old out.new needed.new result }
+{
+    answer(alloc, order_in(judge_task(asked), asked), plan, out, needed)
 }

@@ -16,3 +16,4 @@ pub mod Shown
 pub mod Paged
 pub mod Output
 pub mod View
+pub mod Judged

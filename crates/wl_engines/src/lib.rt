@@ -11,7 +11,8 @@
 //! - `margin_run` writes whether the plan's bus works, with how much to spare;
 //! - `respond_run` writes how long each message may wait;
 //! - `page_run` writes one page of HTML that shows a run;
-//! - `traffic_run` writes how busy the bus was and how long messages waited.
+//! - `traffic_run` writes how busy the bus was and how long messages waited;
+//! - `judge_run` writes whether the bus works, where it is weakest, and which change gives most.
 #![tactic(auto)]
 
 mod check;
@@ -19,6 +20,7 @@ mod explain;
 mod fault;
 mod gather;
 mod horizon;
+mod judge;
 mod kept;
 mod laws;
 mod margin;
@@ -39,6 +41,7 @@ pub use check::check_run;
 pub use explain::explain_run;
 pub use fault::RunFault;
 pub use horizon::{horizon_run, horizon_run_within};
+pub use judge::judge_run;
 pub use kept::Kept;
 pub use laws::merges_as_one;
 pub use margin::margin_run;
@@ -52,6 +55,7 @@ pub use traffic::traffic_run;
 pub use views::{
     candump_run, candump_run_within, picked_trace_run, trace_run, vcd_run, vcd_run_within,
 };
+pub use wl_judge::Judgement;
 pub use wl_traffic::Reason;
 pub use wl_worker::LinkKind;
 pub use workers::{Crew, workers_run, workers_run_as, workers_run_by};

@@ -10,6 +10,7 @@ use Rattle.wl_formats.specs.TraceLines.{trace_layout}
 use Rattle.wl_formats.specs.TrafficLines.{traffic_layout}
 use Rattle.wl_formats.specs.SweepLines.{sweep_layout}
 use Rattle.wl_formats.specs.RespondLines.{respond_layout}
+use Rattle.wl_formats.specs.JudgeLines.{judge_layout}
 
 abbrev pub layout : Subject → Layout
 layout subject.Run = run_layout
@@ -20,3 +21,4 @@ layout subject.Trace = trace_layout
 layout subject.Traffic = traffic_layout
 layout subject.Sweep = sweep_layout
 layout subject.Respond = respond_layout
+layout subject.Judge = judge_layout

@@ -12,6 +12,7 @@ pub mod TraceLines
 pub mod TrafficLines
 pub mod SweepLines
 pub mod RespondLines
+pub mod JudgeLines
 pub mod Layouts
 pub mod Ranks
 pub mod Aligned

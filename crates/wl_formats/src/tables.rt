@@ -5,6 +5,7 @@ ghost use Rattle.wl_formats.specs.Layouts.{layout};
 
 mod check;
 mod explain;
+mod judge;
 mod margin;
 mod respond;
 mod run;
@@ -15,6 +16,7 @@ mod traffic;
 use crate::shape::Table;
 use check::check_table;
 use explain::explain_table;
+use judge::judge_table;
 use margin::margin_table;
 use respond::respond_table;
 use run::run_table;
@@ -33,6 +35,7 @@ pub enum Subject {
     Traffic,
     Sweep,
     Respond,
+    Judge,
 }
 
 /// Returns the shapes of a command's lines.
@@ -48,5 +51,6 @@ pub(crate) fn table_of(subject: Subject) -> Table
         Subject::Traffic => *traffic_table(),
         Subject::Sweep => *sweep_table(),
         Subject::Respond => *respond_table(),
+        Subject::Judge => *judge_table(),
     }
 }

@@ -4,3 +4,4 @@ pub mod Trials
 pub mod Measures
 pub mod Answers
 pub mod Laws
+pub mod Plans

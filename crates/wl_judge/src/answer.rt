@@ -29,7 +29,7 @@ pub struct Answer {
 }
 
 /// Adds the command that says the lines below, if that is asked for.
-fn push_source(text: &mut String, explain: bool, words: &str) -> Result<(), AllocError>
+pub(crate) fn push_source(text: &mut String, explain: bool, words: &str) -> Result<(), AllocError>
     ensures { OnOk result (string_bytes text.new ≡ string_bytes text.old ++ source_line explain words.now) }
 {
     if explain {

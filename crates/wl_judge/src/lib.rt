@@ -7,6 +7,7 @@ mod answer;
 mod judgement;
 mod laws;
 mod measure;
+mod plan;
 mod trial;
 mod weakest;
 
@@ -14,5 +15,6 @@ pub use answer::{Answer, Gains, Manner, RunSaid, judge_bus};
 pub use judgement::{Judgement, RunState, judgement_of};
 pub use laws::a_proved_bus_has_a_proved_margin;
 pub use measure::{Found, Measure};
+pub use plan::judge_plan;
 pub use trial::{Step, Trial};
 pub use weakest::{Pair, Weakest};

@@ -137,7 +137,7 @@ each_alike = (
                             (refl, (refl, refl, refl), (refl, refl, refl)),
                             (
                               (refl, (refl, refl, refl), (refl, refl, refl)),
-                              ((refl, (refl, refl, refl), (refl, refl, refl)), ((refl, (refl, refl, refl), (refl, refl, refl)), tt)),
+                              ((refl, (refl, refl, refl), (refl, refl, refl)), ((refl, (refl, refl, refl), (refl, refl, refl)), ((refl, (refl, refl, refl), (refl, refl, refl)), tt))),
                             ),
                           ),
                         ),
@@ -156,7 +156,7 @@ each_alike = (
 
 each_free : Every (λ word. is_simple_and_free (program_alone word) ≡ true) task_words
 unfolding clap_on_literals
-each_free = (refl, (refl, (refl, (refl, (refl, (refl, (refl, (refl, (refl, (refl, (refl, (refl, (refl, (refl, (refl, (refl, (refl, tt)))))))))))))))))
+each_free = (refl, (refl, (refl, (refl, (refl, (refl, (refl, (refl, (refl, (refl, (refl, (refl, (refl, (refl, (refl, (refl, (refl, (refl, tt))))))))))))))))))
 
 by_first : (P : Text → Type 0) (w : Text) (ws : List Text) (word : Text) (b : Bool) → bytes_eq word w ≡ b → P w
     → (list_any (bytes_eq word) ws ≡ true → P word) → list_any (bytes_eq word) (w ∷ ws) ≡ true → P word

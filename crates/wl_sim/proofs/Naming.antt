@@ -3,9 +3,9 @@ use Rattle.std.proofs.Common.{◌≡◌, ◌∙◌, refl, sym, subst, ap, ap₂,
 use Rattle.std.specs.Str.{bytes_eq}
 use Rattle.std.proofs.lemmas.Slice.Eq.{bytes_eq-Decides}
 use Rattle.clap.specs.Words.{Text}
-use Rattle.wl_sim.specs.CommandLine.{HasValues, NamedTask, candump_task, init_task, or_task, page_task, plain_task, run_task, sweep_task, task_named, task_word, timed_task, trace_task, valued_task, vcd_task}
+use Rattle.wl_sim.specs.CommandLine.{HasValues, NamedTask, candump_task, init_task, judgement_task, or_task, page_task, plain_task, run_task, sweep_task, task_named, task_word, timed_task, trace_task, valued_task, vcd_task}
 use Rattle.wl_sim.specs.declared.command.Task.{Task}
-use Rattle.wl_sim.specs.declared.command.Task.TheVariants.{Init, Merge, Horizon, Check, Upgrade, Records, Run, Explain, Trace, Candump, Vcd, Page, Margin, Respond, Traffic, Settings, Sweep}
+use Rattle.wl_sim.specs.declared.command.Task.TheVariants.{Init, Merge, Horizon, Check, Upgrade, Records, Run, Explain, Trace, Candump, Vcd, Page, Margin, Respond, Traffic, Judge, Settings, Sweep}
 use Rattle.wl_sim.specs.declared.values.Values.{Values}
 use Rattle.wl_views.specs.declared.tick.Tick.{Tick}
 
@@ -89,6 +89,11 @@ module _ (v : Values) (w : Text) (t : Task) where
       let wish = some_map v.wish _ t h in
       is_named (Some v) w t (Init wish.0) wish.1 is (ap Some wish.2)
 
+  judge_named : w ≡ codes "judge" → judgement_task v ≡ Some t → NamedTask (Some w) (Some v) t
+  judge_named is h =
+      let tick = some_map v.tick _ t h in
+      is_named (Some v) w t (Judge tick.0 v.explain) (tick.1, refl) is (ap Some tick.2)
+
   other_named : option_and_then (timed_task w v) v.tick ≡ Some t → NamedTask (Some w) (Some v) t
   other_named h =
       let tick = some_then v.tick _ t h in
@@ -100,7 +105,7 @@ module _ (v : Values) (w : Text) (t : Task) where
       (chosen w (codes "records") _ _ t (is_named (Some v) w t (Records v.window) refl)
       (chosen w (codes "run") _ _ t run_named (chosen w (codes "trace") _ _ t trace_named
       (chosen w (codes "candump") _ _ t candump_named (chosen w (codes "sweep") _ _ t sweep_named
-      (chosen w (codes "init") _ _ t init_named other_named)))))))
+      (chosen w (codes "init") _ _ t init_named (chosen w (codes "judge") _ _ t judge_named other_named))))))))
 
 of_values : (w : Text) (t : Task) (given : Option Values) → option_and_then (valued_task w) given ≡ Some t → NamedTask (Some w) given t
 of_values w t (Some v) is = valued_named v w t is
@@ -138,6 +143,7 @@ found_by_word (Some v) (Margin tick all) h = ap₂ (λ o p. option_map (λ tick.
 found_by_word (Some v) (Respond tick any strict) h =
     ap₂ (λ o p. option_map (λ tick. Respond tick (unwrap_or p any) v.strict) o) h.0 h.1 ∙ ap (λ q. Some (Respond tick any (unwrap_or q strict))) h.2
 found_by_word (Some v) (Traffic tick strict) h = ap₂ (λ o p. option_map (λ tick. Traffic tick (unwrap_or p strict)) o) h.0 h.1
+found_by_word (Some v) (Judge tick explain) h = ap₂ (λ o p. option_map (λ tick. Judge tick (unwrap_or p explain)) o) h.0 h.1
 found_by_word (Some v) (Settings tick shown) h = ap₂ (λ o p. option_map (λ tick. Settings tick (unwrap_or p shown)) o) h.0 h.1
 found_by_word None (Init wish) h = let no : None ≡ Some wish = h in cc
 found_by_word None (Merge limits) h = let no : None ≡ Some limits = h in cc
@@ -152,6 +158,7 @@ found_by_word None (Page tick window) h = let no : None ≡ Some tick = h.0 in c
 found_by_word None (Margin tick all) h = let no : None ≡ Some tick = h.0 in cc
 found_by_word None (Respond tick any strict) h = let no : None ≡ Some tick = h.0 in cc
 found_by_word None (Traffic tick strict) h = let no : None ≡ Some tick = h.0 in cc
+found_by_word None (Judge tick explain) h = let no : None ≡ Some tick = h.0 in cc
 found_by_word None (Settings tick shown) h = let no : None ≡ Some tick = h.0 in cc
 
 -- a task with this word and these values is found

@@ -40,7 +40,7 @@ use Rattle.wl_sim.specs.declared.command.Order.{Order}
 use Rattle.wl_sim.specs.declared.command.Refusal.{Refusal}
 use Rattle.wl_sim.specs.declared.command.Refusal.TheVariants.{Words, Memory}
 use Rattle.wl_sim.specs.declared.command.Task.{Task}
-use Rattle.wl_sim.specs.declared.command.Task.TheVariants.{Init, Merge, Horizon, Check, Upgrade, Records, Run, Explain, Trace, Candump, Vcd, Page, Margin, Respond, Traffic, Settings, Sweep}
+use Rattle.wl_sim.specs.declared.command.Task.TheVariants.{Init, Merge, Horizon, Check, Upgrade, Records, Run, Explain, Trace, Candump, Vcd, Page, Margin, Respond, Traffic, Judge, Settings, Sweep}
 use Rattle.wl_sim.specs.declared.sweep.Swept.{Swept}
 
 -- the word of a task enters its subcommand, without a fault
@@ -61,6 +61,7 @@ word_enters (Page tick window) name h = ((refl, h), refl, refl)
 word_enters (Margin tick all) name h = ((refl, h), refl, refl)
 word_enters (Respond tick any strict) name h = ((refl, h), refl, refl)
 word_enters (Traffic tick strict) name h = ((refl, h), refl, refl)
+word_enters (Judge tick explain) name h = ((refl, h), refl, refl)
 word_enters (Settings tick shown) name h = ((refl, h), refl, refl)
 word_enters (Sweep swept) name h = ((refl, h), refl, refl)
 
@@ -86,6 +87,7 @@ word_names_none (Page tick window) name = (refl, refl, refl)
 word_names_none (Margin tick all) name = (refl, refl, refl)
 word_names_none (Respond tick any strict) name = (refl, refl, refl)
 word_names_none (Traffic tick strict) name = (refl, refl, refl)
+word_names_none (Judge tick explain) name = (refl, refl, refl)
 word_names_none (Settings tick shown) name = (refl, refl, refl)
 word_names_none (Sweep swept) name = (refl, refl, refl)
 
@@ -107,6 +109,7 @@ word_format (Page tick window) name = refl
 word_format (Margin tick all) name = refl
 word_format (Respond tick any strict) name = refl
 word_format (Traffic tick strict) name = refl
+word_format (Judge tick explain) name = refl
 word_format (Settings tick shown) name = refl
 word_format (Sweep swept) name = refl
 
@@ -256,6 +259,7 @@ module _ {S T : Type 0} (gives : S → Answer → S → Type 0) (takes : T → A
   does_nothing s s' t t' (Margin tick all) g h = (Err run.Memory, h, refl)
   does_nothing s s' t t' (Respond tick any strict) g h = (Err run.Memory, h, refl)
   does_nothing s s' t t' (Traffic tick strict) g h = (Err run.Memory, h, refl)
+  does_nothing s s' t t' (Judge tick explain) g h = (Err run.Memory, h, refl)
   does_nothing s s' t t' (Settings tick shown) g h = (Err settings.Memory, inl (h, inl refl), refl)
   does_nothing s s' t t' (Sweep swept) g h = swept_nothing s s' t t' swept swept.join swept.part h
 

@@ -26,7 +26,7 @@ use Rattle.wl_init.specs.Wishes.{cable_said, kind_said, rate_said}
 use Rattle.wl_limits.specs.declared.Limits.{Limits}
 use Rattle.wl_limits.specs.declared.Limits.TheVariants.{Narrow, Wide}
 use Rattle.wl_sim.specs.declared.command.Task.{Task}
-use Rattle.wl_sim.specs.declared.command.Task.TheVariants.{Init, Merge, Horizon, Check, Upgrade, Records, Run, Explain, Trace, Candump, Vcd, Page, Margin, Respond, Traffic, Settings, Sweep}
+use Rattle.wl_sim.specs.declared.command.Task.TheVariants.{Init, Merge, Horizon, Check, Upgrade, Records, Run, Explain, Trace, Candump, Vcd, Page, Margin, Respond, Traffic, Judge, Settings, Sweep}
 use Rattle.wl_sim.specs.declared.sweep.Swept.{Swept}
 use Rattle.wl_sim.specs.declared.values.Values.{Values}
 use Rattle.wl_views.specs.declared.pick.EventKind.{EventKind}
@@ -57,6 +57,7 @@ task_word (Page tick window) = codes "page"
 task_word (Margin tick all) = codes "margin"
 task_word (Respond tick any strict) = codes "respond"
 task_word (Traffic tick strict) = codes "traffic"
+task_word (Judge tick explain) = codes "judge"
 task_word (Settings tick shown) = codes "settings"
 task_word (Sweep swept) = codes "sweep"
 
@@ -157,6 +158,10 @@ respond_app app = formatted_app (with_rule (with_rule (timed_app app) (flag_rule
 abbrev pub traffic_app : App → App
 traffic_app app = formatted_app (with_rule (timed_app app) (flag_rule (codes "strict")))
 
+-- of `judge`
+abbrev pub judge_app : App → App
+judge_app app = formatted_app (with_rule (timed_app app) (flag_rule (codes "explain")))
+
 -- the option `--workers`, a number from 1 to 8, which is 1 where it isn't given
 abbrev pub workers_rule : Rule
 workers_rule =
@@ -249,7 +254,8 @@ optioned_app word app =
     (if bytes_eq word (codes "candump") then candump_app app else (if bytes_eq word (codes "margin") then margin_app app else
     (if bytes_eq word (codes "traffic") then traffic_app app else (if bytes_eq word (codes "settings") then settings_app app else
     (if bytes_eq word (codes "sweep") then sweep_app app else (if bytes_eq word (codes "init") then init_app app else
-    (if bytes_eq word (codes "respond") then respond_app app else app)))))))))))))))
+    (if bytes_eq word (codes "respond") then respond_app app else
+    (if bytes_eq word (codes "judge") then judge_app app else app))))))))))))))))
 
 -- the subcommand of a word
 abbrev pub subcommand_app : Text → App
@@ -266,7 +272,7 @@ bare_program = on_top (λ s. record s { subcommand_required = true }) (on_top (�
 -- the words of the subcommands, in the order of the help
 abbrev pub task_words : List Text
 task_words =
-    codes "init" ∷ codes "run" ∷ codes "margin" ∷ codes "explain" ∷ codes "respond" ∷ codes "traffic" ∷ codes "check" ∷ codes "settings" ∷ codes "sweep" ∷ codes "trace"
+    codes "init" ∷ codes "judge" ∷ codes "run" ∷ codes "margin" ∷ codes "explain" ∷ codes "respond" ∷ codes "traffic" ∷ codes "check" ∷ codes "settings" ∷ codes "sweep" ∷ codes "trace"
     ∷ codes "page" ∷ codes "vcd" ∷ codes "candump" ∷ codes "records" ∷ codes "format" ∷ codes "merge" ∷ codes "horizon" ∷ []
 
 -- the program's command line
@@ -489,6 +495,7 @@ values_among rows = record {
   swept = swept_among rows;
   shown = shown_among rows;
   strict = is_flagged (codes "strict") rows;
+  explain = is_flagged (codes "explain") rows;
   all_send = is_flagged (codes "all-send") rows;
   any_data = is_flagged (codes "any-data") rows;
   limits = limits_among rows;
@@ -511,6 +518,7 @@ HasValues given (Margin tick all) = (option_and_then (λ v. v.tick) given ≡ So
 HasValues given (Respond tick any strict) =
     (option_and_then (λ v. v.tick) given ≡ Some tick) × (option_map (λ v. v.any_data) given ≡ Some any) × (option_map (λ v. v.strict) given ≡ Some strict)
 HasValues given (Traffic tick strict) = (option_and_then (λ v. v.tick) given ≡ Some tick) × (option_map (λ v. v.strict) given ≡ Some strict)
+HasValues given (Judge tick explain) = (option_and_then (λ v. v.tick) given ≡ Some tick) × (option_map (λ v. v.explain) given ≡ Some explain)
 HasValues given (Settings tick shown) = (option_and_then (λ v. v.tick) given ≡ Some tick) × (option_map (λ v. v.shown) given ≡ Some shown)
 HasValues given (Run workers kind brief) =
     (option_and_then (λ v. v.workers) given ≡ Some workers) × (option_and_then (λ v. v.link) given ≡ Some kind)
@@ -550,6 +558,9 @@ trace_task values = option_map (λ pick. Trace pick) values.pick
 abbrev pub init_task : Values → Option Task
 init_task values = option_map (λ wish. Init wish) values.wish
 
+abbrev pub judgement_task : Values → Option Task
+judgement_task values = option_map (λ tick. Judge tick values.explain) values.tick
+
 abbrev pub sweep_task : Values → Option Task
 sweep_task values = option_map (λ swept. Sweep swept) values.swept
 
@@ -570,10 +581,11 @@ timed_task word values tick =
     else (if bytes_eq word (codes "respond") then Some (Respond tick values.any_data values.strict)
     else None)))))
 
--- the task that a word names if it is `init`, or over the ticks of the values
+-- the task that a word names if it is `init` or `judge`, or over the ticks of the values
 abbrev pub begun_task : Text → Values → Option Task
 begun_task word values =
-    if bytes_eq word (codes "init") then init_task values else option_and_then (timed_task word values) values.tick
+    if bytes_eq word (codes "init") then init_task values
+    else (if bytes_eq word (codes "judge") then judgement_task values else option_and_then (timed_task word values) values.tick)
 
 -- the task that a word names with values of options
 abbrev pub valued_task : Text → Values → Option Task
@@ -625,6 +637,7 @@ plain_values = record {
   link = Some Hub;
   swept = Some plainly_swept;
   strict = false;
+  explain = false;
   all_send = false;
   any_data = false;
   limits = Narrow;

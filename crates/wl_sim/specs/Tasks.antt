@@ -17,6 +17,7 @@ use Rattle.wl_engines.specs.declared.fault.RunFault.TheVariants as run
 use Rattle.wl_engines.specs.Explained.{Explains}
 use Rattle.wl_engines.specs.Faults.{is_refusal}
 use Rattle.wl_engines.specs.Horizon.{TellsHorizons}
+use Rattle.wl_engines.specs.Judged.{RunsJudge}
 use Rattle.wl_engines.specs.Margin.{IsMarginOutput, RunsBus}
 use Rattle.wl_engines.specs.Merge.{Merges}
 use Rattle.wl_engines.specs.Paged.{PagesWithin}
@@ -24,6 +25,8 @@ use Rattle.wl_engines.specs.Plans.{RunsPlan, IsRecordsWithin, IsReportOutput, Is
 use Rattle.wl_engines.specs.Responded.{Responds}
 use Rattle.wl_engines.specs.TrafficRun.{RunsTraffic}
 use Rattle.wl_engines.specs.Workers.{RunsByWorkersAs}
+use Rattle.wl_judge.specs.declared.judgement.Judgement.{Judgement}
+use Rattle.wl_judge.specs.declared.judgement.Judgement.TheVariants as judged
 use Rattle.wl_setup.specs.declared.fault.SetupFault.TheVariants as setup
 use Rattle.wl_init.specs.declared.fault.InitFault.{InitFault}
 use Rattle.wl_init.specs.declared.fault.InitFault.TheVariants as init
@@ -49,13 +52,13 @@ use Rattle.wl_sweep.specs.declared.part.Share.{Share}
 use Rattle.wl_traffic.specs.declared.reason.Reason.{Reason}
 use Rattle.wl_traffic.specs.declared.reason.Reason.TheVariants.{Works}
 use Rattle.wl_sim.specs.declared.answer.Done.{Done}
-use Rattle.wl_sim.specs.declared.answer.Done.TheVariants.{Plain, Unclean}
+use Rattle.wl_sim.specs.declared.answer.Done.TheVariants.{Plain, Unclean, Unknown}
 use Rattle.wl_sim.specs.declared.answer.Fault.{Fault}
 use Rattle.wl_sim.specs.declared.answer.Fault.TheVariants as fault
 use Rattle.wl_sim.specs.declared.command.Refusal.{Refusal}
 use Rattle.wl_sim.specs.declared.command.Refusal.TheVariants.{Words, Memory}
 use Rattle.wl_sim.specs.declared.command.Task.{Task}
-use Rattle.wl_sim.specs.declared.command.Task.TheVariants.{Init, Merge, Horizon, Check, Upgrade, Records, Run, Explain, Trace, Candump, Vcd, Page, Margin, Respond, Traffic, Settings, Sweep}
+use Rattle.wl_sim.specs.declared.command.Task.TheVariants.{Init, Merge, Horizon, Check, Upgrade, Records, Run, Explain, Trace, Candump, Vcd, Page, Margin, Respond, Traffic, Judge, Settings, Sweep}
 use Rattle.wl_sim.specs.declared.sweep.Swept.{Swept}
 use Rattle.wl_views.specs.Ticks.{tick_picoseconds}
 
@@ -148,11 +151,20 @@ of_respond true (Ok false) = Ok Unclean
 of_respond false (Ok false) = Ok Plain
 of_respond strict (Err f) = Err (fault.Run f)
 
--- the status of a run: 0; 1 where the input was refused for what it says, some member of a sweep isn't clean, or a strict run doesn't work; 2 where its plan doesn't allow the words of a sweep, or there is no plan for those of `init`;
+-- what is answered for the judgement on a bus: whether it works
+abbrev pub of_judge : Result Judgement RunFault → Result Done Fault
+of_judge (Ok (judged.Works surety)) = Ok Plain
+of_judge (Ok judged.NotInThisRun) = Ok Unclean
+of_judge (Ok judged.NotByCondition) = Ok Unclean
+of_judge (Ok judged.NotKnown) = Ok Unknown
+of_judge (Err f) = Err (fault.Run f)
+
+-- the status of a run: 0; 1 where the input was refused for what it says, some member of a sweep isn't clean, a strict run doesn't work, or a bus that is judged doesn't; 4 if that isn't known; 2 where its plan doesn't allow the words of a sweep, or there is no plan for those of `init`;
 -- 3 when out of memory, for a fault of reading, writing or workers, or if a line has no other format
 abbrev pub run_status : Result Done Fault → ℕ
 run_status (Ok Plain) = 0
 run_status (Ok Unclean) = 1
+run_status (Ok Unknown) = 4
 run_status (Err (fault.Run f)) = if is_refusal f then 1 else 3
 run_status (Err (fault.Word f)) = 2
 run_status (Err (fault.Init f)) = 2
@@ -188,6 +200,7 @@ subject_of (Page tick window) = None
 subject_of (Margin tick all) = Some subject.Margin
 subject_of (Respond tick any strict) = Some subject.Respond
 subject_of (Traffic tick strict) = Some subject.Traffic
+subject_of (Judge tick explain) = Some subject.Judge
 subject_of (Settings tick shown) = None
 subject_of (Sweep swept) = if not swept.join && (is_some swept.part || is_some swept.print || swept.page) then None else Some subject.Sweep
 
@@ -219,6 +232,10 @@ module _ {S T : Type 0} (gives : S → Answer → S → Type 0) (takes : T → A
   abbrev pub DoesRespond : Tick → (any strict : Bool) → Result Done Fault → Type 0
   DoesRespond tick any strict r = (answer : Result Bool RunFault) × Responds gives takes tick any s s' t t' answer × (r ≡ of_respond strict answer)
 
+  -- whether a bus works was written
+  abbrev pub DoesJudge : Tick → (explain : Bool) → Result Done Fault → Type 0
+  DoesJudge tick explain r = (answer : Result Judgement RunFault) × RunsJudge gives takes tick explain s s' t t' answer × (r ≡ of_judge answer)
+
   -- the traffic of a run was written
   abbrev pub DoesTraffic : Tick → Bool → Result Done Fault → Type 0
   DoesTraffic tick strict r = (answer : Result Reason RunFault) × RunsTraffic gives takes tick s s' t t' answer × (r ≡ of_traffic strict answer)
@@ -242,6 +259,7 @@ module _ {S T : Type 0} (gives : S → Answer → S → Type 0) (takes : T → A
   Does (Margin tick all) ranges r = Plainly (RunsBus gives takes (IsMarginOutput tick all) s s' t t') r
   Does (Respond tick any strict) ranges r = DoesRespond tick any strict r
   Does (Traffic tick strict) ranges r = DoesTraffic tick strict r
+  Does (Judge tick explain) ranges r = DoesJudge tick explain r
   Does (Settings tick shown) ranges r =
       (answer : Result (Unit {0}) SettingsFault) × RunsSettings gives takes (tick_picoseconds tick) shown s s' t t' answer × (r ≡ of_settings answer)
   Does (Sweep swept) ranges r = DoesSwept swept ranges swept.join swept.part r

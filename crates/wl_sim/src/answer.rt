@@ -4,10 +4,10 @@ ghost use Rattle.std.specs.List.{list_all};
 ghost use Rattle.wl_sweep.specs.Findings.{is_clean};
 ghost use Rattle.wl_sweep.specs.Tallies.{tally_of};
 ghost use Rattle.wl_sweep.specs.declared.finding.Finding.{Finding};
-ghost use Rattle.wl_sim.specs.Tasks.{AnswersSweep, done_by, of_format, of_format_fault, of_init, of_init_fault, of_map, of_print, of_settings, of_settings_fault, of_respond, of_sweep, of_traffic, plainly, of_join, of_join_fault};
+ghost use Rattle.wl_sim.specs.Tasks.{AnswersSweep, done_by, of_format, of_format_fault, of_init, of_init_fault, of_judge, of_map, of_print, of_settings, of_settings_fault, of_respond, of_sweep, of_traffic, plainly, of_join, of_join_fault};
 
 use thiserror::Error;
-use wl_engines::{Reason, RunFault};
+use wl_engines::{Judgement, Reason, RunFault};
 use wl_init::InitFault;
 use wl_print::PrintFault;
 use wl_settings::SettingsFault;
@@ -19,8 +19,10 @@ use wl_sweep_engine::{JoinFault, SweepFault, Tally};
 pub enum Done {
     /// The output says all.
     Plain,
-    /// Some member of a sweep isn't clean; or a run doesn't work, or a deadline isn't met, and the status is to say so.
+    /// Some member of a sweep isn't clean; or a bus that is judged, or a run, doesn't work, or a deadline isn't met, and the status is to say so.
     Unclean,
+    /// It isn't known whether a bus works.
+    Unknown,
 }
 
 /// Why a task wasn't done. Each is shown as its engine shows it.
@@ -221,6 +223,19 @@ pub(crate) fn of_traffic(strict: bool, answer: Result<Reason, RunFault>) -> Resu
         Ok(Reason::Works) => Ok(Done::Plain),
         Ok(_) if strict => Ok(Done::Unclean),
         Ok(_) => Ok(Done::Plain),
+        Err(fault) => Err(Fault::Run(fault)),
+    }
+}
+
+/// Returns what the judgement on a bus answered, whose status says whether it works.
+pub(crate) fn of_judge(answer: Result<Judgement, RunFault>) -> Result<Done, Fault>
+    ensures { result ≡ of_judge answer }
+{
+    match answer {
+        Ok(Judgement::Works(_)) => Ok(Done::Plain),
+        Ok(Judgement::NotInThisRun) => Ok(Done::Unclean),
+        Ok(Judgement::NotByCondition) => Ok(Done::Unclean),
+        Ok(Judgement::NotKnown) => Ok(Done::Unknown),
         Err(fault) => Err(Fault::Run(fault)),
     }
 }

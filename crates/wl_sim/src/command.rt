@@ -2,7 +2,7 @@
 ghost use Rattle.std.specs.Prelude.{◌≡◌, ◌≢◌, ◌↔◌, map, string_bytes, codes, IfOk, IfErr, Some, option_map};
 ghost use Rattle.clap.specs.Words.{kind_of, subcommand_rows_of};
 ghost use Rattle.wl_sim.specs.CommandLine.{begun_task, Enters, FoundTask, file_in, has_flag, ranges_in};
-ghost use Rattle.wl_sim.specs.CommandLine.{candump_task, init_task, page_task, plain_task, run_task, sweep_task, task_named, timed_task, trace_task, valued_task, vcd_task};
+ghost use Rattle.wl_sim.specs.CommandLine.{candump_task, init_task, judgement_task, page_task, plain_task, run_task, sweep_task, task_named, timed_task, trace_task, valued_task, vcd_task};
 ghost use Rattle.wl_sim.specs.Orders.{FindsOrder, ReadsOrder};
 
 use crate::subcommands::matches_of;
@@ -61,6 +61,8 @@ pub enum Task {
     /// How busy a plan's bus was, how long its messages waited, and why the run didn't work, at ticks that take so long. If that is asked
     /// for, the status says whether it worked.
     Traffic(Tick, bool),
+    /// Whether a plan's bus works, at ticks that take so long; if that is asked for, with the commands that say so.
+    Judge(Tick, bool),
     /// The settings with which a bus works, or the plan of the best one, at ticks that take so long.
     Settings(Tick, Shown),
     /// How many members of a family of plans are clean, or one member as a plan.
@@ -156,6 +158,13 @@ fn page_task(tick: Tick, values: &Values) -> Option<Task>
     Some(Task::Page(tick, values.wave?))
 }
 
+/// Returns the task of `judge`, if the values have what it wants.
+fn judgement_task(values: &Values) -> Option<Task>
+    ensures { result ≡ judgement_task values.now }
+{
+    Some(Task::Judge(values.tick?, values.explain))
+}
+
 /// Returns the task that a word names at ticks that take so long.
 fn timed_task(word: &str, tick: Tick, values: &Values) -> Option<Task>
     ensures { result ≡ timed_task word.now values.now tick }
@@ -171,12 +180,13 @@ fn timed_task(word: &str, tick: Tick, values: &Values) -> Option<Task>
     }
 }
 
-/// Returns the task that a word names if it is `init`, or a task over ticks that take so long.
+/// Returns the task that a word names if it is `init` or `judge`, or a task over ticks that take so long.
 fn begun_task(word: &str, values: &Values) -> Option<Task>
     ensures { result ≡ begun_task word.now values.now }
 {
     match word {
         "init" => init_task(values),
+        "judge" => judgement_task(values),
         _ => timed_task(word, values.tick?, values),
     }
 }
@@ -286,7 +296,7 @@ fn wanted(words: &[String]) -> &'static str {
             "check" | "explain" | "sweep" => "--format wants text, json, csv, table or coloured",
             "trace" =>
                 "--only wants lost, error, flag, frame, mode or sync, and --format text, json, csv, table or coloured",
-            "margin" | "respond" | "traffic" => {
+            "judge" | "margin" | "respond" | "traffic" => {
                 "--tick wants 1 to 999 and ps, ns or us, as 125ps, and --format text, json, csv, table or coloured"
             }
             "vcd" | "page" =>

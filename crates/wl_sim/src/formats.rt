@@ -24,6 +24,7 @@ pub(crate) fn subject_of(task: Task) -> Option<Subject>
         Task::Margin(_, _) => Some(Subject::Margin),
         Task::Respond(_, _, _) => Some(Subject::Respond),
         Task::Traffic(_, _) => Some(Subject::Traffic),
+        Task::Judge(_, _) => Some(Subject::Judge),
         Task::Sweep(swept) => {
             if !swept.join && (swept.part.is_some() || swept.print.is_some() || swept.page) {
                 None

@@ -14,6 +14,7 @@
 //! - `margin` writes whether the plan's bus works, and with how much to spare;
 //! - `respond` writes how long each message may wait, and whether that is in time;
 //! - `explain` writes what is doubtful of a plan, and the figures of its nodes, or what is wrong with a plan that is refused;
+//! - `judge` writes whether the plan's bus works, how sure that is, where it is weakest, and which change gives most;
 //! - `sweep` writes how many members of a family of plans are clean, also in parts that it joins.
 #![tactic(auto)]
 
@@ -56,8 +57,8 @@ mod texts;
 mod values;
 
 use crate::answer::{
-    of_format, of_init, of_join, of_map, of_print, of_respond, of_settings, of_tally, of_traffic,
-    plainly,
+    of_format, of_init, of_join, of_judge, of_map, of_print, of_respond, of_settings, of_tally,
+    of_traffic, plainly,
 };
 use crate::formats::{subject_of, write_kept};
 pub use answer::{Done, Fault};
@@ -65,9 +66,9 @@ pub use command::{Order, Refusal, Task};
 pub use sweep::Swept;
 pub use wl_engines::{
     Crew, LinkKind, RunFault, candump_run_within, check_run, explain_run, horizon_run,
-    horizon_run_within, margin_run, merge_run, merge_run_within, merges_as_one, page_run_within,
-    picked_trace_run, plan_run, plan_run_as, records_run_within, respond_run, traffic_run,
-    vcd_run_within, workers_run, workers_run_as,
+    horizon_run_within, judge_run, margin_run, merge_run, merge_run_within, merges_as_one,
+    page_run_within, picked_trace_run, plan_run, plan_run_as, records_run_within, respond_run,
+    traffic_run, vcd_run_within, workers_run, workers_run_as,
 };
 
 /// The statuses that the program ends with beside 0.
@@ -78,6 +79,8 @@ const UNCLEAN_SWEEP: u8 = 1;
 const REFUSED_COMMAND: u8 = 2;
 
 const BROKEN: u8 = 3;
+
+const UNKNOWN: u8 = 4;
 
 /// The most threads of a sweep.
 const MOST_THREADS: u8 = 8;
@@ -445,6 +448,7 @@ fn run<H: Threads + Wait + Sync + Eprint + Clock, R: Source, W: Sink>(
             of_respond(strict, respond_run(alloc, tick, any_data, reader, writer))
         }
         Task::Traffic(tick, strict) => of_traffic(strict, traffic_run(alloc, tick, reader, writer)),
+        Task::Judge(tick, explain) => of_judge(judge_run(alloc, tick, explain, reader, writer)),
         Task::Settings(tick, shown) => {
             of_settings(settings_run(alloc, tick.picoseconds(), shown, reader, writer))
         }
@@ -497,6 +501,7 @@ fn status_of(answer: &Result<Done, Fault>) -> ExitCode
     match answer {
         Ok(Done::Plain) => ExitCode::SUCCESS,
         Ok(Done::Unclean) => ExitCode::from(UNCLEAN_SWEEP),
+        Ok(Done::Unknown) => ExitCode::from(UNKNOWN),
         Err(Fault::Run(fault)) => {
             if fault.is_refusal() {
                 ExitCode::from(REFUSED_INPUT)

@@ -4,7 +4,7 @@ ghost use Rattle.clap.specs.Words.{app_of, rule_of, with_rule};
 ghost use Rattle.clap.specs.declared.builder.command.Command.TheViews.{out-Command};
 ghost use Rattle.wl_sim.specs.CommandLine.{FailsByMemory, MatchesWords, bare_program, is_task_word, optioned_app, program, program_alone, subcommand_app, with_word, reads_nothing};
 ghost use Rattle.wl_sim.specs.CommandLine.{bitrate_rule, cable_rule, init_app, kind_rule, nodes_rule, reading_app};
-ghost use Rattle.wl_sim.specs.CommandLine.{best_rule, candump_app, filed, flag_rule, format_rule, formatted_app, from_rule, input_rule, link_rule, margin_app, node_rule, only_rule, output_rule, records_app, respond_app, run_app, settings_app, sweep_app, tick_rule, ticks_rule, time_rule, timed_app, trace_app, traffic_app, wave_app, windowed_app, workers_rule};
+ghost use Rattle.wl_sim.specs.CommandLine.{best_rule, candump_app, filed, flag_rule, format_rule, formatted_app, from_rule, input_rule, judge_app, link_rule, margin_app, node_rule, only_rule, output_rule, records_app, respond_app, run_app, settings_app, sweep_app, tick_rule, ticks_rule, time_rule, timed_app, trace_app, traffic_app, wave_app, windowed_app, workers_rule};
 
 use crate::sweep::{with_part_options, with_sweep_options};
 use clap::{Arg, ArgAction, ArgMatches, Command, Error, value_parser};
@@ -43,6 +43,9 @@ const SINCE: &str = "Leaves out what is before this tick";
 
 /// What the help says of the first tick after a window.
 const UNTIL: &str = "Leaves out what is at this tick or later";
+
+/// What the help says of `--explain`.
+const EXPLAIN: &str = "Says of each part which command says it";
 
 /// What the help says of `--brief`.
 const BRIEF: &str = "Leaves out the lines of frames";
@@ -130,6 +133,8 @@ fn filed<'a>(alloc: Global, word: &'a str) -> Result<Command<'a>, AllocError>
 /// Returns what the help says of a subcommand.
 fn about(word: &str) -> &'static str {
     match word {
+        "judge" =>
+            "Tests and simulates the plan, and writes whether its bus works, how sure that is, and what would help",
         "init" =>
             "Writes a plan to begin from: equal controllers along a cable, a remark on each key",
         "merge" => "Writes the canonical text of the records that standard input has",
@@ -390,6 +395,17 @@ fn with_traffic_options<'a>(alloc: Global, sub: Command<'a>) -> Result<Command<'
     formatted(alloc, strict)
 }
 
+/// Returns a subcommand with the options of `judge`.
+fn with_judge_options<'a>(alloc: Global, sub: Command<'a>) -> Result<Command<'a>, AllocError>
+    requires { (out-Command sub).has_globals ≡ false }
+    ensures app { IfOk result (λ all. app_of all ≡ judge_app (app_of sub.entry)) }
+    ensures local { IfOk result (λ all. (out-Command all).has_globals ≡ false) }
+{
+    let timed = timed(alloc, sub)?;
+    let explain = with(timed, flag_option(alloc, "explain", EXPLAIN))?;
+    formatted(alloc, explain)
+}
+
 /// Returns a subcommand with the options of `settings`.
 fn with_settings_options<'a>(alloc: Global, sub: Command<'a>) -> Result<Command<'a>, AllocError>
     requires { (out-Command sub).has_globals ≡ false }
@@ -496,6 +512,7 @@ fn optioned<'a>(alloc: Global, word: &str, sub: Command<'a>) -> Result<Command<'
         "sweep" => with_all_sweep_options(alloc, sub),
         "init" => with_init_options(alloc, sub),
         "respond" => with_respond_options(alloc, sub),
+        "judge" => with_judge_options(alloc, sub),
         _ => Ok(sub),
     }
 }
@@ -550,8 +567,8 @@ fn command<'a>(alloc: Global) -> Result<Command<'a>, AllocError>
         alloc,
         bare(alloc),
         &[
-            "init", "run", "margin", "explain", "respond", "traffic", "check", "settings", "sweep",
-            "trace", "page", "vcd", "candump", "records", "format", "merge", "horizon",
+            "init", "judge", "run", "margin", "explain", "respond", "traffic", "check", "settings",
+            "sweep", "trace", "page", "vcd", "candump", "records", "format", "merge", "horizon",
         ],
     )
 }
@@ -569,6 +586,7 @@ fn is_task(word: &str) -> bool
 {
     match word {
         "init"
+        | "judge"
         | "run"
         | "margin"
         | "explain"

@@ -35,6 +35,8 @@ pub(crate) struct Values {
     pub(crate) shown: Shown,
     /// Whether the status says if a run works.
     pub(crate) strict: bool,
+    /// Whether each part of an answer has the command that says it.
+    pub(crate) explain: bool,
     /// Whether all nodes send that don't only listen.
     pub(crate) all_send: bool,
     /// Whether frames may have any data.
@@ -460,6 +462,7 @@ fn values_in(matches: &ArgMatches) -> Values
         swept: swept_in(matches),
         shown: shown_in(matches),
         strict: flag_in(matches, "strict"),
+        explain: flag_in(matches, "explain"),
         all_send: flag_in(matches, "all-send"),
         any_data: flag_in(matches, "any-data"),
         limits: limits_in(matches),

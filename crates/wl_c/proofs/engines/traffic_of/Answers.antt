@@ -8,7 +8,7 @@ use Rattle.wl_c.proofs.engines.traffic_of.Goals as goal
 
 pub returns : goal.returns
 returns c =
-    let made = subst (λ a. IsMade a c.traffic_run-found.new.writer.bytes.items c.made_by.result) c.without_reason-answer.ensures c.made_by.ensures in
+    let made = subst (λ a. IsMade a c.traffic_run-found.new.writer.bytes.items c.made_by.result) c.without_answer-answer.ensures c.made_by.ensures in
     answer_made (λ (s : TextReader). s.rest.now) (λ (k : Kept). k.bytes.items) (record { rest = c.args.text }) c.traffic_run-found.new.reader
     c.new-kept.result c.traffic_run-found.new.writer c.new-kept.ensures (IsTrafficOutput c.args.tick) c.traffic_run-found.result c.made_by.result
     c.traffic_run-found.ensures made

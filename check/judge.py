@@ -1,0 +1,142 @@
+#!/usr/bin/env python3
+"""Compares `judge` with `run`, `traffic`, `margin`, `respond` and `sweep` on many plans: no line of one may contradict another.
+
+usage: judge.py PROGRAM [RANDOM [RUNS]]     RANDOM plans beside the examples, 160 if not said; RUNS members of each sweep, 40
+
+Half of the random plans are those of check/programs.py, and half those of `init`, with other tolerances, cables and cycles.
+"""
+import pathlib
+import random
+import re
+import subprocess
+import sys
+import tempfile
+
+sys.dont_write_bytecode = True
+TOP = pathlib.Path(__file__).resolve().parents[1]
+sys.path[:0] = [str(TOP / "check")]
+import programs  # noqa: E402
+
+WORDS = ["works", "does not work", "not known"]
+STATUS = {"works": 0, "does not work": 1, "not known": 4}
+OTHERS = ("not proved: ", "any senders: ", "does not hold: ", "no bound is known: ")
+
+
+def said(program, *words):
+    done = subprocess.run([program, *words], capture_output=True, text=True, timeout=300)
+    return done.returncode, done.stdout.splitlines()
+
+
+def judged(lines):
+    return next(it for it in WORDS if lines[0].startswith(it))
+
+
+def wanted(reason, margin):
+    """Returns the first word of a judgement, by the verdict of a run and the first line of a margin."""
+    if reason not in ("works", "ends too early"): return "does not work"
+    if margin.startswith("does not hold"): return "does not work"
+    return "works" if reason == "works" and margin.startswith("holds for any senders") else "not known"
+
+
+def differences(program, plan, runs):
+    status, lines = said(program, "judge", plan)
+    if not lines:
+        refused = said(program, "margin", plan)[0]
+        return ([] if status == refused == 1 else [f"status {status} of a plan that margin ends with {refused}"]), None
+    found, word = [], judged(lines)
+    traffic, margin, report = (said(program, it, plan)[1] for it in ("traffic", "margin", "run"))
+    reason = traffic[-1].removeprefix("verdict ")
+    if status != STATUS[word]: found.append(f"status {status} of {word}")
+    if word != wanted(reason, margin[0]): found.append(f"{word}, {reason}, {margin[0]}")
+    if f"run: {reason}" not in lines: found.append(f"no line run: {reason}")
+    if word == "works" and report[-1] != "verdict clean": found.append("works, and the run isn't clean")
+    if ("proved: any" in lines[0]) != (word == "works" and "proved: any_senders_are_clean" in margin[0]): found.append("the word proved")
+    why = [it for it in margin if it.startswith(OTHERS)]
+    if [it for it in lines if it.startswith(OTHERS)] != why: found.append(f"reasons {why}")
+    found += pairs(lines, margin) + reserve(lines, margin) + waits(lines, said(program, "respond", plan)[1])
+    if word == "works" and reason == "works": found += swept(program, plan, runs)
+    return found, word
+
+
+def pairs(lines, margin):
+    """The pair of each inequality is one to which the table leaves least."""
+    rows = [it.removeprefix("pair ").split(": ", 1) for it in margin if it.startswith("pair ")]
+    found = []
+    for name in "late", "early", "drift":
+        spares = {who: dict(it.split(" ", 1) for it in what.split(", "))[name] for who, what in rows}
+        spares = {who: it for who, it in spares.items() if it != "none"}
+        mine = [it.removeprefix(f"weakest {name}: ").split(" ", 2) for it in lines if it.startswith(f"weakest {name}: ")]
+        if len(mine) != (1 if spares else 0): found.append(f"{len(mine)} lines of the weakest {name}")
+        for a, b, spare in mine:
+            least = min(float(it.split()[0]) for it in spares.values())
+            if spares.get(f"{a} {b}") != spare or float(spare.split()[0]) != least: found.append(f"weakest {name}: {a} {b} {spare}, least {least}")
+    return found
+
+
+def reserve(lines, margin):
+    """The wider tolerance is the one that margin finds."""
+    wider = next((it for it in margin if it.startswith("tolerance: ")), None)
+    mine = next((it for it in lines if it.startswith("reserve: ")), None)
+    if mine is None or wider is None: return [] if mine is None else ["a reserve without a margin"]
+    front, _, proved = wider.removeprefix("tolerance: one sender at a time ").partition(", proved ")
+    one, several = (it.removesuffix(" ppm wider") for it in front.split(", any senders "))
+    asked = one if mine.endswith(", for one sender at a time") else proved if mine.endswith(", proved") else several
+    return [] if asked == mine.split(" ppm")[0].split()[-1] else [f"{mine} beside {wider}"]
+
+
+def waits(lines, respond):
+    """The lines on waits are those of the whole table: its first line, its longest bound and its verdict."""
+    mine = [it.removeprefix("waits: ") for it in lines if it.startswith("waits: ")]
+    rows = [it.split() for it in respond if it.startswith("message ")]
+    if not rows or all(it[it.index("every") + 1] == "-" for it in rows): return ["waits of messages that come once"] if mine else []
+    wanted = [respond[0], respond[-1]]
+    bounds = [float(it[it.index("us") + 1]) for it in rows if it[it.index("us") + 1] != "-"]
+    if bounds:
+        row = rows[bounds.index(max(bounds))]
+        wanted[1:1] = [f"longest {row[row.index('us') + 1]} us, {row[3]} of {row[2]}"]
+    return [] if mine == wanted else [f"waits {mine}, wanted {wanted}"]
+
+
+def swept(program, plan, runs):
+    """A bus that works is clean at other offsets and clocks, or its plan ends too early there, as far as a sweep of its phases shows."""
+    status, lines = said(program, "sweep", "--runs", str(runs), plan)
+    ended = re.fullmatch(r"clean in (\d+) of (\d+), too early in (\d+)", lines[0]) if status == 1 else None
+    if ended and int(ended[1]) + int(ended[3]) == int(ended[2]): return []
+    return [] if status in (0, 2) else [f"works, and the sweep ends with {status}: {lines[:1]}"]
+
+
+def begun(program, rng):
+    """A plan of `init`, whose clocks, cable or cycles may be too bad for the bus."""
+    rate = rng.choice(["125k", "250k", "500k", "1M"])
+    words = ["--nodes", str(rng.randint(2, 6)), "--bitrate", rate, "--cable", f"{rng.randint(1, 60)}m", "--kind", rng.choice(["mcp2515", "bxcan", "m_can"])]
+    text = "\n".join(said(program, "init", *words)[1]) + "\n"
+    if rng.random() < 0.6: text = text.replace("tolerance = 100", f"tolerance = {rng.choice([500, 1500, 3000, 4000, 5000, 8000])}")
+    if rng.random() < 0.4: text = text.replace('per = "5ns/m"', f'per = "{rng.choice([10, 20, 40])}ns/m"')
+    if rng.random() < 0.4: text = text.replace('deadline = "10ms"', f'deadline = "{rng.choice([300, 600, 1200])}us"')
+    if rng.random() < 0.3: text = text.replace('end = "30ms"', 'end = "11ms"')
+    return text.encode()
+
+
+def main(program, count="160", runs="40"):
+    counts, plans = dict.fromkeys([*WORDS, "refused"], 0), 0
+    with tempfile.TemporaryDirectory() as room:
+        written = [str(it) for it in sorted((TOP / "examples").glob("*.toml")) if it.stem not in ("sixteen_nodes", "thirty_nodes_29bit")]
+        for number in range(int(count)):
+            name = f"{room}/{number}.toml"
+            rng = random.Random(f"judge {number}")
+            pathlib.Path(name).write_bytes(begun(program, rng) if number % 2 else [programs.families.text_of, programs.plan_text][number // 2 % 2](rng))
+            written.append(name)
+        bad = 0
+        for plan in written:
+            found, word = differences(program, plan, int(runs))
+            counts[word or "refused"] += 1
+            plans += 1
+            for it in found: print(f"differs: {plan}: {it}")
+            bad += bool(found)
+    print(f"{plans} plans, {', '.join(f'{it} {n}' for it, n in counts.items())}; {bad} differ")
+    return bad > 0
+
+
+if __name__ == "__main__":
+    if len(sys.argv) < 2: sys.exit(__doc__)
+    sys.exit(main(*sys.argv[1:]))
