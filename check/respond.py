@@ -6,8 +6,9 @@ usage: respond.py PROGRAM [BUSES [PLANS [SEED]]]           500 buses, 4 plans of
 
 Each bus is a random one of 2 to 6 nodes with 1 to 4 messages each, at 10 to 90 % load, base and extended, with queues of both orders, jitter and deadlines by
 chance. The bounds of `respond --format json` have to be those that this file computes (Davis, Burns, Bril, Lukkien 2007, with what frames take at the level of
-quanta; docs/use/respond.md), their parts have to add up, and `met` has to follow. Then plans of the bus are run, with other offsets and other first frames: no wait that `traffic` says may be
-longer. The last line says how many there were, how many differ, and the longest wait by its bound. Status 1 if anything differs.
+quanta; docs/use/respond.md), their parts have to add up, and `met` has to follow. So have the doubts that `explain` has of its messages. Then plans of the bus are
+run, with other offsets and other first frames: no wait that `traffic` says may be longer. Its bounds have to be those of `respond`, if that says `proved`, and else
+there may be none. The last line says how many there were, how many differ, and the longest wait by its bound. Status 1 if anything differs.
 
 `search` looks for long waits: it changes the plan in which one message of a bus, its target, waited longest so far. A line for each order of queues and each
 range of loads has the median and the least of the longest wait of the targets by their bounds. Status 1 if any frame waits longer than its bound.
@@ -176,6 +177,31 @@ def differs(plan, records, any_data):
     return None
 
 
+def doubts(plan):
+    """The doubts of messages, with their own data: which, how long it may take, and its deadline, in thousandths of a microsecond; or the load if the bus may be full."""
+    bus, all_, bounded = bounds(plan, False)
+    digits = lambda m: f"0x{m.frame['id']:0{8 if m.frame.get('extended') else 3}x}"
+    if bounded: return [(digits(m), ceil(m.wait, T) + m.jitter, m.due // T) for m in all_ if m.wait + m.jitter * T > m.due]
+    jittered = [digits(m) for m in all_ if m.period == 0]
+    if jittered: return jittered[:1]
+    load = ceil(sum(ceil((m.bits + 13) * bus.bit * 10**8, m.period) for m in all_), 10**4)
+    return [load] if load > 10_000 else []
+
+
+def doubts_of(records):
+    """The same of `explain`."""
+    said = {"beyond_deadline": lambda r: (r["id"], round(r["taken_us"] * 1000), round(r["available_us"] * 1000)), "jitter_beyond_period": lambda r: r["id"],
+            "bus_full": lambda r: round(r["load_percent"] * 100)}
+    return [said[r["doubt"]](r) for r in records if r.get("doubt") in said]
+
+
+def has_other_bounds(program, text, ran):
+    """Whether the bounds of `traffic` aren't those of `respond`."""
+    records = said(program, "respond", text=text)
+    proved = [(r["node"], r["id"], r["bound_quanta"], r["bound_us"]) for r in records if r["kind"] == "message"] if records[0]["kind"] == "proof" else []
+    return [(r["node"], r["id"], r["bound_quanta"], r["bound_us"]) for r in ran if r["kind"] == "bound"] != proved
+
+
 def main(program, buses="500", plans="4", seed="1"):
     rng, differ, longer, frames, greatest, runs, proved, open_ = random.Random(int(seed)), 0, 0, 0, 0.0, 0, 0, 0
     for n in range(int(buses)):
@@ -188,6 +214,10 @@ def main(program, buses="500", plans="4", seed="1"):
             print(f"bus {n} of seed {seed}: {wrong}")
             with open(f"/tmp/respond-{seed}-{n}.toml", "w", encoding="utf-8") as kept: kept.write(text)
             continue
+        explained = said(program, "explain", text=text)
+        if isinstance(explained, str) or sorted(doubts_of(explained)) != sorted(doubts(plan)):
+            differ += 1
+            print(f"bus {n} of seed {seed}: {explained if isinstance(explained, str) else doubts_of(explained)} are no doubts, but {doubts(plan)}")
         proved += records[0]["kind"] == "proof"
         bound = {(r["node"], r["id"]): r["bound_quanta"] for r in records if r["kind"] == "message"}
         if None in bound.values():
@@ -201,6 +231,9 @@ def main(program, buses="500", plans="4", seed="1"):
                 differ += 1
                 continue
             runs += 1
+            if has_other_bounds(program, text, ran):
+                differ += 1
+                print(f"bus {n} of seed {seed}: other bounds in traffic")
             for r in ran:
                 if r["kind"] != "message" or r["greatest_quanta"] is None: continue
                 frames += r["sent"]

@@ -1,5 +1,5 @@
 mod Ordered
 mod Rows
-mod Told
+mod Waiting
 pub mod Longest
 pub mod Listing

@@ -1,5 +1,5 @@
 -- What a plan's text asks of a message: its period, by how much it is late, and within which time it has to be sent (this project's profile).
-use Rattle.std.specs.Prelude.{ℕ, ◌+◌, ◌-◌, ◌*◌, ◌/◌, ◌==◌, ◌&&◌, not, max, min, Bool, true, false, List, [], ◌∷◌, length, slice_get, if◌then◌else◌, Option, Some, None, unwrap_or}
+use Rattle.std.specs.Prelude.{ℕ, ◌+◌, ◌-◌, ◌*◌, ◌/◌, ◌==◌, ◌&&◌, not, max, min, Bool, true, false, List, [], ◌∷◌, length, slice_get, slice_index_or, if◌then◌else◌, Option, Some, None, unwrap_or}
 use Rattle.std.specs.Int.{div_ceil}
 use Rattle.std.specs.Option.{option_map_or}
 use Rattle.wl_frame.specs.Grammar.{Content}
@@ -8,7 +8,7 @@ use Rattle.wl_setup.specs.declared.plan_text.PlanText.{PlanText}
 use Rattle.wl_bound.specs.Families.{Bus}
 use Rattle.wl_respond.specs.declared.asked.Asked.{Asked}
 use Rattle.wl_respond.specs.declared.message.MessageWait.{MessageWait}
-use Rattle.wl_respond.specs.Tests.{shortest_at}
+use Rattle.wl_respond.specs.Tests.{no_message, shortest_at}
 
 -- a message that comes once
 abbrev pub once : ℕ
@@ -81,3 +81,13 @@ module _ (b : Bus) (any : Bool) where
 
 abbrev pub message_in : Asked → MessageWait
 message_in asked = asked.message
+
+abbrev pub no_asked : Asked
+no_asked = record { message = no_message; every = 0; jitter = 0; deadline = None }
+
+abbrev pub asked_at : List Asked → ℕ → Asked
+asked_at asked e = slice_index_or asked e no_asked
+
+-- nothing is left of the period of message e
+abbrev pub has_no_period : List Asked → ℕ → Bool
+has_no_period asked e = (asked_at asked e).message.every == 0

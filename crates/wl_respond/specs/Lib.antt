@@ -7,4 +7,6 @@ pub mod Premises
 pub mod Asks
 pub mod Tables
 pub mod Parts
+pub mod Bounds
 pub mod Texts
+pub mod Briefs

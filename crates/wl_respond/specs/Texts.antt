@@ -1,5 +1,5 @@
 -- The text of how long the messages of a bus may wait (this project's profile).
-use Rattle.std.specs.Prelude.{◌≡◌, ℕ, ◌+◌, ◌==◌, ◌&&◌, nat_lt, Bool, true, false, List, [], ◌∷◌, ◌++◌, map, codes, length, slice_get, slice_index_or, if◌then◌else◌, Option, Some, None, option_and_then}
+use Rattle.std.specs.Prelude.{◌≡◌, ℕ, ◌+◌, ◌==◌, ◌&&◌, nat_lt, Bool, true, false, List, [], ◌∷◌, ◌++◌, codes, length, slice_get, slice_index_or, if◌then◌else◌, Option, Some, None, option_and_then}
 use Rattle.std.specs.Fmt.{decimal}
 use Rattle.wl_counts.specs.Counts.{one_if, sum_below}
 use Rattle.wl_level.specs.Places.{first_place}
@@ -9,13 +9,10 @@ use Rattle.wl_setup.specs.Names.{name_of}
 use Rattle.wl_setup.specs.declared.bus.Bus.{Bus}
 use Rattle.wl_setup.specs.declared.plan_text.PlanText.{PlanText}
 use Rattle.wl_topology.specs.Driven.{any_below}
-use Rattle.wl_bound.specs.BusTimes.{times_of}
-use Rattle.wl_bound.specs.Families as families
-use Rattle.wl_bound.specs.Oscillators.{Pace}
-use Rattle.wl_bound.specs.Rooms.{plain_bus}
-use Rattle.wl_margin.specs.Margins.{no_clock_words, paces_of}
+use Rattle.wl_margin.specs.Margins.{no_clock_words}
 use Rattle.wl_margin.specs.Pieces.{each_below, hundredths, joined, thousandths}
 use Rattle.wl_respond.specs.declared.asked.Asked.{Asked}
+use Rattle.wl_respond.specs.declared.bounds.Waits.{Waits}
 use Rattle.wl_respond.specs.declared.message.MessageWait.{MessageWait}
 use Rattle.wl_respond.specs.declared.parts.Line.{Line}
 use Rattle.wl_respond.specs.declared.parts.Met.{Met}
@@ -24,17 +21,8 @@ use Rattle.wl_respond.specs.declared.parts.Parts.{Parts}
 use Rattle.wl_respond.specs.declared.premise.Lacking.{Lacking}
 use Rattle.wl_respond.specs.declared.premise.Lacking.TheVariants.{Astray, Turning, Margin, Deciding, Table, Bounds}
 use Rattle.wl_respond.specs.declared.verdict.Outcome.{Outcome}
-use Rattle.wl_respond.specs.Asks.{asked_of, message_in, once}
-use Rattle.wl_respond.specs.Parts.{told_line, load_at_most}
-use Rattle.wl_respond.specs.Premises.{FirstLack}
-use Rattle.wl_respond.specs.Tables.{IsTable}
-use Rattle.wl_respond.specs.Tests.{no_message, pass, row_for}
-
-abbrev pub no_asked : Asked
-no_asked = record { message = no_message; every = 0; jitter = 0; deadline = None }
-
-abbrev pub asked_at : List Asked → ℕ → Asked
-asked_at asked e = slice_index_or asked e no_asked
+use Rattle.wl_respond.specs.Asks.{asked_at, has_no_period, once}
+use Rattle.wl_respond.specs.Bounds.{AreWaitsOf}
 
 abbrev pub no_line : Line
 no_line = record { jitter = 0; deadline = None; met = Open; parts = None }
@@ -171,9 +159,6 @@ full_verdict load = joined (codes "verdict no bound: the bus load is up to " ∷
 abbrev pub load_verdict : ℕ → List ℕ
 load_verdict load = if nat_lt 10000 load then full_verdict load else codes "verdict no bound: the search found none\n"
 
-abbrev pub has_no_period : List Asked → ℕ → Bool
-has_no_period asked e = (asked_at asked e).message.every == 0
-
 abbrev pub jitter_verdict : List (List ℕ) → List Asked → ℕ → Option ℕ → List ℕ
 jitter_verdict names asked load None = load_verdict load
 jitter_verdict names asked load (Some e) = jittered_verdict names (asked_at asked e).message
@@ -190,44 +175,19 @@ module _ (names : List (List ℕ)) (asked : List Asked) (lines : List Line) wher
   verdict_words true load = bounded_verdict names asked lines
   verdict_words false load = open_verdict names asked load
 
--- bounds are shown if they pass
-abbrev pub lines_shown : ℕ → families.Bus → Bool → List Asked → List Line
-lines_shown tick b shown asked = map (told_line tick b (times_of b) (map (row_for b (times_of b)) (map message_in asked)) shown) asked
+-- what the verdict is about
+abbrev pub outcome_in : Waits → Outcome
+outcome_in w = record { lacking = w.lacking; shown = w.shown; load = w.load }
 
 abbrev pub outcome_words : List (List ℕ) → List Asked → List Line → Outcome → List ℕ
 outcome_words names asked lines o =
     lacking_words names o.lacking ++ load_words o.load ++ lines_words names asked lines ++ verdict_words names asked lines o.shown o.load
 
--- The text of a bus with these messages. Its first line has the first premise that lacks, or says 'proved' if none does.
-module _ (tick : ℕ) (bus : Bus) (f : families.Buses) (asked : List Asked) where
-  abbrev pub has_bounds : Bool
-  has_bounds = pass (plain_bus f) (map message_in asked)
-
-  abbrev pub outcome_of : Option Lacking → Outcome
-  outcome_of lacking = record {
-    lacking = lacking;
-    shown = has_bounds;
-    load = load_at_most (plain_bus f) (map message_in asked);
-  }
-
-  abbrev pub lines_of : List Line
-  lines_of = lines_shown tick (plain_bus f) has_bounds asked
-
-  pub record IsTold (text : List ℕ) (met : Bool) : Type 0 where
-    pub lacking : Option Lacking
-    pub is : text ≡ outcome_words bus.names asked lines_of (outcome_of lacking)
-    pub met_is : met ≡ (has_bounds && (missed_count lines_of == 0))
-    pub first : FirstLack bus.deviations bus.plan f (map message_in asked) lacking
-
--- It is about the table of the plan's messages, with bounds of each, and what the plan's text asks of it.
-abbrev pub IsRespondText : (tick : ℕ) → (any : Bool) → PlanText → Bus → families.Buses → List ℕ → Bool → Type 0
-IsRespondText tick any plain bus f text met =
-    (table : List MessageWait) × IsTable bus.plan plain table × IsTold tick bus f (map (asked_of (plain_bus f) any plain) table) text met
-
-abbrev pub IsResponseOfPaces : ℕ → Bool → PlanText → Bus → Option (List Pace) → List ℕ → Bool → Type 0
-IsResponseOfPaces tick any plain bus None text met = (text ≡ no_clock_words) × (met ≡ false)
-IsResponseOfPaces tick any plain bus (Some paces) text met = IsRespondText tick any plain bus (families.family_of bus.plan paces) text met
+-- The text of waits, and whether all deadlines are met; or the line of a bus with a clock that is none without its `ppm`.
+abbrev pub IsTextOf : List (List ℕ) → Option Waits → List ℕ → Bool → Type 0
+IsTextOf names None text met = (text ≡ no_clock_words) × (met ≡ false)
+IsTextOf names (Some w) text met = (text ≡ outcome_words names w.asked w.lines (outcome_in w)) × (met ≡ (w.shown && (missed_count w.lines == 0)))
 
 -- the whole text of a bus, for ticks of so many picoseconds; and whether all deadlines are met
 abbrev pub IsTextOfBus : ℕ → Bool → PlanText → Bus → List ℕ → Bool → Type 0
-IsTextOfBus tick any plain bus text met = IsResponseOfPaces tick any plain bus (paces_of bus.deviations) text met
+IsTextOfBus tick any plain bus text met = (found : Option Waits) × AreWaitsOf tick any plain bus found × IsTextOf bus.names found text met

@@ -5,6 +5,8 @@
 #![tactic(auto)]
 
 mod asked;
+mod bounds;
+mod brief;
 mod inequality;
 mod level;
 mod message;
@@ -19,6 +21,8 @@ mod verdict;
 mod words;
 
 pub use asked::Asked;
+pub use bounds::{Question, Waits, waits_of_bus};
+pub use brief::brief_text;
 pub use level::has_levels;
 pub use message::{MessageWait, pass};
 pub use parts::{Line, Met, Parts};
@@ -26,4 +30,4 @@ pub use plan::keeps_table;
 pub use premise::{Lacking, first_lacking};
 pub use search::{Found, bounds_of};
 pub use table::{ONCE, table_of};
-pub use text::{Question, Response, respond_text};
+pub use text::{Response, respond_text};

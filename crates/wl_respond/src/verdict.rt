@@ -3,10 +3,12 @@ ghost use Rattle.std.specs.Prelude.{◌≡◌, ◌≤◌, ◌<◌, length, IfSom
 ghost use Rattle.wl_level.specs.Places.{first_place};
 ghost use Rattle.wl_margin.specs.Pieces.{each_below};
 ghost use Rattle.wl_report.specs.Lines.{GrowsBy};
-ghost use Rattle.wl_respond.specs.Texts.{bounded_verdict, count_words, full_verdict, has_no_period, is_missed, jitter_tail, jittered_verdict, late_verdict, missed_name, load_verdict, missed_count, missed_words, misses, open_verdict, verdict_words};
+ghost use Rattle.wl_respond.specs.Asks.{has_no_period};
+ghost use Rattle.wl_respond.specs.Texts.{bounded_verdict, count_words, full_verdict, is_missed, jitter_tail, jittered_verdict, late_verdict, missed_name, load_verdict, missed_count, missed_words, misses, open_verdict, outcome_in, verdict_words};
 ghost use Rattle.wl_topology.specs.Driven.{any_below};
 
 use crate::asked::Asked;
+use crate::bounds::Waits;
 use crate::message::MessageWait;
 use crate::parts::{Line, Met};
 use crate::premise::Lacking;
@@ -159,7 +161,7 @@ fn has_no_period(asked: &[Asked], e: usize) -> bool
 }
 
 /// Returns the first message of whose period nothing is left.
-fn first_jittered(asked: &[Asked]) -> Option<usize>
+pub(crate) fn first_jittered(asked: &[Asked]) -> Option<usize>
     ensures first { result ≡ first_place (has_no_period asked.now) (length asked.now) }
     ensures inside { IfSome result (λ e. e < length asked.now) }
 {
@@ -196,6 +198,17 @@ pub(crate) struct Outcome {
     pub(crate) shown: bool,
     /// How busy the bus is at most, in hundredths of a per cent.
     pub(crate) load: u128,
+}
+
+/// Returns of waits what the verdict is about.
+pub(crate) fn outcome_in(waits: &Waits) -> Outcome
+    ensures { result ≡ outcome_in waits.now }
+{
+    Outcome {
+        lacking: waits.lacking,
+        shown: waits.shown,
+        load: waits.load,
+    }
 }
 
 /// Adds the verdict.

@@ -1,7 +1,7 @@
 //! What is said of a message, and of what lacks, in words.
 ghost use Rattle.std.specs.Prelude.{◌≡◌, ◌++◌, ◌<◌, OnOk, length, string_bytes};
 ghost use Rattle.wl_report.specs.Lines.{GrowsBy};
-ghost use Rattle.wl_respond.specs.Texts.{asked_at, asked_words, astray_lack, blocker_words, bound_words, by_words, deadline_words, deciding_words, every_words, message_head, lack_line, lacking_words, told_line_at, line_words, load_words, met_word, parts_words, period_words, time_words, times_words, told_words, turning_words};
+ghost use Rattle.wl_respond.specs.Texts.{asked_words, astray_lack, blocker_words, bound_words, by_words, deadline_words, deciding_words, every_words, message_head, lack_line, lacking_words, told_line_at, line_words, load_words, met_word, parts_words, period_words, time_words, times_words, told_words, turning_words};
 
 use crate::asked::Asked;
 use crate::message::MessageWait;

@@ -1,7 +1,7 @@
 use Rattle.std.proofs.Common.{◌≡◌, ◌<◌, length}
 use Rattle.std.specs.Prelude.{IfSome}
 use Rattle.wl_level.specs.Places.{first_place}
-use Rattle.wl_respond.specs.Texts.{has_no_period}
+use Rattle.wl_respond.specs.Asks.{has_no_period}
 use Rattle.wl_respond.proofs.verdict.first_jittered.Given as goal
 
 -- the first of those so far

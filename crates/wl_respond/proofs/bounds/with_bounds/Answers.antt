@@ -4,7 +4,7 @@ use Rattle.wl_respond.specs.declared.message.MessageWait.{MessageWait}
 use Rattle.wl_respond.specs.Tables.{IsBounded}
 use Rattle.wl_respond.specs.Tests.{message_at, no_message}
 use Rattle.wl_respond.proofs.Listing.{each_more}
-use Rattle.wl_respond.proofs.text.with_bounds.Goals as goal
+use Rattle.wl_respond.proofs.bounds.with_bounds.Goals as goal
 
 pub loop-e-init : goal.loop-e-init
 loop-e-init c = (ap length c.new-all.ensures.items, λ k less. absurd (omega arith))

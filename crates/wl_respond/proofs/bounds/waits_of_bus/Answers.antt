@@ -1,15 +1,15 @@
 use Rattle.std.proofs.Common.{◌≡◌, ◌∙◌, Some, ap, length, sym}
 use Rattle.wl_margin.specs.Margins.{paces_of}
 use Rattle.wl_margin.proofs.Callers.{members-length, paces-length}
-use Rattle.wl_respond.proofs.text.respond_text.Goals as goal
+use Rattle.wl_respond.proofs.bounds.waits_of_bus.Goals as goal
 
 -- as many oscillators as there are nodes
-pub text_for-requires-clause-oscillators : goal.text_for-requires-clause-oscillators
-text_for-requires-clause-oscillators c =
+pub waits_for-requires-clause-oscillators : goal.waits_for-requires-clause-oscillators
+waits_for-requires-clause-oscillators c =
     let are : paces_of c.args.bus.now.deviations ≡ Some c.in-Some.oscillators =
     ap paces_of (sym c.as_slice.ensures) ∙ sym c.in_ok-oscillators.ensures ∙ c.in-Some.is in
     ap length c.as_slice-in-Some.ensures ∙ paces-length c.args.bus.now.deviations c.in-Some.oscillators are ∙ c.requires.deviations
 
-pub text_for-requires-clause-members : goal.text_for-requires-clause-members
-text_for-requires-clause-members c =
-    members-length c.args.bus.now.plan.nodes c.as_slice-in-Some.result.now (text_for-requires-clause-oscillators c)
+pub waits_for-requires-clause-members : goal.waits_for-requires-clause-members
+waits_for-requires-clause-members c =
+    members-length c.args.bus.now.plan.nodes c.as_slice-in-Some.result.now (waits_for-requires-clause-oscillators c)

@@ -1,7 +1,7 @@
 use Rattle.std.proofs.Common.{◌≡◌, ℕ, ◌<◌, length}
 use Rattle.wl_respond.specs.Tables.{IsBounded}
 use Rattle.wl_respond.specs.Tests.{message_at}
-use Rattle.wl_respond.proofs.text.with_bounds.Given as goal
+use Rattle.wl_respond.proofs.bounds.with_bounds.Given as goal
 
 -- the messages so far
 abbrev pub invariant-loop-e : goal.invariant-loop-e

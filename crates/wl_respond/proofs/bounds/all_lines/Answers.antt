@@ -8,7 +8,7 @@ use Rattle.wl_respond.specs.Asks.{message_in}
 use Rattle.wl_respond.specs.Parts.{told_line}
 use Rattle.wl_respond.specs.Rows.{MessageTerms}
 use Rattle.wl_respond.specs.Tests.{row_for}
-use Rattle.wl_respond.proofs.text.all_lines.Goals as goal
+use Rattle.wl_respond.proofs.bounds.all_lines.Goals as goal
 
 pub returns : goal.returns
 returns c =
