@@ -8,7 +8,8 @@ use Rattle.wl_respond.specs.declared.message.MessageWait.{MessageWait}
 use Rattle.wl_respond.specs.declared.parts.Line.{Line}
 use Rattle.wl_respond.specs.declared.parts.Parts.{Parts}
 use Rattle.wl_respond.specs.Parts.{counted_time}
-use Rattle.wl_respond.specs.Texts.{asked_at, id_words, jitter_tail, misses, told_line_at}
+use Rattle.wl_respond.specs.Asks.{asked_at}
+use Rattle.wl_respond.specs.Texts.{id_words, jitter_tail, misses, told_line_at}
 
 -- A message may miss its deadline. Its jitter is a part of the time that it takes (Davis, Burns, Bril, Lukkien 2007, section 2).
 abbrev pub overdue_head : List (List ℕ) → MessageWait → List ℕ

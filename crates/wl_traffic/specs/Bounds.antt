@@ -9,8 +9,8 @@ use Rattle.wl_respond.specs.declared.message.MessageWait.{MessageWait}
 use Rattle.wl_respond.specs.declared.parts.Line.{Line}
 use Rattle.wl_respond.specs.declared.parts.Parts.{Parts}
 use Rattle.wl_respond.specs.declared.premise.Lacking.{Lacking}
-use Rattle.wl_respond.specs.Asks.{once}
-use Rattle.wl_respond.specs.Texts.{asked_at, id_words, told_line_at}
+use Rattle.wl_respond.specs.Asks.{asked_at, once}
+use Rattle.wl_respond.specs.Texts.{id_words, told_line_at}
 
 abbrev pub bound_head : List (List ℕ) → MessageWait → List ℕ
 bound_head names x = joined (codes "bound " ∷ decimal x.node ∷ codes " " ∷ name_of names x.node ∷ codes " " ∷ id_words x ∷ [])
