@@ -54,7 +54,7 @@ runs() { # runs NAME INPUT STATUS STDOUT STDERR WORDS..: STDERR '-' where it is 
 remedy_of() { grep -F "| \`$1\` |" docs/use/faults.md | sed 's/ |$//;s/.* | //'; }
 : > "$room/none"
 
-# Of 30 nodes for a second check/plain.py takes an hour, which goes quantum by quantum, and a waveform or a page takes hundreds of megabytes.
+# Of 30 nodes for a second check/plain.py takes an hour, which goes quantum by quantum, and a waveform takes hundreds of megabytes.
 whole_second=thirty_nodes_29bit
 
 if part examples; then

@@ -51,8 +51,8 @@ def said(program, *words, status=(0,)):
     return ran.stdout.decode()
 
 
-# windows of runs: around an error, within a frame, and of a plan whose run is long what its page shows by itself
-PARTS = [("burst.toml", ["--from", "95000", "--to", "135000"]), ("clean_500k.toml", ["--from", "150001", "--to", "220001"]), ("six_ecus.toml", [])]
+# windows of runs: around an error, and within a frame
+PARTS = [("burst.toml", ["--from", "95000", "--to", "135000"]), ("clean_500k.toml", ["--from", "150001", "--to", "220001"])]
 NOTES = ("no frame has edges", "each sender has one frame more")  # on the plan, and of no cell
 
 
@@ -365,7 +365,7 @@ def look_faults(check, browser):
 PICOSECONDS, TICKED = 125, ("--tick", "125ps")
 IDLE_BIT = 4_000  # ticks
 IDLE = """version = 3
-end = 250_000_000
+end = 200_000_000
 per = 5
 sync = "book"
 [[node]]
@@ -507,6 +507,12 @@ def text_faults(check, browser, program, plan, words):
         browser.media(scheme)
         check.same("(draw([0, nodes.length]), document.documentElement.dataset.frames)", str(frames), f"frames in {scheme} colours")
     return frames
+
+
+def faults_of(program, plan, browser, folder):
+    """The page of a plan: of its whole run, or, if that is long, of a part."""
+    is_part = re.search(r'<pre id="part" hidden>\d', said(program, "page", plan))
+    return (part_faults if is_part else run_faults)(program, plan, browser, folder)
 
 
 def run_faults(program, plan, browser, folder, words=()):
@@ -765,7 +771,7 @@ def main():
             plans = [] if words == ["--sweeps"] else [*(words or sorted((TOP / "examples").glob("*.toml"))), folder / "idle.toml"]
             sweeps = SWEEPS if words in ([], ["--sweeps"]) else []
             parts = PARTS if not words else []
-            wrong = sum(run_faults(program, plan, browser, folder) for plan in plans)
+            wrong = sum(faults_of(program, plan, browser, folder) for plan in plans)
             if not words: wrong += run_faults(program, TOP / "examples" / "burst.toml", browser, folder, TICKED)
             wrong += sum(part_faults(program, TOP / "examples" / name, browser, folder, window) for name, window in parts)
             wrong += sum(sweep_faults(program, name, asked, browser, folder) for name, asked in sweeps)
