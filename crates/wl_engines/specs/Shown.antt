@@ -48,12 +48,12 @@ abbrev pub span_text : Span → ℕ → List ℕ
 span_text span end = decimal span.from ++ codes " " ++ decimal span.to ++ codes " " ++ decimal end ++ codes "\n"
 
 -- the run in a thousand parts
-unfoldable pub parts_text : Plan → List ℕ
-parts_text plan = thousandths_text plan
+unfoldable pub run_parts : Plan → List ℕ
+run_parts plan = thousandths_text plan
 
 -- the ticks and these; nothing of a page that shows all
 abbrev pub shown_text : Window → Plan → List ℕ
-shown_text window plan = if is_whole_run window then [] else span_text (span_of window plan.end) plan.end ++ parts_text plan
+shown_text window plan = if is_whole_run window then [] else span_text (span_of window plan.end) plan.end ++ run_parts plan
 
 -- the events of a window, whatever they are
 abbrev pub pick_of : Window → Pick

@@ -1,6 +1,6 @@
 //! Which part of a run a page shows.
 ghost use Rattle.std.specs.Prelude.{◌≡◌, ◌*◌, ◌<◌, ◌++◌, length, IfOk, OnOk, string_bytes};
-ghost use Rattle.wl_engines.specs.Shown.{chosen_by, is_long_run, is_none, is_whole_run, parts_text, shown_by, shown_text, pick_of, shown_window, span_text, ten_bits};
+ghost use Rattle.wl_engines.specs.Shown.{chosen_by, is_long_run, is_none, is_whole_run, run_parts, shown_by, shown_text, pick_of, shown_window, span_text, ten_bits};
 ghost use Rattle.wl_report.specs.Lines.{GrowsBy};
 ghost use Rattle.wl_serial.specs.Outcome.{outcome_of};
 ghost use Rattle.wl_views.specs.Windows.{span_of};
@@ -123,7 +123,7 @@ fn push_span(text: &mut String, span: Span, end: u64) -> Result<(), AllocError>
 /// Returns a simulation, which is `outcome`, in a thousand parts.
 fn parts_of(alloc: Global, plan: &CheckedPlan, outcome: &Outcome) -> Result<String, AllocError>
     requires outcome { outcome.now ≡ outcome_of plan.now }
-    ensures { IfOk result (λ text. string_bytes text ≡ parts_text plan.now) }
+    ensures { IfOk result (λ text. string_bytes text ≡ run_parts plan.now) }
 {
     thousandths(alloc, plan, outcome)
 }
@@ -137,7 +137,7 @@ fn part_of(
 ) -> Result<String, AllocError>
     requires outcome { outcome.now ≡ outcome_of plan.now }
     ensures { IfOk result (λ text. string_bytes text
-        ≡ span_text (span_of window plan.now.end) plan.now.end ++ parts_text plan.now) }
+        ≡ span_text (span_of window plan.now.end) plan.now.end ++ run_parts plan.now) }
 {
     let parts = parts_of(alloc, plan, outcome)?;
     let mut text = String::new(alloc);

@@ -1,6 +1,6 @@
-use Rattle.wl_engines.specs.Shown.{parts_text}
+use Rattle.wl_engines.specs.Shown.{run_parts}
 use Rattle.wl_engines.proofs.shown.parts_of.Goals as goal
 
 pub returns : goal.returns
-unfolding parts_text
+unfolding run_parts
 returns c = c.thousandths.ensures
