@@ -24,13 +24,13 @@ bound_line names x None = []
 bound_line names x (Some p) = bound_head names x ++ bound_times p
 
 -- a message that comes once has no line
-abbrev pub bound_at : List (List ℕ) → List Asked → List Line → ℕ → List ℕ
-bound_at names asked lines e =
+abbrev pub bound_line_at : List (List ℕ) → List Asked → List Line → ℕ → List ℕ
+bound_line_at names asked lines e =
     if (asked_at asked e).every == once then [] else bound_line names (asked_at asked e).message (told_line_at lines e).parts
 
 -- They are proved if no premise lacks.
 abbrev pub proved_bounds : List (List ℕ) → List Asked → List Line → Option Lacking → List ℕ
-proved_bounds names asked lines None = each_below (bound_at names asked lines) (length lines)
+proved_bounds names asked lines None = each_below (bound_line_at names asked lines) (length lines)
 proved_bounds names asked lines (Some lacking) = []
 
 abbrev pub bound_lines : List (List ℕ) → Option Waits → List ℕ

@@ -2,7 +2,7 @@
 ghost use Rattle.std.specs.Prelude.{◌≡◌, ◌<◌, length, IfSome, OnOk};
 ghost use Rattle.wl_margin.specs.Pieces.{each_below};
 ghost use Rattle.wl_report.specs.Lines.{GrowsBy};
-ghost use Rattle.wl_traffic.specs.Bounds.{bound_at, bound_head, bound_line, bound_lines, bound_times};
+ghost use Rattle.wl_traffic.specs.Bounds.{bound_line_at, bound_head, bound_line, bound_lines, bound_times};
 
 use std::alloc::AllocError;
 use wl_margin::Thousandths;
@@ -57,7 +57,7 @@ fn push_line_at(
 ) -> Result<(), AllocError>
     requires message { e < length asked.now }
     requires line { e < length lines.now }
-    ensures { OnOk result (GrowsBy text.old text.new (bound_at names.now asked.now lines.now e)) }
+    ensures { OnOk result (GrowsBy text.old text.new (bound_line_at names.now asked.now lines.now e)) }
 {
     if asked[e].every == ONCE {
         return Ok(());
@@ -74,7 +74,7 @@ fn push_lines(
 ) -> Result<(), AllocError>
     requires { length asked.now ≡ length lines.now }
     ensures { OnOk result (GrowsBy text.old text.new
-        (each_below (bound_at names.now asked.now lines.now) (length lines.now))) }
+        (each_below (bound_line_at names.now asked.now lines.now) (length lines.now))) }
 {
     for e in 0..lines.len() {
         push_line_at(text, names, asked, lines, e)?;
