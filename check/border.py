@@ -1,12 +1,14 @@
 #!/usr/bin/env python3
 """Power-ups at the border: random families of buses with a cable as long as `margin` allows, run by `sweep`, which should find each of them clean.
 
-usage: border.py PROGRAM [--families N] [--first K] [--seed N] [--followed N] [--listeners]
+usage: border.py PROGRAM [--families N] [--first K] [--seed N] [--followed N] [--listeners] [--room] [--beyond-jump]
 
 A family has two to five nodes, equal or unlike settings, loops from a tick to four quanta, one to all nodes that send, and a tolerance for each.
 Its cable holds for any senders; one tick more doesn't. At the border it is run with random frames, and with long frames whose edges are far
 apart. With --listeners a family has three to five nodes, and one at least that only listens: anywhere on the cable, and some with a loop as long as
-the way to its sample. Then, with --followed, failures of some families with longer cables are followed back by shorter ones, around their offsets and signs.
+the way to its sample. With --room the border is where `margin` no longer says `proved` for any senders, and with --beyond-jump only families count
+on which a jump there doesn't put right all of ten bits' drift, a look and what gathers. Then, with --followed, failures of some families with longer
+cables are followed back by shorter ones, around their offsets and signs.
 """
 import argparse
 import random
@@ -17,6 +19,7 @@ from collections import Counter
 from copy import deepcopy
 from dataclasses import dataclass, field
 
+import margin
 import plain
 
 BIT = 1_200
@@ -26,6 +29,7 @@ STARTS = 0xF0F0F0F0, 0x78787878, 0x3C3C3C3C, 0x1E1E1E1E, 0x0F0F0F0F, 0x87878787,
 BYTES = 0x0F, 0xF0, 0x3C, 0xC3, 0x78, 0x87, 0x1E, 0xE1, 0x00, 0xFF, 0x55
 FACTORS = 1050, 1150, 1300, 1600, 2200
 POOL = []
+PROVED = ", proved: any_senders_are_clean"
 
 
 @dataclass
@@ -74,8 +78,8 @@ def plan_text(nodes):
 
 
 class Program:
-    def __init__(self, path):
-        self.path, self.runs = path, 0
+    def __init__(self, path, room=False):
+        self.path, self.runs, self.room = path, 0, room
 
     def said(self, nodes, *words):
         ended = subprocess.run([self.path, *words], input=plan_text(nodes), capture_output=True, text=True)
@@ -83,11 +87,13 @@ class Program:
         return ended.stdout
 
     def holds(self, nodes):
-        return self.said(nodes, "margin").startswith("holds for any senders")
+        said = self.said(nodes, "margin")
+        return said.startswith("holds for any senders") and (not self.room or PROVED in said.split("\n", 1)[0])
 
     def wider(self, nodes):
-        """By how many ppm every tolerance may grow; None if the bus isn't sound as it is."""
-        found = re.search(r"^tolerance: .*any senders (\d+) ppm", self.said(nodes, "margin"), re.M)
+        """By how many ppm every tolerance may grow; None if the bus isn't at the border's better side as it is."""
+        found = re.search(r"^tolerance: .*any senders (\d+) ppm wider(?:, proved (\d+))?", self.said(nodes, "margin"), re.M)
+        if self.room: return found and found[2] and int(found[2])
         return found and int(found[1])
 
     def sweep(self, nodes, runs, seed, *words):
@@ -240,6 +246,14 @@ def powered(rng, nodes, waiting):
     return nodes
 
 
+def jump_leaves(border):
+    """Whether on the bus at the border some jump leaves something of ten bits' drift, a look and what gathers."""
+    nodes, _, shares, length = border
+    text = plan_text(placed(nodes, shares, length)).encode()
+    bus = margin.Family(plain.read_plan(text), margin.clocks_of(plain.read_toml(text))).buses(False)[0]
+    return any(bus.left_over(bus.chases()[2]))
+
+
 def at_border(rng, program, border):
     """Power-ups that were run with random frames and with long ones, and how many weren't clean."""
     nodes, senders, shares, length = border
@@ -319,13 +333,13 @@ def main():
     asked = argparse.ArgumentParser(usage=__doc__.split("usage: ")[1].split("\n")[0])
     asked.add_argument("program")
     for name, value in (("families", 3000), ("first", 0), ("seed", 1), ("followed", 0)): asked.add_argument(f"--{name}", type=int, default=value)
-    asked.add_argument("--listeners", action="store_true")
+    for name in ("listeners", "room", "beyond-jump"): asked.add_argument(f"--{name}", action="store_true")
     asked = asked.parse_args()
-    program, counts, followed, k = Program(asked.program), Counter(), Counter(), asked.first
+    program, counts, followed, k = Program(asked.program, asked.room), Counter(), Counter(), asked.first
     while counts["families"] < asked.families:
         rng = random.Random(f"{asked.seed} {k}")
         k, border = k + 1, family(rng, program, asked.listeners)
-        if border is None: continue
+        if border is None or asked.beyond_jump and not jump_leaves(border): continue
         counts["families"] += 1
         counts.update(at_border(rng, program, border))
         if counts["families"] <= asked.followed:

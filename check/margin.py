@@ -128,15 +128,24 @@ class Bus:
         if not any(a in self.sends for a in self.others(i, k)): return 0
         return chase[k] * (10 * self.drift(i, k) + max(0, self.sjw[i] * self.high[i] - self.jump[k]))
 
+    def chases(self):
+        """Returns by pairs how far each node may have to catch up and how much nearer it gets with an edge, and by nodes in how many edges it does."""
+        d = self.delay
+        far = {(k, w): d(k, w) + d(w, k) + self.look[k] + max(0, self.high[w] - d(w, w)) - self.low[k] for k in range(self.n) for w in self.others(k)}
+        step = {(k, w): max(0, self.jump[k] - 10 * self.drift(w, k)) for k, w in far}
+        return far, step, [max([0] + [-(-far[k, w] // step[k, w]) - 1 for w in self.others(k) if w in self.sends and step[k, w]]) for k in range(self.n)]
+
+    def left_over(self, chase):
+        """Returns what a jump of each node doesn't put right of ten bits' drift, a look and what gathers; a tick more, if there is any."""
+        beyond = [max([0] + [10 * self.drift(i, k) + self.look[k] + self.gathered(chase, i, k) - self.jump[i] for k in self.others(i)]) for i in range(self.n)]
+        return [over and over + self.tick for over in beyond]
+
     def lacks(self):
         """Yields what the bus lacks of the room of docs/bus/condition.md (The room), node by node: kind, both nodes, what is taken, and the
         time that there is. One pair's inequalities come in the order of the table."""
         d, nodes = self.delay, range(self.n)
-        far = {(k, w): d(k, w) + d(w, k) + self.look[k] + max(0, self.high[w] - d(w, w)) - self.low[k] for k in nodes for w in self.others(k)}
-        step = {(k, w): max(0, self.jump[k] - 10 * self.drift(w, k)) for k, w in far}
-        chase = [max([0] + [-(-far[k, w] // step[k, w]) - 1 for w in self.others(k) if w in self.sends and step[k, w]]) for k in nodes]
-        beyond = [max([0] + [10 * self.drift(i, k) + self.look[k] + self.gathered(chase, i, k) - self.jump[i] for k in self.others(i)]) for i in nodes]
-        left = [over and over + self.tick for over in beyond]
+        far, step, chase = self.chases()
+        left = self.left_over(chase)
         for i in nodes:
             sample, rest = self.sample[i] * self.low[i], self.ps2[i] * self.low[i]
             if d(i, i) > sample: yield "loop", i, i, d(i, i), sample
