@@ -77,7 +77,7 @@ module _ (b : Bus) (chase : ℕ → ℕ) (has : HasRoomToAnswer b chase) (rests 
       with_tick : (m n t : ℕ) → m ≤ n → cond (m == 0) 0 (m + t) ≤ cond (n == 0) 0 (n + t)
       with_tick zero n t h = omega arith
       with_tick (suc m) zero t h = absurd (omega arith)
-      with_tick (suc m) (suc n) t h = omega arith
+      with_tick (suc m) (suc n) t h = rw (ne_eqb (suc m) 0 (λ e. cc)) (rw (ne_eqb (suc n) 0 (λ e. cc)) (omega arith))
 
       beyond_less : beyond_jump b (gathering b) i ≤ beyond_jump b (gathered b chase) i
       beyond_less =
