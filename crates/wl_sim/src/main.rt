@@ -353,9 +353,25 @@ fn run_sweep<H: Threads + Sync + Eprint + Clock, R: Source, W: Sink>(
                 progress: work.progress,
             };
             if swept.page {
-                of_map(map_run(rt, alloc, work.ranges, sweep_asked(swept), workers, reader, writer))
+                of_map(map_run(
+                    rt,
+                    alloc,
+                    work.ranges,
+                    sweep_asked(swept),
+                    workers,
+                    reader,
+                    writer,
+                ))
             } else {
-                of_tally(sweep_run(rt, alloc, work.ranges, sweep_asked(swept), workers, reader, writer))
+                of_tally(sweep_run(
+                    rt,
+                    alloc,
+                    work.ranges,
+                    sweep_asked(swept),
+                    workers,
+                    reader,
+                    writer,
+                ))
             }
         }
     }

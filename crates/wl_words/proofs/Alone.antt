@@ -11,11 +11,7 @@ use Rattle.clap.specs.Kinds.{Kinds, or_else}
 use Rattle.clap.specs.Simple.{built, new_shape, label_of, names_of, rows_at, entered}
 use Rattle.clap.specs.Walk.{Held, Names, Waiting, Walk, answers_to, finished, idle, nothing_held, settled, walk, walk_from, walked, stop_after}
 use Rattle.clap.proofs.OnLiterals.{clap_on_literals}
-use Rattle.wl_words.specs.CommandLine.{bare_program, program, task_words, with_word}
-
--- the word names a subcommand
-abbrev pub is_task_word : Text → Bool
-is_task_word word = list_any (bytes_eq word) task_words
+use Rattle.wl_words.specs.CommandLine.{bare_program, is_task_word, program, task_words, with_word}
 
 -- the command line with the subcommand of this word alone
 abbrev pub program_alone : Text → App

@@ -6,8 +6,8 @@ use Rattle.clap.specs.declared.error.Error.{Error}
 use Rattle.clap.specs.declared.parser.matches.ArgMatches.{ArgMatches}
 use Rattle.clap.proofs.OnLiterals.{clap_on_literals}
 use Rattle.clap.proofs.WalkLemmas.{both}
-use Rattle.wl_words.specs.CommandLine.{FailsByMemory, MatchesWords, program}
-use Rattle.wl_words.proofs.Alone.{is_alone, is_task_word, program_alone}
+use Rattle.wl_words.specs.CommandLine.{FailsByMemory, MatchesWords, is_task_word, program}
+use Rattle.wl_words.proofs.Alone.{is_alone, program_alone}
 
 pub program_is_free : is_simple_and_free program ≡ true
 unfolding clap_on_literals

@@ -1,7 +1,7 @@
 -- The words of the command line (this project's profile).
 use Rattle.std.specs.Prelude.{◌≡◌, ◌^◌, ◌-◌, ◌*◌, ◌&&◌, nat_lt, ℕ, Bool, true, false, List, [], ◌∷◌, length, codes, pos, fold, Option, Some, None, is_some, unwrap_or, if◌then◌else◌, option_and_then, option_map}
 use Rattle.std.specs.Char.{digit_value}
-use Rattle.std.specs.List.{list_all}
+use Rattle.std.specs.List.{list_all, list_any}
 use Rattle.std.specs.Option.{option_map_or}
 use Rattle.std.specs.Str.{bytes_eq}
 use Rattle.std.specs.Str.Parse.{digits_value, without_leading_plus}
@@ -252,6 +252,10 @@ task_words =
 -- the program's command line
 abbrev pub program : App
 program = fold with_word bare_program task_words
+
+-- the word names a subcommand
+abbrev pub is_task_word : Text → Bool
+is_task_word word = list_any (bytes_eq word) task_words
 
 -- the subcommand that clap enters at these words, with what it finds there
 abbrev pub entered : List Text → Option (Text × List Row)

@@ -82,7 +82,7 @@ fn taking<'a>(arg: Arg<'a>, takes: Takes) -> Arg<'a>
 
 /// Returns an argument with the text that it has if it isn't given.
 fn defaulting<'a>(arg: Arg<'a>, default: Option<&'static str>) -> Arg<'a>
-    ensures rule { rule_of result ≡ defaulting_rule (option_map (λ s. s.now) default) (rule_of arg.entry) }
+    ensures rule { rule_of result ≡ defaulting_rule (option_map (λ s. s.now) default.entry) (rule_of arg.entry) }
     ensures local { result.global ≡ arg.entry.global }
 {
     match default {

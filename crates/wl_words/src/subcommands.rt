@@ -1,11 +1,9 @@
 //! The command line of the program, made of its table.
-ghost use Rattle.std.specs.Prelude.{◌≡◌, map, string_bytes, IfSome, IfOk, IfErr, false, find, fold};
-ghost use Rattle.std.specs.Str.{bytes_eq};
+ghost use Rattle.std.specs.Prelude.{◌≡◌, map, string_bytes, IfSome, IfOk, IfErr, false, fold};
 ghost use Rattle.clap.specs.Words.{app_of};
 ghost use Rattle.clap.specs.declared.builder.command.Command.TheViews.{out-Command};
 ghost use Rattle.wl_words.specs.CommandLine.{FailsByMemory, MatchesWords, bare_program, input_rules, program, reads_nothing, with_rules};
-ghost use Rattle.wl_words.specs.Options.{row_app, with_row};
-ghost use Rattle.wl_words.specs.declared.tables.TheConstants.{SUBCOMMANDS};
+ghost use Rattle.wl_words.specs.Options.{AreRows, IsRowOf, row_app, with_row};
 
 use crate::options::with_options;
 use crate::tables::{INPUTS, SHARED, SUBCOMMANDS, SubcommandRow};
@@ -49,7 +47,11 @@ fn subcommand<'a>(alloc: Global, row: &SubcommandRow) -> Result<Command<'a>, All
 }
 
 /// Returns a command with the subcommand of this row.
-fn with_row<'a>(alloc: Global, all: Command<'a>, row: &SubcommandRow) -> Result<Command<'a>, AllocError>
+fn with_row<'a>(
+    alloc: Global,
+    all: Command<'a>,
+    row: &SubcommandRow,
+) -> Result<Command<'a>, AllocError>
     ensures { IfOk result (λ more. app_of more ≡ with_row (app_of all.entry) row.now) }
 {
     let sub = subcommand(alloc, row)?;
@@ -88,13 +90,14 @@ fn command<'a>(alloc: Global) -> Result<Command<'a>, AllocError>
     with_rows(alloc, bare(alloc), &SUBCOMMANDS)
 }
 
-/// Returns the row of a word, if it names a subcommand.
-fn row_of(word: &str) -> Option<SubcommandRow>
-    ensures { result ≡ find (λ row. bytes_eq row.word.now word.now) SUBCOMMANDS }
+/// Returns the row of a word, if it names a subcommand among these.
+fn row_of<'a>(rows: &'a [SubcommandRow], word: &str) -> Option<&'a SubcommandRow>
+    requires { AreRows rows.now }
+    ensures { IfSome result (λ row. IsRowOf word.now row.now) }
 {
-    for row in &SUBCOMMANDS {
+    for row in rows {
         if row.word == word {
-            return Some(*row);
+            return Some(row);
         }
     }
     None
@@ -113,8 +116,8 @@ fn matches_alone<'a>(alloc: Global, words: &'a [String]) -> Option<ArgMatches<'a
     ensures { IfSome result (MatchesWords (map string_bytes words.now)) }
 {
     let word = words.get(1)?.as_str();
-    let row = row_of(word)?;
-    match alone(alloc, &row) {
+    let row = row_of(&SUBCOMMANDS, word)?;
+    match alone(alloc, row) {
         Ok(all) => match all.try_get_matches_from(words) {
             Ok(matches) => Some(matches),
             Err(_) => None,

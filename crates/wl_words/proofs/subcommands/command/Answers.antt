@@ -1,9 +1,7 @@
 use Rattle.std.proofs.Common.{◌∙◌, ap, fold}
 use Rattle.std.proofs.lemmas.Result.{IfOk-weaker}
 use Rattle.wl_words.specs.Options.{with_row}
-use Rattle.wl_words.specs.declared.tables.TheConstants.{SUBCOMMANDS}
-use Rattle.wl_words.proofs.Tabled.{all_rows}
 use Rattle.wl_words.proofs.subcommands.command.Goals as goal
 
 pub returns : goal.returns
-returns c = IfOk-weaker c.with_rows.result _ _ (λ all h. h ∙ (ap (λ a. fold with_row a SUBCOMMANDS) c.bare.ensures ∙ all_rows)) c.with_rows.ensures
+returns c = IfOk-weaker c.with_rows.result _ _ (λ all h. h ∙ ap (λ a. fold with_row a _) c.bare.ensures) c.with_rows.ensures

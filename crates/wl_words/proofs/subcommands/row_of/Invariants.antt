@@ -1,10 +1,7 @@
-use Rattle.std.proofs.Common.{◌≡◌, drop}
-use Rattle.std.specs.Prelude.{find}
-use Rattle.std.specs.Str.{bytes_eq}
-use Rattle.wl_words.specs.declared.tables.TheConstants.{SUBCOMMANDS}
+use Rattle.std.proofs.Common.{drop}
+use Rattle.wl_words.specs.Options.{AreRows}
 use Rattle.wl_words.proofs.subcommands.row_of.Given as goal
 
--- the rows so far aren't of the word
+-- each row that is left is that of its word
 abbrev pub invariant-loop-row : goal.invariant-loop-row
-invariant-loop-row l =
-    find (λ row. bytes_eq row.word.now l.word.now) (drop l.row-index SUBCOMMANDS) ≡ find (λ row. bytes_eq row.word.now l.word.now) SUBCOMMANDS
+invariant-loop-row l = AreRows (drop l.row-index l.rows)
