@@ -1,12 +1,12 @@
 -- What clap makes of the command line of the program.
-use Rattle.std.proofs.Common.{◌≡◌, ◌∙◌, refl, sym, subst, ap, ℕ, ◌^◌, ◌&&◌, nat_lt, Bool, true, false, [], ◌∷◌, List, length, Option, Some, None, option_map, option_and_then, unwrap_or, codes, if◌then◌else◌}
+use Rattle.std.proofs.Common.{◌≡◌, ◌∙◌, refl, sym, subst, ap, ℕ, ◌<◌, ◌^◌, ◌&&◌, nat_lt, Bool, true, false, [], ◌∷◌, List, length, Option, Some, None, option_map, option_and_then, unwrap_or, codes, if◌then◌else◌}
 use Rattle.std.specs.Char.{digit_value}
 use Rattle.std.specs.List.{list_all}
 use Rattle.std.specs.Option.{option_map_or}
 use Rattle.std.specs.Prelude.{Box, Result, Ok, Err}
 use Rattle.std.specs.Result.{result_unwrap_or}
 use Rattle.std.specs.Box.{box_value}
-use Rattle.std.specs.Str.Parse.{AllDigits, ParsesUnsigned, digits_value, without_leading_plus}
+use Rattle.std.specs.Str.Parse.{AllDigits, IsNumeral, ParsesUnsigned, digits_value, without_leading_plus}
 use Rattle.std.proofs.lemmas.Bool.{lt-ltb, ltb-true}
 use Rattle.clap.specs.Words.{Text, first_value, matched_of, raw_values, rows_of, subcommand_rows}
 use Rattle.clap.specs.Walk.{byte_or_zero}
@@ -164,13 +164,16 @@ digits_of (d ∷ ds) e =
     let parts = both _ _ e in
     (ltb-true _ _ parts.0, digits_of ds parts.1)
 
-pub read_is : (E : Type 0) (bits : ℕ) (text : Text) (n : ℕ) → ParsesUnsigned {E = E} bits 10 text (Ok n) → is_whole_number bits text ≡ true
-read_is E bits text n h =
-    let ds = without_leading_plus text in
-    rw (lt-ltb 0 (length ds) h.0.0.0, all_digits ds h.0.0.1, lt-ltb (digits_value 10 ds) (2 ^ bits) h.0.1) refl
+abbrev ReadsNumber : ℕ → Text → Type 0
+ReadsNumber bits text = IsNumeral 10 (without_leading_plus text) × (digits_value 10 (without_leading_plus text) < 2 ^ bits)
 
-pub unread_is : (E : Type 0) (bits : ℕ) (text : Text) (e : E) → ParsesUnsigned {E = E} bits 10 text (Err e) → is_whole_number bits text ≡ false
-unread_is E bits text e h = go (is_whole_number bits text) refl
+read_is : (bits : ℕ) (text : Text) → ReadsNumber bits text → is_whole_number bits text ≡ true
+read_is bits text h =
+    let ds = without_leading_plus text in
+    rw (lt-ltb 0 (length ds) h.0.0, all_digits ds h.0.1, lt-ltb (digits_value 10 ds) (2 ^ bits) h.1) refl
+
+unread_is : (bits : ℕ) (text : Text) → ¬ ReadsNumber bits text → is_whole_number bits text ≡ false
+unread_is bits text h = go (is_whole_number bits text) refl
   where
     go : (b : Bool) → is_whole_number bits text ≡ b → is_whole_number bits text ≡ false
     go false t = t
@@ -179,19 +182,18 @@ unread_is E bits text e h = go (is_whole_number bits text) refl
         let inner = both _ _ outer.0 in
         absurd (h ((ltb-true _ _ inner.0, digits_of (without_leading_plus text) inner.1), ltb-true _ _ outer.1))
 
-pub number_read : (E : Type 0) (bits : ℕ) (text : Text) (r : Result ℕ E) → ParsesUnsigned {E = E} bits 10 text r → result_unwrap_or r 0 ≡ number_or_zero bits text
-number_read E bits text (Ok n) h = rw (read_is E bits text n h) h.1
-number_read E bits text (Err e) h = rw (unread_is E bits text e h) refl
+pub number_read : {E : Type 0} (bits : ℕ) (text : Text) (r : Result ℕ E) → ParsesUnsigned bits 10 text r → result_unwrap_or r 0 ≡ number_or_zero bits text
+number_read bits text (Ok n) h = rw (read_is bits text h.0) h.1
+number_read bits text (Err e) h = rw (unread_is bits text h) refl
 
 -- what a text says in ticks, by what it is read as
-pub said_read : (E : Type 0) (tick : Tick) (text : Text) (n : ℕ) → ParsesUnsigned {E = E} 64 10 text (Ok n) → Some n ≡ ticks_said tick text
-said_read E tick text n h =
-    ap Some h.1 ∙ sym (ap (λ b. if b then Some (digits_value 10 (without_leading_plus text)) else number_said Time (tick_scale tick) text) (read_is E 64 text n h))
+pub said_read : (tick : Tick) (text : Text) (n : ℕ) → ReadsNumber 64 text × (n ≡ digits_value 10 (without_leading_plus text)) → Some n ≡ ticks_said tick text
+said_read tick text n h =
+    ap Some h.1 ∙ sym (ap (λ b. if b then Some (digits_value 10 (without_leading_plus text)) else number_said Time (tick_scale tick) text) (read_is 64 text h.0))
 
-pub said_unread : (E : Type 0) (tick : Tick) (text : Text) (e : E) → ParsesUnsigned {E = E} 64 10 text (Err e)
-    → number_said Time (tick_scale tick) text ≡ ticks_said tick text
-said_unread E tick text e h =
-    sym (ap (λ b. if b then Some (digits_value 10 (without_leading_plus text)) else number_said Time (tick_scale tick) text) (unread_is E 64 text e h))
+pub said_unread : (tick : Tick) (text : Text) → ¬ ReadsNumber 64 text → number_said Time (tick_scale tick) text ≡ ticks_said tick text
+said_unread tick text h =
+    sym (ap (λ b. if b then Some (digits_value 10 (without_leading_plus text)) else number_said Time (tick_scale tick) text) (unread_is 64 text h))
 
 -- the end of a window of an option, by its text
 pub end_text : (tick : Tick) (id : Text) (f : Found) → end_among tick id (rows_of f) ≡ option_map_or (end_said tick) (first_value f id) (Some None)

@@ -38,7 +38,8 @@ fn with_input<'a>(alloc: Global, sub: Command<'a>, word: &str) -> Result<Command
 
 /// Returns the subcommand of a row, with its options.
 fn subcommand<'a>(alloc: Global, row: &SubcommandRow) -> Result<Command<'a>, AllocError>
-    ensures { IfOk result (λ sub. app_of sub ≡ row_app row.now) }
+    ensures app { IfOk result (λ sub. app_of sub ≡ row_app row.now) }
+    ensures local { IfOk result (λ sub. (out-Command sub).has_globals ≡ false) }
 {
     let named = Command::new(alloc, row.word).about(row.about);
     let reading = with_input(alloc, named, row.word)?;
@@ -83,11 +84,18 @@ fn with_rows<'a>(
     Ok(all)
 }
 
+/// Returns the command line with the subcommands of these rows.
+fn command_of<'a>(alloc: Global, rows: &[SubcommandRow]) -> Result<Command<'a>, AllocError>
+    ensures { IfOk result (λ all. app_of all ≡ fold with_row bare_program rows.now) }
+{
+    with_rows(alloc, bare(alloc), rows)
+}
+
 /// Returns the whole command line.
 fn command<'a>(alloc: Global) -> Result<Command<'a>, AllocError>
     ensures { IfOk result (λ all. app_of all ≡ program) }
 {
-    with_rows(alloc, bare(alloc), &SUBCOMMANDS)
+    command_of(alloc, &SUBCOMMANDS)
 }
 
 /// Returns the row of a word, if it names a subcommand among these.

@@ -1,7 +1,5 @@
-use Rattle.std.proofs.Common.{◌∙◌, ap, fold}
-use Rattle.std.proofs.lemmas.Result.{IfOk-weaker}
-use Rattle.wl_words.specs.Options.{with_row}
 use Rattle.wl_words.proofs.subcommands.command.Goals as goal
 
+-- the rows of the table make the definition's program
 pub returns : goal.returns
-returns c = IfOk-weaker c.with_rows.result _ _ (λ all h. h ∙ ap (λ a. fold with_row a _) c.bare.ensures) c.with_rows.ensures
+returns c = c.command_of.ensures

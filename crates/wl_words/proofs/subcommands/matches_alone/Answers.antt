@@ -1,8 +1,12 @@
-use Rattle.std.proofs.Common.{◌∙◌, subst, sym, map, string_bytes, List}
+use Rattle.std.proofs.Common.{refl, subst, sym, map, string_bytes, List}
 use Rattle.clap.specs.Words.{Text}
 use Rattle.wl_words.proofs.Found.{IsSecond, found_alone, second_is}
 use Rattle.wl_words.proofs.Tabled.{row_is}
 use Rattle.wl_words.proofs.subcommands.matches_alone.Goals as goal
+
+-- each row of the table is that of its word
+pub row_of-requires : goal.row_of-requires
+row_of-requires c = ((refl, refl), ((refl, refl), ((refl, refl), ((refl, refl), ((refl, refl), ((refl, refl), ((refl, refl), ((refl, refl), ((refl, refl), ((refl, refl), ((refl, refl), ((refl, refl), ((refl, refl), ((refl, refl), ((refl, refl), ((refl, refl), ((refl, refl), ((refl, refl), tt))))))))))))))))))
 
 pub returns-in-Ok-try_get_matches_from : goal.returns-in-Ok-try_get_matches_from
 returns-in-Ok-try_get_matches_from c =
