@@ -146,7 +146,8 @@ if ! env PATH=/usr/bin:/bin bash -c 'command -v rt' > /dev/null; then
 fi
 ends 0 help && is "help without a build" cmp -s "$room/out" tools/help.txt
 ends 2 && is "no word and no build" cmp -s "$room/err" tools/help.txt
-cp crates/wl_sim/src/subcommands.rt "$tree/crates/wl_sim/src"
+mkdir -p "$tree/crates/wl_words/src"
+cp crates/wl_words/src/subcommands.rt "$tree/crates/wl_words/src"
 "$program" --version 2> "$room/wanted" < /dev/null
 ends 0 --version && is "the version without a build" cmp -s "$room/out" "$room/wanted"
 cat > "$stub/rt" << 'STUB'

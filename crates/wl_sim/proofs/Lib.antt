@@ -1,6 +1,2 @@
-mod Alone
-mod Found
-mod Naming
-mod Rows
 mod Words
 mod Written

@@ -1,4 +1,4 @@
--- What the words ask for, over which devices and files it is done, and what stands at the named place afterwards (this project's profile).
+-- Over which devices and files a task is done, and what the named place has afterwards (this project's profile).
 use Rattle.std.specs.Prelude.{◌≡◌, ◌⊎◌, ℕ, Bool, if◌then◌else◌, List, codes, map, string_bytes, Option, Some, None, Result, Ok, Err}
 use Rattle.clap.specs.Words.{Text}
 use Rattle.wl_device.specs.Devices.{Answer}
@@ -9,30 +9,12 @@ use Rattle.wl_engines.specs.declared.fault.RunFault.TheVariants.{Setup, Write, M
 use Rattle.wl_sim.specs.declared.answer.Done.{Done}
 use Rattle.wl_sim.specs.declared.answer.Fault.{Fault}
 use Rattle.wl_sim.specs.declared.answer.Fault.TheVariants.{Run}
-use Rattle.wl_sim.specs.declared.command.Order.{Order}
-use Rattle.wl_sim.specs.declared.command.Refusal.{Refusal}
-use Rattle.wl_sim.specs.declared.command.Refusal.TheVariants as refusal
-use Rattle.wl_sim.specs.declared.command.Task.{Task}
-use Rattle.wl_sim.specs.CommandLine.{Enters, entered, file_in, format_in, has_flag, ranges_in}
+use Rattle.wl_words.specs.declared.command.Order.{Order}
+use Rattle.wl_words.specs.declared.command.Refusal.{Refusal}
+use Rattle.wl_words.specs.declared.command.Refusal.TheVariants as refusal
+use Rattle.wl_words.specs.declared.task.Task.{Task}
+use Rattle.wl_words.specs.Asked.{ReadsOrder}
 use Rattle.wl_sim.specs.Tasks.{DoesAs, EndsTask, refusal_status, run_status}
-
--- the words ask for this: the task that they enter, with the files and the ranges that they name
-abbrev pub Asks : Order → List Text → Type 0
-Asks order words =
-    Enters order.task words × (order.input ≡ file_in (codes "input") (entered words)) × (order.output ≡ file_in (codes "output") (entered words))
-    × (order.hint ≡ has_flag (codes "hint") (entered words)) × (order.progress ≡ has_flag (codes "progress") (entered words))
-    × (map string_bytes order.ranges.items ≡ ranges_in (entered words)) × (format_in (entered words) ≡ Some order.format)
-
--- what was found in the words
-abbrev pub FindsOrder : List Text → Option Order → Type 0
-FindsOrder words (Some order) = Asks order words
-FindsOrder words None = (t : Task) → ¬ Enters t words
-
--- what is read from the words: what they ask for, or that they enter no task; or memory was wanted
-abbrev pub ReadsOrder : List Text → Result Order Refusal → Type 0
-ReadsOrder words (Ok order) = Asks order words
-ReadsOrder words (Err refusal.Words) = (t : Task) → ¬ Enters t words
-ReadsOrder words (Err refusal.Memory) = Unit {0}
 
 -- What stands at each name after a task was done with a new file for its output: the file stands at its name where the task was done and the
 -- file could be moved there, and else each name has what it had.

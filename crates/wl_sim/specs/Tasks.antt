@@ -42,6 +42,7 @@ use Rattle.wl_sweep.specs.declared.finding.Finding.{Finding}
 use Rattle.wl_sweep.specs.declared.tally.Tally.{Tally}
 use Rattle.wl_sweep.specs.Findings.{is_clean}
 use Rattle.wl_sweep.specs.Tallies.{tally_of}
+use Rattle.wl_sweep_engine.specs.declared.asked.Asked.{Asked}
 use Rattle.wl_sweep_engine.specs.declared.fault.SweepFault.{SweepFault}
 use Rattle.wl_sweep_engine.specs.declared.fault.SweepFault.TheVariants as sweep
 use Rattle.wl_sweep_engine.specs.Sweeping.{Maps, Parts, Prints, Sweeps}
@@ -55,11 +56,11 @@ use Rattle.wl_sim.specs.declared.answer.Done.{Done}
 use Rattle.wl_sim.specs.declared.answer.Done.TheVariants.{Plain, Unclean, Unknown}
 use Rattle.wl_sim.specs.declared.answer.Fault.{Fault}
 use Rattle.wl_sim.specs.declared.answer.Fault.TheVariants as fault
-use Rattle.wl_sim.specs.declared.command.Refusal.{Refusal}
-use Rattle.wl_sim.specs.declared.command.Refusal.TheVariants.{Words, Memory}
-use Rattle.wl_sim.specs.declared.command.Task.{Task}
-use Rattle.wl_sim.specs.declared.command.Task.TheVariants.{Init, Merge, Horizon, Check, Upgrade, Records, Run, Explain, Trace, Candump, Vcd, Page, Margin, Respond, Traffic, Judge, Settings, Sweep}
-use Rattle.wl_sim.specs.declared.sweep.Swept.{Swept}
+use Rattle.wl_words.specs.declared.command.Refusal.{Refusal}
+use Rattle.wl_words.specs.declared.command.Refusal.TheVariants.{Words, Memory}
+use Rattle.wl_words.specs.declared.task.Task.{Task}
+use Rattle.wl_words.specs.declared.task.Task.TheVariants.{Init, Merge, Horizon, Check, Upgrade, Records, Run, Explain, Trace, Candump, Vcd, Page, Margin, Respond, Traffic, Judge, Settings, Sweep}
+use Rattle.wl_words.specs.declared.task.Swept.{Swept}
 use Rattle.wl_views.specs.Ticks.{tick_picoseconds}
 
 -- what an engine answered, as an answer of the program
@@ -204,6 +205,10 @@ subject_of (Judge tick explain) = Some subject.Judge
 subject_of (Settings tick shown) = None
 subject_of (Sweep swept) = if not swept.join && (is_some swept.part || is_some swept.print || swept.page) then None else Some subject.Sweep
 
+-- what is asked of a sweep
+abbrev pub sweep_asked : Swept → Asked
+sweep_asked swept = record { options = swept.options; worst = swept.worst }
+
 -- an engine answered, and that is what is answered
 abbrev pub Plainly : (Result (Unit {0}) RunFault → Type 0) → Result Done Fault → Type 0
 Plainly Runs r = (answer : Result (Unit {0}) RunFault) × Runs answer × (r ≡ plainly answer)
@@ -212,20 +217,20 @@ module _ {S T : Type 0} (gives : S → Answer → S → Type 0) (takes : T → A
   -- what is found of a family of plans, its map, or one of its members, was written
   abbrev pub DoesSweep : Swept → List Text → Option ℕ → Bool → Result Done Fault → Type 0
   DoesSweep swept ranges None true r =
-      (answer : Result Bool SweepFault) × (count : ℕ) × IsCount swept.workers count × Maps gives takes ranges swept.asked s s' t t' count answer
+      (answer : Result Bool SweepFault) × (count : ℕ) × IsCount swept.workers count × Maps gives takes ranges (sweep_asked swept) s s' t t' count answer
       × (r ≡ of_map answer)
   DoesSweep swept ranges None false r =
-      (answer : Result Tally SweepFault) × (count : ℕ) × IsCount swept.workers count × Sweeps gives takes ranges swept.asked s s' t t' count answer
+      (answer : Result Tally SweepFault) × (count : ℕ) × IsCount swept.workers count × Sweeps gives takes ranges (sweep_asked swept) s s' t t' count answer
       × AnswersSweep answer r
   DoesSweep swept ranges (Some n) page r =
-      (answer : Result (Unit {0}) SweepFault) × Prints gives takes ranges swept.asked s s' t t' n answer × (r ≡ of_print answer)
+      (answer : Result (Unit {0}) SweepFault) × Prints gives takes ranges (sweep_asked swept) s s' t t' n answer × (r ≡ of_print answer)
 
   -- or a part of that, or what all parts say together
   abbrev pub DoesSwept : Swept → List Text → Bool → Option Share → Result Done Fault → Type 0
   DoesSwept swept ranges true part r = (answer : Result Bool JoinFault) × Joins gives takes s s' t t' answer × (r ≡ of_join answer)
   DoesSwept swept ranges false (Some share) r =
       (answer : Result (Unit {0}) SweepFault) × (count : ℕ) × IsCount swept.workers count
-      × Parts gives takes ranges swept.asked s s' t t' share count answer × (r ≡ of_print answer)
+      × Parts gives takes ranges (sweep_asked swept) s s' t t' share count answer × (r ≡ of_print answer)
   DoesSwept swept ranges false None r = DoesSweep swept ranges swept.print swept.page r
 
   -- how long the messages of a plan may wait was written

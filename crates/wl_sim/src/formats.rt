@@ -5,11 +5,11 @@ ghost use Rattle.wl_sim.specs.declared.answer.Fault.{Fault};
 ghost use Rattle.wl_sim.specs.Tasks.{WritesAs, WritesFormatted, WritesRefused, after_written, is_write, subject_of};
 
 use crate::answer::{Done, Fault};
-use crate::command::Task;
 use std::alloc::Global;
 use wl_device::{Sink, write_all};
 use wl_engines::RunFault;
 use wl_formats::{Format, FormatFault, Subject, formatted};
+use wl_words::Task;
 
 /// Returns the command of a task, if its output has other formats. A member of a sweep is a plan, its map a page, and a part of it
 /// JSON.

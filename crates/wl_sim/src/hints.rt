@@ -1,7 +1,6 @@
 //! What is said on standard error of a run that ended with a fault. None of it is said by a clause.
 
 use crate::answer::Fault;
-use crate::command::Order;
 use crate::texts::{is_plan, is_settings};
 use std::alloc::{AllocError, Global};
 use wl_device::read_up_to;
@@ -17,6 +16,7 @@ use wl_record::TextFault;
 use wl_settings::SettingsFault;
 use wl_setup::{SetupFault, Text};
 use wl_sweep_engine::{JoinFault, PartsFault, RangeFault, SweepFault};
+use wl_words::Order;
 
 /// The most bytes of an input that a hint is made from.
 const MOST_HINTED: usize = 1 << 20;

@@ -21,13 +21,13 @@
 ghost use Rattle.std.specs.Prelude.{◌≡◌, ◌≢◌, ◌≤◌, ◌==◌, MatchBool, map, string_bytes, IfOk, IfErr, Ok, Err, option_map};
 ghost use Rattle.std.specs.IoError.{error_kind};
 ghost use Rattle.std.specs.Process.{exit_status};
-ghost use Rattle.wl_sim.specs.declared.command.Task.{Task};
+ghost use Rattle.wl_words.specs.declared.task.Task.{Task};
 ghost use Rattle.wl_engines.specs.Plans.{RunsPlan, IsReportOutput};
 ghost use Rattle.wl_engines.specs.Workers.{RunsByWorkersAs};
 ghost use Rattle.wl_files.specs.Files.{Keeps};
-ghost use Rattle.wl_sim.specs.CommandLine.{NamesTask};
+ghost use Rattle.wl_words.specs.CommandLine.{NamesTask};
 ghost use Rattle.wl_sim.specs.Orders.{Ends, EndsPlainly, MovesFile, Performs, RunsWords, WritesTo};
-ghost use Rattle.wl_sim.specs.Tasks.{Does, DoesAs, DoesBy, DoesSweep, DoesSwept, IsCount, run_status, refusal_status};
+ghost use Rattle.wl_sim.specs.Tasks.{sweep_asked, Does, DoesAs, DoesBy, DoesSweep, DoesSwept, IsCount, run_status, refusal_status};
 
 use std::alloc::Global;
 use std::io::ErrorKind;
@@ -44,17 +44,14 @@ use wl_init::init_run;
 use wl_print::format_run;
 use wl_settings::settings_run;
 use wl_setup::{SetupFault, Text};
-use wl_sweep_engine::{Workers, join_run, map_run, part_run, print_run, sweep_run};
+use wl_sweep_engine::{Asked, Workers, join_run, map_run, part_run, print_run, sweep_run};
+use wl_words::{Order, Refusal, Swept, Task};
 
 mod answer;
-mod command;
 mod formats;
 mod hints;
 mod progress;
-mod subcommands;
-mod sweep;
 mod texts;
-mod values;
 
 use crate::answer::{
     of_format, of_init, of_join, of_judge, of_map, of_print, of_respond, of_settings, of_tally,
@@ -62,8 +59,6 @@ use crate::answer::{
 };
 use crate::formats::{subject_of, write_kept};
 pub use answer::{Done, Fault};
-pub use command::{Order, Refusal, Task};
-pub use sweep::Swept;
 pub use wl_engines::{
     Crew, LinkKind, RunFault, candump_run_within, check_run, explain_run, horizon_run,
     horizon_run_within, judge_run, margin_run, merge_run, merge_run_within, merges_as_one,
@@ -99,7 +94,7 @@ struct Work<'a> {
 /// Hands the words of the command line, standard input, standard output and the system's files to `run_words`, whose answer is the
 /// program's status. No clause says that these are handed on, and that the answer is the status: none can speak of a program's devices.
 fn main(rt: HostRuntime) -> ExitCode {
-    let words = command::words_of(&rt);
+    let words = wl_words::words_of(&rt);
     let mut reader = Host::new(rt.stdin());
     let mut writer = Host::new(rt.stdout());
     let mut folder = SystemFolder::new(&rt);
@@ -143,7 +138,10 @@ fn run_words<
         reader.old reader.new writer.old writer.new folder.old folder.new (Err Refusal.Words) (exit_status result)) }
 {
     match words {
-        Ok(words) => run_given(rt, alloc, words.as_slice(), reader, writer, folder),
+        Ok(words) => {
+            wl_words::a_word_is_read_as_its_task();
+            run_given(rt, alloc, words.as_slice(), reader, writer, folder)
+        }
         Err(error) => {
             let refusal = unread(&error);
             say_unread(rt, refusal);
@@ -170,7 +168,7 @@ fn run_given<
         reader.old reader.new writer.old writer.new folder.old folder.new
         (map string_bytes words.now) (exit_status result) }
 {
-    match command::read(rt, alloc, words) {
+    match wl_words::read(rt, alloc, words) {
         Ok(order) => run_order(rt, alloc, &order, reader, writer, folder),
         Err(refusal) => refused(rt, refusal),
     }
@@ -318,6 +316,16 @@ fn thread_count<H: Threads>(rt: &H, said: Option<u8>) -> u8
     }
 }
 
+/// Returns what the words ask of a sweep, as its engine wants it.
+fn sweep_asked(swept: Swept) -> Asked
+    ensures { result ≡ sweep_asked swept }
+{
+    Asked {
+        options: swept.options,
+        worst: swept.worst,
+    }
+}
+
 /// Runs a sweep and writes what is found or its map, or writes one of its members.
 fn run_sweep<H: Threads + Sync + Eprint + Clock, R: Source, W: Sink>(
     rt: &H,
@@ -334,7 +342,7 @@ fn run_sweep<H: Threads + Sync + Eprint + Clock, R: Source, W: Sink>(
         Some(number) => of_print(print_run(
             alloc,
             work.ranges,
-            swept.asked,
+            sweep_asked(swept),
             number,
             reader,
             writer,
@@ -345,9 +353,25 @@ fn run_sweep<H: Threads + Sync + Eprint + Clock, R: Source, W: Sink>(
                 progress: work.progress,
             };
             if swept.page {
-                of_map(map_run(rt, alloc, work.ranges, swept.asked, workers, reader, writer))
+                of_map(map_run(
+                    rt,
+                    alloc,
+                    work.ranges,
+                    sweep_asked(swept),
+                    workers,
+                    reader,
+                    writer,
+                ))
             } else {
-                of_tally(sweep_run(rt, alloc, work.ranges, swept.asked, workers, reader, writer))
+                of_tally(sweep_run(
+                    rt,
+                    alloc,
+                    work.ranges,
+                    sweep_asked(swept),
+                    workers,
+                    reader,
+                    writer,
+                ))
             }
         }
     }
@@ -378,7 +402,7 @@ fn run_swept<H: Threads + Sync + Eprint + Clock, R: Source, W: Sink>(
                 rt,
                 alloc,
                 work.ranges,
-                swept.asked,
+                sweep_asked(swept),
                 share,
                 workers,
                 reader,

@@ -1,12 +1,12 @@
 //! Lines on standard error while a run takes long. No clause says any of it.
 
-use crate::command::{Order, Task};
 use std::alloc::{AllocError, Global};
 use std::sync::atomic::{AtomicBool, Ordering};
 use std::sync::{Arc, Wait};
 use std::thread;
 use std::thread::{JoinHandle, Parker, Threads};
 use std::time::{Clock, Duration, Instant};
+use wl_words::{Order, Task};
 
 /// How long a run takes before the first line, and how long after a line the next comes, at the earliest, in seconds.
 const PAUSE: u64 = 1;

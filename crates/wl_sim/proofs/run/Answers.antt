@@ -1,6 +1,6 @@
 -- A run by so many workers does what its task says.
 use Rattle.std.proofs.Common.{sym, subst, map, string_bytes}
-use Rattle.wl_sim.specs.declared.command.Task.{Task}
+use Rattle.wl_words.specs.declared.task.Task.{Task}
 use Rattle.wl_sim.specs.Tasks.{Does}
 use Rattle.wl_sim.proofs.run.Goals as goal
 

@@ -1,9 +1,9 @@
 use Rattle.std.proofs.Common.{subst, map, string_bytes, List}
 use Rattle.std.specs.Process.{exit_status}
 use Rattle.clap.specs.Words.{Text}
-use Rattle.wl_sim.specs.CommandLine.{NamesTask}
+use Rattle.wl_words.specs.CommandLine.{NamesTask}
 use Rattle.wl_sim.specs.Orders.{EndsPlainly, RunsWords}
-use Rattle.wl_sim.specs.declared.command.Task.{Task}
+use Rattle.wl_words.specs.declared.task.Task.{Task}
 use Rattle.wl_sim.proofs.Words.{of_ok, runs_named}
 use Rattle.wl_sim.proofs.run_words.Goals as goal
 
@@ -30,4 +30,4 @@ returns-in-Ok-clause-named g c =
     of_ok c.args.words c.in-Ok.words (λ given. (task : Task) → NamesTask task (map string_bytes given.items) → ends task) c.in-Ok.is (λ task named.
     runs_named g.R.Source.gives g.W.Sink.takes g.F.Reader.Source.gives g.F.Writer.Sink.takes g.F.Folder.opens g.F.Folder.stands g.F.Folder.holds
     c.args.reader.now c.run_given.new.reader c.args.writer.now c.run_given.new.writer c.args.folder.now c.run_given.new.folder
-    (map string_bytes c.in-Ok.words.items) (exit_status c.run_given.result) done task named)
+    (map string_bytes c.in-Ok.words.items) (exit_status c.run_given.result) c.a_word_is_read_as_its_task.ensures done task named)

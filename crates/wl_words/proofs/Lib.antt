@@ -1,0 +1,6 @@
+mod Alone
+mod Found
+mod Naming
+mod Rows
+mod Tabled
+mod Words
