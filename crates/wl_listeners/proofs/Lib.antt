@@ -1,3 +1,4 @@
 mod Parts
 mod Listeners
+mod Outcomes
 mod Rows

@@ -7,6 +7,7 @@ ghost use Rattle.wl_plan.specs.Line.{Line};
 ghost use Rattle.wl_plan.specs.PlanLine.{line_of, table_of};
 ghost use Rattle.wl_plan.specs.Simulation.{AreInside, changes_below, history, level, seen};
 ghost use Rattle.wl_plan.specs.Sound.{IsCausal};
+ghost use Rattle.wl_serial.specs.Outcome.{node_outcome_of};
 ghost use Rattle.wl_listeners.specs.Listeners.{IsWithoutLateNodes, IsWithoutListeners};
 ghost use Rattle.wl_listeners.specs.Parts.{IsPart};
 
@@ -41,6 +42,14 @@ pub fn listeners_change_nothing()
     wl_plan::checked_is_sound();
     wl_plan::simulation_laws();
     a_part_goes_as_in_the_whole();
+}
+
+/// Law: so a run shows of each node the same beside listeners and without them: what `run` reports of it.
+pub fn a_node_shows_the_same_beside_listeners()
+    ensures { (plan other : Plan) (at : ℕ → ℕ) → IsChecked plan → IsWithoutListeners other plan at
+        → (i : ℕ) → i < length other.nodes → node_outcome_of other i ≡ node_outcome_of plan (at i) }
+{
+    listeners_change_nothing();
 }
 
 /// Law: and nodes that power up late change nothing before. Take a plan, and one without nodes whose first quantum is at some tick or later. Up
