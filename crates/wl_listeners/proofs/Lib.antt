@@ -1,0 +1,4 @@
+mod Parts
+mod Listeners
+mod Outcomes
+mod Rows

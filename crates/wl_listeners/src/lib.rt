@@ -1,0 +1,4 @@
+//! Nodes that only listen change nothing: all others go as they would without them.
+#![tactic(auto)]
+
+pub mod laws;
