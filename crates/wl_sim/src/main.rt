@@ -338,40 +338,18 @@ fn run_sweep<H: Threads + Sync + Eprint + Clock, R: Source, W: Sink>(
     ensures { DoesSweep R.gives W.takes reader.old reader.new writer.old writer.new
         swept (map string_bytes work.entry.ranges.now) swept.print swept.page result }
 {
+    let asked = sweep_asked(swept);
     match swept.print {
-        Some(number) => of_print(print_run(
-            alloc,
-            work.ranges,
-            sweep_asked(swept),
-            number,
-            reader,
-            writer,
-        )),
+        Some(number) => { of_print(print_run(alloc, work.ranges, asked, number, reader, writer)) }
         None => {
             let workers = Workers {
                 count: thread_count(rt, swept.workers),
                 progress: work.progress,
             };
             if swept.page {
-                of_map(map_run(
-                    rt,
-                    alloc,
-                    work.ranges,
-                    sweep_asked(swept),
-                    workers,
-                    reader,
-                    writer,
-                ))
+                of_map(map_run(rt, alloc, work.ranges, asked, workers, reader, writer))
             } else {
-                of_tally(sweep_run(
-                    rt,
-                    alloc,
-                    work.ranges,
-                    sweep_asked(swept),
-                    workers,
-                    reader,
-                    writer,
-                ))
+                of_tally(sweep_run(rt, alloc, work.ranges, asked, workers, reader, writer))
             }
         }
     }
@@ -394,6 +372,7 @@ fn run_swept<H: Threads + Sync + Eprint + Clock, R: Source, W: Sink>(
     }
     match swept.part {
         Some(share) => {
+            let asked = sweep_asked(swept);
             let workers = Workers {
                 count: thread_count(rt, swept.workers),
                 progress: work.progress,
@@ -402,7 +381,7 @@ fn run_swept<H: Threads + Sync + Eprint + Clock, R: Source, W: Sink>(
                 rt,
                 alloc,
                 work.ranges,
-                sweep_asked(swept),
+                asked,
                 share,
                 workers,
                 reader,

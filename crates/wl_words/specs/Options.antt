@@ -45,10 +45,10 @@ abbrev pub with_row : App → SubcommandRow → App
 with_row a row = with_subcommand a (row_app row).top
 
 -- a row is that of a word, which names a subcommand
-abbrev pub IsRowOf : Text → SubcommandRow → Type 0
-IsRowOf word row = (row_app row ≡ subcommand_app word) × (is_task_word word ≡ true)
+abbrev pub IsTaskRow : Text → SubcommandRow → Type 0
+IsTaskRow word row = (row_app row ≡ subcommand_app word) × (is_task_word word ≡ true)
 
 -- each row is that of its word
-abbrev pub AreRows : List SubcommandRow → Type 0
-AreRows [] = Unit {0}
-AreRows (row ∷ rows) = IsRowOf row.word.now row × AreRows rows
+abbrev pub AreTaskRows : List SubcommandRow → Type 0
+AreTaskRows [] = Unit {0}
+AreTaskRows (row ∷ rows) = IsTaskRow row.word.now row × AreTaskRows rows

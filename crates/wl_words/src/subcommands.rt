@@ -3,7 +3,7 @@ ghost use Rattle.std.specs.Prelude.{◌≡◌, map, string_bytes, IfSome, IfOk, 
 ghost use Rattle.clap.specs.Words.{app_of};
 ghost use Rattle.clap.specs.declared.builder.command.Command.TheViews.{out-Command};
 ghost use Rattle.wl_words.specs.CommandLine.{FailsByMemory, MatchesWords, bare_program, input_rules, program, reads_nothing, with_rules};
-ghost use Rattle.wl_words.specs.Options.{AreRows, IsRowOf, row_app, with_row};
+ghost use Rattle.wl_words.specs.Options.{AreTaskRows, IsTaskRow, row_app, with_row};
 
 use crate::options::with_options;
 use crate::tables::{INPUTS, SHARED, SUBCOMMANDS, SubcommandRow};
@@ -100,8 +100,8 @@ fn command<'a>(alloc: Global) -> Result<Command<'a>, AllocError>
 
 /// Returns the row of a word, if it names a subcommand among these.
 fn row_of<'a>(rows: &'a [SubcommandRow], word: &str) -> Option<&'a SubcommandRow>
-    requires { AreRows rows.now }
-    ensures { IfSome result (λ row. IsRowOf word.now row.now) }
+    requires { AreTaskRows rows.now }
+    ensures { IfSome result (λ row. IsTaskRow word.now row.now) }
 {
     for row in rows {
         if row.word == word {
