@@ -13,6 +13,7 @@ mod Entries
 mod Paced
 mod Queues
 mod Rows
+pub mod Owned
 pub mod Saying
 mod Starting
 mod Tables

@@ -1,5 +1,5 @@
 -- How long the messages of a plan wait at most. This project's.
-use Rattle.std.specs.Prelude.{◌≡◌, ℕ, ◌<◌, ◌&&◌, nat_le, nat_lt, Bool, true, false, List, length, map, unwrap_or, if◌then◌else◌}
+use Rattle.std.specs.Prelude.{◌≡◌, ℕ, ◌<◌, ◌&&◌, nat_le, nat_lt, Bool, true, false, List, length, map, unwrap_or, if◌then◌else◌, Option, Some, None}
 use Rattle.wl_phase.specs.Clocks.{Steady, steady_timing}
 use Rattle.wl_node.specs.declared.setup.QueueOrder.{QueueOrder}
 use Rattle.wl_node.specs.declared.setup.QueueOrder.TheVariants.{Fifo, Priority}
@@ -7,20 +7,21 @@ use Rattle.wl_plan.specs.declared.plan.Plan.{Plan}
 use Rattle.wl_plan.specs.PlanLine.{setup_at}
 use Rattle.wl_setup.specs.declared.bus.Bus.{Bus}
 use Rattle.wl_setup.specs.declared.plan_text.PlanText.{PlanText}
-use Rattle.wl_margin.specs.declared.reasons.Asked.TheVariants.{ThisPlan}
 use Rattle.wl_bound.specs.Families.{Buses}
 use Rattle.wl_bound.specs.Rooms.{plain_bus}
+use Rattle.wl_respond.specs.declared.bounds.Waits.{Waits}
 use Rattle.wl_respond.specs.declared.message.MessageWait.{MessageWait}
-use Rattle.wl_respond.specs.Asks.{asked_of, message_in}
+use Rattle.wl_respond.specs.Asks.{message_in}
+use Rattle.wl_respond.specs.Bounds.{AreWaitsFor, asked_in}
 use Rattle.wl_respond.specs.Levels.{top_of}
 use Rattle.wl_respond.specs.Plans.{message_of}
 use Rattle.wl_respond.specs.Tests.{message_at}
-use Rattle.wl_respond.specs.Texts.{IsRespondText}
+use Rattle.wl_respond.specs.Texts.{IsTextOf}
 use Rattle.wl_buses.specs.FamilyPlans.FamilyStations.{stations_of}
 use Rattle.wl_buses.specs.CleanPlans.Clean.{AllGetThrough}
 use Rattle.wl_buses.specs.BoundedWaits.Bounds.{PassInTime, WaitInQuanta}
 use Rattle.wl_buses.specs.BoundedWaits.Messages.{Messages}
-use Rattle.wl_proved.specs.Words.{IsFamilyOf}
+use Rattle.wl_proved.specs.Words.{IsFamilyOfText}
 
 -- a queue is first in, first out
 abbrev pub is_fifo : QueueOrder → Bool
@@ -53,11 +54,14 @@ pub record HasBoundedWaits (f : Buses) (plan : Plan) (messages : List MessageWai
 
 -- the messages of a table as a plan's text asks them, with their bounds
 abbrev pub messages_asked : Buses → (any : Bool) → PlanText → List MessageWait → List MessageWait
-messages_asked f any plain table = map message_in (map (asked_of (plain_bus f) any plain) table)
+messages_asked f any plain table = map message_in (asked_in f any plain table)
 
--- On the plan of a bus no frame waits longer than the text of `respond` says.
+-- The text of `respond` is about waits of a bus of which no premise lacks. On its plan no frame waits longer than the text says.
 pub record HasBoundedText (tick : ℕ) (any : Bool) (plain : PlanText) (bus : Bus) (text : List ℕ) (met : Bool) : Type 0 where
   pub family : Buses
-  pub of : IsFamilyOf ThisPlan bus family
-  pub told : IsRespondText tick any plain bus family text met
-  pub waits : HasBoundedWaits family bus.plan (messages_asked family any plain told.0)
+  pub of : IsFamilyOfText plain bus family
+  pub figures : Waits
+  pub are : AreWaitsFor tick any plain bus family figures
+  pub told : IsTextOf bus.names (Some figures) text met
+  pub proved : figures.lacking ≡ None
+  pub waits : HasBoundedWaits family bus.plan (messages_asked family any plain are.0)

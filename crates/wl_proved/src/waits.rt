@@ -1,6 +1,6 @@
 //! What the test of a table of messages promises, proved as the contract of a function that does nothing.
 
-ghost use Rattle.std.specs.Prelude.{◌≡◌, ℕ, Bool, true, List, length};
+ghost use Rattle.std.specs.Prelude.{◌≡◌, ℕ, Bool, true, List, length, None};
 ghost use Rattle.wl_plan.specs.declared.plan.Plan.{Plan};
 ghost use Rattle.wl_setup.specs.declared.bus.Bus.{Bus};
 ghost use Rattle.wl_setup.specs.declared.plan_text.PlanText.{PlanText};
@@ -9,14 +9,16 @@ ghost use Rattle.wl_bound.specs.Decides.{leaves_room_to_decide};
 ghost use Rattle.wl_bound.specs.Families.{Buses};
 ghost use Rattle.wl_bound.specs.Rooms.{leaves_room, plain_bus};
 ghost use Rattle.wl_bound.specs.declared.condition.Senders.TheVariants.{Any};
+ghost use Rattle.wl_respond.specs.declared.bounds.Waits.{Waits};
 ghost use Rattle.wl_respond.specs.declared.message.MessageWait.{MessageWait};
+ghost use Rattle.wl_respond.specs.Bounds.{AreWaitsFor};
 ghost use Rattle.wl_respond.specs.Levels.{has_levels};
 ghost use Rattle.wl_respond.specs.Plans.{KeepsTable};
 ghost use Rattle.wl_respond.specs.Tests.{pass};
-ghost use Rattle.wl_respond.specs.Texts.{IsRespondText, IsTextOfBus};
+ghost use Rattle.wl_respond.specs.Texts.{IsTextOfBus};
 ghost use Rattle.wl_proved.specs.PlansOfFamily.{IsPlanOfFamily, IsRunnable};
 ghost use Rattle.wl_proved.specs.Waits.{HasBoundedText, HasBoundedWaits, messages_asked};
-ghost use Rattle.wl_proved.specs.Words.{SaysBounded};
+ghost use Rattle.wl_proved.specs.Words.{IsFamilyOfText, SaysBounded};
 
 /// Law: let a table of messages pass its test. Take a plan of the family whose queues have frames of these messages. Let each message have
 /// the level that its queue gives it, first in, first out or by priority. Then no frame waits longer than its message says, whatever the
@@ -37,15 +39,20 @@ pub fn respond_law()
     wl_buses::bounded_waits::laws::waits_are_bounded();
 }
 
-/// Law: let the first line of a text of `respond` be 'proved: waits_are_bounded'. On each plan of the family that keeps the text's table of
-/// messages no frame waits longer than its message says there. The plan that the text is about is such a plan.
+/// Law: take waits of a bus of which no premise lacks. On each plan of their family that keeps their table of messages no frame waits longer
+/// than its message says there. The plan of the bus is such a plan. A text of `respond` whose first line is 'proved: waits_are_bounded' is
+/// about such waits.
 pub fn respond_means_bounded()
-    ensures any { (tick : ℕ) (any : Bool) (plain : PlanText) (bus : Bus) (f : Buses) (text : List ℕ) (met : Bool)
-        (told : IsRespondText tick any plain bus f text met) → SaysBounded bus.names text
-        → (plan : Plan) → IsPlanOfFamily f plan → KeepsTable plan (messages_asked f any plain told.0)
-        → has_levels plan (messages_asked f any plain told.0) ≡ true
-        → HasBoundedWaits f plan (messages_asked f any plain told.0) }
-    ensures own { (tick : ℕ) (any : Bool) (plain : PlanText) (bus : Bus) (text : List ℕ) (met : Bool)
+    ensures any { (tick : ℕ) (any : Bool) (plain : PlanText) (bus : Bus) (f : Buses) (w : Waits)
+        (are : AreWaitsFor tick any plain bus f w) → w.lacking ≡ None
+        → (plan : Plan) → IsPlanOfFamily f plan → KeepsTable plan (messages_asked f any plain are.0)
+        → has_levels plan (messages_asked f any plain are.0) ≡ true
+        → HasBoundedWaits f plan (messages_asked f any plain are.0) }
+    ensures own { (tick : ℕ) (any : Bool) (plain : PlanText) (bus : Bus) (f : Buses) (w : Waits)
+        (are : AreWaitsFor tick any plain bus f w) → w.lacking ≡ None → IsFamilyOfText plain bus f
+        → IsRunnable bus.plan → length bus.deviations ≡ length bus.plan.nodes
+        → HasBoundedWaits f bus.plan (messages_asked f any plain are.0) }
+    ensures text { (tick : ℕ) (any : Bool) (plain : PlanText) (bus : Bus) (text : List ℕ) (met : Bool)
         → IsTextOfBus tick any plain bus text met → SaysBounded bus.names text
         → IsRunnable bus.plan → length bus.deviations ≡ length bus.plan.nodes
         → HasBoundedText tick any plain bus text met }

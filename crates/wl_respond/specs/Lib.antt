@@ -6,6 +6,7 @@ pub mod Levels
 pub mod Premises
 pub mod Asks
 pub mod Tables
+pub mod Senders
 pub mod Parts
 pub mod Bounds
 pub mod Texts

@@ -15,6 +15,7 @@ mod plan;
 mod premise;
 mod row;
 mod search;
+mod senders;
 mod table;
 mod text;
 mod verdict;

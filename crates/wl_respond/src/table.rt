@@ -118,7 +118,7 @@ fn see_texts(
 
 /// Returns the messages of a plan with this text, before their numbers are known: those of its queues, by nodes, each in the order of its first
 /// frame, and after them those that no queue has before the plan's end. Refused only when out of memory.
-fn messages_of(
+pub(crate) fn messages_of(
     alloc: Global,
     plan: &CheckedPlan,
     text: &PlanText,

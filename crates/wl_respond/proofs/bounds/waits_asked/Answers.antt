@@ -1,6 +1,8 @@
 use Rattle.std.proofs.Common.{◌≡◌, ◌∙◌, Some, ap, length, sym}
 use Rattle.wl_margin.specs.Margins.{paces_of}
-use Rattle.wl_margin.proofs.Callers.{members-length, paces-length}
+use Rattle.wl_margin.proofs.Callers.{paces-length}
+use Rattle.wl_respond.specs.Tables.{messages_of}
+use Rattle.wl_respond.proofs.Sending.{family-length}
 use Rattle.wl_respond.proofs.bounds.waits_asked.Goals as goal
 
 -- as many oscillators as there are nodes
@@ -12,4 +14,4 @@ waits_with-requires-clause-oscillators c =
 
 pub waits_with-requires-clause-members : goal.waits_with-requires-clause-members
 waits_with-requires-clause-members c =
-    members-length c.args.bus.now.plan.nodes c.as_slice-in-Some.result.now (waits_with-requires-clause-oscillators c)
+    family-length c.args.bus.now.plan c.as_slice-in-Some.result.now (messages_of c.args.bus.now.plan c.args.plain.now) (waits_with-requires-clause-oscillators c)
