@@ -1,6 +1,6 @@
 -- The plan that is judged, as one of its family.
 use Rattle.std.proofs.Common.{◌≡◌, ◌∙◌, refl, sym, ap, ℕ, zero, suc, ◌+◌, ◌<◌, Bool, List, [], ◌∷◌, get_or, length, true, Option, Some, None, arith}
-use Rattle.std.specs.Prelude.{◌==◌, is_some, nat_lt}
+use Rattle.std.specs.Prelude.{◌==◌, is_some}
 use Rattle.std.proofs.lemmas.Bool.{and_parts, eq-eqb, eqb-true, ltb-true}
 use Rattle.wl_level.proofs.Callers.{first_is, first_none}
 use Rattle.wl_node.specs.declared.setup.NodeSetup.{NodeSetup}
@@ -16,8 +16,8 @@ use Rattle.wl_bound.specs.declared.family.Member.{Member}
 use Rattle.wl_margin.specs.Paces.{keep_pace}
 use Rattle.wl_margin.proofs.Callers.{members-length}
 use Rattle.wl_respond.specs.declared.message.MessageWait.{MessageWait}
-use Rattle.wl_respond.specs.Plans.{KeepsTable, entry_at, is_message, message_of}
-use Rattle.wl_respond.specs.Senders.{family_of_text, family_with, first_from, is_from, is_sender, sending_by}
+use Rattle.wl_respond.specs.Plans.{KeepsTable, entry_at, is_message}
+use Rattle.wl_respond.specs.Senders.{family_with, first_from, is_from, is_sender, sending_by}
 use Rattle.wl_respond.specs.Tables.{IsTable, messages_of}
 use Rattle.wl_respond.specs.Tests.{message_at}
 use Rattle.wl_respond.proofs.Sending.{family-length}

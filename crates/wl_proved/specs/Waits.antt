@@ -1,5 +1,5 @@
 -- How long the messages of a plan wait at most. This project's.
-use Rattle.std.specs.Prelude.{◌≡◌, ℕ, ◌<◌, ◌&&◌, nat_le, nat_lt, Bool, true, false, List, length, map, unwrap_or, if◌then◌else◌, Option, Some, None}
+use Rattle.std.specs.Prelude.{◌≡◌, ℕ, ◌<◌, ◌&&◌, nat_le, nat_lt, Bool, true, false, List, length, map, unwrap_or, if◌then◌else◌, Some, None}
 use Rattle.wl_phase.specs.Clocks.{Steady, steady_timing}
 use Rattle.wl_node.specs.declared.setup.QueueOrder.{QueueOrder}
 use Rattle.wl_node.specs.declared.setup.QueueOrder.TheVariants.{Fifo, Priority}

@@ -1,5 +1,5 @@
 -- A plan on which one frame waits at each node with a message: it can be run, and its family is that of the messages.
-use Rattle.std.proofs.Common.{◌≡◌, refl, ap, ℕ, zero, suc, ◌+◌, ◌<◌, ◌≤◌, List, [], ◌∷◌, length, All, Bool, Option, Some, None, arith}
+use Rattle.std.proofs.Common.{◌≡◌, refl, ap, ℕ, suc, ◌≤◌, List, [], ◌∷◌, length, All, Bool, Option, Some, None, arith}
 use Rattle.std.specs.Prelude.{is_some, nat_lt}
 use Rattle.wl_node.specs.declared.setup.NodeSetup.{NodeSetup}
 use Rattle.wl_plan.specs.declared.plan.Plan.{Plan}
@@ -7,12 +7,12 @@ use Rattle.wl_plan.specs.Checked.{HasFewQuanta, IsChecked}
 use Rattle.wl_plan.specs.Limits.{most_queued}
 use Rattle.wl_clock.specs.Timing.{IsTiming}
 use Rattle.wl_segments.specs.Lengths.{AreLengths}
-use Rattle.wl_bound.specs.Families.{family_of, member_of, members_of}
+use Rattle.wl_bound.specs.Families.{family_of, members_of}
 use Rattle.wl_bound.specs.Oscillators.{Pace}
 use Rattle.wl_bound.specs.declared.family.Member.{Member}
 use Rattle.wl_margin.proofs.Callers.{members-length}
 use Rattle.wl_respond.specs.declared.message.MessageWait.{MessageWait}
-use Rattle.wl_respond.specs.Senders.{family_with, first_from, frame_by, is_sender, one_frame, senders, sending_by, sending_plan, with_one_frame}
+use Rattle.wl_respond.specs.Senders.{family_with, first_from, frame_by, is_sender, senders, sending_by, sending_plan, with_one_frame}
 
 module _ (messages : List MessageWait) where
   pub senders-length : (i : ℕ) (nodes : List NodeSetup) → length (senders messages i nodes) ≡ length nodes
