@@ -68,8 +68,8 @@ class Bus:
         self.sample = [1 + x["prop"] + x["ps1"] for x in nodes]
         self.bits = [s + x["ps2"] for s, x in zip(self.sample, nodes)]
         self.d = [[T * (a["out"] + abs(a["x"] - b["x"]) * plan["per"] + b["in"]) for b in nodes] for a in nodes]
-        # A node whose frames all come after the plan's end sends none.
-        sends, others = [any(x["offset"] + f["ready"] * x["quantum"] < plan["end"] for f in x.get("frame", [])) for x in nodes], lambda k: [j for j in range(self.n) if j != k]
+        # A node with frames is a sender, even if they come after the plan's end.
+        sends, others = [bool(x.get("frame")) for x in nodes], lambda k: [j for j in range(self.n) if j != k]
 
         def way(k, i):
             late = self.d[k][i] + self.d[i][k] if sends[k] else 0

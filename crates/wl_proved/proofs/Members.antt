@@ -17,7 +17,7 @@ use Rattle.wl_margin.specs.Paces.{keep_pace}
 use Rattle.wl_margin.proofs.Callers.{members-length}
 use Rattle.wl_respond.specs.declared.message.MessageWait.{MessageWait}
 use Rattle.wl_respond.specs.Plans.{KeepsTable, entry_at, is_message}
-use Rattle.wl_respond.specs.Senders.{family_with, first_from, is_from, is_sender, sending_by}
+use Rattle.wl_respond.specs.Senders.{family_with, first_of_node, is_of_node, is_sender, sending_by}
 use Rattle.wl_respond.specs.Tables.{IsTable, messages_of}
 use Rattle.wl_respond.specs.Tests.{message_at}
 use Rattle.wl_respond.proofs.Sending.{family-length}
@@ -78,10 +78,10 @@ module _ (f : Buses) (any : Bool) (plain : PlanText) where
   asked_node (x ∷ later) (suc e) less = let rest = asked_node later e (omega arith) in (let below = rest.0 in omega arith, rest.1)
 
   is_found : (messages : List MessageWait) (i e : ℕ) → e < length messages → (message_at messages e).node ≡ i → is_sender messages i ≡ true
-  is_found messages i e less node = by (first_from messages i) refl
+  is_found messages i e less node = by (first_of_node messages i) refl
     where
-      by : (o : Option ℕ) → first_from messages i ≡ o → is_some (first_from messages i) ≡ true
-      by None none = (let no = first_none (is_from messages i) (length messages) none e less in let yes = eq-eqb (message_at messages e).node i node in cc)
+      by : (o : Option ℕ) → first_of_node messages i ≡ o → is_some (first_of_node messages i) ≡ true
+      by None none = (let no = first_none (is_of_node messages i) (length messages) none e less in let yes = eq-eqb (message_at messages e).node i node in cc)
       by (Some k) some = ap is_some some
 
   pub senders_have : (plan : Plan) (text : PlanText) (table : List MessageWait) → IsTable plan text table → KeepsTable plan (messages_asked f any plain table)

@@ -18,7 +18,7 @@ use Rattle.wl_respond.specs.declared.message.MessageWait.{MessageWait}
 use Rattle.wl_respond.specs.Bounds.{AreWaitsBy, AreWaitsFor, asked_in}
 use Rattle.wl_respond.specs.Levels.{has_levels}
 use Rattle.wl_respond.specs.Plans.{KeepsTable}
-use Rattle.wl_respond.specs.Senders.{family_of_text}
+use Rattle.wl_respond.specs.Senders.{family_with_text}
 use Rattle.wl_respond.specs.Tables.{messages_of}
 use Rattle.wl_respond.specs.Tests.{pass}
 use Rattle.wl_respond.specs.Texts.{IsTextOf, IsTextOfBus}
@@ -60,14 +60,14 @@ module _ (places : PlaceLaws) (law : TableLaw) (tick : ℕ) (any : Bool) (text :
       by_clocks (Some paces) e found is told bounded =
           let lines : IsTextOf bus.names (Some is.0) said met = subst (λ (x : Option Waits). IsTextOf bus.names x said met) is.1 told in
           let none = proved_waits bus.names is.0 said lines.0 bounded in
-          let family : IsFamilyOfText text bus (family_of_text bus.plan text paces) = (paces, e, refl) in record {
-            family = family_of_text bus.plan text paces;
+          let family : IsFamilyOfText text bus (family_with_text bus.plan text paces) = (paces, e, refl) in record {
+            family = family_with_text bus.plan text paces;
             of = family;
             figures = is.0;
             are = is.2;
             told = lines;
             proved = none;
-            waits = own_waits (family_of_text bus.plan text paces) is.0 is.2 none family;
+            waits = own_waits (family_with_text bus.plan text paces) is.0 is.2 none family;
           }
 
       pub text_waits : IsTextOfBus tick any text bus said met → SaysBounded bus.names said → HasBoundedText tick any text bus said met

@@ -6,7 +6,7 @@ use Rattle.wl_bound.specs.Families.{Buses, family_of}
 use Rattle.wl_bound.specs.Oscillators.{Pace}
 use Rattle.wl_margin.specs.declared.reasons.Asked.{Asked}
 use Rattle.wl_margin.specs.Margins.{any_lead, family_asked, one_lead, paces_of, senders_words}
-use Rattle.wl_respond.specs.Senders.{family_of_text}
+use Rattle.wl_respond.specs.Senders.{family_with_text}
 use Rattle.wl_respond.specs.Texts.{lacking_words}
 
 -- the family that is judged: the nodes of a bus with the oscillators of its text
@@ -15,7 +15,7 @@ IsFamilyOf asked bus f = (paces : List Pace) × (paces_of bus.deviations ≡ Som
 
 -- the family of which `respond` tells the waits: of these nodes each one sends that has a message
 abbrev pub IsFamilyOfText : PlanText → Bus → Buses → Type 0
-IsFamilyOfText plain bus f = (paces : List Pace) × (paces_of bus.deviations ≡ Some paces) × (f ≡ family_of_text bus.plan plain paces)
+IsFamilyOfText plain bus f = (paces : List Pace) × (paces_of bus.deviations ≡ Some paces) × (f ≡ family_with_text bus.plan plain paces)
 
 -- The first line says 'proved' for any senders of the family; for one sender at a time.
 abbrev pub IsProvedForAny : Buses → List (List ℕ) → List ℕ → Type 0

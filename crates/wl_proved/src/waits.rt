@@ -39,9 +39,9 @@ pub fn respond_law()
     wl_buses::bounded_waits::laws::waits_are_bounded();
 }
 
-/// Law: take waits of a bus of which no premise lacks. On each plan of their family that keeps their table of messages no frame waits longer
-/// than its message says there. The plan of the bus is such a plan. A text of `respond` whose first line is 'proved: waits_are_bounded' is
-/// about such waits.
+/// Law: let no premise of the waits of a bus lack. On each plan of their family that keeps their table of messages no frame waits longer than
+/// its message says there. The plan of the bus is such a plan. If the first line of a text of `respond` is 'proved: waits_are_bounded', the
+/// text is about such waits.
 pub fn respond_means_bounded()
     ensures any { (tick : ℕ) (any : Bool) (plain : PlanText) (bus : Bus) (f : Buses) (w : Waits)
         (are : AreWaitsFor tick any plain bus f w) → w.lacking ≡ None

@@ -12,7 +12,7 @@ use Rattle.wl_bound.specs.Oscillators.{Pace}
 use Rattle.wl_bound.specs.declared.family.Member.{Member}
 use Rattle.wl_margin.proofs.Callers.{members-length}
 use Rattle.wl_respond.specs.declared.message.MessageWait.{MessageWait}
-use Rattle.wl_respond.specs.Senders.{family_with, first_from, frame_by, is_sender, senders, sending_by, sending_plan, with_one_frame}
+use Rattle.wl_respond.specs.Senders.{family_with, first_of_node, entry_by, is_sender, senders, sending_by, sending_plan, with_one_entry}
 
 module _ (messages : List MessageWait) where
   pub senders-length : (i : ℕ) (nodes : List NodeSetup) → length (senders messages i nodes) ≡ length nodes
@@ -20,20 +20,20 @@ module _ (messages : List MessageWait) where
   senders-length i (node ∷ later) = ap suc (senders-length (suc i) later)
 
   -- what clocks and segments keep
-  all_keep : (P : NodeSetup → Type 0) → ((i : ℕ) (node : NodeSetup) → P node → P (with_one_frame messages i node)) → (i : ℕ) (nodes : List NodeSetup) → All P nodes
+  all_keep : (P : NodeSetup → Type 0) → ((i : ℕ) (node : NodeSetup) → P node → P (with_one_entry messages i node)) → (i : ℕ) (nodes : List NodeSetup) → All P nodes
       → All P (senders messages i nodes)
   all_keep P keep i [] all = tt
   all_keep P keep i (node ∷ later) all = (keep i node all.0, all_keep P keep (suc i) later all.1)
 
-  all_have : (P : NodeSetup → Type 0) → ((i : ℕ) (node : NodeSetup) → P (with_one_frame messages i node)) → (i : ℕ) (nodes : List NodeSetup) → All P (senders messages i nodes)
+  all_have : (P : NodeSetup → Type 0) → ((i : ℕ) (node : NodeSetup) → P (with_one_entry messages i node)) → (i : ℕ) (nodes : List NodeSetup) → All P (senders messages i nodes)
   all_have P has i [] = tt
   all_have P has i (node ∷ later) = (has i node, all_have P has (suc i) later)
 
-  one_most : (o : Option ℕ) → length (frame_by messages o) ≤ 1
+  one_most : (o : Option ℕ) → length (entry_by messages o) ≤ 1
   one_most None = omega arith
   one_most (Some e) = omega arith
 
-  some_sends : (o : Option ℕ) → nat_lt 0 (length (frame_by messages o)) ≡ is_some o
+  some_sends : (o : Option ℕ) → nat_lt 0 (length (entry_by messages o)) ≡ is_some o
   some_sends None = refl
   some_sends (Some e) = refl
 
@@ -51,7 +51,7 @@ module _ (messages : List MessageWait) where
         placed = omega arith;
         ends = omega arith;
         few_quanta = all_have (HasFewQuanta 0) (λ i node k less. absurd (omega arith)) 0 plan.nodes;
-        short_queues = all_have (λ node. length node.queue ≤ most_queued) (λ i node. (let most = one_most (first_from messages i) in omega arith)) 0 plan.nodes;
+        short_queues = all_have (λ node. length node.queue ≤ most_queued) (λ i node. (let most = one_most (first_of_node messages i) in omega arith)) 0 plan.nodes;
         few_disturbances = omega arith;
         disturbances = tt;
       }
@@ -61,7 +61,7 @@ module _ (messages : List MessageWait) where
   members_same i [] paces = refl
   members_same i (node ∷ later) [] = refl
   members_same i (node ∷ later) (pace ∷ paces) =
-      let sends = some_sends (first_from messages i) in
+      let sends = some_sends (first_of_node messages i) in
       λ k. record { oscillator = pace; segments = node.segments; sends = sends k } ∷ members_same (suc i) later paces k
 
   pub family_same : (plan : Plan) (paces : List Pace) → family_of (sending_plan plan messages) paces ≡ family_with plan paces messages

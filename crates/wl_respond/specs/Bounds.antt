@@ -16,7 +16,7 @@ use Rattle.wl_respond.specs.declared.parts.Line.{Line}
 use Rattle.wl_respond.specs.Asks.{asked_of, has_no_period, message_in, once}
 use Rattle.wl_respond.specs.Parts.{load_at_most, told_line}
 use Rattle.wl_respond.specs.Premises.{FirstLack}
-use Rattle.wl_respond.specs.Senders.{family_of_text}
+use Rattle.wl_respond.specs.Senders.{family_with_text}
 use Rattle.wl_respond.specs.Tables.{IsTable}
 use Rattle.wl_respond.specs.Tests.{pass, row_for}
 
@@ -48,7 +48,7 @@ AreWaitsFor tick any plain bus f w =
 abbrev pub AreWaitsBy : ℕ → Bool → PlanText → Bus → Option (List Pace) → Option Waits → Type 0
 AreWaitsBy tick any plain bus None found = found ≡ None
 AreWaitsBy tick any plain bus (Some paces) found =
-    (w : Waits) × (found ≡ Some w) × AreWaitsFor tick any plain bus (family_of_text bus.plan plain paces) w
+    (w : Waits) × (found ≡ Some w) × AreWaitsFor tick any plain bus (family_with_text bus.plan plain paces) w
 
 -- the waits of a bus, for ticks of so many picoseconds; none if the rates without `ppm` make no clocks
 abbrev pub AreWaitsOf : ℕ → Bool → PlanText → Bus → Option Waits → Type 0
@@ -66,7 +66,7 @@ AreDueWaits tick plain bus f (Some w) = AreWaitsFor tick false plain bus f w
 abbrev pub AreWaitsOfPaces : ℕ → PlanText → Bus → Option (List Pace) → Option Waits → Type 0
 AreWaitsOfPaces tick plain bus None None = Unit {0}
 AreWaitsOfPaces tick plain bus None (Some w) = ⊥
-AreWaitsOfPaces tick plain bus (Some paces) waits = AreDueWaits tick plain bus (family_of_text bus.plan plain paces) waits
+AreWaitsOfPaces tick plain bus (Some paces) waits = AreDueWaits tick plain bus (family_with_text bus.plan plain paces) waits
 
 abbrev pub AreWaitsOfBus : ℕ → PlanText → Bus → Option Waits → Type 0
 AreWaitsOfBus tick plain bus waits = AreWaitsOfPaces tick plain bus (paces_of bus.deviations) waits

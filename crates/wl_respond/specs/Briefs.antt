@@ -26,13 +26,13 @@ abbrev pub bound_in : Option Parts → ℕ
 bound_in None = 0
 bound_in (Some p) = p.bound
 
-abbrev pub bound_at : List Line → ℕ → ℕ
-bound_at lines e = bound_in (told_line_at lines e).parts
+abbrev pub bound_of_line : List Line → ℕ → ℕ
+bound_of_line lines e = bound_in (told_line_at lines e).parts
 
 -- the first of the messages that wait longest, of those below a number
 abbrev pub longer_wait : List Line → Option ℕ → ℕ → Option ℕ
 longer_wait lines None e = Some e
-longer_wait lines (Some k) e = if nat_lt (bound_at lines k) (bound_at lines e) then Some e else Some k
+longer_wait lines (Some k) e = if nat_lt (bound_of_line lines k) (bound_of_line lines e) then Some e else Some k
 
 abbrev pub longest_below : List Line → ℕ → Option ℕ
 longest_below lines zero = None
@@ -50,7 +50,7 @@ longest_line names a bound = longest_head bound ++ id_words a.message ++ longest
 
 abbrev pub longest_at : List (List ℕ) → List Asked → List Line → Option ℕ → List ℕ
 longest_at names asked lines None = []
-longest_at names asked lines (Some e) = longest_line names (asked_at asked e) (bound_at lines e)
+longest_at names asked lines (Some e) = longest_line names (asked_at asked e) (bound_of_line lines e)
 
 abbrev pub longest_words : List (List ℕ) → List Asked → List Line → (shown : Bool) → List ℕ
 longest_words names asked lines true = longest_at names asked lines (longest_below lines (length lines))

@@ -13,14 +13,14 @@ use Rattle.wl_respond.specs.Tables.{messages_of}
 use Rattle.wl_respond.specs.Tests.{message_at}
 
 -- message e is of node i; the first such; and whether there is one
-abbrev pub is_from : List MessageWait → (i e : ℕ) → Bool
-is_from messages i e = (message_at messages e).node == i
+abbrev pub is_of_node : List MessageWait → (i e : ℕ) → Bool
+is_of_node messages i e = (message_at messages e).node == i
 
-abbrev pub first_from : List MessageWait → ℕ → Option ℕ
-first_from messages i = first_place (is_from messages i) (length messages)
+abbrev pub first_of_node : List MessageWait → ℕ → Option ℕ
+first_of_node messages i = first_place (is_of_node messages i) (length messages)
 
 abbrev pub is_sender : List MessageWait → ℕ → Bool
-is_sender messages i = is_some (first_from messages i)
+is_sender messages i = is_some (first_of_node messages i)
 
 -- the same nodes, from node i on, by whether each sends
 abbrev pub sending_by : (ℕ → Bool) → ℕ → List Member → List Member
@@ -30,23 +30,23 @@ sending_by senders i (member ∷ later) = record member { sends = senders i } �
 abbrev pub family_with : Plan → List Pace → List MessageWait → Buses
 family_with plan paces messages = record { members = sending_by (is_sender messages) 0 (members_of plan.nodes paces); cable = plan.topology }
 
-abbrev pub family_of_text : Plan → PlanText → List Pace → Buses
-family_of_text plan text paces = family_with plan paces (messages_of plan text)
+abbrev pub family_with_text : Plan → PlanText → List Pace → Buses
+family_with_text plan text paces = family_with plan paces (messages_of plan text)
 
 -- So it is the family of a plan on which one frame waits at each of these nodes.
-abbrev pub frame_by : List MessageWait → Option ℕ → List Queued
-frame_by messages None = []
-frame_by messages (Some e) = record { frame = (message_at messages e).frame; ready = 0 } ∷ []
+abbrev pub entry_by : List MessageWait → Option ℕ → List Queued
+entry_by messages None = []
+entry_by messages (Some e) = record { frame = (message_at messages e).frame; ready = 0 } ∷ []
 
-abbrev pub one_frame : List MessageWait → ℕ → List Queued
-one_frame messages i = frame_by messages (first_from messages i)
+abbrev pub one_entry : List MessageWait → ℕ → List Queued
+one_entry messages i = entry_by messages (first_of_node messages i)
 
-abbrev pub with_one_frame : List MessageWait → ℕ → NodeSetup → NodeSetup
-with_one_frame messages i node = record node { queue = one_frame messages i }
+abbrev pub with_one_entry : List MessageWait → ℕ → NodeSetup → NodeSetup
+with_one_entry messages i node = record node { queue = one_entry messages i }
 
 abbrev pub senders : List MessageWait → ℕ → List NodeSetup → List NodeSetup
 senders messages i [] = []
-senders messages i (node ∷ later) = with_one_frame messages i node ∷ senders messages (suc i) later
+senders messages i (node ∷ later) = with_one_entry messages i node ∷ senders messages (suc i) later
 
 abbrev pub sending_plan : Plan → List MessageWait → Plan
 sending_plan plan messages = record { nodes = senders messages 0 plan.nodes; topology = plan.topology; disturbances = []; end = 0 }

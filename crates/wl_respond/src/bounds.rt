@@ -3,7 +3,7 @@ ghost use Rattle.std.specs.Prelude.{◌≡◌, ◌<◌, ◌^◌, List, Some, len
 ghost use Rattle.std.specs.List.{list_any};
 ghost use Rattle.wl_bound.specs.Rooms.{plain_bus};
 ghost use Rattle.wl_respond.specs.Bounds.{AreDueWaits, AreWaits, AreWaitsFor, AreWaitsOf, AreWaitsOfBus, asked_in, is_due, lines_shown};
-ghost use Rattle.wl_respond.specs.Senders.{family_of_text};
+ghost use Rattle.wl_respond.specs.Senders.{family_with_text};
 ghost use Rattle.wl_respond.specs.Tables.{AreSameButBounds, IsBounded, IsTable};
 ghost use Rattle.wl_respond.specs.declared.message.MessageWait.{MessageWait};
 
@@ -13,7 +13,7 @@ use crate::message::{MessageWait, pass, rows};
 use crate::parts::{Case, Line, lines_of, load_at_most};
 use crate::premise::{Lacking, first_lacking};
 use crate::search::bounds_of;
-use crate::senders::family_of_text;
+use crate::senders::family_with_text;
 use crate::table::{ONCE, table_of};
 use crate::verdict::first_jittered;
 use std::alloc::{AllocError, Global};
@@ -194,13 +194,13 @@ fn waits_with(
     requires tick { question.tick < 2 ^ 36 }
     requires deviations { length bus.now.deviations ≡ length bus.now.plan.nodes }
     requires oscillators { length oscillators.now ≡ length bus.now.plan.nodes }
-    requires members { length (family_of_text bus.now.plan plain.now oscillators.now).members
+    requires members { length (family_with_text bus.now.plan plain.now oscillators.now).members
         ≡ length bus.now.plan.nodes }
     ensures waits { IfOk result (AreWaitsFor question.tick question.any_data plain.now bus.now
-        (family_of_text bus.now.plan plain.now oscillators.now)) }
+        (family_with_text bus.now.plan plain.now oscillators.now)) }
     ensures lines { IfOk result (λ w. length w.asked ≡ length w.lines) }
 {
-    let family = family_of_text(alloc, &bus.plan, plain, oscillators)?;
+    let family = family_with_text(alloc, &bus.plan, plain, oscillators)?;
     waits_searched(alloc, question, plain, bus, &family)
 }
 
@@ -265,14 +265,14 @@ fn waits_for(
     requires tick { tick < 2 ^ 36 }
     requires deviations { length bus.now.deviations ≡ length bus.now.plan.nodes }
     requires oscillators { length oscillators.now ≡ length bus.now.plan.nodes }
-    requires members { length (family_of_text bus.now.plan plain.now oscillators.now).members
+    requires members { length (family_with_text bus.now.plan plain.now oscillators.now).members
         ≡ length bus.now.plan.nodes }
     ensures waits { IfOk result (AreDueWaits tick plain.now bus.now
-        (family_of_text bus.now.plan plain.now oscillators.now)) }
+        (family_with_text bus.now.plan plain.now oscillators.now)) }
     ensures lines { IfOk result (λ waits. IfSome waits (λ w. length w.asked ≡ length w.lines)) }
     ensures jittered { IfOk result (λ waits. IfSome waits (λ w. IfSome w.jittered (λ e. e < length w.asked))) }
 {
-    let family = family_of_text(alloc, &bus.plan, plain, oscillators)?;
+    let family = family_with_text(alloc, &bus.plan, plain, oscillators)?;
     let asked = asked_of_plan(alloc, plain, bus, &family)?;
     if !any_due(asked.as_slice()) {
         return Ok(None);

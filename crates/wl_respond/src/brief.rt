@@ -1,7 +1,7 @@
 //! How long the messages of a bus may wait, in three lines.
 ghost use Rattle.std.specs.Prelude.{◌≡◌, ◌<◌, ◌≤◌, ◌^◌, length, string_bytes, IfOk, IfSome, OnOk};
 ghost use Rattle.wl_report.specs.Lines.{GrowsBy};
-ghost use Rattle.wl_respond.specs.Briefs.{IsBriefOfBus, bound_at, bound_in, brief_of, brief_words, comes_again, cyclic_words, is_cyclic, longer_wait, longest_below, longest_head, longest_line, longest_tail, longest_words};
+ghost use Rattle.wl_respond.specs.Briefs.{IsBriefOfBus, bound_of_line, bound_in, brief_of, brief_words, comes_again, cyclic_words, is_cyclic, longer_wait, longest_below, longest_head, longest_line, longest_tail, longest_words};
 
 use crate::asked::Asked;
 use crate::bounds::{Question, Waits, waits_asked};
@@ -44,9 +44,9 @@ fn bound_in(parts: Option<Parts>) -> u128
 }
 
 /// Returns the bound of message `e`.
-fn bound_at(lines: &[Line], e: usize) -> u128
+fn bound_of_line(lines: &[Line], e: usize) -> u128
     requires { e < length lines.now }
-    ensures { result ≡ bound_at lines.now e }
+    ensures { result ≡ bound_of_line lines.now e }
 {
     bound_in(lines[e].parts)
 }
@@ -61,7 +61,7 @@ fn longer_wait(lines: &[Line], first: Option<usize>, e: usize) -> Option<usize>
     match first {
         None => Some(e),
         Some(k) => {
-            if bound_at(lines, k) < bound_at(lines, e) {
+            if bound_of_line(lines, k) < bound_of_line(lines, e) {
                 Some(e)
             } else {
                 Some(k)
@@ -127,7 +127,7 @@ fn push_longest(
     }
     match longest(lines) {
         None => Ok(()),
-        Some(e) => push_longest_line(text, names, &asked[e], bound_at(lines, e)),
+        Some(e) => push_longest_line(text, names, &asked[e], bound_of_line(lines, e)),
     }
 }
 

@@ -1,6 +1,6 @@
 //! The family of a plan and its text: each node sends that has a message, before the plan's end or later.
 ghost use Rattle.std.specs.Prelude.{◌≡◌, ◌+◌, ◌<◌, ◌≤◌, ◌++◌, length, IfOk, IfSome, OnOk};
-ghost use Rattle.wl_respond.specs.Senders.{family_of_text, first_from, is_from, one_frame, senders, sending_plan, with_one_frame};
+ghost use Rattle.wl_respond.specs.Senders.{family_with_text, first_of_node, is_of_node, one_entry, senders, sending_plan, with_one_entry};
 ghost use Rattle.wl_topology.specs.Limits.{most_places};
 
 use crate::message::MessageWait;
@@ -13,21 +13,21 @@ use wl_plan::{CheckedPlan, Nodes, Plan};
 use wl_setup::PlanText;
 
 /// True if message `e` is of node `i`.
-fn is_from(messages: &[MessageWait], i: u8, e: usize) -> bool
+fn is_of_node(messages: &[MessageWait], i: u8, e: usize) -> bool
     requires { e < length messages.now }
-    ensures { result ≡ is_from messages.now i e }
+    ensures { result ≡ is_of_node messages.now i e }
 {
     messages[e].node == i
 }
 
 /// Returns the first message of node `i`.
-fn first_from(messages: &[MessageWait], i: u8) -> Option<usize>
-    ensures first { result ≡ first_from messages.now i }
+fn first_of_node(messages: &[MessageWait], i: u8) -> Option<usize>
+    ensures first { result ≡ first_of_node messages.now i }
     ensures inside { IfSome result (λ e. e < length messages.now) }
 {
     let mut first = None;
     for e in 0..messages.len() {
-        if first.is_none() && is_from(messages, i, e) {
+        if first.is_none() && is_of_node(messages, i, e) {
             first = Some(e);
         }
     }
@@ -35,11 +35,11 @@ fn first_from(messages: &[MessageWait], i: u8) -> Option<usize>
 }
 
 /// Returns a queue with one frame of node `i`, if it has a message. Refused only when out of memory.
-fn one_frame(alloc: Global, messages: &[MessageWait], i: u8) -> Result<Queue, AllocError>
-    ensures { IfOk result (λ queue. queue ≡ one_frame messages.now i) }
+fn one_entry(alloc: Global, messages: &[MessageWait], i: u8) -> Result<Queue, AllocError>
+    ensures { IfOk result (λ queue. queue ≡ one_entry messages.now i) }
 {
     let mut queue = Listed::new(alloc);
-    if let Some(e) = first_from(messages, i) {
+    if let Some(e) = first_of_node(messages, i) {
         let frame = messages[e].frame;
         queue.push(Queued { frame, ready: 0 })?;
     }
@@ -47,15 +47,15 @@ fn one_frame(alloc: Global, messages: &[MessageWait], i: u8) -> Result<Queue, Al
 }
 
 /// Returns node `i` with that queue. Refused only when out of memory.
-fn with_one_frame(
+fn with_one_entry(
     alloc: Global,
     messages: &[MessageWait],
     i: u8,
     node: &NodeSetup,
 ) -> Result<NodeSetup, AllocError>
-    ensures { IfOk result (λ sender. sender ≡ with_one_frame messages.now i node.now) }
+    ensures { IfOk result (λ sender. sender ≡ with_one_entry messages.now i node.now) }
 {
-    let queue = one_frame(alloc, messages, i)?;
+    let queue = one_entry(alloc, messages, i)?;
     Ok(NodeSetup {
         clock: node.clock,
         segments: node.segments,
@@ -65,7 +65,7 @@ fn with_one_frame(
     })
 }
 
-/// Adds these nodes with such queues, of which the first one is node `i`. Refused only when out of memory.
+/// Adds these nodes, from node `i` on, with such queues. Refused only when out of memory.
 fn push_senders(
     nodes: &mut Nodes,
     alloc: Global,
@@ -79,7 +79,7 @@ fn push_senders(
     match from {
         [] => Ok(()),
         [node, later @ ..] => {
-            nodes.push(with_one_frame(alloc, messages, i, node)?)?;
+            nodes.push(with_one_entry(alloc, messages, i, node)?)?;
             push_senders(nodes, alloc, messages, i + 1, later)
         }
     }
@@ -104,14 +104,14 @@ fn sending_plan(
 }
 
 /// Returns the family of a plan, its text and the oscillators of its nodes: each node sends that has a message. Refused only when out of memory.
-pub(crate) fn family_of_text(
+pub(crate) fn family_with_text(
     alloc: Global,
     plan: &CheckedPlan,
     text: &PlanText,
     oscillators: &[Oscillator],
 ) -> Result<Family, AllocError>
     requires one_each { length oscillators.now ≡ length plan.now.nodes }
-    ensures { IfOk result (λ family. family ≡ family_of_text plan.now text.now oscillators.now) }
+    ensures { IfOk result (λ family. family ≡ family_with_text plan.now text.now oscillators.now) }
 {
     let messages = messages_of(alloc, plan, text)?;
     let sending = sending_plan(alloc, plan, messages.as_slice())?;
