@@ -1,5 +1,5 @@
 -- A plan on which one frame waits at each node with a message: it can be run, and its family is that of the messages.
-use Rattle.std.proofs.Common.{◌≡◌, refl, ap, ℕ, suc, ◌≤◌, List, [], ◌∷◌, length, All, Bool, Option, Some, None, arith}
+use Rattle.std.proofs.Common.{◌≡◌, refl, ap, ℕ, zero, suc, ◌<◌, ◌≤◌, List, [], ◌∷◌, length, get_or, All, Bool, Option, Some, None, arith}
 use Rattle.std.specs.Prelude.{is_some, nat_lt}
 use Rattle.wl_node.specs.declared.setup.NodeSetup.{NodeSetup}
 use Rattle.wl_plan.specs.declared.plan.Plan.{Plan}
@@ -20,14 +20,18 @@ module _ (messages : List MessageWait) where
   senders-length i (node ∷ later) = ap suc (senders-length (suc i) later)
 
   -- what clocks and segments keep
-  all_keep : (P : NodeSetup → Type 0) → ((i : ℕ) (node : NodeSetup) → P node → P (with_one_entry messages i node)) → (i : ℕ) (nodes : List NodeSetup) → All P nodes
-      → All P (senders messages i nodes)
-  all_keep P keep i [] all = tt
-  all_keep P keep i (node ∷ later) all = (keep i node all.0, all_keep P keep (suc i) later all.1)
+  module _ (P : NodeSetup → Type 0) where
+    keep_at : ((i : ℕ) (node : NodeSetup) → P node → P (with_one_entry messages i node)) → (i : ℕ) (nodes : List NodeSetup) → All P nodes
+        → (k : ℕ) (d : NodeSetup) → k < length (senders messages i nodes) → P (get_or (senders messages i nodes) k d)
+    keep_at keep i [] all k d less = absurd (omega arith)
+    keep_at keep i (node ∷ later) all zero d less = keep i node (all 0 d (omega arith))
+    keep_at keep i (node ∷ later) all (suc k) d less = keep_at keep (suc i) later (λ j e inside. all (suc j) e (omega arith)) k d (omega arith)
 
-  all_have : (P : NodeSetup → Type 0) → ((i : ℕ) (node : NodeSetup) → P (with_one_entry messages i node)) → (i : ℕ) (nodes : List NodeSetup) → All P (senders messages i nodes)
-  all_have P has i [] = tt
-  all_have P has i (node ∷ later) = (has i node, all_have P has (suc i) later)
+    have_at : ((i : ℕ) (node : NodeSetup) → P (with_one_entry messages i node)) → (i : ℕ) (nodes : List NodeSetup)
+        → (k : ℕ) (d : NodeSetup) → k < length (senders messages i nodes) → P (get_or (senders messages i nodes) k d)
+    have_at has i [] k d less = absurd (omega arith)
+    have_at has i (node ∷ later) zero d less = has i node
+    have_at has i (node ∷ later) (suc k) d less = have_at has (suc i) later k d (omega arith)
 
   one_most : (o : Option ℕ) → length (entry_by messages o) ≤ 1
   one_most None = omega arith
@@ -43,17 +47,17 @@ module _ (messages : List MessageWait) where
       let nodes = is.some_node in
       let few = is.few_nodes in
       let placed = is.placed in record {
-        clocks = all_keep (λ node. IsTiming node.clock) (λ i node h. h) 0 plan.nodes is.clocks;
-        segments = all_keep (λ node. AreLengths node.segments) (λ i node h. h) 0 plan.nodes is.segments;
+        clocks = keep_at (λ node. IsTiming node.clock) (λ i node h. h) 0 plan.nodes is.clocks;
+        segments = keep_at (λ node. AreLengths node.segments) (λ i node h. h) 0 plan.nodes is.segments;
         cable = is.cable;
         some_node = omega arith;
         few_nodes = omega arith;
         placed = omega arith;
         ends = omega arith;
-        few_quanta = all_have (HasFewQuanta 0) (λ i node k less. absurd (omega arith)) 0 plan.nodes;
-        short_queues = all_have (λ node. length node.queue ≤ most_queued) (λ i node. (let most = one_most (first_of_node messages i) in omega arith)) 0 plan.nodes;
+        few_quanta = have_at (HasFewQuanta 0) (λ i node k less. absurd (omega arith)) 0 plan.nodes;
+        short_queues = have_at (λ node. length node.queue ≤ most_queued) (λ i node. (let most = one_most (first_of_node messages i) in omega arith)) 0 plan.nodes;
         few_disturbances = omega arith;
-        disturbances = tt;
+        disturbances = λ k d less. absurd (omega arith);
       }
 
   members_same : (i : ℕ) (nodes : List NodeSetup) (paces : List Pace)

@@ -1,5 +1,5 @@
 //! How long the messages of a bus may wait, in numbers.
-ghost use Rattle.std.specs.Prelude.{◌≡◌, ◌<◌, ◌^◌, List, Some, length, IfOk, IfSome};
+ghost use Rattle.std.specs.Prelude.{◌≡◌, ◌<◌, ◌^◌, false, List, Some, length, IfOk, IfSome};
 ghost use Rattle.std.specs.List.{list_any};
 ghost use Rattle.wl_bound.specs.Rooms.{plain_bus};
 ghost use Rattle.wl_respond.specs.Bounds.{AreDueWaits, AreWaits, AreWaitsFor, AreWaitsOf, AreWaitsOfBus, asked_in, is_due, lines_shown};
