@@ -1,5 +1,6 @@
 -- The waits of a bus, by what was found of it.
-use Rattle.std.proofs.Common.{◌≡◌, ◌∙◌, ap, refl, subst, ℕ, Bool, List, length, map, Option}
+use Rattle.std.proofs.Common.{◌≡◌, ◌∙◌, ap, refl, subst, ℕ, Bool, List, length, map, Option, Result, Ok, Err}
+use Rattle.std.specs.Prelude.{IfOk}
 use Rattle.wl_bound.specs.Families.{Buses}
 use Rattle.wl_bound.specs.Rooms.{plain_bus}
 use Rattle.wl_level.specs.Places.{first_place}
@@ -14,6 +15,11 @@ use Rattle.wl_respond.specs.Bounds.{AreWaits, lines_shown}
 use Rattle.wl_respond.specs.Parts.{load_at_most}
 use Rattle.wl_respond.specs.Premises.{FirstLack}
 use Rattle.wl_respond.specs.Tests.{pass}
+
+-- two facts of what was made give a third one
+pub both_ok : {T E : Type 0} (r : Result T E) (P Q R : T → Type 0) → IfOk r P → IfOk r Q → ((x : T) → P x → Q x → R x) → IfOk r R
+both_ok (Ok x) P Q R p q f = f x p q
+both_ok (Err e) P Q R p q f = tt
 
 module _ (tick : ℕ) (bus : Bus) (f : Buses) (asked : List Asked) where
   pub are_waits : (deviations : List Deviation) (messages : List MessageWait) (lacking : Option Lacking) (passes : Bool) (jittered : Option ℕ) (load : ℕ) (lines : List Line)

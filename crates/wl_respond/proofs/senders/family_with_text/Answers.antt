@@ -1,4 +1,4 @@
-use Rattle.std.proofs.Common.{◌≡◌, ◌∙◌, ap, length, arith}
+use Rattle.std.proofs.Common.{◌∙◌, ap, length, arith}
 use Rattle.std.proofs.lemmas.Result.{IfOk-weaker}
 use Rattle.wl_plan.specs.declared.plan.Plan.{Plan}
 use Rattle.wl_bound.specs.Families.{family_of}
