@@ -1,0 +1,6 @@
+mod Steps
+mod Walked
+mod Counted
+mod Headers
+mod Heads
+mod Rows
