@@ -1,12 +1,11 @@
 -- The header of a frame: its length, and what comes after it.
-use Rattle.std.proofs.Common.{◌≡◌, ◌∙◌, refl, sym, ap, subst, ℕ, zero, suc, ◌+◌, ◌*◌, ◌==◌, ◌≤◌, map, cond, List, [], ◌∷◌, ◌++◌, length, Bool, true, false, arith, length-append, append_assoc}
+use Rattle.std.proofs.Common.{◌≡◌, ◌∙◌, refl, ap, ℕ, zero, suc, ◌+◌, ◌*◌, ◌≤◌, map, List, [], ◌∷◌, ◌++◌, length, Bool, true, false, arith, length-append, append_assoc}
 use Rattle.std.proofs.lemmas.Bool.{eqb-true}
 use Rattle.std.specs.List.{flat_map}
 use Rattle.wl_level.specs.declared.Level.{Level}
 use Rattle.wl_frame.specs.Crc.{crc_bits, crc_length, level_of_bit}
-use Rattle.wl_frame.specs.Header.{Field, field_bits, fields_of, header_bits, is_extended, number_bits, sent_free, value_in, width_of}
-use Rattle.wl_frame.specs.Header.Name.{DataLengthCode, RemoteRequest}
-use Rattle.wl_frame.specs.Grammar.{Content, IsContent, IsReadAs, bits_before_crc, bits_of, byte_count, covered_length, layout_by}
+use Rattle.wl_frame.specs.Header.{Field, field_bits, fields_of, header_bits, number_bits, sent_free, width_of}
+use Rattle.wl_frame.specs.Grammar.{Content, IsContent, IsReadAs, bits_before_crc, bits_of, byte_count, covered_length}
 use Rattle.wl_frame.specs.Stuffing.{Stuffs}
 use Rattle.wl_frame.proofs.Callers.{frame_is_read, sent_whole}
 use Rattle.wl_longest.specs.Longest.{ending_of, free_bits, head_ending, longest_frame, most_stuffed, no_ending, sent_header}

@@ -1,7 +1,6 @@
 -- The bits of a number, one at a time.
-use Rattle.std.proofs.Common.{◌≡◌, ◌∙◌, refl, sym, ap, ℕ, zero, suc, ◌+◌, ◌-◌, ◌<◌, ◌==◌, ◌∷◌, arith}
+use Rattle.std.proofs.Common.{◌≡◌, ◌∙◌, refl, sym, ap, ℕ, suc, ◌+◌, ◌-◌, ◌<◌, ◌==◌, ◌∷◌, arith}
 use Rattle.std.specs.Int.{bit_at}
-use Rattle.wl_level.specs.declared.Level.{Level}
 use Rattle.wl_frame.specs.Crc.{level_of_bit}
 use Rattle.wl_frame.specs.Grammar.{number_bits}
 use Rattle.wl_longest.specs.declared.ending.Ending.{Ending}

@@ -1,11 +1,11 @@
 -- How long a frame is at most, with its stuff bits, if its data are not known.
-use Rattle.std.specs.Prelude.{ℕ, zero, suc, ◌+◌, ◌*◌, ◌==◌, Bool, true, false, not, max, List, [], ◌∷◌, length, if◌then◌else◌}
+use Rattle.std.specs.Prelude.{ℕ, zero, suc, ◌+◌, ◌*◌, ◌==◌, Bool, not, max, List, [], ◌∷◌, length, if◌then◌else◌}
 use Rattle.wl_level.specs.declared.Level.{Level}
 use Rattle.wl_level.specs.declared.Level.TheVariants.{Dominant, Recessive}
 use Rattle.wl_level.specs.Levels.{same, opposite}
 use Rattle.wl_frame.specs.Crc.{crc_length}
 use Rattle.wl_frame.specs.Header.{sent_free}
-use Rattle.wl_frame.specs.Grammar.{Content, byte_count}
+use Rattle.wl_frame.specs.Grammar.{byte_count}
 use Rattle.wl_frame.specs.Header.{header_bits}
 use Rattle.wl_longest.specs.declared.ending.Ending.{Ending}
 

@@ -1,4 +1,4 @@
-use Rattle.std.proofs.Common.{◌≡◌, sym}
+use Rattle.std.proofs.Common.{sym}
 use Rattle.wl_longest.proofs.Counted.{most_is}
 use Rattle.wl_longest.proofs.ending.Ending.most_stuffed.Goals as goal
 
