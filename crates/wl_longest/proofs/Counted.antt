@@ -5,11 +5,11 @@ use Rattle.std.proofs.Math.Nat.{le-max_left, le-max_right, max-eq_left, max-eq_r
 use Rattle.wl_level.specs.declared.Level.{Level}
 use Rattle.wl_level.specs.declared.Level.TheVariants.{Dominant, Recessive}
 use Rattle.wl_longest.specs.declared.ending.Ending.{Ending}
-use Rattle.wl_longest.specs.Longest.{ending_after, ending_of, most_stuffed}
+use Rattle.wl_longest.specs.Longest.{ending_after, ending_from, most_stuffed}
 use Rattle.wl_longest.proofs.Walked.{made}
 
 -- no bits have more
-pub most_of_all : (e : Ending) (bits : List Level) → (ending_of e bits).stuffed ≤ most_stuffed e (length bits)
+pub most_of_all : (e : Ending) (bits : List Level) → (ending_from e bits).stuffed ≤ most_stuffed e (length bits)
 unfolding most_stuffed
 most_of_all e [] = omega arith
 most_of_all e (Dominant ∷ bits) =
@@ -22,7 +22,7 @@ most_of_all e (Recessive ∷ bits) =
     omega (arith, later, less)
 
 -- and some have as many
-pub most_of_some : (e : Ending) (n : ℕ) → (bits : List Level) × (length bits ≡ n) × ((ending_of e bits).stuffed ≡ most_stuffed e n)
+pub most_of_some : (e : Ending) (n : ℕ) → (bits : List Level) × (length bits ≡ n) × ((ending_from e bits).stuffed ≡ most_stuffed e n)
 unfolding most_stuffed
 most_of_some e zero = ([], refl, refl)
 most_of_some e (suc n) = elim (cases_lt (most_stuffed (ending_after e Dominant) n) (most_stuffed (ending_after e Recessive) n)) [

@@ -8,7 +8,7 @@ use Rattle.wl_frame.specs.Header.{Field, field_bits, fields_of, header_bits, num
 use Rattle.wl_frame.specs.Grammar.{Content, IsContent, IsReadAs, bits_before_crc, bits_of, byte_count, covered_length}
 use Rattle.wl_frame.specs.Stuffing.{Stuffs}
 use Rattle.wl_frame.proofs.Callers.{frame_is_read, sent_whole}
-use Rattle.wl_longest.specs.Longest.{ending_of, free_bits, head_ending, longest_frame, most_stuffed, no_ending, sent_header}
+use Rattle.wl_longest.specs.Longest.{ending_from, free_bits, head_ending, longest_frame, most_stuffed, no_ending, sent_header}
 use Rattle.wl_longest.proofs.Walked.{ending_joined, stuffed_length}
 use Rattle.wl_longest.proofs.Counted.{most_of_all, most_of_some}
 
@@ -78,9 +78,9 @@ no_longer c y is s =
     let head = sent_header c.extended c.id c.remote c.dlc in
     let all = stuffed_length (bits_of c) y s in
     let both : length (bits_of c) ≡ length head + length (rest_of c) = ap length (two_parts c) ∙ length-append head (rest_of c) in
-    let split : ending_of no_ending (bits_of c) ≡ ending_of (ending_of no_ending head) (rest_of c) = ap (ending_of no_ending) (two_parts c) ∙ ending_joined no_ending head (rest_of c) in
-    let few = most_of_all (ending_of no_ending head) (rest_of c) in
-    let same_few = ap (λ n. most_stuffed (ending_of no_ending head) n) (rest_length c is) in
+    let split : ending_from no_ending (bits_of c) ≡ ending_from (ending_from no_ending head) (rest_of c) = ap (ending_from no_ending) (two_parts c) ∙ ending_joined no_ending head (rest_of c) in
+    let few = most_of_all (ending_from no_ending head) (rest_of c) in
+    let same_few = ap (λ n. most_stuffed (ending_from no_ending head) n) (rest_length c is) in
     omega (arith, all, both, ap (λ e. e.stuffed) split, few, same_few, rest_length c is)
 
 pub as_long : (extended : Bool) (id : ℕ) (remote : Bool) (dlc : ℕ) → (more : List Level) × (length more ≡ free_bits remote dlc)
@@ -88,7 +88,7 @@ pub as_long : (extended : Bool) (id : ℕ) (remote : Bool) (dlc : ℕ) → (more
 unfolding longest_frame head_ending
 as_long extended id remote dlc =
     let head = sent_header extended id remote dlc in
-    let (more, long, many) = most_of_some (ending_of no_ending head) (free_bits remote dlc) in (
+    let (more, long, many) = most_of_some (ending_from no_ending head) (free_bits remote dlc) in (
       more,
       long,
       λ y s.

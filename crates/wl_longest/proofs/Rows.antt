@@ -3,13 +3,13 @@ use Rattle.std.specs.Prelude.{◌≡◌, false, [], ◌∷◌}
 use Rattle.std.proofs.Common.{refl}
 use Rattle.wl_level.specs.declared.Level.TheVariants.{Dominant, Recessive}
 use Rattle.wl_frame.specs.Header.{number_bits}
-use Rattle.wl_longest.specs.Longest.{ending_of, head_ending, most_stuffed, no_ending}
+use Rattle.wl_longest.specs.Longest.{ending_from, head_ending, most_stuffed, no_ending}
 
 -- five equal bits have a stuff bit after them, which begins the next run: four more like it are enough for another
-five_bits : ending_of no_ending (Dominant ∷ Dominant ∷ Dominant ∷ Dominant ∷ Dominant ∷ []) ≡ record { last = Recessive; run = 1; stuffed = 1 }
+five_bits : ending_from no_ending (Dominant ∷ Dominant ∷ Dominant ∷ Dominant ∷ Dominant ∷ []) ≡ record { last = Recessive; run = 1; stuffed = 1 }
 five_bits = refl
 
-nine_bits : ending_of no_ending (Dominant ∷ Dominant ∷ Dominant ∷ Dominant ∷ Dominant ∷ Recessive ∷ Recessive ∷ Recessive ∷ Recessive ∷ []) ≡ record { last = Dominant; run = 1; stuffed = 2 }
+nine_bits : ending_from no_ending (Dominant ∷ Dominant ∷ Dominant ∷ Dominant ∷ Dominant ∷ Recessive ∷ Recessive ∷ Recessive ∷ Recessive ∷ []) ≡ record { last = Dominant; run = 1; stuffed = 2 }
 nine_bits = refl
 
 -- a base data frame of identifier 0 without bytes: its header is 19 dominant bits

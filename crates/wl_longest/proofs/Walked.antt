@@ -10,12 +10,12 @@ use Rattle.wl_level.proofs.Callers.{same_opposite}
 use Rattle.wl_frame.specs.Stuffing.{Stuffs, destuffed_bits, destuffed_list, is_stuff}
 use Rattle.wl_frame.proofs.Callers.{stuff_run}
 use Rattle.wl_longest.specs.declared.ending.Ending.{Ending}
-use Rattle.wl_longest.specs.Longest.{ending_after, ending_of, no_ending}
+use Rattle.wl_longest.specs.Longest.{ending_after, ending_from, no_ending}
 
 abbrev pub made : Level → ℕ → ℕ → Ending
 made last run stuffed = record { last = last; run = run; stuffed = stuffed }
 
-pub ending_joined : (e : Ending) (bits more : List Level) → ending_of e (bits ++ more) ≡ ending_of (ending_of e bits) more
+pub ending_joined : (e : Ending) (bits more : List Level) → ending_from e (bits ++ more) ≡ ending_from (ending_from e bits) more
 ending_joined e [] more = refl
 ending_joined e (bit ∷ bits) more = ending_joined (ending_after e bit) bits more
 
@@ -35,8 +35,8 @@ module _ (last bit : Level) (run stuffed : ℕ) where
 
 -- How what is kept before a place ends, by whether a stuff bit is due there: if it is, it is counted before it comes.
 abbrev Reached : List Level → ℕ → Bool → Type 0
-Reached y n false = (stuffed : ℕ) × (ending_of no_ending (destuffed_bits y n) ≡ made (before y n) (run_at y n) stuffed) × (n ≡ length (destuffed_bits y n) + stuffed)
-Reached y n true = (stuffed : ℕ) × (ending_of no_ending (destuffed_bits y n) ≡ made (opposite (before y n)) 1 stuffed) × (suc n ≡ length (destuffed_bits y n) + stuffed)
+Reached y n false = (stuffed : ℕ) × (ending_from no_ending (destuffed_bits y n) ≡ made (before y n) (run_at y n) stuffed) × (n ≡ length (destuffed_bits y n) + stuffed)
+Reached y n true = (stuffed : ℕ) × (ending_from no_ending (destuffed_bits y n) ≡ made (opposite (before y n)) 1 stuffed) × (suc n ≡ length (destuffed_bits y n) + stuffed)
 
 module _ (y : List Level) where
   run_next : (n : ℕ) → run_at y (suc n) ≡ cond (same (before y n) (at y n)) (suc (run_at y n)) 1
@@ -52,20 +52,20 @@ module _ (y : List Level) where
       let kept : destuffed_bits y (suc n) ≡ destuffed_bits y n = ap (λ s. destuffed_bits y n ++ cond s [] (at y n ∷ [])) due ∙ append-nil (destuffed_bits y n) in
       subst (Reached y (suc n)) (sym (stuff_run y (suc n) ∙ ap (nat_le 5) run)) (
         stuffed,
-        ap (ending_of no_ending) kept ∙ ends ∙ ap (λ l. made l 1 stuffed) (sym turns) ∙ ap (λ r. made (at y n) r stuffed) (sym run),
+        ap (ending_from no_ending) kept ∙ ends ∙ ap (λ l. made l 1 stuffed) (sym turns) ∙ ap (λ r. made (at y n) r stuffed) (sym run),
         count ∙ ap (λ ks. length ks + stuffed) (sym kept),
       )
 
   module _ (n stuffed : ℕ) (free : is_stuff y n ≡ false)
-      (ends : ending_of no_ending (destuffed_bits y n) ≡ made (before y n) (run_at y n) stuffed) (count : n ≡ length (destuffed_bits y n) + stuffed) where
+      (ends : ending_from no_ending (destuffed_bits y n) ≡ made (before y n) (run_at y n) stuffed) (count : n ≡ length (destuffed_bits y n) + stuffed) where
     kept_more : destuffed_bits y (suc n) ≡ destuffed_bits y n ++ at y n ∷ []
     kept_more = ap (λ s. destuffed_bits y n ++ cond s [] (at y n ∷ [])) free
 
     longer : length (destuffed_bits y (suc n)) ≡ length (destuffed_bits y n) + 1
     longer = ap length kept_more ∙ length-append (destuffed_bits y n) (at y n ∷ [])
 
-    ends_more : ending_of no_ending (destuffed_bits y (suc n)) ≡ ending_after (made (before y n) (run_at y n) stuffed) (at y n)
-    ends_more = ap (ending_of no_ending) kept_more ∙ ending_joined no_ending (destuffed_bits y n) (at y n ∷ []) ∙ ap (λ e. ending_after e (at y n)) ends
+    ends_more : ending_from no_ending (destuffed_bits y (suc n)) ≡ ending_after (made (before y n) (run_at y n) stuffed) (at y n)
+    ends_more = ap (ending_from no_ending) kept_more ∙ ending_joined no_ending (destuffed_bits y n) (at y n ∷ []) ∙ ap (λ e. ending_after e (at y n)) ends
 
     short : run_at y n < 5
     short = leb-false 5 (run_at y n) (sym (stuff_run y n) ∙ free)
@@ -109,9 +109,9 @@ module _ (y : List Level) where
     reached (suc n) h = next n (omega (arith, h)) (is_stuff y n) refl (reached n (omega (arith, h)))
 
 -- a stuffed list has the bits of its list and the stuff bits that are counted
-pub stuffed_length : (x y : List Level) → Stuffs y x → length y ≡ length x + (ending_of no_ending x).stuffed
+pub stuffed_length : (x y : List Level) → Stuffs y x → length y ≡ length x + (ending_from no_ending x).stuffed
 stuffed_length x y s =
     let (stuffed, ends, count) = subst (Reached y (length y)) s.closed (reached y s.opposite (length y) (omega arith)) in
-    let counted : (ending_of no_ending x).stuffed ≡ stuffed = ap (λ e. e.stuffed) (ap (ending_of no_ending) (sym s.content) ∙ ends) in
+    let counted : (ending_from no_ending x).stuffed ≡ stuffed = ap (λ e. e.stuffed) (ap (ending_from no_ending) (sym s.content) ∙ ends) in
     let kept : length (destuffed_list y) ≡ length x = ap length s.content in
     omega (arith, count, counted, kept)

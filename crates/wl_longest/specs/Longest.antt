@@ -22,9 +22,9 @@ ending_after e bit =
     else record { last = bit; run = e.run + 1; stuffed = e.stuffed }
 
 -- how bits end after these bits more; Bosch CAN 2.0 part B, section 6
-abbrev pub ending_of : Ending → List Level → Ending
-ending_of e [] = e
-ending_of e (bit ∷ bits) = ending_of (ending_after e bit) bits
+abbrev pub ending_from : Ending → List Level → Ending
+ending_from e [] = e
+ending_from e (bit ∷ bits) = ending_from (ending_after e bit) bits
 
 -- the most stuff bits after n bits more, whichever they are; Bosch CAN 2.0 part B, section 6
 unfoldable pub most_stuffed : Ending → ℕ → ℕ
@@ -38,7 +38,7 @@ sent_header extended id remote dlc =
 
 -- how it ends
 unfoldable pub head_ending : (extended : Bool) (id : ℕ) (remote : Bool) (dlc : ℕ) → Ending
-head_ending extended id remote dlc = ending_of no_ending (sent_header extended id remote dlc)
+head_ending extended id remote dlc = ending_from no_ending (sent_header extended id remote dlc)
 
 -- how many bits come after the header, up to the last of the CRC sequence; Bosch CAN 2.0 part B, section 3.2.1
 abbrev pub free_bits : (remote : Bool) (dlc : ℕ) → ℕ

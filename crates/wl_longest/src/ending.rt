@@ -4,7 +4,7 @@ ghost use Rattle.std.specs.Prelude.{◌≡◌, ◌==◌, ◌+◌, ◌<◌, ◌�
 ghost use Rattle.std.specs.Int.{bit_at};
 ghost use Rattle.wl_frame.specs.Crc.{level_of_bit};
 ghost use Rattle.wl_frame.specs.Grammar.{number_bits};
-ghost use Rattle.wl_longest.specs.Longest.{ending_after, ending_of, most_stuffed, no_ending};
+ghost use Rattle.wl_longest.specs.Longest.{ending_after, ending_from, most_stuffed, no_ending};
 
 use wl_level::Level;
 
@@ -69,7 +69,7 @@ impl Ending {
         requires few { self.run < 5 }
         requires width { count ≤ 32 }
         requires room { self.stuffed + count < 255 }
-        ensures value { result ≡ ending_of self (number_bits count number) }
+        ensures value { result ≡ ending_from self (number_bits count number) }
         ensures room { result.stuffed ≤ self.stuffed + count }
         ensures some { 0 < self.run → 0 < result.run }
         ensures few { result.run < 5 }

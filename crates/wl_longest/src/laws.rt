@@ -13,9 +13,11 @@ pub fn no_frame_is_longer()
         → length y ≤ longest_frame c.extended c.id c.remote c.dlc }
 {}
 
-/// Law: some bits are as long. If any bits may follow a header, as many as its frame has, then there are bits with which
-/// it has that length.
+/// Law: some bits are as long. With some bits in the place of the data and the CRC sequence, a header and these bits
+/// have that length with their stuff bits.
 pub fn some_bits_are_as_long()
-    ensures { (extended : Bool) (id : ℕ) (remote : Bool) (dlc : ℕ) → (more : List Level) × (length more ≡ free_bits remote dlc)
-        × ((y : List Level) → Stuffs y (sent_header extended id remote dlc ++ more) → length y ≡ longest_frame extended id remote dlc) }
+    ensures { (extended : Bool) (id : ℕ) (remote : Bool) (dlc : ℕ)
+        → (more : List Level) × (length more ≡ free_bits remote dlc)
+        × ((y : List Level) → Stuffs y (sent_header extended id remote dlc ++ more)
+        → length y ≡ longest_frame extended id remote dlc) }
 {}

@@ -13,9 +13,12 @@ use wl_level::Level;
 /// Below it is the part of an extended identifier that is sent second, of 18 bits.
 const SECOND_PART: u32 = 1 << 18;
 
-/// Returns the greatest number of bits, up to the last of the CRC sequence and with stuff bits, of a
-/// frame with this identifier, kind and data length code, whatever its data are. It counts any bits
-/// as its CRC sequence, so it is a little above what a frame can have.
+/// Returns the greatest number of bits of a frame with this header, whatever its data are. It is up to
+/// the last bit of the CRC sequence, with stuff bits. Any bits count as a CRC sequence, so the number
+/// may be above that of the longest frame.
+///
+/// An identifier or data length code that has too many bits counts by its low ones, and a code above 8
+/// means 8 bytes.
 pub fn longest_frame(extended: bool, id: u32, remote: bool, dlc: u32) -> u8
     ensures { result ≡ longest_frame extended id remote dlc }
 {
