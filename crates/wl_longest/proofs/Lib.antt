@@ -4,3 +4,4 @@ mod Counted
 mod Headers
 mod Heads
 mod Rows
+pub mod Callers
