@@ -3,3 +3,4 @@ mod Rows
 mod Waiting
 pub mod Longest
 pub mod Listing
+mod AnyData
