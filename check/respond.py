@@ -19,6 +19,7 @@ import subprocess
 import sys
 
 sys.dont_write_bytecode = True
+import longest
 import random_plans
 
 T, LIMIT = 1_000_000, 1 << 90
@@ -46,7 +47,7 @@ def stuffed(f):
     return len(out)
 
 
-def most_bits(f): return (5 * ((54 if f.get("extended") else 34) + 8 * len(f.get("bytes", []))) - 1) // 4
+def most_bits(f): return longest.longest(bool(f.get("extended")), f["id"], bool(f.get("remote")), f["dlc"])
 
 
 def field(f):

@@ -4,3 +4,4 @@ mod Waiting
 pub mod Longest
 pub mod Listing
 pub mod Sending
+mod AnyData

@@ -1,8 +1,9 @@
 -- What a plan's text asks of a message: its period, by how much it is late, and within which time it has to be sent (this project's profile).
-use Rattle.std.specs.Prelude.{ℕ, ◌+◌, ◌-◌, ◌*◌, ◌/◌, ◌==◌, ◌&&◌, not, max, min, Bool, true, false, List, [], ◌∷◌, length, slice_get, slice_index_or, if◌then◌else◌, Option, Some, None, unwrap_or}
+use Rattle.std.specs.Prelude.{◌≡◌, ℕ, ◌+◌, ◌-◌, ◌*◌, ◌/◌, ◌==◌, ◌&&◌, not, max, min, Bool, true, false, List, [], ◌∷◌, length, slice_get, slice_index_or, if◌then◌else◌, Option, Some, None, unwrap_or}
 use Rattle.std.specs.Int.{div_ceil}
 use Rattle.std.specs.Option.{option_map_or}
 use Rattle.wl_frame.specs.Grammar.{Content}
+use Rattle.wl_longest.specs.Longest.{longest_frame}
 use Rattle.wl_setup.specs.declared.plan_text.FrameText.{FrameText}
 use Rattle.wl_setup.specs.declared.plan_text.PlanText.{PlanText}
 use Rattle.wl_bound.specs.Families.{Bus}
@@ -22,7 +23,11 @@ same_truth false other = not other
 abbrev pub is_frame_of : Content → FrameText → Bool
 is_frame_of c f = (f.id == c.id) && (same_truth f.extended c.extended && same_truth f.remote c.remote)
 
--- the least period of its frames, the greatest jitter, the least deadline, and the most bytes
+-- a frame has the format, identifier, kind and data length code of a frame of the text
+abbrev pub IsOfText : Content → FrameText → Type 0
+IsOfText c f = (c.extended ≡ f.extended) × (c.id ≡ f.id) × (c.remote ≡ f.remote) × (c.dlc ≡ f.dlc)
+
+-- the least period of its frames, the greatest jitter, and the least deadline
 abbrev pub every_in : Content → List FrameText → ℕ
 every_in c [] = once
 every_in c (f ∷ later) = if is_frame_of c f then min (unwrap_or f.every once) (every_in c later) else every_in c later
@@ -40,20 +45,13 @@ abbrev pub deadline_in : Content → List FrameText → Option ℕ
 deadline_in c [] = None
 deadline_in c (f ∷ later) = if is_frame_of c f then sooner f.deadline (deadline_in c later) else deadline_in c later
 
-abbrev pub bytes_in : Content → List FrameText → ℕ
-bytes_in c [] = 0
-bytes_in c (f ∷ later) = if is_frame_of c f then max (length f.bytes) (bytes_in c later) else bytes_in c later
+-- The most bits of its frames up to the end of the CRC sequence, with stuff bits, whatever their data are (Bosch CAN 2.0 part B, sections 3.2.1 and 6).
+abbrev pub most_bits_in : Content → List FrameText → ℕ
+most_bits_in c [] = 0
+most_bits_in c (f ∷ later) = if is_frame_of c f then max (longest_frame f.extended f.id f.remote f.dlc) (most_bits_in c later) else most_bits_in c later
 
 abbrev pub frames_at : PlanText → ℕ → List FrameText
 frames_at text i = option_map_or (λ node. node.frame) (slice_get text.node i) []
-
--- Bits of a frame up to the end of its CRC sequence, without stuff bits (Bosch CAN 2.0 part B, section 3.1); with them at most, since four bits follow between two of them (section 5:
--- `a_frame_has_so_many_bits` of wl_buses).
-abbrev pub plain_bits : (extended : Bool) → (bytes : ℕ) → ℕ
-plain_bits extended bytes = (if extended then 54 else 34) + 8 * min bytes 8
-
-abbrev pub most_bits_of : (extended : Bool) → (bytes : ℕ) → ℕ
-most_bits_of extended bytes = (5 * plain_bits extended bytes - 1) / 4
 
 -- a time in ticks as quanta of a node, rounded up
 abbrev pub quanta_over : Bus → (i ticks : ℕ) → ℕ
@@ -63,12 +61,12 @@ quanta_over b i ticks = div_ceil (ticks * 1000000) (max 1 (shortest_at b i))
 abbrev pub least_apart : Bus → (i every jitter : ℕ) → ℕ
 least_apart b i every jitter = if every == once then once else every - quanta_over b i jitter
 
--- a message as the text has it: with the bits that its own frames have, or that any data of so many bytes may have
+-- a message as the text has it: with the bits that its own frames have, or that they may have with any data
 module _ (b : Bus) (any : Bool) where
   abbrev pub asked_by : MessageWait → List FrameText → Asked
   asked_by x frames = record {
     message = record x {
-      bits = if any then max x.bits (most_bits_of x.frame.extended (bytes_in x.frame frames)) else x.bits;
+      bits = if any then max x.bits (most_bits_in x.frame frames) else x.bits;
       every = least_apart b x.node (min x.every (every_in x.frame frames)) (jitter_in x.frame frames);
     };
     every = min x.every (every_in x.frame frames);

@@ -1,7 +1,13 @@
 //! What a plan's text asks of its messages.
-ghost use Rattle.std.specs.Prelude.{◌≡◌, ◌<◌, ◌^◌, map, IfOk};
+ghost use Rattle.std.specs.Prelude.{◌≡◌, ◌<◌, ◌≤◌, ◌^◌, ◌++◌, ◌∷◌, List, length, map, true, IfOk};
+ghost use Rattle.wl_level.specs.declared.Level.{Level};
+ghost use Rattle.wl_frame.specs.Grammar.{Content, IsContent, bits_of};
+ghost use Rattle.wl_frame.specs.Stuffing.{Stuffs};
+ghost use Rattle.wl_setup.specs.declared.plan_text.FrameText.{FrameText};
+ghost use Rattle.wl_bound.specs.Families.{Bus};
 ghost use Rattle.wl_bound.specs.Rooms.{plain_bus};
-ghost use Rattle.wl_respond.specs.Asks.{asked_by, asked_of, bytes_in, deadline_in, every_in, frames_at, is_frame_of, jitter_in, least_apart, message_in, most_bits_of, plain_bits, quanta_over, sooner};
+ghost use Rattle.wl_respond.specs.declared.message.MessageWait.{MessageWait};
+ghost use Rattle.wl_respond.specs.Asks.{IsOfText, asked_by, asked_of, deadline_in, every_in, frames_at, is_frame_of, jitter_in, least_apart, message_in, most_bits_in, quanta_over, sooner};
 
 use crate::message::{MessageWait, shortest_at};
 use crate::table::ONCE;
@@ -9,6 +15,7 @@ use std::alloc::{AllocError, Global};
 use wl_bound::Family;
 use wl_frame::frame::Frame;
 use wl_level::Listed;
+use wl_longest::longest_frame;
 use wl_setup::{FrameText, PlanText};
 
 /// A message, and what the text asks of it.
@@ -95,31 +102,31 @@ fn deadline_in(frame: &Frame, frames: &[FrameText]) -> Option<u64>
     }
 }
 
-/// Returns the most bytes of these frames that have the identifier.
-fn bytes_in(frame: &Frame, frames: &[FrameText]) -> usize
-    ensures { result ≡ bytes_in frame.now frames.now }
+/// Returns the most bits, up to the end of the CRC sequence and with stuff bits, of these frames that have the
+/// identifier, whatever their data are.
+fn most_bits_in(frame: &Frame, frames: &[FrameText]) -> u8
+    ensures { result ≡ most_bits_in frame.now frames.now }
 {
     match frames {
         [] => 0,
         [text, later @ ..] => {
-            let bytes = bytes_in(frame, later);
+            let most = most_bits_in(frame, later);
             if is_frame_of(frame, text) {
-                text.bytes.len().max(bytes)
+                longest_frame(text.extended, text.id, text.remote, text.dlc).max(most)
             } else {
-                bytes
+                most
             }
         }
     }
 }
 
-/// Returns the most bits of a frame of up to 8 bytes up to the end of its CRC sequence, stuff bits among them, whatever its data.
-fn most_bits_of(extended: bool, bytes: usize) -> u8
-    ensures { result ≡ most_bits_of extended bytes }
-{
-    let head = if extended { 54 } else { 34 };
-    let plain = head + 8 * bytes.min(8);
-    ((5 * plain - 1) / 4) as u8
-}
+/// Law, of messages that may have any data: a frame of the text with a message's identifier, whatever its data are, has at most the
+/// bits that the message counts with, up to the last of its CRC sequence and with stuff bits.
+pub fn any_data_is_within_the_bits()
+    ensures { (b : Bus) (x : MessageWait) (before later : List FrameText) (f : FrameText) (c : Content) (y : List Level)
+        → is_frame_of x.frame f ≡ true → IsOfText c f → IsContent c → Stuffs y (bits_of c)
+        → length y ≤ (asked_by b true x (before ++ f ∷ later)).message.bits }
+{}
 
 /// Returns a time in ticks as quanta of node `i`, rounded up.
 fn quanta_over(family: &Family, i: u8, ticks: u64) -> u128
@@ -157,8 +164,7 @@ fn asked_by(family: &Family, any: bool, message: &MessageWait, frames: &[FrameTe
     let every = message.every.min(every_in(frame, frames));
     let jitter = jitter_in(frame, frames);
     let bits = if any {
-        let most = most_bits_of(frame.is_extended(), bytes_in(frame, frames));
-        message.bits.max(most)
+        message.bits.max(most_bits_in(frame, frames))
     } else {
         message.bits
     };

@@ -21,7 +21,7 @@ mod text;
 mod verdict;
 mod words;
 
-pub use asked::Asked;
+pub use asked::{Asked, any_data_is_within_the_bits};
 pub use bounds::{Question, Waits, waits_of_bus};
 pub use brief::brief_text;
 pub use level::has_levels;
