@@ -1,7 +1,7 @@
 -- A plan without some nodes that change nothing is a part of the line of the plan with them.
 use Rattle.std.proofs.Common.{◌≡◌, ◌≢◌, ◌∙◌, ◌⊎◌, inl, inr, sym, ap, ℕ, suc, ◌-◌, ◌<◌, ◌≤◌, true, false, ◌&&◌, ◌==◌, not, cond, [], length, arith}
 use Rattle.std.specs.Cmp.{both_ways}
-use Rattle.std.proofs.lemmas.Bool.{and_from, cases_eq, cond-true, eq-eqb, eqb-true, ne_eqb, not_from_false}
+use Rattle.std.proofs.lemmas.Bool.{and_from, cases_lt, cond-true, eq-eqb, eqb-true, ne_eqb, not_from_false}
 use Rattle.wl_level.specs.Levels.{is_dominant}
 use Rattle.wl_clock.specs.Timing.{tick_of}
 use Rattle.wl_topology.specs.Delays.{delay_between, delay_of, place_at, propagation_of}
@@ -21,18 +21,15 @@ use Rattle.wl_listeners.specs.Parts.{IsPart}
 ends_before : (plan : Plan) → IsChecked plan → plan.end ≤ never
 ends_before plan checked = let ends : plan.end ≤ latest_end = checked.ends in omega arith
 
--- a node drives nothing before its first quantum
-seen_none : (l : Line) (i n : ℕ) → n ≡ 0 → seen l i n ≡ []
-unfolding seen
-seen_none l i n e = ap (seen l i) e
-
-silent_first : SimulationLaws → (l : Line) → IsCausal l → (i t : ℕ) → i < l.nodes → t < l.instant i 0 → level l i t ≡ false
+-- a node drives nothing as long as it is sure to stay as it was before its first quantum
+silent_first : SimulationLaws → (l : Line) → IsCausal l → (i t : ℕ) → i < l.nodes → t < l.instant i (l.quiet i []) → level l i t ≡ false
 silent_first laws l causal i t inside early =
-    let none : ran l i (suc t) ≡ 0 = elim (cases_eq (ran l i (suc t)) 0) [
-      | inl e ↦ e
-      | inr some ↦ (let f = laws.ran_before l i (suc t) 0 causal inside (omega arith) in absurd (omega arith))
+    let few : ran l i (suc t) ≤ l.quiet i [] = elim (cases_lt (l.quiet i []) (ran l i (suc t))) [
+      | inl many ↦ (let f = laws.ran_before l i (suc t) (l.quiet i []) causal inside many in absurd (omega arith))
+      | inr few ↦ few
     ] in
-    laws.level_is l i t causal inside ∙ ap (l.drives i) (seen_none l i (ran l i (suc t)) none) ∙ causal.begins i inside
+    let long = laws.length_seen l i (ran l i (suc t)) in
+    laws.level_is l i t causal inside ∙ causal.quiet_stays i [] (seen l i (ran l i (suc t))) inside (omega arith) ∙ causal.begins i inside
 
 module _ (plan other : Plan) (at : ℕ → ℕ) (is : HasNodesOf other plan at) where
   same_node : (i j : ℕ) → i < length other.nodes → j < length other.nodes → (i == j) ≡ (at i == at j)

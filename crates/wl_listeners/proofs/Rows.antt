@@ -2,6 +2,7 @@
 use Rattle.std.proofs.Common.{◌≡◌, ◌⊎◌, inl, inr, refl, ℕ, zero, suc, ◌<◌, ◌≤◌, true, false, [], ◌∷◌, arith}
 use Rattle.wl_clock.specs.Timing.{tick_of}
 use Rattle.wl_node.specs.declared.setup.NodeSetup.{NodeSetup}
+use Rattle.wl_node.specs.Quiet.{quiet_of}
 use Rattle.wl_topology.specs.Delays.{place_at}
 use Rattle.wl_topology.specs.declared.Place.{Place}
 use Rattle.wl_plan.specs.declared.plan.Plan.{Plan}
@@ -64,7 +65,7 @@ unfolding beside
 is_without = record { nodes = has_nodes; lacks = lacks_listener }
 
 -- and its second node begins at tick 1
-lacks_late : (k : ℕ) → k < 3 → IsOneOf without number k ⊎ (1 ≤ tick_of (setup_at beside k).clock 0)
+lacks_late : (k : ℕ) → k < 3 → IsOneOf without number k ⊎ (1 ≤ tick_of (setup_at beside k).clock (quiet_of (setup_at beside k) []))
 unfolding beside without number setup tick_of
 lacks_late zero less = inl (0, omega arith, refl)
 lacks_late (suc zero) less = inr (omega arith)

@@ -1,7 +1,8 @@
 -- A plan without nodes that only listen, and without nodes that power up late. This project's.
-use Rattle.std.specs.Prelude.{◌≡◌, ◌≢◌, ◌⊎◌, ℕ, ◌<◌, ◌≤◌, true, length}
+use Rattle.std.specs.Prelude.{◌≡◌, ◌≢◌, ◌⊎◌, ℕ, ◌<◌, ◌≤◌, true, [], length}
 use Rattle.wl_clock.specs.Timing.{tick_of}
 use Rattle.wl_topology.specs.Delays.{place_at}
+use Rattle.wl_node.specs.Quiet.{quiet_of}
 use Rattle.wl_plan.specs.declared.plan.Plan.{Plan}
 use Rattle.wl_plan.specs.PlanLine.{disturbed, setup_at}
 
@@ -27,7 +28,7 @@ pub record IsWithoutListeners (other plan : Plan) (at : ℕ → ℕ) : Type 0 wh
   pub nodes : HasNodesOf other plan at
   pub lacks : (k : ℕ) → k < length plan.nodes → IsOneOf other at k ⊎ (IsNoneOf other at k × ((place_at plan.topology k).listens ≡ true))
 
--- It lacks nodes whose first quantum is at the tick `until` or later, and no other one.
+-- It lacks nodes that drive nothing before the tick `until`, whatever they see, and no other one: each powers up late, and waits for eleven recessive bits first (Bosch CAN 2.0 part B, section 2, wake-up).
 pub record IsWithoutLateNodes (other plan : Plan) (at : ℕ → ℕ) (until : ℕ) : Type 0 where
   pub nodes : HasNodesOf other plan at
-  pub lacks : (k : ℕ) → k < length plan.nodes → IsOneOf other at k ⊎ (until ≤ tick_of (setup_at plan k).clock 0)
+  pub lacks : (k : ℕ) → k < length plan.nodes → IsOneOf other at k ⊎ (until ≤ tick_of (setup_at plan k).clock (quiet_of (setup_at plan k) []))

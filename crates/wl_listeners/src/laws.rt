@@ -52,8 +52,9 @@ pub fn a_node_shows_the_same_beside_listeners()
     listeners_change_nothing();
 }
 
-/// Law: and nodes that power up late change nothing before. Take a plan, and one without nodes whose first quantum is at some tick or later. Up
-/// to that tick each node of that one has seen what it has seen beside them, and changes its drive at the same ticks.
+/// Law: and nodes that power up late change nothing before they may drive. Such a node waits for eleven recessive bits first, and so it is sure
+/// to drive nothing for some quanta (`quiet_of`). Take a plan, and one without nodes that are sure to drive nothing before a tick. Up to that
+/// tick each node of that one has seen what it has seen beside them, and changes its drive at the same ticks.
 pub fn late_nodes_change_nothing_before()
     ensures seen { (plan other : Plan) (at : ℕ → ℕ) (until : ℕ) → IsChecked plan
         → IsWithoutLateNodes other plan at until → (i t : ℕ) → i < length other.nodes → t ≤ until
