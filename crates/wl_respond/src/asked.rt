@@ -120,8 +120,8 @@ fn most_bits_in(frame: &Frame, frames: &[FrameText]) -> u8
     }
 }
 
-/// Law, of messages that may have any data: a frame of the text with a message's identifier, whatever its data are, has at most the
-/// bits that the message counts with, up to the last of its CRC sequence and with stuff bits.
+/// Law, of messages that may have any data: a frame of the text with a message's identifier has at most the bits that the message counts
+/// with, whatever its data are. These are up to the last bit of its CRC sequence, with stuff bits.
 pub fn any_data_is_within_the_bits()
     ensures { (b : Bus) (x : MessageWait) (before later : List FrameText) (f : FrameText) (c : Content) (y : List Level)
         → is_frame_of x.frame f ≡ true → IsOfText c f → IsContent c → Stuffs y (bits_of c)
