@@ -17,7 +17,7 @@ use Rattle.wl_settings.specs.declared.asked.Asked.{Asked}
 use Rattle.wl_settings.specs.declared.asked.Setting.{Setting}
 use Rattle.wl_settings.specs.declared.plan.Quantum.{Quantum}
 use Rattle.wl_settings.specs.Judged.{both_paces, deviation_by, family_in, family_of_plan, made_plan, runnable_plan}
-use Rattle.wl_settings.specs.Plans.{plan_with}
+use Rattle.wl_settings.specs.Plans.{plan_of_quantum}
 
 -- the bus of a text whose plan is known
 abbrev bus_by : PlanText → Result Plan SetupFault → Result Bus SetupFault
@@ -33,24 +33,24 @@ some_is : (made plan : Plan) → Some made ≡ Some plan → made ≡ plan
 some_is made plan is = cc
 
 module _ (a : Asked) (s : Setting) (q : Quantum) where
-  counted : (r : Result Plan SetupFault) (plan : Plan) → made_plan r ≡ Some plan → IsOfPlan r (bus_by (plan_with a s q) r) → 2 ≡ length plan.nodes
+  counted : (r : Result Plan SetupFault) (plan : Plan) → made_plan r ≡ Some plan → IsOfPlan r (bus_by (plan_of_quantum a s q) r) → 2 ≡ length plan.nodes
   counted (Ok made) plan is law = law.1 ∙ ap (λ (p : Plan). length p.nodes) (some_is made plan is)
   counted (Err fault) plan is law = cc
 
   -- as many oscillators as nodes
-  pub one_for_each : (law : BusesAreOfPlans) (plan : Plan) (paces : List Pace) → runnable_plan (plan_with a s q) ≡ Some plan
+  pub one_for_each : (law : BusesAreOfPlans) (plan : Plan) (paces : List Pace) → runnable_plan (plan_of_quantum a s q) ≡ Some plan
       → both_paces q a.tolerance ≡ Some paces → length paces ≡ length plan.nodes
   one_for_each law plan paces is are =
       paces-length (deviation_by q a.tolerance ∷ deviation_by q a.tolerance ∷ []) paces are
-      ∙ counted (plan_of_text (plan_with a s q)) plan is (law (plan_with a s q))
+      ∙ counted (plan_of_text (plan_of_quantum a s q)) plan is (law (plan_of_quantum a s q))
 
-  by_answer : (r : Result Plan SetupFault) → family_in (bus_by (plan_with a s q) r) ≡ family_from (plan_with a s q) (made_plan r) (both_paces q a.tolerance)
+  by_answer : (r : Result Plan SetupFault) → family_in (bus_by (plan_of_quantum a s q) r) ≡ family_from (plan_of_quantum a s q) (made_plan r) (both_paces q a.tolerance)
   by_answer (Ok plan) = refl
   by_answer (Err fault) = refl
 
-  pub family_is : family_of_plan (plan_with a s q) ≡ family_from (plan_with a s q) (runnable_plan (plan_with a s q)) (both_paces q a.tolerance)
+  pub family_is : family_of_plan (plan_of_quantum a s q) ≡ family_from (plan_of_quantum a s q) (runnable_plan (plan_of_quantum a s q)) (both_paces q a.tolerance)
   unfolding family_of_plan
-  family_is = by_answer (plan_of_text (plan_with a s q))
+  family_is = by_answer (plan_of_text (plan_of_quantum a s q))
 
 pub all_fit : (paces : Option (List Pace)) (n : ℕ) → ((ps : List Pace) → paces ≡ Some ps → length ps ≡ n) → IfSome paces (λ ps. length ps ≡ n)
 all_fit None n fit = tt

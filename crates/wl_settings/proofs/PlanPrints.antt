@@ -14,7 +14,7 @@ use Rattle.wl_settings.specs.declared.asked.Setting.{Setting}
 use Rattle.wl_settings.specs.declared.parts.Parts.{Parts}
 use Rattle.wl_settings.specs.declared.parts.Parts.TheVariants.{Each, Joint}
 use Rattle.wl_settings.specs.declared.plan.Quantum.{Quantum}
-use Rattle.wl_settings.specs.Plans.{IsOfKeys, frame_text, later_ready, node_text, plan_with, rate_text, segments_text, version_of, within}
+use Rattle.wl_settings.specs.Plans.{IsOfKeys, frame_text, later_ready, node_text, plan_of_quantum, rate_text, segments_text, version_of, within}
 use Rattle.wl_settings.specs.Settings.{quanta_of_parts, setting_quanta}
 
 number_fits : (n : ℕ) → n ≤ LARGEST_NUMBER → is_number_of_key n ≡ true
@@ -75,7 +75,7 @@ module _ (a : Asked) (s : Setting) (q : Quantum) (h : AreSmall a s) (num : q.num
         frame_fits (version_of s.parts) id ready ids late,
       ) refl
 
-  pub plan_fits : is_printable (plan_with a s q) ≡ true
+  pub plan_fits : is_printable (plan_of_quantum a s q) ≡ true
   plan_fits =
       let per = h.keys.per in
       let near : 30 * setting_quanta s ≤ LARGEST_NUMBER = (let few = h.quanta in omega arith) in

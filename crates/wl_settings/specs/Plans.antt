@@ -111,8 +111,8 @@ abbrev pub both_nodes : Asked → Quantum → Setting → List NodeText
 both_nodes a q s =
     node_text a q s (codes "a") 0 2032 (30 * setting_quanta s) ∷ node_text a q s (codes "b") a.cable 2033 (later_ready a.senders s) ∷ []
 
-abbrev pub plan_with : Asked → Setting → Quantum → PlanText
-plan_with a s q = record {
+abbrev pub plan_of_quantum : Asked → Setting → Quantum → PlanText
+plan_of_quantum a s q = record {
   version = version_of s.parts;
   end = plan_end q s;
   per = a.per;
@@ -125,7 +125,7 @@ plan_with a s q = record {
 
 -- the plan of a setting of a controller with this clock
 abbrev pub setting_plan : Asked → ℕ → Setting → PlanText
-setting_plan a clock s = plan_with a s (setting_quantum a clock s)
+setting_plan a clock s = plan_of_quantum a s (setting_quantum a clock s)
 
 -- as text: a comment that names the controller, and the plan
 unfoldable pub text_of_title : Controller → Setting → List ℕ

@@ -1,7 +1,7 @@
 //! The plan of a setting: two nodes at the ends of the cable.
 ghost use Rattle.std.specs.Prelude.{◌≡◌, ◌++◌, ◌≤◌, ◌<◌, ◌^◌, true, string_bytes, IfOk, OnOk, [], ◌∷◌};
 ghost use Rattle.wl_setup.specs.Kinds.{is_name};
-ghost use Rattle.wl_settings.specs.Plans.{IsOfKeys, ReadsAsPlan, both_nodes, common, data_bytes, frame_text, later_ready, node_text, plan_end, plan_with, rate_text, segments_text, setting_plan, setting_plan_text, setting_quantum, step, text_of_title, version_of, within};
+ghost use Rattle.wl_settings.specs.Plans.{IsOfKeys, ReadsAsPlan, both_nodes, common, data_bytes, frame_text, later_ready, node_text, plan_end, plan_of_quantum, rate_text, segments_text, setting_plan, setting_plan_text, setting_quantum, step, text_of_title, version_of, within};
 
 use crate::asked::{Asked, Controller, Setting};
 use crate::parts::Parts;
@@ -217,13 +217,13 @@ fn both_nodes(
 }
 
 /// Returns the plan of a setting with this quantum.
-fn plan_with(
+fn plan_of_quantum(
     alloc: Global,
     asked: &Asked,
     setting: Setting,
     quantum: Quantum,
 ) -> Result<PlanText, AllocError>
-    ensures { IfOk result (λ plan. plan ≡ plan_with asked.now setting quantum) }
+    ensures { IfOk result (λ plan. plan ≡ plan_of_quantum asked.now setting quantum) }
 {
     Ok(PlanText {
         version: version_of(setting.parts),
@@ -250,7 +250,7 @@ pub fn setting_plan(
     ensures { IfOk result (λ plan. plan ≡ setting_plan asked.now clock setting) }
 {
     let quantum = quantum_of(asked, clock, setting);
-    plan_with(alloc, asked, setting, quantum)
+    plan_of_quantum(alloc, asked, setting, quantum)
 }
 
 /// Adds a comment that names a controller and a setting.
