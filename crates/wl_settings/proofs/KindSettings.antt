@@ -1,7 +1,6 @@
 -- The settings of a controller of a known kind.
-use Rattle.std.proofs.Common.{◌≡◌, ◌↔◌, refl, ap, ℕ, ◌≤◌, ◌&&◌, min, true, List, Some, Contains, arith}
-use Rattle.std.proofs.lemmas.Bool.{and_parts, leb-true}
-use Rattle.std.proofs.lemmas.Bool.Decides.{nat_tests}
+use Rattle.std.proofs.Common.{◌≡◌, refl, ap₂, subst, ℕ, ◌≤◌, ◌&&◌, ◌||◌, nat_le, min, Bool, true, List, Some, Contains, arith}
+use Rattle.std.proofs.lemmas.Bool.{and_parts, le-leb, leb-true}
 use Rattle.std.specs.Result.{is_ok}
 use Rattle.wl_kinds.specs.declared.kinds.ControllerKind.{ControllerKind}
 use Rattle.wl_kinds.specs.Kinds.{allows}
@@ -33,7 +32,7 @@ joint_only : (tseg1 tseg2 : ℕ) (parts : Parts) → fit_parts (Joint tseg1 tseg
 joint_only tseg1 tseg2 (Joint a b) is = refl
 joint_only tseg1 tseg2 (Each a b c) is = is
 
-of_kind : List ℕ → ℕ → ControllerKind → Controller
+abbrev of_kind : List ℕ → ℕ → ControllerKind → Controller
 of_kind name clock k = record { name = name; clock = clock; bounds = bounds_of_kind k }
 
 pub has_no_other : (a : Asked) (name : List ℕ) (clock : ℕ) (k : ControllerKind) (s : Setting)
@@ -52,6 +51,9 @@ has_no_other a name clock k s has =
     }
 
 -- and each of them
+both_are : (a b : Bool) → a ≡ true → b ≡ true → a && b ≡ true
+both_are a b e f = ap₂ (λ x y. x && y) e f
+
 module _ (k : ControllerKind) (p sjw : ℕ) where
   within_registers : (parts : Parts) → p ≤ 4294967295 → is_joint parts ≡ true → is_ok (segments_by parts sjw) ≡ true
       → allows k (setting_taken (record { prescaler = p; parts = parts; sjw = sjw })) ≡ true
@@ -61,13 +63,21 @@ module _ (k : ControllerKind) (p sjw : ℕ) where
       let r0 = r.tseg1_high in
       let r1 = r.tseg2_high in
       let r2 = r.sjw_high in
-      grind (arith, nat_tests)
+      let jump = and_parts _ _ allowed in
+      let second = and_parts _ _ jump.0 in
+      let first = and_parts _ _ second.0 in
+      let prescaler : p ≤ k.prescaler.most = leb-true _ _ (and_parts _ _ (and_parts _ _ first.0).0).1 in
+      let before : tseg1 ≤ k.tseg1.most = leb-true _ _ (and_parts _ _ first.1).1 in
+      let after : tseg2 ≤ k.tseg2.most = leb-true _ _ (and_parts _ _ (and_parts _ _ second.1).0).1 in
+      let within = and_parts _ _ (and_parts _ _ jump.1).0 in
+      let width : sjw ≤ k.sjw.most = leb-true _ _ (and_parts _ _ within.0).1 in
+      both_are _ _ (le-leb p (min k.prescaler.most 4294967295) (omega arith))
+      (both_are _ _ (both_are _ _ (le-leb tseg1 (min k.tseg1.most 65535) (omega arith)) (le-leb tseg2 (min k.tseg2.most 65535) (omega arith)))
+      (both_are _ _ (le-leb sjw (min k.sjw.most 65535) (omega arith)) (both_are _ _ within.1 allowed)))
   within_registers (Each prop ps1 ps2) high joint bit allowed = cc
 
 pub has_each : (a : Asked) (name : List ℕ) (clock : ℕ) (k : ControllerKind) (s : Setting) → IsOfKind a clock k s
     → Contains (possible_settings a (record { name = name; clock = clock; bounds = bounds_of_kind k })) s
 has_each a name clock k s is =
     let fits = within_registers k s.prescaler s.sjw s.parts is.high is.joint is.bit is.allowed in
-    let near = is.near in
-    let bit = is.bit in
-    setting_is_listed a (of_kind name clock k) s is.low (rw (fits, near, bit) refl)
+    setting_is_listed a (of_kind name clock k) s is.low (both_are _ _ fits (both_are _ _ is.near is.bit))

@@ -1,7 +1,6 @@
 -- The family of a setting's plan, by the plan and what its clocks may do.
 use Rattle.std.proofs.Common.{◌≡◌, ◌∙◌, refl, sym, ap, IfSome, ℕ, List, [], ◌∷◌, length, Option, Some, None, option_map, Result, Ok, Err}
 use Rattle.std.specs.List.{enumerate_from}
-use Rattle.wl_bound.specs.declared.condition.Oscillator.{Oscillator}
 use Rattle.wl_bound.specs.Families.{Buses, family_of}
 use Rattle.wl_bound.specs.Oscillators.{Pace}
 use Rattle.wl_margin.specs.Margins.{paces_of}
