@@ -16,14 +16,16 @@ LIMITS = {
 }
 WIDE = {**LIMITS, "version": (4, 4), "tseg1": (2, 256), "tseg2": (2, 128), "sjw": (1, 128)}  # of texts with `version = 4`
 TOP = ["bitrate", "cable", "per", "out", "in", "tolerance", "senders", "controller"], ["rate_error"]
-CONTROLLER = ["name", "clock"], ["prescaler", "prop", "ps1", "ps2", "sjw"]
+CONTROLLER = ["name", "clock"], ["prescaler", "prop", "ps1", "ps2", "sjw", "sjw_above_ps2"]
 WIDE_CONTROLLER = ["name", "clock"], ["kind", "prescaler", "tseg1", "tseg2", "sjw"]
 # The greatest prescaler, TSEG1, TSEG2 and jump width that the registers of a kind hold, by the bits of their fields.
 KINDS = {
     **dict.fromkeys(["m_can", "fdcan", "tcan4550"], (2**9, 2**8, 2**7, 2**7)), "mcp2518fd": (2**8, 2**8, 2**7, 2**7),
     "flexcan": (2**10, 2**6 + 2**5, 2**5, 2**5), "sja1000": (2**6, 2**4, 2**3, 2**2), "c_can": (2**10, 2**4, 2**3, 2**2),
-    "bxcan": (2**10, 2**4, 2**3, 2**2), "mcp2515": (2 * 2**6, 2**3 + 2**3, 2**3, 2**2),
+    "bxcan": (2**10, 2**4, 2**3, 2**2), "mcp2515": (2 * 2**6, 2**3 + 2**3, 2**3, 2**2), "at91": (2**7, 2**4, 2**3, 2**2),
+    "xilinx": (2**8, 2**4, 2**3, 2**2), "book": (2**10, 8 + 8, 8, 4),
 }
+LEAST = {"mcp2515": 2, "at91": 2}  # the least prescaler, if it isn't 1
 INEQUALITIES = {margin.DRIFT: "drift_fits_jump", margin.LATE: "bit_is_there_at_sample", margin.EARLY: "no_bit_too_early"}
 LETTERS = set("abcdefghijklmnopqrstuvwxyzABCDEFGHIJKLMNOPQRSTUVWXYZ0123456789_-")
 SECOND = 10**12
@@ -39,6 +41,7 @@ def is_whole(value):
 
 def is_right(key, value, limits):
     if key == "kind": return isinstance(value, str) and value in KINDS
+    if key == "sjw_above_ps2": return isinstance(value, bool)
     if key == "senders": return value in ("one", "any")
     if key == "name": return isinstance(value, str) and 1 <= len(value) <= 32 and set(value) <= LETTERS
     if key == "controller": return isinstance(value, list) and all(isinstance(table, dict) for table in value)
@@ -99,7 +102,7 @@ def wide_settings_of(top, controller):
     bounds = zip(["prescaler", "tseg1", "tseg2", "sjw"], KINDS.get(kind, (1024, 256, 128, 128)))
     most = {key: min(controller.get(key, high), high) for key, high in bounds}
     clock, rate, error = controller["clock"], top["bitrate"], top.get("rate_error", 0)
-    for prescaler in range(1, most["prescaler"] + 1):
+    for prescaler in range(LEAST.get(kind, 1), most["prescaler"] + 1):
         # By fractions: a bit of so many quanta at the rate, less and more than that by the error.
         exact = Fraction(clock, rate * prescaler)
         least, greatest = ceil(exact / (1 + Fraction(error, 10**6))), int(exact / (1 - Fraction(error, 10**6)))
@@ -119,7 +122,7 @@ def settings_of(top, controller):
     if is_wide(top):
         yield from wide_settings_of(top, controller)
         return
-    most = {key: controller.get(key, LIMITS[key][1]) for key in CONTROLLER[1]}
+    most = {key: controller.get(key, LIMITS[key][1]) for key in CONTROLLER[1][:5]}
     clock, rate, error = controller["clock"], top["bitrate"], top.get("rate_error", 0)
     for prescaler in range(1, most["prescaler"] + 1):
         fit = [quanta for quanta in range(8, 26) if abs(clock - rate * prescaler * quanta) * 10**6 <= error * rate * prescaler * quanta]
@@ -128,7 +131,8 @@ def settings_of(top, controller):
             for ps1 in range(1, most["ps1"] + 1):
                 for ps2 in range(2, most["ps2"] + 1):
                     if 1 + prop + ps1 + ps2 not in fit: continue
-                    for sjw in range(min(4, ps1, most["sjw"]), 0, -1): yield Setting(prescaler, prop, ps1, ps2, sjw)
+                    widest = min(4, ps1, most["sjw"], 4 if controller.get("sjw_above_ps2") else ps2)
+                    for sjw in range(widest, 0, -1): yield Setting(prescaler, prop, ps1, ps2, sjw)
 
 
 def plan_text(top, controller, setting, tick):
@@ -138,10 +142,10 @@ def plan_text(top, controller, setting, tick):
     lines += [f"end = {ceil(Fraction(400 * setting.quanta * num, den))}", f"per = {top['per']}", 'sync = "book"']
     later = 230 if top["senders"] == "one" else 30
     for name, x, number, ready in ("a", 0, 2032, 30), ("b", top["cable"], 2033, later):
-        lines += ["", "[[node]]", f'name = "{name}"', "offset = 0", f"num = {num}", f"den = {den}", f"tolerance = {top['tolerance']}"]
+        lines += ["", "[[node]]", f'name = "{name}"', "offset = 0", f"num = {num}", f"den = {den}"]
         lines += [f"{key} = {value}" for key, value in setting.parts.items()] + [f"sjw = {setting.sjw}", f"x = {x}"]
-        lines += [f"out = {top['out']}", f"in = {top['in']}", "", "[[node.frame]]", f"id = {number}", "dlc = 8", f"ready = {ready * setting.quanta}"]
-        lines += ["bytes = [60, 60, 60, 60, 60, 60, 60, 60]"]
+        lines += [f"out = {top['out']}", f"in = {top['in']}", f"tolerance = {top['tolerance']}"]
+        lines += ["", "[[node.frame]]", f"id = {number:#x}", "dlc = 8", f"ready = {ready * setting.quanta}", f"bytes = [{', '.join(['0x3c'] * 8)}]"]
     return "".join(line + "\n" for line in lines)
 
 

@@ -2,8 +2,12 @@ mod Euclid
 mod FaultLemmas
 mod Found
 mod Growing
+mod KindSettings
 mod Least
 mod MadeTables
+mod PlanFamilies
+mod PlanPrints
+mod PlanReads
 mod Rows
 mod Saying
 mod SettingFacts

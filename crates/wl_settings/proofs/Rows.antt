@@ -1,17 +1,17 @@
 -- The definitions on worked values: by hand, from the rules of a bit and from the words of the output.
-use Rattle.std.proofs.Common.{◌≡◌, ◌+◌, ◌*◌, ◌^◌, refl, ℕ, Bool, true, false, Some, None, codes}
+use Rattle.std.proofs.Common.{◌≡◌, ◌+◌, ◌*◌, ◌^◌, refl, ℕ, Bool, true, false, Some, None, option_map, codes}
 use Rattle.std.specs.Result.{is_ok}
 use Rattle.wl_bound.specs.declared.condition.Senders.TheVariants.{Any, One}
 use Rattle.wl_settings.specs.declared.asked.Asked.{Asked}
 use Rattle.wl_settings.specs.declared.asked.Setting.{Setting}
 use Rattle.wl_settings.specs.declared.judged.Reach.{Reach}
 use Rattle.wl_settings.specs.declared.parts.Parts.TheVariants.{Each, Joint}
-use Rattle.wl_settings.specs.declared.parts.Rules.TheVariants.{Common, Mcp2515}
+use Rattle.wl_kinds.specs.Kinds.{kind_named}
 use Rattle.wl_settings.specs.Judged.{margin, part}
 use Rattle.wl_settings.specs.Plans.{later_ready}
 use Rattle.wl_settings.specs.Rankings.{place_in_order}
-use Rattle.wl_settings.specs.Registers.{bounds_named}
-use Rattle.wl_settings.specs.Settings.{bit_divisor, fits_registers, is_near, obeys, segments_by, setting_quanta}
+use Rattle.wl_settings.specs.Registers.{bounds_of_kind, widest_bounds}
+use Rattle.wl_settings.specs.Settings.{bit_divisor, fits_registers, is_near, is_taken_by, segments_by, setting_quanta}
 use Rattle.wl_settings.specs.Words.{rate_error, sample_permille}
 
 abbrev asked : ℕ → Asked
@@ -51,11 +51,15 @@ rounded_up : rate_error 16000001 (bit_divisor 500000 eight_megahertz) ≡ 1
 rounded_up = refl
 
 -- registers that hold it, and one that is a quantum too narrow
-holds_it : fits_registers (record { prescaler = 2; parts = Each 5 8 2; sjw = 4; rules = Common }) eight_megahertz ≡ true
+holds_it : fits_registers (record { prescaler = 2; parts = Each 5 8 2; sjw = 4; is_sjw_free = true; kind = None }) eight_megahertz ≡ true
 holds_it = refl
 
-too_narrow : fits_registers (record { prescaler = 2; parts = Each 5 7 2; sjw = 4; rules = Common }) eight_megahertz ≡ false
+too_narrow : fits_registers (record { prescaler = 2; parts = Each 5 7 2; sjw = 4; is_sjw_free = true; kind = None }) eight_megahertz ≡ false
 too_narrow = refl
+
+-- its jump width is above PHASE_SEG2
+not_asked_for : fits_registers (record { prescaler = 2; parts = Each 5 8 2; sjw = 4; is_sjw_free = false; kind = None }) eight_megahertz ≡ false
+not_asked_for = refl
 
 -- 80 MHz by 1, and 160 quanta make 500 kbit/s; the sample is after 128 of them
 abbrev eighty_megahertz : Setting
@@ -78,12 +82,12 @@ too_wide : is_ok (segments_by eighty_megahertz.parts 33) ≡ false
 too_wide = refl
 
 -- registers with one length for PROP_SEG and PHASE_SEG1 don't hold three
-other_registers : fits_registers (record { prescaler = 512; parts = Joint 256 128; sjw = 128; rules = Common }) eight_megahertz ≡ false
+other_registers : fits_registers widest_bounds eight_megahertz ≡ false
 other_registers = refl
 
 -- The MCP2515 asks for an even prescaler, PHASE_SEG2 above the jump width, and PHASE_SEG2 of PROP_SEG and PHASE_SEG1 at most.
 abbrev of_mcp2515 : (prescaler tseg1 tseg2 sjw : ℕ) → Bool
-of_mcp2515 prescaler tseg1 tseg2 sjw = obeys Mcp2515 (record { prescaler = prescaler; parts = Joint tseg1 tseg2; sjw = sjw })
+of_mcp2515 prescaler tseg1 tseg2 sjw = is_taken_by (kind_named (codes "mcp2515")) (record { prescaler = prescaler; parts = Joint tseg1 tseg2; sjw = sjw })
 
 obeyed : of_mcp2515 2 13 2 1 ≡ true
 obeyed = refl
@@ -100,14 +104,14 @@ late_enough = refl
 too_early : of_mcp2515 2 7 8 1 ≡ false
 too_early = refl
 
--- a word of the catalogue, with CAN FD and without, and one that is in none
-by_word : bounds_named (codes "mcp2518fd") ≡ Some (record { prescaler = 256; parts = Joint 256 128; sjw = 128; rules = Common })
-by_word = refl
+-- the registers of a kind of the catalogue, and a word that is in none
+parts_by_word : option_map (λ k. (bounds_of_kind k).parts) (kind_named (codes "mcp2518fd")) ≡ Some (Joint 256 128)
+parts_by_word = refl
 
-by_old_word : bounds_named (codes "sja1000") ≡ Some (record { prescaler = 64; parts = Joint 16 8; sjw = 4; rules = Common })
-by_old_word = refl
+jump_by_word : option_map (λ k. (bounds_of_kind k).sjw) (kind_named (codes "sja1000")) ≡ Some 4
+jump_by_word = refl
 
-by_no_word : bounds_named (codes "mcp2516") ≡ None
+by_no_word : kind_named (codes "mcp2516") ≡ None
 by_no_word = refl
 
 -- 84 m more than 40 m are 2.1 times as much, and 6,086 ppm more than 100 ppm are 60.86 times as much

@@ -2,7 +2,7 @@
 use Rattle.std.specs.Prelude.{ℕ, Bool, true, false, List, [], ◌∷◌, codes}
 use Rattle.wl_setup.specs.declared.keys.Kind.TheVariants as plan_kind
 use Rattle.wl_settings.specs.declared.keys.Key.{Key}
-use Rattle.wl_settings.specs.declared.keys.Key.TheVariants.{Version, Bitrate, Cable, Per, Out, In, Tolerance, Senders, Controller, RateError, Name, Clock, Kind, Prescaler, Prop, Ps1, Ps2, Sjw, Tseg1, Tseg2, WideSjw}
+use Rattle.wl_settings.specs.declared.keys.Key.TheVariants.{Version, Bitrate, Cable, Per, Out, In, Tolerance, Senders, Controller, RateError, Name, Clock, Kind, Prescaler, Prop, Ps1, Ps2, Sjw, Tseg1, Tseg2, WideSjw, SjwFree}
 use Rattle.wl_settings.specs.declared.keys.ValueKind.{ValueKind}
 use Rattle.wl_settings.specs.declared.keys.ValueKind.TheVariants as kind
 
@@ -29,6 +29,7 @@ key_word Sjw = codes "sjw"
 key_word Tseg1 = codes "tseg1"
 key_word Tseg2 = codes "tseg2"
 key_word WideSjw = codes "sjw"
+key_word SjwFree = codes "sjw_above_ps2"
 
 -- what its value has to be
 abbrev pub value_kind : Key → ValueKind
@@ -53,6 +54,7 @@ value_kind Sjw = kind.Within 1 4
 value_kind Tseg1 = kind.Within 2 256
 value_kind Tseg2 = kind.Within 2 128
 value_kind WideSjw = kind.Within 1 128
+value_kind SjwFree = kind.OfPlan plan_kind.Truth
 
 -- the keys of the top table and of a controller's, in the order in which they are tested
 abbrev pub bus_required : List Key
@@ -67,5 +69,5 @@ abbrev pub controller_required : List Key
 controller_required = Name ∷ Clock ∷ []
 
 abbrev pub controller_optional : Bool → List Key
-controller_optional false = Prescaler ∷ Prop ∷ Ps1 ∷ Ps2 ∷ Sjw ∷ []
+controller_optional false = Prescaler ∷ Prop ∷ Ps1 ∷ Ps2 ∷ Sjw ∷ SjwFree ∷ []
 controller_optional true = Kind ∷ Prescaler ∷ Tseg1 ∷ Tseg2 ∷ WideSjw ∷ []

@@ -1,10 +1,11 @@
 -- What the value of a key has to be, and what it says (this project's profile).
-use Rattle.std.specs.Prelude.{ℕ, min, ◌==◌, Bool, if◌then◌else◌, List, Option, Some, None, is_some, unwrap_or, option_and_then, codes}
+use Rattle.std.specs.Prelude.{ℕ, min, ◌==◌, Bool, if◌then◌else◌, List, Option, Some, None, is_some, unwrap_or, option_and_then, option_map, false, codes}
 use Rattle.std.specs.List.{filter_map}
 use Rattle.std.specs.Str.{bytes_eq}
-use Rattle.toml.specs.Data.{Data, Members, get_member, as_str, as_table}
+use Rattle.toml.specs.Data.{Data, Members, get_member, as_bool, as_str, as_table}
 use Rattle.wl_bound.specs.declared.condition.Senders.{Senders}
 use Rattle.wl_bound.specs.declared.condition.Senders.TheVariants.{Any, One}
+use Rattle.wl_kinds.specs.Kinds.{kind_named}
 use Rattle.wl_setup.specs.Kinds.{elements_said, has_kind, name_said, number_within}
 use Rattle.wl_settings.specs.declared.asked.Bounds.{Bounds}
 use Rattle.wl_settings.specs.declared.keys.Key.{Key}
@@ -12,7 +13,7 @@ use Rattle.wl_settings.specs.declared.keys.Key.TheVariants as key
 use Rattle.wl_settings.specs.declared.keys.ValueKind.{ValueKind}
 use Rattle.wl_settings.specs.declared.keys.ValueKind.TheVariants as kind
 use Rattle.wl_settings.specs.Keys.{key_word, value_kind}
-use Rattle.wl_settings.specs.Registers.{bounds_named, widest_bounds}
+use Rattle.wl_settings.specs.Registers.{bounds_of_kind, widest_bounds}
 
 -- who sends, as a word says it
 abbrev pub senders_named : List ℕ → Option Senders
@@ -21,9 +22,9 @@ senders_named text = if bytes_eq text (codes "one") then Some One else if bytes_
 abbrev pub senders_in : Data → Option Senders
 senders_in d = option_and_then senders_named (as_str d)
 
--- what the registers of a kind of controllers hold, as its word says it
+-- what controllers of a kind can be set to, as its word says it
 abbrev pub bounds_in : Data → Option Bounds
-bounds_in d = option_and_then bounds_named (as_str d)
+bounds_in d = option_map bounds_of_kind (option_and_then kind_named (as_str d))
 
 -- whether a value is of a kind
 abbrev pub is_of_kind : ValueKind → Data → Bool
@@ -52,6 +53,10 @@ segment_at key without table = min (whole_at key without table) 65535
 
 abbrev pub senders_at : Key → Members → Senders
 senders_at key table = unwrap_or (option_and_then senders_in (data_at key table)) Any
+
+-- false without the key
+abbrev pub flag_at : Key → Members → Bool
+flag_at key table = unwrap_or (option_and_then as_bool (data_at key table)) false
 
 -- the widest without the key
 abbrev pub bounds_at : Key → Members → Bounds

@@ -1,10 +1,22 @@
 -- The plan of a setting: two nodes at the ends of the cable (this project's profile; the keys are those of a plan's text).
-use Rattle.std.specs.Prelude.{ℕ, zero, suc, ◌*◌, ◌/◌, ◌%◌, ◌==◌, max, List, [], ◌∷◌, ◌++◌, codes, if◌then◌else◌}
+use Rattle.std.specs.Prelude.{◌≡◌, ◌≤◌, ℕ, zero, suc, ◌*◌, ◌/◌, ◌%◌, ◌==◌, max, min, List, [], ◌∷◌, ◌++◌, Some, None, Ok, false, codes, if◌then◌else◌}
 use Rattle.std.specs.Fmt.{decimal}
 use Rattle.std.specs.Int.{div_ceil}
 use Rattle.wl_bound.specs.declared.condition.Senders.{Senders}
 use Rattle.wl_bound.specs.declared.condition.Senders.TheVariants.{Any, One}
 use Rattle.wl_margin.specs.Pieces.{joined}
+use Rattle.wl_print.specs.Written.{plan_words}
+use Rattle.wl_segments.specs.declared.SyncRules.TheVariants.{Book}
+use Rattle.wl_setup.specs.declared.limits.TheConstants.{LARGEST_NUMBER, LARGEST_SMALL, LARGEST_TOLERANCE}
+use Rattle.wl_setup.specs.declared.plan_text.ClockText.TheVariants.{Rate}
+use Rattle.wl_setup.specs.declared.plan_text.FrameText.{FrameText}
+use Rattle.wl_setup.specs.declared.plan_text.NodeText.{NodeText}
+use Rattle.wl_setup.specs.declared.plan_text.PlanText.{PlanText}
+use Rattle.wl_setup.specs.declared.plan_text.QueueText.TheVariants.{Fifo}
+use Rattle.wl_setup.specs.declared.plan_text.RateText.{RateText}
+use Rattle.wl_setup.specs.declared.plan_text.SegmentsText.{SegmentsText}
+use Rattle.wl_setup.specs.declared.plan_text.SegmentsText.TheVariants as text
+use Rattle.wl_setup.specs.Reading.{text_answer}
 use Rattle.wl_settings.specs.declared.asked.Asked.{Asked}
 use Rattle.wl_settings.specs.declared.asked.Controller.{Controller}
 use Rattle.wl_settings.specs.declared.asked.Setting.{Setting}
@@ -25,73 +37,112 @@ steps (suc n) pair = step (steps n pair)
 unfoldable pub common : ℕ → ℕ → ℕ
 common a b = (steps 128 (a, b)).0
 
+-- a number of a plan's text: a greater one, which no plan can have, is the greatest
+abbrev pub within : ℕ → ℕ
+within n = min n LARGEST_NUMBER
+
 -- how many ticks the quantum of a setting takes: the periods of the clock in it, each a second by the clock, in lowest terms
 abbrev pub part_of : ℕ → ℕ → ℕ
 part_of num den = max (common num den) 1
 
 abbrev pub in_lowest_terms : ℕ → ℕ → Quantum
-in_lowest_terms num den = record { num = num / part_of num den; den = den / part_of num den }
+in_lowest_terms num den = record { num = within (num / part_of num den); den = within (den / part_of num den) }
 
 abbrev pub setting_quantum : Asked → ℕ → Setting → Quantum
 setting_quantum a clock s = in_lowest_terms (s.prescaler * 1000000000000) (clock * a.tick)
 
 -- The end of the plan: 400 bits.
 abbrev pub plan_end : Quantum → Setting → ℕ
-plan_end q s = div_ceil (400 * setting_quanta s * q.num) (max q.den 1)
+plan_end q s = within (div_ceil (400 * setting_quanta s * q.num) (max q.den 1))
 
 -- Nodes are idle after 11 bits. The first frame becomes ready after 30, and the second one with it; or, if one node sends at a time, after 230.
 abbrev pub later_ready : Senders → Setting → ℕ
 later_ready Any s = 30 * setting_quanta s
 later_ready One s = 230 * setting_quanta s
 
-unfoldable pub text_of_title : Controller → Setting → List ℕ
-text_of_title c s =
-    joined (codes "# " ∷ c.name ∷ codes ", clock " ∷ decimal c.clock ∷ codes " Hz, prescaler " ∷ decimal s.prescaler ∷ codes "\n" ∷ [])
-
--- the version of a plan whose nodes have such segments
+-- the version of a plan whose nodes have such segments, and the segments
 abbrev pub version_of : Parts → ℕ
 version_of (Each prop ps1 ps2) = 1
 version_of (Joint tseg1 tseg2) = 4
 
-unfoldable pub text_of_top : (version end per : ℕ) → List ℕ
-text_of_top version end per =
-    joined (codes "version = " ∷ decimal version ∷ codes "\nend = " ∷ decimal end ∷ codes "\nper = " ∷ decimal per ∷ codes "\nsync = \"book\"\n" ∷ [])
+abbrev pub segments_text : Parts → SegmentsText
+segments_text (Each prop ps1 ps2) = text.Each prop ps1 ps2
+segments_text (Joint tseg1 tseg2) = text.Controller tseg1 tseg2
 
-unfoldable pub text_of_name : List ℕ → List ℕ
-text_of_name name = joined (codes "\n[[node]]\nname = \"" ∷ name ∷ codes "\"\noffset = 0\n" ∷ [])
-
-unfoldable pub text_of_clock : Quantum → ℕ → List ℕ
-text_of_clock q tolerance =
-    joined (codes "num = " ∷ decimal q.num ∷ codes "\nden = " ∷ decimal q.den ∷ codes "\ntolerance = " ∷ decimal tolerance ∷ codes "\n" ∷ [])
-
-unfoldable pub text_of_parts : Parts → List ℕ
-text_of_parts (Each prop ps1 ps2) =
-    joined (codes "prop = " ∷ decimal prop ∷ codes "\nps1 = " ∷ decimal ps1 ∷ codes "\nps2 = " ∷ decimal ps2 ∷ codes "\n" ∷ [])
-text_of_parts (Joint tseg1 tseg2) = joined (codes "tseg1 = " ∷ decimal tseg1 ∷ codes "\ntseg2 = " ∷ decimal tseg2 ∷ codes "\n" ∷ [])
-
-unfoldable pub text_of_bit : Setting → List ℕ
-text_of_bit s = text_of_parts s.parts ++ joined (codes "sjw = " ∷ decimal s.sjw ∷ codes "\n" ∷ [])
-
-unfoldable pub text_of_place : ℕ → Asked → List ℕ
-text_of_place x a =
-    joined (codes "x = " ∷ decimal x ∷ codes "\nout = " ∷ decimal a.out_delay ∷ codes "\nin = " ∷ decimal a.in_delay ∷ codes "\n" ∷ [])
+abbrev pub rate_text : Quantum → RateText
+rate_text q = record { from = 0; clock = Rate q.num q.den }
 
 -- eight bytes whose bits, with stuff bits, are five dominant and five recessive ones in turn
-unfoldable pub text_of_frame : ℕ → ℕ → List ℕ
-text_of_frame id ready =
-    joined (codes "\n[[node.frame]]\nid = " ∷ decimal id ∷ codes "\ndlc = 8\nready = " ∷ decimal ready
-    ∷ codes "\nbytes = [60, 60, 60, 60, 60, 60, 60, 60]\n" ∷ [])
+abbrev pub data_bytes : List ℕ
+data_bytes = 60 ∷ 60 ∷ 60 ∷ 60 ∷ 60 ∷ 60 ∷ 60 ∷ 60 ∷ []
 
-abbrev pub text_of_node : Asked → Quantum → Setting → List ℕ → ℕ → ℕ → ℕ → List ℕ
-text_of_node a q s name x id ready = (((text_of_name name ++ text_of_clock q a.tolerance) ++ text_of_bit s) ++ text_of_place x a) ++ text_of_frame id ready
+abbrev pub frame_text : (id ready : ℕ) → FrameText
+frame_text id ready = record {
+  id = id;
+  dlc = 8;
+  remote = false;
+  bytes = data_bytes;
+  ready = ready;
+  extended = false;
+  every = None;
+  count = None;
+  deadline = None;
+  jitter = None;
+}
 
-abbrev pub text_of_both : Asked → Quantum → Setting → List ℕ
-text_of_both a q s =
-    text_of_node a q s (codes "a") 0 2032 (30 * setting_quanta s) ++ text_of_node a q s (codes "b") a.cable 2033 (later_ready a.senders s)
+abbrev pub node_text : Asked → Quantum → Setting → List ℕ → (x id ready : ℕ) → NodeText
+node_text a q s name x id ready = record {
+  name = name;
+  offset = 0;
+  rates = rate_text q ∷ [];
+  segments = segments_text s.parts;
+  sjw = s.sjw;
+  x = x;
+  out_delay = a.out_delay;
+  in_delay = a.in_delay;
+  frame = frame_text id ready ∷ [];
+  tolerance = Some a.tolerance;
+  listens = false;
+  queue = Fifo;
+  until = None;
+}
 
--- the whole text
-abbrev pub setting_plan : Controller → Asked → Setting → Quantum → List ℕ
-setting_plan c a s q = (text_of_title c s ++ text_of_top (version_of s.parts) (plan_end q s) a.per) ++ text_of_both a q s
+abbrev pub both_nodes : Asked → Quantum → Setting → List NodeText
+both_nodes a q s =
+    node_text a q s (codes "a") 0 2032 (30 * setting_quanta s) ∷ node_text a q s (codes "b") a.cable 2033 (later_ready a.senders s) ∷ []
+
+abbrev pub plan_of_quantum : Asked → Setting → Quantum → PlanText
+plan_of_quantum a s q = record {
+  version = version_of s.parts;
+  end = plan_end q s;
+  per = a.per;
+  node = both_nodes a q s;
+  disturbance = [];
+  sync = Book;
+  tick = None;
+  unit = None;
+}
+
+-- the plan of a setting of a controller with this clock
+abbrev pub setting_plan : Asked → ℕ → Setting → PlanText
+setting_plan a clock s = plan_of_quantum a s (setting_quantum a clock s)
+
+-- as text: a comment that names the controller, and the plan
+unfoldable pub text_of_title : Controller → Setting → List ℕ
+text_of_title c s =
+    joined (codes "# " ∷ c.name ∷ codes ", clock " ∷ decimal c.clock ∷ codes " Hz, prescaler " ∷ decimal s.prescaler ∷ codes "\n" ∷ [])
 
 abbrev pub setting_plan_text : Asked → Controller → Setting → List ℕ
-setting_plan_text a c s = setting_plan c a s (setting_quantum a c.clock s)
+setting_plan_text a c s = text_of_title c s ++ plan_words (setting_plan a c.clock s)
+
+-- the numbers of a bus are within the bounds of a plan's keys
+pub record IsOfKeys (a : Asked) : Type 0 where
+  pub cable : a.cable ≤ LARGEST_SMALL
+  pub per : a.per ≤ LARGEST_NUMBER
+  pub out_delay : a.out_delay ≤ LARGEST_NUMBER
+  pub in_delay : a.in_delay ≤ LARGEST_NUMBER
+  pub tolerance : a.tolerance ≤ LARGEST_TOLERANCE
+
+-- a text is read as the plan of a setting
+abbrev pub ReadsAsPlan : Asked → Controller → Setting → List ℕ → Type 0
+ReadsAsPlan a c s text = text_answer text ≡ Ok (setting_plan a c.clock s)

@@ -1,7 +1,10 @@
 -- Which settings have the bit rate. This project's; what is taken from public texts is named.
-use Rattle.std.specs.Prelude.{ℕ, zero, suc, ◌+◌, ◌-◌, ◌*◌, ◌%◌, ◌==◌, ◌&&◌, nat_le, nat_lt, Bool, true, false, List, [], ◌∷◌, ◌++◌, Result, if◌then◌else◌}
+use Rattle.std.specs.Prelude.{ℕ, zero, suc, ◌+◌, ◌-◌, ◌*◌, ◌&&◌, ◌||◌, nat_le, Bool, true, false, List, [], ◌∷◌, ◌++◌, Option, Some, None, Result, if◌then◌else◌}
 use Rattle.std.specs.Int.{abs_diff}
 use Rattle.std.specs.Result.{is_ok}
+use Rattle.wl_kinds.specs.declared.kinds.ControllerKind.{ControllerKind}
+use Rattle.wl_kinds.specs.declared.kinds.Taken.{Taken}
+use Rattle.wl_kinds.specs.Kinds.{allows}
 use Rattle.wl_segments.specs.declared.SegmentsFault.{SegmentsFault}
 use Rattle.wl_segments.specs.Lengths.{Lengths, controller_segments_of, segments_of}
 use Rattle.wl_settings.specs.declared.asked.Asked.{Asked}
@@ -9,8 +12,6 @@ use Rattle.wl_settings.specs.declared.asked.Bounds.{Bounds}
 use Rattle.wl_settings.specs.declared.asked.Controller.{Controller}
 use Rattle.wl_settings.specs.declared.parts.Parts.{Parts}
 use Rattle.wl_settings.specs.declared.parts.Parts.TheVariants.{Each, Joint}
-use Rattle.wl_settings.specs.declared.parts.Rules.{Rules}
-use Rattle.wl_settings.specs.declared.parts.Rules.TheVariants.{Common, Mcp2515}
 use Rattle.wl_settings.specs.declared.asked.Setting.{Setting}
 
 -- the quanta of a bit: SYNC_SEG, PROP_SEG, PHASE_SEG1 and PHASE_SEG2 (Bosch CAN 2.0 part B, section 10); TSEG1 is PROP_SEG and PHASE_SEG1 as one
@@ -22,10 +23,19 @@ quanta_of_parts (Joint tseg1 tseg2) = 1 + tseg1 + tseg2
 abbrev pub setting_quanta : Setting → ℕ
 setting_quanta s = quanta_of_parts s.parts
 
--- the quanta after the sample
+-- the quanta of PROP_SEG and PHASE_SEG1, and those after the sample
+abbrev pub quanta_of_tseg1 : Parts → ℕ
+quanta_of_tseg1 (Each prop ps1 ps2) = prop + ps1
+quanta_of_tseg1 (Joint tseg1 tseg2) = tseg1
+
 abbrev pub quanta_after_sample : Parts → ℕ
 quanta_after_sample (Each prop ps1 ps2) = ps2
 quanta_after_sample (Joint tseg1 tseg2) = tseg2
+
+-- PROP_SEG and PHASE_SEG1 are one length
+abbrev pub is_joint : Parts → Bool
+is_joint (Each prop ps1 ps2) = false
+is_joint (Joint tseg1 tseg2) = true
 
 -- the segments, if there are such
 abbrev pub segments_by : Parts → ℕ → Result Lengths SegmentsFault
@@ -45,17 +55,27 @@ fit_parts (Each prop ps1 ps2) (Each a b c) = nat_le a prop && (nat_le b ps1 && n
 fit_parts (Joint tseg1 tseg2) (Joint a b) = nat_le a tseg1 && nat_le b tseg2
 fit_parts _ _ = false
 
--- What a data sheet asks beyond that. A quantum of the MCP2515 takes two periods of its oscillator or a multiple of them; its PHASE_SEG2 is longer
--- than the jump width and at most PROP_SEG and PHASE_SEG1 together (Microchip, MCP2515 data sheet, bit timing; from memory).
-abbrev pub obeys : Rules → Setting → Bool
-obeys Common s = true
-obeys Mcp2515 s =
-    s.prescaler % 2 == 0
-    && (nat_lt s.sjw (quanta_after_sample s.parts) && nat_lt (quanta_after_sample s.parts) (setting_quanta s - quanta_after_sample s.parts))
+-- what the catalogue of kinds is asked of a setting
+abbrev pub setting_taken : Setting → Taken
+setting_taken s = record {
+  prescaler = Some s.prescaler;
+  tseg1 = quanta_of_tseg1 s.parts;
+  tseg2 = quanta_after_sample s.parts;
+  sjw = s.sjw;
+}
 
--- the registers hold it
+-- a controller of the kind can be set so, if the kind is known
+abbrev pub is_taken_by : Option ControllerKind → Setting → Bool
+is_taken_by None s = true
+is_taken_by (Some kind) s = allows kind (setting_taken s)
+
+-- The jump width is at most PHASE_SEG2, as drivers ask, unless it may be above it (Bosch CAN 2.0 part B, section 10: it is at most PHASE_SEG1).
+abbrev pub obeys : Bounds → Setting → Bool
+obeys b s = (b.is_sjw_free || nat_le s.sjw (quanta_after_sample s.parts)) && is_taken_by b.kind s
+
+-- a controller can be set so
 abbrev pub fits_registers : Bounds → Setting → Bool
-fits_registers b s = nat_le s.prescaler b.prescaler && (fit_parts b.parts s.parts && (nat_le s.sjw b.sjw && obeys b.rules s))
+fits_registers b s = nat_le s.prescaler b.prescaler && (fit_parts b.parts s.parts && (nat_le s.sjw b.sjw && obeys b s))
 
 -- The bit rate of bits of so many quanta deviates from the one asked for by at most `rate_error` parts per million.
 abbrev pub is_rate_near : Asked → (clock prescaler quanta : ℕ) → Bool

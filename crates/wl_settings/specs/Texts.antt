@@ -17,21 +17,21 @@ use Rattle.wl_settings.specs.declared.fault.SettingsFault.TheVariants as fault
 use Rattle.wl_settings.specs.declared.keys.Key.TheVariants as key
 use Rattle.wl_settings.specs.declared.parts.Parts.{Parts}
 use Rattle.wl_settings.specs.declared.parts.Parts.TheVariants.{Each, Joint}
-use Rattle.wl_settings.specs.declared.parts.Rules.TheVariants.{Common}
 use Rattle.wl_settings.specs.declared.read.Wanted.{Wanted}
 use Rattle.wl_settings.specs.Faults.{AnswersFault, controller_fault, wanted_fault}
-use Rattle.wl_settings.specs.Kinds.{bounds_at, has_joint_parts, values_at, name_in_table, whole_at, segment_at, senders_at}
+use Rattle.wl_settings.specs.Kinds.{bounds_at, flag_at, has_joint_parts, values_at, name_in_table, whole_at, segment_at, senders_at}
 
--- what the registers of a controller hold: if a key is absent, as much as the format allows
+-- what a controller can be set to: if a key is absent, as much as the format allows
 abbrev pub single_bounds_of : Members → Bounds
 single_bounds_of table = record {
   prescaler = whole_at key.Prescaler 1024 table;
   parts = Each (segment_at key.Prop 8 table) (segment_at key.Ps1 8 table) (segment_at key.Ps2 8 table);
   sjw = segment_at key.Sjw 4 table;
-  rules = Common;
+  is_sjw_free = flag_at key.SjwFree table;
+  kind = None;
 }
 
--- The same if PROP_SEG and PHASE_SEG1 are one length. Of a known kind they hold no more than its data sheet says.
+-- The same if PROP_SEG and PHASE_SEG1 are one length. A controller of a known kind can be set to what the kind allows.
 abbrev pub lesser_parts : Parts → (tseg1 tseg2 : ℕ) → Parts
 lesser_parts (Each prop ps1 ps2) tseg1 tseg2 = Each prop ps1 ps2
 lesser_parts (Joint a b) tseg1 tseg2 = Joint (min a tseg1) (min b tseg2)
@@ -41,7 +41,8 @@ lesser_bounds b table = record {
   prescaler = min b.prescaler (whole_at key.Prescaler 1024 table);
   parts = lesser_parts b.parts (segment_at key.Tseg1 256 table) (segment_at key.Tseg2 128 table);
   sjw = min b.sjw (segment_at key.WideSjw 128 table);
-  rules = b.rules;
+  is_sjw_free = b.is_sjw_free;
+  kind = b.kind;
 }
 
 abbrev pub bounds_of : Bool → Members → Bounds

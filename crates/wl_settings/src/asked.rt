@@ -1,9 +1,10 @@
 //! What is asked for, for which controller, and what a setting is.
 ghost use Rattle.std.specs.Prelude.{◌≡◌, ◌<◌, ◌^◌};
-ghost use Rattle.wl_settings.specs.Settings.{bit_divisor, divisor_of, fits_registers, is_near, is_rate_near, obeys, setting_quanta};
+ghost use Rattle.wl_settings.specs.Settings.{bit_divisor, divisor_of, fits_registers, is_near, is_rate_near, is_taken_by, obeys, setting_quanta, setting_taken};
 
-use crate::parts::{Parts, Rules};
+use crate::parts::Parts;
 use wl_bound::Senders;
+use wl_kinds::{ControllerKind, Taken};
 use wl_setup::Text;
 
 /// The greatest part of a rate that is counted: a million.
@@ -32,17 +33,19 @@ pub struct Asked {
     pub tick: u64,
 }
 
-/// The greatest values that the registers of a controller hold.
-#[derive(Clone, Copy, Debug, PartialEq, Eq)]
+/// What a controller can be set to.
+#[derive(Clone, Copy, Debug)]
 pub struct Bounds {
-    /// Of the prescaler.
+    /// The greatest prescaler.
     pub prescaler: u32,
-    /// Of each segment, in quanta.
+    /// The greatest of each segment, in quanta.
     pub parts: Parts,
-    /// Of the jump width, in quanta.
+    /// The greatest jump width, in quanta.
     pub sjw: u16,
-    /// What the data sheet asks besides.
-    pub rules: Rules,
+    /// True if the jump width may be above PHASE_SEG2.
+    pub is_sjw_free: bool,
+    /// The kind of the controller, if it is known.
+    pub kind: Option<ControllerKind>,
 }
 
 /// A CAN controller.
@@ -52,7 +55,7 @@ pub struct Controller {
     pub name: Text,
     /// The frequency of its clock, in Hz.
     pub clock: u32,
-    /// What its registers hold.
+    /// What it can be set to.
     pub bounds: Bounds,
 }
 
@@ -87,18 +90,13 @@ impl Asked {
     }
 }
 
-impl Rules {
-    /// True if the setting does what the data sheet asks.
-    fn are_obeyed(self, setting: Setting) -> bool
-        ensures { result ≡ obeys self setting }
+impl Bounds {
+    /// True if the jump width is at most PHASE_SEG2, or may be above it, and a controller of the kind can be set so.
+    fn are_obeyed(&self, setting: Setting) -> bool
+        ensures { result ≡ obeys self.now setting }
     {
-        let after = setting.parts.after_sample();
-        match self {
-            Rules::Common => true,
-            Rules::Mcp2515 => setting.prescaler % 2 == 0
-                && setting.sjw < after
-                && (after as u64) < setting.quanta() - after as u64,
-        }
+        (self.is_sjw_free || setting.sjw <= setting.parts.after_sample())
+            && setting.is_taken_by(self.kind)
     }
 }
 
@@ -119,14 +117,36 @@ impl Setting {
         asked.divisor(self.prescaler, self.quanta())
     }
 
-    /// True if the registers hold the setting.
-    pub(crate) fn is_within(self, bounds: Bounds) -> bool
-        ensures { result ≡ fits_registers bounds self }
+    /// Returns the setting as the catalogue of kinds takes it.
+    pub(crate) fn taken(self) -> Taken
+        ensures { result ≡ setting_taken self }
+    {
+        Taken {
+            prescaler: Some(self.prescaler as u64),
+            tseg1: self.parts.before_sample() as u64,
+            tseg2: self.parts.after_sample() as u64,
+            sjw: self.sjw as u64,
+        }
+    }
+
+    /// True if a controller of this kind can be set so, or if no kind is known.
+    fn is_taken_by(self, kind: Option<ControllerKind>) -> bool
+        ensures { result ≡ is_taken_by kind self }
+    {
+        match kind {
+            Some(kind) => kind.allows(self.taken()),
+            None => true,
+        }
+    }
+
+    /// True if a controller can be set so: the registers hold the setting, and the kind allows it.
+    pub(crate) fn is_within(self, bounds: &Bounds) -> bool
+        ensures { result ≡ fits_registers bounds.now self }
     {
         self.prescaler <= bounds.prescaler
             && self.parts.fit(bounds.parts)
             && self.sjw <= bounds.sjw
-            && bounds.rules.are_obeyed(self)
+            && bounds.are_obeyed(self)
     }
 
     /// True if the bit rate deviates from the one asked for by at most `rate_error` parts per million.

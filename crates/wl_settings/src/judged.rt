@@ -1,14 +1,18 @@
 //! What the condition for a sound bus says of a setting.
-ghost use Rattle.std.specs.Prelude.{◌≡◌, IfOk};
-ghost use Rattle.wl_settings.specs.Judged.{AreFigures, IsReach, IsRefusalOf, IsRowOf, family_of_text, margin, part};
-ghost use Rattle.wl_settings.specs.Plans.{setting_plan_text};
+ghost use Rattle.std.specs.Prelude.{◌≡◌, IfOk, IfSome, [], ◌∷◌, length, option_map};
+ghost use Rattle.wl_bound.specs.Families.{family_of};
+ghost use Rattle.wl_settings.specs.Judged.{AreFigures, IsReach, IsRefusalOf, IsRowOf, both_paces, deviation_by, family_at, margin, part, runnable_plan};
+ghost use Rattle.wl_settings.specs.Plans.{setting_plan, setting_quantum};
 
 use crate::asked::{Asked, Controller, Setting};
-use crate::plan::plan_text;
+use crate::plan::{Quantum, quantum_of, setting_plan};
 use std::alloc::{AllocError, Global};
-use wl_bound::{Failure, Family, Senders};
+use wl_bound::{Failure, Family, Oscillator, Senders};
+use wl_clock::Rate;
+use wl_level::Listed;
 use wl_margin::oscillators;
-use wl_setup::{SetupFault, bus_of_bytes};
+use wl_plan::CheckedPlan;
+use wl_setup::{Deviation, SetupFault, buses_of_plans};
 
 /// How far a bus may grow; `None` if the condition doesn't hold as it is.
 #[derive(Clone, Copy, Debug, PartialEq, Eq)]
@@ -43,20 +47,31 @@ pub struct Refusal {
     pub shortage: u128,
 }
 
-/// Returns the family of a plan's text, if it is a plan whose rates make clocks.
-#[tactic(auto, unfolding(crate::specs::Judged::family_of_text))]
-fn family(alloc: Global, text: &str) -> Result<Option<Family>, AllocError>
-    ensures { IfOk result (λ family. family ≡ family_of_text text.now) }
+/// Returns what the clock of a node may do: it deviates from this quantum by at most the tolerance, in parts per million.
+fn deviation(alloc: Global, quantum: Quantum, tolerance: u32) -> Result<Deviation, AllocError>
+    ensures { IfOk result (λ d. d ≡ deviation_by quantum tolerance) }
 {
-    let bus = match bus_of_bytes(alloc, text.as_bytes()) {
-        Ok(bus) => bus,
-        Err(SetupFault::Memory) => return Err(AllocError),
-        Err(_) => return Ok(None),
-    };
-    match oscillators(alloc, bus.deviations.as_slice())? {
-        Some(all) => Ok(Some(Family::of_plan(alloc, &bus.plan, all.as_slice())?)),
-        None => Ok(None),
-    }
+    let mut rates = Listed::new(alloc);
+    rates.push(Rate {
+        from: 0,
+        num: quantum.num as u128,
+        den: quantum.den,
+    })?;
+    Ok(Deviation { rates, tolerance })
+}
+
+/// Returns what the clocks of both nodes may do.
+fn deviations(
+    alloc: Global,
+    quantum: Quantum,
+    tolerance: u32,
+) -> Result<Listed<Deviation>, AllocError>
+    ensures { IfOk result (λ all. all ≡ deviation_by quantum tolerance ∷ deviation_by quantum tolerance ∷ []) }
+{
+    let mut all = Listed::new(alloc);
+    all.push(deviation(alloc, quantum, tolerance)?)?;
+    all.push(deviation(alloc, quantum, tolerance)?)?;
+    Ok(all)
 }
 
 /// Returns the part, in thousandths of what is asked for, by which something may grow.
@@ -105,17 +120,67 @@ fn row_of(asked: &Asked, setting: Setting, family: &Family) -> WorkingSetting
     }
 }
 
-/// Returns the family of the plan of a setting, if the plan can be run.
-fn family_of(
+/// Returns the plan of a setting, if it can be run.
+fn checked_plan(
     alloc: Global,
     asked: &Asked,
-    controller: &Controller,
+    clock: u32,
+    setting: Setting,
+) -> Result<Option<CheckedPlan>, AllocError>
+    ensures { IfOk result (λ plan. plan ≡ runnable_plan (setting_plan asked.now clock setting)) }
+{
+    let text = setting_plan(alloc, asked, clock, setting)?;
+    match text.plan(alloc) {
+        Ok(plan) => Ok(Some(plan)),
+        Err(SetupFault::Memory) => Err(AllocError),
+        Err(_) => Ok(None),
+    }
+}
+
+/// Returns the family of a setting's plan and of oscillators, if these are some.
+fn family_with(
+    alloc: Global,
+    plan: &CheckedPlan,
+    oscillators: Option<Listed<Oscillator>>,
+) -> Result<Option<Family>, AllocError>
+    requires { IfSome oscillators (λ all. length all ≡ length plan.now.nodes) }
+    ensures { IfOk result (λ family. family ≡ option_map (family_of plan.now) oscillators) }
+{
+    match oscillators {
+        Some(all) => Ok(Some(Family::of_plan(alloc, plan, all.as_slice())?)),
+        None => Ok(None),
+    }
+}
+
+/// Returns the oscillators of both nodes of a setting's plan, if the rates make clocks.
+fn both_oscillators(
+    alloc: Global,
+    asked: &Asked,
+    clock: u32,
+    setting: Setting,
+) -> Result<Option<Listed<Oscillator>>, AllocError>
+    ensures { IfOk result (λ all. all ≡ both_paces (setting_quantum asked.now clock setting) asked.now.tolerance) }
+{
+    let quantum = quantum_of(asked, clock, setting);
+    let deviations = deviations(alloc, quantum, asked.tolerance)?;
+    oscillators(alloc, deviations.as_slice())
+}
+
+/// Returns the family of the plan of a setting, if the plan can be run and its rates make clocks.
+fn family_of_setting(
+    alloc: Global,
+    asked: &Asked,
+    clock: u32,
     setting: Setting,
 ) -> Result<Option<Family>, AllocError>
-    ensures { IfOk result (λ family. family ≡ family_of_text (setting_plan_text asked.now controller.now setting)) }
+    ensures { IfOk result (λ family. family ≡ family_at asked.now clock setting) }
 {
-    let text = plan_text(alloc, asked, controller, setting)?;
-    family(alloc, text.as_str())
+    buses_of_plans();
+    let Some(plan) = checked_plan(alloc, asked, clock, setting)? else {
+        return Ok(None);
+    };
+    let all = both_oscillators(alloc, asked, clock, setting)?;
+    family_with(alloc, &plan, all)
 }
 
 /// Returns the row of a setting, if the bus works with it.
@@ -127,7 +192,7 @@ pub(crate) fn find_row(
 ) -> Result<Option<WorkingSetting>, AllocError>
     ensures { IfOk result (IsRowOf asked.now controller.now setting) }
 {
-    let family = match family_of(alloc, asked, controller, setting)? {
+    let family = match family_of_setting(alloc, asked, controller.clock, setting)? {
         Some(family) => family,
         None => return Ok(None),
     };
@@ -146,7 +211,7 @@ pub(crate) fn find_refusal(
 ) -> Result<Option<Refusal>, AllocError>
     ensures { IfOk result (IsRefusalOf asked.now controller.now setting) }
 {
-    let family = match family_of(alloc, asked, controller, setting)? {
+    let family = match family_of_setting(alloc, asked, controller.clock, setting)? {
         Some(family) => family,
         None => return Ok(None),
     };

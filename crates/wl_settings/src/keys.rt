@@ -47,6 +47,8 @@ pub enum Key {
     Tseg2,
     /// The key `sjw` beside `tseg1` and `tseg2`.
     WideSjw,
+    /// Whether the jump width may be above PHASE_SEG2.
+    SjwFree,
 }
 
 impl Key {
@@ -71,6 +73,7 @@ impl Key {
             Key::Tseg1 => ValueKind::Within(2, 256),
             Key::Tseg2 => ValueKind::Within(2, 128),
             Key::WideSjw => ValueKind::Within(1, 128),
+            Key::SjwFree => ValueKind::OfPlan(Kind::Truth),
         }
     }
 }
@@ -105,6 +108,7 @@ impl TableKey for Key {
             Key::Sjw | Key::WideSjw => "sjw",
             Key::Tseg1 => "tseg1",
             Key::Tseg2 => "tseg2",
+            Key::SjwFree => "sjw_above_ps2",
         }
     }
 

@@ -23,10 +23,13 @@ mod words;
 pub use asked::{Asked, Bounds, Controller, Setting};
 pub use fault::SettingsFault;
 pub use judged::{Reach, Refusal, WorkingSetting};
-pub use laws::{all_settings_are_listed, settings_have_own_places};
+pub use laws::{
+    all_settings_are_listed, kinds_are_obeyed, kinds_are_whole, settings_have_own_places,
+};
 pub use listing::{Listing, list};
-pub use parts::{Parts, Rules};
-pub use plan::plan_text;
+pub use parts::Parts;
+pub use plan::{plan_text, setting_plan};
 pub use possible::possible_settings;
+pub use registers::bounds_of_kind;
 pub use run::settings_run;
 pub use said::Shown;

@@ -1,6 +1,6 @@
-//! How a bit is parted, and which data sheet says more of that.
+//! How a bit is parted.
 ghost use Rattle.std.specs.Prelude.{◌≡◌, ◌≤◌, ◌<◌, ◌^◌};
-ghost use Rattle.wl_settings.specs.Settings.{fit_parts, quanta_after_sample, quanta_of_parts, segments_by};
+ghost use Rattle.wl_settings.specs.Settings.{fit_parts, quanta_after_sample, quanta_of_tseg1, quanta_of_parts, segments_by};
 
 use wl_segments::{Segments, SegmentsFault};
 
@@ -13,15 +13,6 @@ pub enum Parts {
     Joint { tseg1: u16, tseg2: u16 },
 }
 
-/// What the data sheet of a controller asks beyond the ranges of its registers and ISO 11898-1.
-#[derive(Clone, Copy, Debug, PartialEq, Eq)]
-pub enum Rules {
-    /// Nothing.
-    Common,
-    /// Of the MCP2515: the prescaler is even, PHASE_SEG2 is above the jump width and at most PROP_SEG and PHASE_SEG1 together.
-    Mcp2515,
-}
-
 impl Parts {
     /// Returns the quanta of the bit.
     pub fn quanta(self) -> u64
@@ -32,6 +23,16 @@ impl Parts {
         match self {
             Parts::Each { prop, ps1, ps2 } => 1 + prop as u64 + ps1 as u64 + ps2 as u64,
             Parts::Joint { tseg1, tseg2 } => 1 + tseg1 as u64 + tseg2 as u64,
+        }
+    }
+
+    /// Returns the quanta of PROP_SEG and PHASE_SEG1 together: at most 2^17.
+    pub fn before_sample(self) -> u32
+        ensures { result ≡ quanta_of_tseg1 self }
+    {
+        match self {
+            Parts::Each { prop, ps1, .. } => prop as u32 + ps1 as u32,
+            Parts::Joint { tseg1, .. } => tseg1 as u32,
         }
     }
 

@@ -24,7 +24,7 @@ struct Question<'a> {
 fn is_possible(question: &Question, setting: Setting) -> bool
     ensures { result ≡ is_setting question.now.asked.now question.now.controller.now setting }
 {
-    setting.is_within(question.controller.bounds)
+    setting.is_within(&question.controller.bounds)
         && setting.is_near(question.asked, question.controller.clock)
         && setting.parts.segments(setting.sjw).is_ok()
 }

@@ -8,9 +8,9 @@ ghost use Rattle.wl_settings.specs.Texts.{AnswersControllers, IsWantedAnswer, Re
 use crate::asked::{Asked, Bounds, Controller};
 use crate::fault::SettingsFault;
 use crate::keys::Key;
-use crate::parts::{Parts, Rules};
+use crate::parts::Parts;
 use crate::tables::check_table;
-use crate::values::{bounds_at, has_joint_parts, number_at, segment_at, senders_at};
+use crate::values::{bounds_at, flag_at, has_joint_parts, number_at, segment_at, senders_at};
 use std::alloc::{AllocError, Global};
 use toml::{Table, Value};
 use wl_device::{Ended, Source};
@@ -26,7 +26,7 @@ pub struct Wanted {
     pub controllers: Listed<Controller>,
 }
 
-/// Returns what the registers of a controller hold, each segment by itself.
+/// Returns what a controller can be set to, each segment by itself.
 fn single_bounds_of(table: &Table) -> Bounds
     ensures { result ≡ single_bounds_of (table_view table.now) }
 {
@@ -38,7 +38,8 @@ fn single_bounds_of(table: &Table) -> Bounds
             ps2: segment_at(table, Key::Ps2, 8),
         },
         sjw: segment_at(table, Key::Sjw, 4),
-        rules: Rules::Common,
+        is_sjw_free: flag_at(table, Key::SjwFree),
+        kind: None,
     }
 }
 
@@ -55,7 +56,7 @@ fn lesser_parts(parts: Parts, tseg1: u16, tseg2: u16) -> Parts
     }
 }
 
-/// Returns what the registers of a controller hold that are these at most.
+/// Returns what a controller can be set to that its registers and these bounds allow.
 fn lesser_bounds(bounds: Bounds, table: &Table) -> Bounds
     ensures { result ≡ lesser_bounds bounds (table_view table.now) }
 {
@@ -65,11 +66,12 @@ fn lesser_bounds(bounds: Bounds, table: &Table) -> Bounds
         prescaler: bounds.prescaler.min(number_at(table, Key::Prescaler, 1024)),
         parts: lesser_parts(bounds.parts, tseg1, tseg2),
         sjw: bounds.sjw.min(segment_at(table, Key::WideSjw, 128)),
-        rules: bounds.rules,
+        is_sjw_free: bounds.is_sjw_free,
+        kind: bounds.kind,
     }
 }
 
-/// Returns what the registers of a controller hold.
+/// Returns what a controller can be set to.
 fn bounds_of(joint: bool, table: &Table) -> Bounds
     ensures { result ≡ bounds_of joint (table_view table.now) }
 {
@@ -93,7 +95,14 @@ fn controller_optional(joint: bool) -> &'static [Key]
             Key::WideSjw,
         ]
     } else {
-        &[Key::Prescaler, Key::Prop, Key::Ps1, Key::Ps2, Key::Sjw]
+        &[
+            Key::Prescaler,
+            Key::Prop,
+            Key::Ps1,
+            Key::Ps2,
+            Key::Sjw,
+            Key::SjwFree,
+        ]
     }
 }
 

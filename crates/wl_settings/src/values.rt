@@ -1,13 +1,14 @@
 //! What the values of a table's keys are, and what they say.
 ghost use Rattle.std.specs.Prelude.{◌≡◌, ◌≤◌, ◌<◌, ◌^◌};
 ghost use Rattle.toml.specs.View.{view, table_view};
-ghost use Rattle.wl_settings.specs.Kinds.{bounds_at, bounds_in, has_joint_parts, is_of_kind, whole_at, segment_at, senders_at, senders_in, senders_named};
+ghost use Rattle.wl_settings.specs.Kinds.{bounds_at, bounds_in, flag_at, has_joint_parts, is_of_kind, whole_at, segment_at, senders_at, senders_in, senders_named};
 
 use crate::asked::Bounds;
 use crate::keys::{Key, VERSION_OF_CONTROLLERS, ValueKind};
-use crate::registers::{bounds_named, widest_bounds};
+use crate::registers::{bounds_of_kind, widest_bounds};
 use toml::{Table, Value};
 use wl_bound::Senders;
+use wl_kinds::kind_named;
 use wl_setup::{has_kind, number_within, value_at};
 
 /// Returns who sends, as a word says it.
@@ -32,12 +33,12 @@ fn senders_in(value: &Value) -> Option<Senders>
     }
 }
 
-/// Returns what the registers of a kind of controllers hold, as its word says it.
+/// Returns what controllers of a kind can be set to, as its word says it.
 fn bounds_in(value: &Value) -> Option<Bounds>
     ensures { result ≡ bounds_in (view value.now) }
 {
-    match value.as_str() {
-        Some(word) => bounds_named(word),
+    match kind_named(value.as_str()?) {
+        Some(kind) => Some(bounds_of_kind(kind)),
         None => None,
     }
 }
@@ -76,7 +77,17 @@ pub(crate) fn segment_at(table: &Table, key: Key, without: u16) -> u16
     number_at(table, key, without as u32).min(65_535) as u16
 }
 
-/// Returns what the registers of the kind at a key hold; without the key the widest.
+/// Returns the truth at a key; false without the key.
+pub(crate) fn flag_at(table: &Table, key: Key) -> bool
+    ensures { result ≡ flag_at key (table_view table.now) }
+{
+    match value_at(table, key) {
+        Some(value) => value.as_bool().unwrap_or(false),
+        None => false,
+    }
+}
+
+/// Returns what controllers of the kind at a key can be set to; without the key what the widest registers can.
 pub(crate) fn bounds_at(table: &Table, key: Key) -> Bounds
     ensures { result ≡ bounds_at key (table_view table.now) }
 {
