@@ -54,7 +54,9 @@ sends_by by j (member ∷ later) (suc i) less =
 
 module _ (plan : Plan) (paces : List Pace) (messages : List MessageWait) (same : length paces ≡ length plan.nodes) where
   member_with : (i : ℕ) → i < length plan.nodes → member_at (family_with plan paces messages) i ≡ record (member_at (family_of plan paces) i) { sends = is_sender messages i }
-  member_with i node = sends_by (is_sender messages) 0 (members_of plan.nodes paces) i (let all = members-length plan.nodes paces same in omega arith)
+  member_with i node =
+      sends_by (is_sender messages) 0 (members_of plan.nodes paces) i (let all = members-length plan.nodes paces same in omega arith)
+      ∙ ap (λ n. record (member_at (family_of plan paces) i) { sends = is_sender messages n }) {x = 0 + i} {y = i} (omega arith)
 
   pub plan_of_senders : IsRunnable plan → keep_pace plan (family_with plan paces messages) ≡ true → is_covered plan ≡ true → outside_of plan ≡ None
       → ((i : ℕ) → i < length plan.nodes → has_frames (setup_at plan i) ≡ true → is_sender messages i ≡ true) → IsPlanOfFamily (family_with plan paces messages) plan

@@ -18,7 +18,7 @@ use Rattle.wl_bound.specs.Oscillators.{Pace}
 use Rattle.wl_bound.specs.Terms.{ahead, answered, apart, behind, chase, drift, early, edges, jump, late, look, lost, pull, pulled, several, spread, strays, tour, trip, way}
 use Rattle.wl_bound.specs.Verdicts.{outside_of}
 use Rattle.wl_bound.specs.declared.condition.Senders.TheVariants.{Any, One}
-use Rattle.wl_bound.specs.Rooms.{distance, edges_to, gain, gathering, leaves_room, least_chase}
+use Rattle.wl_bound.specs.Rooms.{beyond_jump, distance, edges_to, gain, gathering, leaves_room, least_chase, left_over}
 use Rattle.wl_margin.specs.Paces.{keep_pace}
 use Rattle.wl_proved.specs.CleanRuns.{as_passing, frames_from, passing_of}
 
@@ -88,7 +88,7 @@ unfolding ahead answered apart behind chase delay_in drift early edges first_fai
 sound_for_one = refl
 
 pub has_room : leaves_room family ≡ true
-unfolding delay_in distance drift edges_to gain gathering jump least_chase lengths_in longest_in look sends_in shortest_in turns_in
+unfolding beyond_jump delay_in distance drift edges_to gain gathering jump least_chase left_over lengths_in longest_in look sends_in shortest_in turns_in
 has_room = refl
 
 -- node 2 sends the first and the last of three frames, and node 0 the one between them
