@@ -1,5 +1,5 @@
 -- What the program does for words that name a task alone.
-use Rattle.std.proofs.Common.{◌≡◌, refl, subst, inl, arith, ℕ, ◌==◌, Bool, true, false, [], List, map, string_bytes, Option, Some, None}
+use Rattle.std.proofs.Common.{◌≡◌, refl, sym, subst, inl, arith, ℕ, ◌==◌, Bool, true, false, [], List, map, string_bytes, Option, Some, None}
 use Rattle.std.specs.Prelude.{Result, Ok, Err, IfOk, MatchBool}
 use Rattle.clap.specs.Words.{Text}
 use Rattle.wl_device.specs.Devices.{Answer}

@@ -1,5 +1,5 @@
 -- Over which devices and files a task is done, and what the named place has afterwards (this project's profile).
-use Rattle.std.specs.Prelude.{◌≡◌, ◌⊎◌, ℕ, Bool, if◌then◌else◌, List, codes, map, string_bytes, Option, Some, None, Result, Ok, Err}
+use Rattle.std.specs.Prelude.{◌≡◌, ◌⊎◌, ℕ, Bool, if◌then◌else◌, List, map, string_bytes, Option, Some, None, Result, Ok, Err}
 use Rattle.clap.specs.Words.{Text}
 use Rattle.wl_device.specs.Devices.{Answer}
 use Rattle.wl_files.specs.Files.{Standing, IsEmpty, Keeps, Places}
@@ -11,7 +11,6 @@ use Rattle.wl_sim.specs.declared.answer.Fault.{Fault}
 use Rattle.wl_sim.specs.declared.answer.Fault.TheVariants.{Run}
 use Rattle.wl_words.specs.declared.command.Order.{Order}
 use Rattle.wl_words.specs.declared.command.Refusal.{Refusal}
-use Rattle.wl_words.specs.declared.command.Refusal.TheVariants as refusal
 use Rattle.wl_words.specs.declared.task.Task.{Task}
 use Rattle.wl_words.specs.Asked.{ReadsOrder}
 use Rattle.wl_sim.specs.Tasks.{DoesAs, EndsTask, refusal_status, run_status}
