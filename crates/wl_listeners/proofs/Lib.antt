@@ -2,3 +2,4 @@ mod Parts
 mod Listeners
 mod Outcomes
 mod Rows
+mod Wires

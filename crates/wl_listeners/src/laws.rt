@@ -1,6 +1,9 @@
 //! Laws of nodes that change nothing for others, each proved as the contract of a function that does nothing.
 
-ghost use Rattle.std.specs.Prelude.{◌≡◌, ℕ, ◌<◌, ◌≤◌, length};
+ghost use Rattle.std.specs.Prelude.{◌≡◌, ℕ, ◌<◌, ◌≤◌, List, [], length};
+ghost use Rattle.wl_frame.specs.Grammar.{Content};
+ghost use Rattle.wl_wire.specs.InStep.{AreSoundFrames};
+ghost use Rattle.wl_wire.specs.Wire.{Event, bus, idle_wire, wire_after};
 ghost use Rattle.wl_plan.specs.declared.plan.Plan.{Plan};
 ghost use Rattle.wl_plan.specs.Checked.{IsChecked};
 ghost use Rattle.wl_plan.specs.Line.{Line};
@@ -10,6 +13,7 @@ ghost use Rattle.wl_plan.specs.Sound.{IsCausal};
 ghost use Rattle.wl_serial.specs.Outcome.{node_outcome_of};
 ghost use Rattle.wl_listeners.specs.Listeners.{IsWithoutLateNodes, IsWithoutListeners};
 ghost use Rattle.wl_listeners.specs.Parts.{IsPart};
+ghost use Rattle.wl_listeners.specs.Wires.{bus_beside};
 
 /// Law: a part of the nodes of a line goes by itself as it goes in the whole, up to a tick. No level that others drive dominant arrives at the
 /// part before that. Each of its nodes has seen the same levels by each tick, drives the same, and changes its drive at the same ticks. That
@@ -66,4 +70,18 @@ pub fn late_nodes_change_nothing_before()
     wl_plan::checked_is_sound();
     wl_plan::simulation_laws();
     a_part_goes_as_in_the_whole();
+}
+
+/// Law: a machine without frames adds nothing to the bus of machines in step, if there are two others at least: what it drives is an
+/// acknowledgement, and some other one drives that, too (Bosch CAN 2.0 part B, section 3.2.1). So one that only listens samples on the wire of
+/// the others what it would sample as one of them, and is among those that get each frame (`all_get_each_frame` of wl_wire).
+pub fn a_machine_without_frames_adds_nothing()
+    ensures { (count : ℕ) (frames : ℕ → List Content) (events : List Event) (listener : ℕ) → AreSoundFrames count frames
+        → 3 ≤ count → listener < count → frames listener ≡ []
+        → bus (wire_after (idle_wire count frames) events)
+        ≡ bus_beside (wire_after (idle_wire count frames) events) listener }
+{
+    wl_wire::laws::machines_stay_in_step();
+    wl_wire::laws::machines_that_are_in_step_stay_so();
+    wl_wire::laws::the_least_field_wins();
 }
