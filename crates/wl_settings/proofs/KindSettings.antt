@@ -1,6 +1,6 @@
 -- The settings of a controller of a known kind.
-use Rattle.std.proofs.Common.{◌≡◌, refl, ap₂, subst, ℕ, ◌≤◌, ◌&&◌, ◌||◌, nat_le, min, Bool, true, List, Some, Contains, arith}
-use Rattle.std.proofs.lemmas.Bool.{and_parts, le-leb, leb-true}
+use Rattle.std.proofs.Common.{◌≡◌, refl, subst, ℕ, ◌≤◌, ◌||◌, nat_le, min, true, List, Some, Contains, arith}
+use Rattle.std.proofs.lemmas.Bool.{and_from, and_parts, le-leb, leb-true}
 use Rattle.std.specs.Result.{is_ok}
 use Rattle.wl_kinds.specs.declared.kinds.ControllerKind.{ControllerKind}
 use Rattle.wl_kinds.specs.Kinds.{allows}
@@ -10,7 +10,7 @@ use Rattle.wl_settings.specs.declared.asked.Setting.{Setting}
 use Rattle.wl_settings.specs.declared.parts.Parts.{Parts}
 use Rattle.wl_settings.specs.declared.parts.Parts.TheVariants.{Each, Joint}
 use Rattle.wl_settings.specs.Registers.{bounds_of_kind}
-use Rattle.wl_settings.specs.Settings.{fit_parts, fits_registers, is_joint, is_near, is_setting, is_taken_by, obeys, possible_settings, quanta_after_sample, segments_by, setting_taken}
+use Rattle.wl_settings.specs.Settings.{fit_parts, fits_registers, is_joint, is_setting, is_taken_by, possible_settings, quanta_after_sample, segments_by, setting_taken}
 use Rattle.wl_settings.specs.SettingLaws.{IsOfKind}
 use Rattle.wl_settings.proofs.SettingFacts.{joint_ranges}
 use Rattle.wl_settings.proofs.SettingLists.{listed_is_setting, setting_is_listed, tests_of}
@@ -51,9 +51,6 @@ has_no_other a name clock k s has =
     }
 
 -- and each of them
-both_are : (a b : Bool) → a ≡ true → b ≡ true → a && b ≡ true
-both_are a b e f = ap₂ (λ x y. x && y) e f
-
 module _ (k : ControllerKind) (p sjw : ℕ) where
   within_registers : (parts : Parts) → p ≤ 4294967295 → is_joint parts ≡ true → is_ok (segments_by parts sjw) ≡ true
       → allows k (setting_taken (record { prescaler = p; parts = parts; sjw = sjw })) ≡ true
@@ -71,13 +68,13 @@ module _ (k : ControllerKind) (p sjw : ℕ) where
       let after : tseg2 ≤ k.tseg2.most = leb-true _ _ (and_parts _ _ (and_parts _ _ second.1).0).1 in
       let within = and_parts _ _ (and_parts _ _ jump.1).0 in
       let width : sjw ≤ k.sjw.most = leb-true _ _ (and_parts _ _ within.0).1 in
-      both_are _ _ (le-leb p (min k.prescaler.most 4294967295) (omega arith))
-      (both_are _ _ (both_are _ _ (le-leb tseg1 (min k.tseg1.most 65535) (omega arith)) (le-leb tseg2 (min k.tseg2.most 65535) (omega arith)))
-      (both_are _ _ (le-leb sjw (min k.sjw.most 65535) (omega arith)) (both_are _ _ within.1 allowed)))
+      and_from _ _ (le-leb p (min k.prescaler.most 4294967295) (omega arith))
+      (and_from _ _ (and_from _ _ (le-leb tseg1 (min k.tseg1.most 65535) (omega arith)) (le-leb tseg2 (min k.tseg2.most 65535) (omega arith)))
+      (and_from _ _ (le-leb sjw (min k.sjw.most 65535) (omega arith)) (and_from _ _ within.1 allowed)))
   within_registers (Each prop ps1 ps2) high joint bit allowed = cc
 
 pub has_each : (a : Asked) (name : List ℕ) (clock : ℕ) (k : ControllerKind) (s : Setting) → IsOfKind a clock k s
     → Contains (possible_settings a (record { name = name; clock = clock; bounds = bounds_of_kind k })) s
 has_each a name clock k s is =
     let fits = within_registers k s.prescaler s.sjw s.parts is.high is.joint is.bit is.allowed in
-    setting_is_listed a (of_kind name clock k) s is.low (both_are _ _ fits (both_are _ _ is.near is.bit))
+    setting_is_listed a (of_kind name clock k) s is.low (and_from _ _ fits (and_from _ _ is.near is.bit))

@@ -1,5 +1,5 @@
 -- The plan of a setting is one that is read as it is printed.
-use Rattle.std.proofs.Common.{◌≡◌, ◌∙◌, refl, ℕ, ◌*◌, ◌<◌, ◌≤◌, ◌^◌, nat_le, max, true, List, [], ◌∷◌, codes, arith}
+use Rattle.std.proofs.Common.{◌≡◌, refl, ℕ, ◌*◌, ◌<◌, ◌≤◌, ◌^◌, nat_le, max, true, List, [], ◌∷◌, codes, arith}
 use Rattle.std.proofs.lemmas.Bool.{le-leb}
 use Rattle.std.specs.Int.{div_ceil}
 use Rattle.wl_bound.specs.declared.condition.Senders.{Senders}
