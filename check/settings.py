@@ -3,6 +3,7 @@
 
 usage: settings.py [--tick TIME] [--best N | --plan] < TEXT
 """
+import re
 import sys
 from fractions import Fraction
 from math import ceil, gcd
@@ -12,10 +13,10 @@ import plain
 
 LIMITS = {
     "bitrate": (1, 1_000_000), "cable": (1, 2**20), "per": (1, 2**20), "out": (0, 2**20), "in": (0, 2**20), "tolerance": (0, 100_000),
-    "rate_error": (0, 100_000), "clock": (1, 1_000_000_000), "prescaler": (1, 1024), "prop": (1, 8), "ps1": (1, 8), "ps2": (1, 8), "sjw": (1, 4),
+    "rate_error": (0, 100_000), "nodes": (2, 64), "clock": (1, 1_000_000_000), "prescaler": (1, 1024), "prop": (1, 8), "ps1": (1, 8), "ps2": (1, 8), "sjw": (1, 4),
 }
 WIDE = {**LIMITS, "version": (4, 4), "tseg1": (2, 256), "tseg2": (2, 128), "sjw": (1, 128)}  # of texts with `version = 4`
-TOP = ["bitrate", "cable", "per", "out", "in", "tolerance", "senders", "controller"], ["rate_error"]
+TOP = ["bitrate", "cable", "per", "out", "in", "tolerance", "senders", "controller"], ["rate_error", "sample_point", "nodes"]
 CONTROLLER = ["name", "clock"], ["prescaler", "prop", "ps1", "ps2", "sjw", "sjw_above_ps2"]
 WIDE_CONTROLLER = ["name", "clock"], ["kind", "prescaler", "tseg1", "tseg2", "sjw"]
 # The greatest prescaler, TSEG1, TSEG2 and jump width that the registers of a kind hold, by the bits of their fields.
@@ -43,6 +44,7 @@ def is_right(key, value, limits):
     if key == "kind": return isinstance(value, str) and value in KINDS
     if key == "sjw_above_ps2": return isinstance(value, bool)
     if key == "senders": return value in ("one", "any")
+    if key == "sample_point": return isinstance(value, str) and re.fullmatch(r"[0-9]{2}(\.[0-9])? ?%", value) is not None
     if key == "name": return isinstance(value, str) and 1 <= len(value) <= 32 and set(value) <= LETTERS
     if key == "controller": return isinstance(value, list) and all(isinstance(table, dict) for table in value)
     low, high = limits[key]
@@ -139,9 +141,10 @@ def plan_text(top, controller, setting, tick):
     num, den = setting.prescaler * SECOND, controller["clock"] * tick
     num, den = num // gcd(num, den), den // gcd(num, den)
     lines = [f"# {controller['name']}, clock {controller['clock']} Hz, prescaler {setting.prescaler}", f"version = {setting.version}"]
-    lines += [f"end = {ceil(Fraction(400 * setting.quanta * num, den))}", f"per = {top['per']}", 'sync = "book"']
-    later = 230 if top["senders"] == "one" else 30
-    for name, x, number, ready in ("a", 0, 2032, 30), ("b", top["cable"], 2033, later):
+    count, later = min(top.get("nodes", 2), 4), 200 if top["senders"] == "one" else 0
+    lines += [f"end = {ceil(Fraction(200 * count * setting.quanta * num, den))}", f"per = {top['per']}", 'sync = "book"']
+    for n in range(count):
+        name, x, number, ready = "abcd"[n], [0, top["cable"]][n % 2], 2032 + n, 30 + later * n
         lines += ["", "[[node]]", f'name = "{name}"', "offset = 0", f"num = {num}", f"den = {den}"]
         lines += [f"{key} = {value}" for key, value in setting.parts.items()] + [f"sjw = {setting.sjw}", f"x = {x}"]
         lines += [f"out = {top['out']}", f"in = {top['in']}", f"tolerance = {top['tolerance']}"]
@@ -194,7 +197,8 @@ def search(top, controller, tick):
         failure = next(family.failures(one), None)
         if failure is None: rows.append(Row(top, setting, family))
         else: refusals.append((failure[4] - failure[3], setting, failure))
-    rows.sort(key=lambda row: -row.margin)
+    wish = top.get("sample_point")
+    rows.sort(key=lambda row: (abs(sample_of(row.setting) - Fraction(wish.rstrip("% ")) * 10) if wish else 0, -row.margin))
     refusals.sort(key=lambda refusal: -refusal[0])
     return count, rows, refusals[0] if refusals and not rows else None
 
@@ -203,11 +207,27 @@ def figure(asked, growth):
     return "none" if growth is None else str(asked + growth)
 
 
+def sample_of(setting):
+    """Returns the sample point in thousandths of a bit."""
+    return (setting.quanta - setting.after) * 1000 // setting.quanta
+
+
+def error_of(top, controller, setting):
+    divisor = top["bitrate"] * setting.prescaler * setting.quanta
+    return ceil(Fraction(abs(controller["clock"] - divisor) * 10**6, divisor))
+
+
+def nearest_rate(top, controller):
+    """Yields the line of the setting with a jump width of 1 whose bit rate is least off, if one is at most a tenth off."""
+    near = min(settings_of({**top, "rate_error": 100_000}, {**controller, "sjw": 1}), key=lambda setting: error_of(top, controller, setting), default=None)
+    if near is None: return
+    rate = controller["clock"] * 1000 // (near.prescaler * near.quanta)
+    yield f"nearest rate {margin.point(rate, 3)} bit/s error {error_of(top, controller, near)} ppm: {near.words()}"
+
+
 def row_line(top, controller, number, row):
     s = row.setting
-    divisor = top["bitrate"] * s.prescaler * s.quanta
-    error = ceil(Fraction(abs(controller["clock"] - divisor) * 10**6, divisor))
-    sample = (s.quanta - s.after) * 1000 // s.quanta
+    error, sample = error_of(top, controller, s), sample_of(s)
     tolerance = " ".join(f"{figure(top['tolerance'], n)} {name}" for n, name in zip(row.wider, ("one", "any")))
     cable = " ".join(f"{figure(top['cable'], n)} {name}" for n, name in zip(row.longer, ("one", "any")))
     return (f"setting {number} {s.words()} quanta {s.quanta} sample {sample // 10}.{sample % 10} % error {error} ppm "
@@ -224,7 +244,9 @@ def lines(top, controller, tick, best):
         takes, has = ceil(Fraction(left * tick, 10**6)), int(Fraction(right * tick, 10**6))
         yield f"nearest {setting.words()}: {INEQUALITIES[kind]} takes {margin.point(takes, 3)} ns and has {margin.point(has, 3)} ns"
     elif count: yield f"{count} settings have the bit rate, and the plan of none can be run"
-    else: yield f"no setting has {top['bitrate']} bit/s within {top.get('rate_error', 0)} ppm"
+    else:
+        yield f"no setting has {top['bitrate']} bit/s within {top.get('rate_error', 0)} ppm"
+        yield from nearest_rate(top, controller)
 
 
 def settings_text(text, tick=1000, best=None, plan=False):

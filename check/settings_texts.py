@@ -12,7 +12,7 @@ import settings as independent
 
 TICKS = {"1ns": 1_000, "10ns": 10_000, "125ps": 125, "2us": 2_000_000}
 KINDS = [None, None, *independent.KINDS]
-WRONG = ["cable = 0", "x = 1", "clock = 0", "", "version = 3", "version = 4.0", 'kind = "m-can"', "kind = 1", "tseg1 = 1", "tseg1 = 257", "tseg2 = 1", "tseg2 = 129",
+WRONG = ["nodes = 1", "sample_point = 87", "cable = 0", "x = 1", "clock = 0", "", "version = 3", "version = 4.0", 'kind = "m-can"', "kind = 1", "tseg1 = 1", "tseg1 = 257", "tseg2 = 1", "tseg2 = 129",
          "sjw = 0", "sjw = 129", "prop = 8", "ps1 = 8", "ps2 = 8", "prescaler = 1025"]
 
 
@@ -34,6 +34,8 @@ def text_of(rng):
     lines += [f"out = {rng.choice([0, 60, 120, 210])}", f"in = {rng.choice([1, 60, 130, 210])}"]
     lines += [f"tolerance = {rng.choice([0, 50, 100, 1_000, 5_000, rng.randint(0, 20_000)])}", f'senders = "{rng.choice(["one", "any", "any"])}"']
     if rng.random() < 0.3: lines.append(f"rate_error = {rng.choice([0, 500, 5_000])}")
+    if rng.random() < 0.3: lines.append(f'sample_point = "{rng.choice(["80%", "87.5%", "87.5 %", "75.0%", "50 %", "8%", "99.9%"])}"')
+    if rng.random() < 0.3: lines.append(f"nodes = {rng.choice([2, 3, 4, 5, 64])}")
     for number in range(rng.choice([1, 1, 2])): lines += controller_lines(rng, f"c{number}", rate)
     if rng.random() < 0.1: lines[rng.randrange(len(lines))] = rng.choice(WRONG)
     return "\n".join(lines).encode() + b"\n"

@@ -1,3 +1,4 @@
+mod ControllersAsked
 mod Euclid
 mod FaultLemmas
 mod Found
@@ -5,6 +6,8 @@ mod Growing
 mod KindSettings
 mod Least
 mod MadeTables
+mod NearRates
+mod PlainNumbers
 mod PlanFamilies
 mod PlanPrints
 mod PlanReads

@@ -1,12 +1,15 @@
 -- The plan of a setting is one that is read as it is printed.
-use Rattle.std.proofs.Common.{◌≡◌, refl, ℕ, ◌*◌, ◌<◌, ◌≤◌, ◌^◌, nat_le, max, true, List, [], ◌∷◌, codes, arith}
+use Rattle.std.proofs.Common.{◌≡◌, ◌∙◌, refl, ℕ, zero, suc, ◌+◌, ◌*◌, ◌%◌, ◌==◌, ◌<◌, ◌≤◌, ◌^◌, nat_le, nat_lt, max, if◌then◌else◌, Bool, true, false, List, [], ◌∷◌, map, arith}
 use Rattle.std.proofs.lemmas.Bool.{le-leb}
 use Rattle.std.specs.Int.{div_ceil}
+use Rattle.std.specs.List.{list_all}
 use Rattle.wl_bound.specs.declared.condition.Senders.{Senders}
 use Rattle.wl_bound.specs.declared.condition.Senders.TheVariants.{Any, One}
 use Rattle.wl_print.specs.Printable.{are_rates, are_segments, is_frame_text, is_node, is_number_of_key, is_printable, is_small_number}
 use Rattle.wl_setup.specs.declared.limits.TheConstants.{LARGEST_NUMBER, LARGEST_SMALL, LARGEST_TOLERANCE}
 use Rattle.wl_setup.specs.Kinds.{is_name}
+use Rattle.wl_setup.specs.declared.plan_text.NodeText.{NodeText}
+use Rattle.wl_setup.specs.Names.{has_repeat}
 use Rattle.wl_setup.specs.Limits.{largest_number, largest_number-is, largest_small, largest_small-is}
 use Rattle.wl_setup.specs.Version.{has_controllers, is_known_version}
 use Rattle.wl_settings.specs.declared.asked.Asked.{Asked}
@@ -14,7 +17,7 @@ use Rattle.wl_settings.specs.declared.asked.Setting.{Setting}
 use Rattle.wl_settings.specs.declared.parts.Parts.{Parts}
 use Rattle.wl_settings.specs.declared.parts.Parts.TheVariants.{Each, Joint}
 use Rattle.wl_settings.specs.declared.plan.Quantum.{Quantum}
-use Rattle.wl_settings.specs.Plans.{IsOfKeys, frame_text, later_ready, node_text, plan_of_quantum, rate_text, segments_text, version_of, within}
+use Rattle.wl_settings.specs.Plans.{IsOfKeys, frame_text, more_if, node_count, node_name, node_place, node_text, plan_of_quantum, node_ready, rate_text, segments_text, version_of, within}
 use Rattle.wl_settings.specs.Settings.{quanta_of_parts, setting_quanta}
 
 number_fits : (n : ℕ) → n ≤ LARGEST_NUMBER → is_number_of_key n ≡ true
@@ -49,40 +52,74 @@ known : (parts : Parts) → is_known_version (version_of parts) ≡ true
 known (Each prop ps1 ps2) = refl
 known (Joint tseg1 tseg2) = refl
 
-later_fits : (senders : Senders) (s : Setting) → setting_quanta s < 2 ^ 18 → later_ready senders s ≤ LARGEST_NUMBER
-later_fits Any s h = omega arith
-later_fits One s h = omega arith
+later_fits : (senders : Senders) (n : ℕ) (s : Setting) → n < 4 → setting_quanta s < 2 ^ 18 → node_ready senders n s ≤ LARGEST_NUMBER
+later_fits Any n s few h = omega arith
+later_fits One zero s few h = omega arith
+later_fits One (suc zero) s few h = omega arith
+later_fits One (suc (suc zero)) s few h = omega arith
+later_fits One (suc (suc (suc zero))) s few h = omega arith
+later_fits One (suc (suc (suc (suc n)))) s few h = absurd (omega arith)
+
+name_fits : (n : ℕ) → is_name (node_name n) ≡ true
+name_fits zero = refl
+name_fits (suc zero) = refl
+name_fits (suc (suc zero)) = refl
+name_fits (suc (suc (suc n))) = refl
+
+by_end : (even : Bool) (far : ℕ) → far ≤ LARGEST_SMALL → (if even then 0 else far) ≤ LARGEST_SMALL
+by_end true far h = omega arith
+by_end false far h = h
+
+place_fits : (a : Asked) (n : ℕ) → a.cable ≤ LARGEST_SMALL → node_place a n ≤ LARGEST_SMALL
+place_fits a n h = by_end (n % 2 == 0) a.cable h
 
 module _ (a : Asked) (s : Setting) (q : Quantum) (h : AreSmall a s) (num : q.num ≤ LARGEST_NUMBER) (den : q.den ≤ LARGEST_NUMBER) where
-  node_fits : (name : List ℕ) (x id ready : ℕ) → is_name name ≡ true → x ≤ LARGEST_SMALL → id ≤ LARGEST_SMALL → ready ≤ LARGEST_NUMBER
-      → is_node (version_of s.parts) (node_text a q s name x id ready) ≡ true
+  node_fits : (n : ℕ) → n < 4 → is_node (version_of s.parts) (node_text a q s n) ≡ true
   unfolding largest_number
-  node_fits name x id ready is xs ids late =
+  node_fits n few =
       let sjw = h.sjw in
       let out = h.keys.out_delay in
       let into = h.keys.in_delay in
       let tolerance : nat_le a.tolerance LARGEST_TOLERANCE ≡ true = le-leb a.tolerance LARGEST_TOLERANCE h.keys.tolerance in
       rw (
-        is,
+        name_fits n,
         number_fits 0 (omega arith),
         rates_fit s.parts q num den,
         segments_fit s.parts h.quanta,
         number_fits s.sjw (omega arith),
-        small_fits x xs,
+        small_fits (node_place a n) (place_fits a n h.keys.cable),
         number_fits a.out_delay (omega arith),
         number_fits a.in_delay (omega arith),
         tolerance,
-        frame_fits (version_of s.parts) id ready ids late,
+        frame_fits (version_of s.parts) (2032 + n) (node_ready a.senders n s) (omega arith) (later_fits a.senders n s few h.quanta),
       ) refl
+
+  -- each node that there is
+  others_fit : (third fourth : Bool)
+      → list_all (is_node (version_of s.parts)) (more_if third (node_text a q s 2) (more_if fourth (node_text a q s 3) [])) ≡ true
+  others_fit true true = rw (node_fits 2 (omega arith), node_fits 3 (omega arith)) refl
+  others_fit true false = rw (node_fits 2 (omega arith)) refl
+  others_fit false true = rw (node_fits 3 (omega arith)) refl
+  others_fit false false = refl
+
+  -- no two nodes have one name
+  have_own_names : (third fourth : Bool)
+      → has_repeat (map (λ (n : NodeText). n.name) (node_text a q s 0 ∷ node_text a q s 1 ∷ more_if third (node_text a q s 2) (more_if fourth (node_text a q s 3) [])))
+      ≡ false
+  have_own_names true true = refl
+  have_own_names true false = refl
+  have_own_names false true = refl
+  have_own_names false false = refl
 
   pub plan_fits : is_printable (plan_of_quantum a s q) ≡ true
   plan_fits =
       let per = h.keys.per in
-      let near : 30 * setting_quanta s ≤ LARGEST_NUMBER = (let few = h.quanta in omega arith) in
       rw (
         known s.parts,
-        within_fits (div_ceil (400 * setting_quanta s * q.num) (max q.den 1)),
+        within_fits (div_ceil (200 * node_count a * setting_quanta s * q.num) (max q.den 1)),
         number_fits a.per (omega arith),
-        node_fits (codes "a") 0 2032 (30 * setting_quanta s) refl (omega arith) (omega arith) near,
-        node_fits (codes "b") a.cable 2033 (later_ready a.senders s) refl h.keys.cable (omega arith) (later_fits a.senders s h.quanta),
+        node_fits 0 (omega arith),
+        node_fits 1 (omega arith),
+        others_fit (nat_lt 2 a.nodes) (nat_lt 3 a.nodes),
+        have_own_names (nat_lt 2 a.nodes) (nat_lt 3 a.nodes),
       ) refl

@@ -8,11 +8,14 @@ use Rattle.wl_settings.specs.declared.judged.Reach.{Reach}
 use Rattle.wl_settings.specs.declared.parts.Parts.TheVariants.{Each, Joint}
 use Rattle.wl_kinds.specs.Kinds.{kind_named}
 use Rattle.wl_settings.specs.Judged.{margin, part}
-use Rattle.wl_settings.specs.Plans.{later_ready}
+use Rattle.wl_settings.specs.Kinds.{sample_said}
+use Rattle.wl_settings.specs.Plans.{plan_end, node_ready}
+use Rattle.wl_settings.specs.Questions.{number_in_text}
 use Rattle.wl_settings.specs.Rankings.{place_in_order}
 use Rattle.wl_settings.specs.Registers.{bounds_of_kind, widest_bounds}
-use Rattle.wl_settings.specs.Settings.{bit_divisor, fits_registers, is_near, is_taken_by, segments_by, setting_quanta}
-use Rattle.wl_settings.specs.Words.{rate_error, sample_permille}
+use Rattle.wl_settings.specs.Settings.{bit_divisor, fits_registers, is_near, distance_to, is_taken_by, sample_permille, segments_by, setting_quanta}
+use Rattle.wl_settings.specs.Rates.{error_by}
+use Rattle.wl_settings.specs.declared.topics.Topic.TheVariants as topic
 
 abbrev asked : ℕ → Asked
 asked error = record {
@@ -24,6 +27,8 @@ asked error = record {
   tolerance = 100;
   senders = Any;
   rate_error = error;
+  sample = None;
+  nodes = 2;
   tick = 1000;
 }
 
@@ -47,7 +52,7 @@ just_off = refl
 near_enough : is_near (asked 1) 16000001 eight_megahertz ≡ true
 near_enough = refl
 
-rounded_up : rate_error 16000001 (bit_divisor 500000 eight_megahertz) ≡ 1
+rounded_up : error_by 16000001 (bit_divisor 500000 eight_megahertz) ≡ 1
 rounded_up = refl
 
 -- registers that hold it, and one that is a quantum too narrow
@@ -132,8 +137,44 @@ of_nothing : part 0 (Some 3) ≡ 3000
 of_nothing = refl
 
 -- one sender at a time waits for 200 bits more
-waits : later_ready One eight_megahertz ≡ 3680
+waits : node_ready One 1 eight_megahertz ≡ 3680
 waits = refl
+
+-- 200 bits for each of two nodes, of 16 quanta of 125 ns
+ends : plan_end 2 (record { num = 125; den = 1 }) eight_megahertz ≡ 800000
+ends = refl
+
+-- the sample point as texts wish for it
+wished : sample_said (codes "87.5%") ≡ Some 875
+wished = refl
+
+wished_apart : sample_said (codes "80 %") ≡ Some 800
+wished_apart = refl
+
+not_wished : sample_said (codes "8.5%") ≡ None
+not_wished = refl
+
+at_the_wish : distance_to (Some 800) eight_megahertz ≡ 75
+at_the_wish = refl
+
+-- words: 16 MHz in Hz, 40 m in metres, 5 ns/m in ticks of 1 ns a metre, and no length of half a metre
+clock_said : number_in_text 1000 topic.Clock (codes "16MHz") ≡ Some 16000000
+clock_said = refl
+
+cable_said : number_in_text 1000 topic.Cable (codes "40m") ≡ Some 40
+cable_said = refl
+
+half_a_metre : number_in_text 1000 topic.Cable (codes "40.5m") ≡ None
+half_a_metre = refl
+
+way_said : number_in_text 500 topic.Per (codes "5ns/m") ≡ Some 10
+way_said = refl
+
+tolerance_said : number_in_text 1000 topic.Tolerance (codes "100") ≡ Some 100
+tolerance_said = refl
+
+too_tolerant : number_in_text 1000 topic.Tolerance (codes "100001") ≡ None
+too_tolerant = refl
 
 -- of two that differ in the jump width alone, the wider one comes first
 wide_first : place_in_order eight_megahertz ≡ 2 * 2 ^ 64 + (5 * 2 ^ 32 + 8 * 2 ^ 16 + 2) * 2 ^ 16 + 65531

@@ -21,6 +21,10 @@ settings_fault (wrong.Unknown, key) = Unknown key
 abbrev pub fault_of_table : List Key → List Key → Members → Option SettingsFault
 fault_of_table required optional table = option_map settings_fault (fault_of_keys key_word takes_value required optional table)
 
+-- of the top table, whose keys go by whether PROP_SEG and PHASE_SEG1 are one length
+unfoldable pub bus_fault : Members → Option SettingsFault
+bus_fault top = fault_of_table bus_required (bus_optional (has_joint_parts top)) top
+
 -- a controller's keys go by whether PROP_SEG and PHASE_SEG1 are one length
 abbrev pub controller_fault : Bool → Members → Option SettingsFault
 controller_fault joint table = fault_of_table controller_required (controller_optional joint) table
@@ -34,7 +38,7 @@ no_controller (table ∷ tables) = None
 abbrev pub wanted_fault : Members → Option SettingsFault
 wanted_fault top =
     first_some (
-    fault_of_table bus_required (bus_optional (has_joint_parts top)) top
+    bus_fault top
     ∷ first_some (map (controller_fault (has_joint_parts top)) (inner_tables key.Controller top))
     ∷ no_controller (inner_tables key.Controller top) ∷ [])
 

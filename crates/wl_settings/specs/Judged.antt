@@ -23,7 +23,7 @@ use Rattle.wl_settings.specs.declared.judged.Reach.{Reach}
 use Rattle.wl_settings.specs.declared.judged.Refusal.{Refusal}
 use Rattle.wl_settings.specs.declared.judged.WorkingSetting.{WorkingSetting}
 use Rattle.wl_settings.specs.declared.plan.Quantum.{Quantum}
-use Rattle.wl_settings.specs.Plans.{setting_plan}
+use Rattle.wl_settings.specs.Plans.{for_nodes, setting_plan}
 
 -- The family of a plan: that of the bus that it describes. There is none of a plan that can't be run.
 abbrev pub family_in : Result Bus SetupFault → Option Buses
@@ -49,8 +49,11 @@ runnable_plan text = made_plan (plan_of_text text)
 abbrev pub deviation_by : Quantum → ℕ → Deviation
 deviation_by q tolerance = record { rates = record { from = 0; num = q.num; den = q.den } ∷ []; tolerance = tolerance }
 
-abbrev pub both_paces : Quantum → ℕ → Option (List Pace)
-both_paces q tolerance = paces_of (deviation_by q tolerance ∷ deviation_by q tolerance ∷ [])
+abbrev pub deviations_of : Asked → Quantum → List Deviation
+deviations_of a q = for_nodes a (λ n. deviation_by q a.tolerance)
+
+abbrev pub all_paces : Asked → Quantum → Option (List Pace)
+all_paces a q = paces_of (deviations_of a q)
 
 -- the condition holds, or the first inequality that fails
 abbrev pub holds_for : Senders → Option Buses → Bool

@@ -2,7 +2,7 @@
 use Rattle.std.specs.Prelude.{ℕ, Bool, true, false, List, [], ◌∷◌, codes}
 use Rattle.wl_setup.specs.declared.keys.Kind.TheVariants as plan_kind
 use Rattle.wl_settings.specs.declared.keys.Key.{Key}
-use Rattle.wl_settings.specs.declared.keys.Key.TheVariants.{Version, Bitrate, Cable, Per, Out, In, Tolerance, Senders, Controller, RateError, Name, Clock, Kind, Prescaler, Prop, Ps1, Ps2, Sjw, Tseg1, Tseg2, WideSjw, SjwFree}
+use Rattle.wl_settings.specs.declared.keys.Key.TheVariants.{Version, Bitrate, Cable, Per, Out, In, Tolerance, Senders, Controller, RateError, SamplePoint, Nodes, Name, Clock, Kind, Prescaler, Prop, Ps1, Ps2, Sjw, Tseg1, Tseg2, WideSjw, SjwFree}
 use Rattle.wl_settings.specs.declared.keys.ValueKind.{ValueKind}
 use Rattle.wl_settings.specs.declared.keys.ValueKind.TheVariants as kind
 
@@ -18,6 +18,8 @@ key_word Tolerance = codes "tolerance"
 key_word Senders = codes "senders"
 key_word Controller = codes "controller"
 key_word RateError = codes "rate_error"
+key_word SamplePoint = codes "sample_point"
+key_word Nodes = codes "nodes"
 key_word Name = codes "name"
 key_word Clock = codes "clock"
 key_word Kind = codes "kind"
@@ -41,7 +43,9 @@ value_kind Out = kind.Within 0 1048576
 value_kind In = kind.Within 0 1048576
 value_kind Tolerance = kind.Within 0 100000
 value_kind RateError = kind.Within 0 100000
+value_kind Nodes = kind.Within 2 64
 value_kind Senders = kind.Senders
+value_kind SamplePoint = kind.Sample
 value_kind Controller = kind.OfPlan plan_kind.Tables
 value_kind Name = kind.OfPlan plan_kind.Name
 value_kind Clock = kind.Within 1 1000000000
@@ -62,8 +66,8 @@ bus_required = Bitrate ∷ Cable ∷ Per ∷ Out ∷ In ∷ Tolerance ∷ Sender
 
 -- a text of controllers whose PROP_SEG and PHASE_SEG1 are one length says its version
 abbrev pub bus_optional : Bool → List Key
-bus_optional false = RateError ∷ []
-bus_optional true = Version ∷ RateError ∷ []
+bus_optional false = RateError ∷ SamplePoint ∷ Nodes ∷ []
+bus_optional true = Version ∷ RateError ∷ SamplePoint ∷ Nodes ∷ []
 
 abbrev pub controller_required : List Key
 controller_required = Name ∷ Clock ∷ []

@@ -1,5 +1,5 @@
 -- What the value of a key has to be, and what it says (this project's profile).
-use Rattle.std.specs.Prelude.{ℕ, min, ◌==◌, Bool, if◌then◌else◌, List, Option, Some, None, is_some, unwrap_or, option_and_then, option_map, false, codes}
+use Rattle.std.specs.Prelude.{ℕ, min, ◌+◌, ◌-◌, ◌*◌, ◌==◌, ◌&&◌, Bool, if◌then◌else◌, List, [], ◌∷◌, Option, Some, None, is_some, unwrap_or, option_and_then, option_map, false, codes}
 use Rattle.std.specs.List.{filter_map}
 use Rattle.std.specs.Str.{bytes_eq}
 use Rattle.toml.specs.Data.{Data, Members, get_member, as_bool, as_str, as_table}
@@ -7,6 +7,7 @@ use Rattle.wl_bound.specs.declared.condition.Senders.{Senders}
 use Rattle.wl_bound.specs.declared.condition.Senders.TheVariants.{Any, One}
 use Rattle.wl_kinds.specs.Kinds.{kind_named}
 use Rattle.wl_setup.specs.Kinds.{elements_said, has_kind, name_said, number_within}
+use Rattle.wl_units.specs.Decimals.{is_digit}
 use Rattle.wl_settings.specs.declared.asked.Bounds.{Bounds}
 use Rattle.wl_settings.specs.declared.keys.Key.{Key}
 use Rattle.wl_settings.specs.declared.keys.Key.TheVariants as key
@@ -22,6 +23,26 @@ senders_named text = if bytes_eq text (codes "one") then Some One else if bytes_
 abbrev pub senders_in : Data → Option Senders
 senders_in d = option_and_then senders_named (as_str d)
 
+-- a sample point in thousandths of a bit, as a text says it: `87.5%`, `87%`, or with a space before the sign
+abbrev pub permille_of : (tens ones tenths : ℕ) → Option ℕ
+permille_of tens ones tenths =
+    if is_digit tens && (is_digit ones && is_digit tenths) then Some ((tens - 48) * 100 + (ones - 48) * 10 + (tenths - 48)) else None
+
+-- what comes after the first two digits
+abbrev pub tenths_said : List ℕ → Option ℕ
+tenths_said (c ∷ []) = if c == 37 then Some 48 else None
+tenths_said (c ∷ d ∷ []) = if (c == 32) && (d == 37) then Some 48 else None
+tenths_said (c ∷ d ∷ e ∷ []) = if (c == 46) && (e == 37) then Some d else None
+tenths_said (c ∷ d ∷ e ∷ f ∷ []) = if (c == 46) && ((e == 32) && (f == 37)) then Some d else None
+tenths_said _ = None
+
+abbrev pub sample_said : List ℕ → Option ℕ
+sample_said (tens ∷ ones ∷ more) = option_and_then (permille_of tens ones) (tenths_said more)
+sample_said _ = None
+
+abbrev pub sample_in : Data → Option ℕ
+sample_in d = option_and_then sample_said (as_str d)
+
 -- what controllers of a kind can be set to, as its word says it
 abbrev pub bounds_in : Data → Option Bounds
 bounds_in d = option_map bounds_of_kind (option_and_then kind_named (as_str d))
@@ -31,6 +52,7 @@ abbrev pub is_of_kind : ValueKind → Data → Bool
 is_of_kind (kind.Within least most) d = is_some (number_within least most d)
 is_of_kind kind.Senders d = is_some (senders_in d)
 is_of_kind kind.Named d = is_some (bounds_in d)
+is_of_kind kind.Sample d = is_some (sample_in d)
 is_of_kind (kind.OfPlan k) d = has_kind k d
 
 abbrev pub takes_value : Key → Data → Bool
@@ -53,6 +75,10 @@ segment_at key without table = min (whole_at key without table) 65535
 
 abbrev pub senders_at : Key → Members → Senders
 senders_at key table = unwrap_or (option_and_then senders_in (data_at key table)) Any
+
+-- none without the key
+abbrev pub wished_sample_at : Key → Members → Option ℕ
+wished_sample_at key table = option_and_then sample_in (data_at key table)
 
 -- false without the key
 abbrev pub flag_at : Key → Members → Bool

@@ -3,11 +3,15 @@ pub mod Judged
 pub mod Keys
 pub mod Kinds
 pub mod Plans
+pub mod Questions
 pub mod Rankings
+pub mod Rates
 pub mod Registers
 pub mod Runs
 pub mod Said
 pub mod SettingLaws
 pub mod Settings
 pub mod Texts
+pub mod Topics
+pub mod WordRuns
 pub mod Words

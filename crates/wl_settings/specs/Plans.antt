@@ -1,5 +1,5 @@
--- The plan of a setting: two nodes at the ends of the cable (this project's profile; the keys are those of a plan's text).
-use Rattle.std.specs.Prelude.{◌≡◌, ◌≤◌, ℕ, zero, suc, ◌*◌, ◌/◌, ◌%◌, ◌==◌, max, min, List, [], ◌∷◌, ◌++◌, Some, None, Ok, false, codes, if◌then◌else◌}
+-- The plan of a setting: two to four nodes at the ends of the cable (this project's profile; the keys are those of a plan's text).
+use Rattle.std.specs.Prelude.{◌≡◌, ◌≤◌, ℕ, zero, suc, ◌*◌, ◌/◌, ◌%◌, ◌==◌, ◌+◌, nat_lt, max, min, Bool, true, List, [], ◌∷◌, ◌++◌, Some, None, Ok, false, codes, if◌then◌else◌}
 use Rattle.std.specs.Fmt.{decimal}
 use Rattle.std.specs.Int.{div_ceil}
 use Rattle.wl_bound.specs.declared.condition.Senders.{Senders}
@@ -51,14 +51,18 @@ in_lowest_terms num den = record { num = within (num / part_of num den); den = w
 abbrev pub setting_quantum : Asked → ℕ → Setting → Quantum
 setting_quantum a clock s = in_lowest_terms (s.prescaler * 1000000000000) (clock * a.tick)
 
--- The end of the plan: 400 bits.
-abbrev pub plan_end : Quantum → Setting → ℕ
-plan_end q s = within (div_ceil (400 * setting_quanta s * q.num) (max q.den 1))
+-- How many nodes the plan has: of more than four the others lie beside these.
+abbrev pub node_count : Asked → ℕ
+node_count a = min (max a.nodes 2) 4
 
--- Nodes are idle after 11 bits. The first frame becomes ready after 30, and the second one with it; or, if one node sends at a time, after 230.
-abbrev pub later_ready : Senders → Setting → ℕ
-later_ready Any s = 30 * setting_quanta s
-later_ready One s = 230 * setting_quanta s
+-- The end of the plan: 200 bits for each node.
+abbrev pub plan_end : ℕ → Quantum → Setting → ℕ
+plan_end nodes q s = within (div_ceil (200 * nodes * setting_quanta s * q.num) (max q.den 1))
+
+-- Nodes are idle after 11 bits. The first frame becomes ready after 30, and the others with it; or, if one node sends at a time, each 200 later.
+abbrev pub node_ready : Senders → ℕ → Setting → ℕ
+node_ready Any n s = 30 * setting_quanta s
+node_ready One n s = (30 + 200 * n) * setting_quanta s
 
 -- the version of a plan whose nodes have such segments, and the segments
 abbrev pub version_of : Parts → ℕ
@@ -90,33 +94,47 @@ frame_text id ready = record {
   jitter = None;
 }
 
-abbrev pub node_text : Asked → Quantum → Setting → List ℕ → (x id ready : ℕ) → NodeText
-node_text a q s name x id ready = record {
-  name = name;
+-- the name and the place of a node, by its number from 0 on: nodes are at both ends of the cable in turn
+abbrev pub node_name : ℕ → List ℕ
+node_name zero = codes "a"
+node_name (suc zero) = codes "b"
+node_name (suc (suc zero)) = codes "c"
+node_name _ = codes "d"
+
+abbrev pub node_place : Asked → ℕ → ℕ
+node_place a n = if n % 2 == 0 then 0 else a.cable
+
+abbrev pub node_text : Asked → Quantum → Setting → ℕ → NodeText
+node_text a q s n = record {
+  name = node_name n;
   offset = 0;
   rates = rate_text q ∷ [];
   segments = segments_text s.parts;
   sjw = s.sjw;
-  x = x;
+  x = node_place a n;
   out_delay = a.out_delay;
   in_delay = a.in_delay;
-  frame = frame_text id ready ∷ [];
+  frame = frame_text (2032 + n) (node_ready a.senders n s) ∷ [];
   tolerance = Some a.tolerance;
   listens = false;
   queue = Fifo;
   until = None;
 }
 
-abbrev pub both_nodes : Asked → Quantum → Setting → List NodeText
-both_nodes a q s =
-    node_text a q s (codes "a") 0 2032 (30 * setting_quanta s) ∷ node_text a q s (codes "b") a.cable 2033 (later_ready a.senders s) ∷ []
+-- what there is for each node: for two, for a third if there are three at least, and for a fourth
+abbrev pub more_if : {T : Type 0} → Bool → T → List T → List T
+more_if true x xs = x ∷ xs
+more_if false x xs = xs
+
+abbrev pub for_nodes : {T : Type 0} → Asked → (ℕ → T) → List T
+for_nodes a f = f 0 ∷ f 1 ∷ more_if (nat_lt 2 a.nodes) (f 2) (more_if (nat_lt 3 a.nodes) (f 3) [])
 
 abbrev pub plan_of_quantum : Asked → Setting → Quantum → PlanText
 plan_of_quantum a s q = record {
   version = version_of s.parts;
-  end = plan_end q s;
+  end = plan_end (node_count a) q s;
   per = a.per;
-  node = both_nodes a q s;
+  node = for_nodes a (node_text a q s);
   disturbance = [];
   sync = Book;
   tick = None;

@@ -1,5 +1,5 @@
 -- The list of settings, and the order in which they come. This project's.
-use Rattle.std.specs.Prelude.{◌≡◌, ℕ, ◌+◌, ◌-◌, ◌*◌, ◌^◌, nat_lt, if◌then◌else◌, List, [], ◌∷◌, map, filter, length, All, Option, Some, None}
+use Rattle.std.specs.Prelude.{◌≡◌, ◌≤◌, ◌<◌, ℕ, ◌+◌, ◌-◌, ◌*◌, ◌^◌, nat_lt, if◌then◌else◌, List, [], ◌∷◌, map, filter, length, get_or, All, Option, Some, None}
 use Rattle.std.specs.List.Sorted.{IsPermutation, IsNonDecreasingBy}
 use Rattle.wl_settings.specs.declared.asked.Asked.{Asked}
 use Rattle.wl_settings.specs.declared.asked.Controller.{Controller}
@@ -9,8 +9,10 @@ use Rattle.wl_settings.specs.declared.parts.Parts.TheVariants.{Each, Joint}
 use Rattle.wl_settings.specs.declared.judged.Refusal.{Refusal}
 use Rattle.wl_settings.specs.declared.judged.WorkingSetting.{WorkingSetting}
 use Rattle.wl_settings.specs.declared.listing.Listing.{Listing}
+use Rattle.wl_settings.specs.declared.rates.NearRate.{NearRate}
+use Rattle.wl_settings.specs.Rates.{nearest_rate}
 use Rattle.wl_settings.specs.Judged.{IsShortfall, IsRow, is_failing, works}
-use Rattle.wl_settings.specs.Settings.{possible_settings, quanta_of_parts}
+use Rattle.wl_settings.specs.Settings.{distance_to, possible_settings, quanta_of_parts}
 
 -- The order of segments: by PROP_SEG, PHASE_SEG1 and PHASE_SEG2, or by the quanta of a bit and TSEG1. Each number is below 2^16, but for the quanta.
 abbrev pub order_of_parts : Parts → ℕ
@@ -25,11 +27,21 @@ place_in_order s = s.prescaler * 2 ^ 64 + order_of_parts s.parts * 2 ^ 16 + (655
 abbrev pub row_rank : WorkingSetting → ℕ
 row_rank r = (100000000 - r.margin) * 2 ^ 96 + place_in_order r.setting
 
--- Rows of exactly these settings, each with what is so of it, the one with most to spare first.
+-- How far the sample point of a row is from the one that is wished for.
+abbrev pub row_distance : Option ℕ → WorkingSetting → ℕ
+row_distance wish r = distance_to wish r.setting
+
+-- Rows nearest to the sample point that is wished for come first, and neighbours that are equally near are in order of their rank.
+pub record AreOrdered (wish : Option ℕ) (rows : List WorkingSetting) : Type 0 where
+  pub near : IsNonDecreasingBy (row_distance wish) rows
+  pub rank : (k : ℕ) (d : WorkingSetting) → k + 1 < length rows → row_distance wish (get_or rows k d) ≡ row_distance wish (get_or rows (k + 1) d)
+      → row_rank (get_or rows k d) ≤ row_rank (get_or rows (k + 1) d)
+
+-- Rows of exactly these settings, each with what is so of it, in that order.
 pub record IsRanking (a : Asked) (c : Controller) (all : List Setting) (rows : List WorkingSetting) : Type 0 where
   pub settings : IsPermutation all (map (λ r. r.setting) rows)
   pub figures : All (IsRow a c) rows
-  pub order : IsNonDecreasingBy row_rank rows
+  pub order : AreOrdered a.sample rows
 
 -- the settings with which the bus works: all of them
 abbrev pub AreRanked : Asked → Controller → List WorkingSetting → Type 0
@@ -65,8 +77,14 @@ abbrev pub IsNearest : Asked → Controller → List WorkingSetting → Option R
 IsNearest a c [] nearest = (refusals : List Refusal) × AreRefusals a c (possible_settings a c) refusals × (nearest ≡ least_refusal refusals)
 IsNearest a c (row ∷ rows) nearest = nearest ≡ None
 
+-- if no setting has the bit rate, the nearest one
+abbrev pub rate_instead : Asked → Controller → List Setting → Option NearRate
+rate_instead a c [] = nearest_rate a c
+rate_instead a c (s ∷ ss) = None
+
 -- what is found for a controller
 pub record IsListing (a : Asked) (c : Controller) (l : Listing) : Type 0 where
   pub possible : l.possible ≡ length (possible_settings a c)
   pub rows : AreRanked a c l.rows
   pub nearest : IsNearest a c l.rows l.nearest
+  pub rate : l.rate ≡ rate_instead a c (possible_settings a c)

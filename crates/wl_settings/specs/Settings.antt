@@ -1,5 +1,5 @@
 -- Which settings have the bit rate. This project's; what is taken from public texts is named.
-use Rattle.std.specs.Prelude.{ℕ, zero, suc, ◌+◌, ◌-◌, ◌*◌, ◌&&◌, ◌||◌, nat_le, Bool, true, false, List, [], ◌∷◌, ◌++◌, Option, Some, None, Result, if◌then◌else◌}
+use Rattle.std.specs.Prelude.{ℕ, zero, suc, ◌+◌, ◌-◌, ◌*◌, ◌/◌, ◌&&◌, ◌||◌, nat_le, Bool, true, false, List, [], ◌∷◌, ◌++◌, Option, Some, None, Result, if◌then◌else◌}
 use Rattle.std.specs.Int.{abs_diff}
 use Rattle.std.specs.Result.{is_ok}
 use Rattle.wl_kinds.specs.declared.kinds.ControllerKind.{ControllerKind}
@@ -48,6 +48,14 @@ divisor_of bitrate prescaler quanta = bitrate * (prescaler * quanta)
 
 abbrev pub bit_divisor : ℕ → Setting → ℕ
 bit_divisor bitrate s = divisor_of bitrate s.prescaler (setting_quanta s)
+
+-- the sample point in thousandths of a bit, rounded down, and how far it is from the one that is wished for
+abbrev pub sample_permille : Setting → ℕ
+sample_permille s = (setting_quanta s - quanta_after_sample s.parts) * 1000 / setting_quanta s
+
+abbrev pub distance_to : Option ℕ → Setting → ℕ
+distance_to None s = 0
+distance_to (Some wish) s = abs_diff (sample_permille s) wish
 
 -- each segment is at most what its register holds
 abbrev pub fit_parts : Parts → Parts → Bool

@@ -19,7 +19,7 @@ use Rattle.wl_settings.specs.declared.parts.Parts.{Parts}
 use Rattle.wl_settings.specs.declared.parts.Parts.TheVariants.{Each, Joint}
 use Rattle.wl_settings.specs.declared.read.Wanted.{Wanted}
 use Rattle.wl_settings.specs.Faults.{AnswersFault, controller_fault, wanted_fault}
-use Rattle.wl_settings.specs.Kinds.{bounds_at, flag_at, has_joint_parts, values_at, name_in_table, whole_at, segment_at, senders_at}
+use Rattle.wl_settings.specs.Kinds.{bounds_at, flag_at, has_joint_parts, values_at, name_in_table, whole_at, wished_sample_at, segment_at, senders_at}
 
 -- what a controller can be set to: if a key is absent, as much as the format allows
 abbrev pub single_bounds_of : Members → Bounds
@@ -63,6 +63,8 @@ asked_of tick table = record {
   tolerance = whole_at key.Tolerance 0 table;
   senders = senders_at key.Senders table;
   rate_error = whole_at key.RateError 0 table;
+  sample = wished_sample_at key.SamplePoint table;
+  nodes = whole_at key.Nodes 2 table;
   tick = tick;
 }
 

@@ -1,7 +1,7 @@
 -- A listing as text (this project's profile).
 use Rattle.std.specs.Prelude.{ℕ, ◌+◌, ◌-◌, ◌*◌, ◌/◌, ◌%◌, ◌^◌, ◌==◌, max, min, List, [], ◌∷◌, ◌++◌, codes, length, Option, Some, None, if◌then◌else◌}
 use Rattle.std.specs.Fmt.{decimal}
-use Rattle.std.specs.Int.{abs_diff, div_ceil}
+use Rattle.std.specs.Int.{div_ceil}
 use Rattle.std.specs.List.{slice_get}
 use Rattle.wl_bound.specs.declared.condition.Failure.{Failure}
 use Rattle.wl_bound.specs.declared.condition.Inequality.{Inequality}
@@ -15,7 +15,9 @@ use Rattle.wl_settings.specs.declared.parts.Parts.TheVariants.{Each, Joint}
 use Rattle.wl_settings.specs.declared.judged.Refusal.{Refusal}
 use Rattle.wl_settings.specs.declared.judged.WorkingSetting.{WorkingSetting}
 use Rattle.wl_settings.specs.declared.listing.Listing.{Listing}
-use Rattle.wl_settings.specs.Settings.{bit_divisor, each_under, quanta_after_sample, setting_quanta}
+use Rattle.wl_settings.specs.declared.rates.NearRate.{NearRate}
+use Rattle.wl_settings.specs.Rates.{rate_error}
+use Rattle.wl_settings.specs.Settings.{each_under, sample_permille, setting_quanta}
 
 abbrev pub words_of_parts : Parts → List ℕ
 words_of_parts (Each prop ps1 ps2) = joined (codes " prop " ∷ decimal prop ∷ codes " ps1 " ∷ decimal ps1 ∷ codes " ps2 " ∷ decimal ps2 ∷ [])
@@ -25,21 +27,14 @@ abbrev pub setting_words : Setting → List ℕ
 setting_words s =
     (joined (codes "prescaler " ∷ decimal s.prescaler ∷ []) ++ words_of_parts s.parts) ++ joined (codes " sjw " ∷ decimal s.sjw ∷ [])
 
--- the sample point in tenths of a percent of a bit
-abbrev pub sample_permille : Setting → ℕ
-sample_permille s = (setting_quanta s - quanta_after_sample s.parts) * 1000 / setting_quanta s
-
+-- the sample point is said in tenths of a percent of a bit
 abbrev pub words_of_sample : Setting → List ℕ
 words_of_sample s =
     joined (codes " quanta " ∷ decimal (setting_quanta s) ∷ codes " sample " ∷ decimal (sample_permille s / 10) ∷ codes "." ∷ decimal (sample_permille s % 10)
     ∷ codes " %" ∷ [])
 
--- by how many parts per million the bit rate deviates, rounded up
-abbrev pub rate_error : ℕ → ℕ → ℕ
-rate_error clock divisor = div_ceil (abs_diff clock divisor * 1000000) (max divisor 1)
-
 abbrev pub error_words : Asked → Controller → Setting → List ℕ
-error_words a c s = joined (codes " error " ∷ decimal (rate_error c.clock (bit_divisor a.bitrate s)) ∷ codes " ppm" ∷ [])
+error_words a c s = joined (codes " error " ∷ decimal (rate_error a c s) ∷ codes " ppm" ∷ [])
 
 -- how much there may be: what is asked for, and by how much it may grow
 abbrev pub grown_words : ℕ → Option ℕ → List ℕ
@@ -97,6 +92,19 @@ none_words a possible =
     if possible == 0 then joined (codes "no setting has " ∷ decimal a.bitrate ∷ codes " bit/s within " ∷ decimal a.rate_error ∷ codes " ppm\n" ∷ [])
     else joined (decimal possible ∷ codes " settings have the bit rate, and the plan of none can be run\n" ∷ [])
 
+-- the nearest bit rate, in thousandths of a bit/s, rounded down
+abbrev pub said_rate : Controller → Setting → ℕ
+said_rate c s = c.clock * 1000 / max (s.prescaler * setting_quanta s) 1
+
+abbrev pub near_rate_words : Controller → NearRate → List ℕ
+near_rate_words c r =
+    (joined (codes "nearest rate " ∷ thousandths (said_rate c r.setting) ∷ codes " bit/s error " ∷ decimal r.error ∷ codes " ppm: " ∷ [])
+    ++ setting_words r.setting) ++ codes "\n"
+
+abbrev pub words_of_rate_instead : Controller → Option NearRate → List ℕ
+words_of_rate_instead c None = []
+words_of_rate_instead c (Some r) = near_rate_words c r
+
 -- why there is no row
 abbrev pub why_words : Asked → ℕ → Option Refusal → List ℕ
 why_words a possible (Some r) = nearest_words a.tick r
@@ -112,4 +120,4 @@ controller_line c count =
 
 -- what is said of a controller
 abbrev pub listing_words : Asked → Controller → ℕ → Listing → List ℕ
-listing_words a c best l = (controller_line c (length l.rows) ++ row_lines a c best l.rows) ++ unless_rows a l l.rows
+listing_words a c best l = ((controller_line c (length l.rows) ++ row_lines a c best l.rows) ++ unless_rows a l l.rows) ++ words_of_rate_instead c l.rate

@@ -1,6 +1,6 @@
 //! What is asked for, for which controller, and what a setting is.
 ghost use Rattle.std.specs.Prelude.{◌≡◌, ◌<◌, ◌^◌};
-ghost use Rattle.wl_settings.specs.Settings.{bit_divisor, divisor_of, fits_registers, is_near, is_rate_near, is_taken_by, obeys, setting_quanta, setting_taken};
+ghost use Rattle.wl_settings.specs.Settings.{bit_divisor, divisor_of, fits_registers, is_near, is_rate_near, distance_to, is_taken_by, obeys, sample_permille, setting_quanta, setting_taken};
 
 use crate::parts::Parts;
 use wl_bound::Senders;
@@ -29,6 +29,10 @@ pub struct Asked {
     pub senders: Senders,
     /// By how many parts per million the bit rate of a setting may deviate from the one asked for.
     pub rate_error: u32,
+    /// The usual sample point, in thousandths of a bit, if one is wished for.
+    pub sample: Option<u32>,
+    /// How many nodes there are: 2, or 3, or 4 and more.
+    pub nodes: u32,
     /// Returns how many picoseconds a tick takes.
     pub tick: u64,
 }
@@ -115,6 +119,24 @@ impl Setting {
         ensures most { result < 2 ^ 82 }
     {
         asked.divisor(self.prescaler, self.quanta())
+    }
+
+    /// Returns the sample point in thousandths of a bit, rounded down.
+    pub fn sample_permille(self) -> u64
+        ensures { result ≡ sample_permille self }
+    {
+        let quanta = self.quanta();
+        (quanta - self.parts.after_sample() as u64) * 1000 / quanta
+    }
+
+    /// Returns how far the sample point is from the one that is wished for, in thousandths of a bit; 0 if none is.
+    pub(crate) fn distance_to(self, wish: Option<u32>) -> u64
+        ensures { result ≡ distance_to wish self }
+    {
+        match wish {
+            Some(permille) => self.sample_permille().abs_diff(permille as u64),
+            None => 0,
+        }
     }
 
     /// Returns the setting as the catalogue of kinds takes it.

@@ -1,7 +1,7 @@
 //! What the condition for a sound bus says of a setting.
 ghost use Rattle.std.specs.Prelude.{◌≡◌, IfOk, IfSome, [], ◌∷◌, length, option_map};
 ghost use Rattle.wl_bound.specs.Families.{family_of};
-ghost use Rattle.wl_settings.specs.Judged.{AreFigures, IsReach, IsRefusalOf, IsRowOf, both_paces, deviation_by, family_at, margin, part, runnable_plan};
+ghost use Rattle.wl_settings.specs.Judged.{AreFigures, IsReach, IsRefusalOf, IsRowOf, all_paces, deviation_by, deviations_of, family_at, margin, part, runnable_plan};
 ghost use Rattle.wl_settings.specs.Plans.{setting_plan, setting_quantum};
 
 use crate::asked::{Asked, Controller, Setting};
@@ -60,17 +60,24 @@ fn deviation(alloc: Global, quantum: Quantum, tolerance: u32) -> Result<Deviatio
     Ok(Deviation { rates, tolerance })
 }
 
-/// Returns what the clocks of both nodes may do.
+/// Returns what the clocks of all nodes may do.
 fn deviations(
     alloc: Global,
+    asked: &Asked,
     quantum: Quantum,
-    tolerance: u32,
 ) -> Result<Listed<Deviation>, AllocError>
-    ensures { IfOk result (λ all. all ≡ deviation_by quantum tolerance ∷ deviation_by quantum tolerance ∷ []) }
+    ensures { IfOk result (λ all. all ≡ deviations_of asked.now quantum) }
 {
+    let tolerance = asked.tolerance;
     let mut all = Listed::new(alloc);
     all.push(deviation(alloc, quantum, tolerance)?)?;
     all.push(deviation(alloc, quantum, tolerance)?)?;
+    if asked.nodes > 2 {
+        all.push(deviation(alloc, quantum, tolerance)?)?;
+    }
+    if asked.nodes > 3 {
+        all.push(deviation(alloc, quantum, tolerance)?)?;
+    }
     Ok(all)
 }
 
@@ -152,17 +159,17 @@ fn family_with(
     }
 }
 
-/// Returns the oscillators of both nodes of a setting's plan, if the rates make clocks.
-fn both_oscillators(
+/// Returns the oscillators of the nodes of a setting's plan, if the rates make clocks.
+fn all_oscillators(
     alloc: Global,
     asked: &Asked,
     clock: u32,
     setting: Setting,
 ) -> Result<Option<Listed<Oscillator>>, AllocError>
-    ensures { IfOk result (λ all. all ≡ both_paces (setting_quantum asked.now clock setting) asked.now.tolerance) }
+    ensures { IfOk result (λ all. all ≡ all_paces asked.now (setting_quantum asked.now clock setting)) }
 {
     let quantum = quantum_of(asked, clock, setting);
-    let deviations = deviations(alloc, quantum, asked.tolerance)?;
+    let deviations = deviations(alloc, asked, quantum)?;
     oscillators(alloc, deviations.as_slice())
 }
 
@@ -179,7 +186,7 @@ fn family_of_setting(
     let Some(plan) = checked_plan(alloc, asked, clock, setting)? else {
         return Ok(None);
     };
-    let all = both_oscillators(alloc, asked, clock, setting)?;
+    let all = all_oscillators(alloc, asked, clock, setting)?;
     family_with(alloc, &plan, all)
 }
 

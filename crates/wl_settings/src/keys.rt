@@ -18,6 +18,8 @@ pub enum ValueKind {
     Senders,
     /// The word of a known kind of controllers.
     Named,
+    /// A sample point, as `"87.5%"`.
+    Sample,
     /// A kind that plans have too.
     OfPlan(Kind),
 }
@@ -35,6 +37,9 @@ pub enum Key {
     Senders,
     Controller,
     RateError,
+    SamplePoint,
+    /// How many nodes the bus has.
+    Nodes,
     Name,
     Clock,
     Kind,
@@ -62,7 +67,9 @@ impl Key {
             Key::Cable | Key::Per => ValueKind::Within(1, 1_048_576),
             Key::Out | Key::In => ValueKind::Within(0, 1_048_576),
             Key::Tolerance | Key::RateError => ValueKind::Within(0, 100_000),
+            Key::Nodes => ValueKind::Within(2, 64),
             Key::Senders => ValueKind::Senders,
+            Key::SamplePoint => ValueKind::Sample,
             Key::Controller => ValueKind::OfPlan(Kind::Tables),
             Key::Name => ValueKind::OfPlan(Kind::Name),
             Key::Clock => ValueKind::Within(1, 1_000_000_000),
@@ -98,6 +105,8 @@ impl TableKey for Key {
             Key::Senders => "senders",
             Key::Controller => "controller",
             Key::RateError => "rate_error",
+            Key::SamplePoint => "sample_point",
+            Key::Nodes => "nodes",
             Key::Name => "name",
             Key::Clock => "clock",
             Key::Kind => "kind",

@@ -1,13 +1,16 @@
 //! The settings with which a bus works.
 ghost use Rattle.std.specs.Prelude.{◌≡◌, ◌++◌, ◌<◌, ◌^◌, IfOk, OnOk, Some, filter};
 ghost use Rattle.wl_settings.specs.Judged.{works};
-ghost use Rattle.wl_settings.specs.Rankings.{AreFoundRows, AreRefusals, IsListing, IsNearest, IsRanking, found_one, least_refusal, lesser_of, order_of_parts, place_in_order, row_rank};
+ghost use Rattle.wl_settings.specs.Rankings.{AreFoundRows, AreOrdered, AreRefusals, IsListing, IsNearest, IsRanking, found_one, least_refusal, lesser_of, order_of_parts, place_in_order, rate_instead, row_distance, row_rank};
+ghost use Rattle.std.specs.List.Sorted.{IsPermutation, IsSortedByKey, IsStableByKey};
+ghost use Rattle.std.specs.Ordering.{nat_cmp};
 ghost use Rattle.wl_settings.specs.Settings.{possible_settings};
 
 use crate::asked::{Asked, Controller, Setting};
 use crate::judged::{Refusal, WorkingSetting, find_refusal, find_row};
 use crate::parts::Parts;
 use crate::possible::possible_settings;
+use crate::rates::{NearRate, nearest_rate};
 use std::alloc::{AllocError, Global};
 use wl_level::Listed;
 
@@ -23,6 +26,8 @@ pub struct Listing {
     pub rows: Listed<WorkingSetting>,
     /// If there are none, the setting that an inequality refuses by least.
     pub nearest: Option<Refusal>,
+    /// If no setting has the bit rate, the one whose rate is nearest, if it is at most a tenth off.
+    pub rate: Option<NearRate>,
 }
 
 /// Adds a row, if there is one.
@@ -115,7 +120,36 @@ fn rank(row: &WorkingSetting) -> u128
     MOST.saturating_sub(row.margin) as u128 * (1 << 96) + place_of(row.setting)
 }
 
-/// Returns the rows, the one with most to spare first. Of those with the same margin the one comes first that comes first in the order of
+/// Sorts rows by their rank.
+fn sort_by_rank(rows: &mut Vec<WorkingSetting>) -> Result<(), AllocError>
+    ensures rows { OnOk result (IsPermutation rows.old.items rows.new.items) }
+    ensures order { OnOk result (IsSortedByKey row_rank nat_cmp rows.new.items) }
+{
+    rows.sort_by_key(|row| rank(row))?;
+    Ok(())
+}
+
+/// Sorts rows by the distance to the sample point that is wished for. Rows with the same distance stay in their order.
+fn sort_by_distance(wish: Option<u32>, rows: &mut Vec<WorkingSetting>) -> Result<(), AllocError>
+    ensures rows { OnOk result (IsPermutation rows.old.items rows.new.items) }
+    ensures order { OnOk result (IsSortedByKey (row_distance wish) nat_cmp rows.new.items) }
+    ensures stable { OnOk result (IsStableByKey (row_distance wish) nat_cmp rows.old.items rows.new.items) }
+{
+    rows.sort_by_key(|row| row.setting.distance_to(wish))?;
+    Ok(())
+}
+
+/// Sorts rows: by the distance to the sample point that is wished for, and those with the same distance by their rank.
+fn sort_rows(wish: Option<u32>, rows: &mut Vec<WorkingSetting>) -> Result<(), AllocError>
+    ensures rows { OnOk result (IsPermutation rows.old.items rows.new.items) }
+    ensures order { OnOk result (AreOrdered wish rows.new.items) }
+{
+    sort_by_rank(rows)?;
+    sort_by_distance(wish, rows)?;
+    Ok(())
+}
+
+/// Returns the rows: those nearest to the sample point that is wished for come first; of those alike the one with most to spare. Of those with the same margin the one comes first that comes first in the order of
 /// settings.
 fn ranked_rows(
     alloc: Global,
@@ -127,7 +161,7 @@ fn ranked_rows(
         (filter (works asked.now controller.now) settings.now)) }
 {
     let mut rows = find_rows(alloc, asked, controller, settings)?;
-    rows.sort_by_key(|row| rank(row))?;
+    sort_rows(asked.sample, &mut rows)?;
     Ok(Listed::from_vec(rows))
 }
 
@@ -176,6 +210,21 @@ fn nearest(
     }
 }
 
+/// Returns the nearest bit rate, if no setting has the one asked for.
+fn rate_instead(
+    alloc: Global,
+    asked: &Asked,
+    controller: &Controller,
+    settings: &[Setting],
+) -> Result<Option<NearRate>, AllocError>
+    ensures { IfOk result (λ rate. rate ≡ rate_instead asked.now controller.now settings.now) }
+{
+    match settings {
+        [] => nearest_rate(alloc, asked, controller),
+        [..] => Ok(None),
+    }
+}
+
 /// Returns the settings of a controller with which a bus works, the one with most to spare first; or what refuses the best.
 ///
 /// The bus of a setting is that of its plan (`plan_text`): two nodes at the ends of the cable. It works if the condition for a sound bus holds
@@ -192,9 +241,11 @@ pub fn list(alloc: Global, asked: &Asked, controller: &Controller) -> Result<Lis
         settings.as_slice(),
         rows.as_slice(),
     )?;
+    let rate = rate_instead(alloc, asked, controller, settings.as_slice())?;
     Ok(Listing {
         possible: settings.len() as u64,
         rows,
         nearest,
+        rate,
     })
 }

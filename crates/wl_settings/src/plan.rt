@@ -1,7 +1,8 @@
-//! The plan of a setting: two nodes at the ends of the cable.
-ghost use Rattle.std.specs.Prelude.{◌≡◌, ◌++◌, ◌≤◌, ◌<◌, ◌^◌, true, string_bytes, IfOk, OnOk, [], ◌∷◌};
+//! The plan of a setting: two to four nodes at the ends of the cable.
+ghost use Rattle.std.specs.Prelude.{◌≡◌, ◌++◌, ◌≤◌, ◌<◌, ◌+◌, ◌^◌, true, string_bytes, IfOk, OnOk, [], ◌∷◌};
 ghost use Rattle.wl_setup.specs.Kinds.{is_name};
-ghost use Rattle.wl_settings.specs.Plans.{IsOfKeys, ReadsAsPlan, both_nodes, common, data_bytes, frame_text, later_ready, node_text, plan_end, plan_of_quantum, rate_text, segments_text, setting_plan, setting_plan_text, setting_quantum, step, text_of_title, version_of, within};
+ghost use Rattle.wl_settings.specs.Plans.{IsOfKeys, ReadsAsPlan, common, data_bytes, for_nodes, frame_text, node_count, node_name, node_place, node_text, plan_end, plan_of_quantum};
+ghost use Rattle.wl_settings.specs.Plans.{rate_text, node_ready, segments_text, setting_plan, setting_plan_text, setting_quantum, step, text_of_title, version_of, within};
 
 use crate::asked::{Asked, Controller, Setting};
 use crate::parts::Parts;
@@ -21,11 +22,8 @@ const SECOND: u128 = 1_000_000_000_000;
 /// From which bit on the first frame may be sent: each node has then seen the 11 bits that make it idle.
 const READY: u64 = 30;
 
-/// From which bit on the second one may be sent, if one node sends at a time.
-const LATER: u64 = 230;
-
-/// In how many bits both are sent.
-const BITS: u128 = 400;
+/// How many bits later the next one may be sent, if one node sends at a time. A plan has this number of bits for each node.
+const LATER: u64 = 200;
 
 /// Returns the next two numbers of Euclid's algorithm.
 fn step(pair: (u128, u128)) -> (u128, u128)
@@ -73,21 +71,31 @@ pub(crate) fn quantum_of(asked: &Asked, clock: u32, setting: Setting) -> Quantum
     }
 }
 
-/// Returns the tick at which a plan ends.
-fn end_of(quantum: Quantum, setting: Setting) -> u64
-    ensures { result ≡ plan_end quantum setting }
+/// Returns how many nodes the plan has: two to four.
+fn node_count(asked: &Asked) -> u64
+    ensures value { result ≡ node_count asked.now }
+    ensures most { result ≤ 4 }
 {
-    let quanta = BITS * setting.quanta() as u128;
+    (asked.nodes as u64).max(2).min(4)
+}
+
+/// Returns the tick at which a plan of this number of nodes ends.
+fn end_of(nodes: u64, quantum: Quantum, setting: Setting) -> u64
+    requires { nodes ≤ 4 }
+    ensures { result ≡ plan_end nodes quantum setting }
+{
+    let quanta = (LATER * nodes) as u128 * setting.quanta() as u128;
     within((quanta * quantum.num as u128).div_ceil(quantum.den.max(1) as u128))
 }
 
-/// Returns from which quantum on the second frame may be sent.
-fn later_ready(senders: Senders, setting: Setting) -> u64
-    ensures { result ≡ later_ready senders setting }
+/// Returns from which quantum on the frame of a node may be sent, by the number of the node from 0 on.
+fn node_ready(senders: Senders, n: u32, setting: Setting) -> u64
+    requires { n < 4 }
+    ensures { result ≡ node_ready senders n setting }
 {
     match senders {
         Senders::Any => READY * setting.quanta(),
-        Senders::One => LATER * setting.quanta(),
+        Senders::One => (READY + LATER * n as u64) * setting.quanta(),
     }
 }
 
@@ -150,38 +158,62 @@ fn frame_text(alloc: Global, id: u32, ready: u64) -> Result<FrameText, AllocErro
     })
 }
 
-/// What a node of the plan has of its own.
-#[derive(Clone, Copy)]
-struct Station<'a> {
-    name: &'a str,
-    x: u32,
-    id: u32,
-    ready: u64,
+/// Returns the name of a node, by its number from 0 on.
+fn node_name(n: u32) -> &'static str
+    ensures { result.now ≡ node_name n }
+{
+    match n {
+        0 => "a",
+        1 => "b",
+        2 => "c",
+        _ => "d",
+    }
 }
 
-/// Returns a node.
+/// Returns the place of a node on the cable: nodes are at both ends in turn.
+fn node_place(asked: &Asked, n: u32) -> u32
+    ensures { result ≡ node_place asked.now n }
+{
+    if n % 2 == 0 { 0 } else { asked.cable }
+}
+
+/// Returns the frames of a node, by its number: one.
+fn frames_of(
+    alloc: Global,
+    asked: &Asked,
+    setting: Setting,
+    n: u32,
+) -> Result<Listed<FrameText>, AllocError>
+    requires { n < 4 }
+    ensures { IfOk result (λ all. all ≡ frame_text (2032 + n) (node_ready asked.now.senders n setting) ∷ []) }
+{
+    let ready = node_ready(asked.senders, n, setting);
+    let mut all = Listed::new(alloc);
+    all.push(frame_text(alloc, 2032 + n, ready)?)?;
+    Ok(all)
+}
+
+/// Returns a node, by its number.
 fn node_text(
     alloc: Global,
     asked: &Asked,
     quantum: Quantum,
     setting: Setting,
-    node: &Station,
+    n: u32,
 ) -> Result<NodeText, AllocError>
-    ensures { IfOk result (λ made. made
-        ≡ node_text asked.now quantum setting node.now.name.now node.now.x node.now.id node.now.ready) }
+    requires { n < 4 }
+    ensures { IfOk result (λ made. made ≡ node_text asked.now quantum setting n) }
 {
-    let mut frames = Listed::new(alloc);
-    frames.push(frame_text(alloc, node.id, node.ready)?)?;
     Ok(NodeText {
-        name: Text::new(alloc, node.name)?,
+        name: Text::new(alloc, node_name(n))?,
         offset: 0,
         rates: rates(alloc, quantum)?,
         segments: segments_text(setting.parts),
         sjw: setting.sjw as u64,
-        x: node.x,
+        x: node_place(asked, n),
         out_delay: asked.out_delay as u64,
         in_delay: asked.in_delay as u64,
-        frame: frames,
+        frame: frames_of(alloc, asked, setting, n)?,
         tolerance: Some(asked.tolerance),
         listens: false,
         queue: QueueText::Fifo,
@@ -189,30 +221,24 @@ fn node_text(
     })
 }
 
-/// Returns both nodes.
-fn both_nodes(
+/// Returns the nodes: two, or three, or four.
+fn all_nodes(
     alloc: Global,
     asked: &Asked,
     quantum: Quantum,
     setting: Setting,
 ) -> Result<Listed<NodeText>, AllocError>
-    ensures { IfOk result (λ nodes. nodes ≡ both_nodes asked.now quantum setting) }
+    ensures { IfOk result (λ nodes. nodes ≡ for_nodes asked.now (node_text asked.now quantum setting)) }
 {
-    let near = Station {
-        name: "a",
-        x: 0,
-        id: 2032,
-        ready: READY * setting.quanta(),
-    };
-    let far = Station {
-        name: "b",
-        x: asked.cable,
-        id: 2033,
-        ready: later_ready(asked.senders, setting),
-    };
     let mut nodes = Listed::new(alloc);
-    nodes.push(node_text(alloc, asked, quantum, setting, &near)?)?;
-    nodes.push(node_text(alloc, asked, quantum, setting, &far)?)?;
+    nodes.push(node_text(alloc, asked, quantum, setting, 0)?)?;
+    nodes.push(node_text(alloc, asked, quantum, setting, 1)?)?;
+    if asked.nodes > 2 {
+        nodes.push(node_text(alloc, asked, quantum, setting, 2)?)?;
+    }
+    if asked.nodes > 3 {
+        nodes.push(node_text(alloc, asked, quantum, setting, 3)?)?;
+    }
     Ok(nodes)
 }
 
@@ -227,9 +253,9 @@ fn plan_of_quantum(
 {
     Ok(PlanText {
         version: version_of(setting.parts),
-        end: end_of(quantum, setting),
+        end: end_of(node_count(asked), quantum, setting),
         per: asked.per as u64,
-        node: both_nodes(alloc, asked, quantum, setting)?,
+        node: all_nodes(alloc, asked, quantum, setting)?,
         disturbance: Listed::new(alloc),
         sync: SyncRules::Book,
         tick: None,
@@ -238,9 +264,9 @@ fn plan_of_quantum(
 }
 
 /// Returns the plan of a setting of a controller with this clock, in Hz: two nodes of it, `a` and `b`, at the ends of the cable, each with a
-/// frame.
+/// frame; beside them `c` and `d`, if the bus has three nodes, or four and more.
 ///
-/// Both frames become ready at once if any nodes may send, else one after the other. Refused only when out of memory.
+/// The frames become ready at once if any nodes may send, else one after another. Refused only when out of memory.
 pub fn setting_plan(
     alloc: Global,
     asked: &Asked,

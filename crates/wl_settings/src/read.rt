@@ -1,8 +1,8 @@
 //! What a text asks for.
 ghost use Rattle.std.specs.Prelude.{◌≡◌, ◌≢◌, Ok, Err, IfOk, IfErr, map};
 ghost use Rattle.toml.specs.View.{view, table_view};
-ghost use Rattle.wl_settings.specs.Faults.{AnswersFault, PassesTest, controller_fault, fault_of_table, wanted_fault};
-ghost use Rattle.wl_settings.specs.Keys.{bus_optional, bus_required, controller_optional};
+ghost use Rattle.wl_settings.specs.Faults.{AnswersFault, PassesTest, bus_fault, controller_fault, wanted_fault};
+ghost use Rattle.wl_settings.specs.Keys.{bus_optional, controller_optional};
 ghost use Rattle.wl_settings.specs.Texts.{AnswersControllers, IsWantedAnswer, ReadsWanted, asked_of, bounds_of, controller_of, lesser_bounds, lesser_parts, single_bounds_of, wanted_in_text, wanted_of};
 
 use crate::asked::{Asked, Bounds, Controller};
@@ -10,7 +10,9 @@ use crate::fault::SettingsFault;
 use crate::keys::Key;
 use crate::parts::Parts;
 use crate::tables::check_table;
-use crate::values::{bounds_at, flag_at, has_joint_parts, number_at, segment_at, senders_at};
+use crate::values::{
+    bounds_at, flag_at, has_joint_parts, number_at, segment_at, senders_at, wished_sample_at,
+};
 use std::alloc::{AllocError, Global};
 use toml::{Table, Value};
 use wl_device::{Ended, Source};
@@ -154,6 +156,8 @@ fn asked_of(table: &Table, tick: u64) -> Asked
         tolerance: number_at(table, Key::Tolerance, 0),
         senders: senders_at(table, Key::Senders),
         rate_error: number_at(table, Key::RateError, 0),
+        sample: wished_sample_at(table, Key::SamplePoint),
+        nodes: number_at(table, Key::Nodes, 2),
         tick,
     }
 }
@@ -163,16 +167,18 @@ fn bus_optional(joint: bool) -> &'static [Key]
     ensures { result.now ≡ bus_optional joint }
 {
     if joint {
-        &[Key::Version, Key::RateError]
+        &[Key::Version, Key::RateError, Key::SamplePoint, Key::Nodes]
     } else {
-        &[Key::RateError]
+        &[Key::RateError, Key::SamplePoint, Key::Nodes]
     }
 }
 
 /// Tests the top table.
-fn check_bus(alloc: Global, joint: bool, top: &Table) -> Result<(), SettingsFault>
-    ensures { PassesTest (fault_of_table bus_required (bus_optional joint) (table_view top.now)) result }
+#[tactic(auto, unfolding(crate::specs::Faults::bus_fault))]
+fn check_bus(alloc: Global, top: &Table) -> Result<(), SettingsFault>
+    ensures { PassesTest (bus_fault (table_view top.now)) result }
 {
+    let joint = has_joint_parts(top);
     let required = &[
         Key::Bitrate,
         Key::Cable,
@@ -191,7 +197,7 @@ fn read_document(alloc: Global, tick: u64, top: &Table) -> Result<Wanted, Settin
     ensures { AnswersFault (wanted_fault (table_view top.now)) (wanted_of tick (table_view top.now)) result }
 {
     let joint = has_joint_parts(top);
-    check_bus(alloc, joint, top)?;
+    check_bus(alloc, top)?;
     let controllers = read_controllers(alloc, joint, elements_at(top, Key::Controller))?;
     if controllers.is_empty() {
         return Err(SettingsFault::NoController);

@@ -1,7 +1,7 @@
 //! What the values of a table's keys are, and what they say.
 ghost use Rattle.std.specs.Prelude.{◌≡◌, ◌≤◌, ◌<◌, ◌^◌};
 ghost use Rattle.toml.specs.View.{view, table_view};
-ghost use Rattle.wl_settings.specs.Kinds.{bounds_at, bounds_in, flag_at, has_joint_parts, is_of_kind, whole_at, segment_at, senders_at, senders_in, senders_named};
+ghost use Rattle.wl_settings.specs.Kinds.{bounds_at, bounds_in, flag_at, has_joint_parts, is_of_kind, permille_of, wished_sample_at, sample_in, sample_said, whole_at, segment_at, senders_at, senders_in, senders_named};
 
 use crate::asked::Bounds;
 use crate::keys::{Key, VERSION_OF_CONTROLLERS, ValueKind};
@@ -12,7 +12,7 @@ use wl_kinds::kind_named;
 use wl_setup::{has_kind, number_within, value_at};
 
 /// Returns who sends, as a word says it.
-fn senders_named(text: &str) -> Option<Senders>
+pub(crate) fn senders_named(text: &str) -> Option<Senders>
     ensures { result ≡ senders_named text.now }
 {
     if text == "one" {
@@ -29,6 +29,39 @@ fn senders_in(value: &Value) -> Option<Senders>
 {
     match value.as_str() {
         Some(text) => senders_named(text),
+        None => None,
+    }
+}
+
+/// Returns a number of thousandths by its three digits, as ASCII.
+fn permille_of(tens: u8, ones: u8, tenths: u8) -> Option<u32>
+    ensures { result ≡ permille_of tens ones tenths }
+{
+    if tens.is_ascii_digit() && ones.is_ascii_digit() && tenths.is_ascii_digit() {
+        Some((tens - b'0') as u32 * 100 + (ones - b'0') as u32 * 10 + (tenths - b'0') as u32)
+    } else {
+        None
+    }
+}
+
+/// Returns the sample point that a text says, in thousandths of a bit: two digits, a point and a third one or neither, a space or none, and `%`.
+pub(crate) fn sample_said(text: &str) -> Option<u32>
+    ensures { result ≡ sample_said text.now }
+{
+    match text.as_bytes() {
+        [tens, ones, b'%'] => permille_of(*tens, *ones, b'0'),
+        [tens, ones, b' ', b'%'] => permille_of(*tens, *ones, b'0'),
+        [tens, ones, b'.', tenths, b'%'] => permille_of(*tens, *ones, *tenths),
+        [tens, ones, b'.', tenths, b' ', b'%'] => permille_of(*tens, *ones, *tenths),
+        _ => None,
+    }
+}
+
+fn sample_in(value: &Value) -> Option<u32>
+    ensures { result ≡ sample_in (view value.now) }
+{
+    match value.as_str() {
+        Some(text) => sample_said(text),
         None => None,
     }
 }
@@ -51,6 +84,7 @@ pub(crate) fn is_of_kind(kind: ValueKind, value: &Value) -> bool
         ValueKind::Within(least, most) => number_within(least as u64, most as u64, value).is_some(),
         ValueKind::Senders => senders_in(value).is_some(),
         ValueKind::Named => bounds_in(value).is_some(),
+        ValueKind::Sample => sample_in(value).is_some(),
         ValueKind::OfPlan(kind) => has_kind(kind, value),
     }
 }
@@ -94,6 +128,16 @@ pub(crate) fn bounds_at(table: &Table, key: Key) -> Bounds
     match value_at(table, key) {
         Some(value) => bounds_in(value).unwrap_or(widest_bounds()),
         None => widest_bounds(),
+    }
+}
+
+/// Returns the sample point at a key, in thousandths of a bit; none without the key.
+pub(crate) fn wished_sample_at(table: &Table, key: Key) -> Option<u32>
+    ensures { result ≡ wished_sample_at key (table_view table.now) }
+{
+    match value_at(table, key) {
+        Some(value) => sample_in(value),
+        None => None,
     }
 }
 

@@ -1,11 +1,12 @@
 //! A listing as text.
 ghost use Rattle.std.specs.Prelude.{◌≡◌, ◌++◌, ◌<◌, ◌≤◌, ◌^◌, string_bytes, IfOk, OnOk, unwrap_or};
-ghost use Rattle.wl_settings.specs.Words.{controller_line, grown_words, error_words, failing_words, head_words, words_of_inequality, listing_words, line_at, words_of_spare, nearest_words, none_words, words_for_both, picoseconds_up, picoseconds_down, setting_line, row_lines, words_of_sample, setting_words, unless_rows, words_of_parts};
+ghost use Rattle.wl_settings.specs.Words.{controller_line, grown_words, error_words, failing_words, head_words, words_of_inequality, listing_words, line_at, words_of_spare, nearest_words, none_words, words_for_both, picoseconds_up, picoseconds_down, said_rate, near_rate_words, setting_line, row_lines, words_of_rate_instead, words_of_sample, setting_words, unless_rows, words_of_parts};
 
 use crate::asked::{Asked, Controller, Setting};
 use crate::judged::{Refusal, WorkingSetting};
 use crate::listing::Listing;
 use crate::parts::Parts;
+use crate::rates::{NearRate, rate_error};
 use std::alloc::AllocError;
 use wl_bound::{Failure, Inequality};
 use wl_margin::Thousandths;
@@ -40,8 +41,8 @@ fn push_setting(text: &mut String, setting: Setting) -> Result<(), AllocError>
 fn push_sample(text: &mut String, setting: Setting) -> Result<(), AllocError>
     ensures { OnOk result (string_bytes text.new ≡ string_bytes text.old ++ words_of_sample setting) }
 {
-    let quanta = setting.parts.quanta();
-    let sample = (quanta - setting.parts.after_sample() as u64) * 1000 / quanta;
+    let quanta = setting.quanta();
+    let sample = setting.sample_permille();
     let (whole, tenth) = (sample / 10, sample % 10);
     write!(text, " quanta {quanta} sample {whole}.{tenth} %")
 }
@@ -56,8 +57,7 @@ fn push_error(
     ensures { OnOk result (string_bytes text.new
         ≡ string_bytes text.old ++ error_words asked.now controller.now setting) }
 {
-    let divisor = setting.divisor(asked);
-    let error = ((controller.clock as u128).abs_diff(divisor) * MILLION).div_ceil(divisor.max(1));
+    let error = rate_error(asked, controller, setting);
     write!(text, " error {error} ppm")
 }
 
@@ -215,6 +215,47 @@ fn push_nearest(text: &mut String, tick: u64, refusal: &Refusal) -> Result<(), A
     push_failure(text, tick, refusal.failure)
 }
 
+/// Returns the bit rate of a setting in thousandths of a bit/s, rounded down.
+fn said_rate(controller: &Controller, setting: Setting) -> u128
+    ensures { result ≡ said_rate controller.now setting }
+{
+    let periods = setting.prescaler as u128 * setting.quanta() as u128;
+    controller.clock as u128 * 1000 / periods.max(1)
+}
+
+/// Adds the line of the nearest bit rate.
+fn push_rate(
+    text: &mut String,
+    controller: &Controller,
+    nearest: &NearRate,
+) -> Result<(), AllocError>
+    ensures { OnOk result (string_bytes text.new
+        ≡ string_bytes text.old ++ near_rate_words controller.now nearest.now) }
+{
+    let (rate, error) = (
+        Thousandths(said_rate(controller, nearest.setting)),
+        nearest.error,
+    );
+    write!(text, "nearest rate {rate} bit/s error {error} ppm: ")?;
+    push_setting(text, nearest.setting)?;
+    text.push_str("\n")
+}
+
+/// Adds the line of the nearest bit rate, if there is one.
+fn push_rate_instead(
+    text: &mut String,
+    controller: &Controller,
+    nearest: Option<NearRate>,
+) -> Result<(), AllocError>
+    ensures { OnOk result (string_bytes text.new
+        ≡ string_bytes text.old ++ words_of_rate_instead controller.now nearest) }
+{
+    match nearest {
+        Some(nearest) => push_rate(text, controller, &nearest),
+        None => Ok(()),
+    }
+}
+
 /// Adds why there is no setting, and none that an inequality refuses.
 fn push_none(text: &mut String, asked: &Asked, possible: u64) -> Result<(), AllocError>
     ensures { OnOk result (string_bytes text.new ≡ string_bytes text.old ++ none_words asked.now possible) }
@@ -274,5 +315,6 @@ pub(crate) fn push_listing(
         best as usize,
         listing.rows.as_slice(),
     )?;
-    push_why(text, asked, listing)
+    push_why(text, asked, listing)?;
+    push_rate_instead(text, controller, listing.rate)
 }

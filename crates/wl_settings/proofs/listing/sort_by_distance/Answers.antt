@@ -1,0 +1,14 @@
+use Rattle.std.proofs.Common.{rules, ◌≡◌}
+use Rattle.std.proofs.lemmas.Fn.{always_returns_same}
+use Rattle.wl_settings.specs.Rankings.{row_distance}
+use Rattle.wl_settings.proofs.listing.sort_by_distance.Goals as goal
+
+pub returns-clause-order : goal.returns-clause-order
+returns-clause-order c =
+    c.in_ok-sort_by_key.ensures.sorted (row_distance c.args.wish)
+    (always_returns_same _ (λ a r. r ≡ row_distance c.args.wish a.0.now) _ (λ a r q k. search rules))
+
+pub returns-clause-stable : goal.returns-clause-stable
+returns-clause-stable c =
+    c.in_ok-sort_by_key.ensures.stable (row_distance c.args.wish)
+    (always_returns_same _ (λ a r. r ≡ row_distance c.args.wish a.0.now) _ (λ a r q k. search rules))
