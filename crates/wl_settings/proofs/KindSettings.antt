@@ -1,5 +1,5 @@
 -- The settings of a controller of a known kind.
-use Rattle.std.proofs.Common.{◌≡◌, refl, subst, ℕ, ◌≤◌, ◌&&◌, ◌||◌, nat_le, min, true, List, Some, Contains, arith}
+use Rattle.std.proofs.Common.{◌≡◌, refl, subst, ℕ, ◌≤◌, ◌||◌, nat_le, min, true, List, Some, Contains, arith}
 use Rattle.std.proofs.lemmas.Bool.{and_from, and_parts, le-leb, leb-true}
 use Rattle.std.specs.Result.{is_ok}
 use Rattle.wl_kinds.specs.declared.kinds.ControllerKind.{ControllerKind}
@@ -10,7 +10,7 @@ use Rattle.wl_settings.specs.declared.asked.Setting.{Setting}
 use Rattle.wl_settings.specs.declared.parts.Parts.{Parts}
 use Rattle.wl_settings.specs.declared.parts.Parts.TheVariants.{Each, Joint}
 use Rattle.wl_settings.specs.Registers.{bounds_of_kind}
-use Rattle.wl_settings.specs.Settings.{fit_parts, fits_registers, is_joint, is_near, is_setting, is_taken_by, obeys, possible_settings, quanta_after_sample, segments_by, setting_taken}
+use Rattle.wl_settings.specs.Settings.{fit_parts, fits_registers, is_joint, is_setting, is_taken_by, possible_settings, quanta_after_sample, segments_by, setting_taken}
 use Rattle.wl_settings.specs.SettingLaws.{IsOfKind}
 use Rattle.wl_settings.proofs.SettingFacts.{joint_ranges}
 use Rattle.wl_settings.proofs.SettingLists.{listed_is_setting, setting_is_listed, tests_of}

@@ -1,5 +1,5 @@
 -- Numbers without a unit, by what a parser finds.
-use Rattle.std.proofs.Common.{◌≡◌, ◌∙◌, refl, sym, ap, ℕ, ◌^◌, ◌&&◌, nat_lt, Bool, true, false, [], ◌∷◌, List, length, Option, Some, None, Ok, Err, if◌then◌else◌}
+use Rattle.std.proofs.Common.{◌≡◌, ◌∙◌, refl, sym, ap, ℕ, ◌^◌, nat_lt, Bool, true, false, [], ◌∷◌, List, length, Some, None, Ok, Err, if◌then◌else◌}
 use Rattle.std.proofs.lemmas.Bool.{and_parts, lt-ltb, ltb-true}
 use Rattle.std.specs.Char.{digit_value}
 use Rattle.std.specs.List.{list_all}

@@ -1,16 +1,15 @@
 -- The family of a setting's plan, by the plan and what its clocks may do.
-use Rattle.std.proofs.Common.{◌≡◌, ◌∙◌, refl, sym, ap, subst, IfSome, ℕ, nat_lt, Bool, true, false, List, [], ◌∷◌, length, Option, Some, None, option_map, Result, Ok, Err}
+use Rattle.std.proofs.Common.{◌≡◌, ◌∙◌, refl, ap, subst, IfSome, ℕ, nat_lt, Bool, true, false, List, [], ◌∷◌, length, Option, Some, None, option_map, Result, Ok, Err}
 use Rattle.std.specs.List.{enumerate_from}
 use Rattle.wl_bound.specs.Families.{Buses, family_of}
 use Rattle.wl_bound.specs.Oscillators.{Pace}
-use Rattle.wl_margin.specs.Margins.{paces_of}
 use Rattle.wl_margin.proofs.PaceLemmas.{paces-length}
 use Rattle.wl_plan.specs.declared.plan.Plan.{Plan}
 use Rattle.wl_setup.specs.declared.bus.Bus.{Bus}
 use Rattle.wl_setup.specs.declared.bus.Deviation.{Deviation}
 use Rattle.wl_setup.specs.declared.fault.SetupFault.{SetupFault}
 use Rattle.wl_setup.specs.declared.plan_text.PlanText.{PlanText}
-use Rattle.wl_setup.specs.Buses.{BusesAreOfPlans, IsOfPlan, bus_of_text, deviation_of}
+use Rattle.wl_setup.specs.Buses.{BusesAreOfPlans, IsOfPlan, deviation_of}
 use Rattle.wl_setup.specs.Names.{names_of}
 use Rattle.wl_setup.specs.Plans.{after, each, plan_of_text}
 use Rattle.wl_settings.specs.declared.asked.Asked.{Asked}

@@ -1,5 +1,5 @@
 -- The text of a setting's plan is read as the plan.
-use Rattle.std.proofs.Common.{◌≡◌, ◌∙◌, refl, sym, ap, Some, ℕ, ◌++◌, ◌∷◌, [], ◌<◌, ◌≤◌, ◌^◌, ◌&&◌, Bool, true, List, codes, arith, append_assoc, String, string_bytes, Ok}
+use Rattle.std.proofs.Common.{◌≡◌, ◌∙◌, refl, sym, ap, Some, ℕ, ◌++◌, ◌∷◌, [], ◌<◌, ◌^◌, ◌&&◌, true, List, codes, arith, append_assoc, String, string_bytes, Ok}
 use Rattle.std.proofs.lemmas.Bool.Decides.{nat_tests}
 use Rattle.std.proofs.lemmas.Fmt.{decimal_is_IsNumeral}
 use Rattle.std.proofs.lemmas.List.Folds.{list_all-append}

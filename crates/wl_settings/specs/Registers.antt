@@ -1,5 +1,5 @@
 -- What the registers of controllers hold whose PROP_SEG and PHASE_SEG1 are one length.
-use Rattle.std.specs.Prelude.{ℕ, min, false, Some, None}
+use Rattle.std.specs.Prelude.{min, false, Some, None}
 use Rattle.wl_kinds.specs.declared.kinds.ControllerKind.{ControllerKind}
 use Rattle.wl_settings.specs.declared.asked.Bounds.{Bounds}
 use Rattle.wl_settings.specs.declared.parts.Parts.TheVariants.{Joint}

@@ -1,5 +1,5 @@
 -- What options of the command line ask for, in the place of a text (this project's profile).
-use Rattle.std.specs.Prelude.{ℕ, ◌+◌, ◌-◌, ◌==◌, Bool, if◌then◌else◌, List, [], ◌∷◌, ◌++◌, Option, Some, None, codes}
+use Rattle.std.specs.Prelude.{ℕ, ◌+◌, ◌-◌, ◌==◌, Bool, if◌then◌else◌, List, [], ◌∷◌, Option, Some, None, codes}
 use Rattle.std.specs.Str.{bytes_eq}
 use Rattle.wl_settings.specs.declared.keys.Key.{Key}
 use Rattle.wl_settings.specs.declared.keys.Key.TheVariants as key

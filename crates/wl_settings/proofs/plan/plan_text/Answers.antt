@@ -1,7 +1,7 @@
-use Rattle.std.proofs.Common.{rules, ◌≡◌, ◌++◌, ◌≤◌, ◌<◌, ◌^◌, ◌&&◌, true, string_bytes, nat_le, length, arith}
+use Rattle.std.proofs.Common.{rules, ◌≡◌, ◌&&◌, true, string_bytes, nat_le, length, arith}
 use Rattle.std.proofs.lemmas.Bool.{and_parts}
 use Rattle.std.specs.List.{list_all}
-use Rattle.wl_setup.specs.Kinds.{is_name, is_name_letter}
+use Rattle.wl_setup.specs.Kinds.{is_name_letter}
 use Rattle.wl_setup.specs.Limits.{longest_name}
 use Rattle.wl_settings.specs.Plans.{setting_plan_text, setting_plan, setting_quantum}
 use Rattle.wl_settings.proofs.PlanPrints.{AreSmall, plan_fits}

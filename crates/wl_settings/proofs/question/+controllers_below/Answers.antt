@@ -1,4 +1,4 @@
-use Rattle.std.proofs.Common.{rules, ◌≡◌, ◌∙◌, sym, ap, subst, List, Result, Ok}
+use Rattle.std.proofs.Common.{rules, ◌∙◌, sym, ap, subst, List, Result, Ok}
 use Rattle.wl_settings.specs.declared.asked.Controller.{Controller}
 use Rattle.wl_settings.specs.declared.fault.SettingsFault.{SettingsFault}
 use Rattle.wl_settings.specs.Texts.{IsWantedAnswer}
