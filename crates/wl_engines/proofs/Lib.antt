@@ -5,5 +5,6 @@ mod Working
 mod PageProofs
 mod Explaining
 mod OutputLemmas
+mod Answering
 pub mod Callers
 mod TextReading

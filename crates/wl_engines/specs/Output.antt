@@ -1,5 +1,5 @@
 -- An output goes out (this project's profile).
-use Rattle.std.specs.Prelude.{ℕ, List, Result, Ok, Err}
+use Rattle.std.specs.Prelude.{◌≡◌, ℕ, List, Result, Ok, Err}
 use Rattle.wl_device.specs.Devices.{Answer, Writes}
 use Rattle.wl_device.specs.declared.device.WriteFault.{WriteFault}
 use Rattle.wl_engines.specs.declared.fault.RunFault.{RunFault}
@@ -12,6 +12,12 @@ module _ {T : Type 0} (takes : T → Answer → T → Type 0) where
   WritesText text t t' (Ok u) = Writes takes t text (Ok tt) t'
   WritesText text t t' (Err Write) = (fault : WriteFault) × Writes takes t text (Err fault) t'
   WritesText text t t' (Err _) = ⊥
+
+  -- that, and this is answered then
+  abbrev pub WritesAnswer : {A : Type 0} → List ℕ → A → T → T → Result A RunFault → Type 0
+  WritesAnswer text answer t t' (Ok a) = (a ≡ answer) × Writes takes t text (Ok tt) t'
+  WritesAnswer text answer t t' (Err Write) = (fault : WriteFault) × Writes takes t text (Err fault) t'
+  WritesAnswer text answer t t' (Err _) = ⊥
 
   -- some text with this property went out, as far as it went
   abbrev pub WritesSome : (List ℕ → Type 0) → T → T → Result (Unit {0}) WriteFault → Type 0

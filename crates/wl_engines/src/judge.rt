@@ -5,9 +5,10 @@ ghost use Rattle.wl_setup.specs.Limits.{most_bytes};
 ghost use Rattle.wl_traffic.specs.Reasons.{reason_of};
 
 use crate::fault::RunFault;
+use crate::output::write_answer;
 use crate::respond::text_of;
 use std::alloc::{AllocError, Global};
-use wl_device::{Ended, Sink, Source, write_all};
+use wl_device::{Ended, Sink, Source};
 use wl_judge::{Answer, Judgement, Manner, RunSaid, RunState, judge_plan};
 use wl_serial::run_serial;
 use wl_setup::{Bus, PlanText, SetupFault, bus_of_bytes, read_bytes};
@@ -74,8 +75,7 @@ fn judge_to<W: Sink>(
     let plain = text_of(alloc, text)?;
     let bus = bus_of_bytes(alloc, text)?;
     let answer = judged(alloc, tick, explain, &plain, &bus)?;
-    write_all(answer.text.as_bytes(), writer)?;
-    Ok(answer.judgement)
+    write_answer(answer.judgement, answer.text.as_bytes(), writer)
 }
 
 /// Reads a plan's text, simulates the plan, and writes whether its bus works: how sure that is, where it is weakest, which change gives most,

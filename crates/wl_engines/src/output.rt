@@ -1,7 +1,7 @@
 //! An output goes out.
 ghost use Rattle.std.specs.Prelude.{◌≡◌, MatchResult, Err};
 ghost use Rattle.wl_engines.specs.declared.fault.RunFault.TheVariants.{Memory};
-ghost use Rattle.wl_engines.specs.Output.{WritesText};
+ghost use Rattle.wl_engines.specs.Output.{WritesAnswer, WritesText};
 
 use crate::fault::RunFault;
 use std::alloc::AllocError;
@@ -18,4 +18,18 @@ pub(crate) fn write_made<W: Sink>(
     let text = made?;
     write_all(&text, writer)?;
     Ok(())
+}
+
+/// Writes what is said, and returns the answer that goes with it.
+pub(crate) fn write_answer<A: Copy, W: Sink>(
+    answer: A,
+    said: &[u8],
+    writer: &mut W,
+) -> Result<A, RunFault>
+    ensures { WritesAnswer W.takes said.now answer writer.old writer.new result }
+{
+    match write_all(said, writer) {
+        Ok(()) => Ok(answer),
+        Err(_) => Err(RunFault::Write),
+    }
 }

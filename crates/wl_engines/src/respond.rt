@@ -7,9 +7,10 @@ ghost use Rattle.wl_setup.specs.Limits.{most_bytes};
 ghost use Rattle.wl_setup.specs.Reading.{text_answer};
 
 use crate::fault::RunFault;
+use crate::output::write_answer;
 use crate::reader::TextReader;
 use std::alloc::{AllocError, Global};
-use wl_device::{Ended, Sink, Source, write_all};
+use wl_device::{Ended, Sink, Source};
 use wl_respond::{Question, respond_text};
 use wl_setup::{PlanText, SetupFault, bus_of_bytes, read_bytes, read_text};
 use wl_views::Tick;
@@ -53,8 +54,7 @@ fn respond_to<W: Sink>(
         any_data,
     };
     let response = respond_text(alloc, question, &plain, &bus)?;
-    write_all(response.text.as_bytes(), writer)?;
-    Ok(response.met)
+    write_answer(response.met, response.text.as_bytes(), writer)
 }
 
 /// Reads a plan's text, tests whether the plan can be run, and writes how long each message may wait, at all offsets and clocks within their

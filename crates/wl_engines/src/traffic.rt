@@ -5,9 +5,10 @@ ghost use Rattle.wl_engines.specs.TrafficRun.{IsTrafficOutput, RunsTraffic};
 ghost use Rattle.wl_setup.specs.Limits.{most_bytes};
 
 use crate::fault::RunFault;
+use crate::output::write_answer;
 use crate::respond::text_of;
 use std::alloc::Global;
-use wl_device::{Ended, Sink, Source, write_all};
+use wl_device::{Ended, Sink, Source};
 use wl_serial::run_serial;
 use wl_setup::{SetupFault, bus_of_bytes, read_bytes};
 use wl_traffic::{Reason, traffic_of_bus};
@@ -27,8 +28,7 @@ fn traffic_of_text<W: Sink>(
     let bus = bus_of_bytes(alloc, text)?;
     let outcome = run_serial(alloc, &bus.plan)?;
     let found = traffic_of_bus(alloc, tick, &plain, &bus, &outcome)?;
-    write_all(found.text.as_bytes(), writer)?;
-    Ok(found.reason)
+    write_answer(found.reason, found.text.as_bytes(), writer)
 }
 
 /// Reads a plan's text, simulates the plan, and writes how busy the bus was, how long the messages of each node waited, and why the run

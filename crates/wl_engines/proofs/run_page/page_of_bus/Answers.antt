@@ -24,7 +24,7 @@ returns c =
       string_bytes c.in_ok-known.known.figures,
       string_bytes c.in_ok-known.known.settings,
       string_bytes c.in_ok-known.known.margin,
-      string_bytes c.in_ok-run.run.traffic,
+      string_bytes c.in_ok-run.run'.traffic,
       c.in_ok-plain.ensures,
       known.0,
       known.1,
