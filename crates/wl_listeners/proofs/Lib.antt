@@ -3,3 +3,4 @@ mod Listeners
 mod Outcomes
 mod Rows
 mod Wires
+mod Beside

@@ -1,5 +1,5 @@
 -- A machine without frames adds nothing to the bus of machines in step.
-use Rattle.std.proofs.Common.{◌≡◌, ◌≢◌, ◌∙◌, inl, inr, refl, sym, ap, subst, ℕ, ◌-◌, ◌<◌, ◌≤◌, Bool, true, false, ◌==◌, not, List, [], ◌∷◌, length, Option, Some, None, is_some, arith}
+use Rattle.std.proofs.Common.{◌≡◌, ◌≢◌, ◌∙◌, inl, inr, refl, sym, ap, subst, ℕ, ◌-◌, ◌<◌, ◌≤◌, Bool, true, ◌==◌, not, List, [], ◌∷◌, length, Option, Some, None, is_some, arith}
 use Rattle.std.specs.Prelude.{slice_get}
 use Rattle.std.specs.Cmp as cmp
 use Rattle.std.proofs.lemmas.Bool.{and_from, and_parts, both_ways, cases_eq, ne_eqb, not_from_false}
@@ -19,15 +19,15 @@ use Rattle.wl_machine.specs.Judged.{drive_by, drive_of, head_of}
 use Rattle.wl_machine.specs.States.{stretch_by}
 use Rattle.wl_wire.specs.Wire.{Event, Wire, bus, drives_dominant, idle_wire, is_between, is_between_by, next_wire, stretch_at, wire_after}
 use Rattle.wl_wire.specs.Heads.{OwnHeads}
-use Rattle.wl_wire.specs.InStep.{AreInFrame, AreInStep, Has, IsSender}
+use Rattle.wl_wire.specs.InStep.{AreInFrame, AreInStep, Has}
 use Rattle.wl_wire.specs.Winner.{HasOneWinner}
 use Rattle.wl_wire.proofs.Callers.{role_cases}
 use Rattle.wl_listeners.specs.Wires.{bus_beside, drives_beside}
 
--- a wire keeps its frames, and idle machines have no head
-pub frames_after : (w : Wire) (events : List Event) → (wire_after w events).frames ≡ w.frames
-frames_after w [] = refl
-frames_after w (event ∷ events) = frames_after (next_wire w event) events
+-- a machine without frames stays so, and idle machines have no head
+pub none_after : (w : Wire) (events : List Event) (k : ℕ) → w.frames k ≡ [] → (wire_after w events).frames k ≡ []
+none_after w [] k none = none
+none_after w (event ∷ events) k none = none_after (next_wire w event) events k none
 
 no_idle_head : (count : ℕ) (frames : ℕ → List Content) (k : ℕ) → head_of (stretch_at (idle_wire count frames) k).sort ≡ None
 no_idle_head count frames k = refl

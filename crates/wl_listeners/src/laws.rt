@@ -13,7 +13,7 @@ ghost use Rattle.wl_plan.specs.Sound.{IsCausal};
 ghost use Rattle.wl_serial.specs.Outcome.{node_outcome_of};
 ghost use Rattle.wl_listeners.specs.Listeners.{IsWithoutLateNodes, IsWithoutListeners};
 ghost use Rattle.wl_listeners.specs.Parts.{IsPart};
-ghost use Rattle.wl_listeners.specs.Wires.{bus_beside};
+ghost use Rattle.wl_listeners.specs.Wires.{bus_beside, wire_beside};
 
 /// Law: a part of the nodes of a line goes by itself as it goes in the whole, up to a tick. No level that others drive dominant arrives at the
 /// part before that. Each of its nodes has seen the same levels by each tick, drives the same, and changes its drive at the same ticks. That
@@ -73,8 +73,7 @@ pub fn late_nodes_change_nothing_before()
 }
 
 /// Law: a machine without frames adds nothing to the bus of machines in step, if there are two others at least: what it drives is an
-/// acknowledgement, and some other one drives that, too (Bosch CAN 2.0 part B, section 3.2.1). So one that only listens samples on the wire of
-/// the others what it would sample as one of them, and is among those that get each frame (`all_get_each_frame` of wl_wire).
+/// acknowledgement, and some other one drives that, too (Bosch CAN 2.0 part B, section 3.2.1).
 pub fn a_machine_without_frames_adds_nothing()
     ensures { (count : ℕ) (frames : ℕ → List Content) (events : List Event) (listener : ℕ) → AreSoundFrames count frames
         → 3 ≤ count → listener < count → frames listener ≡ []
@@ -84,4 +83,15 @@ pub fn a_machine_without_frames_adds_nothing()
     wl_wire::laws::machines_stay_in_step();
     wl_wire::laws::machines_that_are_in_step_stay_so();
     wl_wire::laws::the_least_field_wins();
+}
+
+/// Law: so let such a machine only listen: what it drives reaches it alone. Then the same reaches each machine, itself too, as if it were one of
+/// them. So what is proved of machines on one wire holds of it: it finds no error, and gets each frame (`all_get_each_frame` of wl_wire).
+pub fn a_listener_goes_with_the_wire()
+    ensures { (count : ℕ) (frames : ℕ → List Content) (events : List Event) (listener : ℕ) → AreSoundFrames count frames
+        → 3 ≤ count → listener < count → frames listener ≡ [] → (k : ℕ) → k < count
+        → (wire_beside listener (idle_wire count frames) events).past k
+        ≡ (wire_after (idle_wire count frames) events).past k }
+{
+    a_machine_without_frames_adds_nothing();
 }

@@ -1,5 +1,6 @@
 mod Alone
 mod Any
+mod Listening
 mod Counting
 mod Frames
 mod Lasting

@@ -1,3 +1,4 @@
+pub mod Beside
 pub mod CleanRuns
 pub mod LateEnds
 pub mod PlansOfFamily

@@ -3,6 +3,7 @@
 //! All is by the rules of the book, for clocks of one rate each (Bosch CAN 2.0 part B, sections 3.1, 3.2.5, 5 and 10).
 #![tactic(auto)]
 
+pub mod beside;
 pub mod laws;
 pub mod plans;
 pub mod waits;

@@ -1,7 +1,7 @@
-use Rattle.std.proofs.Common.{◌≡◌, ℕ, ap, subst, ◌∙◌, arith}
+use Rattle.std.proofs.Common.{◌≡◌, arith}
 use Rattle.wl_wire.specs.Wire.{idle_wire, wire_after}
 use Rattle.wl_wire.proofs.Callers.{count_after}
-use Rattle.wl_listeners.proofs.Wires.{frames_after, has_none, idle_heads, same_bus}
+use Rattle.wl_listeners.proofs.Wires.{has_none, idle_heads, none_after, same_bus}
 use Rattle.wl_listeners.proofs.laws.a_machine_without_frames_adds_nothing.Goals as goal
 
 pub returns : goal.returns
@@ -10,4 +10,4 @@ returns c = λ count frames events listener sound three inside none.
     let many : w.count ≡ count = count_after (idle_wire count frames) events in
     same_bus w listener (c.machines_stay_in_step.ensures.step count frames events sound)
     (c.machines_that_are_in_step_stay_so.ensures.heads (idle_wire count frames) events (idle_heads count frames)) (c.the_least_field_wins.ensures count frames events sound)
-    (omega arith) (omega arith) (λ content has. has_none (w.frames listener) (ap (λ f. f listener) (frames_after (idle_wire count frames) events) ∙ none) content has.0 has.1))
+    (omega arith) (omega arith) (λ content has. has_none (w.frames listener) (none_after (idle_wire count frames) events listener none) content has.0 has.1))
