@@ -12,8 +12,7 @@ returns c =
     let plan = c.args.bus.now.plan in
     let brief = ap (λ (whole : Bool). report_text (shown_totals (not whole) (totals_of c.args.outcome.now))) c.is_whole_run.ensures in
     let same = ap (λ outcome. report_text (shown_totals (not (is_whole_run c.args.shown)) (totals_of outcome))) c.requires.outcome in
-    let picked = ap (λ pick. trace_text pick plan c.args.bus.now.names) c.pick_of.ensures in
-    (
+    let picked = ap (λ pick. trace_text pick plan c.args.bus.now.names) c.pick_of.ensures in (
       c.in_ok-traffic.ensures.text,
       c.in_ok-report.ensures ∙ (brief ∙ same),
       c.in_ok-part.ensures,
