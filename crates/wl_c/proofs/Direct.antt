@@ -90,7 +90,8 @@ module _ {S T : Type 0} (rest : S → List ℕ) (bytes : T → List ℕ) (s s' :
         (fault, h.0, ap (λ x. after x bus_of_text) (read_is rest s s' text reading.End r) ∙ h.1, ap bytes h.2 ∙ none)
     unanswered fault text reading.Broken r h = absurd (unbroken rest s s' text r)
     unanswered fault text reading.Full r h =
-        let is : fault ≡ setup.Size = let same : Err {A = A} (Setup fault) ≡ Err (Setup setup.Size) = h.0 in cc in (
+        let same : Err {A} (Setup fault) ≡ Err (Setup setup.Size) = h.0 in
+        let is : fault ≡ setup.Size = cc in (
           fault,
           (λ e. cc),
           ap (λ x. after x bus_of_text) (beyond (rest s) (too_long rest s s' text r)) ∙ ap (λ f. Err f) (sym is),

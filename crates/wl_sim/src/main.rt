@@ -27,7 +27,7 @@ ghost use Rattle.wl_engines.specs.Workers.{RunsByWorkersAs};
 ghost use Rattle.wl_files.specs.Files.{Keeps};
 ghost use Rattle.wl_words.specs.CommandLine.{NamesTask};
 ghost use Rattle.wl_sim.specs.Orders.{Ends, EndsPlainly, MovesFile, Performs, RunsWords, WritesTo};
-ghost use Rattle.wl_sim.specs.Tasks.{sweep_asked, Does, DoesAs, DoesBy, DoesSweep, DoesSwept, IsCount, run_status, refusal_status};
+ghost use Rattle.wl_sim.specs.Tasks.{Does, DoesAs, DoesBy, DoesSweep, DoesSwept, IsCount, run_status, refusal_status};
 
 use std::alloc::Global;
 use std::io::ErrorKind;
@@ -316,16 +316,6 @@ fn thread_count<H: Threads>(rt: &H, said: Option<u8>) -> u8
     }
 }
 
-/// Returns what the words ask of a sweep, as its engine wants it.
-fn sweep_asked(swept: Swept) -> Asked
-    ensures { result ≡ sweep_asked swept }
-{
-    Asked {
-        options: swept.options,
-        worst: swept.worst,
-    }
-}
-
 /// Runs a sweep and writes what is found or its map, or writes one of its members.
 fn run_sweep<H: Threads + Sync + Eprint + Clock, R: Source, W: Sink>(
     rt: &H,
@@ -338,7 +328,10 @@ fn run_sweep<H: Threads + Sync + Eprint + Clock, R: Source, W: Sink>(
     ensures { DoesSweep R.gives W.takes reader.old reader.new writer.old writer.new
         swept (map string_bytes work.entry.ranges.now) swept.print swept.page result }
 {
-    let asked = sweep_asked(swept);
+    let asked = Asked {
+        options: swept.options,
+        worst: swept.worst,
+    };
     match swept.print {
         Some(number) => { of_print(print_run(alloc, work.ranges, asked, number, reader, writer)) }
         None => {
@@ -372,7 +365,10 @@ fn run_swept<H: Threads + Sync + Eprint + Clock, R: Source, W: Sink>(
     }
     match swept.part {
         Some(share) => {
-            let asked = sweep_asked(swept);
+            let asked = Asked {
+                options: swept.options,
+                worst: swept.worst,
+            };
             let workers = Workers {
                 count: thread_count(rt, swept.workers),
                 progress: work.progress,

@@ -1,4 +1,4 @@
-use Rattle.std.proofs.Common.{subst}
+use Rattle.std.proofs.Common.{false, subst}
 use Rattle.wl_engines.specs.declared.kept.Kept.{Kept}
 use Rattle.wl_engines.specs.Judged.{IsJudged}
 use Rattle.wl_c.proofs.Direct.{answer_made}
