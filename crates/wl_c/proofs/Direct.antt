@@ -1,5 +1,5 @@
 -- What the runs of engines over a text in memory say of the text itself.
-use Rattle.std.proofs.Common.{◌≡◌, ◌≤◌, ◌<◌, ◌∙◌, ℕ, true, false, List, [], ◌++◌, length, sym, ap, subst, if◌then◌else◌, MatchBool, Result, Ok, Err}
+use Rattle.std.proofs.Common.{◌≡◌, ◌≤◌, ◌<◌, ◌∙◌, ℕ, true, false, List, [], ◌++◌, length, refl, sym, ap, subst, if◌then◌else◌, MatchBool, Result, Ok, Err}
 use Rattle.std.proofs.lemmas.Bool.{le-leb, lt-leb}
 use Rattle.wl_device.specs.Bounded.{ReadsUpTo}
 use Rattle.wl_device.specs.declared.bounded.Ended.{Ended}
@@ -32,6 +32,10 @@ within text few = ap (λ b. if b then text_answer text else Err setup.Size) (le-
 
 beyond : (text : List ℕ) → most_bytes < length text → text_read text ≡ Err setup.Size
 beyond text many = ap (λ b. if b then text_answer text else Err setup.Size) (lt-leb (length text) most_bytes many)
+
+-- equal refusals have one fault
+same_fault : {A : Type 0} (f g : SetupFault) (r r' : Result A RunFault) → r ≡ Err (Setup f) → r' ≡ Err (Setup g) → r ≡ r' → f ≡ g
+same_fault f g r r' a b e = cc
 
 module _ {S : Type 0} (rest : S → List ℕ) (s s' : S) where
   read_is : (text : List ℕ) (e : Ended) → ReadsUpTo (gives rest) s most_bytes text e s' → text_read (rest s) ≡ reading_answer e text
@@ -90,8 +94,7 @@ module _ {S T : Type 0} (rest : S → List ℕ) (bytes : T → List ℕ) (s s' :
         (fault, h.0, ap (λ x. after x bus_of_text) (read_is rest s s' text reading.End r) ∙ h.1, ap bytes h.2 ∙ none)
     unanswered fault text reading.Broken r h = absurd (unbroken rest s s' text r)
     unanswered fault text reading.Full r h =
-        let same : Err {A} (Setup fault) ≡ Err (Setup setup.Size) = h.0 in
-        let is : fault ≡ setup.Size = cc in (
+        let is = same_fault fault setup.Size (Err (Setup fault)) (Err (Setup setup.Size)) refl refl h.0 in (
           fault,
           (λ e. cc),
           ap (λ x. after x bus_of_text) (beyond (rest s) (too_long rest s s' text r)) ∙ ap (λ f. Err f) (sym is),
