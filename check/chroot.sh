@@ -27,8 +27,8 @@ said=$(inside wireline test-install | tail -1)
 is "wireline test-install: $said" grep -qE '^[0-9]{2,} passed, 0 failed$' <<< "$said"
 is "wireline --version" grep -q '^wl_sim [0-9]' <(inside wireline --version 2>&1)
 is "help on standard output" [ "$(inside wireline --help 2> /dev/null | grep -c '^Commands:')" = 1 ]
-inside sh -c 'cd /root && wireline init --nodes 6 --bitrate 250k --cable 60m -o my-plan.toml && wireline margin my-plan.toml > judged'
-is "the first commands of README: $(head -c 60 "$root/root/judged" | head -1)" grep -q '^holds for any senders of .*proved' "$root/root/judged"
+inside sh -c 'cd /root && wireline init --nodes 6 --bitrate 250k --cable 60m -o my-plan.toml && wireline judge my-plan.toml > judged'
+is "the first commands of README: $(head -c 60 "$root/root/judged" | head -1)" grep -q '^works, proved: any_senders_are_clean$' "$root/root/judged"
 inside cp /usr/share/wireline/examples/clean_500k.toml /root/mine.toml
 for command in check run margin explain traffic page; do
   inside sh -c "cd /root && wireline $command mine.toml > $command.out 2> $command.err"
