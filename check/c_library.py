@@ -58,8 +58,9 @@ class Library:
 
 
 def by_program(program, command, plan, *words):
+    """Returns the output and the status: of `judge` the function answers DONE for any judgement, which the program tells by its status."""
     out, _, status = asked(program, command, *words, text=plan)
-    return out, status
+    return out, DONE if command == "judge" and out else status
 
 
 def odd_texts():
