@@ -16,7 +16,7 @@ _wireline() {
     check | explain) options+=' --format' ;;
     records) options+=' --from --to' ;;
     trace) options+=' --from --to --node --only --format' ;;
-    candump) options+=' --tick --from --since --to' ;;
+    candump) options+=' --tick --from --since --to --errors' ;;
     vcd | page) options+=' --tick --from --to' ;;
     merge | horizon) options+=' --wide' ;;
     margin) options+=' --tick --all-send --format' ;;

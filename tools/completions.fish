@@ -11,6 +11,7 @@ complete -c wireline -n '__fish_seen_subcommand_from run sweep' -l workers -x -a
 complete -c wireline -n '__fish_seen_subcommand_from run' -l link -x -a 'hub mail' -d 'what they hand records over by'
 complete -c wireline -n '__fish_seen_subcommand_from candump vcd page judge margin respond traffic settings' -l tick -x -d 'how long a tick takes'
 complete -c wireline -n '__fish_seen_subcommand_from candump' -l from -x -d 'the second of tick 0'
+complete -c wireline -n '__fish_seen_subcommand_from candump' -l errors -d 'error frames, too'
 complete -c wireline -n '__fish_seen_subcommand_from candump' -l since -x -d 'the first tick of the window'
 complete -c wireline -n '__fish_seen_subcommand_from trace records vcd page' -l from -x -d 'the first tick of the window'
 complete -c wireline -n '__fish_seen_subcommand_from trace records candump vcd page' -l to -x -d 'the first tick after the window'

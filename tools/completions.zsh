@@ -16,7 +16,7 @@ _wireline() {
     check | explain) options+=($format) ;;
     records) options+=('--from[the first tick of the window]:tick:' '--to[the first tick after it]:tick:') ;;
     trace) options+=('--from[the first tick of the window]:tick:' '--to[the first tick after it]:tick:' '--node[the number of a node]:number:' '--only[the kind of events]:kind:(lost error flag frame mode sync)' $format) ;;
-    candump) options+=('--tick[how long a tick takes]:time:' '--from[the second of tick 0]:seconds:' '--since[the first tick of the window]:tick:' '--to[the first tick after it]:tick:') ;;
+    candump) options+=('--tick[how long a tick takes]:time:' '--from[the second of tick 0]:seconds:' '--since[the first tick of the window]:tick:' '--to[the first tick after it]:tick:' '--errors[error frames, too]') ;;
     vcd | page) options+=('--tick[how long a tick takes]:time:' '--from[the first tick of the window]:time:' '--to[the first tick after it]:time:') ;;
     merge | horizon) options+=('--wide[records of plans of version 4]') ;;
     margin) options+=('--tick[how long a tick takes]:time:' '--all-send[as if each node had frames]' $format) ;;

@@ -17,6 +17,7 @@ use Rattle.wl_serial.specs.Records.{outcome_records}
 use Rattle.wl_report.specs.Report.{report_text}
 use Rattle.wl_views.specs.declared.tick.Tick.{Tick}
 use Rattle.wl_views.specs.Candump.{log_text}
+use Rattle.wl_views.specs.ErrorFrames.{error_log}
 use Rattle.wl_views.specs.Vcd.{vcd_text}
 use Rattle.wl_views.specs.declared.pick.Pick.{Pick}
 use Rattle.wl_views.specs.Picks.{trace_text}
@@ -80,6 +81,15 @@ IsCandumpWithin tick from window plan names text = text ≡ log_text tick from w
 -- of all frames
 abbrev pub IsCandumpOutput : Tick → ℕ → Plan → List (List ℕ) → List ℕ → Type 0
 IsCandumpOutput tick from = IsCandumpWithin tick from whole
+
+-- the same with error frames
+abbrev pub IsErrorLog : Tick → ℕ → Window → Plan → List (List ℕ) → List ℕ → Type 0
+IsErrorLog tick from window plan names text = text ≡ error_log tick from window plan
+
+-- with them, or without
+abbrev pub IsLogAs : (errors : Bool) → Tick → ℕ → Window → Plan → List (List ℕ) → List ℕ → Type 0
+IsLogAs false tick from window = IsCandumpWithin tick from window
+IsLogAs true tick from window = IsErrorLog tick from window
 
 -- the waveform of a window of the one-thread simulation, at ticks that last so long, under the names of the nodes
 abbrev pub IsVcdWithin : Tick → Window → Plan → List (List ℕ) → List ℕ → Type 0

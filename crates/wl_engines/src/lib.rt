@@ -53,7 +53,8 @@ pub use respond::respond_run;
 pub use run_page::{page_run, page_run_within};
 pub use traffic::traffic_run;
 pub use views::{
-    candump_run, candump_run_within, picked_trace_run, trace_run, vcd_run, vcd_run_within,
+    candump_errors_run, candump_run, candump_run_as, candump_run_within, picked_trace_run,
+    trace_run, vcd_run, vcd_run_within,
 };
 pub use wl_judge::Judgement;
 pub use wl_traffic::Reason;

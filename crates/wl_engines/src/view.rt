@@ -8,7 +8,7 @@ use crate::fault::RunFault;
 use crate::output::write_made;
 use crate::plan::report_of;
 use crate::records::records_text;
-use crate::views::{log_text, trace_text, write_wave};
+use crate::views::{error_log_text, log_text, trace_text, write_wave};
 use std::alloc::Global;
 use wl_device::{Sink, Source};
 use wl_plan::CheckedPlan;
@@ -31,6 +31,8 @@ pub(crate) enum View {
     Trace(Pick),
     /// The log of the frames that were sent within a window, at ticks that take so long, the first of them at this second.
     Candump(Tick, u32, Window),
+    /// The same with error frames.
+    ErrorLog(Tick, u32, Window),
     /// The waveform of a window, at ticks that take so long.
     Vcd(Tick, Window),
 }
@@ -52,6 +54,9 @@ fn write_view<W: Sink>(
         View::Trace(pick) => write_made(trace_text(alloc, pick, plan, names), writer),
         View::Candump(tick, from, window) => {
             write_made(log_text(alloc, tick, from, window, plan), writer)
+        }
+        View::ErrorLog(tick, from, window) => {
+            write_made(error_log_text(alloc, tick, from, window, plan), writer)
         }
         View::Vcd(tick, window) => write_wave(alloc, tick, window, plan, names, writer),
     }

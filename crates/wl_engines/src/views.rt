@@ -1,9 +1,10 @@
 //! Views of a plan's simulation in the formats of other tools.
 ghost use Rattle.std.specs.Prelude.{◌≡◌, IfOk};
 ghost use Rattle.wl_views.specs.Candump.{log_text};
+ghost use Rattle.wl_views.specs.ErrorFrames.{error_log};
 ghost use Rattle.wl_views.specs.Picks.{trace_text};
 ghost use Rattle.wl_engines.specs.Output.{Outputs};
-ghost use Rattle.wl_engines.specs.Plans.{RunsPlan, IsCandumpOutput, IsCandumpWithin, IsTraceOutput, IsTracePicked, IsVcdOutput, IsVcdWithin};
+ghost use Rattle.wl_engines.specs.Plans.{RunsPlan, IsCandumpOutput, IsCandumpWithin, IsErrorLog, IsLogAs, IsTraceOutput, IsTracePicked, IsVcdOutput, IsVcdWithin};
 
 use crate::fault::RunFault;
 use crate::shown::pick_of;
@@ -13,7 +14,7 @@ use wl_device::{Sink, Source};
 use wl_plan::CheckedPlan;
 use wl_serial::{run_drives, run_serial, run_totals};
 use wl_setup::Names;
-use wl_views::{Pick, Tick, Window, candump, sent_in_time, trace, vcd};
+use wl_views::{Pick, Tick, Window, candump, candump_errors, sent_in_time, trace, vcd};
 
 /// Returns the log of the frames that a plan's simulation sent within a window. Its nodes only count.
 pub(crate) fn log_text(
@@ -61,6 +62,55 @@ pub fn candump_run<R: Source, W: Sink>(
     ensures { RunsPlan R.gives W.takes (IsCandumpOutput tick from) reader.old reader.new writer.old writer.new result }
 {
     candump_run_within(alloc, tick, from, WHOLE, reader, writer)
+}
+
+/// Returns the same with error frames.
+pub(crate) fn error_log_text(
+    alloc: Global,
+    tick: Tick,
+    from: u32,
+    window: Window,
+    plan: &CheckedPlan,
+) -> Result<Vec<u8>, AllocError>
+    ensures { IfOk result (λ text. text.items ≡ error_log tick from window plan.now) }
+{
+    let outcome = run_serial(alloc, plan)?;
+    candump_errors(alloc, tick, from, window, plan, &outcome)
+}
+
+/// Does as `candump_run_within`, and writes a line for each error that a node finds and for each mode of a node, too, as Linux's error frames.
+pub fn candump_errors_run<R: Source, W: Sink>(
+    alloc: Global,
+    tick: Tick,
+    from: u32,
+    window: Window,
+    reader: &mut R,
+    writer: &mut W,
+) -> Result<(), RunFault>
+    ensures { RunsPlan R.gives W.takes (IsErrorLog tick from window)
+        reader.old reader.new writer.old writer.new result }
+{
+    run_view(alloc, View::ErrorLog(tick, from, window), reader, writer)
+}
+
+/// Does as `candump_errors_run` if error frames are asked for, and else as `candump_run_within`.
+pub fn candump_run_as<R: Source, W: Sink>(
+    alloc: Global,
+    tick: Tick,
+    from: u32,
+    errors: bool,
+    window: Window,
+    reader: &mut R,
+    writer: &mut W,
+) -> Result<(), RunFault>
+    ensures { RunsPlan R.gives W.takes (IsLogAs errors tick from window)
+        reader.old reader.new writer.old writer.new result }
+{
+    if errors {
+        candump_errors_run(alloc, tick, from, window, reader, writer)
+    } else {
+        candump_run_within(alloc, tick, from, window, reader, writer)
+    }
 }
 
 /// Writes the waveform of a window of a plan's simulation by pieces, as it is found. The nodes only count. Memory is asked for before the

@@ -57,7 +57,7 @@ module _ {S T : Type 0} (gives : S → Answer → S → Type 0) (takes : T → A
   does_nothing s s' t t' (Run workers kind brief) g h = (Err run.Memory, both_same (workers == 1) h, refl)
   does_nothing s s' t t' Explain g h = (Err run.Memory, h, refl)
   does_nothing s s' t t' (Trace pick) g h = (Err run.Memory, h, refl)
-  does_nothing s s' t t' (Candump tick from window) g h = (Err run.Memory, h, refl)
+  does_nothing s s' t t' (Candump tick from errors window) g h = (Err run.Memory, h, refl)
   does_nothing s s' t t' (Vcd tick window) g h = (Err run.Memory, h, refl)
   does_nothing s s' t t' (Page tick window) g h = (Err run.Memory, h, refl)
   does_nothing s s' t t' (Margin tick all) g h = (Err run.Memory, h, refl)

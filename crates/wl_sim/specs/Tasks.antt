@@ -21,7 +21,7 @@ use Rattle.wl_engines.specs.Judged.{RunsJudge}
 use Rattle.wl_engines.specs.Margin.{IsMarginOutput, RunsBus}
 use Rattle.wl_engines.specs.Merge.{Merges}
 use Rattle.wl_engines.specs.Paged.{PagesWithin}
-use Rattle.wl_engines.specs.Plans.{RunsPlan, IsRecordsWithin, IsReportOutput, IsTracePicked, IsCandumpWithin, IsVcdWithin}
+use Rattle.wl_engines.specs.Plans.{RunsPlan, IsRecordsWithin, IsReportOutput, IsTracePicked, IsLogAs, IsVcdWithin}
 use Rattle.wl_engines.specs.Responded.{Responds}
 use Rattle.wl_engines.specs.TrafficRun.{RunsTraffic}
 use Rattle.wl_engines.specs.Workers.{RunsByWorkersAs}
@@ -195,7 +195,7 @@ subject_of (Records window) = None
 subject_of (Run workers kind brief) = Some subject.Run
 subject_of Explain = Some subject.Explain
 subject_of (Trace pick) = Some subject.Trace
-subject_of (Candump tick from window) = None
+subject_of (Candump tick from errors window) = None
 subject_of (Vcd tick window) = None
 subject_of (Page tick window) = None
 subject_of (Margin tick all) = Some subject.Margin
@@ -258,7 +258,7 @@ module _ {S T : Type 0} (gives : S → Answer → S → Type 0) (takes : T → A
       Plainly (λ a. MatchBool (workers == 1) (RunsPlan gives takes (IsReportOutput brief) s s' t t' a) (RunsByWorkersAs gives takes brief workers s s' t t' a)) r
   Does Explain ranges r = Plainly (Explains gives takes s s' t t') r
   Does (Trace pick) ranges r = Plainly (RunsPlan gives takes (IsTracePicked pick) s s' t t') r
-  Does (Candump tick from window) ranges r = Plainly (RunsPlan gives takes (IsCandumpWithin tick from window) s s' t t') r
+  Does (Candump tick from errors window) ranges r = Plainly (RunsPlan gives takes (IsLogAs errors tick from window) s s' t t') r
   Does (Vcd tick window) ranges r = Plainly (RunsPlan gives takes (IsVcdWithin tick window) s s' t t') r
   Does (Page tick window) ranges r = Plainly (PagesWithin gives takes tick window s s' t t') r
   Does (Margin tick all) ranges r = Plainly (RunsBus gives takes (IsMarginOutput tick all) s s' t t') r

@@ -37,7 +37,7 @@ pub(crate) fn subject_of(task: Task) -> Option<Subject>
         | Task::Horizon(_)
         | Task::Upgrade
         | Task::Records(_)
-        | Task::Candump(_, _, _)
+        | Task::Candump(_, _, _, _)
         | Task::Vcd(_, _)
         | Task::Page(_, _)
         | Task::Settings(_, _) => None,

@@ -60,7 +60,7 @@ use crate::answer::{
 use crate::formats::{subject_of, write_kept};
 pub use answer::{Done, Fault};
 pub use wl_engines::{
-    Crew, LinkKind, RunFault, candump_run_within, check_run, explain_run, horizon_run,
+    Crew, LinkKind, RunFault, candump_run_as, check_run, explain_run, horizon_run,
     horizon_run_within, judge_run, margin_run, merge_run, merge_run_within, merges_as_one,
     page_run_within, picked_trace_run, plan_run, plan_run_as, records_run_within, respond_run,
     traffic_run, vcd_run_within, workers_run, workers_run_as,
@@ -435,8 +435,8 @@ fn run<H: Threads + Wait + Sync + Eprint + Clock, R: Source, W: Sink>(
         }
         Task::Explain => plainly(explain_run(alloc, reader, writer)),
         Task::Trace(pick) => plainly(picked_trace_run(alloc, pick, reader, writer)),
-        Task::Candump(tick, from, window) => {
-            plainly(candump_run_within(alloc, tick, from, window, reader, writer))
+        Task::Candump(tick, from, errors, window) => {
+            plainly(candump_run_as(alloc, tick, from, errors, window, reader, writer))
         }
         Task::Vcd(tick, window) => plainly(vcd_run_within(alloc, tick, window, reader, writer)),
         Task::Page(tick, window) => plainly(page_run_within(alloc, tick, window, reader, writer)),

@@ -11,5 +11,6 @@ pub mod Vcd
 pub mod Streams
 pub mod TraceText
 pub mod Picks
+pub mod ErrorFrames
 pub mod Parts
 pub mod Calendar

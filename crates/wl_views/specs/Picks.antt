@@ -22,6 +22,9 @@ is_event_of kinds.Frame (events.Received frame) = true
 is_event_of kinds.Mode (events.ModeChanged counts) = true
 is_event_of kinds.Sync events.HardSynchronised = true
 is_event_of kinds.Sync (events.Resynchronised error) = true
+is_event_of kinds.Logged (events.Error kind sends stuff place) = true
+is_event_of kinds.Logged (events.Sent frame) = true
+is_event_of kinds.Logged (events.ModeChanged counts) = true
 is_event_of kind event = false
 
 -- of the kind that is asked for, if one is

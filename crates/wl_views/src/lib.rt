@@ -4,6 +4,7 @@
 mod calendar;
 mod digits;
 mod dump;
+mod error_frames;
 mod fault;
 mod laws;
 mod limits;
@@ -23,6 +24,7 @@ mod vcd_text;
 mod window;
 mod words;
 
+pub use error_frames::candump_errors;
 pub use fault::ViewFault;
 pub use laws::sent_in_time;
 pub use log::candump;

@@ -18,7 +18,7 @@ use wl_plan::Plan;
 use wl_serial::Totals;
 
 /// Adds a time after this many seconds: seconds, and microseconds after a point.
-fn push_time(text: &mut Vec<u8>, from: u32, us: u128) -> Result<(), AllocError>
+pub(crate) fn push_time(text: &mut Vec<u8>, from: u32, us: u128) -> Result<(), AllocError>
     ensures { OnOk result (Extends text.old text.new (time_word from us)) }
 {
     push_digits(text, 10, 10, u128::from(from) + us / 1_000_000)?;
@@ -80,7 +80,7 @@ fn push_carried(text: &mut Vec<u8>, frame: &Frame) -> Result<(), AllocError>
 }
 
 /// Adds the line of a frame that was completed at a tick.
-fn push_line(
+pub(crate) fn push_line(
     text: &mut Vec<u8>,
     tick: Tick,
     from: u32,

@@ -30,6 +30,8 @@ pub enum EventKind {
     Mode,
     /// A node was synchronised.
     Sync,
+    /// What a log with error frames has: a frame was sent, an error was found, or a mode changed.
+    Logged,
 }
 
 /// Which events of a trace are shown.
@@ -49,10 +51,11 @@ fn is_event_of(kind: EventKind, event: NodeEvent) -> bool
 {
     match event {
         NodeEvent::ArbitrationLost(_) => matches!(kind, EventKind::Lost),
-        NodeEvent::Error { .. } => matches!(kind, EventKind::Error),
+        NodeEvent::Error { .. } => matches!(kind, EventKind::Error | EventKind::Logged),
         NodeEvent::Flag(_) => matches!(kind, EventKind::Flag),
-        NodeEvent::Sent(_) | NodeEvent::Received(_) => matches!(kind, EventKind::Frame),
-        NodeEvent::ModeChanged(_) => matches!(kind, EventKind::Mode),
+        NodeEvent::Sent(_) => matches!(kind, EventKind::Frame | EventKind::Logged),
+        NodeEvent::Received(_) => matches!(kind, EventKind::Frame),
+        NodeEvent::ModeChanged(_) => matches!(kind, EventKind::Mode | EventKind::Logged),
         NodeEvent::HardSynchronised | NodeEvent::Resynchronised(_) => {
             matches!(kind, EventKind::Sync)
         }

@@ -72,7 +72,7 @@ module _ (v : Values) (w : Text) (t : Task) where
   candump_named is h =
       let tick = some_then v.tick _ t h in
       let from = some_map v.from _ t tick.2 in
-      is_named (Some v) w t (Candump tick.0 from.0 v.window) (tick.1, from.1, refl) is (ap Some from.2)
+      is_named (Some v) w t (Candump tick.0 from.0 v.errors v.window) (tick.1, from.1, refl, refl) is (ap Some from.2)
 
   trace_named : w ≡ codes "trace" → trace_task v ≡ Some t → NamedTask (Some w) (Some v) t
   trace_named is h =
@@ -133,9 +133,9 @@ found_by_word (Some v) (Run workers link brief) h =
     ap₂ (λ o p. option_and_then (λ workers. option_map (λ link. Run workers link v.brief) p) o) h.0 h.1
     ∙ ap (λ q. Some (Run workers link (unwrap_or q brief))) h.2
 found_by_word (Some v) (Trace pick) h = ap (option_map (λ pick. Trace pick)) h
-found_by_word (Some v) (Candump tick from window) h =
-    ap₂ (λ o p. option_and_then (λ tick. option_map (λ from. Candump tick from v.window) p) o) h.0 h.1
-    ∙ ap (λ q. Some (Candump tick from (unwrap_or q window))) h.2
+found_by_word (Some v) (Candump tick from errors window) h =
+    ap₂ (λ o p. option_and_then (λ tick. option_map (λ from. Candump tick from v.errors v.window) p) o) h.0 h.1
+    ∙ ap₂ (λ p q. Some (Candump tick from (unwrap_or p errors) (unwrap_or q window))) h.2 h.3
 found_by_word (Some v) (Sweep swept) h = ap (option_map (λ swept. Sweep swept)) h
 found_by_word (Some v) (Vcd tick window) h = ap₂ (λ o p. option_and_then (λ tick. option_map (λ window. Vcd tick window) p) o) h.0 h.1
 found_by_word (Some v) (Page tick window) h = ap₂ (λ o p. option_and_then (λ tick. option_map (λ window. Page tick window) p) o) h.0 h.1
@@ -151,7 +151,7 @@ found_by_word None (Horizon limits) h = let no : None ≡ Some limits = h in cc
 found_by_word None (Records window) h = let no : None ≡ Some window = h in cc
 found_by_word None (Trace pick) h = let no : None ≡ Some pick = h in cc
 found_by_word None (Run workers link brief) h = let no : None ≡ Some workers = h.0 in cc
-found_by_word None (Candump tick from window) h = let no : None ≡ Some tick = h.0 in cc
+found_by_word None (Candump tick from errors window) h = let no : None ≡ Some tick = h.0 in cc
 found_by_word None (Sweep swept) h = let no : None ≡ Some swept = h in cc
 found_by_word None (Vcd tick window) h = let no : None ≡ Some tick = h.0 in cc
 found_by_word None (Page tick window) h = let no : None ≡ Some tick = h.0 in cc

@@ -1,5 +1,5 @@
 -- The words of the command line (this project's profile).
-use Rattle.std.specs.Prelude.{◌≡◌, ◌^◌, ◌-◌, ◌*◌, ◌&&◌, nat_lt, ℕ, Bool, true, false, List, [], ◌∷◌, length, codes, pos, fold, Option, Some, None, is_some, unwrap_or, if◌then◌else◌, option_and_then, option_map}
+use Rattle.std.specs.Prelude.{◌≡◌, ◌^◌, ◌-◌, ◌*◌, ◌&&◌, nat_lt, ℕ, Bool, true, false, List, [], ◌∷◌, ◌++◌, length, codes, pos, fold, Option, Some, None, is_some, unwrap_or, if◌then◌else◌, option_and_then, option_map}
 use Rattle.std.specs.Char.{digit_value}
 use Rattle.std.specs.List.{list_all, list_any}
 use Rattle.std.specs.Option.{option_map_or}
@@ -51,7 +51,7 @@ task_word (Records window) = codes "records"
 task_word (Run workers kind brief) = codes "run"
 task_word Explain = codes "explain"
 task_word (Trace pick) = codes "trace"
-task_word (Candump tick from window) = codes "candump"
+task_word (Candump tick from errors window) = codes "candump"
 task_word (Vcd tick window) = codes "vcd"
 task_word (Page tick window) = codes "page"
 task_word (Margin tick all) = codes "margin"
@@ -124,7 +124,7 @@ formatted_rules = format_rule ∷ []
 
 -- of `candump`, whose `--from` isn't a window's
 abbrev pub candump_rules : List Rule
-candump_rules = tick_rule ∷ from_rule ∷ window_rules (codes "since")
+candump_rules = tick_rule ∷ from_rule ∷ window_rules (codes "since") ++ flag_rule (codes "errors") ∷ []
 
 -- of `vcd` and `page`, whose window may be said by times
 abbrev pub wave_rules : List Rule
@@ -472,14 +472,15 @@ values_among rows = record {
   wave = wave_among rows;
   pick = pick_among rows;
   brief = is_flagged (codes "brief") rows;
+  errors = is_flagged (codes "errors") rows;
   wish = wish_among rows;
 }
 
 -- a task that has values of options has these
 abbrev pub HasValues : Option Values → Task → Type 0
-HasValues given (Candump tick from window) =
+HasValues given (Candump tick from errors window) =
     (option_and_then (λ v. v.tick) given ≡ Some tick) × (option_and_then (λ v. v.from) given ≡ Some from)
-    × (option_map (λ v. v.window) given ≡ Some window)
+    × (option_map (λ v. v.errors) given ≡ Some errors) × (option_map (λ v. v.window) given ≡ Some window)
 HasValues given (Vcd tick window) = (option_and_then (λ v. v.tick) given ≡ Some tick) × (option_and_then (λ v. v.wave) given ≡ Some window)
 HasValues given (Page tick window) = (option_and_then (λ v. v.tick) given ≡ Some tick) × (option_and_then (λ v. v.wave) given ≡ Some window)
 HasValues given (Margin tick all) = (option_and_then (λ v. v.tick) given ≡ Some tick) × (option_map (λ v. v.all_send) given ≡ Some all)
@@ -518,7 +519,7 @@ abbrev pub run_task : Values → Option Task
 run_task values = option_and_then (λ workers. option_map (λ link. Run workers link values.brief) values.link) values.workers
 
 abbrev pub candump_task : Values → Option Task
-candump_task values = option_and_then (λ tick. option_map (λ from. Candump tick from values.window) values.from) values.tick
+candump_task values = option_and_then (λ tick. option_map (λ from. Candump tick from values.errors values.window) values.from) values.tick
 
 abbrev pub trace_task : Values → Option Task
 trace_task values = option_map (λ pick. Trace pick) values.pick
@@ -616,6 +617,7 @@ plain_values = record {
   wave = Some (record { from = 0; to = None });
   pick = Some (record { window = record { from = 0; to = None }; node = None; only = None });
   brief = false;
+  errors = false;
   wish = Some (record { nodes = 2; rate = rate_said (codes "500k"); cable = cable_said (codes "40m"); kind = kind_said (codes "mcp2515") });
 }
 

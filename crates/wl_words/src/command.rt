@@ -71,7 +71,7 @@ fn run_task(values: &Values) -> Option<Task>
 fn candump_task(values: &Values) -> Option<Task>
     ensures { result ≡ candump_task values.now }
 {
-    Some(Task::Candump(values.tick?, values.from?, values.window))
+    Some(Task::Candump(values.tick?, values.from?, values.errors, values.window))
 }
 
 /// Returns the task of `trace`, if the values have what it wants.

@@ -85,6 +85,9 @@ const LINK: OptionRow = OptionRow { id: "link", spelling: Long("link"), takes: V
 const BRIEF: OptionRow = OptionRow { id: "brief", spelling: Long("brief"), takes: Nothing, default: None, help: "Leaves out the lines of frames" };
 
 #[rattlefmt::skip]
+const ERRORS: OptionRow = OptionRow { id: "errors", spelling: Long("errors"), takes: Nothing, default: None, help: "Logs errors and modes of nodes, too, as error frames of Linux" };
+
+#[rattlefmt::skip]
 const BEST: OptionRow = OptionRow { id: "best", spelling: Long("best"), takes: Signed("N", 1, 4_294_967_295), default: None, help: "The most settings of a controller that are listed; without it all" };
 
 #[rattlefmt::skip]
@@ -160,7 +163,7 @@ pub(crate) const SUBCOMMANDS: [SubcommandRow; 18] = [
     SubcommandRow { word: "trace", about: "Simulates the plan, and writes what happened to each node: errors, flags, frames, modes", options: &[FROM_TICK, TO_TICK, NODE, ONLY, FORMAT] },
     SubcommandRow { word: "page", about: "Simulates the plan, and writes one page of HTML that shows it in a browser, of a long run a part", options: &[TICK, FROM_TIME, TO_TIME] },
     SubcommandRow { word: "vcd", about: "Simulates the plan, and writes the waveform of its nodes as a Value Change Dump", options: &[TICK, FROM_TIME, TO_TIME] },
-    SubcommandRow { word: "candump", about: "Simulates the plan, and writes the frames that were sent as can-utils logs them", options: &[TICK, FIRST_SECOND, SINCE_TICK, TO_TICK] },
+    SubcommandRow { word: "candump", about: "Simulates the plan, and writes the frames that were sent as can-utils logs them", options: &[TICK, FIRST_SECOND, SINCE_TICK, TO_TICK, ERRORS] },
     SubcommandRow { word: "records", about: "Simulates the plan, and writes each change of what a node drives and the silence after it", options: &[FROM_TICK, TO_TICK] },
     SubcommandRow { word: "format", about: "Writes the plan as one of version 4, each key in a line and in the order of the format", options: &[] },
     SubcommandRow { word: "merge", about: "Writes the canonical text of the records that standard input has", options: &[WIDE] },

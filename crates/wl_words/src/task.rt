@@ -29,8 +29,9 @@ pub enum Task {
     Explain,
     /// What happened to each node in a plan's simulation, and where, as far as it is picked.
     Trace(Pick),
-    /// The log of the frames that a plan's simulation sends within a window, at ticks that take so long, the first of them at this second.
-    Candump(Tick, u32, Window),
+    /// The log of the frames that a plan's simulation sends within a window, at ticks that take so long, the first of them at this second. If
+    /// that is asked for, with error frames.
+    Candump(Tick, u32, bool, Window),
     /// The waveform of a window of a plan's simulation, at ticks that take so long.
     Vcd(Tick, Window),
     /// One page of HTML that shows a plan's simulation, and the events and the waveform of a window, at ticks that take so long.

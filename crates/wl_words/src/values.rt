@@ -53,6 +53,8 @@ pub struct Values {
     pub pick: Option<Pick>,
     /// Whether a report has no lines of frames.
     pub brief: bool,
+    /// Whether a log has error frames.
+    pub errors: bool,
     /// What is asked for of a plan to begin from.
     pub wish: Option<Wish>,
 }
@@ -469,6 +471,7 @@ fn values_in(matches: &ArgMatches) -> Values
         wave: wave_in(matches),
         pick: pick_in(matches),
         brief: flag_in(matches, "brief"),
+        errors: flag_in(matches, "errors"),
         wish: wish_in(matches),
     }
 }
