@@ -23,7 +23,13 @@ _wireline() {
     judge) options+=('--tick[how long a tick takes]:time:' '--explain[which command says each part]' $format) ;;
     respond) options+=('--tick[how long a tick takes]:time:' '--any-data[whatever data the frames have]' '--strict[status 1 unless all deadlines are met]' $format) ;;
     traffic) options+=('--tick[how long a tick takes]:time:' '--strict[status 1 unless the run works]' $format) ;;
-    settings) options+=('--tick[how long a tick takes]:time:' '--best[the most settings that are listed]:number:' '--plan[the plan of the best one]') ;;
+    settings) options+=(
+      '--tick[how long a tick takes]:time:' '--best[the most settings that are listed]:number:' '--plan[the plan of the best one]'
+      '*--kind[the kind of a controller]:kind:' '*--clock[the frequency of its clock]:frequency:' '--bitrate[the bit rate]:rate:'
+      '--cable[the length of the cable]:length:' '--per[the time along a metre of cable]:time:' '--out[the time from a node to the cable]:time:'
+      '--in[the time from the cable to a node]:time:' '--tolerance[how far clocks may be off]:ppm:' '--senders[one or any]:who:(one any)'
+      '--rate-error[how far the bit rate may be off]:ppm:' '--sample-point[the usual sample point]:percent:' '--nodes[how many nodes the bus has]:n:'
+    ) ;;
     sweep) options+=(
       '*--vary[a row for each value]:[NODE.]KEY=A..B[\:STEP]:' '--step[ticks between two offsets]:ticks:' '--runs[the most members of a row that are run]:number:'
       '--seed[which random part]:number:' '--keep-offsets[offsets as the plan has them]' '--keep-ppm[signs as the plan has them]'

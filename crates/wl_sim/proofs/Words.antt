@@ -9,6 +9,7 @@ use Rattle.wl_formats.specs.declared.formats.Format.{Format}
 use Rattle.wl_init.specs.declared.fault.InitFault.TheVariants as init
 use Rattle.wl_print.specs.declared.fault.PrintFault.TheVariants as print
 use Rattle.wl_settings.specs.declared.fault.SettingsFault.TheVariants as settings
+use Rattle.wl_settings.specs.declared.topics.AskedWord.{AskedWord}
 use Rattle.wl_sweep.specs.declared.part.Share.{Share}
 use Rattle.wl_sweep_engine.specs.declared.fault.SweepFault.TheVariants as sweep
 use Rattle.wl_sweep_engine.specs.declared.join.JoinFault.TheVariants as join
@@ -47,7 +48,7 @@ module _ {S T : Type 0} (gives : S → Answer → S → Type 0) (takes : T → A
   swept_nothing s s' t t' swept false (Some share) h = (Err sweep.Memory, (some_count swept.workers).0, (some_count swept.workers).1, h, refl)
   swept_nothing s s' t t' swept false None h = sweeps_nothing s s' t t' swept swept.print swept.page h
 
-  does_nothing : (s s' : S) (t t' : T) (task : Task) → s' ≡ s → t' ≡ t → Does gives takes s s' t t' task [] (Err (fault.Run run.Memory))
+  does_nothing : (s s' : S) (t t' : T) (task : Task) → s' ≡ s → t' ≡ t → Does gives takes s s' t t' task [] [] (Err (fault.Run run.Memory))
   does_nothing s s' t t' (Init wish) g h = (Err init.Memory, g, inl (h, inl refl), refl)
   does_nothing s s' t t' (Merge limits) g h = (Err run.Memory, h, refl)
   does_nothing s s' t t' (Horizon limits) g h = (Err run.Memory, h, refl)
@@ -71,14 +72,14 @@ module _ {S T : Type 0} (gives : S → Answer → S → Type 0) (takes : T → A
 module _ {S T F R W : Type 0} (gives : S → Answer → S → Type 0) (takes : T → Answer → T → Type 0)
     (file_gives : R → Answer → R → Type 0) (file_takes : W → Answer → W → Type 0)
     (opens : F → Text → R → Type 0) (stands : F → Text → Standing) (holds : W → Standing) (s s' : S) (t t' : T) (f f' : F) where
-  plain_reads : (input output : Option Text) (format : Option Format) (task : Task) (ranges : List Text) (r : Result Done Fault)
+  plain_reads : (input output : Option Text) (format : Option Format) (task : Task) (ranges : List Text) (asked : List AskedWord) (r : Result Done Fault)
       → input ≡ None → output ≡ None → format ≡ None
-      → ReadsFrom gives takes file_gives file_takes opens stands holds s s' t t' f f' input format task ranges output r
-      → Does gives takes s s' t t' task ranges r × (f' ≡ f)
-  plain_reads None None None task ranges r i o p h = h
-  plain_reads None None (Some x) task ranges r i o p h = cc
-  plain_reads None (Some x) format task ranges r i o p h = cc
-  plain_reads (Some x) output format task ranges r i o p h = cc
+      → ReadsFrom gives takes file_gives file_takes opens stands holds s s' t t' f f' input format task ranges asked output r
+      → Does gives takes s s' t t' task ranges asked r × (f' ≡ f)
+  plain_reads None None None task ranges asked r i o p h = h
+  plain_reads None None (Some x) task ranges asked r i o p h = cc
+  plain_reads None (Some x) format task ranges asked r i o p h = cc
+  plain_reads (Some x) output format task ranges asked r i o p h = cc
 
   -- the task alone was done, and its status is that of what was answered
   alone_is_done : (order : Order) (task : Task) (r : Result Done Fault) (status : ℕ) → IsTaskAlone task (Ok order)
@@ -86,9 +87,10 @@ module _ {S T F R W : Type 0} (gives : S → Answer → S → Type 0) (takes : T
       → EndsPlainly gives takes file_gives file_takes opens stands holds s s' t t' f f' task status
   alone_is_done order task r status alone done is =
       let ranges = map string_bytes order.ranges.items in
-      let plain = plain_reads order.input order.output order.format order.task ranges r alone.1 alone.2 alone.4 done in
-      let of_task = subst (λ k. Does gives takes s s' t t' k ranges r) alone.0 plain.0 in
-      ((r, subst (λ rs. Does gives takes s s' t t' task rs r) alone.3 of_task, is), plain.1)
+      let plain = plain_reads order.input order.output order.format order.task ranges order.asked.items r alone.1 alone.2 alone.4 done in
+      let of_task = subst (λ k. Does gives takes s s' t t' k ranges order.asked.items r) alone.0 plain.0 in
+      let plainly = subst (λ rs. Does gives takes s s' t t' task rs order.asked.items r) alone.3 of_task in
+      ((r, subst (λ asked. Does gives takes s s' t t' task [] asked r) alone.5 plainly, is), plain.1)
 
   -- or memory ran out
   alone_ends : (read : Result Order Refusal) (task : Task) (status : ℕ) → IsTaskAlone task read

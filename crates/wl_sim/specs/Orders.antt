@@ -9,6 +9,7 @@ use Rattle.wl_engines.specs.declared.fault.RunFault.TheVariants.{Setup, Write, M
 use Rattle.wl_sim.specs.declared.answer.Done.{Done}
 use Rattle.wl_sim.specs.declared.answer.Fault.{Fault}
 use Rattle.wl_sim.specs.declared.answer.Fault.TheVariants.{Run}
+use Rattle.wl_settings.specs.declared.topics.AskedWord.{AskedWord}
 use Rattle.wl_words.specs.declared.command.Order.{Order}
 use Rattle.wl_words.specs.declared.command.Refusal.{Refusal}
 use Rattle.wl_words.specs.declared.task.Task.{Task}
@@ -24,7 +25,8 @@ module _ {F W : Type 0} (stands : F → Text → Standing) (holds : W → Standi
 
 -- The output goes to standard output, or to a new file.
 module _ {S T F W : Type 0} (gives : S → Answer → S → Type 0) (takes : T → Answer → T → Type 0) (file_takes : W → Answer → W → Type 0)
-    (stands : F → Text → Standing) (holds : W → Standing) (s s' : S) (t t' : T) (f f' : F) (format : Option Format) (task : Task) (ranges : List Text) where
+    (stands : F → Text → Standing) (holds : W → Standing) (s s' : S) (t t' : T) (f f' : F) (format : Option Format) (task : Task) (ranges : List Text)
+    (asked : List AskedWord) where
   -- no new file was begun: nothing was read, and each name has what it had
   abbrev pub BeginsNone : Result Done Fault → Type 0
   BeginsNone r = (s' ≡ s) × Keeps (stands f) (stands f') × ((r ≡ Err (Run Write)) ⊎ (r ≡ Err (Run Memory)))
@@ -32,11 +34,11 @@ module _ {S T F W : Type 0} (gives : S → Answer → S → Type 0) (takes : T �
   -- a new file was begun, an empty one, and the task done over it
   abbrev pub WritesNew : Text → Result Done Fault → Type 0
   WritesNew name r =
-      (file : W) × (file' : W) × (answer : Result Done Fault) × IsEmpty (holds file) × DoesAs gives file_takes s s' file file' format task ranges answer
+      (file : W) × (file' : W) × (answer : Result Done Fault) × IsEmpty (holds file) × DoesAs gives file_takes s s' file file' format task ranges asked answer
       × MovesFile stands holds f f' name file' answer r
 
   abbrev pub WritesTo : Option Text → Result Done Fault → Type 0
-  WritesTo None r = DoesAs gives takes s s' t t' format task ranges r × (f' ≡ f)
+  WritesTo None r = DoesAs gives takes s s' t t' format task ranges asked r × (f' ≡ f)
   WritesTo (Some name) r = (t' ≡ t) × (BeginsNone r ⊎ WritesNew name r)
 
 -- The input comes from standard input, or from a file.
@@ -44,15 +46,15 @@ module _ {S T F R W : Type 0} (gives : S → Answer → S → Type 0) (takes : T
     (file_gives : R → Answer → R → Type 0) (file_takes : W → Answer → W → Type 0)
     (opens : F → Text → R → Type 0) (stands : F → Text → Standing) (holds : W → Standing) (s s' : S) (t t' : T) (f f' : F) where
   -- no file of the name was opened, and nothing was done; or the task was done over one
-  abbrev pub ReadsFrom : Option Text → Option Format → Task → List Text → Option Text → Result Done Fault → Type 0
-  ReadsFrom None format task ranges output r = WritesTo gives takes file_takes stands holds s s' t t' f f' format task ranges output r
-  ReadsFrom (Some name) format task ranges output r =
+  abbrev pub ReadsFrom : Option Text → Option Format → Task → List Text → List AskedWord → Option Text → Result Done Fault → Type 0
+  ReadsFrom None format task ranges asked output r = WritesTo gives takes file_takes stands holds s s' t t' f f' format task ranges asked output r
+  ReadsFrom (Some name) format task ranges asked output r =
       (s' ≡ s) × (((r ≡ Err (Run (Setup setup.Read))) × (t' ≡ t) × (f' ≡ f))
-      ⊎ ((file : R) × (file' : R) × opens f name file × WritesTo file_gives takes file_takes stands holds file file' t t' f f' format task ranges output r))
+      ⊎ ((file : R) × (file' : R) × opens f name file × WritesTo file_gives takes file_takes stands holds file file' t t' f f' format task ranges asked output r))
 
   -- what the words asked for was done
   abbrev pub Performs : Order → Result Done Fault → Type 0
-  Performs order r = ReadsFrom order.input order.format order.task (map string_bytes order.ranges.items) order.output r
+  Performs order r = ReadsFrom order.input order.format order.task (map string_bytes order.ranges.items) order.asked.items order.output r
 
   -- it was done, and the status is that of what was answered; or neither device nor any file was used, and the status says why
   abbrev pub Ends : Result Order Refusal → ℕ → Type 0

@@ -37,6 +37,9 @@ use Rattle.wl_print.specs.Formats.{Formats}
 use Rattle.wl_settings.specs.declared.fault.SettingsFault.{SettingsFault}
 use Rattle.wl_settings.specs.declared.fault.SettingsFault.TheVariants as settings
 use Rattle.wl_settings.specs.Runs.{RunsSettings}
+use Rattle.wl_settings.specs.WordRuns.{RunsWords}
+use Rattle.wl_settings.specs.declared.said.Shown.{Shown}
+use Rattle.wl_settings.specs.declared.topics.AskedWord.{AskedWord}
 use Rattle.wl_views.specs.declared.tick.Tick.{Tick}
 use Rattle.wl_sweep.specs.declared.finding.Finding.{Finding}
 use Rattle.wl_sweep.specs.declared.tally.Tally.{Tally}
@@ -245,17 +248,25 @@ module _ {S T : Type 0} (gives : S → Answer → S → Type 0) (takes : T → A
   abbrev pub DoesTraffic : Tick → Bool → Result Done Fault → Type 0
   DoesTraffic tick strict r = (answer : Result Reason RunFault) × RunsTraffic gives takes tick s s' t t' answer × (r ≡ of_traffic strict answer)
 
-  -- what was done for a task, over the ranges of a sweep
-  abbrev pub Does : Task → List Text → Result Done Fault → Type 0
-  Does (Init wish) ranges r =
+  -- the settings of a bus were written: of a text, or of words in its place, over which nothing is read
+  abbrev pub DoesSettings : Tick → Shown → List AskedWord → Result Done Fault → Type 0
+  DoesSettings tick shown [] r =
+      (answer : Result (Unit {0}) SettingsFault) × RunsSettings gives takes (tick_picoseconds tick) shown s s' t t' answer × (r ≡ of_settings answer)
+  DoesSettings tick shown (w ∷ ws) r =
+      (answer : Result (Unit {0}) SettingsFault) × (s' ≡ s) × RunsWords takes (tick_picoseconds tick) shown (w ∷ ws) t t' answer × (r ≡ of_settings answer)
+
+  -- what was done for a task, over the ranges of a sweep or the words in the place of a text for `settings`
+  abbrev pub Does : Task → List Text → List AskedWord → Result Done Fault → Type 0
+  Does (Init wish) ranges asked r =
       (answer : Result (Unit {0}) InitFault) × (s' ≡ s) × Inits takes wish t t' answer × (r ≡ of_init answer)
-  Does (Merge limits) ranges r = Plainly (Merges limits gives takes s s' t t') r
-  Does (Horizon limits) ranges r = Plainly (TellsHorizons limits gives takes s s' t t') r
-  Does Check ranges r = Plainly (RunsPlan gives takes IsPlanCheck s s' t t') r
-  Does Upgrade ranges r = (answer : Result (Unit {0}) PrintFault) × Formats gives takes s s' t t' answer × (r ≡ of_format answer)
-  Does (Records window) ranges r = Plainly (RunsPlan gives takes (IsRecordsWithin window) s s' t t') r
-  Does (Run workers kind brief) ranges r =
+  Does (Merge limits) ranges asked r = Plainly (Merges limits gives takes s s' t t') r
+  Does (Horizon limits) ranges asked r = Plainly (TellsHorizons limits gives takes s s' t t') r
+  Does Check ranges asked r = Plainly (RunsPlan gives takes IsPlanCheck s s' t t') r
+  Does Upgrade ranges asked r = (answer : Result (Unit {0}) PrintFault) × Formats gives takes s s' t t' answer × (r ≡ of_format answer)
+  Does (Records window) ranges asked r = Plainly (RunsPlan gives takes (IsRecordsWithin window) s s' t t') r
+  Does (Run workers kind brief) ranges asked r =
       Plainly (λ a. MatchBool (workers == 1) (RunsPlan gives takes (IsReportOutput brief) s s' t t' a) (RunsByWorkersAs gives takes brief workers s s' t t' a)) r
+<<<<<<< ours
   Does Explain ranges r = Plainly (Explains gives takes s s' t t') r
   Does (Trace pick) ranges r = Plainly (RunsPlan gives takes (IsTracePicked pick) s s' t t') r
   Does (Candump tick from errors window) ranges r = Plainly (RunsPlan gives takes (IsLogAs errors tick from window) s s' t t') r
@@ -268,10 +279,23 @@ module _ {S T : Type 0} (gives : S → Answer → S → Type 0) (takes : T → A
   Does (Settings tick shown) ranges r =
       (answer : Result (Unit {0}) SettingsFault) × RunsSettings gives takes (tick_picoseconds tick) shown s s' t t' answer × (r ≡ of_settings answer)
   Does (Sweep swept) ranges r = DoesSwept swept ranges swept.join swept.part r
+=======
+  Does Explain ranges asked r = Plainly (Explains gives takes s s' t t') r
+  Does (Trace pick) ranges asked r = Plainly (RunsPlan gives takes (IsTracePicked pick) s s' t t') r
+  Does (Candump tick from window) ranges asked r = Plainly (RunsPlan gives takes (IsCandumpWithin tick from window) s s' t t') r
+  Does (Vcd tick window) ranges asked r = Plainly (RunsPlan gives takes (IsVcdWithin tick window) s s' t t') r
+  Does (Page tick window) ranges asked r = Plainly (PagesWithin gives takes tick window s s' t t') r
+  Does (Margin tick all) ranges asked r = Plainly (RunsBus gives takes (IsMarginOutput tick all) s s' t t') r
+  Does (Respond tick any strict) ranges asked r = DoesRespond tick any strict r
+  Does (Traffic tick strict) ranges asked r = DoesTraffic tick strict r
+  Does (Judge tick explain) ranges asked r = DoesJudge tick explain r
+  Does (Settings tick shown) ranges asked r = DoesSettings tick shown asked r
+  Does (Sweep swept) ranges asked r = DoesSwept swept ranges swept.join swept.part r
+>>>>>>> theirs
 
   -- the task was done, nothing else was read or written, and the status is that of what was answered
   abbrev pub EndsTask : Task → ℕ → Type 0
-  EndsTask task status = (r : Result Done Fault) × Does task [] r × (status ≡ run_status r)
+  EndsTask task status = (r : Result Done Fault) × Does task [] [] r × (status ≡ run_status r)
 
 -- whether a fault is one of writing
 abbrev pub is_write_of : RunFault → Bool
@@ -321,12 +345,12 @@ keeps old answer new = KeepsMore old.bytes.items answer new.bytes.items
 
 -- What was done for a task whose output is to have a format.
 module _ {S T : Type 0} (gives : S → Answer → S → Type 0) (takes : T → Answer → T → Type 0) (s s' : S) (t t' : T) where
-  abbrev pub DoesBy : Format → Option Subject → Task → List Text → Result Done Fault → Type 0
-  DoesBy format None task ranges r = Does gives takes s s' t t' task ranges r
-  DoesBy format (Some what) task ranges r =
+  abbrev pub DoesBy : Format → Option Subject → Task → List Text → List AskedWord → Result Done Fault → Type 0
+  DoesBy format None task ranges asked r = Does gives takes s s' t t' task ranges asked r
+  DoesBy format (Some what) task ranges asked r =
       (kept : Kept) × (kept' : Kept) × (answer : Result Done Fault) × (kept.bytes.items ≡ [])
-      × Does gives keeps s s' kept kept' task ranges answer × WritesAs takes t t' format what kept'.bytes.items answer r
+      × Does gives keeps s s' kept kept' task ranges asked answer × WritesAs takes t t' format what kept'.bytes.items answer r
 
-  abbrev pub DoesAs : Option Format → Task → List Text → Result Done Fault → Type 0
-  DoesAs None task ranges r = Does gives takes s s' t t' task ranges r
-  DoesAs (Some format) task ranges r = DoesBy format (subject_of task) task ranges r
+  abbrev pub DoesAs : Option Format → Task → List Text → List AskedWord → Result Done Fault → Type 0
+  DoesAs None task ranges asked r = Does gives takes s s' t t' task ranges asked r
+  DoesAs (Some format) task ranges asked r = DoesBy format (subject_of task) task ranges asked r

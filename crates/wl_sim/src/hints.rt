@@ -214,7 +214,13 @@ fn say_of_word(rt: &impl Eprint, alloc: Global, order: &Order, fault: &SweepFaul
 fn settings_advice(fault: &SettingsFault) -> &'static str {
     match fault {
         SettingsFault::Toml => "Correct the TOML.",
-        SettingsFault::Missing(_) => "Add the key: docs/use/settings.md has all of them.",
+        SettingsFault::Missing(place) => {
+            if place.as_str().starts_with("--") {
+                "Give the option: docs/use/settings.md has all of them."
+            } else {
+                "Add the key: docs/use/settings.md has all of them."
+            }
+        }
         SettingsFault::Kind(_) => "Give it a value as docs/use/settings.md says.",
         SettingsFault::Unknown(_) =>
             "Remove or rename the key; TOML puts a key into the table last begun.",
@@ -233,7 +239,12 @@ fn say_of_settings<F: Folder>(
     fault: &SettingsFault,
     folder: &F,
 ) {
-    let is_a_plan = match (fault, input_again(alloc, order, folder)) {
+    let text = if order.asked.is_empty() {
+        input_again(alloc, order, folder)
+    } else {
+        Ok(None)
+    };
+    let is_a_plan = match (fault, text) {
         (SettingsFault::Missing(_) | SettingsFault::Unknown(_), Ok(Some(text))) => {
             is_plan(text.as_slice())
         }

@@ -2,7 +2,7 @@
 //!
 //! It reads one input from standard input or from a file, does what its one subcommand says, and writes the output to standard output or to
 //! a file. Of a record text `merge` writes the canonical text of the replica that its records make, and `horizon` what that replica knows
-//! of each node, and up to which tick. `settings` reads a text of its own kind, and writes the bit timings with which a bus works.
+//! of each node, and up to which tick. `settings` reads a text of its own kind, or takes options in its place, and writes the bit timings with which a bus works.
 //! `init` reads nothing, and writes a plan to begin from. The others read a plan text:
 //!
 //! - `check` writes what the bit segments allow and how long the cable takes;
@@ -27,7 +27,7 @@ ghost use Rattle.wl_engines.specs.Workers.{RunsByWorkersAs};
 ghost use Rattle.wl_files.specs.Files.{Keeps};
 ghost use Rattle.wl_words.specs.CommandLine.{NamesTask};
 ghost use Rattle.wl_sim.specs.Orders.{Ends, EndsPlainly, MovesFile, Performs, RunsWords, WritesTo};
-ghost use Rattle.wl_sim.specs.Tasks.{Does, DoesAs, DoesBy, DoesSweep, DoesSwept, IsCount, run_status, refusal_status};
+ghost use Rattle.wl_sim.specs.Tasks.{Does, DoesAs, DoesBy, DoesSettings, DoesSweep, DoesSwept, IsCount, run_status, refusal_status};
 
 use std::alloc::Global;
 use std::io::ErrorKind;
@@ -42,9 +42,10 @@ use wl_files::{BeginFault, Folder, SystemFolder};
 use wl_formats::{Format, Subject};
 use wl_init::init_run;
 use wl_print::format_run;
-use wl_settings::settings_run;
+use wl_settings::{AskedWord, Shown, settings_of_words, settings_run};
 use wl_setup::{SetupFault, Text};
 use wl_sweep_engine::{Asked, Workers, join_run, map_run, part_run, print_run, sweep_run};
+use wl_views::Tick;
 use wl_words::{Order, Refusal, Swept, Task};
 
 mod answer;
@@ -80,11 +81,13 @@ const UNKNOWN: u8 = 4;
 /// The most threads of a sweep.
 const MOST_THREADS: u8 = 8;
 
-/// What is done: a task, over the ranges of a sweep.
+/// What is done: a task, over the ranges of a sweep, or over words in the place of a text for `settings`.
 #[derive(Clone, Copy)]
 struct Work<'a> {
     task: Task,
     ranges: &'a [String],
+    /// What options of `settings` ask for.
+    asked: &'a [AskedWord],
     /// Another format of the output than text.
     format: Option<Format>,
     /// Whether a sweep says on standard error how far it is.
@@ -209,6 +212,7 @@ fn perform<H: Threads + Wait + Sync + Eprint + Clock, R: Source, W: Sink, F: Fol
     let work = Work {
         task: order.task,
         ranges: order.ranges.as_slice(),
+        asked: order.asked.as_slice(),
         format: order.format,
         progress: order.progress,
     };
@@ -235,7 +239,7 @@ fn write_to<H: Threads + Wait + Sync + Eprint + Clock, R: Source, W: Sink, F: Fo
 ) -> Result<Done, Fault>
     ensures { WritesTo R.gives W.takes F.Writer.takes F.stands F.holds reader.old reader.new writer.old writer.new
         folder.old folder.new work.entry.format work.entry.task (map string_bytes work.entry.ranges.now)
-        (option_map (λ n. n.now) output.entry) result }
+        work.entry.asked.now (option_map (λ n. n.now) output.entry) result }
 {
     match output {
         None => run_as(rt, alloc, work, reader, writer),
@@ -407,6 +411,24 @@ fn run_by<H: Threads + Wait + Sync, R: Source, W: Sink>(
     }
 }
 
+/// Writes the settings of a bus that words ask for, or without words the reader's text.
+fn run_settings<R: Source, W: Sink>(
+    alloc: Global,
+    tick: Tick,
+    shown: Shown,
+    asked: &[AskedWord],
+    reader: &mut R,
+    writer: &mut W,
+) -> Result<Done, Fault>
+    ensures { DoesSettings R.gives W.takes reader.old reader.new writer.old writer.new tick shown asked.now result }
+{
+    let picoseconds = tick.picoseconds();
+    match asked {
+        [] => of_settings(settings_run(alloc, picoseconds, shown, reader, writer)),
+        _ => of_settings(settings_of_words(alloc, picoseconds, shown, asked, writer)),
+    }
+}
+
 /// Runs the engine of a task. It may wait if that is a run by several workers.
 fn run<H: Threads + Wait + Sync + Eprint + Clock, R: Source, W: Sink>(
     rt: &H,
@@ -416,7 +438,7 @@ fn run<H: Threads + Wait + Sync + Eprint + Clock, R: Source, W: Sink>(
     writer: &mut W,
 ) -> Result<Done, Fault>
     ensures { Does R.gives W.takes reader.old reader.new writer.old writer.new
-        work.entry.task (map string_bytes work.entry.ranges.now) result }
+        work.entry.task (map string_bytes work.entry.ranges.now) work.entry.asked.now result }
 {
     match work.task {
         Task::Init(wish) => of_init(init_run(alloc, wish, writer)),
@@ -448,9 +470,7 @@ fn run<H: Threads + Wait + Sync + Eprint + Clock, R: Source, W: Sink>(
         }
         Task::Traffic(tick, strict) => of_traffic(strict, traffic_run(alloc, tick, reader, writer)),
         Task::Judge(tick, explain) => of_judge(judge_run(alloc, tick, explain, reader, writer)),
-        Task::Settings(tick, shown) => {
-            of_settings(settings_run(alloc, tick.picoseconds(), shown, reader, writer))
-        }
+        Task::Settings(tick, shown) => run_settings(alloc, tick, shown, work.asked, reader, writer),
         Task::Sweep(swept) => run_swept(rt, alloc, swept, work, reader, writer),
     }
 }
@@ -466,7 +486,7 @@ fn run_formatted<H: Threads + Wait + Sync + Eprint + Clock, R: Source, W: Sink>(
     writer: &mut W,
 ) -> Result<Done, Fault>
     ensures { DoesBy R.gives W.takes reader.old reader.new writer.old writer.new
-        format (Some subject) work.entry.task (map string_bytes work.entry.ranges.now) result }
+        format (Some subject) work.entry.task (map string_bytes work.entry.ranges.now) work.entry.asked.now result }
 {
     let mut kept = Kept::new(alloc);
     let answer = run(rt, alloc, work, reader, &mut kept);
@@ -482,7 +502,7 @@ fn run_as<H: Threads + Wait + Sync + Eprint + Clock, R: Source, W: Sink>(
     writer: &mut W,
 ) -> Result<Done, Fault>
     ensures { DoesAs R.gives W.takes reader.old reader.new writer.old writer.new
-        work.entry.format work.entry.task (map string_bytes work.entry.ranges.now) result }
+        work.entry.format work.entry.task (map string_bytes work.entry.ranges.now) work.entry.asked.now result }
 {
     match work.format {
         None => run(rt, alloc, work, reader, writer),

@@ -24,7 +24,7 @@ use Rattle.wl_units.specs.Scales.{number_said}
 use Rattle.wl_units.specs.declared.quantity.Measure.TheVariants.{Time}
 use Rattle.wl_words.proofs.Naming.{one_found}
 use Rattle.wl_words.specs.Asked.{IsTaskAlone, ReadsEachWord, ReadsOrder}
-use Rattle.wl_words.specs.CommandLine.{cable_among, kind_among, nodes_among, rate_among, node_among, only_among, read_only, task_word, tick_among, workers_among, read_link, link_among, entered, file_among, file_in, file_named, format_among, format_in, read_format, is_flagged, is_set, end_among, end_said, is_whole_number, number_among, number_or_zero, plain_values, tick_scale, ticks_said, ranges_among, ranges_in, values_among, word_in, Enters, HasValues, NamesTask, share_among}
+use Rattle.wl_words.specs.CommandLine.{asked_words_in, cable_among, kind_among, nodes_among, rate_among, node_among, only_among, read_only, task_word, tick_among, workers_among, read_link, link_among, entered, file_among, file_in, file_named, format_among, format_in, read_format, is_flagged, is_set, end_among, end_said, is_whole_number, number_among, number_or_zero, plain_values, tick_scale, ticks_said, ranges_among, ranges_in, values_among, word_in, Enters, HasValues, NamesTask, share_among}
 use Rattle.wl_words.specs.declared.command.Order.{Order}
 use Rattle.wl_words.specs.declared.command.Refusal.{Refusal}
 use Rattle.wl_words.specs.declared.command.Refusal.TheVariants as refusal
@@ -34,6 +34,7 @@ use Rattle.wl_words.specs.declared.task.Task.TheVariants.{Init, Merge, Horizon, 
 -- the word of a task enters its subcommand, without a fault
 word_enters : (t : Task) (name : Text) → HasValues (Some plain_values) t → Enters t (name ∷ task_word t ∷ [])
 unfolding clap_on_literals
+<<<<<<< ours
 word_enters (Init wish) name h = ((refl, h), refl, refl)
 word_enters (Merge limits) name h = ((refl, h), refl, refl)
 word_enters (Horizon limits) name h = ((refl, h), refl, refl)
@@ -54,12 +55,36 @@ word_enters (Settings tick shown) name h = ((refl, h), refl, refl)
 word_enters (Sweep swept) name h = ((refl, h), refl, refl)
 
 -- and names no file and no range
+=======
+word_enters (Init wish) name h = ((refl, h), refl, refl, refl)
+word_enters (Merge limits) name h = ((refl, h), refl, refl, refl)
+word_enters (Horizon limits) name h = ((refl, h), refl, refl, refl)
+word_enters Check name h = ((refl, tt), refl, refl, refl)
+word_enters Upgrade name h = ((refl, tt), refl, refl, refl)
+word_enters (Records window) name h = ((refl, h), refl, refl, refl)
+word_enters (Run workers kind brief) name h = ((refl, h), refl, refl, refl)
+word_enters Explain name h = ((refl, tt), refl, refl, refl)
+word_enters (Trace pick) name h = ((refl, h), refl, refl, refl)
+word_enters (Candump tick from window) name h = ((refl, h), refl, refl, refl)
+word_enters (Vcd tick window) name h = ((refl, h), refl, refl, refl)
+word_enters (Page tick window) name h = ((refl, h), refl, refl, refl)
+word_enters (Margin tick all) name h = ((refl, h), refl, refl, refl)
+word_enters (Respond tick any strict) name h = ((refl, h), refl, refl, refl)
+word_enters (Traffic tick strict) name h = ((refl, h), refl, refl, refl)
+word_enters (Judge tick explain) name h = ((refl, h), refl, refl, refl)
+word_enters (Settings tick shown) name h = ((refl, h), refl, refl, refl)
+word_enters (Sweep swept) name h = ((refl, h), refl, refl, refl)
+
+-- and names no file, no range, and nothing in the place of a file
+>>>>>>> theirs
 abbrev NamesNothing : List Text → Type 0
 NamesNothing words =
     (file_in (codes "input") (entered words) ≡ None) × (file_in (codes "output") (entered words) ≡ None) × (ranges_in (entered words) ≡ [])
+    × (asked_words_in (entered words) ≡ [])
 
 word_names_none : (t : Task) (name : Text) → NamesNothing (name ∷ task_word t ∷ [])
 unfolding clap_on_literals
+<<<<<<< ours
 word_names_none (Init wish) name = (refl, refl, refl)
 word_names_none (Merge limits) name = (refl, refl, refl)
 word_names_none (Horizon limits) name = (refl, refl, refl)
@@ -78,6 +103,26 @@ word_names_none (Traffic tick strict) name = (refl, refl, refl)
 word_names_none (Judge tick explain) name = (refl, refl, refl)
 word_names_none (Settings tick shown) name = (refl, refl, refl)
 word_names_none (Sweep swept) name = (refl, refl, refl)
+=======
+word_names_none (Init wish) name = (refl, refl, refl, refl)
+word_names_none (Merge limits) name = (refl, refl, refl, refl)
+word_names_none (Horizon limits) name = (refl, refl, refl, refl)
+word_names_none Check name = (refl, refl, refl, refl)
+word_names_none Upgrade name = (refl, refl, refl, refl)
+word_names_none (Records window) name = (refl, refl, refl, refl)
+word_names_none (Run workers kind brief) name = (refl, refl, refl, refl)
+word_names_none Explain name = (refl, refl, refl, refl)
+word_names_none (Trace pick) name = (refl, refl, refl, refl)
+word_names_none (Candump tick from window) name = (refl, refl, refl, refl)
+word_names_none (Vcd tick window) name = (refl, refl, refl, refl)
+word_names_none (Page tick window) name = (refl, refl, refl, refl)
+word_names_none (Margin tick all) name = (refl, refl, refl, refl)
+word_names_none (Respond tick any strict) name = (refl, refl, refl, refl)
+word_names_none (Traffic tick strict) name = (refl, refl, refl, refl)
+word_names_none (Judge tick explain) name = (refl, refl, refl, refl)
+word_names_none (Settings tick shown) name = (refl, refl, refl, refl)
+word_names_none (Sweep swept) name = (refl, refl, refl, refl)
+>>>>>>> theirs
 
 -- and no format
 word_format : (t : Task) (name : Text) → format_in (entered (name ∷ task_word t ∷ [])) ≡ Some None
@@ -231,6 +276,7 @@ reads_word words (Ok order) t asked named =
       asked.2 ∙ none.1,
       asked.5 ∙ none.2,
       ap (λ (o : Option (Option Format)). unwrap_or o None) (sym asked.6 ∙ names_format t words named),
+      asked.7 ∙ none.3,
     )
 reads_word words (Err refusal.Words) t none named = absurd (none t (names_enters t words named))
 reads_word words (Err refusal.Memory) t memory named = refl

@@ -1,5 +1,9 @@
 -- The words of the command line (this project's profile).
+<<<<<<< ours
 use Rattle.std.specs.Prelude.{◌≡◌, ◌^◌, ◌-◌, ◌*◌, ◌&&◌, nat_lt, ℕ, Bool, true, false, List, [], ◌∷◌, ◌++◌, length, codes, pos, fold, Option, Some, None, is_some, unwrap_or, if◌then◌else◌, option_and_then, option_map}
+=======
+use Rattle.std.specs.Prelude.{◌≡◌, ◌^◌, ◌-◌, ◌*◌, ◌&&◌, ◌++◌, nat_lt, ℕ, Bool, true, false, List, [], ◌∷◌, length, map, codes, pos, fold, Option, Some, None, is_some, unwrap_or, if◌then◌else◌, option_and_then, option_map}
+>>>>>>> theirs
 use Rattle.std.specs.Char.{digit_value}
 use Rattle.std.specs.List.{list_all, list_any}
 use Rattle.std.specs.Option.{option_map_or}
@@ -17,6 +21,10 @@ use Rattle.wl_formats.specs.declared.formats.Format.{Format}
 use Rattle.wl_formats.specs.declared.formats.Format.TheVariants.{Json, Csv, Table, Coloured}
 use Rattle.wl_settings.specs.declared.said.Shown.{Shown}
 use Rattle.wl_settings.specs.declared.said.Shown.TheVariants.{Best, Plan}
+use Rattle.wl_settings.specs.declared.topics.AskedWord.{AskedWord}
+use Rattle.wl_settings.specs.declared.topics.Topic.{Topic}
+use Rattle.wl_settings.specs.declared.topics.Topic.TheVariants as topic
+use Rattle.wl_settings.specs.Topics.{topic_option}
 use Rattle.wl_sweep.specs.declared.part.Share.{Share}
 use Rattle.wl_sweep.specs.Parts.{share_named}
 use Rattle.wl_worker.specs.declared.by_links.LinkKind.{LinkKind}
@@ -168,8 +176,18 @@ run_rules = workers_rule ∷ link_rule ∷ flag_rule (codes "brief") ∷ format_
 abbrev pub best_rule : Rule
 best_rule = record (new_rule (codes "best")) { long = Some (codes "best"); value_names = 1; parser = Some (Signed (pos 1) (pos (2 ^ 32 - 1))) }
 
+-- and in the place of a file the kinds and clocks of its controllers, which may come several times, and what else a text says
+abbrev pub repeated_rule : Text → Rule
+repeated_rule name = record (new_rule name) { long = Some name; value_names = 1; action = Some Append }
+
+abbrev pub named_rule : Text → Rule
+named_rule name = text_rule name name
+
 abbrev pub settings_rules : List Rule
-settings_rules = tick_rule ∷ best_rule ∷ flag_rule (codes "plan") ∷ []
+settings_rules =
+    tick_rule ∷ best_rule ∷ flag_rule (codes "plan") ∷ repeated_rule (codes "kind") ∷ repeated_rule (codes "clock") ∷ named_rule (codes "bitrate")
+    ∷ named_rule (codes "cable") ∷ named_rule (codes "per") ∷ named_rule (codes "out") ∷ named_rule (codes "in") ∷ named_rule (codes "tolerance")
+    ∷ named_rule (codes "senders") ∷ named_rule (codes "rate-error") ∷ named_rule (codes "sample-point") ∷ named_rule (codes "nodes") ∷ []
 
 -- of `init`, whose nodes are 2 to 64: two nodes, 500 kbit/s, 40 m and an MCP2515 where nothing else is said
 abbrev pub nodes_rule : Rule
@@ -350,6 +368,38 @@ ranges_among rows = unwrap_or (all_of (codes "vary") rows) []
 
 abbrev pub ranges_in : Option (Text × List Row) → List Text
 ranges_in found = option_map_or (λ p. ranges_among p.1) found []
+
+-- what is asked for in the place of a file, topic by topic, and of a topic in the order of the words
+abbrev pub asked_topics : List Topic
+asked_topics =
+    topic.Kind ∷ topic.Clock ∷ topic.Bitrate ∷ topic.Cable ∷ topic.Per ∷ topic.Out ∷ topic.In ∷ topic.Tolerance ∷ topic.Senders ∷ topic.RateError
+    ∷ topic.SamplePoint ∷ topic.Nodes ∷ []
+
+abbrev pub asked_word : Topic → Text → AskedWord
+asked_word t text = record { topic = t; text = text }
+
+abbrev pub asked_about : Topic → List Row → List AskedWord
+asked_about t rows = map (asked_word t) (unwrap_or (all_of (topic_option t) rows) [])
+
+abbrev pub asked_about_each : List Topic → List Row → List AskedWord
+asked_about_each [] rows = []
+asked_about_each (t ∷ ts) rows = asked_about t rows ++ asked_about_each ts rows
+
+-- that of the subcommand that was found, if it is `settings`
+abbrev pub asked_by : Text → List Row → List AskedWord
+asked_by word rows = if bytes_eq word (codes "settings") then asked_about_each asked_topics rows else []
+
+abbrev pub asked_words_in : Option (Text × List Row) → List AskedWord
+asked_words_in found = option_map_or (λ p. asked_by p.0 p.1) found []
+
+-- there is no file to read, or nothing is asked for in its place
+abbrev pub is_asked_once : Option Text → List AskedWord → Bool
+is_asked_once None asked = true
+is_asked_once (Some name) [] = true
+is_asked_once (Some name) (w ∷ ws) = false
+
+abbrev pub asks_once : Option (Text × List Row) → Bool
+asks_once found = is_asked_once (file_in (codes "input") found) (asked_words_in found)
 
 -- the part of a sweep that a subcommand's option gives
 abbrev pub share_among : List Row → Option Share
@@ -582,9 +632,11 @@ task_named (Some word) given = or_task (plain_task word) (option_and_then (value
 abbrev pub FoundTask : Option (Text × List Row) → Task → Type 0
 FoundTask found t = NamedTask (word_in found) (option_map (λ p. values_among p.1) found) t
 
--- clap enters the task's subcommand at these words, with the task's values and a format that there is, and finds no fault in them
+-- clap enters the task's subcommand at these words, with the task's values, a format that there is, and no words beside a file, and finds no
+-- fault in them
 abbrev pub Enters : Task → List Text → Type 0
-Enters t words = FoundTask (entered words) t × (fault_of program words ≡ []) × (is_some (format_in (entered words)) ≡ true)
+Enters t words =
+    FoundTask (entered words) t × (fault_of program words ≡ []) × (is_some (format_in (entered words)) ≡ true) × (asks_once (entered words) ≡ true)
 
 -- what is swept where the words say nothing of it
 abbrev pub plainly_swept : Swept

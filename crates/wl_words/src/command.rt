@@ -1,10 +1,11 @@
 //! The command line.
-ghost use Rattle.std.specs.Prelude.{◌≡◌, ◌≢◌, ◌↔◌, map, string_bytes, codes, IfOk, IfErr, Some, option_map};
+ghost use Rattle.std.specs.Prelude.{◌≡◌, ◌≢◌, ◌↔◌, if◌then◌else◌, map, string_bytes, codes, IfOk, IfErr, Some, None, option_map};
 ghost use Rattle.clap.specs.Words.{kind_of, subcommand_rows_of};
-ghost use Rattle.wl_words.specs.CommandLine.{begun_task, Enters, FoundTask, file_in, has_flag, ranges_in};
+ghost use Rattle.wl_words.specs.CommandLine.{asked_words_in, begun_task, Enters, FoundTask, file_in, has_flag, is_asked_once, ranges_in};
 ghost use Rattle.wl_words.specs.CommandLine.{candump_task, init_task, judgement_task, page_task, plain_task, run_task, sweep_task, task_named, timed_task, trace_task, valued_task, vcd_task};
 ghost use Rattle.wl_words.specs.Asked.{FindsOrder, ReadsOrder};
 
+use crate::asked::asked_of_subcommand;
 use crate::subcommands::matches_of;
 use crate::task::Task;
 use crate::values::{
@@ -17,6 +18,7 @@ use std::alloc::{AllocError, Global};
 use std::io;
 use std::rt::Env;
 use wl_formats::Format;
+use wl_settings::AskedWord;
 use wl_setup::Text;
 use wl_views::Tick;
 
@@ -35,6 +37,8 @@ pub struct Order {
     pub progress: bool,
     /// The ranges of a sweep, in the order of the words.
     pub ranges: Vec<String>,
+    /// What options of `settings` say in the place of a file.
+    pub asked: Vec<AskedWord>,
     /// Another format of the output than text.
     pub format: Option<Format>,
 }
@@ -193,10 +197,12 @@ fn order_for(
     ensures ranges { IfOk result (λ order. map string_bytes order.ranges.items
         ≡ ranges_in (subcommand_rows_of matches.now)) }
     ensures format { IfOk result (λ order. order.format ≡ format) }
+    ensures asked { IfOk result (λ order. order.asked.items ≡ asked_words_in (subcommand_rows_of matches.now)) }
 {
     let input = file_of_subcommand(alloc, matches, "input")?;
     let output = file_of_subcommand(alloc, matches, "output")?;
     let ranges = ranges_of_subcommand(alloc, matches)?;
+    let asked = asked_of_subcommand(alloc, matches)?;
     Ok(Order {
         task,
         input,
@@ -204,8 +210,33 @@ fn order_for(
         hint: flag_of_subcommand(matches, "hint"),
         progress: flag_of_subcommand(matches, "progress"),
         ranges,
+        asked,
         format,
     })
+}
+
+/// True if an order has no file to read, or nothing is asked for in its place.
+fn is_asked_once(order: &Order) -> bool
+    ensures { result ≡ is_asked_once order.now.input order.now.asked.items }
+{
+    match &order.input {
+        None => true,
+        Some(_) => match order.asked.as_slice() {
+            [] => true,
+            _ => false,
+        },
+    }
+}
+
+/// Returns an order that is asked for once.
+fn asked_once(order: Order) -> Option<Order>
+    ensures { result ≡ (if is_asked_once order.input order.asked.items then Some order else None) }
+{
+    if is_asked_once(&order) {
+        Some(order)
+    } else {
+        None
+    }
 }
 
 /// Returns what these words ask for, the program's own name first; an error that isn't out of memory is what clap says to them.
@@ -219,7 +250,7 @@ fn order_of(alloc: Global, words: &[String]) -> Result<Option<Order>, Error>
         Some(task) => match format_of_subcommand(&matches) {
             Some(format) => {
                 let order = order_for(alloc, &matches, task, format)?;
-                Ok(Some(order))
+                Ok(asked_once(order))
             }
             None => Ok(None),
         },
@@ -245,6 +276,8 @@ fn wanted(words: &[String]) -> &'static str {
         Some(word) => match word.as_str() {
             "run" => "--link wants hub or mail, and --format text, json, csv, table or coloured",
             "check" | "explain" | "sweep" => "--format wants text, json, csv, table or coloured",
+            "settings" =>
+                "--tick wants 1 to 999 and ps, ns or us, as 125ps, and what is asked for comes from a FILE or from options",
             "trace" =>
                 "--only wants lost, error, flag, frame, mode or sync, and --format text, json, csv, table or coloured",
             "judge" | "margin" | "respond" | "traffic" => {

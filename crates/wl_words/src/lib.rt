@@ -4,6 +4,7 @@
 //! and to write, and another format of the output. What is wrong with words goes to standard error, and so does help.
 #![tactic(auto)]
 
+mod asked;
 mod command;
 mod laws;
 mod options;

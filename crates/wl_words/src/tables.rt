@@ -94,6 +94,42 @@ const BEST: OptionRow = OptionRow { id: "best", spelling: Long("best"), takes: S
 const PLAN: OptionRow = OptionRow { id: "plan", spelling: Long("plan"), takes: Nothing, default: None, help: "Writes the plan of the first controller's first setting: two nodes at the ends of the cable" };
 
 #[rattlefmt::skip]
+const KINDS: OptionRow = OptionRow { id: "kind", spelling: Long("kind"), takes: Values("KIND"), default: None, help: "The kind of a controller, as mcp2515; several go with a --clock each, in order" };
+
+#[rattlefmt::skip]
+const CLOCKS: OptionRow = OptionRow { id: "clock", spelling: Long("clock"), takes: Values("FREQUENCY"), default: None, help: "The frequency of its clock, as 16MHz" };
+
+#[rattlefmt::skip]
+const RATE: OptionRow = OptionRow { id: "bitrate", spelling: Long("bitrate"), takes: Value("RATE"), default: None, help: "The bit rate, as 500k" };
+
+#[rattlefmt::skip]
+const LENGTH: OptionRow = OptionRow { id: "cable", spelling: Long("cable"), takes: Value("LENGTH"), default: None, help: "The length of the cable in whole metres, as 40m" };
+
+#[rattlefmt::skip]
+const PER: OptionRow = OptionRow { id: "per", spelling: Long("per"), takes: Value("TIME"), default: None, help: "How long a level takes along the cable, as 5ns/m" };
+
+#[rattlefmt::skip]
+const OUT: OptionRow = OptionRow { id: "out", spelling: Long("out"), takes: Value("TIME"), default: None, help: "How long a level takes from a node to the cable, as 70ns" };
+
+#[rattlefmt::skip]
+const IN: OptionRow = OptionRow { id: "in", spelling: Long("in"), takes: Value("TIME"), default: None, help: "How long a level takes from the cable to a node, as 80ns" };
+
+#[rattlefmt::skip]
+const TOLERANCE: OptionRow = OptionRow { id: "tolerance", spelling: Long("tolerance"), takes: Value("PPM"), default: None, help: "By how many ppm a clock may be slow or fast, as 100" };
+
+#[rattlefmt::skip]
+const SENDERS: OptionRow = OptionRow { id: "senders", spelling: Long("senders"), takes: Value("WHO"), default: None, help: "Whether one node sends at a time, or any: one or any" };
+
+#[rattlefmt::skip]
+const RATE_ERROR: OptionRow = OptionRow { id: "rate-error", spelling: Long("rate-error"), takes: Value("PPM"), default: None, help: "By how many ppm the bit rate may be off, as 0" };
+
+#[rattlefmt::skip]
+const SAMPLE_POINT: OptionRow = OptionRow { id: "sample-point", spelling: Long("sample-point"), takes: Value("PERCENT"), default: None, help: "The sample point to which rows are near that come first, as 87.5%" };
+
+#[rattlefmt::skip]
+const NODE_COUNT: OptionRow = OptionRow { id: "nodes", spelling: Long("nodes"), takes: Value("N"), default: None, help: "How many nodes the bus has: 2 to 64" };
+
+#[rattlefmt::skip]
 const NODES: OptionRow = OptionRow { id: "nodes", spelling: Long("nodes"), takes: Signed("N", 2, 64), default: Some("2"), help: "How many nodes the bus has: 2 to 64" };
 
 #[rattlefmt::skip]
@@ -158,7 +194,7 @@ pub(crate) const SUBCOMMANDS: [SubcommandRow; 18] = [
     SubcommandRow { word: "respond", about: "Tests the plan, and writes how long each message may wait, at all phases and clocks, and whether that is in time", options: &[TICK, ANY_DATA, IN_TIME, FORMAT] },
     SubcommandRow { word: "traffic", about: "Simulates the plan, and writes how busy the bus was, how long messages waited, and whether it works", options: &[TICK, WORKS, FORMAT] },
     SubcommandRow { word: "check", about: "Tests the plan, and writes what its bit segments allow and how long its cable takes", options: &[FORMAT] },
-    SubcommandRow { word: "settings", about: "Finds the bit timings with which a bus works for a clock, a bit rate and a cable, the best first", options: &[TICK, BEST, PLAN] },
+    SubcommandRow { word: "settings", about: "Finds the bit timings with which a bus works for a clock, a bit rate and a cable, the best first", options: &[TICK, BEST, PLAN, KINDS, CLOCKS, RATE, LENGTH, PER, OUT, IN, TOLERANCE, SENDERS, RATE_ERROR, SAMPLE_POINT, NODE_COUNT] },
     SubcommandRow { word: "sweep", about: "Simulates the plan over phases, clocks and values of keys, and writes how often the bus is clean", options: &[VARY, STEP, RUNS, SEED, THREADS, KEEP_OFFSETS, KEEP_PPM, WORST, PRINT, PAGE, PART, JOIN, FORMAT] },
     SubcommandRow { word: "trace", about: "Simulates the plan, and writes what happened to each node: errors, flags, frames, modes", options: &[FROM_TICK, TO_TICK, NODE, ONLY, FORMAT] },
     SubcommandRow { word: "page", about: "Simulates the plan, and writes one page of HTML that shows it in a browser, of a long run a part", options: &[TICK, FROM_TIME, TO_TIME] },

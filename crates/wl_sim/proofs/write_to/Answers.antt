@@ -32,7 +32,7 @@ returns-in-Ok g c =
     let writes : Option (Bor setup.Text) → Type 0 = λ output.
     WritesTo g.R.Source.gives g.W.Sink.takes g.F.Writer.Sink.takes g.F.Folder.stands g.F.Folder.holds
     c.args.reader.now c.run_as-answer.new.reader c.args.writer.now c.args.writer.now c.args.folder.now c.finish.new.folder
-    c.args.work.format c.args.work.task (map string_bytes c.args.work.ranges.now) (option_map (λ n. n.now) output) c.finish.result in
+    c.args.work.format c.args.work.task (map string_bytes c.args.work.ranges.now) c.args.work.asked.now (option_map (λ n. n.now) output) c.finish.result in
     subst writes (sym c.in-Some.is) (
       refl,
       inr (c.in-Ok.file, c.run_as-answer.new.writer, c.run_as-answer.result, c.in-Ok.ensures.empty, c.run_as-answer.ensures, moved),

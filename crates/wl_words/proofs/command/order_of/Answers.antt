@@ -1,10 +1,18 @@
-use Rattle.std.proofs.Common.{◌≡◌, ◌∙◌, ap, sym, subst, map, codes, string_bytes, List, Option, Some, None, true, false}
+use Rattle.std.proofs.Common.{◌≡◌, ◌∙◌, refl, ap, ap₂, sym, subst, map, codes, string_bytes, if◌then◌else◌, Bool, List, Option, Some, None, true, false}
 use Rattle.std.specs.Prelude.{is_some}
 use Rattle.clap.specs.Words.{Text}
 use Rattle.clap.proofs.TakesLemmas.{passed_up}
 use Rattle.wl_formats.specs.declared.formats.Format.{Format}
-use Rattle.wl_words.specs.CommandLine.{Enters, FoundTask, file_in, format_in, has_flag, ranges_in}
+use Rattle.wl_words.specs.CommandLine.{Enters, FoundTask, asked_words_in, asks_once, entered, file_in, format_in, has_flag, is_asked_once, ranges_in}
+use Rattle.wl_words.specs.Asked.{Asks, FindsOrder}
+use Rattle.wl_words.specs.declared.command.Order.{Order}
 use Rattle.wl_words.proofs.command.order_of.Goals as goal
+
+-- what was found for an order that is asked for once, or not
+found_once : (words : List Text) (order : Order) (b : Bool) → is_asked_once order.input order.asked.items ≡ b → (asks_once (entered words) ≡ true → Asks order words)
+    → asks_once (entered words) ≡ is_asked_once order.input order.asked.items → FindsOrder words (if b then Some order else None)
+found_once words order true e asks same = asks (same ∙ e)
+found_once words order false e asks same = λ t enters. let no : false ≡ true = sym (same ∙ e) ∙ enters.3 in cc
 
 pub returns-in-Some-format_of_subcommand-clause-order : goal.returns-in-Some-format_of_subcommand-clause-order
 returns-in-Some-format_of_subcommand-clause-order c =
@@ -13,14 +21,24 @@ returns-in-Some-format_of_subcommand-clause-order c =
     let clean = c.in_ok-matches.ensures.found.1 in
     let found = (c.task_in.ensures c.in-Some.task).0 c.in-Some.is in
     let format = ap format_in (sym rows) ∙ (sym c.format_of_subcommand.ensures ∙ c.in-Some-format_of_subcommand.is) in
-    let enters : Enters c.in-Some.task words = (subst (λ o. FoundTask o c.in-Some.task) rows found, clean, ap is_some format) in (
-      subst (λ t. Enters t words) (sym c.in_ok-order-in-Some-format_of_subcommand.ensures.task) enters,
-      c.in_ok-order-in-Some-format_of_subcommand.ensures.input ∙ ap (file_in (codes "input")) rows,
-      c.in_ok-order-in-Some-format_of_subcommand.ensures.output ∙ ap (file_in (codes "output")) rows,
-      c.in_ok-order-in-Some-format_of_subcommand.ensures.hint ∙ ap (has_flag (codes "hint")) rows,
-      c.in_ok-order-in-Some-format_of_subcommand.ensures.progress ∙ ap (has_flag (codes "progress")) rows,
-      c.in_ok-order-in-Some-format_of_subcommand.ensures.ranges ∙ ap ranges_in rows,
-      format ∙ ap Some (sym c.in_ok-order-in-Some-format_of_subcommand.ensures.format),
+    let made = c.in_ok-order-in-Some-format_of_subcommand.ensures in
+    let input = made.input ∙ ap (file_in (codes "input")) rows in
+    let asked = made.asked ∙ ap asked_words_in rows in
+    let enters : asks_once (entered words) ≡ true → Enters c.in-Some.task words = λ once.
+    (subst (λ o. FoundTask o c.in-Some.task) rows found, clean, ap is_some format, once) in
+    subst (FindsOrder words) (sym c.asked_once.ensures) (
+      found_once words c.in_ok-order-in-Some-format_of_subcommand.order _ refl
+      (λ once. (
+        subst (λ t. Enters t words) (sym made.task) (enters once),
+        input,
+        made.output ∙ ap (file_in (codes "output")) rows,
+        made.hint ∙ ap (has_flag (codes "hint")) rows,
+        made.progress ∙ ap (has_flag (codes "progress")) rows,
+        made.ranges ∙ ap ranges_in rows,
+        format ∙ ap Some (sym made.format),
+        asked,
+      ))
+      (sym (ap₂ is_asked_once input asked))
     )
 
 no_format : (o : Option (Option Format)) → o ≡ None → is_some o ≡ true → ⊥
