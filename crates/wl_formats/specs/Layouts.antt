@@ -11,6 +11,7 @@ use Rattle.wl_formats.specs.TrafficLines.{traffic_layout}
 use Rattle.wl_formats.specs.SweepLines.{sweep_layout}
 use Rattle.wl_formats.specs.RespondLines.{respond_layout}
 use Rattle.wl_formats.specs.JudgeLines.{judge_layout}
+use Rattle.wl_formats.specs.SettingsLines.{settings_layout}
 
 abbrev pub layout : Subject → Layout
 layout subject.Run = run_layout
@@ -22,3 +23,4 @@ layout subject.Traffic = traffic_layout
 layout subject.Sweep = sweep_layout
 layout subject.Respond = respond_layout
 layout subject.Judge = judge_layout
+layout subject.Settings = settings_layout

@@ -13,6 +13,7 @@ pub mod TrafficLines
 pub mod SweepLines
 pub mod RespondLines
 pub mod JudgeLines
+pub mod SettingsLines
 pub mod Layouts
 pub mod Ranks
 pub mod Aligned

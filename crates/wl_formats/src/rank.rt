@@ -91,7 +91,8 @@ pub(crate) fn worst_of(subject: Subject) -> Worst
     match subject {
         Subject::Check | Subject::Margin | Subject::Sweep => Worst::Least,
         Subject::Traffic | Subject::Respond => Worst::Greatest,
-        Subject::Run | Subject::Explain | Subject::Trace | Subject::Judge => Worst::NoRow,
+        Subject::Run | Subject::Explain | Subject::Trace | Subject::Judge | Subject::Settings =>
+            Worst::NoRow,
     }
 }
 
@@ -105,7 +106,8 @@ pub(crate) fn judged_fields(subject: Subject) -> &'static [&'static str]
         Subject::Sweep => &["clean"],
         Subject::Traffic => &["greatest_us"],
         Subject::Respond => &["bound_us"],
-        Subject::Run | Subject::Explain | Subject::Trace | Subject::Judge => &[],
+        Subject::Run | Subject::Explain | Subject::Trace | Subject::Judge | Subject::Settings =>
+            &[],
     }
 }
 

@@ -9,6 +9,7 @@ mod judge;
 mod margin;
 mod respond;
 mod run;
+mod settings;
 mod sweep;
 mod trace;
 mod traffic;
@@ -20,6 +21,7 @@ use judge::judge_table;
 use margin::margin_table;
 use respond::respond_table;
 use run::run_table;
+use settings::settings_table;
 use sweep::sweep_table;
 use trace::trace_table;
 use traffic::traffic_table;
@@ -36,6 +38,7 @@ pub enum Subject {
     Sweep,
     Respond,
     Judge,
+    Settings,
 }
 
 /// Returns the shapes of a command's lines.
@@ -52,5 +55,6 @@ pub(crate) fn table_of(subject: Subject) -> Table
         Subject::Sweep => *sweep_table(),
         Subject::Respond => *respond_table(),
         Subject::Judge => *judge_table(),
+        Subject::Settings => settings_table(),
     }
 }
