@@ -266,23 +266,9 @@ module _ {S T : Type 0} (gives : S → Answer → S → Type 0) (takes : T → A
   Does (Records window) ranges asked r = Plainly (RunsPlan gives takes (IsRecordsWithin window) s s' t t') r
   Does (Run workers kind brief) ranges asked r =
       Plainly (λ a. MatchBool (workers == 1) (RunsPlan gives takes (IsReportOutput brief) s s' t t' a) (RunsByWorkersAs gives takes brief workers s s' t t' a)) r
-<<<<<<< ours
-  Does Explain ranges r = Plainly (Explains gives takes s s' t t') r
-  Does (Trace pick) ranges r = Plainly (RunsPlan gives takes (IsTracePicked pick) s s' t t') r
-  Does (Candump tick from errors window) ranges r = Plainly (RunsPlan gives takes (IsLogAs errors tick from window) s s' t t') r
-  Does (Vcd tick window) ranges r = Plainly (RunsPlan gives takes (IsVcdWithin tick window) s s' t t') r
-  Does (Page tick window) ranges r = Plainly (PagesWithin gives takes tick window s s' t t') r
-  Does (Margin tick all) ranges r = Plainly (RunsBus gives takes (IsMarginOutput tick all) s s' t t') r
-  Does (Respond tick any strict) ranges r = DoesRespond tick any strict r
-  Does (Traffic tick strict) ranges r = DoesTraffic tick strict r
-  Does (Judge tick explain) ranges r = DoesJudge tick explain r
-  Does (Settings tick shown) ranges r =
-      (answer : Result (Unit {0}) SettingsFault) × RunsSettings gives takes (tick_picoseconds tick) shown s s' t t' answer × (r ≡ of_settings answer)
-  Does (Sweep swept) ranges r = DoesSwept swept ranges swept.join swept.part r
-=======
   Does Explain ranges asked r = Plainly (Explains gives takes s s' t t') r
   Does (Trace pick) ranges asked r = Plainly (RunsPlan gives takes (IsTracePicked pick) s s' t t') r
-  Does (Candump tick from window) ranges asked r = Plainly (RunsPlan gives takes (IsCandumpWithin tick from window) s s' t t') r
+  Does (Candump tick from errors window) ranges asked r = Plainly (RunsPlan gives takes (IsLogAs errors tick from window) s s' t t') r
   Does (Vcd tick window) ranges asked r = Plainly (RunsPlan gives takes (IsVcdWithin tick window) s s' t t') r
   Does (Page tick window) ranges asked r = Plainly (PagesWithin gives takes tick window s s' t t') r
   Does (Margin tick all) ranges asked r = Plainly (RunsBus gives takes (IsMarginOutput tick all) s s' t t') r
@@ -291,7 +277,6 @@ module _ {S T : Type 0} (gives : S → Answer → S → Type 0) (takes : T → A
   Does (Judge tick explain) ranges asked r = DoesJudge tick explain r
   Does (Settings tick shown) ranges asked r = DoesSettings tick shown asked r
   Does (Sweep swept) ranges asked r = DoesSwept swept ranges swept.join swept.part r
->>>>>>> theirs
 
   -- the task was done, nothing else was read or written, and the status is that of what was answered
   abbrev pub EndsTask : Task → ℕ → Type 0

@@ -34,28 +34,6 @@ use Rattle.wl_words.specs.declared.task.Task.TheVariants.{Init, Merge, Horizon, 
 -- the word of a task enters its subcommand, without a fault
 word_enters : (t : Task) (name : Text) → HasValues (Some plain_values) t → Enters t (name ∷ task_word t ∷ [])
 unfolding clap_on_literals
-<<<<<<< ours
-word_enters (Init wish) name h = ((refl, h), refl, refl)
-word_enters (Merge limits) name h = ((refl, h), refl, refl)
-word_enters (Horizon limits) name h = ((refl, h), refl, refl)
-word_enters Check name h = ((refl, tt), refl, refl)
-word_enters Upgrade name h = ((refl, tt), refl, refl)
-word_enters (Records window) name h = ((refl, h), refl, refl)
-word_enters (Run workers kind brief) name h = ((refl, h), refl, refl)
-word_enters Explain name h = ((refl, tt), refl, refl)
-word_enters (Trace pick) name h = ((refl, h), refl, refl)
-word_enters (Candump tick from errors window) name h = ((refl, h), refl, refl)
-word_enters (Vcd tick window) name h = ((refl, h), refl, refl)
-word_enters (Page tick window) name h = ((refl, h), refl, refl)
-word_enters (Margin tick all) name h = ((refl, h), refl, refl)
-word_enters (Respond tick any strict) name h = ((refl, h), refl, refl)
-word_enters (Traffic tick strict) name h = ((refl, h), refl, refl)
-word_enters (Judge tick explain) name h = ((refl, h), refl, refl)
-word_enters (Settings tick shown) name h = ((refl, h), refl, refl)
-word_enters (Sweep swept) name h = ((refl, h), refl, refl)
-
--- and names no file and no range
-=======
 word_enters (Init wish) name h = ((refl, h), refl, refl, refl)
 word_enters (Merge limits) name h = ((refl, h), refl, refl, refl)
 word_enters (Horizon limits) name h = ((refl, h), refl, refl, refl)
@@ -65,7 +43,7 @@ word_enters (Records window) name h = ((refl, h), refl, refl, refl)
 word_enters (Run workers kind brief) name h = ((refl, h), refl, refl, refl)
 word_enters Explain name h = ((refl, tt), refl, refl, refl)
 word_enters (Trace pick) name h = ((refl, h), refl, refl, refl)
-word_enters (Candump tick from window) name h = ((refl, h), refl, refl, refl)
+word_enters (Candump tick from errors window) name h = ((refl, h), refl, refl, refl)
 word_enters (Vcd tick window) name h = ((refl, h), refl, refl, refl)
 word_enters (Page tick window) name h = ((refl, h), refl, refl, refl)
 word_enters (Margin tick all) name h = ((refl, h), refl, refl, refl)
@@ -76,7 +54,6 @@ word_enters (Settings tick shown) name h = ((refl, h), refl, refl, refl)
 word_enters (Sweep swept) name h = ((refl, h), refl, refl, refl)
 
 -- and names no file, no range, and nothing in the place of a file
->>>>>>> theirs
 abbrev NamesNothing : List Text → Type 0
 NamesNothing words =
     (file_in (codes "input") (entered words) ≡ None) × (file_in (codes "output") (entered words) ≡ None) × (ranges_in (entered words) ≡ [])
@@ -84,26 +61,6 @@ NamesNothing words =
 
 word_names_none : (t : Task) (name : Text) → NamesNothing (name ∷ task_word t ∷ [])
 unfolding clap_on_literals
-<<<<<<< ours
-word_names_none (Init wish) name = (refl, refl, refl)
-word_names_none (Merge limits) name = (refl, refl, refl)
-word_names_none (Horizon limits) name = (refl, refl, refl)
-word_names_none Check name = (refl, refl, refl)
-word_names_none Upgrade name = (refl, refl, refl)
-word_names_none (Records window) name = (refl, refl, refl)
-word_names_none (Run workers kind brief) name = (refl, refl, refl)
-word_names_none Explain name = (refl, refl, refl)
-word_names_none (Trace pick) name = (refl, refl, refl)
-word_names_none (Candump tick from errors window) name = (refl, refl, refl)
-word_names_none (Vcd tick window) name = (refl, refl, refl)
-word_names_none (Page tick window) name = (refl, refl, refl)
-word_names_none (Margin tick all) name = (refl, refl, refl)
-word_names_none (Respond tick any strict) name = (refl, refl, refl)
-word_names_none (Traffic tick strict) name = (refl, refl, refl)
-word_names_none (Judge tick explain) name = (refl, refl, refl)
-word_names_none (Settings tick shown) name = (refl, refl, refl)
-word_names_none (Sweep swept) name = (refl, refl, refl)
-=======
 word_names_none (Init wish) name = (refl, refl, refl, refl)
 word_names_none (Merge limits) name = (refl, refl, refl, refl)
 word_names_none (Horizon limits) name = (refl, refl, refl, refl)
@@ -113,7 +70,7 @@ word_names_none (Records window) name = (refl, refl, refl, refl)
 word_names_none (Run workers kind brief) name = (refl, refl, refl, refl)
 word_names_none Explain name = (refl, refl, refl, refl)
 word_names_none (Trace pick) name = (refl, refl, refl, refl)
-word_names_none (Candump tick from window) name = (refl, refl, refl, refl)
+word_names_none (Candump tick from errors window) name = (refl, refl, refl, refl)
 word_names_none (Vcd tick window) name = (refl, refl, refl, refl)
 word_names_none (Page tick window) name = (refl, refl, refl, refl)
 word_names_none (Margin tick all) name = (refl, refl, refl, refl)
@@ -122,7 +79,6 @@ word_names_none (Traffic tick strict) name = (refl, refl, refl, refl)
 word_names_none (Judge tick explain) name = (refl, refl, refl, refl)
 word_names_none (Settings tick shown) name = (refl, refl, refl, refl)
 word_names_none (Sweep swept) name = (refl, refl, refl, refl)
->>>>>>> theirs
 
 -- and no format
 word_format : (t : Task) (name : Text) → format_in (entered (name ∷ task_word t ∷ [])) ≡ Some None
