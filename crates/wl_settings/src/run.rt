@@ -11,8 +11,8 @@ use crate::topics::AskedWord;
 use std::alloc::Global;
 use wl_device::{Sink, Source, write_all};
 
-/// Reads what is asked for, and writes the settings of each controller with which the bus works, or the plan of the first one. A tick takes
-/// `tick` picoseconds.
+/// Reads what is asked for, writes the settings of each controller with which the bus works, or the plan of the first one, and returns whether
+/// each controller has a setting, or the first one. A tick takes `tick` picoseconds.
 ///
 /// The whole output is made before the first write. If the input is refused, memory runs out, or a plan is asked for and there is none, the
 /// writer isn't called; if the writer fails, a prefix of the output has been written.
@@ -22,17 +22,17 @@ pub fn settings_run<R: Source, W: Sink>(
     shown: Shown,
     reader: &mut R,
     writer: &mut W,
-) -> Result<(), SettingsFault>
+) -> Result<bool, SettingsFault>
     ensures { RunsSettings R.gives W.takes tick shown reader.old reader.new writer.old writer.new result }
 {
     let wanted = read_wanted(alloc, tick, reader)?;
-    let text = said(alloc, shown, &wanted)?;
-    write_all(text.as_bytes(), writer)?;
-    Ok(())
+    let said = said(alloc, shown, &wanted)?;
+    write_all(said.text.as_bytes(), writer)?;
+    Ok(said.all)
 }
 
-/// Writes the settings of each controller that words ask for with which the bus works, or the plan of the first one. A tick takes `tick`
-/// picoseconds, and a unit of length is a metre.
+/// Writes the settings of each controller that words ask for with which the bus works, or the plan of the first one, and returns whether each
+/// controller has a setting, or the first one. A tick takes `tick` picoseconds, and a unit of length is a metre.
 ///
 /// If the words are refused, memory runs out, or a plan is asked for and there is none, the writer isn't called; if the writer fails, a prefix
 /// of the output has been written. `Missing` and `Kind` name an option, as `--cable`.
@@ -42,11 +42,11 @@ pub fn settings_of_words<W: Sink>(
     shown: Shown,
     words: &[AskedWord],
     writer: &mut W,
-) -> Result<(), SettingsFault>
+) -> Result<bool, SettingsFault>
     ensures { RunsWords W.takes tick shown words.now writer.old writer.new result }
 {
     let wanted = wanted_by_words(alloc, tick, words)?;
-    let text = said(alloc, shown, &wanted)?;
-    write_all(text.as_bytes(), writer)?;
-    Ok(())
+    let said = said(alloc, shown, &wanted)?;
+    write_all(said.text.as_bytes(), writer)?;
+    Ok(said.all)
 }

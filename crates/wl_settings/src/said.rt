@@ -1,5 +1,5 @@
 //! What is written of what a text asks for.
-ghost use Rattle.std.specs.Prelude.{◌≡◌, ◌≢◌, ◌++◌, Ok, Err, IfOk, IfErr, OnOk, string_bytes, unwrap_or};
+ghost use Rattle.std.specs.Prelude.{◌≡◌, ◌≢◌, true, Ok, Err, IfOk, IfErr, string_bytes};
 ghost use Rattle.wl_settings.specs.Said.{GrowsByFound, GrowsBySaid, IsListText, IsPlanSaid, IsShown, plan_said};
 ghost use Rattle.wl_settings.specs.declared.fault.SettingsFault.TheVariants.{Memory};
 
@@ -21,51 +21,63 @@ pub enum Shown {
     Plan,
 }
 
-/// Adds what is found for one controller.
+/// What is written, with what goes with it.
+#[derive(Drop)]
+pub(crate) struct Said {
+    /// The text.
+    pub(crate) text: String,
+    /// Whether each controller that was asked about has a setting with which the bus works.
+    pub(crate) all: bool,
+}
+
+/// Adds what is found for one controller, and returns whether it has a setting.
 fn push_found(
     alloc: Global,
     text: &mut String,
     asked: &Asked,
     best: u32,
     controller: &Controller,
-) -> Result<(), AllocError>
-    ensures { OnOk result (GrowsByFound asked.now controller.now best
+) -> Result<bool, AllocError>
+    ensures { IfOk result (GrowsByFound asked.now controller.now best
         (string_bytes text.old) (string_bytes text.new)) }
 {
     let listing = list(alloc, asked, controller)?;
-    push_listing(text, asked, controller, best, &listing)
+    push_listing(text, asked, controller, best, &listing)?;
+    Ok(listing.rows.len() > 0)
 }
 
-/// Adds what is found for each controller.
+/// Adds what is found for each controller, and returns whether each has a setting.
 fn push_each(
     alloc: Global,
     text: &mut String,
     asked: &Asked,
     best: u32,
     controllers: &[Controller],
-) -> Result<(), AllocError>
-    ensures { OnOk result (GrowsBySaid asked.now best controllers.now
+) -> Result<bool, AllocError>
+    ensures { IfOk result (GrowsBySaid asked.now best controllers.now
         (string_bytes text.old) (string_bytes text.new)) }
 {
+    let mut all = true;
     for controller in controllers {
-        push_found(alloc, text, asked, best, controller)?;
+        let has = push_found(alloc, text, asked, best, controller)?;
+        all = all && has;
     }
-    Ok(())
+    Ok(all)
 }
 
 /// Returns what is found for each controller as text.
-fn list_text(alloc: Global, best: u32, wanted: &Wanted) -> Result<String, AllocError>
-    ensures { IfOk result (λ text. IsListText best wanted.now (string_bytes text)) }
+fn list_text(alloc: Global, best: u32, wanted: &Wanted) -> Result<Said, AllocError>
+    ensures { IfOk result (λ said. IsListText best wanted.now (string_bytes said.text) said.all) }
 {
     let mut text = String::new(alloc);
-    push_each(
+    let all = push_each(
         alloc,
         &mut text,
         &wanted.asked,
         best,
         wanted.controllers.as_slice(),
     )?;
-    Ok(text)
+    Ok(Said { text, all })
 }
 
 /// Returns the plan of the first of these rows, if there is one.
@@ -103,12 +115,15 @@ fn first_plan(
 }
 
 /// Returns what is to be shown of what a text asks for; `NoSetting` if it is a plan, and there is none.
-pub(crate) fn said(alloc: Global, shown: Shown, wanted: &Wanted) -> Result<String, SettingsFault>
-    ensures ok { IfOk result (λ text. IsShown shown wanted.now (Ok (string_bytes text))) }
-    ensures fault { IfErr result (λ e. e ≢ Memory → IsShown shown wanted.now (Err e)) }
+pub(crate) fn said(alloc: Global, shown: Shown, wanted: &Wanted) -> Result<Said, SettingsFault>
+    ensures ok { IfOk result (λ said. IsShown shown wanted.now (Ok (string_bytes said.text)) said.all) }
+    ensures fault { IfErr result (λ e. e ≢ Memory → IsShown shown wanted.now (Err e) true) }
 {
     match shown {
         Shown::Best(best) => Ok(list_text(alloc, best.unwrap_or(u32::MAX), wanted)?),
-        Shown::Plan => first_plan(alloc, &wanted.asked, wanted.controllers.as_slice()),
+        Shown::Plan => {
+            let text = first_plan(alloc, &wanted.asked, wanted.controllers.as_slice())?;
+            Ok(Said { text, all: true })
+        }
     }
 }
