@@ -139,9 +139,12 @@ TellsFigures plan names (Some i) family old new = new ≡ old ++ each_below (fig
 abbrev pub other_of : Plan → Option ℕ
 other_of plan = first_place (without_book plan) (length plan.nodes)
 
--- the whole text: of clocks, ways and nodes what is doubtful, then of messages, and then the figures
-abbrev pub IsExplanation : PlanText → Bus → List ℕ → Type 0
-IsExplanation plain bus text =
+-- of clocks, ways and nodes what is doubtful, and then of messages
+abbrev pub all_doubts : Bus → Option Waits → List ℕ
+all_doubts bus waits = doubts_text bus.plan bus.names (other_of bus.plan) (bus_family bus) ++ wait_doubts bus.names waits
+
+-- the whole text, the doubts and then the figures, and whether there is a doubt
+abbrev pub IsExplanation : PlanText → Bus → (text : List ℕ) → (doubted : Bool) → Type 0
+IsExplanation plain bus text doubted =
     (waits : Option Waits) × AreWaitsOfBus nanosecond plain bus waits
-    × TellsFigures bus.plan bus.names (other_of bus.plan) (bus_family bus)
-    (doubts_text bus.plan bus.names (other_of bus.plan) (bus_family bus) ++ wait_doubts bus.names waits) text
+    × TellsFigures bus.plan bus.names (other_of bus.plan) (bus_family bus) (all_doubts bus waits) text × (doubted ≡ nat_lt 0 (length (all_doubts bus waits)))

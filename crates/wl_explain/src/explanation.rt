@@ -154,6 +154,15 @@ fn family_in(alloc: Global, bus: &Bus) -> Result<Option<Family>, AllocError>
     }
 }
 
+/// The explanation of a plan.
+#[derive(Drop)]
+pub struct Explanation {
+    /// What is doubtful of the plan, one a line, and then its figures.
+    pub text: String,
+    /// Whether anything is doubtful.
+    pub doubted: bool,
+}
+
 /// Returns the explanation of a plan's text and its bus, which can be run: what is doubtful of it, one a line, and then its figures.
 ///
 /// First comes what lies outside of the condition for a sound bus. If all nodes synchronise by the book, each inequality that fails
@@ -172,9 +181,13 @@ fn family_in(alloc: Global, bus: &Bus) -> Result<Option<Family>, AllocError>
 /// tolerance in parts per million, and how much of it the other clocks leave to both nodes of a pair. It also has the longest cable, in
 /// nanoseconds along it and in metres at 5 ns each. A quantum is the mean of those that the node runs before the end. A tick is taken for a
 /// nanosecond. Refused out of memory alone.
-pub fn explain_plan(alloc: Global, plain: &PlanText, bus: &Bus) -> Result<String, AllocError>
+pub fn explain_plan(
+    alloc: Global,
+    plain: &PlanText,
+    bus: &Bus,
+) -> Result<Explanation, AllocError>
     requires deviations { length bus.now.deviations ≡ length bus.now.plan.nodes }
-    ensures { IfOk result (λ text. IsExplanation plain.now bus.now (string_bytes text)) }
+    ensures { IfOk result (λ e. IsExplanation plain.now bus.now (string_bytes e.text) e.doubted) }
 {
     explain_found(alloc, plain, bus, None)
 }
@@ -186,10 +199,10 @@ pub fn explain_found(
     plain: &PlanText,
     bus: &Bus,
     found: Option<(Headroom, Headroom)>,
-) -> Result<String, AllocError>
+) -> Result<Explanation, AllocError>
     requires deviations { length bus.now.deviations ≡ length bus.now.plan.nodes }
     requires found { IsHeadroomFound found (bus_family bus.now) }
-    ensures { IfOk result (λ text. IsExplanation plain.now bus.now (string_bytes text)) }
+    ensures { IfOk result (λ e. IsExplanation plain.now bus.now (string_bytes e.text) e.doubted) }
 {
     let mut text = String::new(alloc);
     let family = family_in(alloc, bus)?;
@@ -197,6 +210,7 @@ pub fn explain_found(
     let other = first_without_book(&bus.plan);
     push_doubts(&mut text, &bus.plan, &bus.names, other, &family)?;
     push_waits(&mut text, &bus.names, &waits)?;
+    let doubted = text.len() > 0;
     push_figures_of(&mut text, bus, other, &family, found)?;
-    Ok(text)
+    Ok(Explanation { text, doubted })
 }
