@@ -1,5 +1,5 @@
 -- What the runs of engines over a text in memory say of the text itself.
-use Rattle.std.proofs.Common.{◌≡◌, ◌≤◌, ◌<◌, ◌∙◌, ℕ, true, false, List, [], ◌++◌, length, refl, sym, ap, subst, if◌then◌else◌, MatchBool, Result, Ok, Err}
+use Rattle.std.proofs.Common.{◌≡◌, ◌≤◌, ◌<◌, ◌∙◌, ℕ, Bool, true, false, List, [], ◌++◌, length, refl, sym, ap, subst, if◌then◌else◌, MatchBool, Result, Ok, Err}
 use Rattle.std.proofs.lemmas.Bool.{le-leb, lt-leb}
 use Rattle.wl_device.specs.Bounded.{ReadsUpTo}
 use Rattle.wl_device.specs.declared.bounded.Ended.{Ended}
@@ -16,14 +16,14 @@ use Rattle.wl_explain.specs.Refusals.{IsRefusal, size_words}
 use Rattle.wl_engines.specs.Answered.{Answers, AnswersReading}
 use Rattle.wl_engines.specs.Explained.{Explains, ExplainsReading, IsExplanationOf}
 use Rattle.wl_engines.specs.Margin.{RunsBus}
-use Rattle.wl_engines.specs.Plans.{RunsPlan}
+use Rattle.wl_engines.specs.Plans.{RunsPlan, RunsPlanWith}
 use Rattle.wl_engines.specs.declared.fault.RunFault.{RunFault}
 use Rattle.wl_engines.specs.declared.fault.RunFault.TheVariants as run
 use Rattle.wl_engines.specs.declared.fault.RunFault.TheVariants.{Setup}
 use Rattle.wl_engines.proofs.Callers.{gives, too_long, unbroken, whole}
 use Rattle.wl_c.proofs.Reading.{takes, wrote, wrote_front}
 use Rattle.wl_c.specs.Made.{ByMade, IsMade, without_answer}
-use Rattle.wl_c.specs.Texts.{AreWordsOn, ExplainsRefusal, HasNoBus, HasNoPlan, IsAnswered, IsOfBus, IsOfPlan, bus_read, plan_read, text_read}
+use Rattle.wl_c.specs.Texts.{AreWordsOn, ExplainsRefusal, HasNoBus, HasNoPlan, IsAnswered, IsOfBus, IsOfPlan, IsOfRun, bus_read, plan_read, text_read}
 use Rattle.wl_c.specs.declared.engines.Made.{Made}
 use Rattle.wl_c.specs.declared.engines.Made.TheVariants.{Output, Refusal, OutOfMemory}
 
@@ -65,15 +65,34 @@ module _ {S T : Type 0} (rest : S → List ℕ) (bytes : T → List ℕ) (s s' :
       (m.0, r.0.0, plan_is rest s s' (Err m.0) r.0.1, m.2 ∙ ap bytes r.1 ∙ none)
   plan_made IsOutput answer OutOfMemory h m = tt
 
+  -- the fault that was answered is that of the text
+  same_refusal : {A : Type 0} (fault : SetupFault) (answer : Result A RunFault) → without_answer answer ≡ Err (Setup fault) → answer ≡ Err (Setup fault)
+  same_refusal fault (Ok a) e = cc
+  same_refusal fault (Err f) e = cc
+
+  -- of a run over a plan that has an answer besides
+  pub run_made : (IsOutput : Plan → List (List ℕ) → List ℕ → Bool → Type 0) (answer : Result Bool RunFault) (made : Made)
+      → RunsPlanWith (gives rest) (takes bytes) IsOutput s s' t t' answer → IsMade (without_answer answer) (bytes t') made
+      → ByMade (IsOfRun (rest s) IsOutput) (HasNoPlan (rest s)) made
+  run_made IsOutput (Ok a) (Output v) r m =
+      (a, (r.0, r.1, plan_is rest s s' (Ok (r.0, r.1)) r.3, subst (λ (x : List ℕ). IsOutput r.0 r.1 x a) (sym (m.1 ∙ wrote bytes r.2 t t' none r.5)) r.4))
+  run_made IsOutput (Err fault) (Output v) r m = cc
+  run_made IsOutput answer (Refusal v) h m =
+      let r : RunsPlanWith (gives rest) (takes bytes) IsOutput s s' t t' (Err (Setup m.0)) =
+      subst (λ a. RunsPlanWith (gives rest) (takes bytes) IsOutput s s' t t' a) (same_refusal m.0 answer m.1) h in
+      (m.0, r.0.0, plan_is rest s s' (Err m.0) r.0.1, m.2 ∙ ap bytes r.1 ∙ none)
+  run_made IsOutput answer OutOfMemory h m = tt
+
   -- of a run over a bus
-  pub bus_made : (IsOutput : Bus → List ℕ → Type 0) (answer : Result (Unit {0}) RunFault) (made : Made)
-      → RunsBus (gives rest) (takes bytes) IsOutput s s' t t' answer → IsMade answer (bytes t') made
+  pub bus_made : (IsOutput : Bus → List ℕ → Bool → Type 0) (answer : Result Bool RunFault) (made : Made)
+      → RunsBus (gives rest) (takes bytes) IsOutput s s' t t' answer → IsMade (without_answer answer) (bytes t') made
       → ByMade (IsOfBus (rest s) IsOutput) (HasNoBus (rest s)) made
-  bus_made IsOutput answer (Output v) h m =
-      let r : RunsBus (gives rest) (takes bytes) IsOutput s s' t t' (Ok tt) = subst (λ a. RunsBus (gives rest) (takes bytes) IsOutput s s' t t' a) m.0 h in
-      (r.0, bus_is rest s s' (Ok r.0) r.2, subst (λ (x : List ℕ). IsOutput r.0 x) (sym (m.1 ∙ wrote bytes r.1 t t' none r.4)) r.3)
+  bus_made IsOutput (Ok a) (Output v) r m =
+      (a, r.0, bus_is rest s s' (Ok r.0) r.2, subst (λ (x : List ℕ). IsOutput r.0 x a) (sym (m.1 ∙ wrote bytes r.1 t t' none r.4)) r.3)
+  bus_made IsOutput (Err fault) (Output v) r m = cc
   bus_made IsOutput answer (Refusal v) h m =
-      let r : RunsBus (gives rest) (takes bytes) IsOutput s s' t t' (Err (Setup m.0)) = subst (λ a. RunsBus (gives rest) (takes bytes) IsOutput s s' t t' a) m.1 h in
+      let r : RunsBus (gives rest) (takes bytes) IsOutput s s' t t' (Err (Setup m.0)) =
+      subst (λ a. RunsBus (gives rest) (takes bytes) IsOutput s s' t t' a) (same_refusal m.0 answer m.1) h in
       (m.0, r.0.0, bus_is rest s s' (Err m.0) r.0.1, m.2 ∙ ap bytes r.1 ∙ none)
   bus_made IsOutput answer OutOfMemory h m = tt
 
@@ -116,14 +135,19 @@ module _ {S T : Type 0} (rest : S → List ℕ) (bytes : T → List ℕ) (s s' :
     answer_made answer OutOfMemory h m = tt
 
   -- of an explanation
-  explained : (text : List ℕ) (e : Ended) → ReadsUpTo (gives rest) s most_bytes text e s'
-      → ExplainsReading (takes bytes) e text t t' (Ok tt) → IsOfBus (rest s) (IsExplanationOf (rest s)) (bytes t')
-  explained text reading.End r h =
+  explained : (doubted : Bool) (text : List ℕ) (e : Ended) → ReadsUpTo (gives rest) s most_bytes text e s'
+      → ExplainsReading (takes bytes) e text t t' (Ok doubted) → IsOfBus (rest s) (IsExplanationOf (rest s)) (bytes t')
+  explained doubted text reading.End r h =
       let w : (text ≡ rest s) × (length text ≤ most_bytes) = whole rest s s' text r in
-      let is : IsExplanationOf text h.0 (bytes t') = subst (λ (x : List ℕ). IsExplanationOf text h.0 x) (sym (wrote bytes h.1 t t' none h.4)) h.3 in
-      (h.0, ap (λ x. after x bus_of_text) (read_is rest s s' text reading.End r) ∙ h.2, subst (λ (x : List ℕ). IsExplanationOf x h.0 (bytes t')) w.0 is)
-  explained text reading.Broken r h = absurd (unbroken rest s s' text r)
-  explained text reading.Full r h = cc
+      let is : IsExplanationOf text h.0 (bytes t') doubted =
+      subst (λ (x : List ℕ). IsExplanationOf text h.0 x doubted) (sym (wrote bytes h.1 t t' none h.4)) h.3 in (
+        doubted,
+        h.0,
+        ap (λ x. after x bus_of_text) (read_is rest s s' text reading.End r) ∙ h.2,
+        subst (λ (x : List ℕ). IsExplanationOf x h.0 (bytes t') doubted) w.0 is,
+      )
+  explained doubted text reading.Broken r h = absurd (unbroken rest s s' text r)
+  explained doubted text reading.Full r h = cc
 
   refused : (text : List ℕ) (e : Ended) (fault : SetupFault) → ReadsUpTo (gives rest) s most_bytes text e s'
       → ExplainsReading (takes bytes) e text t t' (Err (Setup fault)) → ExplainsRefusal (rest s) (bytes t')
@@ -150,13 +174,14 @@ module _ {S T : Type 0} (rest : S → List ℕ) (bytes : T → List ℕ) (s s' :
         subst (λ b. MatchBool b (IsRefusal (rest s) fault (bytes t' ++ front.0)) (bytes t' ++ front.0 ≡ size_words)) (sym (lt-leb (length (rest s)) most_bytes many)) front.1,
       )
 
-  pub explanation_made : (answer : Result (Unit {0}) RunFault) (made : Made)
-      → Explains (gives rest) (takes bytes) s s' t t' answer → IsMade answer (bytes t') made
+  pub explanation_made : (answer : Result Bool RunFault) (made : Made)
+      → Explains (gives rest) (takes bytes) s s' t t' answer → IsMade (without_answer answer) (bytes t') made
       → ByMade (IsOfBus (rest s) (IsExplanationOf (rest s))) (ExplainsRefusal (rest s)) made
-  explanation_made answer (Output v) h m =
-      let r : Explains (gives rest) (takes bytes) s s' t t' (Ok tt) = subst (λ a. Explains (gives rest) (takes bytes) s s' t t' a) m.0 h in
-      subst (IsOfBus (rest s) (IsExplanationOf (rest s))) (sym m.1) (explained r.0 r.1 r.2 r.3)
+  explanation_made (Ok doubted) (Output v) r m =
+      subst (IsOfBus (rest s) (IsExplanationOf (rest s))) (sym m.1) (explained doubted r.0 r.1 r.2 r.3)
+  explanation_made (Err fault) (Output v) r m = cc
   explanation_made answer (Refusal v) h m =
-      let r : Explains (gives rest) (takes bytes) s s' t t' (Err (Setup m.0)) = subst (λ a. Explains (gives rest) (takes bytes) s s' t t' a) m.1 h in
+      let r : Explains (gives rest) (takes bytes) s s' t t' (Err (Setup m.0)) =
+      subst (λ a. Explains (gives rest) (takes bytes) s s' t t' a) (same_refusal m.0 answer m.1) h in
       subst (ExplainsRefusal (rest s)) (sym m.2) (refused r.0 r.1 m.0 r.2 r.3)
   explanation_made answer OutOfMemory h m = tt

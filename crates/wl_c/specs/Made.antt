@@ -15,7 +15,7 @@ IsMade answer bytes (Output said) = (answer ≡ Ok tt) × (said.items ≡ bytes)
 IsMade answer bytes (Refusal said) = (fault : SetupFault) × (answer ≡ Err (Setup fault)) × (said.items ≡ bytes)
 IsMade answer bytes OutOfMemory = Unit {0}
 
--- whether a run wrote its output, without what it answered: why a run of traffic didn't work, or whether all deadlines are met
+-- whether a run wrote its output, without what it answered: as why a run of traffic didn't work, or whether all deadlines are met
 abbrev pub without_answer : {A : Type 0} → Result A RunFault → Result (Unit {0}) RunFault
 without_answer (Ok answer) = Ok tt
 without_answer (Err fault) = Err fault

@@ -1,5 +1,5 @@
 -- What the commands say of a plan's text (this project's profile).
-use Rattle.std.specs.Prelude.{◌≡◌, ◌≢◌, ◌≤◌, nat_le, ℕ, false, MatchBool, List, [], ◌++◌, length, if◌then◌else◌, Result, Ok, Err}
+use Rattle.std.specs.Prelude.{◌≡◌, ◌≢◌, ◌≤◌, nat_le, ℕ, Bool, false, MatchBool, List, [], ◌++◌, length, if◌then◌else◌, Result, Ok, Err}
 use Rattle.wl_plan.specs.declared.plan.Plan.{Plan}
 use Rattle.wl_setup.specs.Buses.{bus_of_text}
 use Rattle.wl_setup.specs.Check.{IsPlanCheck}
@@ -39,9 +39,13 @@ module _ (text : List ℕ) where
   abbrev pub IsOfPlan : (Plan → List (List ℕ) → List ℕ → Type 0) → List ℕ → Type 0
   IsOfPlan IsOutput said = (plan : Plan) × (names : List (List ℕ)) × (plan_read text ≡ Ok (plan, names)) × IsOutput plan names said
 
-  -- the output of a bus
-  abbrev pub IsOfBus : (Bus → List ℕ → Type 0) → List ℕ → Type 0
-  IsOfBus IsOutput said = (bus : Bus) × (bus_read text ≡ Ok bus) × IsOutput bus said
+  -- that of a plan's simulation, which goes with an answer
+  abbrev pub IsOfRun : (Plan → List (List ℕ) → List ℕ → Bool → Type 0) → List ℕ → Type 0
+  IsOfRun IsOutput said = (answer : Bool) × IsOfPlan (λ plan names said. IsOutput plan names said answer) said
+
+  -- the output of a bus, which goes with an answer
+  abbrev pub IsOfBus : (Bus → List ℕ → Bool → Type 0) → List ℕ → Type 0
+  IsOfBus IsOutput said = (answer : Bool) × (bus : Bus) × (bus_read text ≡ Ok bus) × IsOutput bus said answer
 
   -- the output of a command that has an answer besides
   module _ {A : Type 0} (IsSaid : (text said : List ℕ) → A → Type 0) where
@@ -50,7 +54,7 @@ module _ (text : List ℕ) where
 
   -- the output of a command
   abbrev pub IsOutputOf : Task → List ℕ → Type 0
-  IsOutputOf Run said = IsOfPlan IsRunOutput said
+  IsOutputOf Run said = IsOfRun IsRunOutput said
   IsOutputOf Check said = IsOfPlan IsPlanCheck said
   IsOutputOf Explain said = IsOfBus (IsExplanationOf text) said
   IsOutputOf (Margin tick all) said = IsOfBus (IsMarginOutput tick all) said

@@ -32,13 +32,24 @@ fn made_by(answer: Result<(), RunFault>, kept: Kept) -> Made
     }
 }
 
+/// Returns whether a run wrote its output, without what it answered beside that.
+fn without_answer<A: Copy>(answer: Result<A, RunFault>) -> Result<(), RunFault>
+    ensures { result ≡ without_answer answer }
+{
+    match answer {
+        Ok(_) => Ok(()),
+        Err(fault) => Err(fault),
+    }
+}
+
 /// Returns the report of a plan's simulation.
 fn run_of(alloc: Global, text: &[u8]) -> Made
     ensures { Makes Task.Run text.now result }
 {
     let mut reader = TextReader { rest: text };
     let mut kept = Kept::new(alloc);
-    let answer = plan_run(alloc, &mut reader, &mut kept);
+    let found = plan_run(alloc, &mut reader, &mut kept);
+    let answer = without_answer(found);
     made_by(answer, kept)
 }
 
@@ -58,7 +69,8 @@ fn explanation_of(alloc: Global, text: &[u8]) -> Made
 {
     let mut reader = TextReader { rest: text };
     let mut kept = Kept::new(alloc);
-    let answer = explain_run(alloc, &mut reader, &mut kept);
+    let found = explain_run(alloc, &mut reader, &mut kept);
+    let answer = without_answer(found);
     made_by(answer, kept)
 }
 
@@ -68,18 +80,9 @@ fn margin_of(alloc: Global, tick: Tick, all_send: bool, text: &[u8]) -> Made
 {
     let mut reader = TextReader { rest: text };
     let mut kept = Kept::new(alloc);
-    let answer = margin_run(alloc, tick, all_send, &mut reader, &mut kept);
+    let found = margin_run(alloc, tick, all_send, &mut reader, &mut kept);
+    let answer = without_answer(found);
     made_by(answer, kept)
-}
-
-/// Returns whether a run wrote its output, without what it answered beside that.
-fn without_answer<A: Copy>(answer: Result<A, RunFault>) -> Result<(), RunFault>
-    ensures { result ≡ without_answer answer }
-{
-    match answer {
-        Ok(_) => Ok(()),
-        Err(fault) => Err(fault),
-    }
 }
 
 /// Returns the traffic of a plan's simulation.

@@ -1,6 +1,5 @@
 -- The answer of a text by its document, and what is said of one that is refused.
-use Rattle.std.proofs.Common.{◌≡◌, ◌≤◌, ◌∙◌, ℕ, List, Some, None, Result, Ok, Err, ap, length, subst, sym, take}
-use Rattle.std.specs.Prelude.{IfOk, MatchResult, Vec}
+use Rattle.std.proofs.Common.{◌≡◌, ◌≤◌, ◌∙◌, ℕ, Bool, List, Some, None, Result, Ok, Err, ap, length, subst, sym, take}
 use Rattle.toml.specs.Data.{Members}
 use Rattle.wl_device.specs.Devices.{Answer}
 use Rattle.wl_setup.specs.declared.bus.Bus.{Bus}
@@ -12,7 +11,7 @@ use Rattle.wl_setup.specs.Plans.{after}
 use Rattle.wl_setup.specs.Reading.{document_answer, document_of}
 use Rattle.wl_explain.specs.Refusals.{IsDocumentRefusal, IsRefusal, refusal_words, toml_words}
 use Rattle.wl_engines.specs.Explained.{ExplainsText, IsExplanationOf, bus_answer}
-use Rattle.wl_engines.specs.Output.{WritesText}
+use Rattle.wl_engines.specs.Output.{OutputsWith}
 use Rattle.wl_engines.specs.declared.fault.RunFault.{RunFault}
 use Rattle.wl_engines.specs.declared.fault.RunFault.TheVariants.{Text, Setup, Work, Write, Memory}
 
@@ -28,15 +27,13 @@ no_answer text none = ap (λ o. after (document_answer o) bus_of_text) none
 pub no_toml : (text : List ℕ) (place : ℕ) (said : List ℕ) → document_of text ≡ None → place ≤ length text → said ≡ toml_words (take place text) → IsRefusal text Toml said
 no_toml text place said none within same = subst (λ o. IsDocumentRefusal o text Toml said) (sym none) (place, within, same)
 
--- the doubts of a text's bus were made and went out, or memory ran out
+-- the doubts of a text's bus went out, or memory ran out
 module _ {T : Type 0} (takes : T → Answer → T → Type 0) (t t' : T) where
-  pub explains_bus : {Z E : Type 0} (text : List ℕ) (bus : Bus) → bus_answer text ≡ Ok bus → (made : Result (Vec ℕ Z) E) (r : Result (Unit {0}) RunFault)
-      → IfOk made (λ said. IsExplanationOf text bus said.items) → MatchResult made (λ said. WritesText takes said.items t t' r) (λ e. (r ≡ Err Memory) × (t' ≡ t))
-      → ExplainsText takes text t t' r
-  explains_bus text bus answer (Ok said) (Ok u) is wrote = (bus, said.items, answer, is, wrote)
-  explains_bus text bus answer (Ok said) (Err Write) is wrote = (wrote.0, (bus, said.items, answer, is, wrote.1))
-  explains_bus text bus answer (Ok said) (Err Memory) is wrote = absurd wrote
-  explains_bus text bus answer (Ok said) (Err (Text fault)) is wrote = absurd wrote
-  explains_bus text bus answer (Ok said) (Err (Setup fault)) is wrote = absurd wrote
-  explains_bus text bus answer (Ok said) (Err (Work fault)) is wrote = absurd wrote
-  explains_bus text bus answer (Err e) r is none = subst (λ (r : Result (Unit {0}) RunFault). ExplainsText takes text t t' r) (sym none.0) none.1
+  pub explains_bus : (text : List ℕ) (bus : Bus) → bus_answer text ≡ Ok bus → (r : Result Bool RunFault)
+      → OutputsWith takes (IsExplanationOf text bus) t t' r → ExplainsText takes text t t' r
+  explains_bus text bus answer (Ok doubted) h = (bus, h.0, answer, h.1, h.2)
+  explains_bus text bus answer (Err Write) h = (h.0, h.1, (bus, h.2.0, answer, h.2.1, h.2.2))
+  explains_bus text bus answer (Err Memory) h = h
+  explains_bus text bus answer (Err (Text fault)) h = absurd h.0
+  explains_bus text bus answer (Err (Setup fault)) h = absurd h.0
+  explains_bus text bus answer (Err (Work fault)) h = absurd h.0

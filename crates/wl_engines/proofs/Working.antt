@@ -1,12 +1,13 @@
 -- Runs of workers.
-use Rattle.std.proofs.Common.{◌≡◌, ℕ, Bool, List, Result, Ok, Err, sym, subst}
-use Rattle.std.specs.Prelude.{IfErr, IfOk, MatchResult, Vec}
+use Rattle.std.proofs.Common.{◌≡◌, ◌∙◌, ℕ, Bool, List, Result, Ok, Err, sym, subst}
+use Rattle.std.specs.Prelude.{IfErr, IfOk, MatchResult}
 use Rattle.wl_device.specs.Devices.{Answer}
 use Rattle.wl_plan.specs.declared.plan.Plan.{Plan}
 use Rattle.wl_setup.specs.Plans.{GivesPlan}
 use Rattle.wl_engines.specs.declared.fault.RunFault.{RunFault}
 use Rattle.wl_engines.specs.declared.fault.RunFault.TheVariants as run
-use Rattle.wl_engines.specs.Output.{WritesText}
+use Rattle.wl_engines.specs.declared.plan.Report.{Report}
+use Rattle.wl_engines.specs.Output.{WritesAnswer}
 use Rattle.wl_engines.specs.Plans.{IsReportOutput}
 use Rattle.wl_engines.specs.Workers.{CanWork, IsWorkFault, RunsByWorkersAs}
 
@@ -21,16 +22,18 @@ module _ {S T : Type 0} (gives : S → Answer → S → Type 0) (takes : T → A
   ended plan names given (run.Setup fault) h same = absurd h
 
   -- the report of the workers went out, or there is none
-  pub runs_work : {Z : Type 0} (plan : Plan) (names : List (List ℕ)) → GivesPlan gives s (Ok (plan, names)) s'
-      → (made : Result (Vec ℕ Z) RunFault) → IfOk made (λ text. IsReportOutput brief plan names text.items) → IfOk made (λ text. CanWork workers)
-      → IfErr made (IsWorkFault workers) → (r : Result (Unit {0}) RunFault)
-      → MatchResult made (λ text. WritesText takes text.items t t' r) (λ fault. (r ≡ Err fault) × (t' ≡ t))
+  pub runs_work : (plan : Plan) (names : List (List ℕ)) → GivesPlan gives s (Ok (plan, names)) s'
+      → (made : Result Report RunFault) → IfOk made (λ x. IsReportOutput brief plan names x.text.items x.clean) → IfOk made (λ x. CanWork workers)
+      → IfErr made (IsWorkFault workers) → (r : Result Bool RunFault)
+      → MatchResult made (λ x. WritesAnswer takes x.text.items x.clean t t' r) (λ fault. (r ≡ Err fault) × (t' ≡ t))
       → RunsByWorkersAs gives takes brief workers s s' t t' r
-  runs_work plan names given (Ok text) is can fault (Ok u) wrote = (can, (plan, names, text.items, given, is, wrote))
-  runs_work plan names given (Ok text) is can fault (Err run.Write) wrote = (wrote.0, (can, (plan, names, text.items, given, is, wrote.1)))
-  runs_work plan names given (Ok text) is can fault (Err run.Memory) wrote = absurd wrote
-  runs_work plan names given (Ok text) is can fault (Err (run.Text other)) wrote = absurd wrote
-  runs_work plan names given (Ok text) is can fault (Err (run.Setup other)) wrote = absurd wrote
-  runs_work plan names given (Ok text) is can fault (Err (run.Work other)) wrote = absurd wrote
+  runs_work plan names given (Ok x) is can fault (Ok clean) wrote =
+      (can, (plan, names, x.text.items, given, (is.0, wrote.0 ∙ is.1), wrote.1))
+  runs_work plan names given (Ok x) is can fault (Err run.Write) wrote =
+      (x.clean, wrote.0, (can, (plan, names, x.text.items, given, is, wrote.1)))
+  runs_work plan names given (Ok x) is can fault (Err run.Memory) wrote = absurd wrote
+  runs_work plan names given (Ok x) is can fault (Err (run.Text other)) wrote = absurd wrote
+  runs_work plan names given (Ok x) is can fault (Err (run.Setup other)) wrote = absurd wrote
+  runs_work plan names given (Ok x) is can fault (Err (run.Work other)) wrote = absurd wrote
   runs_work plan names given (Err e) is can fault r none =
-      subst (λ (r : Result (Unit {0}) RunFault). RunsByWorkersAs gives takes brief workers s s' t t' r) (sym none.0) (ended plan names given e fault none.1)
+      subst (λ (r : Result Bool RunFault). RunsByWorkersAs gives takes brief workers s s' t t' r) (sym none.0) (ended plan names given e fault none.1)

@@ -4,7 +4,7 @@ use Rattle.wl_device.specs.Devices.{Answer, Writes}
 use Rattle.wl_device.specs.declared.device.WriteFault.{WriteFault}
 use Rattle.wl_engines.specs.declared.fault.RunFault.{RunFault}
 use Rattle.wl_engines.specs.declared.fault.RunFault.TheVariants.{Write}
-use Rattle.wl_engines.specs.Ran.{Ran}
+use Rattle.wl_engines.specs.Ran.{Ran, RanWith}
 
 module _ {T : Type 0} (takes : T → Answer → T → Type 0) where
   -- a text went out, as far as it went
@@ -26,3 +26,11 @@ module _ {T : Type 0} (takes : T → Answer → T → Type 0) where
   -- that, or memory ran out and the writer wasn't called
   abbrev pub Outputs : (List ℕ → Type 0) → T → T → Result (Unit {0}) RunFault → Type 0
   Outputs IsText t t' = Ran (λ fault. ⊥) (WritesSome IsText t t') t t'
+
+  -- some text that goes with an answer went out, as far as it went
+  abbrev pub WritesSomeWith : {A : Type 0} → (List ℕ → A → Type 0) → T → T → A → Result (Unit {0}) WriteFault → Type 0
+  WritesSomeWith IsText t t' answer r = (text : List ℕ) × IsText text answer × Writes takes t text r t'
+
+  -- that, or memory ran out and the writer wasn't called
+  abbrev pub OutputsWith : {A : Type 0} → (List ℕ → A → Type 0) → T → T → Result A RunFault → Type 0
+  OutputsWith IsText t t' = RanWith (λ fault. ⊥) (WritesSomeWith IsText t t') t t'

@@ -35,7 +35,7 @@ use Rattle.wl_engines.specs.declared.run_page.RunTexts.{RunTexts}
 -- the report has no lines of frames, and trace and waveform are those of the window that is shown.
 unfoldable pub IsPage : Tick → Option Window → List ℕ → Bus → List ℕ → Type 0
 IsPage tick asked text bus whole =
-    (plain : PlanText) × (figures settings margin traffic : List ℕ) × (text_answer text ≡ Ok plain) × IsExplanation plain bus figures
+    (plain : PlanText) × (figures settings margin traffic : List ℕ) × (text_answer text ≡ Ok plain) × ((doubted : Bool) × IsExplanation plain bus figures doubted)
     × IsPlanCheck bus.plan bus.names settings × IsMarginText (tick_picoseconds tick) bus margin × IsTrafficOfBus tick plain bus traffic
     × (whole ≡ page_of (record {
       figures = figures;
@@ -52,7 +52,7 @@ IsPage tick asked text bus whole =
 -- what is shown of a bus without a run
 abbrev pub ShowsBus : Tick → PlanText → Bus → BusTexts → Type 0
 ShowsBus tick plain bus texts =
-    IsExplanation plain bus (string_bytes texts.figures) × IsPlanCheck bus.plan bus.names (string_bytes texts.settings)
+    ((doubted : Bool) × IsExplanation plain bus (string_bytes texts.figures) doubted) × IsPlanCheck bus.plan bus.names (string_bytes texts.settings)
     × IsMarginText (tick_picoseconds tick) bus (string_bytes texts.margin)
 
 -- what is shown of a window of a run

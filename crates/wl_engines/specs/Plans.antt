@@ -1,6 +1,6 @@
 -- Runs over a plan's text: the plan is read, and what it means goes out (this project's profile).
 use Rattle.std.specs.Prelude.{◌≡◌, ◌≢◌, ℕ, Bool, true, false, List, [], map, All, None, Result, Ok, Err}
-use Rattle.std.specs.List.{filter}
+use Rattle.std.specs.List.{filter, list_all}
 use Rattle.wl_device.specs.Devices.{Answer, Writes}
 use Rattle.wl_device.specs.declared.device.WriteFault.{WriteFault}
 use Rattle.wl_record_core.specs.declared.record.Record.{Record}
@@ -14,7 +14,7 @@ use Rattle.wl_plan.specs.PlanLine.{IsTrueOfPlan}
 use Rattle.wl_serial.specs.declared.outcome.NodeTotals.{NodeTotals}
 use Rattle.wl_serial.specs.Outcome.{outcome_of, totals_of}
 use Rattle.wl_serial.specs.Records.{outcome_records}
-use Rattle.wl_report.specs.Report.{report_text}
+use Rattle.wl_report.specs.Report.{is_clean, report_text}
 use Rattle.wl_views.specs.declared.tick.Tick.{Tick}
 use Rattle.wl_views.specs.Candump.{log_text}
 use Rattle.wl_views.specs.ErrorFrames.{error_log}
@@ -27,7 +27,7 @@ use Rattle.wl_setup.specs.declared.fault.SetupFault.TheVariants as setup
 use Rattle.wl_setup.specs.Plans.{GivesPlan}
 use Rattle.wl_engines.specs.declared.fault.RunFault.{RunFault}
 use Rattle.wl_engines.specs.declared.fault.RunFault.TheVariants.{Setup}
-use Rattle.wl_engines.specs.Ran.{Ran}
+use Rattle.wl_engines.specs.Ran.{Ran, RanWith}
 
 -- the window that has each tick
 abbrev pub whole : Window
@@ -57,9 +57,13 @@ IsRecordsWithin window plan names text =
 abbrev pub IsRecordsOutput : Plan → List (List ℕ) → List ℕ → Type 0
 IsRecordsOutput = IsRecordsWithin whole
 
--- the report of the one-thread simulation
-abbrev pub IsRunOutput : Plan → List (List ℕ) → List ℕ → Type 0
-IsRunOutput plan names text = text ≡ report_text (totals_of (outcome_of plan))
+-- the verdict of the report of the one-thread simulation is clean
+abbrev pub is_clean_run : Plan → Bool
+is_clean_run plan = list_all is_clean (totals_of (outcome_of plan))
+
+-- the report of the one-thread simulation, and whether its verdict is clean
+abbrev pub IsRunOutput : Plan → List (List ℕ) → List ℕ → (clean : Bool) → Type 0
+IsRunOutput plan names text clean = (text ≡ report_text (totals_of (outcome_of plan))) × (clean ≡ is_clean_run plan)
 
 -- what a report says of a node through which no frame passed
 abbrev pub without_frames : NodeTotals → NodeTotals
@@ -71,8 +75,9 @@ shown_totals false totals = totals
 shown_totals true totals = map without_frames totals
 
 -- the report, or, if it is to be brief, the report without the lines of frames
-abbrev pub IsReportOutput : (brief : Bool) → Plan → List (List ℕ) → List ℕ → Type 0
-IsReportOutput brief plan names text = text ≡ report_text (shown_totals brief (totals_of (outcome_of plan)))
+abbrev pub IsReportOutput : (brief : Bool) → Plan → List (List ℕ) → List ℕ → (clean : Bool) → Type 0
+IsReportOutput brief plan names text clean =
+    (text ≡ report_text (shown_totals brief (totals_of (outcome_of plan)))) × (clean ≡ is_clean_run plan)
 
 -- the log of the frames that the one-thread simulation sends within a window, at ticks that last so long, if tick 0 is at this second
 abbrev pub IsCandumpWithin : Tick → ℕ → Window → Plan → List (List ℕ) → List ℕ → Type 0
@@ -121,3 +126,12 @@ module _ {S T : Type 0} (gives : S → Answer → S → Type 0) (takes : T → A
   -- what a run over a plan did
   abbrev pub RunsPlan : Result (Unit {0}) RunFault → Type 0
   RunsPlan = Ran RefusesPlan WritesOutput t t'
+
+module _ {A S T : Type 0} (gives : S → Answer → S → Type 0) (takes : T → Answer → T → Type 0) (IsOutput : Plan → List (List ℕ) → List ℕ → A → Type 0) (s s' : S) (t t' : T) where
+  -- an output that goes with an answer went out, as far as it went
+  abbrev pub WritesOutputWith : A → Result (Unit {0}) WriteFault → Type 0
+  WritesOutputWith answer = WritesOutput gives takes (λ plan names text. IsOutput plan names text answer) s s' t t'
+
+  -- what a run over a plan did that answers something
+  abbrev pub RunsPlanWith : Result A RunFault → Type 0
+  RunsPlanWith = RanWith (RefusesPlan gives takes (λ plan names text. Unit {0}) s s' t t') WritesOutputWith t t'

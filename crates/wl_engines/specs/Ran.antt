@@ -11,3 +11,11 @@ module _ {T : Type 0} (Refuses : RunFault → Type 0) (Wrote : Result (Unit {0})
   Ran (Err Write) = (fault : WriteFault) × Wrote (Err fault)
   Ran (Err Memory) = t' ≡ t
   Ran (Err fault) = Refuses fault × (t' ≡ t)
+
+-- The same of a run that answers something, which goes with its output.
+module _ {A T : Type 0} (Refuses : RunFault → Type 0) (Wrote : A → Result (Unit {0}) WriteFault → Type 0) (t t' : T) where
+  abbrev pub RanWith : Result A RunFault → Type 0
+  RanWith (Ok answer) = Wrote answer (Ok tt)
+  RanWith (Err Write) = (answer : A) × (fault : WriteFault) × Wrote answer (Err fault)
+  RanWith (Err Memory) = t' ≡ t
+  RanWith (Err fault) = Refuses fault × (t' ≡ t)

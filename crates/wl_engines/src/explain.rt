@@ -1,24 +1,25 @@
 //! The explanation of a plan.
-ghost use Rattle.std.specs.Prelude.{◌≡◌, ◌≤◌, ℕ, List, Some, Err, IfOk, length};
+ghost use Rattle.std.specs.Prelude.{◌≡◌, ◌≤◌, ℕ, List, Some, Err, IfOk, length, string_bytes};
 ghost use Rattle.toml.specs.View.{table_view};
 ghost use Rattle.wl_setup.specs.Buses.{IsBusOf};
 ghost use Rattle.wl_setup.specs.Limits.{most_bytes};
 ghost use Rattle.wl_setup.specs.Reading.{document_of};
 ghost use Rattle.wl_engines.specs.Explained.{Explains, ExplainsText, IsExplanationOf};
+ghost use Rattle.wl_engines.specs.Output.{OutputsWith};
 
 use crate::fault::RunFault;
-use crate::output::write_made;
+use crate::output::write_answer;
 use crate::respond::plain_of;
 use std::alloc::{AllocError, Global};
 use toml::Table;
 use wl_device::{Ended, Sink, Source, write_all};
-use wl_explain::{explain_fault, explain_plan, explain_size, explain_toml};
+use wl_explain::{Explanation, explain_fault, explain_plan, explain_size, explain_toml};
 use wl_setup::{
     Bus, NoDocument, PlacedFault, SetupFault, bus_of_document, document_or_place, read_bytes,
 };
 
 /// Reads a plan's text, tests whether the plan can be run, and writes what is doubtful of it and its bus, one a line, and then the figures.
-/// Of a plan that is refused it writes what is wrong and what to change, and returns the fault whether or not the writer took all of that.
+/// Returns whether anything is doubtful. Of a plan that is refused it writes what is wrong and what to change, and returns the fault whether or not the writer took all of that.
 ///
 /// The whole output is made before the first write. If the reader failed, or memory runs out, the writer isn't called; if the writer fails,
 /// a prefix of the output has been written.
@@ -26,7 +27,7 @@ pub fn explain_run<R: Source, W: Sink>(
     alloc: Global,
     reader: &mut R,
     writer: &mut W,
-) -> Result<(), RunFault>
+) -> Result<bool, RunFault>
     ensures { Explains R.gives W.takes reader.old reader.new writer.old writer.new result }
 {
     let (text, ended) = read_bytes(alloc, reader)?;
@@ -42,13 +43,28 @@ pub fn explain_run<R: Source, W: Sink>(
 }
 
 /// Returns what is doubtful of a text's bus, and its figures.
-fn doubts_of(alloc: Global, text: &[u8], bus: &Bus) -> Result<Vec<u8>, AllocError>
+fn doubts_of(alloc: Global, text: &[u8], bus: &Bus) -> Result<Explanation, AllocError>
     requires size { length text.now ≤ most_bytes }
     requires deviations { length bus.now.deviations ≡ length bus.now.plan.nodes }
-    ensures { IfOk result (λ said. IsExplanationOf text.now bus.now said.items) }
+    ensures { IfOk result (λ e. IsExplanationOf text.now bus.now (string_bytes e.text) e.doubted) }
 {
     let plain = plain_of(alloc, text)?;
-    Ok(explain_plan(alloc, &plain, bus)?.into_bytes())
+    explain_plan(alloc, &plain, bus)
+}
+
+/// Writes what is doubtful of a text's bus, and its figures, and returns whether anything is doubtful.
+fn write_doubts<W: Sink>(
+    alloc: Global,
+    text: &[u8],
+    bus: &Bus,
+    writer: &mut W,
+) -> Result<bool, RunFault>
+    requires size { length text.now ≤ most_bytes }
+    requires deviations { length bus.now.deviations ≡ length bus.now.plan.nodes }
+    ensures { OutputsWith W.takes (IsExplanationOf text.now bus.now) writer.old writer.new result }
+{
+    let explained = doubts_of(alloc, text, bus)?;
+    write_answer(explained.doubted, explained.text.as_bytes(), writer)
 }
 
 /// Writes what is wrong with a plan's document and what to change, and returns its fault.
@@ -57,7 +73,7 @@ fn write_refusal<W: Sink>(
     top: &Table,
     placed: PlacedFault,
     writer: &mut W,
-) -> Result<(), RunFault>
+) -> Result<bool, RunFault>
     requires { IsBusOf (table_view top.now) (Err placed) }
     ensures { (text : List ℕ) → document_of text ≡ Some (table_view top.now)
         → ExplainsText W.takes text writer.old writer.new result }
@@ -76,19 +92,19 @@ fn explain_document<W: Sink>(
     text: &[u8],
     top: &Table,
     writer: &mut W,
-) -> Result<(), RunFault>
+) -> Result<bool, RunFault>
     requires size { length text.now ≤ most_bytes }
     requires document { document_of text.now ≡ Some (table_view top.now) }
     ensures { ExplainsText W.takes text.now writer.old writer.new result }
 {
     match bus_of_document(alloc, top) {
-        Ok(bus) => write_made(doubts_of(alloc, text, &bus), writer),
+        Ok(bus) => write_doubts(alloc, text, &bus, writer),
         Err(placed) => write_refusal(alloc, top, placed, writer),
     }
 }
 
 /// Writes the explanation of a plan's text that was read whole.
-fn explain_text<W: Sink>(alloc: Global, text: &[u8], writer: &mut W) -> Result<(), RunFault>
+fn explain_text<W: Sink>(alloc: Global, text: &[u8], writer: &mut W) -> Result<bool, RunFault>
     requires { length text.now ≤ most_bytes }
     ensures { ExplainsText W.takes text.now writer.old writer.new result }
 {

@@ -58,7 +58,7 @@ fn bus_texts(alloc: Global, tick: Tick, plain: &PlanText, bus: &Bus) -> Result<B
     ensures { IfOk result (ShowsBus tick plain.now bus.now) }
 {
     let margin = margin_of(alloc, tick.picoseconds(), bus)?;
-    let figures = explain_found(alloc, plain, bus, margin.headroom)?;
+    let figures = explain_found(alloc, plain, bus, margin.headroom)?.text;
     let settings = check_plan(alloc, &bus.plan, &bus.names)?;
     Ok(BusTexts {
         figures,

@@ -6,7 +6,6 @@ ghost use Rattle.wl_engines.specs.View.{IsOutputOf};
 use crate::check::check_text;
 use crate::fault::RunFault;
 use crate::output::write_made;
-use crate::plan::report_of;
 use crate::records::records_text;
 use crate::views::{error_log_text, log_text, trace_text, write_wave};
 use std::alloc::Global;
@@ -25,8 +24,6 @@ pub(crate) enum View {
     Check,
     /// The records of its simulation within a window.
     Records(Window),
-    /// The report of its simulation, or, if it is to be brief, without the lines of frames.
-    Report(bool),
     /// What happened to each node, as far as it is picked.
     Trace(Pick),
     /// The log of the frames that were sent within a window, at ticks that take so long, the first of them at this second.
@@ -50,7 +47,6 @@ fn write_view<W: Sink>(
     match view {
         View::Check => write_made(check_text(alloc, plan, names), writer),
         View::Records(window) => write_made(records_text(alloc, window, plan), writer),
-        View::Report(brief) => write_made(report_of(alloc, brief, plan), writer),
         View::Trace(pick) => write_made(trace_text(alloc, pick, plan, names), writer),
         View::Candump(tick, from, window) => {
             write_made(log_text(alloc, tick, from, window, plan), writer)
