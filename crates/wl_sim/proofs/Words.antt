@@ -55,17 +55,17 @@ module _ {S T : Type 0} (gives : S → Answer → S → Type 0) (takes : T → A
   does_nothing s s' t t' Check g h = (Err run.Memory, h, refl)
   does_nothing s s' t t' Upgrade g h = (Err print.Memory, inl (h, inl refl), refl)
   does_nothing s s' t t' (Records window) g h = (Err run.Memory, h, refl)
-  does_nothing s s' t t' (Run workers kind brief) g h = (Err run.Memory, both_same (workers == 1) h, refl)
-  does_nothing s s' t t' Explain g h = (Err run.Memory, h, refl)
+  does_nothing s s' t t' (Run workers kind brief strict) g h = (Err run.Memory, both_same (workers == 1) h, refl)
+  does_nothing s s' t t' (Explain strict) g h = (Err run.Memory, h, refl)
   does_nothing s s' t t' (Trace pick) g h = (Err run.Memory, h, refl)
   does_nothing s s' t t' (Candump tick from errors window) g h = (Err run.Memory, h, refl)
   does_nothing s s' t t' (Vcd tick window) g h = (Err run.Memory, h, refl)
   does_nothing s s' t t' (Page tick window) g h = (Err run.Memory, h, refl)
-  does_nothing s s' t t' (Margin tick all) g h = (Err run.Memory, h, refl)
+  does_nothing s s' t t' (Margin tick all strict) g h = (Err run.Memory, h, refl)
   does_nothing s s' t t' (Respond tick any strict) g h = (Err run.Memory, h, refl)
   does_nothing s s' t t' (Traffic tick strict) g h = (Err run.Memory, h, refl)
   does_nothing s s' t t' (Judge tick explain) g h = (Err run.Memory, h, refl)
-  does_nothing s s' t t' (Settings tick shown) g h = (Err settings.Memory, inl (h, inl refl), refl)
+  does_nothing s s' t t' (Settings tick shown strict) g h = (Err settings.Memory, inl (h, inl refl), refl)
   does_nothing s s' t t' (Sweep swept) g h = swept_nothing s s' t t' swept swept.join swept.part h
 
 -- what is done over an order without files is done over the standard devices

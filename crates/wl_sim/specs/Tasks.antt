@@ -21,7 +21,7 @@ use Rattle.wl_engines.specs.Judged.{RunsJudge}
 use Rattle.wl_engines.specs.Margin.{IsMarginOutput, RunsBus}
 use Rattle.wl_engines.specs.Merge.{Merges}
 use Rattle.wl_engines.specs.Paged.{PagesWithin}
-use Rattle.wl_engines.specs.Plans.{RunsPlan, IsRecordsWithin, IsReportOutput, IsTracePicked, IsLogAs, IsVcdWithin}
+use Rattle.wl_engines.specs.Plans.{RunsPlan, RunsPlanWith, IsRecordsWithin, IsReportOutput, IsTracePicked, IsLogAs, IsVcdWithin}
 use Rattle.wl_engines.specs.Responded.{Responds}
 use Rattle.wl_engines.specs.TrafficRun.{RunsTraffic}
 use Rattle.wl_engines.specs.Workers.{RunsByWorkersAs}
@@ -116,9 +116,12 @@ of_settings_fault settings.Write = fault.Run run.Write
 of_settings_fault settings.Memory = fault.Run run.Memory
 of_settings_fault f = fault.Settings f
 
-abbrev pub of_settings : Result (Unit {0}) SettingsFault → Result Done Fault
-of_settings (Ok u) = Ok Plain
-of_settings (Err f) = Err (of_settings_fault f)
+-- what is answered for a search for settings: if the status is to say so, whether each controller has one
+abbrev pub of_settings : (strict : Bool) → Result Bool SettingsFault → Result Done Fault
+of_settings strict (Ok true) = Ok Plain
+of_settings true (Ok false) = Ok Unclean
+of_settings false (Ok false) = Ok Plain
+of_settings strict (Err f) = Err (of_settings_fault f)
 
 -- a fault of writing a plan in version 4: of its text, its devices or memory it is that of any engine; else it is one of the plan
 abbrev pub of_format_fault : PrintFault → Fault
@@ -148,12 +151,19 @@ of_traffic true (Ok reason) = Ok Unclean
 of_traffic false (Ok reason) = Ok Plain
 of_traffic strict (Err f) = Err (fault.Run f)
 
--- what is answered for the waits of a plan: if the status is to say so, whether all deadlines are met
-abbrev pub of_respond : (strict : Bool) → Result Bool RunFault → Result Done Fault
-of_respond strict (Ok true) = Ok Plain
-of_respond true (Ok false) = Ok Unclean
-of_respond false (Ok false) = Ok Plain
-of_respond strict (Err f) = Err (fault.Run f)
+-- what is answered for a verdict, if the status is to say so: whether all deadlines are met, the condition holds, or a report is clean
+abbrev pub of_verdict : (strict : Bool) → Result Bool RunFault → Result Done Fault
+of_verdict strict (Ok true) = Ok Plain
+of_verdict true (Ok false) = Ok Unclean
+of_verdict false (Ok false) = Ok Plain
+of_verdict strict (Err f) = Err (fault.Run f)
+
+-- what is answered for an explanation: if the status is to say so, whether nothing is doubtful
+abbrev pub of_doubts : (strict : Bool) → Result Bool RunFault → Result Done Fault
+of_doubts strict (Ok false) = Ok Plain
+of_doubts true (Ok true) = Ok Unclean
+of_doubts false (Ok true) = Ok Plain
+of_doubts strict (Err f) = Err (fault.Run f)
 
 -- what is answered for the judgement on a bus: whether it works
 abbrev pub of_judge : Result Judgement RunFault → Result Done Fault
@@ -163,7 +173,7 @@ of_judge (Ok judged.NotByCondition) = Ok Unclean
 of_judge (Ok judged.NotKnown) = Ok Unknown
 of_judge (Err f) = Err (fault.Run f)
 
--- the status of a run: 0; 1 where the input was refused for what it says, some member of a sweep isn't clean, a strict run doesn't work, or a bus that is judged doesn't; 4 if that isn't known; 2 where its plan doesn't allow the words of a sweep, or there is no plan for those of `init`;
+-- the status of a run: 0; 1 where the input was refused for what it says, some member of a sweep isn't clean, what is strict says no, or a bus that is judged doesn't work; 4 if that isn't known; 2 where its plan doesn't allow the words of a sweep, or there is no plan for those of `init`;
 -- 3 when out of memory, for a fault of reading, writing or workers, or if a line has no other format
 abbrev pub run_status : Result Done Fault → ℕ
 run_status (Ok Plain) = 0
@@ -195,17 +205,17 @@ subject_of (Horizon limits) = None
 subject_of Check = Some subject.Check
 subject_of Upgrade = None
 subject_of (Records window) = None
-subject_of (Run workers kind brief) = Some subject.Run
-subject_of Explain = Some subject.Explain
+subject_of (Run workers kind brief strict) = Some subject.Run
+subject_of (Explain strict) = Some subject.Explain
 subject_of (Trace pick) = Some subject.Trace
 subject_of (Candump tick from errors window) = None
 subject_of (Vcd tick window) = None
 subject_of (Page tick window) = None
-subject_of (Margin tick all) = Some subject.Margin
+subject_of (Margin tick all strict) = Some subject.Margin
 subject_of (Respond tick any strict) = Some subject.Respond
 subject_of (Traffic tick strict) = Some subject.Traffic
 subject_of (Judge tick explain) = Some subject.Judge
-subject_of (Settings tick shown) = None
+subject_of (Settings tick shown strict) = None
 subject_of (Sweep swept) = if not swept.join && (is_some swept.part || is_some swept.print || swept.page) then None else Some subject.Sweep
 
 -- what is asked of a sweep
@@ -215,6 +225,10 @@ sweep_asked swept = record { options = swept.options; worst = swept.worst }
 -- an engine answered, and that is what is answered
 abbrev pub Plainly : (Result (Unit {0}) RunFault → Type 0) → Result Done Fault → Type 0
 Plainly Runs r = (answer : Result (Unit {0}) RunFault) × Runs answer × (r ≡ plainly answer)
+
+-- the same with a verdict, which the status says if it is to
+abbrev pub Strictly : (strict : Bool) → (Result Bool RunFault → Type 0) → Result Done Fault → Type 0
+Strictly strict Runs r = (answer : Result Bool RunFault) × Runs answer × (r ≡ of_verdict strict answer)
 
 module _ {S T : Type 0} (gives : S → Answer → S → Type 0) (takes : T → Answer → T → Type 0) (s s' : S) (t t' : T) where
   -- what is found of a family of plans, its map, or one of its members, was written
@@ -236,9 +250,9 @@ module _ {S T : Type 0} (gives : S → Answer → S → Type 0) (takes : T → A
       × Parts gives takes ranges (sweep_asked swept) s s' t t' share count answer × (r ≡ of_print answer)
   DoesSwept swept ranges false None r = DoesSweep swept ranges swept.print swept.page r
 
-  -- how long the messages of a plan may wait was written
-  abbrev pub DoesRespond : Tick → (any strict : Bool) → Result Done Fault → Type 0
-  DoesRespond tick any strict r = (answer : Result Bool RunFault) × Responds gives takes tick any s s' t t' answer × (r ≡ of_respond strict answer)
+  -- what is doubtful of a plan was written
+  abbrev pub DoesExplain : (strict : Bool) → Result Done Fault → Type 0
+  DoesExplain strict r = (answer : Result Bool RunFault) × Explains gives takes s s' t t' answer × (r ≡ of_doubts strict answer)
 
   -- whether a bus works was written
   abbrev pub DoesJudge : Tick → (explain : Bool) → Result Done Fault → Type 0
@@ -249,11 +263,13 @@ module _ {S T : Type 0} (gives : S → Answer → S → Type 0) (takes : T → A
   DoesTraffic tick strict r = (answer : Result Reason RunFault) × RunsTraffic gives takes tick s s' t t' answer × (r ≡ of_traffic strict answer)
 
   -- the settings of a bus were written: of a text, or of words in its place, over which nothing is read
-  abbrev pub DoesSettings : Tick → Shown → List AskedWord → Result Done Fault → Type 0
-  DoesSettings tick shown [] r =
-      (answer : Result (Unit {0}) SettingsFault) × RunsSettings gives takes (tick_picoseconds tick) shown s s' t t' answer × (r ≡ of_settings answer)
-  DoesSettings tick shown (w ∷ ws) r =
-      (answer : Result (Unit {0}) SettingsFault) × (s' ≡ s) × RunsWords takes (tick_picoseconds tick) shown (w ∷ ws) t t' answer × (r ≡ of_settings answer)
+  abbrev pub FindsSettings : Tick → Shown → List AskedWord → Result Bool SettingsFault → Type 0
+  FindsSettings tick shown [] answer = RunsSettings gives takes (tick_picoseconds tick) shown s s' t t' answer
+  FindsSettings tick shown (w ∷ ws) answer = (s' ≡ s) × RunsWords takes (tick_picoseconds tick) shown (w ∷ ws) t t' answer
+
+  abbrev pub DoesSettings : Tick → Shown → (strict : Bool) → List AskedWord → Result Done Fault → Type 0
+  DoesSettings tick shown strict asked r =
+      (answer : Result Bool SettingsFault) × FindsSettings tick shown asked answer × (r ≡ of_settings strict answer)
 
   -- what was done for a task, over the ranges of a sweep or the words in the place of a text for `settings`
   abbrev pub Does : Task → List Text → List AskedWord → Result Done Fault → Type 0
@@ -264,18 +280,18 @@ module _ {S T : Type 0} (gives : S → Answer → S → Type 0) (takes : T → A
   Does Check ranges asked r = Plainly (RunsPlan gives takes IsPlanCheck s s' t t') r
   Does Upgrade ranges asked r = (answer : Result (Unit {0}) PrintFault) × Formats gives takes s s' t t' answer × (r ≡ of_format answer)
   Does (Records window) ranges asked r = Plainly (RunsPlan gives takes (IsRecordsWithin window) s s' t t') r
-  Does (Run workers kind brief) ranges asked r =
-      Plainly (λ a. MatchBool (workers == 1) (RunsPlan gives takes (IsReportOutput brief) s s' t t' a) (RunsByWorkersAs gives takes brief workers s s' t t' a)) r
-  Does Explain ranges asked r = Plainly (Explains gives takes s s' t t') r
+  Does (Run workers kind brief strict) ranges asked r =
+      Strictly strict (λ a. MatchBool (workers == 1) (RunsPlanWith gives takes (IsReportOutput brief) s s' t t' a) (RunsByWorkersAs gives takes brief workers s s' t t' a)) r
+  Does (Explain strict) ranges asked r = DoesExplain strict r
   Does (Trace pick) ranges asked r = Plainly (RunsPlan gives takes (IsTracePicked pick) s s' t t') r
   Does (Candump tick from errors window) ranges asked r = Plainly (RunsPlan gives takes (IsLogAs errors tick from window) s s' t t') r
   Does (Vcd tick window) ranges asked r = Plainly (RunsPlan gives takes (IsVcdWithin tick window) s s' t t') r
   Does (Page tick window) ranges asked r = Plainly (PagesWithin gives takes tick window s s' t t') r
-  Does (Margin tick all) ranges asked r = Plainly (RunsBus gives takes (IsMarginOutput tick all) s s' t t') r
-  Does (Respond tick any strict) ranges asked r = DoesRespond tick any strict r
+  Does (Margin tick all strict) ranges asked r = Strictly strict (RunsBus gives takes (IsMarginOutput tick all) s s' t t') r
+  Does (Respond tick any strict) ranges asked r = Strictly strict (Responds gives takes tick any s s' t t') r
   Does (Traffic tick strict) ranges asked r = DoesTraffic tick strict r
   Does (Judge tick explain) ranges asked r = DoesJudge tick explain r
-  Does (Settings tick shown) ranges asked r = DoesSettings tick shown asked r
+  Does (Settings tick shown strict) ranges asked r = DoesSettings tick shown strict asked r
   Does (Sweep swept) ranges asked r = DoesSwept swept ranges swept.join swept.part r
 
   -- the task was done, nothing else was read or written, and the status is that of what was answered

@@ -4,7 +4,7 @@ ghost use Rattle.std.specs.List.{list_all};
 ghost use Rattle.wl_sweep.specs.Findings.{is_clean};
 ghost use Rattle.wl_sweep.specs.Tallies.{tally_of};
 ghost use Rattle.wl_sweep.specs.declared.finding.Finding.{Finding};
-ghost use Rattle.wl_sim.specs.Tasks.{AnswersSweep, done_by, of_format, of_format_fault, of_init, of_init_fault, of_judge, of_map, of_print, of_settings, of_settings_fault, of_respond, of_sweep, of_traffic, plainly, of_join, of_join_fault};
+ghost use Rattle.wl_sim.specs.Tasks.{AnswersSweep, done_by, of_format, of_format_fault, of_init, of_init_fault, of_judge, of_map, of_print, of_doubts, of_settings, of_settings_fault, of_verdict, of_sweep, of_traffic, plainly, of_join, of_join_fault};
 
 use thiserror::Error;
 use wl_engines::{Judgement, Reason, RunFault};
@@ -19,7 +19,8 @@ use wl_sweep_engine::{JoinFault, SweepFault, Tally};
 pub enum Done {
     /// The output says all.
     Plain,
-    /// Some member of a sweep isn't clean; or a bus that is judged, or a run, doesn't work, or a deadline isn't met, and the status is to say so.
+    /// Some member of a sweep isn't clean; a bus that is judged doesn't work; or the status is to say whether a bus works, or what else a command
+    /// is about, and it isn't so.
     Unclean,
     /// It isn't known whether a bus works.
     Unknown,
@@ -150,12 +151,17 @@ fn of_settings_fault(fault: SettingsFault) -> Fault
     }
 }
 
-/// Returns what a search for settings answered.
-pub(crate) fn of_settings(answer: Result<(), SettingsFault>) -> Result<Done, Fault>
-    ensures { result ≡ of_settings answer }
+/// Returns what a search for settings answered, whose status is to say, if it is strict, whether each controller has one.
+pub(crate) fn of_settings(
+    strict: bool,
+    answer: Result<bool, SettingsFault>,
+) -> Result<Done, Fault>
+    ensures { result ≡ of_settings strict answer }
 {
     match answer {
-        Ok(()) => Ok(Done::Plain),
+        Ok(true) => Ok(Done::Plain),
+        Ok(false) if strict => Ok(Done::Unclean),
+        Ok(false) => Ok(Done::Plain),
         Err(fault) => Err(of_settings_fault(fault)),
     }
 }
@@ -203,14 +209,27 @@ pub(crate) fn of_init(answer: Result<(), InitFault>) -> Result<Done, Fault>
     }
 }
 
-/// Returns what the waits of a plan answered, whose status is to say whether all deadlines are met.
-pub(crate) fn of_respond(strict: bool, answer: Result<bool, RunFault>) -> Result<Done, Fault>
-    ensures { result ≡ of_respond strict answer }
+/// Returns what an engine with a verdict answered, whose status is to say it, if it is strict: whether all deadlines are met, the condition
+/// holds, or a report is clean.
+pub(crate) fn of_verdict(strict: bool, answer: Result<bool, RunFault>) -> Result<Done, Fault>
+    ensures { result ≡ of_verdict strict answer }
 {
     match answer {
         Ok(true) => Ok(Done::Plain),
         Ok(false) if strict => Ok(Done::Unclean),
         Ok(false) => Ok(Done::Plain),
+        Err(fault) => Err(Fault::Run(fault)),
+    }
+}
+
+/// Returns what an explanation answered, whose status is to say, if it is strict, whether nothing is doubtful.
+pub(crate) fn of_doubts(strict: bool, answer: Result<bool, RunFault>) -> Result<Done, Fault>
+    ensures { result ≡ of_doubts strict answer }
+{
+    match answer {
+        Ok(false) => Ok(Done::Plain),
+        Ok(true) if strict => Ok(Done::Unclean),
+        Ok(true) => Ok(Done::Plain),
         Err(fault) => Err(Fault::Run(fault)),
     }
 }

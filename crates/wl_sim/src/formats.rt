@@ -18,10 +18,10 @@ pub(crate) fn subject_of(task: Task) -> Option<Subject>
 {
     match task {
         Task::Check => Some(Subject::Check),
-        Task::Run(_, _, _) => Some(Subject::Run),
-        Task::Explain => Some(Subject::Explain),
+        Task::Run(_, _, _, _) => Some(Subject::Run),
+        Task::Explain(_) => Some(Subject::Explain),
         Task::Trace(_) => Some(Subject::Trace),
-        Task::Margin(_, _) => Some(Subject::Margin),
+        Task::Margin(_, _, _) => Some(Subject::Margin),
         Task::Respond(_, _, _) => Some(Subject::Respond),
         Task::Traffic(_, _) => Some(Subject::Traffic),
         Task::Judge(_, _) => Some(Subject::Judge),
@@ -40,7 +40,7 @@ pub(crate) fn subject_of(task: Task) -> Option<Subject>
         | Task::Candump(_, _, _, _)
         | Task::Vcd(_, _)
         | Task::Page(_, _)
-        | Task::Settings(_, _) => None,
+        | Task::Settings(_, _, _) => None,
     }
 }
 

@@ -22,12 +22,12 @@ ghost use Rattle.std.specs.Prelude.{◌≡◌, ◌≢◌, ◌≤◌, ◌==◌, M
 ghost use Rattle.std.specs.IoError.{error_kind};
 ghost use Rattle.std.specs.Process.{exit_status};
 ghost use Rattle.wl_words.specs.declared.task.Task.{Task};
-ghost use Rattle.wl_engines.specs.Plans.{RunsPlan, IsReportOutput};
+ghost use Rattle.wl_engines.specs.Plans.{RunsPlanWith, IsReportOutput};
 ghost use Rattle.wl_engines.specs.Workers.{RunsByWorkersAs};
 ghost use Rattle.wl_files.specs.Files.{Keeps};
 ghost use Rattle.wl_words.specs.CommandLine.{NamesTask};
 ghost use Rattle.wl_sim.specs.Orders.{Ends, EndsPlainly, MovesFile, Performs, RunsWords, WritesTo};
-ghost use Rattle.wl_sim.specs.Tasks.{Does, DoesAs, DoesBy, DoesSettings, DoesSweep, DoesSwept, IsCount, run_status, refusal_status};
+ghost use Rattle.wl_sim.specs.Tasks.{Does, DoesAs, DoesBy, DoesSweep, DoesSwept, FindsSettings, IsCount, run_status, refusal_status};
 
 use std::alloc::Global;
 use std::io::ErrorKind;
@@ -42,7 +42,7 @@ use wl_files::{BeginFault, Folder, SystemFolder};
 use wl_formats::{Format, Subject};
 use wl_init::init_run;
 use wl_print::format_run;
-use wl_settings::{AskedWord, Shown, settings_of_words, settings_run};
+use wl_settings::{AskedWord, SettingsFault, Shown, settings_of_words, settings_run};
 use wl_setup::{SetupFault, Text};
 use wl_sweep_engine::{Asked, Workers, join_run, map_run, part_run, print_run, sweep_run};
 use wl_views::Tick;
@@ -55,8 +55,8 @@ mod progress;
 mod texts;
 
 use crate::answer::{
-    of_format, of_init, of_join, of_judge, of_map, of_print, of_respond, of_settings, of_tally,
-    of_traffic, plainly,
+    of_doubts, of_format, of_init, of_join, of_judge, of_map, of_print, of_settings, of_tally,
+    of_traffic, of_verdict, plainly,
 };
 use crate::formats::{subject_of, write_kept};
 pub use answer::{Done, Fault};
@@ -392,16 +392,17 @@ fn run_swept<H: Threads + Sync + Eprint + Clock, R: Source, W: Sink>(
     }
 }
 
-/// Runs a plan by its workers: by the one-thread engine if there is one worker. It may wait if there are several.
+/// Runs a plan by its workers: by the one-thread engine if there is one worker. Returns whether the verdict is clean. It may wait if there
+/// are several workers.
 fn run_by<H: Threads + Wait + Sync, R: Source, W: Sink>(
     rt: &H,
     alloc: Global,
     crew: Crew,
     reader: &mut R,
     writer: &mut W,
-) -> Result<(), RunFault>
+) -> Result<bool, RunFault>
     ensures { MatchBool (crew.workers == 1)
-        (RunsPlan R.gives W.takes (IsReportOutput crew.brief) reader.old reader.new writer.old writer.new result)
+        (RunsPlanWith R.gives W.takes (IsReportOutput crew.brief) reader.old reader.new writer.old writer.new result)
         (RunsByWorkersAs R.gives W.takes crew.brief crew.workers reader.old reader.new writer.old writer.new result) }
 {
     if crew.workers == 1 {
@@ -411,7 +412,7 @@ fn run_by<H: Threads + Wait + Sync, R: Source, W: Sink>(
     }
 }
 
-/// Writes the settings of a bus that words ask for, or without words the reader's text.
+/// Writes the settings of a bus that words ask for, or without words the reader's text. Returns whether each controller has one.
 fn run_settings<R: Source, W: Sink>(
     alloc: Global,
     tick: Tick,
@@ -419,13 +420,13 @@ fn run_settings<R: Source, W: Sink>(
     asked: &[AskedWord],
     reader: &mut R,
     writer: &mut W,
-) -> Result<Done, Fault>
-    ensures { DoesSettings R.gives W.takes reader.old reader.new writer.old writer.new tick shown asked.now result }
+) -> Result<bool, SettingsFault>
+    ensures { FindsSettings R.gives W.takes reader.old reader.new writer.old writer.new tick shown asked.now result }
 {
     let picoseconds = tick.picoseconds();
     match asked {
-        [] => of_settings(settings_run(alloc, picoseconds, shown, reader, writer)),
-        _ => of_settings(settings_of_words(alloc, picoseconds, shown, asked, writer)),
+        [] => settings_run(alloc, picoseconds, shown, reader, writer),
+        _ => settings_of_words(alloc, picoseconds, shown, asked, writer),
     }
 }
 
@@ -447,30 +448,33 @@ fn run<H: Threads + Wait + Sync + Eprint + Clock, R: Source, W: Sink>(
         Task::Check => plainly(check_run(alloc, reader, writer)),
         Task::Upgrade => of_format(format_run(alloc, reader, writer)),
         Task::Records(window) => plainly(records_run_within(alloc, window, reader, writer)),
-        Task::Run(workers, kind, brief) => {
+        Task::Run(workers, kind, brief, strict) => {
             let crew = Crew {
                 workers,
                 kind,
                 brief,
             };
-            plainly(run_by(rt, alloc, crew, reader, writer))
+            of_verdict(strict, run_by(rt, alloc, crew, reader, writer))
         }
-        Task::Explain => plainly(explain_run(alloc, reader, writer)),
+        Task::Explain(strict) => of_doubts(strict, explain_run(alloc, reader, writer)),
         Task::Trace(pick) => plainly(picked_trace_run(alloc, pick, reader, writer)),
         Task::Candump(tick, from, errors, window) => {
             plainly(candump_run_as(alloc, tick, from, errors, window, reader, writer))
         }
         Task::Vcd(tick, window) => plainly(vcd_run_within(alloc, tick, window, reader, writer)),
         Task::Page(tick, window) => plainly(page_run_within(alloc, tick, window, reader, writer)),
-        Task::Margin(tick, all_send) => {
-            plainly(margin_run(alloc, tick, all_send, reader, writer))
+        Task::Margin(tick, all_send, strict) => {
+            of_verdict(strict, margin_run(alloc, tick, all_send, reader, writer))
         }
         Task::Respond(tick, any_data, strict) => {
-            of_respond(strict, respond_run(alloc, tick, any_data, reader, writer))
+            of_verdict(strict, respond_run(alloc, tick, any_data, reader, writer))
         }
         Task::Traffic(tick, strict) => of_traffic(strict, traffic_run(alloc, tick, reader, writer)),
         Task::Judge(tick, explain) => of_judge(judge_run(alloc, tick, explain, reader, writer)),
-        Task::Settings(tick, shown) => run_settings(alloc, tick, shown, work.asked, reader, writer),
+        Task::Settings(tick, shown, strict) => {
+            let found = run_settings(alloc, tick, shown, work.asked, reader, writer);
+            of_settings(strict, found)
+        }
         Task::Sweep(swept) => run_swept(rt, alloc, swept, work, reader, writer),
     }
 }

@@ -39,8 +39,7 @@ module _ (given : Option Values) (w : Text) (t : Task) where
   plain_named : plain_task w ≡ Some t → NamedTask (Some w) given t
   plain_named =
       chosen w (codes "check") _ _ t (is_named Check tt) (chosen w (codes "format") _ _ t (is_named Upgrade tt)
-      (chosen w (codes "explain") _ _ t (is_named Explain tt)
-      (λ (no : None ≡ Some t). cc)))
+      (λ (no : None ≡ Some t). cc))
 
 module _ (v : Values) (w : Text) (t : Task) where
   vcd_named : (tick : Tick) → v.tick ≡ Some tick → w ≡ codes "vcd" → vcd_task v tick ≡ Some t → NamedTask (Some w) (Some v) t
@@ -56,9 +55,9 @@ module _ (v : Values) (w : Text) (t : Task) where
   timed_named : (tick : Tick) → v.tick ≡ Some tick → timed_task w v tick ≡ Some t → NamedTask (Some w) (Some v) t
   timed_named tick has =
       chosen w (codes "vcd") _ _ t (vcd_named tick has) (chosen w (codes "page") _ _ t (page_named tick has)
-      (chosen w (codes "margin") _ _ t (is_named (Some v) w t (Margin tick v.all_send) (has, refl))
+      (chosen w (codes "margin") _ _ t (is_named (Some v) w t (Margin tick v.all_send v.strict) (has, refl, refl))
       (chosen w (codes "traffic") _ _ t (is_named (Some v) w t (Traffic tick v.strict) (has, refl))
-      (chosen w (codes "settings") _ _ t (is_named (Some v) w t (Settings tick v.shown) (has, refl))
+      (chosen w (codes "settings") _ _ t (is_named (Some v) w t (Settings tick v.shown v.strict) (has, refl, refl))
       (chosen w (codes "respond") _ _ t (is_named (Some v) w t (Respond tick v.any_data v.strict) (has, refl, refl))
       (λ (no : None ≡ Some t). cc))))))
 
@@ -66,7 +65,7 @@ module _ (v : Values) (w : Text) (t : Task) where
   run_named is h =
       let workers = some_then v.workers _ t h in
       let link = some_map v.link _ t workers.2 in
-      is_named (Some v) w t (Run workers.0 link.0 v.brief) (workers.1, link.1, refl) is (ap Some link.2)
+      is_named (Some v) w t (Run workers.0 link.0 v.brief v.strict) (workers.1, link.1, refl, refl) is (ap Some link.2)
 
   candump_named : w ≡ codes "candump" → candump_task v ≡ Some t → NamedTask (Some w) (Some v) t
   candump_named is h =
@@ -102,10 +101,10 @@ module _ (v : Values) (w : Text) (t : Task) where
   valued_named : valued_task w v ≡ Some t → NamedTask (Some w) (Some v) t
   valued_named =
       chosen w (codes "merge") _ _ t (is_named (Some v) w t (Merge v.limits) refl) (chosen w (codes "horizon") _ _ t (is_named (Some v) w t (Horizon v.limits) refl)
-      (chosen w (codes "records") _ _ t (is_named (Some v) w t (Records v.window) refl)
+      (chosen w (codes "records") _ _ t (is_named (Some v) w t (Records v.window) refl) (chosen w (codes "explain") _ _ t (is_named (Some v) w t (Explain v.strict) refl)
       (chosen w (codes "run") _ _ t run_named (chosen w (codes "trace") _ _ t trace_named
       (chosen w (codes "candump") _ _ t candump_named (chosen w (codes "sweep") _ _ t sweep_named
-      (chosen w (codes "init") _ _ t init_named (chosen w (codes "judge") _ _ t judge_named other_named))))))))
+      (chosen w (codes "init") _ _ t init_named (chosen w (codes "judge") _ _ t judge_named other_named)))))))))
 
 of_values : (w : Text) (t : Task) (given : Option Values) → option_and_then (valued_task w) given ≡ Some t → NamedTask (Some w) given t
 of_values w t (Some v) is = valued_named v w t is
@@ -124,14 +123,14 @@ of_found (Some w) given t is = of_either w t given (plain_task w) refl is
 found_by_word : (given : Option Values) (t : Task) → HasValues given t → task_named (Some (task_word t)) given ≡ Some t
 found_by_word given Check h = refl
 found_by_word given Upgrade h = refl
-found_by_word given Explain h = refl
 found_by_word (Some v) (Init wish) h = ap (option_map (λ wish. Init wish)) h
 found_by_word (Some v) (Merge limits) h = ap (option_map (λ limits. Merge limits)) h
 found_by_word (Some v) (Horizon limits) h = ap (option_map (λ limits. Horizon limits)) h
 found_by_word (Some v) (Records window) h = ap (option_map (λ window. Records window)) h
-found_by_word (Some v) (Run workers link brief) h =
-    ap₂ (λ o p. option_and_then (λ workers. option_map (λ link. Run workers link v.brief) p) o) h.0 h.1
-    ∙ ap (λ q. Some (Run workers link (unwrap_or q brief))) h.2
+found_by_word (Some v) (Explain strict) h = ap (option_map (λ strict. Explain strict)) h
+found_by_word (Some v) (Run workers link brief strict) h =
+    ap₂ (λ o p. option_and_then (λ workers. option_map (λ link. Run workers link v.brief v.strict) p) o) h.0 h.1
+    ∙ ap₂ (λ p q. Some (Run workers link (unwrap_or p brief) (unwrap_or q strict))) h.2 h.3
 found_by_word (Some v) (Trace pick) h = ap (option_map (λ pick. Trace pick)) h
 found_by_word (Some v) (Candump tick from errors window) h =
     ap₂ (λ o p. option_and_then (λ tick. option_map (λ from. Candump tick from v.errors v.window) p) o) h.0 h.1
@@ -139,27 +138,30 @@ found_by_word (Some v) (Candump tick from errors window) h =
 found_by_word (Some v) (Sweep swept) h = ap (option_map (λ swept. Sweep swept)) h
 found_by_word (Some v) (Vcd tick window) h = ap₂ (λ o p. option_and_then (λ tick. option_map (λ window. Vcd tick window) p) o) h.0 h.1
 found_by_word (Some v) (Page tick window) h = ap₂ (λ o p. option_and_then (λ tick. option_map (λ window. Page tick window) p) o) h.0 h.1
-found_by_word (Some v) (Margin tick all) h = ap₂ (λ o p. option_map (λ tick. Margin tick (unwrap_or p all)) o) h.0 h.1
+found_by_word (Some v) (Margin tick all strict) h =
+    ap₂ (λ o p. option_map (λ tick. Margin tick (unwrap_or p all) v.strict) o) h.0 h.1 ∙ ap (λ q. Some (Margin tick all (unwrap_or q strict))) h.2
 found_by_word (Some v) (Respond tick any strict) h =
     ap₂ (λ o p. option_map (λ tick. Respond tick (unwrap_or p any) v.strict) o) h.0 h.1 ∙ ap (λ q. Some (Respond tick any (unwrap_or q strict))) h.2
 found_by_word (Some v) (Traffic tick strict) h = ap₂ (λ o p. option_map (λ tick. Traffic tick (unwrap_or p strict)) o) h.0 h.1
 found_by_word (Some v) (Judge tick explain) h = ap₂ (λ o p. option_map (λ tick. Judge tick (unwrap_or p explain)) o) h.0 h.1
-found_by_word (Some v) (Settings tick shown) h = ap₂ (λ o p. option_map (λ tick. Settings tick (unwrap_or p shown)) o) h.0 h.1
+found_by_word (Some v) (Settings tick shown strict) h =
+    ap₂ (λ o p. option_map (λ tick. Settings tick (unwrap_or p shown) v.strict) o) h.0 h.1 ∙ ap (λ q. Some (Settings tick shown (unwrap_or q strict))) h.2
 found_by_word None (Init wish) h = let no : None ≡ Some wish = h in cc
 found_by_word None (Merge limits) h = let no : None ≡ Some limits = h in cc
 found_by_word None (Horizon limits) h = let no : None ≡ Some limits = h in cc
 found_by_word None (Records window) h = let no : None ≡ Some window = h in cc
 found_by_word None (Trace pick) h = let no : None ≡ Some pick = h in cc
-found_by_word None (Run workers link brief) h = let no : None ≡ Some workers = h.0 in cc
+found_by_word None (Explain strict) h = let no : None ≡ Some strict = h in cc
+found_by_word None (Run workers link brief strict) h = let no : None ≡ Some workers = h.0 in cc
 found_by_word None (Candump tick from errors window) h = let no : None ≡ Some tick = h.0 in cc
 found_by_word None (Sweep swept) h = let no : None ≡ Some swept = h in cc
 found_by_word None (Vcd tick window) h = let no : None ≡ Some tick = h.0 in cc
 found_by_word None (Page tick window) h = let no : None ≡ Some tick = h.0 in cc
-found_by_word None (Margin tick all) h = let no : None ≡ Some tick = h.0 in cc
+found_by_word None (Margin tick all strict) h = let no : None ≡ Some tick = h.0 in cc
 found_by_word None (Respond tick any strict) h = let no : None ≡ Some tick = h.0 in cc
 found_by_word None (Traffic tick strict) h = let no : None ≡ Some tick = h.0 in cc
 found_by_word None (Judge tick explain) h = let no : None ≡ Some tick = h.0 in cc
-found_by_word None (Settings tick shown) h = let no : None ≡ Some tick = h.0 in cc
+found_by_word None (Settings tick shown strict) h = let no : None ≡ Some tick = h.0 in cc
 
 -- a task with this word and these values is found
 pub found_of : (word : Option Text) (given : Option Values) (t : Task) → NamedTask word given t → task_named word given ≡ Some t

@@ -40,17 +40,17 @@ word_enters (Horizon limits) name h = ((refl, h), refl, refl, refl)
 word_enters Check name h = ((refl, tt), refl, refl, refl)
 word_enters Upgrade name h = ((refl, tt), refl, refl, refl)
 word_enters (Records window) name h = ((refl, h), refl, refl, refl)
-word_enters (Run workers kind brief) name h = ((refl, h), refl, refl, refl)
-word_enters Explain name h = ((refl, tt), refl, refl, refl)
+word_enters (Run workers kind brief strict) name h = ((refl, h), refl, refl, refl)
+word_enters (Explain strict) name h = ((refl, h), refl, refl, refl)
 word_enters (Trace pick) name h = ((refl, h), refl, refl, refl)
 word_enters (Candump tick from errors window) name h = ((refl, h), refl, refl, refl)
 word_enters (Vcd tick window) name h = ((refl, h), refl, refl, refl)
 word_enters (Page tick window) name h = ((refl, h), refl, refl, refl)
-word_enters (Margin tick all) name h = ((refl, h), refl, refl, refl)
+word_enters (Margin tick all strict) name h = ((refl, h), refl, refl, refl)
 word_enters (Respond tick any strict) name h = ((refl, h), refl, refl, refl)
 word_enters (Traffic tick strict) name h = ((refl, h), refl, refl, refl)
 word_enters (Judge tick explain) name h = ((refl, h), refl, refl, refl)
-word_enters (Settings tick shown) name h = ((refl, h), refl, refl, refl)
+word_enters (Settings tick shown strict) name h = ((refl, h), refl, refl, refl)
 word_enters (Sweep swept) name h = ((refl, h), refl, refl, refl)
 
 -- and names no file, no range, and nothing in the place of a file
@@ -67,17 +67,17 @@ word_names_none (Horizon limits) name = (refl, refl, refl, refl)
 word_names_none Check name = (refl, refl, refl, refl)
 word_names_none Upgrade name = (refl, refl, refl, refl)
 word_names_none (Records window) name = (refl, refl, refl, refl)
-word_names_none (Run workers kind brief) name = (refl, refl, refl, refl)
-word_names_none Explain name = (refl, refl, refl, refl)
+word_names_none (Run workers kind brief strict) name = (refl, refl, refl, refl)
+word_names_none (Explain strict) name = (refl, refl, refl, refl)
 word_names_none (Trace pick) name = (refl, refl, refl, refl)
 word_names_none (Candump tick from errors window) name = (refl, refl, refl, refl)
 word_names_none (Vcd tick window) name = (refl, refl, refl, refl)
 word_names_none (Page tick window) name = (refl, refl, refl, refl)
-word_names_none (Margin tick all) name = (refl, refl, refl, refl)
+word_names_none (Margin tick all strict) name = (refl, refl, refl, refl)
 word_names_none (Respond tick any strict) name = (refl, refl, refl, refl)
 word_names_none (Traffic tick strict) name = (refl, refl, refl, refl)
 word_names_none (Judge tick explain) name = (refl, refl, refl, refl)
-word_names_none (Settings tick shown) name = (refl, refl, refl, refl)
+word_names_none (Settings tick shown strict) name = (refl, refl, refl, refl)
 word_names_none (Sweep swept) name = (refl, refl, refl, refl)
 
 -- and no format
@@ -89,17 +89,17 @@ word_format (Horizon limits) name = refl
 word_format Check name = refl
 word_format Upgrade name = refl
 word_format (Records window) name = refl
-word_format (Run workers kind brief) name = refl
-word_format Explain name = refl
+word_format (Run workers kind brief strict) name = refl
+word_format (Explain strict) name = refl
 word_format (Trace pick) name = refl
 word_format (Candump tick from errors window) name = refl
 word_format (Vcd tick window) name = refl
 word_format (Page tick window) name = refl
-word_format (Margin tick all) name = refl
+word_format (Margin tick all strict) name = refl
 word_format (Respond tick any strict) name = refl
 word_format (Traffic tick strict) name = refl
 word_format (Judge tick explain) name = refl
-word_format (Settings tick shown) name = refl
+word_format (Settings tick shown strict) name = refl
 word_format (Sweep swept) name = refl
 
 names_format : (t : Task) (words : List Text) → NamesTask t words → format_in (entered words) ≡ Some None

@@ -52,17 +52,17 @@ task_word (Horizon limits) = codes "horizon"
 task_word Check = codes "check"
 task_word Upgrade = codes "format"
 task_word (Records window) = codes "records"
-task_word (Run workers kind brief) = codes "run"
-task_word Explain = codes "explain"
+task_word (Run workers kind brief strict) = codes "run"
+task_word (Explain strict) = codes "explain"
 task_word (Trace pick) = codes "trace"
 task_word (Candump tick from errors window) = codes "candump"
 task_word (Vcd tick window) = codes "vcd"
 task_word (Page tick window) = codes "page"
-task_word (Margin tick all) = codes "margin"
+task_word (Margin tick all strict) = codes "margin"
 task_word (Respond tick any strict) = codes "respond"
 task_word (Traffic tick strict) = codes "traffic"
 task_word (Judge tick explain) = codes "judge"
-task_word (Settings tick shown) = codes "settings"
+task_word (Settings tick shown strict) = codes "settings"
 task_word (Sweep swept) = codes "sweep"
 
 -- the argument that names the file to read
@@ -122,9 +122,17 @@ wide_rules = flag_rule (codes "wide") ∷ []
 abbrev pub records_rules : List Rule
 records_rules = window_rules (codes "from")
 
--- of `check` and `explain`
+-- the option `--strict`, with which the status says whether the bus works, or what else a command is about
+abbrev pub strict_rule : Rule
+strict_rule = flag_rule (codes "strict")
+
+-- of `check`
 abbrev pub formatted_rules : List Rule
 formatted_rules = format_rule ∷ []
+
+-- of `explain`
+abbrev pub explain_rules : List Rule
+explain_rules = strict_rule ∷ format_rule ∷ []
 
 -- of `candump`, whose `--from` isn't a window's
 abbrev pub candump_rules : List Rule
@@ -143,15 +151,15 @@ trace_rules = ticks_rule (codes "since") (codes "from") ∷ ticks_rule (codes "u
 
 -- of `margin`
 abbrev pub margin_rules : List Rule
-margin_rules = tick_rule ∷ flag_rule (codes "all-send") ∷ format_rule ∷ []
+margin_rules = tick_rule ∷ flag_rule (codes "all-send") ∷ strict_rule ∷ format_rule ∷ []
 
 -- of `respond`
 abbrev pub respond_rules : List Rule
-respond_rules = tick_rule ∷ flag_rule (codes "any-data") ∷ flag_rule (codes "strict") ∷ format_rule ∷ []
+respond_rules = tick_rule ∷ flag_rule (codes "any-data") ∷ strict_rule ∷ format_rule ∷ []
 
 -- of `traffic`
 abbrev pub traffic_rules : List Rule
-traffic_rules = tick_rule ∷ flag_rule (codes "strict") ∷ format_rule ∷ []
+traffic_rules = tick_rule ∷ strict_rule ∷ format_rule ∷ []
 
 -- of `judge`
 abbrev pub judge_rules : List Rule
@@ -166,7 +174,7 @@ abbrev pub link_rule : Rule
 link_rule = record (new_rule (codes "link")) { long = Some (codes "link"); value_names = 1; defaults = codes "hub" ∷ [] }
 
 abbrev pub run_rules : List Rule
-run_rules = workers_rule ∷ link_rule ∷ flag_rule (codes "brief") ∷ format_rule ∷ []
+run_rules = workers_rule ∷ link_rule ∷ flag_rule (codes "brief") ∷ strict_rule ∷ format_rule ∷ []
 
 -- of `settings`: how many are listed, a number above 0, and that the plan of the best one is written
 abbrev pub best_rule : Rule
@@ -181,7 +189,7 @@ named_rule name = text_rule name name
 
 abbrev pub settings_rules : List Rule
 settings_rules =
-    tick_rule ∷ best_rule ∷ flag_rule (codes "plan") ∷ repeated_rule (codes "kind") ∷ repeated_rule (codes "clock") ∷ named_rule (codes "bitrate")
+    tick_rule ∷ best_rule ∷ flag_rule (codes "plan") ∷ strict_rule ∷ repeated_rule (codes "kind") ∷ repeated_rule (codes "clock") ∷ named_rule (codes "bitrate")
     ∷ named_rule (codes "cable") ∷ named_rule (codes "per") ∷ named_rule (codes "out") ∷ named_rule (codes "in") ∷ named_rule (codes "tolerance")
     ∷ named_rule (codes "senders") ∷ named_rule (codes "rate-error") ∷ named_rule (codes "sample-point") ∷ named_rule (codes "nodes") ∷ []
 
@@ -233,7 +241,7 @@ abbrev pub option_rules : Text → List Rule
 option_rules word =
     if bytes_eq word (codes "merge") then wide_rules else (if bytes_eq word (codes "horizon") then wide_rules else
     (if bytes_eq word (codes "records") then records_rules else
-    (if bytes_eq word (codes "check") then formatted_rules else (if bytes_eq word (codes "explain") then formatted_rules else
+    (if bytes_eq word (codes "check") then formatted_rules else (if bytes_eq word (codes "explain") then explain_rules else
     (if bytes_eq word (codes "trace") then trace_rules else (if bytes_eq word (codes "run") then run_rules else
     (if bytes_eq word (codes "vcd") then wave_rules else (if bytes_eq word (codes "page") then wave_rules else
     (if bytes_eq word (codes "candump") then candump_rules else (if bytes_eq word (codes "margin") then margin_rules else
@@ -529,22 +537,24 @@ HasValues given (Candump tick from errors window) =
     × (option_map (λ v. v.errors) given ≡ Some errors) × (option_map (λ v. v.window) given ≡ Some window)
 HasValues given (Vcd tick window) = (option_and_then (λ v. v.tick) given ≡ Some tick) × (option_and_then (λ v. v.wave) given ≡ Some window)
 HasValues given (Page tick window) = (option_and_then (λ v. v.tick) given ≡ Some tick) × (option_and_then (λ v. v.wave) given ≡ Some window)
-HasValues given (Margin tick all) = (option_and_then (λ v. v.tick) given ≡ Some tick) × (option_map (λ v. v.all_send) given ≡ Some all)
+HasValues given (Margin tick all strict) =
+    (option_and_then (λ v. v.tick) given ≡ Some tick) × (option_map (λ v. v.all_send) given ≡ Some all) × (option_map (λ v. v.strict) given ≡ Some strict)
 HasValues given (Respond tick any strict) =
     (option_and_then (λ v. v.tick) given ≡ Some tick) × (option_map (λ v. v.any_data) given ≡ Some any) × (option_map (λ v. v.strict) given ≡ Some strict)
 HasValues given (Traffic tick strict) = (option_and_then (λ v. v.tick) given ≡ Some tick) × (option_map (λ v. v.strict) given ≡ Some strict)
 HasValues given (Judge tick explain) = (option_and_then (λ v. v.tick) given ≡ Some tick) × (option_map (λ v. v.explain) given ≡ Some explain)
-HasValues given (Settings tick shown) = (option_and_then (λ v. v.tick) given ≡ Some tick) × (option_map (λ v. v.shown) given ≡ Some shown)
-HasValues given (Run workers kind brief) =
+HasValues given (Settings tick shown strict) =
+    (option_and_then (λ v. v.tick) given ≡ Some tick) × (option_map (λ v. v.shown) given ≡ Some shown) × (option_map (λ v. v.strict) given ≡ Some strict)
+HasValues given (Run workers kind brief strict) =
     (option_and_then (λ v. v.workers) given ≡ Some workers) × (option_and_then (λ v. v.link) given ≡ Some kind)
-    × (option_map (λ v. v.brief) given ≡ Some brief)
+    × (option_map (λ v. v.brief) given ≡ Some brief) × (option_map (λ v. v.strict) given ≡ Some strict)
 HasValues given (Sweep swept) = option_and_then (λ v. v.swept) given ≡ Some swept
 HasValues given (Merge limits) = option_map (λ v. v.limits) given ≡ Some limits
 HasValues given (Horizon limits) = option_map (λ v. v.limits) given ≡ Some limits
 HasValues given Check = Unit {0}
 HasValues given Upgrade = Unit {0}
 HasValues given (Records window) = option_map (λ v. v.window) given ≡ Some window
-HasValues given Explain = Unit {0}
+HasValues given (Explain strict) = option_map (λ v. v.strict) given ≡ Some strict
 HasValues given (Init wish) = option_and_then (λ v. v.wish) given ≡ Some wish
 HasValues given (Trace pick) = option_and_then (λ v. v.pick) given ≡ Some pick
 
@@ -557,12 +567,11 @@ abbrev pub plain_task : Text → Option Task
 plain_task word =
     if bytes_eq word (codes "check") then Some Check
     else (if bytes_eq word (codes "format") then Some Upgrade
-    else (if bytes_eq word (codes "explain") then Some Explain
-    else None))
+    else None)
 
 -- the tasks with values of options that may be missing
 abbrev pub run_task : Values → Option Task
-run_task values = option_and_then (λ workers. option_map (λ link. Run workers link values.brief) values.link) values.workers
+run_task values = option_and_then (λ workers. option_map (λ link. Run workers link values.brief values.strict) values.link) values.workers
 
 abbrev pub candump_task : Values → Option Task
 candump_task values = option_and_then (λ tick. option_map (λ from. Candump tick from values.errors values.window) values.from) values.tick
@@ -590,9 +599,9 @@ abbrev pub timed_task : Text → Values → Tick → Option Task
 timed_task word values tick =
     if bytes_eq word (codes "vcd") then vcd_task values tick
     else (if bytes_eq word (codes "page") then page_task values tick
-    else (if bytes_eq word (codes "margin") then Some (Margin tick values.all_send)
+    else (if bytes_eq word (codes "margin") then Some (Margin tick values.all_send values.strict)
     else (if bytes_eq word (codes "traffic") then Some (Traffic tick values.strict)
-    else (if bytes_eq word (codes "settings") then Some (Settings tick values.shown)
+    else (if bytes_eq word (codes "settings") then Some (Settings tick values.shown values.strict)
     else (if bytes_eq word (codes "respond") then Some (Respond tick values.any_data values.strict)
     else None)))))
 
@@ -608,11 +617,12 @@ valued_task word values =
     if bytes_eq word (codes "merge") then Some (Merge values.limits)
     else (if bytes_eq word (codes "horizon") then Some (Horizon values.limits)
     else (if bytes_eq word (codes "records") then Some (Records values.window)
+    else (if bytes_eq word (codes "explain") then Some (Explain values.strict)
     else (if bytes_eq word (codes "run") then run_task values
     else (if bytes_eq word (codes "trace") then trace_task values
     else (if bytes_eq word (codes "candump") then candump_task values
     else (if bytes_eq word (codes "sweep") then sweep_task values
-    else begun_task word values))))))
+    else begun_task word values)))))))
 
 -- the first of two
 abbrev pub or_task : Option Task → Option Task → Option Task

@@ -59,7 +59,6 @@ fn plain_task(word: &str) -> Option<Task>
     match word {
         "check" => Some(Task::Check),
         "format" => Some(Task::Upgrade),
-        "explain" => Some(Task::Explain),
         _ => None,
     }
 }
@@ -68,7 +67,7 @@ fn plain_task(word: &str) -> Option<Task>
 fn run_task(values: &Values) -> Option<Task>
     ensures { result ≡ run_task values.now }
 {
-    Some(Task::Run(values.workers?, values.link?, values.brief))
+    Some(Task::Run(values.workers?, values.link?, values.brief, values.strict))
 }
 
 /// Returns the task of `candump`, if the values have what it wants.
@@ -127,9 +126,9 @@ fn timed_task(word: &str, tick: Tick, values: &Values) -> Option<Task>
     match word {
         "vcd" => vcd_task(tick, values),
         "page" => page_task(tick, values),
-        "margin" => Some(Task::Margin(tick, values.all_send)),
+        "margin" => Some(Task::Margin(tick, values.all_send, values.strict)),
         "traffic" => Some(Task::Traffic(tick, values.strict)),
-        "settings" => Some(Task::Settings(tick, values.shown)),
+        "settings" => Some(Task::Settings(tick, values.shown, values.strict)),
         "respond" => Some(Task::Respond(tick, values.any_data, values.strict)),
         _ => None,
     }
@@ -154,6 +153,7 @@ fn valued_task(word: &str, values: &Values) -> Option<Task>
         "merge" => Some(Task::Merge(values.limits)),
         "horizon" => Some(Task::Horizon(values.limits)),
         "records" => Some(Task::Records(values.window)),
+        "explain" => Some(Task::Explain(values.strict)),
         "run" => run_task(values),
         "trace" => trace_task(values),
         "candump" => candump_task(values),

@@ -73,6 +73,18 @@ const IN_TIME: OptionRow = OptionRow { id: "strict", spelling: Long("strict"), t
 const WORKS: OptionRow = OptionRow { id: "strict", spelling: Long("strict"), takes: Nothing, default: None, help: "Ends with status 1 if the verdict is another than works" };
 
 #[rattlefmt::skip]
+const HOLDS: OptionRow = OptionRow { id: "strict", spelling: Long("strict"), takes: Nothing, default: None, help: "Ends with status 1 if the condition doesn't hold, or says nothing" };
+
+#[rattlefmt::skip]
+const NO_DOUBT: OptionRow = OptionRow { id: "strict", spelling: Long("strict"), takes: Nothing, default: None, help: "Ends with status 1 if anything is doubtful" };
+
+#[rattlefmt::skip]
+const CLEAN: OptionRow = OptionRow { id: "strict", spelling: Long("strict"), takes: Nothing, default: None, help: "Ends with status 1 if the verdict is another than clean" };
+
+#[rattlefmt::skip]
+const ANY_SETTING: OptionRow = OptionRow { id: "strict", spelling: Long("strict"), takes: Nothing, default: None, help: "Ends with status 1 if a controller has no setting" };
+
+#[rattlefmt::skip]
 const EXPLAIN: OptionRow = OptionRow { id: "explain", spelling: Long("explain"), takes: Nothing, default: None, help: "Says of each part which command says it" };
 
 #[rattlefmt::skip]
@@ -188,13 +200,13 @@ pub(crate) const SHARED: [OptionRow; 3] = [OUTPUT, HINT, PROGRESS];
 pub(crate) const SUBCOMMANDS: [SubcommandRow; 18] = [
     SubcommandRow { word: "init", about: "Writes a plan to begin from: equal controllers along a cable, a remark on each key", options: &[NODES, BITRATE, CABLE, KIND] },
     SubcommandRow { word: "judge", about: "Tests and simulates the plan, and writes whether its bus works, how sure that is, and what would help", options: &[TICK, EXPLAIN, FORMAT] },
-    SubcommandRow { word: "run", about: "Simulates the plan, and writes the report of its nodes and frames", options: &[WORKERS, LINK, BRIEF, FORMAT] },
-    SubcommandRow { word: "margin", about: "Tests the plan, and writes whether its bus works at all phases and clocks, and with how much to spare", options: &[TICK, ALL_SEND, FORMAT] },
-    SubcommandRow { word: "explain", about: "Tests the plan, and writes what is wrong or doubtful and the figures of its nodes", options: &[FORMAT] },
+    SubcommandRow { word: "run", about: "Simulates the plan, and writes the report of its nodes and frames", options: &[WORKERS, LINK, BRIEF, CLEAN, FORMAT] },
+    SubcommandRow { word: "margin", about: "Tests the plan, and writes whether its bus works at all phases and clocks, and with how much to spare", options: &[TICK, ALL_SEND, HOLDS, FORMAT] },
+    SubcommandRow { word: "explain", about: "Tests the plan, and writes what is wrong or doubtful and the figures of its nodes", options: &[NO_DOUBT, FORMAT] },
     SubcommandRow { word: "respond", about: "Tests the plan, and writes how long each message may wait, at all phases and clocks, and whether that is in time", options: &[TICK, ANY_DATA, IN_TIME, FORMAT] },
     SubcommandRow { word: "traffic", about: "Simulates the plan, and writes how busy the bus was, how long messages waited, and whether it works", options: &[TICK, WORKS, FORMAT] },
     SubcommandRow { word: "check", about: "Tests the plan, and writes what its bit segments allow and how long its cable takes", options: &[FORMAT] },
-    SubcommandRow { word: "settings", about: "Finds the bit timings with which a bus works for a clock, a bit rate and a cable, the best first", options: &[TICK, BEST, PLAN, KINDS, CLOCKS, RATE, LENGTH, PER, OUT, IN, TOLERANCE, SENDERS, RATE_ERROR, SAMPLE_POINT, NODE_COUNT] },
+    SubcommandRow { word: "settings", about: "Finds the bit timings with which a bus works for a clock, a bit rate and a cable, the best first", options: &[TICK, BEST, PLAN, ANY_SETTING, KINDS, CLOCKS, RATE, LENGTH, PER, OUT, IN, TOLERANCE, SENDERS, RATE_ERROR, SAMPLE_POINT, NODE_COUNT] },
     SubcommandRow { word: "sweep", about: "Simulates the plan over phases, clocks and values of keys, and writes how often the bus is clean", options: &[VARY, STEP, RUNS, SEED, THREADS, KEEP_OFFSETS, KEEP_PPM, WORST, PRINT, PAGE, PART, JOIN, FORMAT] },
     SubcommandRow { word: "trace", about: "Simulates the plan, and writes what happened to each node: errors, flags, frames, modes", options: &[FROM_TICK, TO_TICK, NODE, ONLY, FORMAT] },
     SubcommandRow { word: "page", about: "Simulates the plan, and writes one page of HTML that shows it in a browser, of a long run a part", options: &[TICK, FROM_TIME, TO_TIME] },

@@ -23,10 +23,11 @@ pub enum Task {
     /// The records of a plan's simulation within a window.
     Records(Window),
     /// The report of a plan's simulation by this many workers, 1 to 8, over this kind of link. One works alone, on the program's own
-    /// thread. If it is to be brief, lines of frames are left out.
-    Run(u8, LinkKind, bool),
-    /// What is doubtful of a plan, and the figures of its nodes; or what is wrong with it.
-    Explain,
+    /// thread. If it is to be brief, lines of frames are left out. If that is asked for, the status says whether the verdict is clean.
+    Run(u8, LinkKind, bool, bool),
+    /// What is doubtful of a plan, and the figures of its nodes; or what is wrong with it. If that is asked for, the status says whether
+    /// anything is doubtful.
+    Explain(bool),
     /// What happened to each node in a plan's simulation, and where, as far as it is picked.
     Trace(Pick),
     /// The log of the frames that a plan's simulation sends within a window, at ticks that take so long, the first of them at this second. If
@@ -37,8 +38,8 @@ pub enum Task {
     /// One page of HTML that shows a plan's simulation, and the events and the waveform of a window, at ticks that take so long.
     Page(Tick, Window),
     /// Whether a plan's bus works, and with how much to spare, at ticks that take so long; of the plan's senders, or, if that is asked for, of
-    /// all nodes that don't only listen.
-    Margin(Tick, bool),
+    /// all nodes that don't only listen. If that is asked for, the status says whether it works.
+    Margin(Tick, bool, bool),
     /// How long the messages of a plan may wait, at ticks that take so long: of any data, if that is asked for. If that is asked for, the status
     /// says whether all deadlines are met.
     Respond(Tick, bool, bool),
@@ -47,8 +48,9 @@ pub enum Task {
     Traffic(Tick, bool),
     /// Whether a plan's bus works, at ticks that take so long; if that is asked for, with the commands that say so.
     Judge(Tick, bool),
-    /// The settings with which a bus works, or the plan of the best one, at ticks that take so long.
-    Settings(Tick, Shown),
+    /// The settings with which a bus works, or the plan of the best one, at ticks that take so long. If that is asked for, the status says
+    /// whether each controller has one.
+    Settings(Tick, Shown, bool),
     /// How many members of a family of plans are clean, or one member as a plan.
     Sweep(Swept),
 }

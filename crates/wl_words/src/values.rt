@@ -33,7 +33,7 @@ pub struct Values {
     pub swept: Option<Swept>,
     /// What is written of the settings of a bus.
     pub shown: Shown,
-    /// Whether the status says if a run works.
+    /// Whether the status says if a bus works, or what else a command is about.
     pub strict: bool,
     /// Whether each part of an answer has the command that says it.
     pub explain: bool,

@@ -7,5 +7,5 @@ use Rattle.wl_sim.proofs.run.Goals as goal
 pub returns-in-Run : goal.returns-in-Run
 returns-in-Run g c =
     subst
-    (λ (task : Task). Does g.R.Source.gives g.W.Sink.takes c.args.reader.now c.run_by.new.reader c.args.writer.now c.run_by.new.writer task (map string_bytes c.args.work.ranges.now) c.args.work.asked.now c.plainly-in-Run.result)
-    (sym c.in-Run.is) (c.run_by.result, c.run_by.ensures, c.plainly-in-Run.ensures)
+    (λ (task : Task). Does g.R.Source.gives g.W.Sink.takes c.args.reader.now c.run_by.new.reader c.args.writer.now c.run_by.new.writer task (map string_bytes c.args.work.ranges.now) c.args.work.asked.now c.of_verdict-in-Run.result)
+    (sym c.in-Run.is) (c.run_by.result, c.run_by.ensures, c.of_verdict-in-Run.ensures)
