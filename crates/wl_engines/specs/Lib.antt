@@ -6,6 +6,7 @@ pub mod Merge
 pub mod Plans
 pub mod Explained
 pub mod Answered
+pub mod Holding
 pub mod Margin
 pub mod Reader
 pub mod Responded

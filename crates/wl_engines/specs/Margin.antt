@@ -7,17 +7,20 @@ use Rattle.wl_views.specs.Ticks.{tick_picoseconds}
 use Rattle.wl_setup.specs.declared.bus.Bus.{Bus}
 use Rattle.wl_setup.specs.declared.fault.SetupFault.TheVariants as setup
 use Rattle.wl_setup.specs.Buses.{GivesBus}
-use Rattle.wl_margin.specs.Holding.{is_held}
 use Rattle.wl_margin.specs.Margins.{IsAllSendText, IsMarginText}
-use Rattle.wl_margin.specs.declared.reasons.Asked.TheVariants.{AllNodes, ThisPlan}
 use Rattle.wl_engines.specs.declared.fault.RunFault.{RunFault}
 use Rattle.wl_engines.specs.declared.fault.RunFault.TheVariants.{Setup}
+use Rattle.wl_engines.specs.Holding.{asked_by, is_held}
 use Rattle.wl_engines.specs.Ran.{RanWith}
 
--- the margin of the bus, at ticks that last so long, and whether the condition holds: of the plan's senders, or of all nodes that don't only listen
+-- the margin of the bus, at ticks that last so long: of the plan's senders, or of all nodes that don't only listen
+abbrev pub IsMargin : Tick → (all : Bool) → Bus → List ℕ → Type 0
+IsMargin tick false bus text = IsMarginText (tick_picoseconds tick) bus text
+IsMargin tick true bus text = IsAllSendText (tick_picoseconds tick) bus text
+
+-- that, and whether the condition holds
 abbrev pub IsMarginOutput : Tick → (all : Bool) → Bus → List ℕ → (holds : Bool) → Type 0
-IsMarginOutput tick false bus text holds = IsMarginText (tick_picoseconds tick) bus text × (holds ≡ is_held ThisPlan bus)
-IsMarginOutput tick true bus text holds = IsAllSendText (tick_picoseconds tick) bus text × (holds ≡ is_held AllNodes bus)
+IsMarginOutput tick all bus text holds = IsMargin tick all bus text × (holds ≡ is_held (asked_by all) bus)
 
 module _ {A S T : Type 0} (gives : S → Answer → S → Type 0) (takes : T → Answer → T → Type 0) (IsOutput : Bus → List ℕ → A → Type 0) (s s' : S) (t t' : T) where
   -- the output of the bus that was read went out, as far as it went, and this is answered with it

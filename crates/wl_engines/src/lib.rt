@@ -19,6 +19,7 @@ mod check;
 mod explain;
 mod fault;
 mod gather;
+mod holding;
 mod horizon;
 mod judge;
 mod kept;

@@ -1,25 +1,26 @@
 //! The margin of a bus.
-ghost use Rattle.std.specs.Prelude.{◌≡◌, IfOk, length, string_bytes};
-ghost use Rattle.wl_engines.specs.Margin.{IsMarginOutput, RunsBus};
+ghost use Rattle.std.specs.Prelude.{◌≡◌, IfOk, length};
+ghost use Rattle.wl_engines.specs.Margin.{IsMargin, IsMarginOutput, RunsBus};
 ghost use Rattle.wl_engines.specs.Output.{OutputsWith};
 
 use crate::fault::RunFault;
+use crate::holding::{asked_by, bus_holds};
 use crate::output::write_answer;
 use std::alloc::{AllocError, Global};
 use wl_device::{Sink, Source};
-use wl_margin::{Margin, all_send_margin, margin_of};
+use wl_margin::{all_send_text, margin_text};
 use wl_setup::{Bus, read_bus};
 use wl_views::Tick;
 
 /// Returns the margin of a bus: of the plan's senders, or, if `all_send`, of all nodes that don't only listen.
-fn margin_for(alloc: Global, tick: Tick, all_send: bool, bus: &Bus) -> Result<Margin, AllocError>
+fn text_of_bus(alloc: Global, tick: Tick, all_send: bool, bus: &Bus) -> Result<Vec<u8>, AllocError>
     requires { length bus.now.deviations ≡ length bus.now.plan.nodes }
-    ensures { IfOk result (λ m. IsMarginOutput tick all_send bus.now (string_bytes m.text) m.holds) }
+    ensures { IfOk result (λ text. IsMargin tick all_send bus.now text.items) }
 {
     if all_send {
-        all_send_margin(alloc, tick.picoseconds(), bus)
+        Ok(all_send_text(alloc, tick.picoseconds(), bus)?.into_bytes())
     } else {
-        margin_of(alloc, tick.picoseconds(), bus)
+        Ok(margin_text(alloc, tick.picoseconds(), bus)?.into_bytes())
     }
 }
 
@@ -34,8 +35,9 @@ fn write_margin<W: Sink>(
     requires { length bus.now.deviations ≡ length bus.now.plan.nodes }
     ensures { OutputsWith W.takes (IsMarginOutput tick all_send bus.now) writer.old writer.new result }
 {
-    let margin = margin_for(alloc, tick, all_send, bus)?;
-    write_answer(margin.holds, margin.text.as_bytes(), writer)
+    let text = text_of_bus(alloc, tick, all_send, bus)?;
+    let holds = bus_holds(alloc, asked_by(all_send), bus)?;
+    write_answer(holds, &text, writer)
 }
 
 /// Reads a plan's text, tests whether the plan can be run, and writes the margin of its bus, at all offsets and clocks within their
