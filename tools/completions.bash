@@ -12,18 +12,19 @@ _wireline() {
   esac
   case ${COMP_WORDS[1]} in
     init) options+=' --nodes --bitrate --cable --kind' ;;
-    run) options+=' --workers --link --brief --format' ;;
-    check | explain) options+=' --format' ;;
+    run) options+=' --workers --link --brief --strict --format' ;;
+    check) options+=' --format' ;;
+    explain) options+=' --strict --format' ;;
     records) options+=' --from --to' ;;
     trace) options+=' --from --to --node --only --format' ;;
     candump) options+=' --tick --from --since --to --errors' ;;
     vcd | page) options+=' --tick --from --to' ;;
     merge | horizon) options+=' --wide' ;;
-    margin) options+=' --tick --all-send --format' ;;
+    margin) options+=' --tick --all-send --strict --format' ;;
     judge) options+=' --tick --explain --format' ;;
     respond) options+=' --tick --any-data --strict --format' ;;
     traffic) options+=' --tick --strict --format' ;;
-    settings) options+=' --tick --best --plan --kind --clock --bitrate --cable --per --out --in --tolerance --senders --rate-error --sample-point --nodes --format' ;;
+    settings) options+=' --tick --best --plan --strict --kind --clock --bitrate --cable --per --out --in --tolerance --senders --rate-error --sample-point --nodes --format' ;;
     sweep) options+=' --vary --step --runs --seed --keep-offsets --keep-ppm --worst --workers --print --page --part --join --format' ;;
   esac
   if [ "$COMP_CWORD" = 1 ]; then
