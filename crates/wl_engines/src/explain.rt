@@ -13,7 +13,7 @@ use crate::respond::plain_of;
 use std::alloc::{AllocError, Global};
 use toml::Table;
 use wl_device::{Ended, Sink, Source, write_all};
-use wl_explain::{Explanation, explain_fault, explain_plan, explain_size, explain_toml};
+use wl_explain::{Explained, explain_fault, explain_plan, explain_size, explain_toml};
 use wl_setup::{
     Bus, NoDocument, PlacedFault, SetupFault, bus_of_document, document_or_place, read_bytes,
 };
@@ -43,7 +43,7 @@ pub fn explain_run<R: Source, W: Sink>(
 }
 
 /// Returns what is doubtful of a text's bus, and its figures.
-fn doubts_of(alloc: Global, text: &[u8], bus: &Bus) -> Result<Explanation, AllocError>
+fn doubts_of(alloc: Global, text: &[u8], bus: &Bus) -> Result<Explained, AllocError>
     requires size { length text.now ≤ most_bytes }
     requires deviations { length bus.now.deviations ≡ length bus.now.plan.nodes }
     ensures { IfOk result (λ e. IsExplanationOf text.now bus.now (string_bytes e.text) e.doubted) }

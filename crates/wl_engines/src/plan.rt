@@ -81,11 +81,7 @@ fn are_clean(nodes: &[NodeTotals]) -> bool
 }
 
 /// Returns the report and its verdict, of what it says of nodes.
-pub(crate) fn verdict_as(
-    alloc: Global,
-    brief: bool,
-    totals: &Totals,
-) -> Result<Report, AllocError>
+pub(crate) fn verdict_as(alloc: Global, brief: bool, totals: &Totals) -> Result<Report, AllocError>
     ensures text { IfOk result (λ r. r.text.items ≡ report_text (shown_totals brief totals.now)) }
     ensures clean { IfOk result (λ r. r.clean ≡ list_all is_clean totals.now) }
 {
@@ -96,7 +92,8 @@ pub(crate) fn verdict_as(
 
 /// Returns the report of a plan's simulation, without the lines of frames if it is to be brief.
 fn report_of(alloc: Global, brief: bool, plan: &CheckedPlan) -> Result<Report, AllocError>
-    ensures text { IfOk result (λ r. r.text.items ≡ report_text (shown_totals brief (totals_of (outcome_of plan.now)))) }
+    ensures text { IfOk result (λ r. r.text.items
+        ≡ report_text (shown_totals brief (totals_of (outcome_of plan.now)))) }
     ensures clean { IfOk result (λ r. r.clean ≡ is_clean_run plan.now) }
 {
     let totals = run_totals(alloc, plan)?;
@@ -110,7 +107,8 @@ fn write_run<W: Sink>(
     plan: &CheckedPlan,
     writer: &mut W,
 ) -> Result<bool, RunFault>
-    ensures { (names : List (List ℕ)) → OutputsWith W.takes (IsReportOutput brief plan.now names) writer.old writer.new result }
+    ensures { (names : List (List ℕ))
+        → OutputsWith W.takes (IsReportOutput brief plan.now names) writer.old writer.new result }
 {
     let report = report_of(alloc, brief, plan)?;
     write_answer(report.clean, &report.text, writer)

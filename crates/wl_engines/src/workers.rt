@@ -62,10 +62,7 @@ fn report_by<H: Threads + Wait + Sync>(
 }
 
 /// Writes a report if there is one, and returns whether its verdict is clean.
-fn write_report<W: Sink>(
-    made: Result<Report, RunFault>,
-    writer: &mut W,
-) -> Result<bool, RunFault>
+fn write_report<W: Sink>(made: Result<Report, RunFault>, writer: &mut W) -> Result<bool, RunFault>
     ensures { MatchResult made (λ r. WritesAnswer W.takes r.text.items r.clean writer.old writer.new result)
         (λ fault. (result ≡ Err fault) × (writer.new ≡ writer.old)) }
 {

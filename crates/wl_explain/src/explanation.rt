@@ -156,7 +156,7 @@ fn family_in(alloc: Global, bus: &Bus) -> Result<Option<Family>, AllocError>
 
 /// The explanation of a plan.
 #[derive(Drop)]
-pub struct Explanation {
+pub struct Explained {
     /// What is doubtful of the plan, one a line, and then its figures.
     pub text: String,
     /// Whether anything is doubtful.
@@ -181,11 +181,7 @@ pub struct Explanation {
 /// tolerance in parts per million, and how much of it the other clocks leave to both nodes of a pair. It also has the longest cable, in
 /// nanoseconds along it and in metres at 5 ns each. A quantum is the mean of those that the node runs before the end. A tick is taken for a
 /// nanosecond. Refused out of memory alone.
-pub fn explain_plan(
-    alloc: Global,
-    plain: &PlanText,
-    bus: &Bus,
-) -> Result<Explanation, AllocError>
+pub fn explain_plan(alloc: Global, plain: &PlanText, bus: &Bus) -> Result<Explained, AllocError>
     requires deviations { length bus.now.deviations ≡ length bus.now.plan.nodes }
     ensures { IfOk result (λ e. IsExplanation plain.now bus.now (string_bytes e.text) e.doubted) }
 {
@@ -199,7 +195,7 @@ pub fn explain_found(
     plain: &PlanText,
     bus: &Bus,
     found: Option<(Headroom, Headroom)>,
-) -> Result<Explanation, AllocError>
+) -> Result<Explained, AllocError>
     requires deviations { length bus.now.deviations ≡ length bus.now.plan.nodes }
     requires found { IsHeadroomFound found (bus_family bus.now) }
     ensures { IfOk result (λ e. IsExplanation plain.now bus.now (string_bytes e.text) e.doubted) }
@@ -212,5 +208,5 @@ pub fn explain_found(
     push_waits(&mut text, &bus.names, &waits)?;
     let doubted = text.len() > 0;
     push_figures_of(&mut text, bus, other, &family, found)?;
-    Ok(Explanation { text, doubted })
+    Ok(Explained { text, doubted })
 }

@@ -25,7 +25,7 @@ pub use doubts::{
     borne, difference, first_early, first_late, has_no_room, idle_from, left, longest_round,
     round_trip, wanted_bits,
 };
-pub use explanation::{Explanation, explain_found, explain_plan};
+pub use explanation::{Explained, explain_found, explain_plan};
 pub use laws::figures_of_the_run;
 pub use refusal::{
     column_number, explain_fault, explain_size, explain_toml, form_of, line_number, subject,

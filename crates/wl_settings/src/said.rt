@@ -23,7 +23,7 @@ pub enum Shown {
 
 /// What is written, with what goes with it.
 #[derive(Drop)]
-pub(crate) struct Said {
+pub(crate) struct Written {
     /// The text.
     pub(crate) text: String,
     /// Whether each controller that was asked about has a setting with which the bus works.
@@ -66,7 +66,7 @@ fn push_each(
 }
 
 /// Returns what is found for each controller as text.
-fn list_text(alloc: Global, best: u32, wanted: &Wanted) -> Result<Said, AllocError>
+fn list_text(alloc: Global, best: u32, wanted: &Wanted) -> Result<Written, AllocError>
     ensures { IfOk result (λ said. IsListText best wanted.now (string_bytes said.text) said.all) }
 {
     let mut text = String::new(alloc);
@@ -77,7 +77,7 @@ fn list_text(alloc: Global, best: u32, wanted: &Wanted) -> Result<Said, AllocErr
         best,
         wanted.controllers.as_slice(),
     )?;
-    Ok(Said { text, all })
+    Ok(Written { text, all })
 }
 
 /// Returns the plan of the first of these rows, if there is one.
@@ -115,7 +115,7 @@ fn first_plan(
 }
 
 /// Returns what is to be shown of what a text asks for; `NoSetting` if it is a plan, and there is none.
-pub(crate) fn said(alloc: Global, shown: Shown, wanted: &Wanted) -> Result<Said, SettingsFault>
+pub(crate) fn said(alloc: Global, shown: Shown, wanted: &Wanted) -> Result<Written, SettingsFault>
     ensures ok { IfOk result (λ said. IsShown shown wanted.now (Ok (string_bytes said.text)) said.all) }
     ensures fault { IfErr result (λ e. e ≢ Memory → IsShown shown wanted.now (Err e) true) }
 {
@@ -123,7 +123,7 @@ pub(crate) fn said(alloc: Global, shown: Shown, wanted: &Wanted) -> Result<Said,
         Shown::Best(best) => Ok(list_text(alloc, best.unwrap_or(u32::MAX), wanted)?),
         Shown::Plan => {
             let text = first_plan(alloc, &wanted.asked, wanted.controllers.as_slice())?;
-            Ok(Said { text, all: true })
+            Ok(Written { text, all: true })
         }
     }
 }

@@ -152,10 +152,7 @@ fn of_settings_fault(fault: SettingsFault) -> Fault
 }
 
 /// Returns what a search for settings answered, whose status is to say, if it is strict, whether each controller has one.
-pub(crate) fn of_settings(
-    strict: bool,
-    answer: Result<bool, SettingsFault>,
-) -> Result<Done, Fault>
+pub(crate) fn of_settings(strict: bool, answer: Result<bool, SettingsFault>) -> Result<Done, Fault>
     ensures { result ≡ of_settings strict answer }
 {
     match answer {

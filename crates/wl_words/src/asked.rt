@@ -47,7 +47,8 @@ fn with_topics(
     topics: &[Topic],
     matches: &ArgMatches,
 ) -> Result<Vec<AskedWord>, AllocError>
-    ensures { IfOk result (λ all. all.items ≡ words.items ++ asked_about_each topics.now (rows_of (found_of matches.now))) }
+    ensures { IfOk result (λ all. all.items
+        ≡ words.items ++ asked_about_each topics.now (rows_of (found_of matches.now))) }
 {
     match topics {
         [] => Ok(words),

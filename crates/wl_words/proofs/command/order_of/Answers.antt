@@ -27,18 +27,18 @@ returns-in-Some-format_of_subcommand-clause-order c =
     let enters : asks_once (entered words) ≡ true → Enters c.in-Some.task words = λ once.
     (subst (λ o. FoundTask o c.in-Some.task) rows found, clean, ap is_some format, once) in
     subst (FindsOrder words) (sym c.asked_once.ensures) (
-      found_once words c.in_ok-order-in-Some-format_of_subcommand.order _ refl
-      (λ once. (
-        subst (λ t. Enters t words) (sym made.task) (enters once),
-        input,
-        made.output ∙ ap (file_in (codes "output")) rows,
-        made.hint ∙ ap (has_flag (codes "hint")) rows,
-        made.progress ∙ ap (has_flag (codes "progress")) rows,
-        made.ranges ∙ ap ranges_in rows,
-        format ∙ ap Some (sym made.format),
-        asked,
-      ))
-      (sym (ap₂ is_asked_once input asked))
+    found_once words c.in_ok-order-in-Some-format_of_subcommand.order _ refl
+    (λ once. (
+      subst (λ t. Enters t words) (sym made.task) (enters once),
+      input,
+      made.output ∙ ap (file_in (codes "output")) rows,
+      made.hint ∙ ap (has_flag (codes "hint")) rows,
+      made.progress ∙ ap (has_flag (codes "progress")) rows,
+      made.ranges ∙ ap ranges_in rows,
+      format ∙ ap Some (sym made.format),
+      asked,
+    ))
+    (sym (ap₂ is_asked_once input asked))
     )
 
 no_format : (o : Option (Option Format)) → o ≡ None → is_some o ≡ true → ⊥
