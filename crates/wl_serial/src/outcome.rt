@@ -75,6 +75,15 @@ pub struct NodeTotals {
 /// What a report says of each node, node `i` at place `i`.
 pub type Totals = Listed<NodeTotals>;
 
+/// What is kept of a simulation whose nodes only count.
+#[derive(Debug, Drop)]
+pub struct Counted {
+    /// The ticks at which the drive of each node changed.
+    pub drives: Drives,
+    /// What a report says of each node.
+    pub totals: Totals,
+}
+
 impl NodeOutcome {
     /// Returns what a report says of the node. Refused only when out of memory.
     fn totals(&self, alloc: Global) -> Result<NodeTotals, AllocError>
