@@ -31,5 +31,5 @@ returns c samples seen =
           ∙ ap (λ (es : List Entry). (queue_with_sample setup (front.0, es) sample).1) seen.entries
           ∙ ap (λ (r : SampledPast × List Entry). r.1) (sym more);
       last = sym (final_more samples sample);
-      found = c.in_ok-take.ensures setup samples sample seen.found c.at.ensures doing;
+      found = c.in_ok-take.ensures setup samples sample seen.found c.at.ensures.tick doing;
     }
