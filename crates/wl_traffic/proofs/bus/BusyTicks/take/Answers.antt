@@ -1,7 +1,6 @@
 -- The spans before the sample end where it is, and the last one goes on.
-use Rattle.std.proofs.Common.{◌≡◌, ◌∙◌, ◌++◌, ◌∷◌, [], ap, ap₂, sym, max, ◌||◌, Bool, ℕ, List}
+use Rattle.std.proofs.Common.{◌∙◌, ◌++◌, ◌∷◌, [], ap, ap₂, sym, max, ◌||◌, Bool, ℕ}
 use Rattle.wl_clock.specs.Timing.{tick_of}
-use Rattle.wl_level.specs.declared.Level.{Level}
 use Rattle.wl_machine.specs.declared.doing.Doing.{Doing}
 use Rattle.wl_traffic.specs.Bus.{is_busy_span, is_off_doing}
 use Rattle.wl_traffic.specs.Watching.{finds_up_to}

@@ -1,6 +1,5 @@
 -- The node, its frames, its last sample and when it found the bus busy, with one sample more.
 use Rattle.std.proofs.Common.{◌≡◌, ◌∙◌, ◌++◌, ◌∷◌, [], ap, sym, subst, ℕ, List}
-use Rattle.wl_clock.specs.Timing.{tick_of}
 use Rattle.wl_level.specs.declared.Level.{Level}
 use Rattle.wl_machine.specs.Doing.{doing_of}
 use Rattle.wl_machine.specs.Judged.{stretch_of}
