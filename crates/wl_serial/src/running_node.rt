@@ -268,24 +268,7 @@ impl Running {
         ensures { (plan : GivenPlan) (i : ℕ) → IsChecked plan → i < length plan.nodes → IsRunning plan i self
             → plan.end ≤ self.next → result ≡ node_totals (node_outcome_of plan i) }
     {
-        wl_plan::checked_is_sound();
-        wl_plan::simulation_laws();
-        let samples = self.node.sample_count();
-        let counters = self.node.counters();
-        let hards = self.node.hards();
-        let errors = self.node.errors();
-        let unsent = self.node.unsent();
-        let phases = self.node.phase_totals();
-        let lists = self.node.into_lists();
-        NodeTotals {
-            samples,
-            frames: lists.frames,
-            counters,
-            phases,
-            hards,
-            errors,
-            unsent,
-        }
+        self.counted().1
     }
 
     /// Returns the ticks at which its drive changed, and what a report says of it; it has run all its quanta before the end.
