@@ -77,7 +77,12 @@ impl Watch {
 }
 
 /// Returns what is seen of node `i`.
-fn watch(alloc: Global, plan: &CheckedPlan, drives: &Drives, i: usize) -> Result<Watch, AllocError>
+fn watch_samples(
+    alloc: Global,
+    plan: &CheckedPlan,
+    drives: &Drives,
+    i: usize,
+) -> Result<Watch, AllocError>
     requires drives { drives.now ≡ drives_of (outcome_of plan.now) }
     requires node { i < length plan.now.nodes }
     ensures { IfOk result (HasWatched (setup_at plan.now i) (node_outcome_of plan.now i).samples) }
@@ -107,7 +112,7 @@ fn watch_node(
 {
     let (setup, node) = node_at(plan, &counted.totals, i);
     let received = received_quanta(alloc, node.frames.as_slice())?;
-    let seen = watch(alloc, plan, &counted.drives, i)?;
+    let seen = watch_samples(alloc, plan, &counted.drives, i)?;
     let off = seen.found.off;
     let found = seen.found.all_until(alloc, there_until(setup, plan.end))?;
     busy.join(&found)?;

@@ -1,5 +1,5 @@
 -- Nothing was seen.
-use Rattle.std.proofs.Common.{◌≡◌, ◌∙◌, ap, map, refl, List}
+use Rattle.std.proofs.Common.{◌∙◌, ap, map, refl, List}
 use Rattle.wl_node.specs.declared.setup.Queued.{Queued}
 use Rattle.wl_traffic.specs.Entries.{waiting_entry}
 use Rattle.wl_traffic.proofs.watch.Watch.new.Goals as goal

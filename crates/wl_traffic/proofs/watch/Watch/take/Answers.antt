@@ -1,6 +1,5 @@
 -- The node, its frames, its last sample and when it found the bus busy, with one sample more.
 use Rattle.std.proofs.Common.{◌≡◌, ◌∙◌, ◌++◌, ◌∷◌, [], ap, sym, subst, ℕ, List}
-use Rattle.wl_clock.specs.Timing.{tick_of}
 use Rattle.wl_level.specs.declared.Level.{Level}
 use Rattle.wl_machine.specs.Doing.{doing_of}
 use Rattle.wl_machine.specs.Judged.{stretch_of}
@@ -31,5 +30,5 @@ returns c samples seen =
           ∙ ap (λ (es : List Entry). (queue_with_sample setup (front.0, es) sample).1) seen.entries
           ∙ ap (λ (r : SampledPast × List Entry). r.1) (sym more);
       last = sym (final_more samples sample);
-      found = c.in_ok-take.ensures setup samples sample seen.found c.at.ensures doing;
+      found = c.in_ok-take.ensures setup samples sample seen.found c.at.ensures.tick doing;
     }

@@ -3,7 +3,7 @@ use Rattle.wl_node.specs.Limits.{most_run_quanta}
 use Rattle.wl_plan.specs.PlanLine.{setup_at}
 use Rattle.wl_views.specs.Sampling.{IsSampling, given_by, quanta_sampled}
 use Rattle.wl_traffic.specs.Watching.{HasWatched}
-use Rattle.wl_traffic.proofs.watch.watch.Given as goal
+use Rattle.wl_traffic.proofs.watch.watch_samples.Given as goal
 
 -- what was seen is that of the samples so far
 abbrev pub invariant-loop-sample : goal.invariant-loop-sample

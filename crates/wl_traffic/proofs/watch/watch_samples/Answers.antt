@@ -1,13 +1,12 @@
 -- One sample more, up to the last.
-use Rattle.std.proofs.Common.{◌≡◌, ◌≤◌, ◌++◌, ◌∷◌, [], arith, sym, subst, ℕ, List}
+use Rattle.std.proofs.Common.{◌++◌, ◌∷◌, [], arith, sym, subst, ℕ, List}
 use Rattle.wl_level.specs.declared.Level.{Level}
-use Rattle.wl_node.specs.Limits.{most_run_quanta}
 use Rattle.wl_node.specs.declared.setup.NodeSetup.{NodeSetup}
 use Rattle.wl_plan.specs.declared.plan.Plan.{Plan}
 use Rattle.wl_plan.specs.PlanLine.{setup_at}
 use Rattle.wl_views.specs.Sampling.{given_by}
 use Rattle.wl_traffic.specs.Watching.{HasWatched}
-use Rattle.wl_traffic.proofs.watch.watch.Goals as goal
+use Rattle.wl_traffic.proofs.watch.watch_samples.Goals as goal
 
 pub loop-sample-init : goal.loop-sample-init
 loop-sample-init c =
@@ -42,12 +41,12 @@ loop-sample-preserved c =
       seen = subst (λ xs. HasWatched (setup_at plan i) xs c.take.new.self) (sym (c.next.ensures.more c.in-Some.sample c.in-Some.is)) new;
     }
 
-pub loop-sample-decreases : goal.loop-sample-decreases
-loop-sample-decreases c =
+pub loop-sample-smaller : goal.loop-sample-smaller
+loop-sample-smaller c =
     let later = c.next.ensures.later c.in-Some.sample c.in-Some.is in
     let few = c.next.ensures.few c.in-Some.sample c.in-Some.is in
     omega (arith, later, few)
 
 pub returns : goal.returns
 returns c =
-    subst (λ xs. HasWatched (setup_at c.args.plan.now c.args.i) xs c.loop-sample.seen) (c.next.ensures.all c.in-None.is) c.loop-sample.invariant.seen
+    subst (λ xs. HasWatched (setup_at c.args.plan.now c.args.i) xs c.loop-sample.seen) (c.next.ensures.all c.in_default.is) c.loop-sample.invariant.seen
