@@ -18,15 +18,15 @@ said_more : (a : Asked) (best : ℕ) (cs : List Controller) (c : Controller) (te
 said_more a best [] c text more before has are is =
     (more, [], has, true, is, (refl, refl), ap (λ t. t ++ more) are.0 ∙ sym (append-nil more), ap (λ b. b && has) are.1 ∙ true_last has)
 said_more a best (d ∷ ds) c text more before has are is = (
-      are.0,
-      are.1 ++ more,
-      are.2,
-      are.3 && has,
-      are.4,
-      said_more a best ds c are.1 more are.3 has are.5 is,
-      ap (λ t. t ++ more) are.6 ∙ append_assoc are.0 are.1 more,
-      ap (λ b. b && has) are.7 ∙ all_then are.2 are.3 has,
-    )
+  are.0,
+  are.1 ++ more,
+  are.2,
+  are.3 && has,
+  are.4,
+  said_more a best ds c are.1 more are.3 has are.5 is,
+  ap (λ t. t ++ more) are.6 ∙ append_assoc are.0 are.1 more,
+  ap (λ b. b && has) are.7 ∙ all_then are.2 are.3 has,
+)
 
 pub grows_more : (a : Asked) (best : ℕ) (cs : List Controller) (i : ℕ) (c : Controller) (old mid new : List ℕ) (before has : Bool) → i < length cs
     → c ≡ get_or cs i c → GrowsBySaid a best (take i cs) old mid before → GrowsByFound a c best mid new has

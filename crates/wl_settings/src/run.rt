@@ -11,8 +11,8 @@ use crate::topics::AskedWord;
 use std::alloc::Global;
 use wl_device::{Sink, Source, write_all};
 
-/// Reads what is asked for, writes the settings of each controller with which the bus works, or the plan of the first one, and returns whether
-/// each controller has a setting, or the first one. A tick takes `tick` picoseconds.
+/// Reads what is asked for, and writes the settings of each controller with which the bus works, or the plan of the first one. Returns whether
+/// each controller has a setting; if the plan is written, the first one has. A tick takes `tick` picoseconds.
 ///
 /// The whole output is made before the first write. If the input is refused, memory runs out, or a plan is asked for and there is none, the
 /// writer isn't called; if the writer fails, a prefix of the output has been written.
@@ -31,8 +31,8 @@ pub fn settings_run<R: Source, W: Sink>(
     Ok(said.all)
 }
 
-/// Writes the settings of each controller that words ask for with which the bus works, or the plan of the first one, and returns whether each
-/// controller has a setting, or the first one. A tick takes `tick` picoseconds, and a unit of length is a metre.
+/// Writes the settings of each controller that words ask for with which the bus works, or the plan of the first one. Returns whether each
+/// controller has a setting; if the plan is written, the first one has. A tick takes `tick` picoseconds, and a unit of length is a metre.
 ///
 /// If the words are refused, memory runs out, or a plan is asked for and there is none, the writer isn't called; if the writer fails, a prefix
 /// of the output has been written. `Missing` and `Kind` name an option, as `--cable`.

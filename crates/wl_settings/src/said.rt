@@ -1,5 +1,5 @@
 //! What is written of what a text asks for.
-ghost use Rattle.std.specs.Prelude.{◌≡◌, ◌≢◌, true, Ok, Err, IfOk, IfErr, string_bytes};
+ghost use Rattle.std.specs.Prelude.{◌≡◌, ◌≢◌, ◌&&◌, true, Ok, Err, IfOk, IfErr, string_bytes};
 ghost use Rattle.wl_settings.specs.Said.{GrowsByFound, GrowsBySaid, IsListText, IsPlanSaid, IsShown, plan_said};
 ghost use Rattle.wl_settings.specs.declared.fault.SettingsFault.TheVariants.{Memory};
 
@@ -46,6 +46,13 @@ fn push_found(
     Ok(listing.rows.len() > 0)
 }
 
+/// True if some controllers and one more have settings.
+fn have_both(all: bool, has: bool) -> bool
+    ensures { result ≡ (all && has) }
+{
+    all && has
+}
+
 /// Adds what is found for each controller, and returns whether each has a setting.
 fn push_each(
     alloc: Global,
@@ -60,7 +67,7 @@ fn push_each(
     let mut all = true;
     for controller in controllers {
         let has = push_found(alloc, text, asked, best, controller)?;
-        all = all && has;
+        all = have_both(all, has);
     }
     Ok(all)
 }

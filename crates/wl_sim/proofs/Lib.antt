@@ -1,2 +1,3 @@
 mod Words
 mod Written
+mod SettingsFound

@@ -9,9 +9,9 @@ returns-in_err-wanted g c =
       | inr other ↦ search rules
     ]
 
-pub returns-in_err-text : goal.returns-in_err-text
-returns-in_err-text g c =
-    elim (memory_or_not c.in_err-text.field-0.0) [
+pub returns-in_err-said : goal.returns-in_err-said
+returns-in_err-said g c =
+    elim (memory_or_not c.in_err-said.field-0.0) [
       | inl memory ↦ search rules
       | inr other ↦ search rules
     ]
