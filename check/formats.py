@@ -25,12 +25,14 @@ COMMANDS = [
 ]
 # Fields whose value is no part of the line, and digits that are in every line of a kind.
 SAID_OF_LINE = {"doubt", "senders", "inequality", "note", "room", "proved_for"}
-FIXED = re.compile(r"doubt: 11 bits and|at 5 ns a metre$|PHASE_SEG2|no frame has edges ten|^each sender")
+FIXED = re.compile(r"doubt: 11 bits and|at 5 ns a metre$|PHASE_SEG2|no frame has edges ten|^each sender| (?:ps|tseg)[12] ")
 # Refused plans: what is wrong has commas, quotes and backslashes.
 REFUSED = [
     "", "version = 1\n", "version = 9\n", 'version = 1\nend = "a\\"b,c"\n', "version = 1\nend = 10\nper = 5\n\"a,\\\"b\\\\\" = 1\n",
     "version = 1\nend = 10\nper = 5\n\"\\u0007x\" = 1\n", "[[[\n",
 ]
+# Texts for `settings`, with few settings each, or none.
+SETTINGS = ["narrow_registers", "no_bit_rate", "odd_clock", "too_far", "wide_registers", "wide_too_far"]
 # A plan with strange names of nodes.
 NAMES = ["-", "in", "0x1F", "_", "n11", "1e5"]
 
@@ -161,7 +163,13 @@ def main():
             for found in differences(program, words, plan):
                 wrong += 1
                 print(f"{name}, {' '.join(words)}: {found}")
-    for words in (["candump"], ["vcd"], ["page"], ["settings"], ["records"], ["merge"], ["horizon"]):
+    for name in SETTINGS:
+        for words in (["settings"], ["settings", "--best", "1", "--tick", "125ps"]):
+            runs += 1
+            for found in differences(program, words, (TOP / f"check/rows/settings/{name}.toml").read_text()):
+                wrong += 1
+                print(f"{name}, {' '.join(words)}: {found}")
+    for words in (["candump"], ["vcd"], ["page"], ["records"], ["merge"], ["horizon"]):
         runs += 1
         if run(program, [*words, "--format", "json"], "")[0] != 2:
             wrong += 1

@@ -175,7 +175,7 @@ def by_another(words, text):
     """Returns what the independent programs answer, or None if they have no such command."""
     word, options = words[0], words[1:]
     if word == "run" and options[:1] == ["--workers"]: options = options[2:]
-    if word == "settings" and any(it in options for it in ("--kind", "--clock", "--bitrate", "--cable")): return None
+    if word == "settings" and any(it in options for it in ("--kind", "--clock", "--bitrate", "--cable", "--format")): return None
     if word in OWN: script = [OWN[word]]
     elif options or word == "judge": return None
     else: script = ["plain.py", word]

@@ -18,7 +18,7 @@ complete -c wireline -n '__fish_seen_subcommand_from trace records candump vcd p
 complete -c wireline -n '__fish_seen_subcommand_from trace' -l node -x -d 'the number of a node'
 complete -c wireline -n '__fish_seen_subcommand_from trace' -l only -x -a 'lost error flag frame mode sync' -d 'the kind of events'
 complete -c wireline -n '__fish_seen_subcommand_from run' -l brief -d 'without lines of frames'
-complete -c wireline -n '__fish_seen_subcommand_from run check format explain trace judge margin respond traffic sweep' -l format -x -a 'text json csv table coloured' -d 'the form of the output'
+complete -c wireline -n '__fish_seen_subcommand_from run check format explain trace judge margin respond traffic settings sweep' -l format -x -a 'text json csv table coloured' -d 'the form of the output'
 complete -c wireline -n '__fish_seen_subcommand_from settings' -l best -x -d 'the most settings that are listed'
 complete -c wireline -n '__fish_seen_subcommand_from settings' -l plan -d 'the plan of the best one'
 complete -c wireline -n '__fish_seen_subcommand_from settings' -l kind -x -d 'the kind of a controller'

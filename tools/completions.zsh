@@ -28,7 +28,7 @@ _wireline() {
       '*--kind[the kind of a controller]:kind:' '*--clock[the frequency of its clock]:frequency:' '--bitrate[the bit rate]:rate:'
       '--cable[the length of the cable]:length:' '--per[the time along a metre of cable]:time:' '--out[the time from a node to the cable]:time:'
       '--in[the time from the cable to a node]:time:' '--tolerance[how far clocks may be off]:ppm:' '--senders[one or any]:who:(one any)'
-      '--rate-error[how far the bit rate may be off]:ppm:' '--sample-point[the usual sample point]:percent:' '--nodes[how many nodes the bus has]:n:'
+      '--rate-error[how far the bit rate may be off]:ppm:' '--sample-point[the usual sample point]:percent:' '--nodes[how many nodes the bus has]:n:' $format
     ) ;;
     sweep) options+=(
       '*--vary[a row for each value]:[NODE.]KEY=A..B[\:STEP]:' '--step[ticks between two offsets]:ticks:' '--runs[the most members of a row that are run]:number:'

@@ -39,6 +39,7 @@ use Rattle.wl_settings.specs.declared.fault.SettingsFault.TheVariants as setting
 use Rattle.wl_settings.specs.Runs.{RunsSettings}
 use Rattle.wl_settings.specs.WordRuns.{RunsWords}
 use Rattle.wl_settings.specs.declared.said.Shown.{Shown}
+use Rattle.wl_settings.specs.declared.said.Shown.TheVariants as listed
 use Rattle.wl_settings.specs.declared.topics.AskedWord.{AskedWord}
 use Rattle.wl_views.specs.declared.tick.Tick.{Tick}
 use Rattle.wl_sweep.specs.declared.finding.Finding.{Finding}
@@ -187,7 +188,11 @@ abbrev pub IsCount : Option ℕ → ℕ → Type 0
 IsCount (Some said) count = count ≡ said
 IsCount None count = (1 ≤ count) × (count ≤ 8)
 
--- the command of a task, if its output has other formats; a member of a sweep is a plan, its map a page, and a part of it JSON
+-- the command of a task, if its output has other formats; a member of a sweep and the plan of a setting are plans, the map of a sweep is a page, and a part of it JSON
+abbrev pub subject_of_settings : Shown → Option Subject
+subject_of_settings (listed.Best most) = Some subject.Settings
+subject_of_settings listed.Plan = None
+
 abbrev pub subject_of : Task → Option Subject
 subject_of (Init wish) = None
 subject_of (Merge limits) = None
@@ -205,7 +210,7 @@ subject_of (Margin tick all) = Some subject.Margin
 subject_of (Respond tick any strict) = Some subject.Respond
 subject_of (Traffic tick strict) = Some subject.Traffic
 subject_of (Judge tick explain) = Some subject.Judge
-subject_of (Settings tick shown) = None
+subject_of (Settings tick shown) = subject_of_settings shown
 subject_of (Sweep swept) = if not swept.join && (is_some swept.part || is_some swept.print || swept.page) then None else Some subject.Sweep
 
 -- what is asked of a sweep

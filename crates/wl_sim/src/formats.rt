@@ -9,10 +9,11 @@ use std::alloc::Global;
 use wl_device::{Sink, write_all};
 use wl_engines::RunFault;
 use wl_formats::{Format, FormatFault, Subject, formatted};
+use wl_settings::Shown;
 use wl_words::Task;
 
-/// Returns the command of a task, if its output has other formats. A member of a sweep is a plan, its map a page, and a part of it
-/// JSON.
+/// Returns the command of a task, if its output has other formats. A member of a sweep and the plan of a setting are plans, the map of a
+/// sweep is a page, and a part of it JSON.
 pub(crate) fn subject_of(task: Task) -> Option<Subject>
     ensures { result ≡ subject_of task }
 {
@@ -25,6 +26,10 @@ pub(crate) fn subject_of(task: Task) -> Option<Subject>
         Task::Respond(_, _, _) => Some(Subject::Respond),
         Task::Traffic(_, _) => Some(Subject::Traffic),
         Task::Judge(_, _) => Some(Subject::Judge),
+        Task::Settings(_, shown) => match shown {
+            Shown::Best(_) => Some(Subject::Settings),
+            Shown::Plan => None,
+        },
         Task::Sweep(swept) => {
             if !swept.join && (swept.part.is_some() || swept.print.is_some() || swept.page) {
                 None
@@ -39,8 +44,7 @@ pub(crate) fn subject_of(task: Task) -> Option<Subject>
         | Task::Records(_)
         | Task::Candump(_, _, _, _)
         | Task::Vcd(_, _)
-        | Task::Page(_, _)
-        | Task::Settings(_, _) => None,
+        | Task::Page(_, _) => None,
     }
 }
 

@@ -183,7 +183,8 @@ abbrev pub settings_rules : List Rule
 settings_rules =
     tick_rule ∷ best_rule ∷ flag_rule (codes "plan") ∷ repeated_rule (codes "kind") ∷ repeated_rule (codes "clock") ∷ named_rule (codes "bitrate")
     ∷ named_rule (codes "cable") ∷ named_rule (codes "per") ∷ named_rule (codes "out") ∷ named_rule (codes "in") ∷ named_rule (codes "tolerance")
-    ∷ named_rule (codes "senders") ∷ named_rule (codes "rate-error") ∷ named_rule (codes "sample-point") ∷ named_rule (codes "nodes") ∷ []
+    ∷ named_rule (codes "senders") ∷ named_rule (codes "rate-error") ∷ named_rule (codes "sample-point") ∷ named_rule (codes "nodes")
+    ∷ format_rule ∷ []
 
 -- of `init`, whose nodes are 2 to 64: two nodes, 500 kbit/s, 40 m and an MCP2515 where nothing else is said
 abbrev pub nodes_rule : Rule

@@ -277,7 +277,7 @@ fn wanted(words: &[String]) -> &'static str {
             "run" => "--link wants hub or mail, and --format text, json, csv, table or coloured",
             "check" | "explain" | "sweep" => "--format wants text, json, csv, table or coloured",
             "settings" =>
-                "--tick wants 1 to 999 and ps, ns or us, as 125ps, and what is asked for comes from a FILE or from options",
+                "--tick wants 1 to 999 and ps, ns or us, as 125ps, --format text, json, csv, table or coloured, and what is asked for comes from a FILE or from options",
             "trace" =>
                 "--only wants lost, error, flag, frame, mode or sync, and --format text, json, csv, table or coloured",
             "judge" | "margin" | "respond" | "traffic" => {
