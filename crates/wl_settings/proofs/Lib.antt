@@ -12,6 +12,7 @@ mod PlanFamilies
 mod PlanPrints
 mod PlanReads
 mod Rows
+mod Choosing
 mod Saying
 mod SettingFacts
 mod SettingLists

@@ -14,7 +14,7 @@ use Rattle.wl_setup.specs.Names.{names_of}
 use Rattle.wl_setup.specs.Plans.{after, each, plan_of_text}
 use Rattle.wl_settings.specs.declared.asked.Asked.{Asked}
 use Rattle.wl_settings.specs.declared.asked.Setting.{Setting}
-use Rattle.wl_settings.specs.declared.plan.Quantum.{Quantum}
+use Rattle.wl_apply.specs.declared.chosen.QuantumLength.{QuantumLength}
 use Rattle.wl_settings.specs.Judged.{all_paces, deviation_by, deviations_of, family_in, family_of_plan, made_plan, runnable_plan}
 use Rattle.wl_settings.specs.Plans.{for_nodes, more_if, node_text, plan_of_quantum}
 
@@ -31,7 +31,7 @@ family_from p (Some plan) paces = option_map (family_of plan) paces
 some_is : (made plan : Plan) → Some made ≡ Some plan → made ≡ plan
 some_is made plan is = cc
 
-module _ (a : Asked) (s : Setting) (q : Quantum) where
+module _ (a : Asked) (s : Setting) (q : QuantumLength) where
   -- what the clocks of the nodes may do, as the plan has it
   deviate : (third fourth : Bool) → each deviation_of (enumerate_from 0 (node_text a q s 0 ∷ node_text a q s 1 ∷ more_if third (node_text a q s 2) (more_if fourth (node_text a q s 3) [])))
       ≡ Ok (deviation_by q a.tolerance ∷ deviation_by q a.tolerance ∷ more_if third (deviation_by q a.tolerance) (more_if fourth (deviation_by q a.tolerance) []))

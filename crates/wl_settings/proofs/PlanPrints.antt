@@ -16,7 +16,7 @@ use Rattle.wl_settings.specs.declared.asked.Asked.{Asked}
 use Rattle.wl_settings.specs.declared.asked.Setting.{Setting}
 use Rattle.wl_settings.specs.declared.parts.Parts.{Parts}
 use Rattle.wl_settings.specs.declared.parts.Parts.TheVariants.{Each, Joint}
-use Rattle.wl_settings.specs.declared.plan.Quantum.{Quantum}
+use Rattle.wl_apply.specs.declared.chosen.QuantumLength.{QuantumLength}
 use Rattle.wl_settings.specs.Plans.{IsOfKeys, frame_text, more_if, node_count, node_name, node_place, node_text, plan_of_quantum, node_ready, rate_text, segments_text, version_of, within}
 use Rattle.wl_settings.specs.Settings.{quanta_of_parts, setting_quanta}
 
@@ -40,7 +40,7 @@ pub record AreSmall (a : Asked) (s : Setting) : Type 0 where
   pub quanta : setting_quanta s < 2 ^ 18
 
 -- the rates and the segments of a node, in the version of its segments
-rates_fit : (parts : Parts) (q : Quantum) → q.num ≤ LARGEST_NUMBER → q.den ≤ LARGEST_NUMBER → are_rates (version_of parts) (rate_text q ∷ []) ≡ true
+rates_fit : (parts : Parts) (q : QuantumLength) → q.num ≤ LARGEST_NUMBER → q.den ≤ LARGEST_NUMBER → are_rates (version_of parts) (rate_text q ∷ []) ≡ true
 rates_fit (Each prop ps1 ps2) q num den = rw (number_fits 0 (omega arith), number_fits q.num num, number_fits q.den den) refl
 rates_fit (Joint tseg1 tseg2) q num den = rw (number_fits 0 (omega arith), number_fits q.num num, number_fits q.den den) refl
 
@@ -73,7 +73,7 @@ by_end false far h = h
 place_fits : (a : Asked) (n : ℕ) → a.cable ≤ LARGEST_SMALL → node_place a n ≤ LARGEST_SMALL
 place_fits a n h = by_end (n % 2 == 0) a.cable h
 
-module _ (a : Asked) (s : Setting) (q : Quantum) (h : AreSmall a s) (num : q.num ≤ LARGEST_NUMBER) (den : q.den ≤ LARGEST_NUMBER) where
+module _ (a : Asked) (s : Setting) (q : QuantumLength) (h : AreSmall a s) (num : q.num ≤ LARGEST_NUMBER) (den : q.den ≤ LARGEST_NUMBER) where
   node_fits : (n : ℕ) → n < 4 → is_node (version_of s.parts) (node_text a q s n) ≡ true
   unfolding largest_number
   node_fits n few =

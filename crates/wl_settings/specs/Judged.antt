@@ -22,7 +22,7 @@ use Rattle.wl_settings.specs.declared.asked.Setting.{Setting}
 use Rattle.wl_settings.specs.declared.judged.Reach.{Reach}
 use Rattle.wl_settings.specs.declared.judged.Refusal.{Refusal}
 use Rattle.wl_settings.specs.declared.judged.WorkingSetting.{WorkingSetting}
-use Rattle.wl_settings.specs.declared.plan.Quantum.{Quantum}
+use Rattle.wl_apply.specs.declared.chosen.QuantumLength.{QuantumLength}
 use Rattle.wl_settings.specs.Plans.{for_nodes, setting_plan}
 
 -- The family of a plan: that of the bus that it describes. There is none of a plan that can't be run.
@@ -46,13 +46,13 @@ abbrev pub runnable_plan : PlanText → Option Plan
 runnable_plan text = made_plan (plan_of_text text)
 
 -- what the clock of each of its nodes may do
-abbrev pub deviation_by : Quantum → ℕ → Deviation
+abbrev pub deviation_by : QuantumLength → ℕ → Deviation
 deviation_by q tolerance = record { rates = record { from = 0; num = q.num; den = q.den } ∷ []; tolerance = tolerance }
 
-abbrev pub deviations_of : Asked → Quantum → List Deviation
+abbrev pub deviations_of : Asked → QuantumLength → List Deviation
 deviations_of a q = for_nodes a (λ n. deviation_by q a.tolerance)
 
-abbrev pub all_paces : Asked → Quantum → Option (List Pace)
+abbrev pub all_paces : Asked → QuantumLength → Option (List Pace)
 all_paces a q = paces_of (deviations_of a q)
 
 -- the condition holds, or the first inequality that fails

@@ -22,7 +22,7 @@ use Rattle.wl_settings.specs.declared.asked.Controller.{Controller}
 use Rattle.wl_settings.specs.declared.asked.Setting.{Setting}
 use Rattle.wl_settings.specs.declared.parts.Parts.{Parts}
 use Rattle.wl_settings.specs.declared.parts.Parts.TheVariants.{Each, Joint}
-use Rattle.wl_settings.specs.declared.plan.Quantum.{Quantum}
+use Rattle.wl_apply.specs.declared.chosen.QuantumLength.{QuantumLength}
 use Rattle.wl_settings.specs.Settings.{setting_quanta}
 
 -- a step of Euclid's algorithm (Elements, book VII, proposition 2), and some steps
@@ -45,10 +45,10 @@ within n = min n LARGEST_NUMBER
 abbrev pub part_of : ℕ → ℕ → ℕ
 part_of num den = max (common num den) 1
 
-abbrev pub in_lowest_terms : ℕ → ℕ → Quantum
+abbrev pub in_lowest_terms : ℕ → ℕ → QuantumLength
 in_lowest_terms num den = record { num = within (num / part_of num den); den = within (den / part_of num den) }
 
-abbrev pub setting_quantum : Asked → ℕ → Setting → Quantum
+abbrev pub setting_quantum : Asked → ℕ → Setting → QuantumLength
 setting_quantum a clock s = in_lowest_terms (s.prescaler * 1000000000000) (clock * a.tick)
 
 -- How many nodes the plan has: of more than four the others lie beside these.
@@ -56,7 +56,7 @@ abbrev pub node_count : Asked → ℕ
 node_count a = min (max a.nodes 2) 4
 
 -- The end of the plan: 200 bits for each node.
-abbrev pub plan_end : ℕ → Quantum → Setting → ℕ
+abbrev pub plan_end : ℕ → QuantumLength → Setting → ℕ
 plan_end nodes q s = within (div_ceil (200 * nodes * setting_quanta s * q.num) (max q.den 1))
 
 -- Nodes are idle after 11 bits. The first frame becomes ready after 30, and the others with it; or, if one node sends at a time, each 200 later.
@@ -73,7 +73,7 @@ abbrev pub segments_text : Parts → SegmentsText
 segments_text (Each prop ps1 ps2) = text.Each prop ps1 ps2
 segments_text (Joint tseg1 tseg2) = text.Controller tseg1 tseg2
 
-abbrev pub rate_text : Quantum → RateText
+abbrev pub rate_text : QuantumLength → RateText
 rate_text q = record { from = 0; clock = Rate q.num q.den }
 
 -- eight bytes whose bits, with stuff bits, are five dominant and five recessive ones in turn
@@ -104,7 +104,7 @@ node_name _ = codes "d"
 abbrev pub node_place : Asked → ℕ → ℕ
 node_place a n = if n % 2 == 0 then 0 else a.cable
 
-abbrev pub node_text : Asked → Quantum → Setting → ℕ → NodeText
+abbrev pub node_text : Asked → QuantumLength → Setting → ℕ → NodeText
 node_text a q s n = record {
   name = node_name n;
   offset = 0;
@@ -129,7 +129,7 @@ more_if false x xs = xs
 abbrev pub for_nodes : {T : Type 0} → Asked → (ℕ → T) → List T
 for_nodes a f = f 0 ∷ f 1 ∷ more_if (nat_lt 2 a.nodes) (f 2) (more_if (nat_lt 3 a.nodes) (f 3) [])
 
-abbrev pub plan_of_quantum : Asked → Setting → Quantum → PlanText
+abbrev pub plan_of_quantum : Asked → Setting → QuantumLength → PlanText
 plan_of_quantum a s q = record {
   version = version_of s.parts;
   end = plan_end (node_count a) q s;

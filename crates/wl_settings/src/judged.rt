@@ -5,8 +5,9 @@ ghost use Rattle.wl_settings.specs.Judged.{AreFigures, IsReach, IsRefusalOf, IsR
 ghost use Rattle.wl_settings.specs.Plans.{setting_plan, setting_quantum};
 
 use crate::asked::{Asked, Controller, Setting};
-use crate::plan::{Quantum, quantum_of, setting_plan};
+use crate::plan::{quantum_of, setting_plan};
 use std::alloc::{AllocError, Global};
+use wl_apply::QuantumLength;
 use wl_bound::{Failure, Family, Oscillator, Senders};
 use wl_clock::Rate;
 use wl_level::Listed;
@@ -48,7 +49,7 @@ pub struct Refusal {
 }
 
 /// Returns what the clock of a node may do: it deviates from this quantum by at most the tolerance, in parts per million.
-fn deviation(alloc: Global, quantum: Quantum, tolerance: u32) -> Result<Deviation, AllocError>
+fn deviation(alloc: Global, quantum: QuantumLength, tolerance: u32) -> Result<Deviation, AllocError>
     ensures { IfOk result (λ d. d ≡ deviation_by quantum tolerance) }
 {
     let mut rates = Listed::new(alloc);
@@ -64,7 +65,7 @@ fn deviation(alloc: Global, quantum: Quantum, tolerance: u32) -> Result<Deviatio
 fn deviations(
     alloc: Global,
     asked: &Asked,
-    quantum: Quantum,
+    quantum: QuantumLength,
 ) -> Result<Listed<Deviation>, AllocError>
     ensures { IfOk result (λ all. all ≡ deviations_of asked.now quantum) }
 {

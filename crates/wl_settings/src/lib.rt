@@ -4,6 +4,7 @@
 #![tactic(auto)]
 
 mod asked;
+mod choices;
 mod fault;
 mod judged;
 mod keys;
@@ -24,6 +25,7 @@ mod values;
 mod words;
 
 pub use asked::{Asked, Bounds, Controller, Setting};
+pub use choices::chosen_settings;
 pub use fault::SettingsFault;
 pub use judged::{Reach, Refusal, WorkingSetting};
 pub use laws::{
@@ -33,7 +35,9 @@ pub use listing::{Listing, list};
 pub use parts::Parts;
 pub use plan::{plan_text, setting_plan};
 pub use possible::possible_settings;
+pub use question::wanted_by_words;
 pub use rates::{NearRate, nearest_rate};
+pub use read::{Wanted, read_wanted};
 pub use registers::bounds_of_kind;
 pub use run::{settings_of_words, settings_run};
 pub use said::Shown;

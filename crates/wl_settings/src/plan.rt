@@ -7,6 +7,7 @@ ghost use Rattle.wl_settings.specs.Plans.{rate_text, node_ready, segments_text, 
 use crate::asked::{Asked, Controller, Setting};
 use crate::parts::Parts;
 use std::alloc::{AllocError, Global};
+use wl_apply::QuantumLength;
 use wl_bound::Senders;
 use wl_level::Listed;
 use wl_print::{printed_after_comment, push_plan};
@@ -44,13 +45,6 @@ fn common(a: u128, b: u128) -> u128
     pair.0
 }
 
-/// How long a quantum takes, in ticks, as a fraction.
-#[derive(Clone, Copy, Debug)]
-pub(crate) struct Quantum {
-    pub num: u64,
-    pub den: u64,
-}
-
 /// Returns a number of a plan's text: the greatest one for a greater one, which no plan can have.
 fn within(n: u128) -> u64
     ensures { result ≡ within n }
@@ -59,13 +53,13 @@ fn within(n: u128) -> u64
 }
 
 /// Returns the quantum of a setting.
-pub(crate) fn quantum_of(asked: &Asked, clock: u32, setting: Setting) -> Quantum
+pub(crate) fn quantum_of(asked: &Asked, clock: u32, setting: Setting) -> QuantumLength
     ensures { result ≡ setting_quantum asked.now clock setting }
 {
     let num = setting.prescaler as u128 * SECOND;
     let den = clock as u128 * asked.tick as u128;
     let part = common(num, den).max(1);
-    Quantum {
+    QuantumLength {
         num: within(num / part),
         den: within(den / part),
     }
@@ -80,7 +74,7 @@ fn node_count(asked: &Asked) -> u64
 }
 
 /// Returns the tick at which a plan of this number of nodes ends.
-fn end_of(nodes: u64, quantum: Quantum, setting: Setting) -> u64
+fn end_of(nodes: u64, quantum: QuantumLength, setting: Setting) -> u64
     requires { nodes ≤ 4 }
     ensures { result ≡ plan_end nodes quantum setting }
 {
@@ -110,7 +104,7 @@ fn version_of(parts: Parts) -> u64
 }
 
 /// Returns segments as a plan's text has them.
-fn segments_text(parts: Parts) -> SegmentsText
+pub(crate) fn segments_text(parts: Parts) -> SegmentsText
     ensures { result ≡ segments_text parts }
 {
     match parts {
@@ -127,7 +121,7 @@ fn segments_text(parts: Parts) -> SegmentsText
 }
 
 /// Returns the rates of a clock that keeps its quantum.
-fn rates(alloc: Global, quantum: Quantum) -> Result<Listed<RateText>, AllocError>
+fn rates(alloc: Global, quantum: QuantumLength) -> Result<Listed<RateText>, AllocError>
     ensures { IfOk result (λ all. all ≡ rate_text quantum ∷ []) }
 {
     let (num, den) = (quantum.num, quantum.den);
@@ -197,7 +191,7 @@ fn frames_of(
 fn node_text(
     alloc: Global,
     asked: &Asked,
-    quantum: Quantum,
+    quantum: QuantumLength,
     setting: Setting,
     n: u32,
 ) -> Result<NodeText, AllocError>
@@ -225,7 +219,7 @@ fn node_text(
 fn all_nodes(
     alloc: Global,
     asked: &Asked,
-    quantum: Quantum,
+    quantum: QuantumLength,
     setting: Setting,
 ) -> Result<Listed<NodeText>, AllocError>
     ensures { IfOk result (λ nodes. nodes ≡ for_nodes asked.now (node_text asked.now quantum setting)) }
@@ -247,7 +241,7 @@ fn plan_of_quantum(
     alloc: Global,
     asked: &Asked,
     setting: Setting,
-    quantum: Quantum,
+    quantum: QuantumLength,
 ) -> Result<PlanText, AllocError>
     ensures { IfOk result (λ plan. plan ≡ plan_of_quantum asked.now setting quantum) }
 {

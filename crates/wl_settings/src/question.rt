@@ -283,7 +283,7 @@ fn controllers_wanted(words: &[AskedWord]) -> usize
 }
 
 /// Returns what words ask for, or the first thing that is wrong with them: of the bus in the order of `TOPICS`, then of each controller.
-pub(crate) fn wanted_by_words(
+pub fn wanted_by_words(
     alloc: Global,
     tick: u64,
     words: &[AskedWord],

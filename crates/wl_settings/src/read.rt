@@ -223,7 +223,7 @@ fn wanted_of_bytes(alloc: Global, tick: u64, text: &[u8]) -> Result<Wanted, Sett
 ///
 /// Returns it, or the first fault: `Read` or `Size`, whichever the reading meets first; `Toml`; then of the top table, and of each
 /// `[[controller]]` in order, a missing key or one of another kind, and an unknown one; then `NoController`. `Memory` may be returned at any point.
-pub(crate) fn read_wanted<R: Source>(
+pub fn read_wanted<R: Source>(
     alloc: Global,
     tick: u64,
     reader: &mut R,

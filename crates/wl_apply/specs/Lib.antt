@@ -1,0 +1,5 @@
+pub mod Answers
+pub mod Moves
+pub mod Nodes
+pub mod Labels
+pub mod Applied
