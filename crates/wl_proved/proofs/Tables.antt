@@ -1,5 +1,5 @@
 -- A table of messages that passes its test has bounds that are enough.
-use Rattle.std.proofs.Common.{◌≡◌, ◌≢◌, ◌∙◌, refl, sym, ap, subst, inl, inr, ℕ, zero, suc, ◌+◌, ◌-◌, ◌*◌, ◌/◌, ◌<◌, ◌≤◌, Bool, true, false, cond, not, max, min, ◌&&◌, List, [], ◌∷◌, length, map, arith}
+use Rattle.std.proofs.Common.{◌≡◌, ◌≢◌, ◌∙◌, refl, sym, ap, subst, inl, inr, ℕ, zero, suc, ◌+◌, ◌-◌, ◌*◌, ◌/◌, ◌<◌, ◌≤◌, Bool, true, false, cond, not, max, min, ◌&&◌, ◌||◌, List, [], ◌∷◌, length, map, arith}
 use Rattle.std.specs.Prelude.{◌==◌, nat_le, nat_lt}
 use Rattle.std.proofs.lemmas.Bool.{and_parts, cases_lt, eqb-true, leb-true, lt-ltb, ltb-true, not-false, not-true}
 use Rattle.std.proofs.lemmas.List.{get_or-map, length-map}
@@ -8,7 +8,8 @@ use Rattle.wl_segments.specs.Lengths.{bit_quanta}
 use Rattle.wl_topology.specs.Driven.{any_below}
 use Rattle.wl_counts.specs.Counts.{one_if, periods_in, sum_below}
 use Rattle.wl_counts.specs.Instances.{AreEnoughByInstances}
-use Rattle.wl_counts.specs.Waits.{Table}
+use Rattle.wl_counts.specs.Instances as counted
+use Rattle.wl_counts.specs.Waits.{AreEnough, Table}
 use Rattle.wl_node.specs.declared.setup.QueueOrder.{QueueOrder}
 use Rattle.wl_node.specs.declared.setup.QueueOrder.TheVariants.{Fifo, Priority}
 use Rattle.wl_plan.specs.declared.plan.Plan.{Plan}
@@ -18,7 +19,7 @@ use Rattle.wl_bound.specs.Families.{Bus}
 use Rattle.wl_bound.specs.Terms.{greatest}
 use Rattle.wl_bound.proofs.Greatest.{bounds_each}
 use Rattle.wl_respond.specs.declared.message.MessageWait.{MessageWait}
-use Rattle.wl_respond.specs.Inequalities.{are_enough, blocked_for, has_windows, head_start, instance_demand, instance_share, instances, is_enough, is_instance_enough, is_room_enough, is_wait_enough, is_window_enough, lacks_enough, lacks_instance, window_at, window_demand, window_share}
+use Rattle.wl_respond.specs.Inequalities.{are_enough, are_instances_enough, blocked_for, has_windows, head_start, instance_demand, instance_share, instances, is_enough, is_instance_enough, is_room_enough, is_wait_enough, is_whole_enough, is_window_enough, lacks_enough, lacks_instance, window_at, window_demand, window_share}
 use Rattle.wl_respond.specs.Levels.{has_levels, lacks_level, level_by, level_for, top_of}
 use Rattle.wl_respond.specs.Rows.{MessageTerms, no_row, row_at, wait_limit}
 use Rattle.wl_respond.specs.Tests.{are_fair, cost_of, is_fair, message_at, no_message, pass, period_of, row_for, tail_of}
@@ -57,6 +58,14 @@ other_than i k apart = elim_not (k == i) (λ e. apart (sym (eqb-true k i e)))
     elim_not : (x : Bool) → (x ≡ true → ⊥) → not x ≡ true
     elim_not true h = absurd (h refl)
     elim_not false h = refl
+
+or_right : (a b : Bool) → (a || b) ≡ true → a ≡ false → b ≡ true
+or_right a b h e = sym (ap (λ v. v || b) e) ∙ h
+
+-- one window is enough for each instance (wl_counts)
+abbrev pub InstanceLaw : Type 0
+InstanceLaw = (t : Table) (period w r : ℕ → ℕ) → ((m : ℕ) → m < t.messages → t.joins m m ≡ true) → ((e a b : ℕ) → a ≤ b → t.most e a ≤ t.most e b)
+    → AreEnough t w r → AreEnoughByInstances t period w (λ m j. w m - t.cost m) r
 
 module _ (b : Bus) (plan : Plan) (messages : List MessageWait) (windows : List ℕ) (passes : pass b messages windows ≡ true) (levels : has_levels plan messages ≡ true) (nodes : b.nodes ≡ length plan.nodes) where
   abbrev lead : ℕ
@@ -130,21 +139,30 @@ module _ (b : Bus) (plan : Plan) (messages : List MessageWait) (windows : List �
   pub level_is : (e : ℕ) → e < length messages → (x e).level ≡ level_for plan messages e
   level_is e less = eqb-true _ _ (not-false _ (none_below (length messages) (lacks_level plan messages) (not-true _ levels) e less))
 
-  -- the window of all frames of m, and that of each instance
+  -- the inequalities of a message: for the window of all frames; and for the wait by it, or for each instance
+  halves_at : (m : ℕ) → m < length messages
+      → (is_window_enough lead wake rows (row_at rows m) ≡ true) × ((is_whole_enough lead (row_at rows m) || are_instances_enough lead wake rows windows m) ≡ true)
+  halves_at m less = and_parts (is_window_enough lead wake rows (row_at rows m)) (is_whole_enough lead (row_at rows m) || are_instances_enough lead wake rows windows m) (enough_at m less)
+
   whole : (m : ℕ) → m < length messages → blocked_for lead wake rows (exact m) + window_demand lead wake rows (exact m) ≤ (x m).window
-  whole m less =
-      let two = and_parts (is_window_enough lead wake rows (row_at rows m)) (has_windows lead wake rows windows m && not (any_below (instances lead (row_at rows m)) (lacks_instance lead wake rows windows m))) (enough_at m less) in
-      leb-true _ _ (ap (is_window_enough lead wake rows) (sym (row_is m less)) ∙ two.0)
+  whole m less = leb-true _ _ (ap (is_window_enough lead wake rows) (sym (row_is m less)) ∙ (halves_at m less).0)
+
+  whole_wait : (m : ℕ) → is_whole_enough lead (exact m) ≡ true → head_start lead (exact m) (exact m) + (x m).window + tail_of (times_of b) (x m) ≤ (x m).wait + cost_of (times_of b) (x m)
+  whole_wait m is = leb-true _ _ is
+
+  -- the window of an instance: by that of all frames, or from the list
+  abbrev window_by : Bool → (m j : ℕ) → ℕ
+  window_by v m j = cond v ((x m).window - cost_of (times_of b) (x m)) (window_at windows (exact m) j)
 
   abbrev pub window_of : (m j : ℕ) → ℕ
-  window_of m j = window_at windows (exact m) j
+  window_of m j = window_by (is_whole_enough lead (exact m)) m j
 
-  instance : (m j : ℕ) → m < length messages → j < instances lead (exact m)
-      → (blocked_for lead wake rows (exact m) + instance_demand lead wake rows m j (window_of m j) ≤ window_of m j)
-      × (head_start lead (exact m) (exact m) + window_of m j + tail_of (times_of b) (x m) ≤ (x m).wait + j * max 1 (period_of b (x m)))
-  instance m j less inside =
-      let two = and_parts (is_window_enough lead wake rows (row_at rows m)) (has_windows lead wake rows windows m && not (any_below (instances lead (row_at rows m)) (lacks_instance lead wake rows windows m))) (enough_at m less) in
-      let none = (and_parts (has_windows lead wake rows windows m) (not (any_below (instances lead (row_at rows m)) (lacks_instance lead wake rows windows m))) two.1).1 in
+  instance : (m j : ℕ) → m < length messages → is_whole_enough lead (exact m) ≡ false → j < instances lead (exact m)
+      → (blocked_for lead wake rows (exact m) + instance_demand lead wake rows m j (window_at windows (exact m) j) ≤ window_at windows (exact m) j)
+      × (head_start lead (exact m) (exact m) + window_at windows (exact m) j + tail_of (times_of b) (x m) ≤ (x m).wait + j * max 1 (period_of b (x m)))
+  instance m j less not_whole inside =
+      let each = or_right (is_whole_enough lead (row_at rows m)) (are_instances_enough lead wake rows windows m) (halves_at m less).1 (ap (is_whole_enough lead) (row_is m less) ∙ not_whole) in
+      let none = (and_parts (has_windows lead wake rows windows m) (not (any_below (instances lead (row_at rows m)) (lacks_instance lead wake rows windows m))) each).1 in
       let count : instances lead (row_at rows m) ≡ instances lead (exact m) = ap (instances lead) (row_is m less) in
       let lacks = none_below (instances lead (row_at rows m)) (lacks_instance lead wake rows windows m) (not-true _ none) j (omega (arith, count, inside)) in
       let here : is_instance_enough lead wake rows windows m j ≡ true = not-false _ lacks in
@@ -284,18 +302,41 @@ module _ (b : Bus) (plan : Plan) (messages : List MessageWait) (windows : List �
       omega arith
 
   -- the inequalities are about no fewer instances than a window has
-  counted : (m j : ℕ) → m < length messages → j < periods_in (early_by terms (wait_of messages) m m + (x m).window) (max 1 (period_of b (x m))) → j < instances lead (exact m)
-  counted m j less inside =
+  counted_in : (m j : ℕ) → m < length messages → j < periods_in (early_by terms (wait_of messages) m m + (x m).window) (max 1 (period_of b (x m))) → j < instances lead (exact m)
+  counted_in m j less inside =
       let early = early_most m m less in
       let few = more_periods (early_by terms (wait_of messages) m m + (x m).window) (head_start lead (exact m) (exact m) + (x m).window) (max 1 (period_of b (x m))) (omega arith) (omega arith) in
       omega arith
 
-  pub enough : AreEnoughByInstances table delays.period window window_of (wait_of messages)
-  enough = record {
-    all = λ m less. (let h = whole m less in let most = demand_most m in omega arith);
-    window = λ m j less inside. (let h = (instance m j less (counted m j less inside)).0 in let most = before_all m j (window_of m j) less in omega arith);
-    wait = λ m j less inside. (let h = (instance m j less (counted m j less inside)).1 in let most = early_most m m less in omega arith);
-  }
-
   pub periods_some : (e : ℕ) → 0 < delays.period e
   periods_some e = omega arith
+
+  module _ (law : InstanceLaw) (own : (m : ℕ) → m < length messages → nat_le (x m).field (x m).level ≡ true) where
+    abbrev wait_by_whole : ℕ → ℕ
+    wait_by_whole m = early_by terms (wait_of messages) m m + (x m).window + tail_of (times_of b) (x m) - cost_of (times_of b) (x m)
+
+    by_whole : AreEnoughByInstances table delays.period window (λ m j. (x m).window - cost_of (times_of b) (x m)) wait_by_whole
+    by_whole = law table delays.period window wait_by_whole own (λ e a c less. more_periods a c (delays.period e) (periods_some e) less) (record {
+      window = λ m less. (let h = whole m less in let most = demand_most m in omega arith);
+      wait = λ m less. omega arith;
+    })
+
+    room : (m j : ℕ) → m < length messages → j < counted.instances table window m → (v : Bool) → is_whole_enough lead (exact m) ≡ v
+        → blocking m + counted.instance_demand table m j (window_by v m j) ≤ window_by v m j
+    room m j less inside true is = by_whole.window m j less inside
+    room m j less inside false is =
+        (let h = (instance m j less is (counted_in m j less inside)).0 in let most = before_all m j (window_at windows (exact m) j) less in omega arith)
+
+    sent : (m j : ℕ) → m < length messages → j < counted.instances table window m → (v : Bool) → is_whole_enough lead (exact m) ≡ v
+        → early_by terms (wait_of messages) m m + window_by v m j + tail_of (times_of b) (x m) ≤ (x m).wait + j * max 1 (period_of b (x m))
+    sent m j less inside true is =
+        (let h = by_whole.wait m j less inside in let most = early_most m m less in let wait = whole_wait m is in omega arith)
+    sent m j less inside false is =
+        (let h = (instance m j less is (counted_in m j less inside)).1 in let most = early_most m m less in omega arith)
+
+    pub enough : AreEnoughByInstances table delays.period window window_of (wait_of messages)
+    enough = record {
+      all = λ m less. (let h = whole m less in let most = demand_most m in omega arith);
+      window = λ m j less inside. room m j less inside (is_whole_enough lead (exact m)) refl;
+      wait = λ m j less inside. sent m j less inside (is_whole_enough lead (exact m)) refl;
+    }

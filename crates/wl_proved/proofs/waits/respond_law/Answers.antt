@@ -1,3 +1,4 @@
+use Rattle.std.proofs.lemmas.Bool.{le-leb}
 use Rattle.wl_bound.specs.Rooms.{plain_bus}
 use Rattle.wl_proved.specs.Waits.{messages_in, wait_of}
 use Rattle.wl_proved.proofs.Entries as entries
@@ -21,5 +22,6 @@ returns c = λ f plan messages windows of sound room decide passes keeps levels.
     (table.window_of b plan messages windows passes levels of.members) steady (paced.of_family f plan of) of.runs.frames of.senders (paced.for_any_senders f plan of sound) of.covered room
     (c.a_tested_bus_has_room_to_decide.ensures f decide) (entries.have f plan messages clocks of keeps level node lesser number) (entries.late f plan messages clocks of keeps level node lesser number)
     (table.bus_delays b plan messages windows passes levels of.members) (table.block b plan messages windows passes levels of.members)
-    (table.enough b plan messages windows passes levels of.members) in
+    (table.enough b plan messages windows passes levels of.members c.one_window_is_enough_for_each_instance.ensures
+    (λ m less. le-leb _ _ (entries.level_high f plan messages clocks of keeps level node lesser number m less))) in
     record { clocks = clocks; rates = paced.rates f plan of; all = waits.0; waits = waits.1; passes = waits.2 })
