@@ -112,9 +112,28 @@ def bounds(plan, any_data):
                 if needed >= LIMIT or needed > 10**19: return bus, all_, False
                 if needed == m.window: break
                 m.window, grew = needed, True
-            wait = bus.lead + m.window + m.tail - m.cost
+            wait, m.j, m.own_window = longest(bus, all_, m, blocked)
             grew, m.wait = grew or wait != m.wait, wait
     return bus, all_, True
+
+
+def shares(bus, all_, m, j, window):
+    """How long frames of each message take in a window of m, up to its instance j."""
+    return [j * m.cost if e is m else ceil(bus.lead + (e.wait if e.level > m.level else 0) + window, e.period) * e.cost if e.field <= m.level else 0 for e in all_]
+
+
+def longest(bus, all_, m, blocked):
+    """The longest wait of an instance of m, the first such instance, and its window."""
+    window, best = 0, (0, 0, 0)
+    for j in range(ceil(bus.lead + m.window, m.period)):
+        while True:
+            needed = blocked + sum(shares(bus, all_, m, j, window))
+            if needed <= window: break
+            window = needed
+        wait = bus.lead + window + m.tail - j * m.period
+        if wait > best[0]: best = wait, j, window
+        window += m.cost
+    return best
 
 
 def made(rng):
@@ -173,7 +192,11 @@ def differs(plan, records, any_data):
         if r["bound_us"] is None or round(r["bound_us"] * 1000) != want or r["bound_quanta"] != m.wait // bus.short[m.node]: return f"{name}: {r['bound_us']} us, not {want / 1000}"
         parts = [round(r[f"{it}_us"] * 1000) for it in ("start", "blocked", "queue", "others", "frame")]
         if sum(parts) != want: return f"{name}: parts {parts} aren't {want}"
-        if parts[1] != max([e.cost for e in all_ if e.field > m.level] + [bus.wake]) // T or parts[4] != m.tail // T: return f"{name}: parts {parts}"
+        blocked, late = max([e.cost for e in all_ if e.field > m.level] + [bus.wake]), m.j * m.period
+        own, others = (sum(s for e, s in zip(all_, shares(bus, all_, m, m.j, m.own_window)) if (e.node == m.node) == it) for it in (True, False))
+        over = max(0, late - blocked)
+        wanted = [max(0, blocked - late) // T, max(0, own - over) // T, max(0, others - max(0, over - own)) // T, m.tail // T]
+        if parts[1:] != wanted: return f"{name}: parts {parts}, not {wanted}"
         if r["deadline"] != ("met" if m.wait + m.jitter * T <= m.due else "missed"): return f"{name}: deadline {r['deadline']}"
     return None
 

@@ -30,26 +30,26 @@ use Rattle.wl_proved.proofs.Members.{plan_of_senders, senders_have}
 use Rattle.wl_proved.proofs.Saying.{has_clocks, premises_of, proved_waits}
 
 abbrev TableLaw : Type 0
-TableLaw = (f : Buses) (plan : Plan) (messages : List MessageWait) → IsPlanOfFamily f plan → first_failure_of f plain Any ≡ None → leaves_room f ≡ true
-    → leaves_room_to_decide f ≡ true → pass (plain_bus f) messages ≡ true → KeepsTable plan messages → has_levels plan messages ≡ true → HasBoundedWaits f plan messages
+TableLaw = (f : Buses) (plan : Plan) (messages : List MessageWait) (windows : List ℕ) → IsPlanOfFamily f plan → first_failure_of f plain Any ≡ None → leaves_room f ≡ true
+    → leaves_room_to_decide f ≡ true → pass (plain_bus f) messages windows ≡ true → KeepsTable plan messages → has_levels plan messages ≡ true → HasBoundedWaits f plan messages
 
 module _ (places : PlaceLaws) (law : TableLaw) (tick : ℕ) (any : Bool) (text : PlanText) (bus : Bus) where
   pub any_waits : (f : Buses) (w : Waits) (are : AreWaitsFor tick any text bus f w) → w.lacking ≡ None → (plan : Plan) → IsPlanOfFamily f plan
       → KeepsTable plan (messages_asked f any text are.0) → has_levels plan (messages_asked f any text are.0) ≡ true → HasBoundedWaits f plan (messages_asked f any text are.0)
   any_waits f w are none plan of keeps levels =
-      let p = premises_of tick bus f (asked_in f any text are.0) w are.2 none in
-      law f plan (messages_asked f any text are.0) of (sound_of bus.plan f p.margin.sound) p.margin.room (decides_of places f p.decides) p.passes keeps levels
+      let p = premises_of tick bus f are.1 (asked_in f any text are.0) w are.3 none in
+      law f plan (messages_asked f any text are.0) are.1 of (sound_of bus.plan f p.margin.sound) p.margin.room (decides_of places f p.decides) p.passes keeps levels
 
   module _ (paced : PaceLaw) (runs : IsRunnable bus.plan) (count : length bus.deviations ≡ length bus.plan.nodes) where
     pub own_waits : (f : Buses) (w : Waits) (are : AreWaitsFor tick any text bus f w) → w.lacking ≡ None → IsFamilyOfText text bus f
         → HasBoundedWaits f bus.plan (messages_asked f any text are.0)
     own_waits f w are none family =
-        let p = premises_of tick bus f (asked_in f any text are.0) w are.2 none in
+        let p = premises_of tick bus f are.1 (asked_in f any text are.0) w are.3 none in
         let same = paces-length bus.deviations family.0 family.1 ∙ count in
         let pace = paced bus.deviations bus.plan f p.paces (none_turns places bus.deviations (length bus.plan.nodes) p.steady) in
         let own : IsPlanOfFamily f bus.plan = subst (λ (g : Buses). IsPlanOfFamily g bus.plan) (sym family.2)
         (plan_of_senders bus.plan family.0 (messages_of bus.plan text) same runs (subst (λ (g : Buses). keep_pace bus.plan g ≡ true) family.2 pace) p.margin.covered
-        (inside_of bus.plan f p.margin.sound) (senders_have f any text bus.plan text are.0 are.1 p.table.keeps)) in
+        (inside_of bus.plan f p.margin.sound) (senders_have f any text bus.plan text are.0 are.2 p.table.keeps)) in
         any_waits f w are none bus.plan own p.table.keeps p.table.levels
 
     module _ (said : List ℕ) (met : Bool) where

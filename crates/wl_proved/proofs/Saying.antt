@@ -34,9 +34,9 @@ module _ (names : List (List ℕ)) (asked : List Asked) (lines : List Line) (sho
 pub proved_waits : (names : List (List ℕ)) (w : Waits) (text : List ℕ) → text ≡ outcome_words names w.asked w.lines (outcome_in w) → SaysBounded names text → w.lacking ≡ None
 proved_waits names w text is said = none_lacks names w.asked w.lines w.shown w.load text w.lacking is (ap head said.1)
 
-pub premises_of : (tick : ℕ) (bus : Bus) (f : Buses) (asked : List Asked) (w : Waits) → AreWaits tick bus f asked w → w.lacking ≡ None
-    → HasPremises bus.deviations bus.plan f (map message_in asked)
-premises_of tick bus f asked w are none = subst (FirstLack bus.deviations bus.plan f (map message_in asked)) none are.first
+pub premises_of : (tick : ℕ) (bus : Bus) (f : Buses) (windows : List ℕ) (asked : List Asked) (w : Waits) → AreWaits tick bus f windows asked w → w.lacking ≡ None
+    → HasPremises bus.deviations bus.plan f (map message_in asked) windows
+premises_of tick bus f windows asked w are none = subst (FirstLack bus.deviations bus.plan f (map message_in asked) windows) none are.first
 
 pub has_clocks : (names : List (List ℕ)) (text : List ℕ) → text ≡ no_clock_words → SaysBounded names text → ⊥
 has_clocks names text is said = differ text (ap head is) (ap head said.1)

@@ -25,9 +25,9 @@ ghost use Rattle.wl_proved.specs.Words.{IsFamilyOfText, SaysBounded};
 /// offsets are, however many instances come, and wherever within its tolerance each clock lies. The condition for margins has to hold for
 /// any senders. The bus has to have room for them, and that nobody decides twice.
 pub fn respond_law()
-    ensures { (f : Buses) (plan : Plan) (messages : List MessageWait) → IsPlanOfFamily f plan
+    ensures { (f : Buses) (plan : Plan) (messages : List MessageWait) (windows : List ℕ) → IsPlanOfFamily f plan
         → first_failure_of f plain Any ≡ None → leaves_room f ≡ true → leaves_room_to_decide f ≡ true
-        → pass (plain_bus f) messages ≡ true → KeepsTable plan messages
+        → pass (plain_bus f) messages windows ≡ true → KeepsTable plan messages
         → has_levels plan messages ≡ true
         → HasBoundedWaits f plan messages }
 {

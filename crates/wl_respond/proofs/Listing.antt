@@ -35,8 +35,8 @@ other_bounds plan messages x y z has is =
     let bits : z.bits ≡ y.bits = ap (λ (u : MessageWait). u.bits) is in
     let queue = (setup_at plan x.node).queue in
     record {
-      is = is ∙ ap (λ (u : MessageWait). record u { window = z.window; wait = z.wait }) has.is
-          ∙ ap (λ (n : ℕ). record x { level = level_in plan messages x; bits = n; every = least_gap queue x.field (length queue); window = z.window; wait = z.wait }) (sym bits);
+      is = is ∙ ap (λ (u : MessageWait). record u { window = z.window; wait = z.wait; first = z.first }) has.is
+          ∙ ap (λ (n : ℕ). record x { level = level_in plan messages x; bits = n; every = least_gap queue x.field (length queue); window = z.window; wait = z.wait; first = z.first }) (sym bits);
       bits = subst (IsMostBits queue x.field x.frame (length queue)) (sym bits) has.bits;
     }
 

@@ -21,19 +21,19 @@ pub both_ok : {T E : Type 0} (r : Result T E) (P Q R : T → Type 0) → IfOk r 
 both_ok (Ok x) P Q R p q f = f x p q
 both_ok (Err e) P Q R p q f = tt
 
-module _ (tick : ℕ) (bus : Bus) (f : Buses) (asked : List Asked) where
+module _ (tick : ℕ) (bus : Bus) (f : Buses) (windows : List ℕ) (asked : List Asked) where
   pub are_waits : (deviations : List Deviation) (messages : List MessageWait) (lacking : Option Lacking) (passes : Bool) (jittered : Option ℕ) (load : ℕ) (lines : List Line)
-      → deviations ≡ bus.deviations → messages ≡ map message_in asked → passes ≡ pass (plain_bus f) messages
+      → deviations ≡ bus.deviations → messages ≡ map message_in asked → passes ≡ pass (plain_bus f) messages windows
       → jittered ≡ first_place (has_no_period asked) (length asked) → load ≡ load_at_most (plain_bus f) messages
-      → lines ≡ lines_shown tick (plain_bus f) passes asked → FirstLack deviations bus.plan f messages lacking
-      → AreWaits tick bus f asked (record { asked = asked; lines = lines; lacking = lacking; shown = passes; jittered = jittered; load = load })
+      → lines ≡ lines_shown tick (plain_bus f) windows passes asked → FirstLack deviations bus.plan f messages windows lacking
+      → AreWaits tick bus f windows asked (record { asked = asked; lines = lines; lacking = lacking; shown = passes; jittered = jittered; load = load })
   are_waits deviations messages lacking passes jittered load lines d m p j l n first =
-      let bounds : passes ≡ pass (plain_bus f) (map message_in asked) = p ∙ ap (pass (plain_bus f)) m in record {
+      let bounds : passes ≡ pass (plain_bus f) (map message_in asked) windows = p ∙ ap (λ (x : List MessageWait). pass (plain_bus f) x windows) m in record {
         asked_are = refl;
-        lines_are = n ∙ ap (λ x. lines_shown tick (plain_bus f) x asked) bounds;
+        lines_are = n ∙ ap (λ x. lines_shown tick (plain_bus f) windows x asked) bounds;
         shown_is = bounds;
         jittered_is = j;
         load_is = l ∙ ap (load_at_most (plain_bus f)) m;
-        first = subst (λ (x : List MessageWait). FirstLack bus.deviations bus.plan f x lacking) m
-            (subst (λ (x : List Deviation). FirstLack x bus.plan f messages lacking) d first);
+        first = subst (λ (x : List MessageWait). FirstLack bus.deviations bus.plan f x windows lacking) m
+            (subst (λ (x : List Deviation). FirstLack x bus.plan f messages windows lacking) d first);
       }

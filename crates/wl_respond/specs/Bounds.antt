@@ -21,29 +21,29 @@ use Rattle.wl_respond.specs.Tables.{IsTable}
 use Rattle.wl_respond.specs.Tests.{pass, row_for}
 
 -- what is said of each message; bounds are shown if they pass
-abbrev pub lines_shown : ℕ → families.Bus → Bool → List Asked → List Line
-lines_shown tick b shown asked = map (told_line tick b (times_of b) (map (row_for b (times_of b)) (map message_in asked)) shown) asked
+abbrev pub lines_shown : ℕ → families.Bus → List ℕ → Bool → List Asked → List Line
+lines_shown tick b windows shown asked = map (told_line tick b (times_of b) (map (row_for b (times_of b)) (map message_in asked)) windows shown) asked
 
-abbrev pub has_bounds : families.Buses → List Asked → Bool
-has_bounds f asked = pass (plain_bus f) (map message_in asked)
+abbrev pub has_bounds : families.Buses → List ℕ → List Asked → Bool
+has_bounds f windows asked = pass (plain_bus f) (map message_in asked) windows
 
--- The waits of a bus with these messages, and the first premise that lacks: none if all hold.
-pub record AreWaits (tick : ℕ) (bus : Bus) (f : families.Buses) (asked : List Asked) (w : Waits) : Type 0 where
+-- The waits of a bus with these messages and windows of their instances, and the first premise that lacks: none if all hold.
+pub record AreWaits (tick : ℕ) (bus : Bus) (f : families.Buses) (windows : List ℕ) (asked : List Asked) (w : Waits) : Type 0 where
   pub asked_are : w.asked ≡ asked
-  pub lines_are : w.lines ≡ lines_shown tick (plain_bus f) (has_bounds f asked) asked
-  pub shown_is : w.shown ≡ has_bounds f asked
+  pub lines_are : w.lines ≡ lines_shown tick (plain_bus f) windows (has_bounds f windows asked) asked
+  pub shown_is : w.shown ≡ has_bounds f windows asked
   pub jittered_is : w.jittered ≡ first_place (has_no_period asked) (length asked)
   pub load_is : w.load ≡ load_at_most (plain_bus f) (map message_in asked)
-  pub first : FirstLack bus.deviations bus.plan f (map message_in asked) w.lacking
+  pub first : FirstLack bus.deviations bus.plan f (map message_in asked) windows w.lacking
 
 -- what the plan's text asks of the messages of a table, with their own data or any
 abbrev pub asked_in : families.Buses → (any : Bool) → PlanText → List MessageWait → List Asked
 asked_in f any plain table = map (asked_of (plain_bus f) any plain) table
 
--- They are of the table of the plan's messages, with bounds of each.
+-- They are of the table of the plan's messages, with bounds of each and windows of its instances.
 abbrev pub AreWaitsFor : (tick : ℕ) → (any : Bool) → PlanText → Bus → families.Buses → Waits → Type 0
 AreWaitsFor tick any plain bus f w =
-    (table : List MessageWait) × IsTable bus.plan plain table × AreWaits tick bus f (asked_in f any plain table) w
+    (table : List MessageWait) × (windows : List ℕ) × IsTable bus.plan plain table × AreWaits tick bus f windows (asked_in f any plain table) w
 
 abbrev pub AreWaitsBy : ℕ → Bool → PlanText → Bus → Option (List Pace) → Option Waits → Type 0
 AreWaitsBy tick any plain bus None found = found ≡ None

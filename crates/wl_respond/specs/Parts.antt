@@ -1,5 +1,5 @@
 -- How long a message waits, and for what: the parts of its bound, in thousandths of a microsecond (this project's profile; the parts are those of Davis, Burns, Bril, Lukkien 2007, section 3.1).
-use Rattle.std.specs.Prelude.{ℕ, ◌+◌, ◌-◌, ◌*◌, ◌/◌, ◌^◌, ◌==◌, ◌&&◌, nat_le, not, max, min, Bool, true, false, List, [], ◌∷◌, length, if◌then◌else◌, Option, Some, None}
+use Rattle.std.specs.Prelude.{ℕ, ◌+◌, ◌-◌, ◌*◌, ◌/◌, ◌^◌, ◌==◌, ◌&&◌, nat_le, not, max, min, Bool, true, false, List, [], ◌∷◌, map, length, if◌then◌else◌, Option, Some, None, unwrap_or}
 use Rattle.std.specs.Int.{div_ceil}
 use Rattle.wl_level.specs.Places.{first_place}
 use Rattle.wl_counts.specs.Counts.{sum_below}
@@ -13,7 +13,7 @@ use Rattle.wl_respond.specs.declared.parts.Met.{Met}
 use Rattle.wl_respond.specs.declared.parts.Met.TheVariants.{InTime, Late, Open}
 use Rattle.wl_respond.specs.declared.parts.Parts.{Parts}
 use Rattle.wl_respond.specs.Asks.{once, same_truth}
-use Rattle.wl_respond.specs.Inequalities.{blocked_for, window_share}
+use Rattle.wl_respond.specs.Inequalities.{blocked_for, head_start, instances, is_whole_enough, window_at, window_share}
 use Rattle.wl_respond.specs.Rows.{MessageTerms, row_at, wait_limit}
 use Rattle.wl_respond.specs.Tests.{row_for, shortest_at}
 
@@ -29,18 +29,18 @@ abbrev pub counted_time : ℕ → ℕ
 counted_time n = min n (2 ^ 128 - 1)
 
 module _ (lead wake : ℕ) (rows : List MessageTerms) where
-  -- how long the frames of its own node take in a window of a message, but for one of its own, and how long those of other nodes do
-  abbrev pub share_of_node : Bool → MessageTerms → ℕ → ℕ
-  share_of_node own m e = if same_truth ((row_at rows e).node == m.node) own then window_share lead m (row_at rows e) else 0
+  -- How long frames of message e take in a window of m with a length of w, up to instance j of m; those of its own node, but for that instance; and those of other nodes.
+  abbrev pub is_itself : (m e : MessageTerms) → Bool
+  is_itself m e = (e.node == m.node) && (e.field == m.field)
 
-  abbrev pub shares_of_node : Bool → MessageTerms → ℕ
-  shares_of_node own m = counted_time (sum_below (share_of_node own m) (length rows))
+  abbrev pub share_before : (m : MessageTerms) → (j w e : ℕ) → ℕ
+  share_before m j w e = if is_itself m (row_at rows e) then j * m.cost else window_share lead w m (row_at rows e)
 
-  abbrev pub queued_for : MessageTerms → ℕ
-  queued_for m = shares_of_node true m - m.cost
+  abbrev pub share_of_node : Bool → (m : MessageTerms) → (j w e : ℕ) → ℕ
+  share_of_node own m j w e = if same_truth ((row_at rows e).node == m.node) own then share_before m j w e else 0
 
-  abbrev pub others_for : MessageTerms → ℕ
-  others_for m = shares_of_node false m
+  abbrev pub shares_of_node : Bool → (m : MessageTerms) → (j w : ℕ) → ℕ
+  shares_of_node own m j w = counted_time (sum_below (share_of_node own m j w) (length rows))
 
   -- the message whose frame may block it so long, if it is a message
   abbrev pub is_blocker : MessageTerms → ℕ → Bool
@@ -62,10 +62,33 @@ module _ (lead wake : ℕ) (rows : List MessageTerms) where
     by = by;
   }
 
-  abbrev pub parts_of : (tick shortest : ℕ) → MessageTerms → Parts
-  parts_of tick shortest m =
-      parts_with (nanoseconds_around tick m.wait) (nanoseconds_within tick (blocked_for lead wake rows m)) (nanoseconds_within tick (queued_for m))
-      (nanoseconds_within tick (others_for m)) (nanoseconds_within tick m.tail) (m.wait / max 1 shortest) (blocker_of m)
+  -- An instance that is ready late doesn't wait for what the window has before that: the frame that blocks goes first, then those of its own node, then the others.
+  abbrev pub parts_late : (tick shortest : ℕ) → MessageTerms → (late blocked own others : ℕ) → Parts
+  parts_late tick shortest m late blocked own others =
+      parts_with (nanoseconds_around tick m.wait) (nanoseconds_within tick (blocked - late)) (nanoseconds_within tick (own - (late - blocked)))
+      (nanoseconds_within tick (others - (late - blocked - own))) (nanoseconds_within tick m.tail) (m.wait / max 1 shortest) (blocker_of m)
+
+  abbrev pub parts_at : (tick shortest : ℕ) → MessageTerms → (j w : ℕ) → Parts
+  parts_at tick shortest m j w =
+      parts_late tick shortest m (counted_time (j * m.period)) (blocked_for lead wake rows m) (shares_of_node true m j w) (shares_of_node false m j w)
+
+  -- By the window that has all its frames, each is ready as early as the first.
+  abbrev pub parts_whole : (tick shortest : ℕ) → MessageTerms → Parts
+  parts_whole tick shortest m =
+      parts_late tick shortest m 0 (blocked_for lead wake rows m) (shares_of_node true m (instances lead m - 1) m.window)
+      (shares_of_node false m (instances lead m - 1) m.window)
+
+  module _ (windows : List ℕ) where
+    -- the instance that waits longest: the first whose wait is that of the bound
+    abbrev pub reaches : MessageTerms → ℕ → Bool
+    reaches m j = nat_le (m.wait + j * m.period) (head_start lead m m + window_at windows m j + m.tail)
+
+    abbrev pub worst_of : MessageTerms → ℕ
+    worst_of m = unwrap_or (first_place (reaches m) (min (instances lead m) (length windows))) 0
+
+    abbrev pub parts_of : (tick shortest : ℕ) → MessageTerms → Parts
+    parts_of tick shortest m =
+        if is_whole_enough lead m then parts_whole tick shortest m else parts_at tick shortest m (worst_of m) (window_at windows m (worst_of m))
 
 -- Within which time a frame of a message has to be sent, in millionths of a tick: the one that is said, else its period by the fastest clock.
 abbrev pub deadline_or : Option ℕ → Option ℕ → Option ℕ
@@ -85,12 +108,12 @@ within_of tick None = None
 within_of tick (Some time) = Some (nanoseconds_within tick time)
 
 -- what is said of a message among all in numbers, with its bound or without
-abbrev pub told_line : (tick : ℕ) → Bus → BusTimes → List MessageTerms → Bool → Asked → Line
-told_line tick b t rows shown a = record {
+abbrev pub told_line : (tick : ℕ) → Bus → BusTimes → List MessageTerms → List ℕ → Bool → Asked → Line
+told_line tick b t rows windows shown a = record {
   jitter = nanoseconds_around tick (a.jitter * 1000000);
   deadline = within_of tick (deadline_of b a);
   met = if shown then met_by (row_for b t a.message).wait a.jitter (deadline_of b a) else Open;
-  parts = if shown then Some (parts_of t.lead t.wake rows tick (shortest_at b a.message.node) (row_for b t a.message)) else None;
+  parts = if shown then Some (parts_of t.lead t.wake rows windows tick (shortest_at b a.message.node) (row_for b t a.message)) else None;
 }
 
 -- The share of the time that frames of a message take in the long run, in hundred-millionths: by the longest bits, and by its node's fastest clock.

@@ -1,5 +1,5 @@
 -- What is asked of a plan beside the test of its table, so that the law on waits says something of it (`respond_law` of wl_proved); and what of that lacks first.
-use Rattle.std.specs.Prelude.{◌≡◌, true, false, List, length, Option, None, Some}
+use Rattle.std.specs.Prelude.{◌≡◌, ℕ, true, false, List, length, Option, None, Some}
 use Rattle.wl_level.specs.Places.{first_place}
 use Rattle.wl_plan.specs.declared.plan.Plan.{Plan}
 use Rattle.wl_setup.specs.declared.bus.Deviation.{Deviation}
@@ -37,18 +37,18 @@ module _ (deviations : List Deviation) (plan : Plan) (f : Buses) where
   NoneTurns = first_place (is_turning deviations) (length plan.nodes) ≡ None
 
 -- All of that, nobody decides twice, and the table passes.
-pub record HasPremises (deviations : List Deviation) (plan : Plan) (f : Buses) (messages : List MessageWait) : Type 0 where
+pub record HasPremises (deviations : List Deviation) (plan : Plan) (f : Buses) (messages : List MessageWait) (windows : List ℕ) : Type 0 where
   pub paces : NoneStrays deviations plan f
   pub steady : NoneTurns deviations plan f
   pub margin : IsForAny plan f
   pub decides : first_to_decide_twice f ≡ None
   pub table : IsOnTable plan messages
-  pub passes : pass (plain_bus f) messages ≡ true
+  pub passes : pass (plain_bus f) messages windows ≡ true
 
 -- The first premise that lacks, in this order: all before it hold.
-module _ (deviations : List Deviation) (plan : Plan) (f : Buses) (messages : List MessageWait) where
+module _ (deviations : List Deviation) (plan : Plan) (f : Buses) (messages : List MessageWait) (windows : List ℕ) where
   abbrev pub FirstLack : Option Lacking → Type 0
-  FirstLack None = HasPremises deviations plan f messages
+  FirstLack None = HasPremises deviations plan f messages windows
   FirstLack (Some (Astray i)) = first_stray deviations plan f ≡ Some i
   FirstLack (Some (Turning i)) = NoneStrays deviations plan f × (first_place (is_turning deviations) (length plan.nodes) ≡ Some i)
   FirstLack (Some Margin) = NoneStrays deviations plan f × NoneTurns deviations plan f × (IsForAny plan f → ⊥)
@@ -57,4 +57,4 @@ module _ (deviations : List Deviation) (plan : Plan) (f : Buses) (messages : Lis
       NoneStrays deviations plan f × NoneTurns deviations plan f × IsForAny plan f × (first_to_decide_twice f ≡ None) × (IsOnTable plan messages → ⊥)
   FirstLack (Some Bounds) =
       NoneStrays deviations plan f × NoneTurns deviations plan f × IsForAny plan f × (first_to_decide_twice f ≡ None) × IsOnTable plan messages
-      × (pass (plain_bus f) messages ≡ false)
+      × (pass (plain_bus f) messages windows ≡ false)

@@ -2,7 +2,7 @@
 use Rattle.std.specs.Prelude.{ℕ, ◌<◌, ◌^◌, List, slice_index_or}
 
 -- The node of a message, its arbitration field, and the greatest field that may go before it: the level. Its time from a frame's beginning to that of the next winner, and to its own end; the shortest
--- time between two of its frames. A window of its frames, and its greatest wait. Davis, Burns, Bril, Lukkien 2007, section 2.
+-- time between two of its frames. A window of its frames, and its greatest wait. The place of its first instance's window in the list of those of all. Davis, Burns, Bril, Lukkien 2007, section 2.
 pub record MessageTerms : Type 0 where
   pub node : ℕ
   pub field : ℕ
@@ -12,6 +12,7 @@ pub record MessageTerms : Type 0 where
   pub period : ℕ
   pub window : ℕ
   pub wait : ℕ
+  pub first : ℕ
 
 -- what the numbers stay below, so that all fits 128 bits: this project's
 abbrev pub cost_limit : ℕ
@@ -32,7 +33,7 @@ pub record IsRow (r : MessageTerms) : Type 0 where
   pub wait : r.wait < wait_limit
 
 abbrev pub no_row : MessageTerms
-no_row = record { node = 0; field = 0; level = 0; cost = 0; tail = 0; period = 1; window = 0; wait = 0 }
+no_row = record { node = 0; field = 0; level = 0; cost = 0; tail = 0; period = 1; window = 0; wait = 0; first = 0 }
 
 abbrev pub row_at : List MessageTerms → ℕ → MessageTerms
 row_at rows e = slice_index_or rows e no_row

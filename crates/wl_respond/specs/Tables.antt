@@ -18,7 +18,7 @@ use Rattle.wl_respond.specs.Tests.{message_at}
 
 -- a message with the first of its frames, before its numbers are known
 abbrev pub first_of : ℕ → Content → MessageWait
-first_of i frame = record { node = i; frame = frame; field = field_of frame; level = field_of frame; bits = 0; every = once; window = 0; wait = 0 }
+first_of i frame = record { node = i; frame = frame; field = field_of frame; level = field_of frame; bits = 0; every = once; window = 0; wait = 0; first = 0 }
 
 -- A frame of node i is of a message that is there, or its message comes last.
 abbrev pub or_last : List MessageWait → ℕ → Content → Option ℕ → List MessageWait
@@ -99,6 +99,7 @@ pub record HasNumbers (plan : Plan) (messages : List MessageWait) (x y : Message
     every = least_gap (setup_at plan x.node).queue x.field (length (setup_at plan x.node).queue);
     window = y.window;
     wait = y.wait;
+    first = y.first;
   }
   pub bits : IsMostBits (setup_at plan x.node).queue x.field x.frame (length (setup_at plan x.node).queue) y.bits
 
@@ -113,7 +114,7 @@ IsTable plan text table = HaveNumbers plan (messages_of plan text) table
 
 -- the same messages with other bounds
 abbrev pub IsBounded : MessageWait → MessageWait → Type 0
-IsBounded x y = y ≡ record x { window = y.window; wait = y.wait }
+IsBounded x y = y ≡ record x { window = y.window; wait = y.wait; first = y.first }
 
 pub record AreSameButBounds (messages all : List MessageWait) : Type 0 where
   pub count : length all ≡ length messages

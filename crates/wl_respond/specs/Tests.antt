@@ -17,6 +17,7 @@ no_message = record {
   every = 0;
   window = 0;
   wait = 0;
+  first = 0;
 }
 
 abbrev pub message_at : List MessageWait → ℕ → MessageWait
@@ -47,6 +48,7 @@ row_for b t x = record {
   period = max 1 (period_of b x);
   window = min x.window (wait_limit - 1);
   wait = min x.wait (wait_limit - 1);
+  first = x.first;
 }
 
 -- its node is there, its period isn't 0, and no number is too great
@@ -57,10 +59,10 @@ abbrev pub are_fair : Bus → List MessageWait → Bool
 are_fair b [] = true
 are_fair b (x ∷ later) = is_fair b x && are_fair b later
 
--- The windows and waits of the messages pass the inequalities on the bus.
-abbrev pub pass_with : Bus → BusTimes → List MessageWait → Bool
-pass_with b t messages =
-    are_fair b messages && are_enough t.lead t.wake (map (row_for b t) messages)
+-- The windows and waits of the messages pass the inequalities on the bus, with windows of their instances.
+abbrev pub pass_with : Bus → BusTimes → List MessageWait → List ℕ → Bool
+pass_with b t messages windows =
+    are_fair b messages && are_enough t.lead t.wake (map (row_for b t) messages) windows
 
-abbrev pub pass : Bus → List MessageWait → Bool
-pass b messages = pass_with b (times_of b) messages
+abbrev pub pass : Bus → List MessageWait → List ℕ → Bool
+pass b messages windows = pass_with b (times_of b) messages windows

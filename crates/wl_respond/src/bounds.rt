@@ -49,7 +49,7 @@ pub struct Question {
     pub any_data: bool,
 }
 
-/// Returns a message with the window and the wait of another one, if there is one.
+/// Returns a message with the bounds of another one, if there is one.
 fn with_bound(message: &MessageWait, bounded: Option<&MessageWait>) -> MessageWait
     ensures { IsBounded message.now result }
 {
@@ -57,6 +57,7 @@ fn with_bound(message: &MessageWait, bounded: Option<&MessageWait>) -> MessageWa
         Some(other) => MessageWait {
             window: other.window,
             wait: other.wait,
+            first: other.first,
             ..*message
         },
         None => *message,
@@ -78,6 +79,13 @@ fn with_bounds(
     Ok(all)
 }
 
+/// A table of messages with bounds, and the windows of their instances.
+#[derive(Drop)]
+struct Bounds {
+    messages: Vec<MessageWait>,
+    windows: Vec<u128>,
+}
+
 /// Returns the table of a plan's messages with bounds that were searched: with the bits and the periods of the plan's own frames. Refused only
 /// when out of memory.
 fn searched(
@@ -86,14 +94,25 @@ fn searched(
     any: bool,
     text: &PlanText,
     plan: &CheckedPlan,
-) -> Result<Vec<MessageWait>, AllocError>
-    ensures { IfOk result (λ table. IsTable plan.now text.now table.items) }
+) -> Result<Bounds, AllocError>
+    ensures { IfOk result (λ bounds. IsTable plan.now text.now bounds.messages.items) }
 {
     let table = table_of(alloc, plan, text)?;
     let asked = all_asked(alloc, family, any, text, table.as_slice())?;
     let messages = messages_in(alloc, asked.as_slice())?;
     let found = bounds_of(alloc, family, messages.as_slice())?;
-    with_bounds(alloc, table.as_slice(), found.messages.as_slice())
+    let messages = with_bounds(alloc, table.as_slice(), found.messages.as_slice())?;
+    Ok(Bounds {
+        messages,
+        windows: found.windows,
+    })
+}
+
+/// What is asked of messages with bounds, and the windows of their instances.
+#[derive(Clone, Copy)]
+struct Bounded<'a> {
+    asked: &'a [Asked],
+    windows: &'a [u128],
 }
 
 /// Returns what is said of each message, with its bound or without. Refused only when out of memory.
@@ -102,12 +121,13 @@ fn all_lines(
     tick: u64,
     family: &Family,
     shown: bool,
-    asked: &[Asked],
+    it: &Bounded,
 ) -> Result<Listed<Line>, AllocError>
     requires { tick < 2 ^ 36 }
-    ensures { IfOk result (λ lines. lines ≡ lines_shown tick (plain_bus family.now) shown asked.now) }
+    ensures { IfOk result (λ lines. lines ≡ lines_shown tick (plain_bus family.now) it.now.windows.now shown
+        it.now.asked.now) }
 {
-    let messages = messages_in(alloc, asked)?;
+    let messages = messages_in(alloc, it.asked)?;
     let times = family.times();
     let rows = rows(alloc, family, times, messages.as_slice())?;
     let common = Common {
@@ -120,9 +140,17 @@ fn all_lines(
         times,
         common,
         rows: rows.as_slice(),
+        windows: it.windows,
         shown,
     };
-    lines_of(alloc, &case, asked)
+    lines_of(alloc, &case, it.asked)
+}
+
+/// What is asked of messages with bounds, and the windows of their instances, before their waits are known.
+#[derive(Drop)]
+struct AskedBounds {
+    asked: Listed<Asked>,
+    windows: Vec<u128>,
 }
 
 /// Returns the waits of a bus whose messages have these bounds.
@@ -131,17 +159,22 @@ fn waits_of(
     tick: u64,
     bus: &Bus,
     family: &Family,
-    asked: Listed<Asked>,
+    found: AskedBounds,
 ) -> Result<Waits, AllocError>
     requires tick { tick < 2 ^ 36 }
     requires deviations { length bus.now.deviations ≡ length bus.now.plan.nodes }
     requires members { length family.now.members ≡ length bus.now.plan.nodes }
-    ensures waits { IfOk result (AreWaits tick bus.now family.now asked) }
+    ensures waits { IfOk result (AreWaits tick bus.now family.now found.windows.items found.asked) }
     ensures lines { IfOk result (λ w. length w.asked ≡ length w.lines) }
     ensures jittered { IfOk result (λ w. IfSome w.jittered (λ e. e < length w.asked)) }
 {
-    let messages = messages_in(alloc, asked.as_slice())?;
-    let passes = pass(alloc, family, messages.as_slice())?;
+    let AskedBounds { asked, windows } = found;
+    let it = Bounded {
+        asked: asked.as_slice(),
+        windows: windows.as_slice(),
+    };
+    let messages = messages_in(alloc, it.asked)?;
+    let passes = pass(alloc, family, messages.as_slice(), it.windows)?;
     let lacking = first_lacking(
         bus.deviations.as_slice(),
         &bus.plan,
@@ -149,9 +182,9 @@ fn waits_of(
         messages.as_slice(),
         passes,
     );
-    let jittered = first_jittered(asked.as_slice());
+    let jittered = first_jittered(it.asked);
     let load = load_at_most(family, messages.as_slice());
-    let lines = all_lines(alloc, tick, family, passes, asked.as_slice())?;
+    let lines = all_lines(alloc, tick, family, passes, &it)?;
     Ok(Waits {
         asked,
         lines,
@@ -178,9 +211,13 @@ fn waits_searched(
     ensures jittered { IfOk result (λ w. IfSome w.jittered (λ e. e < length w.asked)) }
 {
     let any = question.any_data;
-    let bounded = searched(alloc, family, any, plain, &bus.plan)?;
-    let asked = all_asked(alloc, family, any, plain, bounded.as_slice())?;
-    waits_of(alloc, question.tick, bus, family, asked)
+    let bounds = searched(alloc, family, any, plain, &bus.plan)?;
+    let asked = all_asked(alloc, family, any, plain, bounds.messages.as_slice())?;
+    let found = AskedBounds {
+        asked,
+        windows: bounds.windows,
+    };
+    waits_of(alloc, question.tick, bus, family, found)
 }
 
 /// Returns the waits of a bus and the oscillators of its nodes.

@@ -32,6 +32,8 @@ pub struct MessageWait {
     pub window: u128,
     /// How long a frame waits at most, from `ready` to its end, in millionths of a tick.
     pub wait: u128,
+    /// The place of its first instance's window in the list of windows of all messages.
+    pub first: usize,
 }
 
 /// Returns the shortest quantum of node `i`, and 0 of a node that isn't there.
@@ -65,7 +67,7 @@ pub(crate) fn row(family: &Family, times: BusTimes, message: &MessageWait) -> Ro
     };
     let window = message.window.min(WAIT_LIMIT - 1);
     let wait = message.wait.min(WAIT_LIMIT - 1);
-    Row::of(parts).with(window, wait)
+    Row::of(parts).with(window, wait, message.first)
 }
 
 /// Returns the messages in numbers. Refused only when out of memory.
@@ -107,10 +109,16 @@ fn are_fair(family: &Family, messages: &[MessageWait]) -> bool
     }
 }
 
-/// True if the windows and waits of these messages pass the inequalities on the bus of a family. Then no frame waits longer than its message says,
-/// on any plan of the family with these messages (`respond_law` of wl_proved). Refused only when out of memory.
-pub fn pass(alloc: Global, family: &Family, messages: &[MessageWait]) -> Result<bool, AllocError>
-    ensures { IfOk result (λ passes. passes ≡ pass (plain_bus family.now) messages.now) }
+/// True if the windows and waits of these messages pass the inequalities on the bus of a family. `windows` has the windows of the instances of
+/// all messages, in millionths of a tick: those of a message begin at its place `first`. Then no frame waits longer than its message says, on any
+/// plan of the family with these messages (`respond_law` of wl_proved). Refused only when out of memory.
+pub fn pass(
+    alloc: Global,
+    family: &Family,
+    messages: &[MessageWait],
+    windows: &[u128],
+) -> Result<bool, AllocError>
+    ensures { IfOk result (λ passes. passes ≡ pass (plain_bus family.now) messages.now windows.now) }
 {
     if !are_fair(family, messages) {
         return Ok(false);
@@ -121,5 +129,5 @@ pub fn pass(alloc: Global, family: &Family, messages: &[MessageWait]) -> Result<
         lead: times.lead,
         wake: times.wake,
     };
-    Ok(are_enough(common, rows.as_slice()))
+    Ok(are_enough(common, rows.as_slice(), windows))
 }

@@ -1,5 +1,5 @@
 //! What lacks of the premises under which the bounds are proved.
-ghost use Rattle.std.specs.Prelude.{◌≡◌, length};
+ghost use Rattle.std.specs.Prelude.{◌≡◌, ℕ, List, length};
 ghost use Rattle.std.specs.Bool.{Decides};
 ghost use Rattle.wl_bound.specs.Rooms.{plain_bus};
 ghost use Rattle.wl_respond.specs.Premises.{FirstLack, IsForAny, IsOnTable};
@@ -54,8 +54,8 @@ pub fn first_lacking(
 ) -> Option<Lacking>
     requires deviations { length deviations.now ≡ length plan.now.nodes }
     requires members { length family.now.members ≡ length plan.now.nodes }
-    requires passes { passes ≡ pass (plain_bus family.now) messages.now }
-    ensures { FirstLack deviations.now plan.now family.now messages.now result }
+    ensures { (windows : List ℕ) → passes ≡ pass (plain_bus family.now) messages.now windows
+        → FirstLack deviations.now plan.now family.now messages.now windows result }
 {
     if let Some(i) = first_stray(deviations, plan, family) {
         return Some(Lacking::Astray(i));

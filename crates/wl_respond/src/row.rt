@@ -18,6 +18,7 @@ pub(crate) struct Row {
     period: u128,
     window: u128,
     wait: u128,
+    first: usize,
 }
 
 impl Model for Row {
@@ -34,6 +35,7 @@ impl Model for Row {
       period = r.period;
       window = r.window;
       wait = r.wait;
+      first = r.first;
     } };
 
     ghost inverse = { λ r. record {
@@ -45,6 +47,7 @@ impl Model for Row {
       period = r.period;
       window = r.window;
       wait = r.wait;
+      first = r.first;
     } };
 
     ghost invariant = { λ r. IsRow (record {
@@ -56,6 +59,7 @@ impl Model for Row {
       period = r.period;
       window = r.window;
       wait = r.wait;
+      first = r.first;
     }) };
 }
 
@@ -90,6 +94,7 @@ impl Row {
           period = parts.period;
           window = 0;
           wait = 0;
+          first = 0;
         } }
     {
         Row {
@@ -101,18 +106,20 @@ impl Row {
             period: parts.period,
             window: 0,
             wait: 0,
+            first: 0,
         }
     }
 
-    /// Returns the row with this window and this wait.
-    pub(crate) fn with(self, window: u128, wait: u128) -> Row
+    /// Returns the row with this window and this wait, whose first instance's window is at the place `first`.
+    pub(crate) fn with(self, window: u128, wait: u128, first: usize) -> Row
         requires window { window < wait_limit }
         requires wait { wait < wait_limit }
-        ensures { result ≡ record self { window = window; wait = wait } }
+        ensures { result ≡ record self { window = window; wait = wait; first = first } }
     {
         Row {
             window,
             wait,
+            first,
             ..self
         }
     }
@@ -177,5 +184,12 @@ impl Row {
         ensures most { result < wait_limit }
     {
         self.wait
+    }
+
+    /// Returns the place of its first instance's window in the list of those of all messages.
+    pub(crate) fn first(&self) -> usize
+        ensures { result ≡ self.now.first }
+    {
+        self.first
     }
 }

@@ -35,6 +35,7 @@ fn first_of(i: u8, frame: &Frame) -> MessageWait
         every: ONCE,
         window: 0,
         wait: 0,
+        first: 0,
     }
 }
 

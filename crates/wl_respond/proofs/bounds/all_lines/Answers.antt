@@ -13,9 +13,9 @@ use Rattle.wl_respond.proofs.bounds.all_lines.Goals as goal
 pub returns : goal.returns
 returns c =
     let b = plain_bus c.args.family.now in
-    let rows : c.as_slice-2.result.now ≡ map (row_for b (times_of b)) (map message_in c.args.asked.now) =
+    let rows : c.as_slice-2.result.now ≡ map (row_for b (times_of b)) (map message_in c.args.it.now.asked.now) =
     c.as_slice-2.ensures ∙ c.in_ok-rows.ensures
     ∙ ap₂ (λ (t : BusTimes) (all : List MessageWait). map (row_for b t) all) c.times-times.ensures.value (c.as_slice.ensures ∙ c.in_ok-messages.ensures) in
     IfOk-weaker c.lines_of.result _ _
-    (λ lines h. h ∙ ap₂ (λ (t : BusTimes) (all : List MessageTerms). map (told_line c.args.tick b t all c.args.shown) c.args.asked.now) c.times-times.ensures.value rows)
+    (λ lines h. h ∙ ap₂ (λ (t : BusTimes) (all : List MessageTerms). map (told_line c.args.tick b t all c.args.it.now.windows.now c.args.shown) c.args.it.now.asked.now) c.times-times.ensures.value rows)
     c.lines_of.ensures

@@ -5,4 +5,4 @@ use Rattle.wl_respond.specs.Inequalities.{window_share}
 use Rattle.wl_respond.proofs.inequality.window_demand.Given as goal
 
 abbrev pub invariant-loop-e : goal.invariant-loop-e
-invariant-loop-e l = l.demand ≡ min (sum_below (λ e. window_share l.common.lead l.m (row_at l.rows e)) l.e) (2 ^ 128 - 1)
+invariant-loop-e l = l.demand ≡ min (sum_below (λ e. window_share l.common.lead l.m.window l.m (row_at l.rows e)) l.e) (2 ^ 128 - 1)

@@ -4,4 +4,4 @@ use Rattle.wl_respond.specs.Parts.{told_line}
 use Rattle.wl_respond.proofs.parts.lines_of.Given as goal
 
 abbrev pub invariant-loop-one : goal.invariant-loop-one
-invariant-loop-one l = l.lines ≡ map (told_line l.case.tick (plain_bus l.case.family.now) l.case.times l.case.rows.now l.case.shown) (take l.one-index l.asked)
+invariant-loop-one l = l.lines ≡ map (told_line l.case.tick (plain_bus l.case.family.now) l.case.times l.case.rows.now l.case.windows.now l.case.shown) (take l.one-index l.asked)
