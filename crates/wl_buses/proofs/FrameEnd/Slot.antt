@@ -291,7 +291,7 @@ module _ (m : MachineLaws) (s : Stations) (are : AreStations s) (room : HaveRoom
         by : (settled s d due k ≡ due k) ⊎ ((q : ℕ) × (w : ℕ) × Drives s e k w × (reaches_at s e w k ≤ tick k q) × (q ≤ settled s d due k))
             → (e.from k ≡ (bits end).place k + bit_quanta (s.lengths k)) ⊎ FollowsOne t e k
         by (inl from) = inl from
-        by (inr x) = inr (x.1, there_drives s late e k x.1 x.2, (let up = tick_next s are k there x.0 (settled s d due k) x.4 in let reach = x.3 in omega arith))
+        by (inr x) = inr (x.1, there_drives s (λ i. true) late e k x.1 x.2, (let up = tick_next s are k there x.0 (settled s d due k) x.4 in let reach = x.3 in omega arith))
 
     -- what is driven in the end of the frame
     abbrev drove : ℕ → ℕ → Bool
@@ -384,7 +384,7 @@ module _ (m : MachineLaws) (s : Stations) (are : AreStations s) (room : HaveRoom
       due = λ k there. ap (λ b. b.due k) slot_is;
       after = λ k there. (let same = slot_from k in let after = slot_after k there in omega arith);
       next = λ k there right. subst (λ b. (b.from k ≡ (bits end).place k + bit_quanta (s.lengths k)) ⊎ FollowsOne t b k) (sym slot_is) (slot_next k there);
-      begin = λ right. subst (BeginBit t) (sym slot_is) (begin_there s late e begin_slot);
+      begin = λ right. subst (BeginBit t) (sym slot_is) (begin_there s (λ i. true) late e begin_slot);
       later = over_after;
       ends = λ k there right. over_from k;
       quiet = λ k u there from less. (let first = slot_after_delimiter k there in drove_before k u there less ∙ was_quiet k u there from);

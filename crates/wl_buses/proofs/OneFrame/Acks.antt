@@ -103,7 +103,7 @@ module _ (s : Stations) (way : ℕ → ℕ → ℕ) (more : ℕ → ℕ) (are_be
   close_slot : AreClose t all 0 slot.place
   close_slot i k inside there other some =
       bit_later u are_before more fits room.late_fits all (suc since) (omega arith) slot close_due (λ w third e. refl) (λ w third e. refl)
-      (begin_there (answering s late) way slot (is.begin delimited)) i k inside there other
+      (begin_there (answering s late) (λ i. true) way slot (is.begin delimited)) i k inside there other
       (either i k inside there other)
 
   acknowledgement : OneBit t all 0 slot (recessive_bit over) drove

@@ -113,7 +113,7 @@ module _ (s : Stations) (way : ℕ → ℕ → ℕ) (more : ℕ → ℕ) (are : 
   right_slot = slotted s way more them fits_them room_them winner place slot over drove until is since few near_them laws
 
   begin_u : BeginBit u slot
-  begin_u = begin_there (answering s late) way slot (is.begin right_delimiter)
+  begin_u = begin_there (answering s late) (λ i. true) way slot (is.begin right_delimiter)
 
   -- the bits if no edge moves them
   due_all : (k : ℕ) → k < p.count → slot.due k ≡ place k + bit k
