@@ -1,6 +1,7 @@
 pub mod Again
 pub mod Asked
 pub mod Below
+pub mod Delimiter
 pub mod Ends
 pub mod Finding
 pub mod Hearing

@@ -66,7 +66,7 @@ module _ (s : Stations) (way : ℕ → ℕ → ℕ) (more : ℕ → ℕ) (are : 
   right_slot = slotting.right_slot s way more are fits room hearing winner place slot over drove until is own since few near laws
 
   -- what one of the others begins up to eleven bits' drift later than its way is there at the sample
-  there : (n k m c : ℕ) → k < s.count → n ≤ 11 → ReachesBy q n k l m c → tick k m + s.delay k l ≤ tick l (c + point)
+  pub there : (n k m c : ℕ) → k < s.count → n ≤ 11 → ReachesBy q n k l m c → tick k m + s.delay k l ≤ tick l (c + point)
   there n k m c inside small close =
       let fit = hearing.eleven k inside in
       let drift : n * bit_drift s k l ≤ 11 * bit_drift s k l = mul-le-mul_right (bit_drift s k l) small in
@@ -75,7 +75,7 @@ module _ (s : Stations) (way : ℕ → ℕ → ℕ) (more : ℕ → ℕ) (are : 
       reaches_by p are l k inside_l (beside_l k inside) m (c + point) (s.delay k l) (omega arith)
 
   -- and what the listener itself begins
-  own_there : (m : ℕ) → tick l m + s.delay l l ≤ tick l (m + point)
+  pub own_there : (m : ℕ) → tick l m + s.delay l l ≤ tick l (m + point)
   own_there m =
       let fit = hearing.loop in
       let low = floor_low (s.clocks l) m in
@@ -86,7 +86,7 @@ module _ (s : Stations) (way : ℕ → ℕ → ℕ) (more : ℕ → ℕ) (are : 
       omega arith
 
   -- the CRC delimiter of each is there at the sample
-  delimiter_there : (k : ℕ) → k < s.count → tick k (place k) + s.delay k l ≤ tick l (place l + point)
+  pub delimiter_there : (k : ℕ) → k < s.count → tick k (place k) + s.delay k l ≤ tick l (place l + point)
   delimiter_there k inside =
       there since k (place k) (place l) inside (omega arith)
       (let close = near k l (beside_l k inside) inside_l (λ e. other_l k inside (sym e)) (inl (not_it k inside)) in omega arith)
@@ -149,7 +149,7 @@ module _ (s : Stations) (way : ℕ → ℕ → ℕ) (more : ℕ → ℕ) (are : 
   ]
 
   -- the ACK delimiter of another one doesn't reach the listener before its sample of the slot
-  over_later : (k : ℕ) → k < s.count → tick l (slot.place l + point) < tick k (over k) + s.delay k l
+  pub over_later : (k : ℕ) → k < s.count → tick l (slot.place l + point) < tick k (over k) + s.delay k l
   over_later k inside =
       let close = close_out k inside in
       let fit = room.not_early l k inside_l (beside_l k inside) (other_l k inside) (not_it k inside) in

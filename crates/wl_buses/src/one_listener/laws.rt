@@ -1,11 +1,22 @@
 //! Laws of a node that only listens, each proved as the contract of a function that does nothing.
 
-ghost use Rattle.std.specs.Prelude.{◌≡◌, ◌≤◌, ◌||◌, ◌&&◌, ◌-◌, nat_le, ℕ, Bool};
+ghost use Rattle.std.specs.Prelude.{◌≡◌, ◌≢◌, ◌+◌, ◌<◌, ◌≤◌, ◌||◌, ◌&&◌, ◌-◌, nat_le, ℕ, suc, Bool, false};
+ghost use Rattle.wl_level.specs.declared.Level.{Level};
+ghost use Rattle.wl_level.specs.Levels.{level_of};
+ghost use Rattle.wl_node.specs.declared.setup.NodeSetup.{NodeSetup};
+ghost use Rattle.wl_node.specs.History.{History};
 ghost use Rattle.wl_topology.specs.Driven.{driven};
 ghost use Rattle.wl_buses.specs.OneFrame.Acknowledged.{IsAnsweredByAll, answering};
+ghost use Rattle.wl_buses.specs.OneFrame.Expected.{IsOutset, Outset, expected_bits, expected_sample};
+ghost use Rattle.wl_buses.specs.OneFrame.Machines.{HasWon};
+ghost use Rattle.wl_buses.specs.OneFrame.Nodes.{IsInBit, IsRun};
 ghost use Rattle.wl_buses.specs.OneFrame.Starts.{Start};
-ghost use Rattle.wl_buses.specs.OneFrame.Stations.{AreStations, FitsBut, HaveRoomToSample, Stations, with_longer_ways};
-ghost use Rattle.wl_buses.specs.OneListener.Beside.{AreCloseBeside, HasRoomToListen, HearsTheEnd, ListensToTheEnd, hears, others_answering};
+ghost use Rattle.wl_buses.specs.OneFrame.Stations.{AreStations, FitsBut, HaveRoom, HaveRoomToSample, Stations, with_longer_ways};
+ghost use Rattle.wl_buses.specs.OneListener.Beside.{AreCloseBeside, HasRoomToListen, HearsTheEnd, ListensToTheEnd, beside, hears, others_answering};
+ghost use Rattle.wl_buses.specs.OneListener.Ends.{CanBeHeard, IsUnheard};
+ghost use Rattle.wl_buses.specs.FrameEnd.Asked.{EndsBefore};
+ghost use Rattle.wl_buses.specs.FrameEnd.Finds.{FindsTheEnd, finds_at};
+ghost use Rattle.wl_buses.specs.FrameEnd.Rests.{NodeEnds};
 
 /// Law: a listener finds what the others drive, and what it drives itself.
 pub fn a_station_hears_who_answers()
@@ -27,4 +38,41 @@ pub fn a_listener_samples_the_acknowledgement()
         → HearsTheEnd s (with_longer_ways (others_answering s way) more).way place slot over drove until }
 {
     wl_topology::driven_laws();
+}
+
+/// Law: so a listener finds the end of each frame that two others at least send and acknowledge, as a station does that they hear.
+pub fn a_listener_finds_the_end()
+    ensures { (s : Stations) (o : Outset) (end : ℕ) (way : ℕ → ℕ → ℕ) (chase more : ℕ → ℕ) → AreStations (beside s)
+        → HaveRoom (beside s) → s.may_send s.count ≡ false → IsOutset (beside s) o → EndsBefore (beside s) o end
+        → (won : HasWon (beside s) (expected_bits (beside s) o) o.frames end)
+        → CanBeHeard s won.station way chase more → IsUnheard s o end
+        → (won.station ≢ s.count) × FindsTheEnd (beside s) o end s.count }
+{
+    wl_topology::driven_laws();
+    wl_wire::laws::machines_stay_in_step();
+    wl_wire::laws::the_least_field_wins();
+    wl_machine::laws::a_transmitter_sends_its_head_stuffed();
+    wl_frame::laws::a_front_of_no_stuffing_ends_six_equal_bits();
+    wl_frame::laws::ten_bits_have_an_edge();
+}
+
+/// Law: so a node that only listens receives the frame. From the last bit of the CRC sequence on it goes to the end of the frame as is
+/// expected: it samples each bit as it is on the bus, finds no error, has received the winner's frame with the last but one bit of the end
+/// of frame, and rests with the third bit of the intermission.
+pub fn a_listener_receives_the_frame()
+    ensures { (s : Stations) (o : Outset) (end : ℕ) (way : ℕ → ℕ → ℕ) (chase more : ℕ → ℕ) → AreStations (beside s)
+        → HaveRoom (beside s) → s.may_send s.count ≡ false → IsOutset (beside s) o → EndsBefore (beside s) o end
+        → (won : HasWon (beside s) (expected_bits (beside s) o) o.frames end)
+        → CanBeHeard s won.station way chase more → IsUnheard s o end
+        → (setup : NodeSetup) (levels : ℕ → Level) (node : ℕ → History)
+        → setup.segments ≡ s.lengths s.count → IsRun setup levels node
+        → ((n q : ℕ) → suc n ≡ end → expected_sample (beside s) o n s.count < q
+        → q ≤ expected_sample (beside s) o (end + 12) s.count
+        → levels q ≡ level_of (finds_at (beside s) o end s.count q))
+        → ((n : ℕ) → suc n ≡ end → IsInBit (beside s) o s.count levels node n)
+        → (won.station ≢ s.count)
+        × NodeEnds (beside s) o end won.station s.count won.frame setup levels node }
+{
+    a_listener_finds_the_end();
+    crate::frame_end::laws::a_node_that_finds_the_end_goes_to_it();
 }
