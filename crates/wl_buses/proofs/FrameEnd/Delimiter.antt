@@ -179,6 +179,51 @@ module _ (m : MachineLaws) (s : Stations) (are : AreStations s) (room : HaveRoom
       plain_is m.steps m.errors m.winner m.stuffed m.six m.ten s are room o is (suc end)
       (ap (λ b. not (bus_bit s bits (suc end)) && b) bus_after ∙ and_right (not (bus_bit s bits (suc end))) false refl)
 
+  -- what is driven in the end of the frame
+  abbrev drove : ℕ → ℕ → Bool
+  drove = expected_drove s o (end + 13)
+
+  abbrev was : ℕ → ℕ → Bool
+  was = expected_drove s o end
+
+  abbrev test : (k u n : ℕ) → Bool
+  test k u n = wants s o n k && (nat_le (tick k ((bits n).from k)) u && nat_lt u (tick k ((bits (suc n)).from k)))
+
+  no_test : (k u n place : ℕ) → k < s.count → place ≤ 12 → end + place ≡ n → end_bit place ≡ false → test k u n ≡ false
+  no_test k u n place there small same none =
+      ap (λ b. b && (nat_le (tick k ((bits n).from k)) u && nat_lt u (tick k ((bits (suc n)).from k))))
+      (ap (λ j. wants s o j k) (sym same) ∙ asked.drives place k small there ∙ ap (λ b. b && not (k == won.station)) none)
+
+  pub drove_is : (k u : ℕ) → k < s.count → drove k u ≡ (was k u || test k u (suc end))
+  drove_is k u there =
+      let more : suc (suc end) + 11 ≡ end + 13 = omega arith in
+      ap (λ n. any_below n (test k u)) (sym more)
+      ∙ any_more (suc (suc end)) 11 (test k u) (λ j less. no_test k u (suc (suc end) + j) (2 + j) there (omega arith) (omega arith) (ne_eqb (2 + j) 1 (λ f. omega (arith, f))))
+      ∙ ap (λ b. (was k u || b) || test k u (suc end)) (no_test k u end 0 there (omega arith) (omega arith) refl)
+      ∙ ap (λ b. b || test k u (suc end)) (no_or (was k u) false refl)
+
+  pub slot_from : (k : ℕ) → (bits (suc end)).from k ≡ e.from k
+  slot_from k = ap (λ b. b.from k) slot_is
+
+  pub over_from : (k : ℕ) → (bits (suc (suc end))).from k ≡ (bits (suc end)).place k + bit_quanta (s.lengths k)
+  over_from k = ap (λ b. b.from k) over_is
+
+  before_test : (k u : ℕ) → u < tick k ((bits (suc end)).from k) → test k u (suc end) ≡ false
+  before_test k u less =
+      ap (λ b. d k && (b && nat_lt u (tick k ((bits (suc (suc end))).from k)))) (lt-leb (tick k ((bits (suc end)).from k)) u less) ∙ and_right (d k) false refl
+
+  -- before the slot it is what the stuffed part drives
+  pub drove_before : (k u : ℕ) → k < s.count → u < tick k ((bits (suc end)).from k) → drove k u ≡ was k u
+  drove_before k u there less = drove_is k u there ∙ ap (λ b. was k u || b) (before_test k u less) ∙ no_or (was k u) false refl
+
+  -- and that is nothing from the CRC delimiter on
+  pub was_quiet : (k u : ℕ) → k < s.count → tick k ((bits end).place k) ≤ u → was k u ≡ false
+  was_quiet k u there from =
+      none_driven m.steps m.errors m.winner m.stuffed m.six m.ten s are room o is end valid k u
+      (λ n inside dominant low high. (let up = from_all m.steps m.errors m.winner m.stuffed m.six m.ten s are room o is end valid (suc n) end k (omega arith) (omega arith) there in
+      let f : tick k ((bits end).from k) ≡ tick k ((bits end).place k) = ap (tick k) (delimiter_from k) in
+      absurd (omega arith)))
+
   -- how the slot begins
   module _ (alone : (i k : ℕ) → i < s.count → k < s.count → i ≢ k → settled s d due k ≡ due k → tick i ((bits end).place i + sample_at (s.lengths i)) < reaches_at s e k i) where
     abbrev sample : ℕ → ℕ
@@ -251,51 +296,6 @@ module _ (m : MachineLaws) (s : Stations) (are : AreStations s) (room : HaveRoom
             → (e.from k ≡ (bits end).place k + bit_quanta (s.lengths k)) ⊎ FollowsOne (answering s late) e k
         by (inl from) = inl from
         by (inr x) = inr (x.1, there_drives s (λ i. true) late e k x.1 x.2, (let up = tick_next s are k there x.0 (settled s d due k) x.4 in let reach = x.3 in omega arith))
-
-    -- what is driven in the end of the frame
-    abbrev drove : ℕ → ℕ → Bool
-    drove = expected_drove s o (end + 13)
-
-    abbrev was : ℕ → ℕ → Bool
-    was = expected_drove s o end
-
-    abbrev test : (k u n : ℕ) → Bool
-    test k u n = wants s o n k && (nat_le (tick k ((bits n).from k)) u && nat_lt u (tick k ((bits (suc n)).from k)))
-
-    no_test : (k u n place : ℕ) → k < s.count → place ≤ 12 → end + place ≡ n → end_bit place ≡ false → test k u n ≡ false
-    no_test k u n place there small same none =
-        ap (λ b. b && (nat_le (tick k ((bits n).from k)) u && nat_lt u (tick k ((bits (suc n)).from k))))
-        (ap (λ j. wants s o j k) (sym same) ∙ asked.drives place k small there ∙ ap (λ b. b && not (k == won.station)) none)
-
-    pub drove_is : (k u : ℕ) → k < s.count → drove k u ≡ (was k u || test k u (suc end))
-    drove_is k u there =
-        let more : suc (suc end) + 11 ≡ end + 13 = omega arith in
-        ap (λ n. any_below n (test k u)) (sym more)
-        ∙ any_more (suc (suc end)) 11 (test k u) (λ j less. no_test k u (suc (suc end) + j) (2 + j) there (omega arith) (omega arith) (ne_eqb (2 + j) 1 (λ f. omega (arith, f))))
-        ∙ ap (λ b. (was k u || b) || test k u (suc end)) (no_test k u end 0 there (omega arith) (omega arith) refl)
-        ∙ ap (λ b. b || test k u (suc end)) (no_or (was k u) false refl)
-
-    pub slot_from : (k : ℕ) → (bits (suc end)).from k ≡ e.from k
-    slot_from k = ap (λ b. b.from k) slot_is
-
-    pub over_from : (k : ℕ) → (bits (suc (suc end))).from k ≡ (bits (suc end)).place k + bit_quanta (s.lengths k)
-    over_from k = ap (λ b. b.from k) over_is
-
-    before_test : (k u : ℕ) → u < tick k ((bits (suc end)).from k) → test k u (suc end) ≡ false
-    before_test k u less =
-        ap (λ b. d k && (b && nat_lt u (tick k ((bits (suc (suc end))).from k)))) (lt-leb (tick k ((bits (suc end)).from k)) u less) ∙ and_right (d k) false refl
-
-    -- before the slot it is what the stuffed part drives
-    pub drove_before : (k u : ℕ) → k < s.count → u < tick k ((bits (suc end)).from k) → drove k u ≡ was k u
-    drove_before k u there less = drove_is k u there ∙ ap (λ b. was k u || b) (before_test k u less) ∙ no_or (was k u) false refl
-
-    -- and that is nothing from the CRC delimiter on
-    pub was_quiet : (k u : ℕ) → k < s.count → tick k ((bits end).place k) ≤ u → was k u ≡ false
-    was_quiet k u there from =
-        none_driven m.steps m.errors m.winner m.stuffed m.six m.ten s are room o is end valid k u
-        (λ n inside dominant low high. (let up = from_all m.steps m.errors m.winner m.stuffed m.six m.ten s are room o is end valid (suc n) end k (omega arith) (omega arith) there in
-        let f : tick k ((bits end).from k) ≡ tick k ((bits end).place k) = ap (tick k) (delimiter_from k) in
-        absurd (omega arith)))
 
     pub slot_after_delimiter : (k : ℕ) → k < s.count → tick k ((bits end).place k) ≤ tick k ((bits (suc end)).from k)
     slot_after_delimiter k there =

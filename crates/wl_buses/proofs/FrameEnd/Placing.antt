@@ -1,14 +1,16 @@
 -- Where the bits at the end of a frame are at each station, whatever it finds.
-use Rattle.std.proofs.Common.{◌≡◌, ◌≢◌, ◌∙◌, ◌⊎◌, inl, inr, refl, sym, ap, subst, ℕ, zero, suc, ◌+◌, ◌<◌, ◌≤◌, Bool, true, false, Some, None, arith}
-use Rattle.std.proofs.lemmas.Bool.{cases_eq, cases_lt, ne_eqb}
+use Rattle.std.proofs.Common.{◌≡◌, ◌≢◌, ◌∙◌, ◌⊎◌, inl, inr, refl, sym, ap, subst, ℕ, zero, suc, ◌+◌, ◌-◌, ◌<◌, ◌≤◌, ◌&&◌, ◌||◌, Bool, true, false, Some, None, arith}
+use Rattle.std.specs.Prelude.{nat_le, nat_lt}
+use Rattle.std.proofs.lemmas.Bool.{cases_Bool, cases_eq, cases_lt, ne_eqb}
 use Rattle.wl_segments.specs.Lengths.{bit_quanta, sample_at}
+use Rattle.wl_topology.specs.Driven.{driven}
 use Rattle.wl_machine.specs.Frames.{stuffed_end}
 use Rattle.wl_phase.specs.Clocks.{steady_tick}
 use Rattle.wl_buses.specs.OneFrame.Stations.{AreStations, HaveRoom, Stations}
 use Rattle.wl_buses.specs.OneFrame.Starts.{Drives, Start, reaches_at}
 use Rattle.wl_buses.specs.OneFrame.Course.{bus_bit}
 use Rattle.wl_buses.specs.OneFrame.Machines.{HasWon, bus_levels}
-use Rattle.wl_buses.specs.OneFrame.Expected.{IsOutset, Outset, edge_start, expected_bits, expected_sample, settled, wants}
+use Rattle.wl_buses.specs.OneFrame.Expected.{IsOutset, Outset, edge_start, expected_bits, expected_drove, expected_sample, settled, wants}
 use Rattle.wl_buses.proofs.OneFrame.Expecting.{plain_is}
 use Rattle.wl_buses.proofs.OneFrame.Measures.{tick_next}
 use Rattle.wl_buses.proofs.OneFrame.Seeing.{place_up, plain_when}
@@ -17,7 +19,9 @@ use Rattle.wl_buses.specs.FrameEnd.Ends.{end_bit}
 use Rattle.wl_buses.specs.FrameEnd.Asked.{EndAsAsked}
 use Rattle.wl_buses.proofs.FrameEnd.Below.{MachineLaws}
 use Rattle.wl_buses.proofs.FrameEnd.Asked.{as_asked}
-use Rattle.wl_buses.proofs.FrameEnd.Slot.{last, last_is, slot_is}
+use Rattle.wl_buses.proofs.OneFrame.Lines.{no_or}
+use Rattle.wl_buses.proofs.FrameEnd.Delimiter as delimiter
+use Rattle.wl_buses.proofs.FrameEnd.Delimiter.{last, last_is, slot_is}
 
 module _ (m : MachineLaws) (s : Stations) (are : AreStations s) (room : HaveRoom s) (o : Outset) (is : IsOutset s o) (end : ℕ)
     (valid : (n : ℕ) → n < end → stuffed_end (bus_levels s (expected_bits s o) n) ≡ None)
@@ -123,3 +127,35 @@ module _ (m : MachineLaws) (s : Stations) (are : AreStations s) (room : HaveRoom
           let low_ps2 = (are.line.book i inside).lengths.ps2_low in
           omega arith)
     ]
+
+    -- up to its sample of the CRC delimiter it finds what the stuffed part drives
+    abbrev u_at : ℕ → ℕ → ℕ
+    u_at q k = tick i q - s.delay k i
+
+    same_drove : (k q : ℕ) → k < s.count → q ≤ S end i → s.delay k i ≤ tick i q → d k ≡ true → expected_drove s o (end + 13) k (u_at q k) ≡ expected_drove s o end k (u_at q k)
+    same_drove k q there by_end come dominant =
+        let up = tick_next s are i inside q (S end i) by_end in
+        delimiter.drove_before m s are room o is end valid over won k (u_at q k) there (elim (cases_eq k i) [
+          | inl own ↦
+              (let after = slot_after in
+              let next = tick_next s are i inside (S end i) ((bits (suc end)).from i) (omega arith) in
+              let loop = are.line.later i i inside inside in
+              subst (λ w. tick i q - s.delay w i < tick w ((bits (suc end)).from w)) (sym own) (omega arith))
+          | inr other ↦
+              (let first = later k (record { inside = there; other = other; dominant = ap (λ b. b.drives k) slot_same ∙ dominant }) in omega arith)
+        ])
+
+    no_drove : (k u : ℕ) → k < s.count → d k ≡ false → expected_drove s o (end + 13) k u ≡ expected_drove s o end k u
+    no_drove k u there none =
+        delimiter.drove_is m s are room o is end valid over won k u there
+        ∙ ap (λ b. expected_drove s o end k u || (b && (nat_le (tick k ((bits (suc end)).from k)) u && nat_lt u (tick k ((bits (suc (suc end))).from k))))) none
+        ∙ no_or (expected_drove s o end k u) false refl
+
+    pub found_was : (q : ℕ) → q ≤ S end i
+        → driven s.count s.delay (expected_drove s o (end + 13)) i (tick i q) ≡ driven s.count s.delay (expected_drove s o end) i (tick i q)
+    found_was q by_end =
+        m.driven.same s.count s.delay (expected_drove s o (end + 13)) (expected_drove s o end) i (tick i q)
+        (λ k there come. elim (cases_Bool (d k)) [
+          | inl dominant ↦ same_drove k q there by_end come dominant
+          | inr none ↦ no_drove k (u_at q k) there none
+        ])

@@ -37,7 +37,7 @@ use Rattle.wl_buses.specs.FrameEnd.Asked.{EndAsAsked}
 use Rattle.wl_buses.proofs.FrameEnd.Below.{MachineLaws}
 use Rattle.wl_buses.proofs.FrameEnd.Asked.{and_yes, as_asked, not_first}
 use Rattle.wl_buses.proofs.FrameEnd.Delimiter as delimiter
-pub use Rattle.wl_buses.proofs.FrameEnd.Delimiter.{delimiter_place, few, last, last_is, over_is, slot_is}
+pub use Rattle.wl_buses.proofs.FrameEnd.Delimiter.{delimiter_from, delimiter_place, few, last, last_is, over_is, slot_is}
 
 module _ (m : MachineLaws) (s : Stations) (are : AreStations s) (room : HaveRoom s) (o : Outset) (is : IsOutset s o) (end : ℕ)
     (valid : (n : ℕ) → n < end → stuffed_end (bus_levels s (expected_bits s o) n) ≡ None)
@@ -116,10 +116,10 @@ module _ (m : MachineLaws) (s : Stations) (are : AreStations s) (room : HaveRoom
     slot_after = delimiter.slot_after m s are room o is end valid over won alone_early
 
     pub drove_before : (k u : ℕ) → k < s.count → u < tick k ((bits (suc end)).from k) → expected_drove s o (end + 13) k u ≡ expected_drove s o end k u
-    drove_before = delimiter.drove_before m s are room o is end valid over won alone_early
+    drove_before = delimiter.drove_before m s are room o is end valid over won
 
     pub was_quiet : (k u : ℕ) → k < s.count → tick k ((bits end).place k) ≤ u → expected_drove s o end k u ≡ false
-    was_quiet = delimiter.was_quiet m s are room o is end valid over won alone_early
+    was_quiet = delimiter.was_quiet m s are room o is end valid over won
 
     pub drove_slot : (k u : ℕ) → k < s.count → tick k ((bits (suc end)).from k) ≤ u → u < tick k ((bits (suc (suc end))).from k) → expected_drove s o (end + 13) k u ≡ d k
     drove_slot = delimiter.drove_slot m s are room o is end valid over won alone_early
@@ -129,6 +129,12 @@ module _ (m : MachineLaws) (s : Stations) (are : AreStations s) (room : HaveRoom
 
     pub over_after : (k : ℕ) → k < s.count → (bits (suc end)).place k + sample_at (s.lengths k) < (bits (suc (suc end))).from k
     over_after = delimiter.over_after m s are room o is end valid over won alone_early
+
+    pub slot_after_delimiter : (k : ℕ) → k < s.count → tick k ((bits end).place k) ≤ tick k ((bits (suc end)).from k)
+    slot_after_delimiter = delimiter.slot_after_delimiter m s are room o is end valid over won alone_early
+
+    pub slot_up : (k : ℕ) → k < s.count → tick k ((bits (suc end)).from k) ≤ tick k ((bits (suc (suc end))).from k)
+    slot_up = delimiter.slot_up m s are room o is end valid over won alone_early
 
     pub answered : (until : ℕ → ℕ) → IsAnsweredByAll s late won.station (bits end).place (bits (suc end)) (bits (suc (suc end))).from (expected_drove s o (end + 13)) until
     answered = delimiter.answered m s are room o is end valid over won alone_early late

@@ -244,7 +244,7 @@ module _ (m : MachineLaws) (s : Stations) (are : AreStations (beside s)) (room :
   past = (bits (suc (suc end))).from
 
   past_is : (k : ℕ) → past k ≡ e.place k + bit_quanta (s.lengths k)
-  past_is k = delimiter.over_from m x are room o is end valid over won alone k ∙ ap (λ b. b.place k + bit_quanta (s.lengths k)) slot_is
+  past_is k = delimiter.over_from m x are room o is end valid over won k ∙ ap (λ b. b.place k + bit_quanta (s.lengths k)) slot_is
 
   from_is : (k : ℕ) → tick k ((bits (suc end)).from k) ≡ tick k (e.from k)
   from_is k = ap (λ b. tick k (b.from k)) slot_is
@@ -252,7 +252,7 @@ module _ (m : MachineLaws) (s : Stations) (are : AreStations (beside s)) (room :
   quiet : (k u : ℕ) → k < x.count → tick k ((bits end).place k) ≤ u → u < tick k (e.from k) → drove k u ≡ false
   quiet k u there from less =
       (let same = from_is k in
-      delimiter.drove_before m x are room o is end valid over won alone k u there (omega arith) ∙ delimiter.was_quiet m x are room o is end valid over won alone k u there from)
+      delimiter.drove_before m x are room o is end valid over won k u there (omega arith) ∙ delimiter.was_quiet m x are room o is end valid over won k u there from)
 
   within : (k u : ℕ) → k < x.count → tick k (e.from k) ≤ u → u < tick k (past k) → drove k u ≡ d k
   within k u there from less = (let same = from_is k in delimiter.drove_slot m x are room o is end valid over won alone k u there (omega arith) less)
@@ -362,7 +362,7 @@ module _ (m : MachineLaws) (s : Stations) (are : AreStations (beside s)) (room :
       (λ k inside come. (let after = slot_later k inside in
       let up = tick_next x are l inside_l n (S end l) by_end in
       let same = from_is k in
-      delimiter.drove_before m x are room o is end valid over won alone k (tick l n - s.delay k l) inside (omega arith)))
+      delimiter.drove_before m x are room o is end valid over won k (tick l n - s.delay k l) inside (omega arith)))
 
   gone : (a n w : ℕ) → a < n → n < end → w < s.count → bus_bit x bits n ≡ false → tick w ((bits (suc a)).from w) + s.delay w l ≤ tick l (S n l)
   gone a n w less inside_n inside f =
