@@ -1,5 +1,5 @@
 -- Where the bits at the end of a frame are at each station, whatever it finds.
-use Rattle.std.proofs.Common.{◌≡◌, ◌≢◌, ◌∙◌, ◌⊎◌, inl, inr, refl, sym, ap, subst, ℕ, zero, suc, ◌+◌, ◌-◌, ◌<◌, ◌≤◌, ◌&&◌, ◌||◌, Bool, true, false, Some, None, arith}
+use Rattle.std.proofs.Common.{◌≡◌, ◌≢◌, ◌∙◌, ◌⊎◌, inl, inr, refl, sym, ap, subst, ℕ, zero, suc, ◌+◌, ◌-◌, ◌*◌, ◌<◌, ◌≤◌, ◌&&◌, ◌||◌, Bool, true, false, Some, None, arith}
 use Rattle.std.specs.Prelude.{nat_le, nat_lt}
 use Rattle.std.proofs.lemmas.Bool.{cases_Bool, cases_eq, cases_lt, ne_eqb}
 use Rattle.wl_segments.specs.Lengths.{bit_quanta, sample_at}
@@ -83,6 +83,19 @@ module _ (m : MachineLaws) (s : Stations) (are : AreStations s) (room : HaveRoom
       let jump = l.sjw_half in
       let one = place_up m.steps m.errors m.winner m.stuffed m.six m.ten m.driven s are room o is end valid n i in
       omega arith
+
+  -- each bit after the slot is a bit later
+  pub place_after : (n i : ℕ) → n ≤ 11 → (bits (suc end + n)).place i ≡ (bits (suc end)).place i + n * bit_quanta (s.lengths i)
+  place_after zero i small = (let e : suc end + 0 ≡ suc end = omega arith in ap (λ k. (bits k).place i) e ∙ (let f : (bits (suc end)).place i ≡ (bits (suc end)).place i + 0 * bit_quanta (s.lengths i) = omega arith in f))
+  place_after (suc n) i small =
+      (let e : suc end + suc n ≡ suc (suc end + n) = omega arith in
+      let none = bus_at (2 + n) (suc (suc end + n)) (omega arith) (omega arith) ∙ ne_eqb (2 + n) 1 (λ f. omega (arith, f)) in
+      let before = place_after n i (omega arith) in
+      let next = plain_place (suc end + n) i none in
+      ap (λ k. (bits k).place i) e ∙ omega arith)
+
+  pub last_place : (i : ℕ) → (bits (end + 12)).place i ≡ (bits (suc end)).place i + 11 * bit_quanta (s.lengths i)
+  last_place i = (let e : suc end + 11 ≡ end + 12 = omega arith in ap (λ k. (bits k).place i) (sym e) ∙ place_after 11 i (omega arith))
 
   -- a station begins each bit after its sample of the one before, if no acknowledgement reaches it before its sample of the CRC delimiter
   module _ (i : ℕ) (inside : i < s.count) (later : (k : ℕ) → Drives s (bits (suc end)) i k → tick i (S end i) < reaches_at s (bits (suc end)) k i) where

@@ -16,7 +16,7 @@ use Rattle.wl_buses.specs.OneFrame.Acknowledged.{IsAnsweredByAll, answering, gat
 use Rattle.wl_buses.specs.OneFrame.Expected.{IsOutset, Outset, edge_start, expected_bits, expected_drove, expected_end, expected_sample, most, settled, wants}
 use Rattle.wl_buses.specs.FrameEnd.Finds.{FindsTheEnd, IsAnsweredBy, finds_at, slot_of}
 use Rattle.wl_buses.specs.OneListener.Beside.{AreCloseBeside, HearsTheEnd, ListensToTheEnd, beside, no_listener, others_answering}
-use Rattle.wl_buses.specs.OneListener.Ends.{CanBeHeard, IsUnheard, others_gathered}
+use Rattle.wl_buses.specs.OneListener.Ends.{CanBeHeard, HasRoomToRestBeside, IsUnheard}
 use Rattle.wl_buses.proofs.OneFrame.Acks.{another}
 use Rattle.wl_buses.proofs.OneFrame.AckWays.{answering_stations, close_if_one_answers}
 use Rattle.wl_buses.proofs.OneFrame.Expecting.{course}
@@ -26,6 +26,7 @@ use Rattle.wl_buses.proofs.OneFrame.Seeing.{driving_at, due_sample, from_low, on
 use Rattle.wl_buses.proofs.OneFrame.Settling.{low}
 use Rattle.wl_buses.proofs.FrameEnd.Below.{MachineLaws}
 use Rattle.wl_buses.proofs.FrameEnd.Delimiter as delimiter
+use Rattle.wl_buses.proofs.FrameEnd.Placing as placing
 use Rattle.wl_buses.proofs.OneListener.Hearing as hearing
 
 module _ (m : MachineLaws) (s : Stations) (are : AreStations (beside s)) (room : HaveRoom (beside s)) (mute : s.may_send s.count ≡ false) (o : Outset) (is : IsOutset (beside s) o) (end : ℕ)
@@ -455,3 +456,18 @@ module _ (m : MachineLaws) (s : Stations) (are : AreStations (beside s)) (room :
     slot = ap (finds_at x o end l) S_slot ∙ (heard no_until).dominant;
     silent = silent;
   }
+
+  -- and the next start of frame finds it at rest
+  last_place : (i : ℕ) → (bits (end + 12)).place i ≡ e.place i + 11 * bit_quanta (s.lengths i)
+  last_place i = placing.last_place m x are room o is end valid over won i ∙ ap (λ b. b.place i + 11 * bit_quanta (s.lengths i)) slot_is
+
+  pub at_rest : HasRoomToRestBeside s late → (k : ℕ) → k < s.count → tick l (S (end + 12) l) < tick k ((bits (end + 12)).place k + bit_quanta (s.lengths k)) + s.delay k l
+  at_rest rest k inside =
+      let close = (heard no_until).close 11 k inside in
+      let fits = rest k inside in
+      let mine = instant_more x are l k inside_l (beside_l k inside) ((bits (end + 12)).place l) point in
+      let theirs = instant_more x are k l (beside_l k inside) inside_l ((bits (end + 12)).place k) (bit_quanta (s.lengths k)) in
+      let bit : bit_quanta (s.lengths l) * shared_quantum s l k ≡ point * shared_quantum s l k + (s.lengths l).ps2 * shared_quantum s l k = omega arith in
+      let first : shared_instant s l k ((bits (end + 12)).place l) ≡ shared_instant s l k (e.place l + 11 * bit_quanta (s.lengths l)) = ap (shared_instant s l k) (last_place l) in
+      let second : shared_instant s k l ((bits (end + 12)).place k) ≡ shared_instant s k l (e.place k + 11 * bit_quanta (s.lengths k)) = ap (shared_instant s k l) (last_place k) in
+      ticks_before x are l k inside_l (beside_l k inside) ((bits (end + 12)).place l + point) ((bits (end + 12)).place k + bit_quanta (s.lengths k)) (s.delay k l) (omega arith)
