@@ -1,11 +1,14 @@
 pub mod Again
 pub mod Asked
 pub mod Below
+pub mod Delimiter
 pub mod Ends
+pub mod Finding
 pub mod Hearing
 pub mod LineEnds
 pub mod Next
 pub mod NodeEnds
+pub mod Placing
 pub mod Rows
 pub mod Sampling
 pub mod Slot

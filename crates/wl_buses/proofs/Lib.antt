@@ -11,5 +11,6 @@ mod FamilyPlans
 mod CleanPlans
 mod CleanLines
 mod FrameTimes
+mod OneListener
 mod BoundedWaits
 pub mod Callers

@@ -5,3 +5,4 @@ pub mod Rests
 pub mod Lines
 pub mod Again
 pub mod First
+pub mod Finds

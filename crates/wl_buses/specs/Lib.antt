@@ -12,3 +12,4 @@ pub mod CleanPlans
 pub mod CleanLines
 pub mod FrameTimes
 pub mod BoundedWaits
+pub mod OneListener

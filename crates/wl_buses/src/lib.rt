@@ -13,6 +13,7 @@ pub mod frame_end;
 pub mod frame_times;
 pub mod next_frames;
 pub mod one_frame;
+pub mod one_listener;
 pub mod one_sender;
 pub mod passed_frames;
 pub mod sent_frames;

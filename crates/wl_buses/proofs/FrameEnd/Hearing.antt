@@ -6,7 +6,7 @@ use Rattle.wl_topology.specs.Driven.{driven}
 use Rattle.wl_machine.specs.Frames.{stuffed_end}
 use Rattle.wl_phase.specs.Clocks.{steady_tick}
 use Rattle.wl_buses.specs.OneFrame.Stations.{AreStations, HaveRoom, HaveRoomToSample, Stations, shared_instant, shared_quantum}
-use Rattle.wl_buses.specs.OneFrame.Starts.{Start, reaches_at}
+use Rattle.wl_buses.specs.OneFrame.Starts.{Drives, Start, reaches_at}
 use Rattle.wl_buses.specs.OneFrame.Course.{bus_bit, since_edge}
 use Rattle.wl_buses.specs.OneFrame.Machines.{HasWon, bus_levels}
 use Rattle.wl_buses.specs.OneFrame.Acknowledged.{AreAllClose, CatchUp, answering, chased_way}
@@ -20,6 +20,7 @@ use Rattle.wl_buses.specs.FrameEnd.Ends.{end_bit}
 use Rattle.wl_buses.specs.FrameEnd.Asked.{EndAsAsked}
 use Rattle.wl_buses.proofs.FrameEnd.Below.{MachineLaws}
 use Rattle.wl_buses.proofs.FrameEnd.Asked.{as_asked}
+use Rattle.wl_buses.proofs.FrameEnd.Placing as placing
 use Rattle.wl_buses.proofs.FrameEnd.Slot.{close, delimiter_place, drove_after, drove_before, drove_slot, few, heard, last, last_is, over_after, over_is, slot_after, slot_is, was_quiet}
 
 module _ (m : MachineLaws) (s : Stations) (are : AreStations s) (room : HaveRoom s) (o : Outset) (is : IsOutset s o) (end : ℕ)
@@ -63,19 +64,19 @@ module _ (m : MachineLaws) (s : Stations) (are : AreStations s) (room : HaveRoom
   asked = as_asked m s are room o is end valid over won
 
   abbrev pub z : ℕ
-  z = last m s are room o is end valid over won
+  z = placing.z m s are room o is end valid over won
 
   pub z_is : suc z ≡ end
-  z_is = last_is m s are room o is end valid over won
+  z_is = placing.z_is m s are room o is end valid over won
 
   pub bus_at : (place n : ℕ) → place ≤ 12 → end + place ≡ n → bus n ≡ end_bit place
-  bus_at place n small e = ap bus (sym e) ∙ asked.bus place small
+  bus_at = placing.bus_at m s are room o is end valid over won
 
   pub plain_place : (n i : ℕ) → bus (suc n) ≡ false → (bits (suc n)).place i ≡ dues n i
-  plain_place n i e = ap (λ b. b.place i) (plain_is m.steps m.errors m.winner m.stuffed m.six m.ten s are room o is n (plain_when m.steps m.errors m.winner m.stuffed m.six m.ten m.driven s are room o is end valid n e))
+  plain_place = placing.plain_place m s are room o is end valid over won
 
   pub plain_from : (n i : ℕ) → bus (suc n) ≡ false → (bits (suc n)).from i ≡ dues n i
-  plain_from n i e = ap (λ b. b.from i) (plain_is m.steps m.errors m.winner m.stuffed m.six m.ten s are room o is n (plain_when m.steps m.errors m.winner m.stuffed m.six m.ten m.driven s are room o is end valid n e))
+  plain_from = placing.plain_from m s are room o is end valid over won
 
   close_at : (n : ℕ) → n < end → AreAllClose s late (since_edge s bits n) (bits n).place
   close_at n less =
@@ -159,10 +160,10 @@ module _ (m : MachineLaws) (s : Stations) (are : AreStations s) (room : HaveRoom
       (heard m s are room o is end valid over won chase catch enough (λ w. suc (tick i q))).silent i (tick i q) inside up (λ k there. omega arith))
 
   -- the slot, between the samples of the CRC delimiter and of itself
-  abbrev d : ℕ → Bool
+  abbrev pub d : ℕ → Bool
   d = wants s o (suc end)
 
-  abbrev e : Start
+  abbrev pub e : Start
   e = edge_start s d (dues end)
 
   pub due_slot : (i k : ℕ) → i < s.count → k < s.count → tick k (dues end k) + s.delay k i ≤ tick i (dues end i + sample_at (s.lengths i))
@@ -241,40 +242,13 @@ module _ (m : MachineLaws) (s : Stations) (are : AreStations s) (room : HaveRoom
       m.driven.dominant_from s.count s.delay drove k i (tick i q) there (omega arith) drives
 
   pub delimiter_wants : (i : ℕ) → i < s.count → wants s o end i ≡ false
-  delimiter_wants i inside = (let f : end + 0 ≡ end = omega arith in ap (λ n. wants s o n i) (sym f) ∙ asked.drives 0 i (omega arith) inside)
+  delimiter_wants = placing.delimiter_wants m s are room o is end valid over won
 
-  -- samples go up
   pub samples_up : (a n i : ℕ) → i < s.count → a ≤ n → S a i ≤ S n i
-  samples_up a zero i inside less = (let f : zero ≡ a = omega arith in let g : S zero i ≡ S a i = ap (λ k. S k i) f in omega arith)
-  samples_up a (suc n) i inside less = elim (cases_lt n a) [
-    | inl end_of ↦ (let f : suc n ≡ a = omega arith in let g : S (suc n) i ≡ S a i = ap (λ k. S k i) f in omega arith)
-    | inr below ↦
-        (let up = samples_up a n i inside below in
-        let l = (are.line.book i inside).lengths in
-        let long = l.low in
-        let jump = l.sjw_half in
-        let one = place_up m.steps m.errors m.winner m.stuffed m.six m.ten m.driven s are room o is end valid n i in
-        omega arith)
-  ]
+  samples_up = placing.samples_up m s are room o is end valid over won
 
-  pub sample_more : (n i : ℕ) → i < s.count → S n i < S (suc n) i
-  sample_more n i inside =
-      let l = (are.line.book i inside).lengths in
-      let long = l.low in
-      let jump = l.sjw_half in
-      let one = place_up m.steps m.errors m.winner m.stuffed m.six m.ten m.driven s are room o is end valid n i in
-      omega arith
+  later : (i k : ℕ) → i < s.count → Drives s (bits (suc end)) i k → tick i (S end i) < reaches_at s (bits (suc end)) k i
+  later i k inside drives = slot_later i k inside drives.inside
 
   pub begins_after : (place n i : ℕ) → place ≤ 12 → end + place ≡ suc n → i < s.count → S n i < (bits (suc n)).from i
-  begins_after place n i small at inside = elim (cases_eq place 1) [
-    | inl slot ↦
-        (let same : n ≡ end = omega (arith, at, slot) in
-        let after = slot_after m s are room o is end valid over won chase catch enough i inside in
-        let f : (bits (suc n)).from i ≡ e.from i = ap (λ k. (bits (suc k)).from i) same ∙ ap (λ b. b.from i) (slot_is m s are room o is end valid over won) in
-        let g : S n i ≡ S end i = ap (λ k. S k i) same in
-        omega arith)
-    | inr other ↦
-        (let f = plain_from n i (bus_at place (suc n) small at ∙ ne_eqb place 1 other) in
-        let low_ps2 = (are.line.book i inside).lengths.ps2_low in
-        omega arith)
-  ]
+  begins_after place n i small at inside = placing.begins_after m s are room o is end valid over won i inside (λ k drives. later i k inside drives) place n small at

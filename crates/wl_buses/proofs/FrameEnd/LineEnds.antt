@@ -42,6 +42,7 @@ use Rattle.wl_buses.specs.FrameEnd.Rests.{NodeEnds}
 use Rattle.wl_buses.specs.FrameEnd.Lines.{LineEnds, LineRests, finds_end, earliest_of, next_due, rests_until}
 use Rattle.wl_buses.proofs.FrameEnd.Asked.{as_asked}
 use Rattle.wl_buses.proofs.FrameEnd.Below.{ClockLaws, MachineLaws}
+use Rattle.wl_buses.proofs.FrameEnd.Finding.{finds_the_end}
 use Rattle.wl_buses.proofs.FrameEnd.Hearing as hearing
 use Rattle.wl_buses.proofs.FrameEnd.NodeEnds.{node_ends}
 use Rattle.wl_buses.proofs.FrameEnd.Slot as slot
@@ -187,7 +188,7 @@ module _ (m : MachineLaws) (clocks : ClockLaws) (goes_on : GoesOn) (l : Line) (s
   -- and the end
   ends_at : (i : ℕ) → i < s.count → NodeEnds s o end won.station i won.frame (setups i) (levels i) (node i)
   ends_at i inside =
-      node_ends m s are room o is end valid over won chase catch enough clocks i inside (setups i) (segments i inside) (levels i) (node i) (run_of (setups i) (levels i)) (λ n q e a b. finds i q inside)
+      node_ends m s are room o is end valid over won clocks i inside (finds_the_end m s are room o is end valid over won chase catch enough i inside) (setups i) (segments i inside) (levels i) (node i) (run_of (setups i) (levels i)) (λ n q e a b. finds i q inside)
       (λ n e. early_at i n inside (omega arith))
 
   next_at : (i n : ℕ) → i < s.count → suc n < end + 12 → GoesToNext s o i (levels i) (node i) n

@@ -12,7 +12,7 @@ use Rattle.wl_buses.specs.OneFrame.Expected.{IsOutset, Outset, expected_bits, ex
 use Rattle.wl_buses.proofs.OneFrame.Measures.{instant_more, tick_next, ticks_before}
 use Rattle.wl_buses.specs.FrameEnd.Again.{HasRoomToRest}
 use Rattle.wl_buses.proofs.FrameEnd.Below.{MachineLaws}
-use Rattle.wl_buses.proofs.FrameEnd.Hearing.{bus_at, plain_place}
+use Rattle.wl_buses.proofs.FrameEnd.Placing as placing
 use Rattle.wl_buses.proofs.FrameEnd.Slot.{heard}
 
 module _ (m : MachineLaws) (s : Stations) (are : AreStations s) (room : HaveRoom s) (o : Outset) (is : IsOutset s o) (end : ℕ)
@@ -23,18 +23,8 @@ module _ (m : MachineLaws) (s : Stations) (are : AreStations s) (room : HaveRoom
   abbrev bits : ℕ → Start
   bits = expected_bits s o
 
-  -- each bit after the slot is a bit later
-  pub place_after : (n i : ℕ) → n ≤ 11 → (bits (suc end + n)).place i ≡ (bits (suc end)).place i + n * bit_quanta (s.lengths i)
-  place_after zero i small = (let e : suc end + 0 ≡ suc end = omega arith in ap (λ k. (bits k).place i) e ∙ (let f : (bits (suc end)).place i ≡ (bits (suc end)).place i + 0 * bit_quanta (s.lengths i) = omega arith in f))
-  place_after (suc n) i small =
-      (let e : suc end + suc n ≡ suc (suc end + n) = omega arith in
-      let none = bus_at m s are room o is end valid over won chase catch enough (2 + n) (suc (suc end + n)) (omega arith) (omega arith) ∙ ne_eqb (2 + n) 1 (λ f. omega (arith, f)) in
-      let before = place_after n i (omega arith) in
-      let next = plain_place m s are room o is end valid over won chase catch enough (suc end + n) i none in
-      ap (λ k. (bits k).place i) e ∙ omega arith)
-
   pub last_place : (i : ℕ) → (bits (end + 12)).place i ≡ (bits (suc end)).place i + 11 * bit_quanta (s.lengths i)
-  last_place i = (let e : suc end + 11 ≡ end + 12 = omega arith in ap (λ k. (bits k).place i) (sym e) ∙ place_after 11 i (omega arith))
+  last_place = placing.last_place m s are room o is end valid over won
 
   pub next_after : (i k : ℕ) → i < s.count → k < s.count
       → steady_tick (s.clocks i) (expected_sample s o (end + 12) i) < steady_tick (s.clocks k) ((bits (end + 12)).place k + bit_quanta (s.lengths k)) + s.delay k i

@@ -22,12 +22,11 @@ use Rattle.wl_node.specs.declared.setup.NodeSetup.{NodeSetup}
 use Rattle.wl_node.specs.History.{History, passed_frames, sampled_next}
 use Rattle.wl_phase.specs.Clocks.{steady_tick}
 use Rattle.wl_wire.specs.InStep.{is_fine}
-use Rattle.wl_buses.specs.OneFrame.Stations.{AreStations, HaveRoom, HaveRoomToSample, Stations}
+use Rattle.wl_buses.specs.OneFrame.Stations.{AreStations, HaveRoom, Stations}
 use Rattle.wl_buses.specs.OneFrame.Starts.{Start}
 use Rattle.wl_buses.specs.OneFrame.Course.{bus_bit}
 use Rattle.wl_buses.specs.OneFrame.Clocked.{BitIs}
 use Rattle.wl_buses.specs.OneFrame.Machines.{HasWon, bus_levels}
-use Rattle.wl_buses.specs.OneFrame.Acknowledged.{CatchUp, answering, chased_way}
 use Rattle.wl_buses.specs.OneFrame.Expected.{HasSampled, IsOutset, Outset, expected_bits, expected_drove, expected_sample, past_at, wants}
 use Rattle.wl_buses.specs.OneFrame.Nodes.{GoesToNext, IsInBit, IsRun, clock_sees}
 use Rattle.wl_buses.proofs.OneFrame.Nodes.{has_expected, sees_in}
@@ -35,19 +34,19 @@ use Rattle.wl_buses.proofs.OneFrame.Machines.{levels_length}
 use Rattle.wl_buses.specs.FrameEnd.Ends.{GoesToEnd, end_bit, end_frame, end_levels, end_stretch}
 use Rattle.wl_buses.specs.FrameEnd.Asked.{EndAsAsked, begun_frame}
 use Rattle.wl_buses.specs.FrameEnd.Clocks.{SeesEnd}
+use Rattle.wl_buses.specs.FrameEnd.Finds.{FindsTheEnd}
 use Rattle.wl_buses.specs.FrameEnd.Rests.{NodeEnds, RestsAfter, waiting_frame}
 use Rattle.wl_buses.proofs.FrameEnd.Asked.{as_asked, crc_all, length_is}
 use Rattle.wl_buses.proofs.FrameEnd.Below.{ClockLaws, MachineLaws}
 use Rattle.wl_buses.proofs.FrameEnd.Ends as machine
-use Rattle.wl_buses.proofs.FrameEnd.Hearing as hearing
+use Rattle.wl_buses.proofs.FrameEnd.Placing as placing
 use Rattle.wl_buses.proofs.FrameEnd.Sampling as sampling
 use Rattle.wl_buses.proofs.FrameEnd.Ticking as ticking
 
 module _ (m : MachineLaws) (s : Stations) (are : AreStations s) (room : HaveRoom s) (o : Outset) (is : IsOutset s o) (end : ℕ)
     (valid : (n : ℕ) → n < end → stuffed_end (bus_levels s (expected_bits s o) n) ≡ None)
     (over : stuffed_end (bus_levels s (expected_bits s o) end) ≡ Some end) (won : HasWon s (expected_bits s o) o.frames end)
-    (chase : ℕ → ℕ) (catch : CatchUp s won.station chase) (enough : HaveRoomToSample (answering s (chased_way s won.station chase)))
-    (clocks : ClockLaws) (i : ℕ) (inside : i < s.count) (setup : NodeSetup) (segments : setup.segments ≡ s.lengths i) (levels : ℕ → Level) (node : ℕ → History) (run : IsRun setup levels node)
+    (clocks : ClockLaws) (i : ℕ) (inside : i < s.count) (hears : FindsTheEnd s o end i) (setup : NodeSetup) (segments : setup.segments ≡ s.lengths i) (levels : ℕ → Level) (node : ℕ → History) (run : IsRun setup levels node)
     (finds : (n q : ℕ) → suc n ≡ end → expected_sample s o n i < q → q ≤ expected_sample s o (end + 12) i → levels q ≡ level_of (driven s.count s.delay (expected_drove s o (end + 13)) i (steady_tick (s.clocks i) q))) where
   abbrev bits : ℕ → Start
   bits = expected_bits s o
@@ -68,10 +67,10 @@ module _ (m : MachineLaws) (s : Stations) (are : AreStations s) (room : HaveRoom
   asked = as_asked m s are room o is end valid over won
 
   abbrev z : ℕ
-  z = hearing.z m s are room o is end valid over won chase catch enough
+  z = placing.z m s are room o is end valid over won
 
   z_is : suc z ≡ end
-  z_is = hearing.z_is m s are room o is end valid over won chase catch enough
+  z_is = placing.z_is m s are room o is end valid over won
 
   -- one bit
   module _ (place n : ℕ) (small : place ≤ 12) (at : end + place ≡ suc n) (in_bit : IsInBit s o i levels node n) where
@@ -82,19 +81,19 @@ module _ (m : MachineLaws) (s : Stations) (are : AreStations s) (room : HaveRoom
     X_is = ap (λ k. stretch_of (past_at s o k i)) (sym at) ∙ asked.stretch place i small inside
 
     after : S n < (bits (suc n)).from i
-    after = hearing.begins_after m s are room o is end valid over won chase catch enough place n i small at inside
+    after = placing.begins_after m s are room o is end valid over won i inside hears.later place n small at
 
     longer : S n < S (suc n)
-    longer = hearing.sample_more m s are room o is end valid over won chase catch enough n i inside
+    longer = placing.sample_more m s are room o is end valid over won n i inside
 
     after_z : S z ≤ S n
-    after_z = let e = z_is in hearing.samples_up m s are room o is end valid over won chase catch enough z n i inside (omega arith)
+    after_z = let e = z_is in placing.samples_up m s are room o is end valid over won z n i inside (omega arith)
 
     by_end : S (suc n) ≤ S (end + 12)
-    by_end = hearing.samples_up m s are room o is end valid over won chase catch enough (suc n) (end + 12) i inside (omega arith)
+    by_end = placing.samples_up m s are room o is end valid over won (suc n) (end + 12) i inside (omega arith)
 
     bus_is : level_of (bus (suc n)) ≡ level_of (end_bit place)
-    bus_is = ap level_of (hearing.bus_at m s are room o is end valid over won chase catch enough place (suc n) small at)
+    bus_is = ap level_of (placing.bus_at m s are room o is end valid over won place (suc n) small at)
 
     abbrev sees : ℕ → Seen
     sees = sees_in setup levels node run s o i n segments in_bit after
@@ -119,13 +118,13 @@ module _ (m : MachineLaws) (s : Stations) (are : AreStations s) (room : HaveRoom
     has = has_expected setup levels node run s o i n segments in_bit after
 
     bit : BitIs (s.lengths i) sees (S n) ((bits (suc n)).place i) ((bits (suc n)).from i) (level_of (bus (suc n)))
-    bit = ticking.bit_goes m s are room o is end valid over won chase catch enough clocks place n i small at inside sees sees_end has
+    bit = ticking.bit_goes m s are room o is end valid over won clocks place n i small at inside hears sees sees_end has
 
     has_after : HasSampled s o i sees (suc n)
-    has_after = ticking.has_next m s are room o is end valid over won chase catch enough clocks place n i small at inside sees sees_end has
+    has_after = ticking.has_next m s are room o is end valid over won clocks place n i small at inside hears sees sees_end has
 
     found : levels (S (suc n)) ≡ level_of (bus (suc n))
-    found = finds z (S (suc n)) z_is (let low = after_z in let more = longer in omega arith) by_end ∙ ap level_of (ticking.right_all m s are room o is end valid over won chase catch enough clocks place n i small at inside sees sees_end has)
+    found = finds z (S (suc n)) z_is (let low = after_z in let more = longer in omega arith) by_end ∙ ap level_of (ticking.right_all m s are room o is end valid over won clocks place n i small at inside hears sees sees_end has)
 
     fine : (z : Sampled) → z.level ≡ level_of (bus (suc n)) → is_fine (judged X z).happened ≡ true
     fine z e = elim (cases_lt place 12) [

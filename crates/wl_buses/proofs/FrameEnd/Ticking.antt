@@ -14,28 +14,26 @@ use Rattle.wl_machine.specs.Frames.{stuffed_end}
 use Rattle.wl_phase.specs.Clocks.{steady_tick}
 use Rattle.wl_phase.specs.InStep.{seen_before}
 use Rattle.wl_phase.specs.Ways.{ByTheBook, moved_to}
-use Rattle.wl_buses.specs.OneFrame.Stations.{AreStations, HaveRoom, HaveRoomToSample, Stations}
-use Rattle.wl_buses.specs.OneFrame.Starts.{BeginBit, BeginsAlone, Drives, FollowsSoft, Start, reaches_at}
+use Rattle.wl_buses.specs.OneFrame.Stations.{AreStations, HaveRoom, Stations}
+use Rattle.wl_buses.specs.OneFrame.Starts.{BeginsAlone, Drives, FollowsSoft, Start, reaches_at}
 use Rattle.wl_buses.specs.OneFrame.Course.{bus_bit}
 use Rattle.wl_buses.specs.OneFrame.Machines.{HasWon, bus_levels}
 use Rattle.wl_buses.specs.OneFrame.Clocked.{BitIs, FindsEdge, NoneSyncs, SamplesBy}
-use Rattle.wl_buses.specs.OneFrame.Acknowledged.{CatchUp, answering, chased_way}
 use Rattle.wl_buses.specs.OneFrame.Expected.{HasSampled, IsOutset, Outset, edge_start, expected_bits, expected_drove, expected_sample, most, wants}
 use Rattle.wl_buses.proofs.OneFrame.Settling.{from_early, from_late, low}
 use Rattle.wl_buses.proofs.OneFrame.Seeing.{place_up}
 use Rattle.wl_buses.proofs.OneFrame.Measures.{tick_next}
 use Rattle.wl_buses.specs.FrameEnd.Ends.{end_bit}
 use Rattle.wl_buses.specs.FrameEnd.Clocks.{SeesEnd}
+use Rattle.wl_buses.specs.FrameEnd.Finds.{FindsTheEnd, slot_of}
 use Rattle.wl_buses.proofs.FrameEnd.Below.{ClockLaws, MachineLaws}
-use Rattle.wl_buses.proofs.FrameEnd.Slot.{begin_slot, early_all, slot_is}
-use Rattle.wl_buses.proofs.FrameEnd.Hearing as hearing
-use Rattle.wl_buses.proofs.FrameEnd.Hearing.{Answerer}
+use Rattle.wl_buses.proofs.FrameEnd.Slot.{slot_is}
+use Rattle.wl_buses.proofs.FrameEnd.Placing as placing
 
 module _ (m : MachineLaws) (s : Stations) (are : AreStations s) (room : HaveRoom s) (o : Outset) (is : IsOutset s o) (end : ℕ)
     (valid : (n : ℕ) → n < end → stuffed_end (bus_levels s (expected_bits s o) n) ≡ None)
     (over : stuffed_end (bus_levels s (expected_bits s o) end) ≡ Some end) (won : HasWon s (expected_bits s o) o.frames end)
-    (chase : ℕ → ℕ) (catch : CatchUp s won.station chase) (enough : HaveRoomToSample (answering s (chased_way s won.station chase)))
-    (clocks : ClockLaws) (place n i : ℕ) (small : place ≤ 12) (at : end + place ≡ suc n) (inside : i < s.count) (seen : ℕ → Seen) (sees : SeesEnd s o end i seen n)
+    (clocks : ClockLaws) (place n i : ℕ) (small : place ≤ 12) (at : end + place ≡ suc n) (inside : i < s.count) (hears : FindsTheEnd s o end i) (seen : ℕ → Seen) (sees : SeesEnd s o end i seen n)
     (has : HasSampled s o i seen n) where
   abbrev bits : ℕ → Start
   bits = expected_bits s o
@@ -65,7 +63,7 @@ module _ (m : MachineLaws) (s : Stations) (are : AreStations s) (room : HaveRoom
   book = are.line.book i inside
 
   bus_next : bus (suc n) ≡ end_bit place
-  bus_next = hearing.bus_at m s are room o is end valid over won chase catch enough place (suc n) small at
+  bus_next = placing.bus_at m s are room o is end valid over won place (suc n) small at
 
   level_at : (q : ℕ) (b : Bool) → S n < q → q ≤ S (suc n) → found q ≡ b → (seen q).level ≡ level_of b
   level_at q b low_q high_q e = sees.level q low_q high_q ∙ ap level_of e
@@ -83,10 +81,10 @@ module _ (m : MachineLaws) (s : Stations) (are : AreStations s) (room : HaveRoom
   -- a recessive bit
   module _ (none : bus (suc n) ≡ false) (right : found (S (suc n)) ≡ false) (silent : bus n ≡ false → (q : ℕ) → S n < q → q ≤ S (suc n) → found q ≡ false) where
     place_is : (bits (suc n)).place i ≡ due
-    place_is = hearing.plain_place m s are room o is end valid over won chase catch enough n i none
+    place_is = placing.plain_place m s are room o is end valid over won n i none
 
     from_is : (bits (suc n)).from i ≡ due
-    from_is = hearing.plain_from m s are room o is end valid over won chase catch enough n i none
+    from_is = placing.plain_from m s are room o is end valid over won n i none
 
     S_is : S (suc n) ≡ due + sample_at l
     S_is = ap (λ q. q + sample_at l) place_is
@@ -132,10 +130,10 @@ module _ (m : MachineLaws) (s : Stations) (are : AreStations s) (room : HaveRoom
     S_slot = ap (λ k. S (suc k)) slot
 
     quiet : bus n ≡ false
-    quiet = ap bus slot ∙ hearing.bus_at m s are room o is end valid over won chase catch enough 0 end (omega arith) (omega arith)
+    quiet = ap bus slot ∙ placing.bus_at m s are room o is end valid over won 0 end (omega arith) (omega arith)
 
     dominant_next : bus (suc n) ≡ true
-    dominant_next = ap (λ k. bus (suc k)) slot ∙ hearing.bus_at m s are room o is end valid over won chase catch enough 1 (suc end) (omega arith) (omega arith)
+    dominant_next = ap (λ k. bus (suc k)) slot ∙ placing.bus_at m s are room o is end valid over won 1 (suc end) (omega arith) (omega arith)
 
     abbrev d : ℕ → Bool
     d = wants s o (suc end)
@@ -152,8 +150,17 @@ module _ (m : MachineLaws) (s : Stations) (are : AreStations s) (room : HaveRoom
     next_is : bits (suc n) ≡ e
     next_is = ap (λ k. bits (suc k)) slot ∙ slot_is m s are room o is end valid over won
 
-    begin : BeginBit s e
-    begin = begin_slot m s are room o is end valid over won chase catch enough
+    slot_e : slot_of s o end ≡ e
+    slot_e = slot_is m s are room o is end valid over won
+
+    begin : BeginsAlone s e i ⊎ FollowsSoft s e i
+    begin = subst (λ b. BeginsAlone s b i ⊎ FollowsSoft s b i) slot_e hears.begin
+
+    drives_slot : (k : ℕ) → Drives s e i k → Drives s (slot_of s o end) i k
+    drives_slot k h = subst (λ b. Drives s b i k) (sym slot_e) h
+
+    reaches_same : (k : ℕ) → reaches_at s (slot_of s o end) k i ≡ reaches_at s e k i
+    reaches_same k = ap (λ b. reaches_at s b k i) slot_e
 
     S_next : S (suc n) ≡ e.place i + sample_at l
     S_next = ap (λ b. b.place i + sample_at l) next_is
@@ -167,10 +174,20 @@ module _ (m : MachineLaws) (s : Stations) (are : AreStations s) (room : HaveRoom
 
     last_dominant : (seen (S (suc n))).level ≡ Dominant
     last_dominant =
-        level_at (S (suc n)) true sample_later (omega arith) (ap found S_slot ∙ hearing.right_slot m s are room o is end valid over won chase catch enough i inside)
+        level_at (S (suc n)) true sample_later (omega arith) (ap found S_slot ∙ hears.slot)
 
-    answerer_at : (q : ℕ) → S n < q → found q ≡ true → Answerer m s are room o is end valid over won chase catch enough i q
-    answerer_at q after x = hearing.answerer m s are room o is end valid over won chase catch enough i q inside (let f = S_end in omega arith) x
+    record Answerer (q : ℕ) : Type 0 where
+      by : ℕ
+      there : by < s.count
+      dominant : d by ≡ true
+      reaches : reaches_at s e by i ≤ tick i q
+
+    answerer_at : (q : ℕ) → S n < q → found q ≡ true → Answerer q
+    answerer_at q after x =
+        let w = hears.answered q (let f = S_end in omega arith) x in
+        let reach = w.reaches in
+        let same = reaches_same w.by in
+        record { by = w.by; there = w.there; dominant = ap (λ b. b.drives w.by) (sym slot_e) ∙ w.dominant; reaches = omega arith }
 
     own_late : (w q : ℕ) → w ≡ i → reaches_at s e w i ≤ tick i q → q ≤ e.from i → ⊥
     own_late w q same reach by_from =
@@ -218,7 +235,7 @@ module _ (m : MachineLaws) (s : Stations) (are : AreStations s) (room : HaveRoom
             (let w = f.finds.by in
             let at_due = due_is in
             let unseen = f.finds.finds.unseen (due + sample_at l) late in
-            let come = hearing.due_slot m s are room o is end valid over won chase catch enough i f.by inside w.inside in
+            let come = hears.in_time f.by (drives_slot f.by w) in
             let same : tick i (due + sample_at l) ≡ tick i (dues i + sample_at l) = ap (λ q. tick i (q + sample_at l)) due_is in
             let low_from = low s are d dues (suc (most s.count (λ k. tick k (dues k)))) f.by in
             let up = tick_next s are f.by w.inside (e.from f.by) (dues f.by) low_from in
@@ -231,7 +248,8 @@ module _ (m : MachineLaws) (s : Stations) (are : AreStations s) (room : HaveRoom
         | inl later ↦ later
         | inr sooner ↦
             (let w = f.finds.by in
-            let before = early_all m s are room o is end valid over won chase catch enough i f.by inside w.inside (λ x. w.other (sym x)) in
+            let before = hears.later f.by (drives_slot f.by w) in
+            let reach_same = reaches_same f.by in
             let same : tick i (S n) ≡ tick i (S end) = ap (tick i) S_end in
             let seen_by = f.finds.finds.seen in
             let up = tick_next s are i inside f.found (S n) sooner in
@@ -272,14 +290,14 @@ module _ (m : MachineLaws) (s : Stations) (are : AreStations s) (room : HaveRoom
           let seen_by = f.finds.finds.seen in
           let up = tick_next s are i inside f.found q a in
           level_at q true (let g = found_after in omega arith) (omega arith)
-          (hearing.answer_found m s are room o is end valid over won chase catch enough i q f.by inside w.inside w.dominant (omega arith) (omega arith))
+          (let same = reaches_same f.by in hears.lasts f.by q (drives_slot f.by w) (omega arith) (omega arith))
 
       driving_found : (f.found ≤ e.from i) ⊎ ((due < f.found) × (e.from i ≡ due)) → (seen f.found).driving ≡ false
       driving_found (inl by_from) =
           let fn = from_next in
           sees.before f.found slot found_after (omega arith)
           ∙ ap (λ k. wants s o k i) slot
-          ∙ hearing.delimiter_wants m s are room o is end valid over won chase catch enough i inside
+          ∙ placing.delimiter_wants m s are room o is end valid over won i inside
       driving_found (inr late) =
           let fn = from_next in
           let past = late.0 in
@@ -319,7 +337,7 @@ module _ (m : MachineLaws) (s : Stations) (are : AreStations s) (room : HaveRoom
       ]
 
     slot_goes : Goes
-    slot_goes = elim (begin i inside) [
+    slot_goes = elim begin [
       | inl itself ↦ alone_goes itself
       | inr soft ↦ soft_goes soft
     ]
@@ -335,31 +353,28 @@ module _ (m : MachineLaws) (s : Stations) (are : AreStations s) (room : HaveRoom
   right_there other = elim (cases_eq place 0) [
     | inl first ↦
         (let same : suc n ≡ end = omega (arith, at, first) in
-        ap (λ k. found (S k)) same ∙ hearing.right_delimiter m s are room o is end valid over won chase catch enough i inside)
-    | inr later ↦ hearing.silent_then m s are room o is end valid over won chase catch enough i (S (suc n)) inside (later_sample (suc n) (omega (arith, at, other, later)))
+        ap (λ k. found (S k)) same ∙ hears.delimiter)
+    | inr later ↦ hears.silent (S (suc n)) (later_sample (suc n) (omega (arith, at, other, later)))
   ]
     where
       later_sample : (k : ℕ) → suc (suc end) ≤ k → S (suc (suc end)) ≤ S k
-      later_sample k less = hearing.samples_up m s are room o is end valid over won chase catch enough (suc (suc end)) k i inside less
+      later_sample k less = placing.samples_up m s are room o is end valid over won (suc (suc end)) k i inside less
 
   silent_all : place ≢ 1 → bus n ≡ false → (q : ℕ) → S n < q → q ≤ S (suc n) → found q ≡ false
   silent_all other quiet q after by_next = elim (cases_eq place 0) [
     | inl first ↦
         (let same : suc n ≡ end = omega (arith, at, first) in
-        let z_is = hearing.z_is m s are room o is end valid over won chase catch enough in
-        let z_same : n ≡ hearing.z m s are room o is end valid over won chase catch enough = omega arith in
-        let a : S n ≡ S (hearing.z m s are room o is end valid over won chase catch enough) = ap S z_same in
         let b : S (suc n) ≡ S end = ap S same in
-        hearing.silent_delimiter m s are room o is end valid over won chase catch enough i q inside (ap bus (sym z_same) ∙ quiet) (omega arith) (omega arith))
+        hears.before n q same quiet after (omega arith))
     | inr later ↦ elim (cases_eq place 2) [
       | inl second ↦
           (let same : suc end ≡ n = omega (arith, at, second) in
-          let x = hearing.bus_at m s are room o is end valid over won chase catch enough 1 (suc end) (omega arith) (omega arith) in
+          let x = placing.bus_at m s are room o is end valid over won 1 (suc end) (omega arith) (omega arith) in
           let y : bus n ≡ true = ap bus (sym same) ∙ x in
           cc)
       | inr more ↦
-          (let up = hearing.samples_up m s are room o is end valid over won chase catch enough (suc (suc end)) n i inside (omega (arith, at, other, later, more)) in
-          hearing.silent_then m s are room o is end valid over won chase catch enough i q inside (omega arith))
+          (let up = placing.samples_up m s are room o is end valid over won (suc (suc end)) n i inside (omega (arith, at, other, later, more)) in
+          hears.silent q (omega arith))
     ]
   ]
 
@@ -379,6 +394,6 @@ module _ (m : MachineLaws) (s : Stations) (are : AreStations s) (room : HaveRoom
   right_all = elim (cases_eq place 1) [
     | inl slot ↦
         (let same : n ≡ end = omega (arith, at, slot) in
-        ap found (S_slot same) ∙ hearing.right_slot m s are room o is end valid over won chase catch enough i inside ∙ sym (dominant_next same))
+        ap found (S_slot same) ∙ hears.slot ∙ sym (dominant_next same))
     | inr other ↦ right_there other ∙ sym (not_slot other)
   ]

@@ -8,33 +8,32 @@ use Rattle.wl_machine.specs.Frames.{stuffed_end}
 use Rattle.wl_node.specs.declared.setup.NodeSetup.{NodeSetup}
 use Rattle.wl_node.specs.History.{History}
 use Rattle.wl_phase.specs.Clocks.{steady_tick}
-use Rattle.wl_buses.specs.OneFrame.Acknowledged.{CatchUp, answering, chased_way}
 use Rattle.wl_buses.specs.OneFrame.Expected.{IsOutset, Outset, expected_bits, expected_drove, expected_sample}
 use Rattle.wl_buses.specs.OneFrame.Machines.{HasWon, bus_levels}
 use Rattle.wl_buses.specs.OneFrame.Nodes.{GoesToNext, IsInBit, IsRun}
-use Rattle.wl_buses.specs.OneFrame.Stations.{AreStations, HaveRoom, HaveRoomToSample, Stations}
+use Rattle.wl_buses.specs.OneFrame.Stations.{AreStations, HaveRoom, Stations}
+use Rattle.wl_buses.specs.FrameEnd.Finds.{FindsTheEnd}
 use Rattle.wl_buses.specs.FrameEnd.Rests.{NodeEnds}
 use Rattle.wl_buses.proofs.FrameEnd.LineEnds.{GoesOn}
 use Rattle.wl_buses.proofs.FrameEnd.Below.{MachineLaws}
-use Rattle.wl_buses.proofs.FrameEnd.Hearing.{found_was, samples_up}
+use Rattle.wl_buses.proofs.FrameEnd.Placing.{found_was, samples_up}
 use Rattle.wl_buses.specs.NextFrames.NextNodes.{BeginsSince, GoesThrough}
 
 module _ (m : MachineLaws) (goes_on : GoesOn) (s : Stations) (are : AreStations s) (room : HaveRoom s) (o : Outset) (is : IsOutset s o) (end : ℕ)
     (valid : (n : ℕ) → n < end → stuffed_end (bus_levels s (expected_bits s o) n) ≡ None)
     (over : stuffed_end (bus_levels s (expected_bits s o) end) ≡ Some end) (won : HasWon s (expected_bits s o) o.frames end)
-    (chase : ℕ → ℕ) (catch : CatchUp s won.station chase) (enough : HaveRoomToSample (answering s (chased_way s won.station chase)))
-    (i : ℕ) (inside : i < s.count) (setup : NodeSetup) (segments : setup.segments ≡ s.lengths i) (levels : ℕ → Level) (node : ℕ → History) (run : IsRun setup levels node) (since low : ℕ)
+    (i : ℕ) (inside : i < s.count) (hears : FindsTheEnd s o end i) (setup : NodeSetup) (segments : setup.segments ≡ s.lengths i) (levels : ℕ → Level) (node : ℕ → History) (run : IsRun setup levels node) (since low : ℕ)
     (finds : (q : ℕ) → low < q → q ≤ expected_sample s o (end + 12) i → levels q ≡ level_of (driven s.count s.delay (expected_drove s o (end + 13)) i (steady_tick (s.clocks i) q))) where
   abbrev S : ℕ → ℕ
   S n = expected_sample s o n i
 
   up : (a n : ℕ) → a ≤ n → S a ≤ S n
-  up a n less = samples_up m s are room o is end valid over won chase catch enough a n i inside less
+  up a n less = samples_up m s are room o is end valid over won a n i inside less
 
   -- up to the sample of the CRC delimiter it finds what the stuffed part drives
   pub finds_early : (q : ℕ) → low < q → q ≤ S end → levels q ≡ level_of (driven s.count s.delay (expected_drove s o end) i (steady_tick (s.clocks i) q))
   finds_early q more less =
-      (let e = up end (end + 12) (omega arith) in finds q more (omega arith)) ∙ ap level_of (found_was m s are room o is end valid over won chase catch enough i q inside less)
+      (let e = up end (end + 12) (omega arith) in finds q more (omega arith)) ∙ ap level_of (found_was m s are room o is end valid over won i inside hears.later q less)
 
   module _ (by_low : low ≤ S 0) (begins : BeginsSince s o i levels node since)
       (ends_law : ((n q : ℕ) → suc n ≡ end → S n < q → q ≤ S (end + 12) → levels q ≡ level_of (driven s.count s.delay (expected_drove s o (end + 13)) i (steady_tick (s.clocks i) q)))

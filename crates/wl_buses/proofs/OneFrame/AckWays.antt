@@ -9,10 +9,10 @@ use Rattle.wl_segments.specs.Lengths.{bit_quanta}
 use Rattle.wl_topology.specs.Driven.{DrivenLaws}
 use Rattle.wl_phase.specs.Clocks.{steady_tick}
 use Rattle.wl_phase.specs.Ways.{moved_to}
-use Rattle.wl_buses.specs.OneFrame.Stations.{Stations, AreStations, AreClose, AreOnALine, FitsBut, HaveRoom, ReachesBy, bit_drift, shared_tick, shared_quantum, shared_instant}
+use Rattle.wl_buses.specs.OneFrame.Stations.{Stations, AreStations, AreClose, AreOnALine, FitsBut, HaveRoom, HaveWays, ReachesBy, bit_drift, shared_tick, shared_quantum, shared_instant}
 use Rattle.wl_buses.specs.OneFrame.Starts.{Start, Drives, AreAllowed, AreSenders, BeginBit, BeginFrame, BeginsAlone, FindsFirst, FollowsHard, FollowsSoft}
 use Rattle.wl_buses.specs.OneFrame.Course.{IsCourse, begins_with_edge, bus_bit, since_edge, still_sends}
-use Rattle.wl_buses.specs.OneFrame.Acknowledged.{AreAllClose, CatchUp, answering, any_way, chased_way, gathered_way, gathers, jump_gap, most_overrun, overrun}
+use Rattle.wl_buses.specs.OneFrame.Acknowledged.{AreAllClose, CatchUp, answering, answering_by, any_way, chased_way, gathered_by, gathered_way, gathers, jump_gap, most_overrun, overrun}
 use Rattle.wl_buses.proofs.OneFrame.Measures.{exact_before, some_tick, instant_high, instant_low, instant_more, same_tick, tick_next}
 use Rattle.wl_buses.proofs.OneFrame.Nearing.{ahead_by, due_by, fits_all, from_by, stays_below}
 use Rattle.wl_buses.proofs.OneFrame.Passing as passing
@@ -50,6 +50,10 @@ module _ (s : Stations) (line : AreOnALine s) (late : ℕ → ℕ → ℕ) (long
     };
   }
 
+pub answering_stations : (s : Stations) → AreOnALine s → (answers : ℕ → Bool) (way : ℕ → ℕ → ℕ) → HaveWays (answering_by s answers way) → AreStations (answering_by s answers way)
+answering_stations s line answers way ways =
+    record { line = record { steady = line.steady; book = line.book; later = line.later; detours = line.detours }; ways = ways }
+
 longer : (a b c d : ℕ) → a ≤ max a b + c + d
 longer a b c d = omega arith
 
@@ -85,9 +89,9 @@ gathers_is s winner chase k i other apart = ap (λ b. cond (b || k == winner) 0 
     ∙ ap (λ b. cond b 0 (chase k * (10 * bit_drift s i k + jump_gap s i k))) (ne_eqb k winner apart)
 
 -- how a bit begins, at the same stations
-module _ (s : Stations) (late : ℕ → ℕ → ℕ) (b : Start) where
+module _ (s : Stations) (answers : ℕ → Bool) (late : ℕ → ℕ → ℕ) (b : Start) where
   abbrev t : Stations
-  t = answering s late
+  t = answering_by s answers late
 
   pub there_drives : (i k : ℕ) → Drives s b i k → Drives t b i k
   there_drives i k h = record { inside = h.inside; other = h.other; dominant = h.dominant }
@@ -130,12 +134,19 @@ module _ (s : Stations) (late : ℕ → ℕ → ℕ) (b : Start) where
 
 -- one edge more
 module _ (s : Stations) (are : AreStations s) (room : HaveRoom s) (sends : ℕ → Bool) (since : ℕ) (few : since ≤ 10) (b : Start)
-    (close : AreClose s sends since b.due) (senders : AreSenders s sends b) (allowed : AreAllowed s b.drives) (begin : BeginBit s b) where
+    (close : AreClose s sends since b.due) (senders : AreSenders s sends b) (allowed : AreAllowed s b.drives) (begin : BeginBit s b)
+    (answers : ℕ → Bool) (way : ℕ → ℕ → ℕ) (ways : HaveWays (answering_by s answers way)) (speaks : (k : ℕ) → k < s.count → s.may_send k ≡ true → answers k ≡ true) where
   abbrev u : Stations
-  u = answering s (any_way s)
+  u = answering_by s answers way
 
   them : AreStations u
-  them = any_stations s are.line (any_way s) (λ k i. omega arith)
+  them = answering_stations s are.line answers way ways
+
+  heard : AreAllowed u b.drives
+  heard k there e = speaks k there (allowed k there e)
+
+  abbrev pub OneAnswers : ℕ → ℕ → Type 0
+  OneAnswers i k = (answers i ≡ true) ⊎ (answers k ≡ true)
 
   moves_by : (aim jump n : ℕ) → moved_to aim jump n ≤ n + jump
   moves_by aim jump n = omega arith
@@ -151,29 +162,29 @@ module _ (s : Stations) (are : AreStations s) (room : HaveRoom s) (sends : ℕ �
     pub moved : b.place k ≡ b.due k + (s.lengths k).sjw
 
   abbrev pub IsNear : ℕ → Type 0
-  IsNear k = (i : ℕ) → i < s.count → i ≢ k → ReachesBy u 0 i k (b.place i) (b.place k)
+  IsNear k = (i : ℕ) → i < s.count → i ≢ k → OneAnswers i k → ReachesBy u 0 i k (b.place i) (b.place k)
 
   alone_near : (i k : ℕ) → i < s.count → k < s.count → i ≢ k → BeginsAlone s b k → ReachesBy u 0 i k (b.place i) (b.place k)
   alone_near i k inside there other itself =
       let near =
-      alone u them no_more b (λ w third e. refl) i k inside there other itself.dominant
+      alone u them no_more b heard i k inside there other itself.dominant
       (ahead_by s are no_more (fits_all s room) room.samples.late_fits sends since few b close senders allowed begin i k inside (record { inside = there; other = λ e. other (sym e); dominant = itself.dominant }) (begin i inside)) itself.from in
       omega arith
 
-  soft_near : (i k : ℕ) → i < s.count → k < s.count → i ≢ k → (soft : FollowsSoft s b k) → soft.found ≤ suc (b.place k) → ReachesBy u 0 i k (b.place i) (b.place k)
-  soft_near i k inside there other soft near_it =
+  soft_near : (i k : ℕ) → i < s.count → k < s.count → i ≢ k → OneAnswers i k → (soft : FollowsSoft s b k) → soft.found ≤ suc (b.place k) → ReachesBy u 0 i k (b.place i) (b.place k)
+  soft_near i k inside there other some soft near_it =
       let up = tick_next s are k there soft.found (suc (b.place k)) near_it in
       let seen = soft.finds.finds.seen in
       let close_to =
-      followed u them no_more b (λ w third e. refl) i k inside there (other, inl refl)
-      (λ w drives. ahead_by s are no_more (fits_all s room) room.samples.late_fits sends since few b close senders allowed begin i w inside (back_drives s (any_way s) b i w drives) (begin i inside))
+      followed u them no_more b heard i k inside there (other, some)
+      (λ w drives. ahead_by s are no_more (fits_all s room) room.samples.late_fits sends since few b close senders allowed begin i w inside (back_drives s answers way b i w drives) (begin i inside))
       (from_by s are no_more (fits_all s room) room.samples.late_fits sends since few b close senders allowed begin i (begin i inside))
       (record { by = soft.by; drives = record { inside = soft.finds.by.inside; other = soft.finds.by.other; dominant = soft.finds.by.dominant }; found = omega arith }) in
       omega arith
 
   pub near_or_forward : (k : ℕ) → k < s.count → IsNear k ⊎ IsForward k
   near_or_forward k there = elim (begin k there) [
-    | inl itself ↦ inl (λ i inside other. alone_near i k inside there other itself)
+    | inl itself ↦ inl (λ i inside other some. alone_near i k inside there other itself)
     | inr soft ↦ elim (cases_lt (suc (b.place k)) soft.found) [
       | inl below ↦
           inr (record {
@@ -181,7 +192,7 @@ module _ (s : Stations) (are : AreStations s) (room : HaveRoom s) (sends : ℕ �
             below = below;
             moved = (let place = soft.place in let e = stays_below (soft.found - 1) (s.lengths k).sjw (b.due k) (omega arith) in omega arith);
           })
-      | inr near_it ↦ inl (λ i inside other. soft_near i k inside there other soft near_it)
+      | inr near_it ↦ inl (λ i inside other some. soft_near i k inside there other some soft near_it)
     ]
   ]
 
@@ -268,7 +279,8 @@ module _ (s : Stations) (are : AreStations s) (room : HaveRoom s) (sends : ℕ �
 
 module _ (s : Stations) (are : AreStations s) (room : HaveRoom s) (bits : ℕ → Start) (drove : ℕ → ℕ → Bool) (length : ℕ) (until : ℕ → ℕ)
     (is : IsCourse s bits drove length until) (laws : DrivenLaws) (winner : ℕ) (inside : winner < s.count) (wins : still_sends s bits length winner ≡ true)
-    (chase : ℕ → ℕ) (catch : CatchUp s winner chase) where
+    (chase : ℕ → ℕ) (catch : CatchUp s winner chase)
+    (answers : ℕ → Bool) (way : ℕ → ℕ → ℕ) (ways : HaveWays (answering_by s answers way)) (speaks : (k : ℕ) → k < s.count → s.may_send k ≡ true → answers k ≡ true) where
   abbrev since : ℕ → ℕ
   since = since_edge s bits
 
@@ -280,8 +292,8 @@ module _ (s : Stations) (are : AreStations s) (room : HaveRoom s) (bits : ℕ �
     pub few : edges ≤ chase k
     pub early : k ≢ winner → shared_instant s winner k ((bits n).place winner) + s.delay winner k * shared_tick s winner k + edges * jump k
         < shared_instant s k winner ((bits n).place k) + s.way k winner + since n * bit_drift s winner k
-    pub close : (i : ℕ) → i < s.count → i ≢ k → shared_instant s i k ((bits n).place i) + s.delay i k * shared_tick s i k
-        < shared_instant s k i ((bits n).place k) + any_way s k i + edges * (10 * bit_drift s i k + jump_gap s i k) + since n * bit_drift s i k
+    pub close : (i : ℕ) → i < s.count → i ≢ k → (answers i ≡ true) ⊎ (answers k ≡ true) → shared_instant s i k ((bits n).place i) + s.delay i k * shared_tick s i k
+        < shared_instant s k i ((bits n).place k) + way k i + edges * (10 * bit_drift s i k + jump_gap s i k) + since n * bit_drift s i k
 
   abbrev Chases : ℕ → Type 0
   Chases n = (k : ℕ) → k < s.count → (edges : ℕ) × IsChasing n k edges
@@ -301,17 +313,17 @@ module _ (s : Stations) (are : AreStations s) (room : HaveRoom s) (bits : ℕ �
       omega arith
 
   -- from an edge to which it is near
-  near_it : (n k : ℕ) → n < length → k < s.count → since n ≡ 0 → ((i : ℕ) → i < s.count → i ≢ k → ReachesBy (answering s (any_way s)) 0 i k ((bits n).place i) ((bits n).place k)) → IsChasing n k 0
+  near_it : (n k : ℕ) → n < length → k < s.count → since n ≡ 0 → ((i : ℕ) → i < s.count → i ≢ k → (answers i ≡ true) ⊎ (answers k ≡ true) → ReachesBy (answering_by s answers way) 0 i k ((bits n).place i) ((bits n).place k)) → IsChasing n k 0
   near_it n k less there edge near = record {
     few = omega arith;
     early = λ other. (let h = by_winner n k less there other in omega arith);
-    close = λ i inside other. (let h = near i inside other in omega arith);
+    close = λ i inside other some. (let h = near i inside other some in omega arith);
   }
 
   first : 0 < length → Chases 0
   first some k there =
-      let begins = frame_close (answering s (any_way s)) (any_stations s are.line (any_way s) (λ k i. omega arith)) (bits 0) (λ k there e. refl) (begin_frame s (any_way s) (bits 0) is.begin) in
-      (0, near_it 0 k some there refl (λ i inside other. begins i k inside there other (inl refl)))
+      let begins = frame_close (answering_by s answers way) (answering_stations s are.line answers way ways) (bits 0) (λ k there e. speaks k there (is.allowed k there e)) (begin_frame s answers way (bits 0) is.begin) in
+      (0, near_it 0 k some there refl (λ i inside other one. begins i k inside there other one))
 
   -- the next bit
   module _ (n : ℕ) (less : suc n < length) (was : Chases n) where
@@ -322,10 +334,10 @@ module _ (s : Stations) (are : AreStations s) (room : HaveRoom s) (bits : ℕ �
     due_more : (i k : ℕ) → i < s.count → k < s.count → shared_instant s i k ((bits (suc n)).due i) ≡ shared_instant s i k ((bits n).place i) + bit_quanta (s.lengths i) * shared_quantum s i k
     due_more i k inside there = ap (shared_instant s i k) (is.due n i inside) ∙ instant_more s are i k inside there ((bits n).place i) (bit_quanta (s.lengths i))
 
-    close_due : (i k edges : ℕ) → i < s.count → k < s.count → i ≢ k → IsChasing n k edges → shared_instant s i k ((bits (suc n)).due i) + s.delay i k * shared_tick s i k
-        < shared_instant s k i ((bits (suc n)).due k) + (any_way s k i + edges * (10 * bit_drift s i k + jump_gap s i k) + suc (since n) * bit_drift s i k)
-    close_due i k edges inside there other h =
-        let near = h.close i inside other in
+    close_due : (i k edges : ℕ) → i < s.count → k < s.count → i ≢ k → (answers i ≡ true) ⊎ (answers k ≡ true) → IsChasing n k edges → shared_instant s i k ((bits (suc n)).due i) + s.delay i k * shared_tick s i k
+        < shared_instant s k i ((bits (suc n)).due k) + (way k i + edges * (10 * bit_drift s i k + jump_gap s i k) + suc (since n) * bit_drift s i k)
+    close_due i k edges inside there other some h =
+        let near = h.close i inside other some in
         let own = due_more i k inside there in
         let theirs = due_more k i there inside in
         let one : suc (since n) * bit_drift s i k ≡ since n * bit_drift s i k + bit_drift s i k = omega arith in
@@ -355,8 +367,8 @@ module _ (s : Stations) (are : AreStations s) (room : HaveRoom s) (bits : ℕ �
                 let theirs = ap (shared_instant s k winner) (place k there) in
                 let drift : since (suc n) * bit_drift s winner k ≡ suc (since n) * bit_drift s winner k = ap (λ m. m * bit_drift s winner k) count in
                 omega arith);
-            close = λ i within other.
-                (let near = close_due i k r.0 within there other r.1 in
+            close = λ i within other some.
+                (let near = close_due i k r.0 within there other some r.1 in
                 let own = ap (shared_instant s i k) (place i within) in
                 let theirs = ap (shared_instant s k i) (place k there) in
                 let drift : since (suc n) * bit_drift s i k ≡ suc (since n) * bit_drift s i k = ap (λ m. m * bit_drift s i k) count in
@@ -393,21 +405,21 @@ module _ (s : Stations) (are : AreStations s) (room : HaveRoom s) (bits : ℕ �
       begin = is.edge n less (passing.right s are room bits drove length until is laws n less before) e
 
       abbrev Near : ℕ → Type 0
-      Near = IsNear s are room (still_sends s bits (suc n)) (suc (since n)) few (bits (suc n)) close_sent sent allowed begin
+      Near = IsNear s are room (still_sends s bits (suc n)) (suc (since n)) few (bits (suc n)) close_sent sent allowed begin answers way ways speaks
 
       abbrev Forward : ℕ → Type 0
-      Forward = IsForward s are room (still_sends s bits (suc n)) (suc (since n)) few (bits (suc n)) close_sent sent allowed begin
+      Forward = IsForward s are room (still_sends s bits (suc n)) (suc (since n)) few (bits (suc n)) close_sent sent allowed begin answers way ways speaks
 
       other_than : (k : ℕ) → Forward k → k ≢ winner
       other_than k h same =
-          forward_recessive s are room (still_sends s bits (suc n)) (suc (since n)) few (bits (suc n)) close_sent sent allowed begin k h (ap (bits (suc n)).drives same ∙ dominant)
+          forward_recessive s are room (still_sends s bits (suc n)) (suc (since n)) few (bits (suc n)) close_sent sent allowed begin answers way ways speaks k h (ap (bits (suc n)).drives same ∙ dominant)
 
       early_more : (k edges : ℕ) → k < s.count → Forward k → IsChasing n k edges → shared_instant s winner k ((bits (suc n)).place winner) + s.delay winner k * shared_tick s winner k + suc edges * jump k
           < shared_instant s k winner ((bits (suc n)).place k) + s.way k winner
       early_more k edges there h r =
           let other = other_than k h in
           let near =
-          forward_to s are room (still_sends s bits (suc n)) (suc (since n)) few (bits (suc n)) close_sent sent allowed begin winner k (edges * jump k) (s.way k winner + suc (since n) * bit_drift s winner k)
+          forward_to s are room (still_sends s bits (suc n)) (suc (since n)) few (bits (suc n)) close_sent sent allowed begin answers way ways speaks winner k (edges * jump k) (s.way k winner + suc (since n) * bit_drift s winner k)
           inside there dominant h (early_due k edges there other r) in
           let fits = room.samples.late_fits k winner there inside other may in
           let drift = few_of (suc (since n)) (bit_drift s winner k) few in
@@ -420,7 +432,7 @@ module _ (s : Stations) (are : AreStations s) (room : HaveRoom s) (bits : ℕ �
             (let other = other_than k h in
             let near = early_more k edges there h r in
             let still =
-            still_early s are room (still_sends s bits (suc n)) (suc (since n)) few (bits (suc n)) close_sent sent allowed begin winner k inside there (λ x. other (sym x)) dominant h in
+            still_early s are room (still_sends s bits (suc n)) (suc (since n)) few (bits (suc n)) close_sent sent allowed begin answers way ways speaks winner k inside there (λ x. other (sym x)) dominant h in
             let enough = catch k there other in
             let m : suc (chase k) * jump k ≤ suc edges * jump k = mul-le-mul_right (jump k) over in
             absurd (omega arith))
@@ -431,17 +443,17 @@ module _ (s : Stations) (are : AreStations s) (room : HaveRoom s) (bits : ℕ �
       forward k edges there h r = record {
         few = few_more k edges there h r;
         early = λ other. (let near = early_more k edges there h r in omega arith);
-        close = λ i within other.
+        close = λ i within other some.
             (let near =
-            forward_by s are room (still_sends s bits (suc n)) (suc (since n)) few (bits (suc n)) close_sent sent allowed begin i k
-            (any_way s k i + edges * (10 * bit_drift s i k + jump_gap s i k) + suc (since n) * bit_drift s i k) within there h (close_due i k edges within there other r) in
+            forward_by s are room (still_sends s bits (suc n)) (suc (since n)) few (bits (suc n)) close_sent sent allowed begin answers way ways speaks i k
+            (way k i + edges * (10 * bit_drift s i k + jump_gap s i k) + suc (since n) * bit_drift s i k) within there h (close_due i k edges within there other some r) in
             let drift = few_of (suc (since n)) (bit_drift s i k) few in
             let one : suc edges * (10 * bit_drift s i k + jump_gap s i k) ≡ edges * (10 * bit_drift s i k + jump_gap s i k) + (10 * bit_drift s i k + jump_gap s i k) = omega arith in
             omega arith);
       }
 
       edge : Chases (suc n)
-      edge k there = elim (near_or_forward s are room (still_sends s bits (suc n)) (suc (since n)) few (bits (suc n)) close_sent sent allowed begin k there) [
+      edge k there = elim (near_or_forward s are room (still_sends s bits (suc n)) (suc (since n)) few (bits (suc n)) close_sent sent allowed begin answers way ways speaks k there) [
         | inl near ↦ (0, near_it (suc n) k less there since_none near)
         | inr ahead ↦ (let r = was k there in (suc r.0, forward k r.0 there ahead r.1))
       ]
@@ -460,29 +472,37 @@ module _ (s : Stations) (are : AreStations s) (room : HaveRoom s) (bits : ℕ �
   within x y way any few many t h f = omega arith
 
   at_winner : (n : ℕ) → n < length → (i k : ℕ) → i < s.count → k < s.count → i ≢ k → (still_sends s bits (suc n) i ≡ true) ⊎ (still_sends s bits (suc n) k ≡ true)
-      → ReachesBy (answering s (gathered_way s winner chase)) (since n) i k ((bits n).place i) ((bits n).place k)
+      → ReachesBy (answering_by s answers (gathered_by s way winner chase)) (since n) i k ((bits n).place i) ((bits n).place k)
   at_winner n less i k ni nk other some =
-      grows (shared_instant s i k ((bits n).place i) + s.delay i k * shared_tick s i k) (shared_instant s k i ((bits n).place k)) (s.way k i) (any_way s k i)
+      grows (shared_instant s i k ((bits n).place i) + s.delay i k * shared_tick s i k) (shared_instant s k i ((bits n).place k)) (s.way k i) (way k i)
       (gathers s winner chase k i) (since n * bit_drift s i k) ((reached n less).close i k ni nk other some)
     where
       grows : (x y way any more t : ℕ) → x < y + way + t → x < y + (max any way + more) + t
       grows x y way any more t h = omega arith
 
-  between : (n : ℕ) → n < length → (i k : ℕ) → i < s.count → k < s.count → i ≢ k → i ≢ winner → k ≢ winner
-      → ReachesBy (answering s (gathered_way s winner chase)) (since n) i k ((bits n).place i) ((bits n).place k)
-  between n less i k ni nk other apart third =
+  between : (n : ℕ) → n < length → (i k : ℕ) → i < s.count → k < s.count → i ≢ k → (answers i ≡ true) ⊎ (answers k ≡ true) → i ≢ winner → k ≢ winner
+      → ReachesBy (answering_by s answers (gathered_by s way winner chase)) (since n) i k ((bits n).place i) ((bits n).place k)
+  between n less i k ni nk other some apart third =
       let r = chases n less k nk in
-      let near = r.1.close i ni other in
+      let near = r.1.close i ni other some in
       let m : r.0 * (10 * bit_drift s i k + jump_gap s i k) ≤ chase k * (10 * bit_drift s i k + jump_gap s i k) = mul-le-mul_right (10 * bit_drift s i k + jump_gap s i k) r.1.few in
       let e = gathers_is s winner chase k i apart third in
-      within (shared_instant s i k ((bits n).place i) + s.delay i k * shared_tick s i k) (shared_instant s k i ((bits n).place k)) (s.way k i) (any_way s k i)
+      within (shared_instant s i k ((bits n).place i) + s.delay i k * shared_tick s i k) (shared_instant s k i ((bits n).place k)) (s.way k i) (way k i)
       (r.0 * (10 * bit_drift s i k + jump_gap s i k)) (gathers s winner chase k i) (since n * bit_drift s i k) near (omega arith)
 
-  pub any_close : (n : ℕ) → n < length → AreAllClose s (gathered_way s winner chase) (since n) (bits n).place
-  any_close n less i k ni nk other some = elim (cases_eq i winner) [
+  pub close_if_one_answers : (n : ℕ) → n < length → AreClose (answering_by s answers (gathered_by s way winner chase)) answers (since n) (bits n).place
+  close_if_one_answers n less i k ni nk other some = elim (cases_eq i winner) [
     | inl own ↦ at_winner n less i k ni nk other (inl (subst (λ w. still_sends s bits (suc n) w ≡ true) (sym own) (wins_at (suc n) (length - suc n) (omega arith))))
     | inr apart ↦ elim (cases_eq k winner) [
       | inl theirs ↦ at_winner n less i k ni nk other (inr (subst (λ w. still_sends s bits (suc n) w ≡ true) (sym theirs) (wins_at (suc n) (length - suc n) (omega arith))))
-      | inr third ↦ between n less i k ni nk other apart third
+      | inr third ↦ between n less i k ni nk other some apart third
     ]
   ]
+
+-- so it is of all if each answers
+pub any_close : (s : Stations) → AreStations s → HaveRoom s → (bits : ℕ → Start) (drove : ℕ → ℕ → Bool) (length : ℕ) (until : ℕ → ℕ) → IsCourse s bits drove length until → DrivenLaws
+    → (winner : ℕ) → winner < s.count → still_sends s bits length winner ≡ true → (chase : ℕ → ℕ) → CatchUp s winner chase
+    → (n : ℕ) → n < length → AreAllClose s (gathered_way s winner chase) (since_edge s bits n) (bits n).place
+any_close s are room bits drove length until is laws winner inside wins chase catch n less =
+    close_if_one_answers s are room bits drove length until is laws winner inside wins chase catch (λ i. true) (any_way s)
+    (any_stations s are.line (any_way s) (λ k i. omega arith)).ways (λ k there e. refl) n less

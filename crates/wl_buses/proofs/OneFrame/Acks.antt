@@ -16,7 +16,7 @@ use Rattle.wl_buses.proofs.OneFrame.Passing.{begun_by, same_places}
 use Rattle.wl_buses.proofs.OneFrame.Sampled.{all_right, is_there, next_later}
 
 -- none below n if none at all
-none_at_all : (n : ℕ) → any_below n (λ k. false) ≡ false
+pub none_at_all : (n : ℕ) → any_below n (λ k. false) ≡ false
 none_at_all n = false_from_ne_true (any_below n (λ k. false)) (λ e. (let k = any_one n (λ k. false) e in let f = k.2 in cc))
 
 -- one of two numbers isn't a third
@@ -27,7 +27,7 @@ another w = elim (cases_eq w 0) [
 ]
 
 -- the same stations with longer ways
-later_stations : (s : Stations) (more : ℕ → ℕ) → AreStations s → AreStations (with_longer_ways s more)
+pub later_stations : (s : Stations) (more : ℕ → ℕ) → AreStations s → AreStations (with_longer_ways s more)
 later_stations s more are = record {
   line = record { steady = are.line.steady; book = are.line.book; later = are.line.later; detours = are.line.detours };
   ways = record {
@@ -79,7 +79,7 @@ module _ (s : Stations) (way : ℕ → ℕ → ℕ) (more : ℕ → ℕ) (are_be
     quiet = λ i k inside there e right later. cc;
   }
 
-  delimited : AreRight t (recessive_bit place) drove
+  pub delimited : AreRight t (recessive_bit place) drove
   delimited = all_right t are room all since (recessive_bit place) slot drove delimiter laws
 
   recessive : (i : ℕ) → i < s.count → driven s.count s.delay drove i (sampled_at s (recessive_bit place) i) ≡ false
@@ -103,7 +103,7 @@ module _ (s : Stations) (way : ℕ → ℕ → ℕ) (more : ℕ → ℕ) (are_be
   close_slot : AreClose t all 0 slot.place
   close_slot i k inside there other some =
       bit_later u are_before more fits room.late_fits all (suc since) (omega arith) slot close_due (λ w third e. refl) (λ w third e. refl)
-      (begin_there (answering s late) way slot (is.begin delimited)) i k inside there other
+      (begin_there (answering s late) (λ i. true) way slot (is.begin delimited)) i k inside there other
       (either i k inside there other)
 
   acknowledgement : OneBit t all 0 slot (recessive_bit over) drove
@@ -120,7 +120,7 @@ module _ (s : Stations) (way : ℕ → ℕ → ℕ) (more : ℕ → ℕ) (are_be
     quiet = λ i k inside there e right later. cc;
   }
 
-  slotted : AreRight t slot drove
+  pub slotted : AreRight t slot drove
   slotted = all_right t are room all 0 slot (recessive_bit over) drove acknowledgement laws
 
   some_answer : any_below s.count slot.drives ≡ true

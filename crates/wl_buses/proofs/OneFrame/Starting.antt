@@ -57,18 +57,23 @@ module _ (s : Stations) (are : AreStations s) (more : ℕ → ℕ) (b : Start) (
       omega arith
 
   -- of a station that follows an edge
-  pub followed : (i k : ℕ) → i < s.count → k < s.count → IsPair s i k → ((w : ℕ) → Drives s b i w → IsAhead i w) → IsFrom i → Follows k
+  pub followed_one : (i k : ℕ) → i < s.count → k < s.count → IsPair s i k → IsFrom i → (follows : Follows k) → (follows.by ≢ i → IsAhead i follows.by)
       → ReachesBy (with_longer_ways s more) 0 i k (b.place i) (b.place k)
-  followed i k inside there pair ahead late follows = elim (cases_eq follows.by i) [
+  followed_one i k inside there pair late follows ahead = elim (cases_eq follows.by i) [
     | inl own ↦
         (let found : reaches_at s b i k ≤ steady_tick (s.clocks k) (suc (b.place k)) = subst (λ w. reaches_at s b w k ≤ steady_tick (s.clocks k) (suc (b.place k))) own follows.found in
         (let dominant = ap b.drives (sym own) ∙ follows.drives.dominant in back i k inside there pair dominant (late dominant) found))
     | inr other ↦
         (let third = follows.drives.inside in
-        let by = ticks_by s are i follows.by inside third (b.place i) (b.from follows.by) (s.delay follows.by i + more i)
-        (ahead follows.by (record { inside = third; other = other; dominant = follows.drives.dominant })) in
+        let by = ticks_by s are i follows.by inside third (b.place i) (b.from follows.by) (s.delay follows.by i + more i) (ahead other) in
         over i k follows.by inside there pair (record { inside = third; other = other; dominant = follows.drives.dominant }) follows.drives.other (omega arith) follows.found)
   ]
+
+  pub followed : (i k : ℕ) → i < s.count → k < s.count → IsPair s i k → ((w : ℕ) → Drives s b i w → IsAhead i w) → IsFrom i → Follows k
+      → ReachesBy (with_longer_ways s more) 0 i k (b.place i) (b.place k)
+  followed i k inside there pair ahead late follows =
+      followed_one i k inside there pair late follows
+      (λ other. ahead follows.by (record { inside = follows.drives.inside; other = other; dominant = follows.drives.dominant }))
 
   -- and of one that begins by itself
   pub alone : (i k : ℕ) → i < s.count → k < s.count → i ≢ k → b.drives k ≡ true → IsAhead i k → b.from k ≡ b.place k → ReachesBy (with_longer_ways s more) 0 i k (b.place i) (b.place k)

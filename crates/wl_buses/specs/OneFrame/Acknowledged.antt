@@ -9,9 +9,12 @@ use Rattle.wl_buses.specs.OneFrame.Stations.{Stations, AreClose, bit_drift, with
 use Rattle.wl_buses.specs.OneFrame.Starts.{Start, BeginBit, reaches_at}
 use Rattle.wl_buses.specs.OneFrame.OneBit.{AreRight, FollowsOne, IsRight, sampled_at}
 
--- The same stations if each of them may drive a bit dominant: `late k i` is how long after the bit of station k that of station i may reach it.
+-- The same stations if some of them may drive a bit dominant that the others hear: `late k i` is how long after the bit of station k that of station i may reach it. And if each may.
+abbrev pub answering_by : Stations → (answers : ℕ → Bool) → (late : ℕ → ℕ → ℕ) → Stations
+answering_by s answers late = record s { may_send = answers; way = late }
+
 abbrev pub answering : Stations → (late : ℕ → ℕ → ℕ) → Stations
-answering s late = record s { may_send = λ i. true; way = late }
+answering s late = answering_by s (λ i. true) late
 
 -- Any two stations are close, whoever sends.
 abbrev pub AreAllClose : Stations → (late : ℕ → ℕ → ℕ) → (since : ℕ) → (place : ℕ → ℕ) → Type 0
@@ -29,8 +32,11 @@ jump_gap s i k = (s.lengths i).sjw * shared_quantum s i k - (s.lengths k).sjw * 
 abbrev pub gathers : Stations → (winner : ℕ) → (chase : ℕ → ℕ) → (k i : ℕ) → ℕ
 gathers s winner chase k i = if i == winner || k == winner then 0 else chase k * (10 * bit_drift s i k + jump_gap s i k)
 
+abbrev pub gathered_by : Stations → (way : ℕ → ℕ → ℕ) → (winner : ℕ) → (chase : ℕ → ℕ) → (k i : ℕ) → ℕ
+gathered_by s way winner chase k i = max (way k i) (s.way k i) + gathers s winner chase k i
+
 abbrev pub gathered_way : Stations → (winner : ℕ) → (chase : ℕ → ℕ) → (k i : ℕ) → ℕ
-gathered_way s winner chase k i = max (any_way s k i) (s.way k i) + gathers s winner chase k i
+gathered_way s winner chase = gathered_by s (any_way s) winner chase
 
 -- A bit of station i may be so much later than the edge of station k that a jump doesn't put it right: by so many ticks, and by the most of them over all others.
 abbrev pub overrun : Stations → (winner : ℕ) → (chase : ℕ → ℕ) → (i k : ℕ) → ℕ

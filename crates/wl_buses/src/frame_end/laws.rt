@@ -37,6 +37,7 @@ ghost use Rattle.wl_buses.specs.FrameEnd.Lines.{LineEnds, LineRests, rests_until
 ghost use Rattle.wl_buses.specs.FrameEnd.Rests.{NodeEnds, waiting_frame};
 ghost use Rattle.wl_buses.specs.FrameEnd.Clocks.{SeesEnd};
 ghost use Rattle.wl_buses.specs.FrameEnd.Asked.{CanBeAnswered, EndAsAsked, EndsBefore};
+ghost use Rattle.wl_buses.specs.FrameEnd.Finds.{FindsTheEnd, finds_at};
 ghost use Rattle.wl_buses.specs.FrameEnd.Ends.{GoesToEnd, end_bit, end_drive, end_stretch};
 
 /// Law: a machine whose frame's stuffed part was right goes through the end of the frame, if it samples what is on the bus there. So it is
@@ -81,6 +82,42 @@ pub fn what_is_expected_is_answered()
         → IsAcknowledgedByAll s (chased_way s won.station chase) (expected_bits s o end).place
         (expected_bits s o (suc end))
         (expected_bits s o (suc (suc end))).from (expected_drove s o (end + 13)) until }
+{
+    wl_topology::driven_laws();
+    wl_wire::laws::machines_stay_in_step();
+    wl_wire::laws::the_least_field_wins();
+    wl_machine::laws::a_transmitter_sends_its_head_stuffed();
+    wl_frame::laws::a_front_of_no_stuffing_ends_six_equal_bits();
+    wl_frame::laws::ten_bits_have_an_edge();
+}
+
+/// Law: a node that finds the end of a frame goes to it as is expected, whoever hears what it drives itself: its bit clock, its machine, and
+/// what it drives. It finds no error, and nothing counts. The frame passes it, and with the third bit of the intermission it rests.
+pub fn a_node_that_finds_the_end_goes_to_it()
+    ensures { (s : Stations) (o : Outset) (end : ℕ) → AreStations s → HaveRoom s → IsOutset s o → EndsBefore s o end
+        → (won : HasWon s (expected_bits s o) o.frames end)
+        → (i : ℕ) (setup : NodeSetup) (levels : ℕ → Level) (node : ℕ → History) → i < s.count → FindsTheEnd s o end i
+        → setup.segments ≡ s.lengths i → IsRun setup levels node
+        → ((n q : ℕ) → suc n ≡ end → expected_sample s o n i < q → q ≤ expected_sample s o (end + 12) i
+        → levels q ≡ level_of (finds_at s o end i q))
+        → ((n : ℕ) → suc n ≡ end → IsInBit s o i levels node n)
+        → NodeEnds s o end won.station i won.frame setup levels node }
+{
+    wl_topology::driven_laws();
+    crate::one_frame::laws::a_station_begins_its_bits();
+    crate::one_frame::laws::no_edge_counts_then();
+    wl_wire::laws::machines_stay_in_step();
+    wl_wire::laws::the_least_field_wins();
+    wl_machine::laws::a_transmitter_sends_its_head_stuffed();
+    wl_frame::laws::a_front_of_no_stuffing_ends_six_equal_bits();
+    wl_frame::laws::ten_bits_have_an_edge();
+}
+
+/// Law: with room for acknowledgements each station finds the end of the frame.
+pub fn all_find_the_end()
+    ensures { (s : Stations) (o : Outset) (end : ℕ) (chase : ℕ → ℕ) → AreStations s → HaveRoom s
+        → IsOutset s o → EndsBefore s o end → (won : HasWon s (expected_bits s o) o.frames end)
+        → CanBeAnswered s won.station chase → (i : ℕ) → i < s.count → FindsTheEnd s o end i }
 {
     wl_topology::driven_laws();
     wl_wire::laws::machines_stay_in_step();

@@ -22,6 +22,7 @@ ghost use Rattle.wl_buses.specs.OneFrame.Nodes.{IsRun};
 ghost use Rattle.wl_buses.specs.OneFrame.Stations.{AreOnALine, AreStations, HaveRoom, Stations};
 ghost use Rattle.wl_buses.specs.FrameEnd.Again.{RestsAgain};
 ghost use Rattle.wl_buses.specs.FrameEnd.Asked.{CanBeAnswered, EndsBefore};
+ghost use Rattle.wl_buses.specs.FrameEnd.Finds.{FindsTheEnd, finds_at};
 ghost use Rattle.wl_buses.specs.NextFrames.NextNodes.{BeginsSince, GoesThrough, HandsNext};
 ghost use Rattle.wl_buses.specs.NextFrames.NextStarts.{AreFreeNext, AreResting, Resting, outset_next, rest_next, rested, start_next};
 
@@ -69,8 +70,31 @@ pub fn a_node_begins_the_next_frame()
     wl_frame::laws::ten_bits_have_an_edge();
 }
 
-/// Law: so a node that rests goes through the whole next frame as is expected, whatever it has done before. It samples each bit as it is on
-/// the bus, and finds no error. If its frame has won it has sent it, else it has received the one that has, and it rests again.
+/// Law: so a node that rests goes through the whole next frame as is expected, if it finds its end, whatever it has done before and whoever
+/// hears it. It samples each bit as it is on the bus, and finds no error. If its frame has won it has sent it, else it has received the one
+/// that has, and it rests again.
+pub fn a_node_that_finds_its_end_goes_through_the_next_frame()
+    ensures { (s : Stations) (o : Outset) (end : ℕ) → AreStations s → HaveRoom s → IsOutset s o → 0 < end
+        → EndsBefore s o end → (won : HasWon s (expected_bits s o) o.frames end)
+        → (i rest since : ℕ) (setup : NodeSetup) (levels : ℕ → Level) (node : ℕ → History) → i < s.count
+        → FindsTheEnd s o end i → setup.segments ≡ s.lengths i → IsRun setup levels node → BeginsAfter s o i rest
+        → RestsAgain s (o.past i) i levels node rest since → since ≤ rest + sample_at (s.lengths i)
+        → ((q : ℕ) → rest + sample_at (s.lengths i) < q → q ≤ expected_sample s o (end + 12) i
+        → levels q ≡ level_of (finds_at s o end i q))
+        → GoesThrough s o end won.station i won.frame setup levels node since }
+{
+    wl_topology::driven_laws();
+    crate::one_frame::laws::a_node_goes_as_expected();
+    crate::frame_end::laws::a_node_that_finds_the_end_goes_to_it();
+    wl_wire::laws::machines_stay_in_step();
+    wl_wire::laws::the_least_field_wins();
+    wl_machine::laws::a_transmitter_sends_its_head_stuffed();
+    wl_frame::laws::a_front_of_no_stuffing_ends_six_equal_bits();
+    wl_frame::laws::ten_bits_have_an_edge();
+    a_node_begins_the_next_frame();
+}
+
+/// Law: so each node does that rests before the next frame, if there is room for acknowledgements.
 pub fn a_node_goes_through_the_next_frame()
     ensures { (s : Stations) (o : Outset) (end : ℕ) (chase : ℕ → ℕ) → AreStations s → HaveRoom s
         → IsOutset s o → 0 < end → EndsBefore s o end → (won : HasWon s (expected_bits s o) o.frames end)
@@ -83,12 +107,6 @@ pub fn a_node_goes_through_the_next_frame()
         → GoesThrough s o end won.station i won.frame setup levels node since }
 {
     wl_topology::driven_laws();
-    crate::one_frame::laws::a_node_goes_as_expected();
-    crate::frame_end::laws::a_node_goes_to_the_end();
-    wl_wire::laws::machines_stay_in_step();
-    wl_wire::laws::the_least_field_wins();
-    wl_machine::laws::a_transmitter_sends_its_head_stuffed();
-    wl_frame::laws::a_front_of_no_stuffing_ends_six_equal_bits();
-    wl_frame::laws::ten_bits_have_an_edge();
-    a_node_begins_the_next_frame();
+    crate::frame_end::laws::all_find_the_end();
+    a_node_that_finds_its_end_goes_through_the_next_frame();
 }

@@ -2,12 +2,12 @@
 
 ghost use Rattle.std.specs.Prelude.{◌≡◌, ◌<◌, ◌≤◌, ℕ, suc, true, Bool};
 ghost use Rattle.wl_bound.specs.Families.{Bus};
-ghost use Rattle.wl_buses.specs.OneFrame.Acknowledged.{AreAllClose, CatchUp, IsAcknowledgedByAll, IsAnsweredByAll, answering, chased_way, gathered_way, most_overrun};
+ghost use Rattle.wl_buses.specs.OneFrame.Acknowledged.{AreAllClose, CatchUp, IsAcknowledgedByAll, IsAnsweredByAll, answering, answering_by, chased_way, gathered_by, gathered_way, most_overrun};
 ghost use Rattle.wl_buses.specs.OneFrame.Answers.{HasRoomToAnswer};
 ghost use Rattle.wl_buses.specs.OneFrame.Bounds.{HasStations};
 ghost use Rattle.wl_buses.specs.OneFrame.Course.{IsCourse, since_edge, still_sends};
 ghost use Rattle.wl_buses.specs.OneFrame.Starts.{Start};
-ghost use Rattle.wl_buses.specs.OneFrame.Stations.{AreOnALine, AreStations, FitsBut, HaveRoom, HaveRoomToSample, Stations, with_longer_ways};
+ghost use Rattle.wl_buses.specs.OneFrame.Stations.{AreClose, AreOnALine, AreStations, FitsBut, HaveRoom, HaveRoomToSample, HaveWays, Stations, with_longer_ways};
 
 /// Law: an acknowledgement is sampled by all. One sender is left, and each other station drives the ACK slot dominant. If any two are
 /// close, and there is room for bits of each, then each station samples the slot dominant, and the delimiters on both sides recessive.
@@ -37,6 +37,20 @@ pub fn any_two_stay_close()
         (chase : ℕ → ℕ) → AreStations s → HaveRoom s → IsCourse s bits drove length until → winner < s.count
         → still_sends s bits length winner ≡ true → CatchUp s winner chase
         → (n : ℕ) → n < length → AreAllClose s (gathered_way s winner chase) (since_edge s bits n) (bits n).place }
+{
+    wl_topology::driven_laws();
+}
+
+/// Law: so it is of any two stations of which one answers, if others than the answering ones drive nothing that any station hears. Who
+/// doesn't answer has nobody that follows it: so its way there and back isn't asked.
+pub fn any_two_stay_close_if_one_answers()
+    ensures { (s : Stations) (answers : ℕ → Bool) (way : ℕ → ℕ → ℕ) (bits : ℕ → Start) (drove : ℕ → ℕ → Bool) (length : ℕ)
+        (until : ℕ → ℕ) (winner : ℕ) (chase : ℕ → ℕ) → AreStations s → HaveRoom s
+        → HaveWays (answering_by s answers way)
+        → ((k : ℕ) → k < s.count → s.may_send k ≡ true → answers k ≡ true) → IsCourse s bits drove length until
+        → winner < s.count → still_sends s bits length winner ≡ true → CatchUp s winner chase
+        → (n : ℕ) → n < length → AreClose (answering_by s answers (gathered_by s way winner chase)) answers
+        (since_edge s bits n) (bits n).place }
 {
     wl_topology::driven_laws();
 }

@@ -1,4 +1,5 @@
 use Rattle.wl_buses.proofs.FrameEnd.Below.{ClockLaws, MachineLaws}
+use Rattle.wl_buses.proofs.FrameEnd.Finding.{finds_the_end}
 use Rattle.wl_buses.proofs.FrameEnd.NodeEnds.{node_ends}
 use Rattle.wl_buses.proofs.frame_end.laws.a_node_goes_to_the_end.Goals as goal
 
@@ -15,4 +16,4 @@ returns c = λ s o end chase are room is stuffed won can i setup levels node ins
       driven = c.driven_laws.ensures;
     } in
     let clocks : ClockLaws = record { edges = c.a_station_begins_its_bits.ensures; calm = c.no_edge_counts_then.ensures } in
-    node_ends m s are room o is end stuffed.none stuffed.there won chase can.catch can.room clocks i inside setup segments levels node run finds first)
+    node_ends m s are room o is end stuffed.none stuffed.there won clocks i inside (finds_the_end m s are room o is end stuffed.none stuffed.there won chase can.catch can.room i inside) setup segments levels node run finds first)

@@ -1,27 +1,6 @@
-use Rattle.std.proofs.Common.{ℕ, ◌+◌, arith}
-use Rattle.wl_segments.specs.Lengths.{sample_at}
-use Rattle.wl_buses.proofs.FrameEnd.Below.{MachineLaws}
-use Rattle.wl_buses.proofs.FrameEnd.Hearing.{samples_up}
-use Rattle.wl_buses.proofs.NextFrames.Beginning.{rest_early}
-use Rattle.wl_buses.proofs.NextFrames.Through.{finds_early, goes_through}
 use Rattle.wl_buses.proofs.next_frames.nodes.a_node_goes_through_the_next_frame.Goals as goal
 
 pub returns : goal.returns
 returns c = λ s o end chase are room is some ends won can i rest since setup levels node inside segments run after rests early finds.
-    (let m : MachineLaws = record {
-      steps = c.machines_stay_in_step.ensures.step;
-      errors = c.machines_stay_in_step.ensures.errors;
-      winner = c.the_least_field_wins.ensures;
-      stuffed = c.a_transmitter_sends_its_head_stuffed.ensures.sent;
-      found = c.a_transmitter_sends_its_head_stuffed.ensures.found;
-      six = c.a_front_of_no_stuffing_ends_six_equal_bits.ensures;
-      ten = c.ten_bits_have_an_edge.ensures.ten;
-      driven = c.driven_laws.ensures;
-    } in
-    let low : ℕ = rest + sample_at (s.lengths i) in
-    let by_end = samples_up m s are room o is end ends.none ends.there won chase can.catch can.room 0 end i inside (omega arith) in
-    let begins = c.a_node_begins_the_next_frame.ensures s o end i rest since setup levels node are room is some ends.none inside segments run after rests early
-    (λ q more less. finds_early m c.a_node_goes_as_expected.ensures s are room o is end ends.none ends.there won chase can.catch can.room i inside setup segments levels node run since (rest + sample_at (s.lengths i)) finds q more (omega arith)) in
-    goes_through m c.a_node_goes_as_expected.ensures s are room o is end ends.none ends.there won chase can.catch can.room i inside setup segments levels node run since (rest + sample_at (s.lengths i)) finds
-    (rest_early s o i rest after (is.begin i inside)) begins
-    (λ f b. c.a_node_goes_to_the_end.ensures s o end chase are room is ends won can i setup levels node inside segments run f b))
+    c.a_node_that_finds_its_end_goes_through_the_next_frame.ensures s o end are room is some ends won i rest since setup levels node inside
+    (c.all_find_the_end.ensures s o end chase are room is ends won can i inside) segments run after rests early finds

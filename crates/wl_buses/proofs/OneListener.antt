@@ -1,0 +1,3 @@
+pub mod Slotting
+pub mod Hearing
+pub mod AtEnd

@@ -1,0 +1,19 @@
+use Rattle.wl_buses.proofs.FrameEnd.Below.{MachineLaws}
+use Rattle.wl_buses.proofs.OneListener.AtEnd.{finds_the_end, other_wins}
+use Rattle.wl_buses.proofs.one_listener.laws.a_listener_finds_the_end.Goals as goal
+
+pub returns : goal.returns
+returns c = λ s o end way chase more are room mute is stuffed won can unheard.
+    (let m : MachineLaws = record {
+      steps = c.machines_stay_in_step.ensures.step;
+      errors = c.machines_stay_in_step.ensures.errors;
+      winner = c.the_least_field_wins.ensures;
+      stuffed = c.a_transmitter_sends_its_head_stuffed.ensures.sent;
+      found = c.a_transmitter_sends_its_head_stuffed.ensures.found;
+      six = c.a_front_of_no_stuffing_ends_six_equal_bits.ensures;
+      ten = c.ten_bits_have_an_edge.ensures.ten;
+      driven = c.driven_laws.ensures;
+    } in (
+      other_wins m s are room mute o is end stuffed.none stuffed.there won way chase more can unheard,
+      finds_the_end m s are room mute o is end stuffed.none stuffed.there won way chase more can unheard,
+    ))

@@ -1,0 +1,123 @@
+//! Laws of a node that only listens, each proved as the contract of a function that does nothing.
+
+ghost use Rattle.std.specs.Prelude.{◌≡◌, ◌≢◌, ◌+◌, ◌<◌, ◌≤◌, ◌||◌, ◌&&◌, ◌-◌, nat_le, ℕ, suc, Bool, false};
+ghost use Rattle.wl_level.specs.declared.Level.{Level};
+ghost use Rattle.wl_level.specs.Levels.{level_of};
+ghost use Rattle.wl_node.specs.declared.setup.NodeSetup.{NodeSetup};
+ghost use Rattle.wl_node.specs.History.{History};
+ghost use Rattle.wl_topology.specs.Driven.{driven};
+ghost use Rattle.wl_buses.specs.OneFrame.Acknowledged.{IsAnsweredByAll, answering};
+ghost use Rattle.wl_buses.specs.OneFrame.Expected.{IsOutset, Outset, expected_bits, expected_sample};
+ghost use Rattle.wl_buses.specs.OneFrame.Machines.{HasWon};
+ghost use Rattle.wl_buses.specs.OneFrame.Nodes.{IsInBit, IsRun};
+ghost use Rattle.wl_buses.specs.OneFrame.Starts.{Start};
+ghost use Rattle.wl_buses.specs.OneFrame.Stations.{AreStations, FitsBut, HaveRoom, HaveRoomToSample, Stations, with_longer_ways};
+ghost use Rattle.wl_buses.specs.OneListener.Beside.{AreCloseBeside, HasRoomToListen, HearsTheEnd, ListensToTheEnd, beside, hears, others_answering};
+ghost use Rattle.wl_buses.specs.OneListener.Ends.{CanBeHeard, HasRoomToRestBeside, IsUnheard, others_gathered};
+ghost use Rattle.wl_buses.specs.FrameEnd.Asked.{EndsBefore};
+ghost use Rattle.wl_buses.specs.FrameEnd.Finds.{FindsTheEnd, finds_at};
+ghost use Rattle.wl_buses.specs.FrameEnd.Rests.{NodeEnds};
+ghost use Rattle.wl_buses.specs.FrameEnd.Again.{RestsAgain};
+ghost use Rattle.wl_buses.specs.NextFrames.NextNodes.{GoesThrough};
+ghost use Rattle.wl_buses.specs.OneFrame.Lines.{BeginsAfter};
+ghost use Rattle.wl_segments.specs.Lengths.{bit_quanta, sample_at};
+ghost use Rattle.wl_phase.specs.Clocks.{steady_tick};
+
+/// Law: a listener finds what the others drive, and what it drives itself.
+pub fn a_station_hears_who_answers()
+    ensures { (s : Stations) (drove : ℕ → ℕ → Bool) (t : ℕ) → hears s drove t
+        ≡ (driven s.count s.delay drove s.count t
+        || (nat_le (s.delay s.count s.count) t && drove s.count (t - s.delay s.count s.count))) }
+{}
+
+/// Law: a listener samples the acknowledgement that the others drive, as they do. It is close to each of them at the CRC delimiter, and the
+/// room is asked of it as of the others: their bits reach it by its samples, and not before. Nothing is asked for its bits at the others. But
+/// nobody follows it if it begins its ACK slot by itself, so eleven bits' drift fits before its sample.
+pub fn a_listener_samples_the_acknowledgement()
+    ensures { (s : Stations) (way : ℕ → ℕ → ℕ) (more : ℕ → ℕ) (winner : ℕ) (place : ℕ → ℕ) (slot : Start) (over : ℕ → ℕ)
+        (drove : ℕ → ℕ → Bool) (until : ℕ → ℕ) (since : ℕ) → AreStations (others_answering s way)
+        → FitsBut (others_answering s way) more → HaveRoomToSample (with_longer_ways (others_answering s way) more)
+        → HasRoomToListen s (with_longer_ways (others_answering s way) more).way
+        → IsAnsweredByAll s (with_longer_ways (answering s way) more).way winner place slot over drove until
+        → ListensToTheEnd s place slot over drove until → since ≤ 9 → AreCloseBeside s way since place
+        → HearsTheEnd s (with_longer_ways (others_answering s way) more).way place slot over drove until }
+{
+    wl_topology::driven_laws();
+}
+
+/// Law: so a listener finds the end of each frame that two others at least send and acknowledge, as a station does that they hear.
+pub fn a_listener_finds_the_end()
+    ensures { (s : Stations) (o : Outset) (end : ℕ) (way : ℕ → ℕ → ℕ) (chase more : ℕ → ℕ) → AreStations (beside s)
+        → HaveRoom (beside s) → s.may_send s.count ≡ false → IsOutset (beside s) o → EndsBefore (beside s) o end
+        → (won : HasWon (beside s) (expected_bits (beside s) o) o.frames end)
+        → CanBeHeard s won.station way chase more → IsUnheard s o end
+        → (won.station ≢ s.count) × FindsTheEnd (beside s) o end s.count }
+{
+    wl_topology::driven_laws();
+    wl_wire::laws::machines_stay_in_step();
+    wl_wire::laws::the_least_field_wins();
+    wl_machine::laws::a_transmitter_sends_its_head_stuffed();
+    wl_frame::laws::a_front_of_no_stuffing_ends_six_equal_bits();
+    wl_frame::laws::ten_bits_have_an_edge();
+}
+
+/// Law: so a node that only listens receives the frame. From the last bit of the CRC sequence on it goes to the end of the frame as is
+/// expected: it samples each bit as it is on the bus, finds no error, has received the winner's frame with the last but one bit of the end
+/// of frame, and rests with the third bit of the intermission.
+pub fn a_listener_receives_the_frame()
+    ensures { (s : Stations) (o : Outset) (end : ℕ) (way : ℕ → ℕ → ℕ) (chase more : ℕ → ℕ) → AreStations (beside s)
+        → HaveRoom (beside s) → s.may_send s.count ≡ false → IsOutset (beside s) o → EndsBefore (beside s) o end
+        → (won : HasWon (beside s) (expected_bits (beside s) o) o.frames end)
+        → CanBeHeard s won.station way chase more → IsUnheard s o end
+        → (setup : NodeSetup) (levels : ℕ → Level) (node : ℕ → History)
+        → setup.segments ≡ s.lengths s.count → IsRun setup levels node
+        → ((n q : ℕ) → suc n ≡ end → expected_sample (beside s) o n s.count < q
+        → q ≤ expected_sample (beside s) o (end + 12) s.count
+        → levels q ≡ level_of (finds_at (beside s) o end s.count q))
+        → ((n : ℕ) → suc n ≡ end → IsInBit (beside s) o s.count levels node n)
+        → (won.station ≢ s.count)
+        × NodeEnds (beside s) o end won.station s.count won.frame setup levels node }
+{
+    a_listener_finds_the_end();
+    crate::frame_end::laws::a_node_that_finds_the_end_goes_to_it();
+}
+
+/// Law: and it rests before the next frame, with room for twelve bits' drift at the listener: the start of frame that any of the others
+/// begins by itself, a bit after its third bit of the intermission, reaches it after its own sample of that bit.
+pub fn the_next_frame_finds_a_listener_at_rest()
+    ensures { (s : Stations) (o : Outset) (end : ℕ) (way : ℕ → ℕ → ℕ) (chase more : ℕ → ℕ) → AreStations (beside s)
+        → HaveRoom (beside s) → s.may_send s.count ≡ false → IsOutset (beside s) o → EndsBefore (beside s) o end
+        → (won : HasWon (beside s) (expected_bits (beside s) o) o.frames end)
+        → CanBeHeard s won.station way chase more → IsUnheard s o end
+        → HasRoomToRestBeside s (with_longer_ways (others_gathered s won.station way chase) more).way
+        → (k : ℕ) → k < s.count
+        → steady_tick (s.clocks s.count) (expected_sample (beside s) o (end + 12) s.count)
+        < steady_tick (s.clocks k) ((expected_bits (beside s) o (end + 12)).place k + bit_quanta (s.lengths k))
+        + s.delay k s.count }
+{
+    wl_topology::driven_laws();
+    wl_wire::laws::machines_stay_in_step();
+    wl_wire::laws::the_least_field_wins();
+    wl_machine::laws::a_transmitter_sends_its_head_stuffed();
+    wl_frame::laws::a_front_of_no_stuffing_ends_six_equal_bits();
+    wl_frame::laws::ten_bits_have_an_edge();
+}
+
+/// Law: so a listener that rests goes through the whole next frame, from its rest to its rest, if it finds what the others drive. It begins
+/// the frame by the edge of a start of frame that reaches it.
+pub fn a_listener_goes_through_the_next_frame()
+    ensures { (s : Stations) (o : Outset) (end : ℕ) (way : ℕ → ℕ → ℕ) (chase more : ℕ → ℕ) → AreStations (beside s)
+        → HaveRoom (beside s) → s.may_send s.count ≡ false → IsOutset (beside s) o → 0 < end
+        → EndsBefore (beside s) o end → (won : HasWon (beside s) (expected_bits (beside s) o) o.frames end)
+        → CanBeHeard s won.station way chase more → IsUnheard s o end
+        → (rest since : ℕ) (setup : NodeSetup) (levels : ℕ → Level) (node : ℕ → History)
+        → setup.segments ≡ s.lengths s.count → IsRun setup levels node → BeginsAfter (beside s) o s.count rest
+        → RestsAgain (beside s) (o.past s.count) s.count levels node rest since
+        → since ≤ rest + sample_at (s.lengths s.count)
+        → ((q : ℕ) → rest + sample_at (s.lengths s.count) < q → q ≤ expected_sample (beside s) o (end + 12) s.count
+        → levels q ≡ level_of (finds_at (beside s) o end s.count q))
+        → GoesThrough (beside s) o end won.station s.count won.frame setup levels node since }
+{
+    a_listener_finds_the_end();
+    crate::next_frames::nodes::a_node_that_finds_its_end_goes_through_the_next_frame();
+}
