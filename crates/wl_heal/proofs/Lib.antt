@@ -4,6 +4,7 @@ mod Possible
 mod Inside
 mod Wires
 mod Silent
+mod Idles
 mod Healed
 mod Phases
 mod Costs
