@@ -1,0 +1,2 @@
+mod Queues
+mod Alike
