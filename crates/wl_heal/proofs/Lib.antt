@@ -28,3 +28,4 @@ mod Tails
 mod Late
 mod LongHits
 mod Bursts
+pub mod Callers

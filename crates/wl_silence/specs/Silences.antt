@@ -4,7 +4,8 @@ use Rattle.wl_level.specs.declared.Level.{Level}
 use Rattle.wl_level.specs.Levels.{is_dominant}
 use Rattle.wl_confine.specs.declared.Mode.TheVariants.{Active}
 use Rattle.wl_confine.specs.Counts.{mode_of}
-use Rattle.wl_segments.specs.Lengths.{bit_quanta, sample_at}
+use Rattle.wl_level.specs.declared.Level.TheVariants.{Recessive}
+use Rattle.wl_segments.specs.Lengths.{Lengths, bit_quanta, sample_at}
 use Rattle.wl_machine.specs.Judged.{stretch_of}
 use Rattle.wl_node.specs.declared.setup.NodeSetup.{NodeSetup}
 use Rattle.wl_node.specs.History.{History, counters_of, staying_history, unsent_of}
@@ -15,6 +16,7 @@ use Rattle.wl_plan.specs.Sound.{IsCausal}
 use Rattle.wl_wire.specs.InStep.{AreSoundFrames}
 use Rattle.wl_heal.specs.Silence.{is_off}
 use Rattle.wl_buses.specs.BothProofs.Queues.{queued_contents}
+use Rattle.wl_buses.specs.OneFrame.Nodes.{IsRun}
 use Rattle.wl_buses.specs.OneFrame.Stations.{Stations}
 use Rattle.wl_buses.specs.CleanLines.Lines.{LineGetsThrough, line_history, waiting_with}
 use Rattle.wl_silence.specs.Restarts.{GoesOnAs, line_since, setup_since, stations_since}
@@ -29,9 +31,27 @@ pub record IsLineOfSince (l : Line) (setups : ℕ → NodeSetup) (s : Stations) 
   pub delays : (i k : ℕ) → i < l.nodes → k < l.nodes → s.delay i k ≡ l.delay i k
   pub undisturbed : (i t : ℕ) → i < l.nodes → from ≤ t → l.disturbed i t ≡ false
 
--- So many bits of each node are in the silence: two up to its first sample, 23 by which it is between frames, eleven as of a power-up, and one for the start of frame after these (Bosch CAN 2.0 part B, sections 2 and 3.2).
+-- So many bits of each node are in the silence: two up to its first sample, 32 that leave the bus idle to it, and two for a start of frame that doesn't come (Bosch CAN 2.0 part B, sections 2 and 3.2). In eleven of these
+-- a node that powers up may join.
 abbrev pub silence_bits : ℕ
-silence_bits = 37
+silence_bits = 36
+
+-- A node in a silence from its quantum `first` on: it sees recessive in all these bits, drives nothing, and is on the bus and error active.
+pub record IsSilentNode (setup : NodeSetup) (levels : ℕ → Level) (node : ℕ → History) (first : ℕ) : Type 0 where
+  pub silent : (q : ℕ) → first ≤ q → q ≤ first + silence_bits * bit_quanta setup.segments → levels q ≡ Recessive
+  pub drives : (q : ℕ) → first ≤ q → q ≤ first + silence_bits * bit_quanta setup.segments → (node (suc q)).drive ≡ Recessive
+  pub active : (q : ℕ) → first ≤ q → q ≤ suc (first + silence_bits * bit_quanta setup.segments) → mode_of (counters_of (node q)) ≡ Active
+  pub on : (q : ℕ) → first ≤ q → q ≤ first + silence_bits * bit_quanta setup.segments → is_off (stretch_of (node q).inputs) ≡ false
+
+-- The sample of the eleventh bit of a node, counted from a bit of it on.
+abbrev pub eleventh_of : Lengths → ℕ
+eleventh_of l = 10 * bit_quanta l + sample_at l
+
+-- After its quantum `end` a node goes on as any node that powers up at its quantum `at` with the frames that it hasn't sent by then, if this one sees recessive in its first eleven bits.
+abbrev pub IsAsFresh : NodeSetup → (node : ℕ → History) → (at end : ℕ) → Type 0
+IsAsFresh setup node at end =
+    (levels : ℕ → Level) (fresh : ℕ → History) → IsRun (setup_since setup at (node (suc end))) levels fresh → ((q : ℕ) → q ≤ eleventh_of setup.segments → levels q ≡ Recessive)
+    → GoesOnAs setup at (node (suc end)) (fresh (suc (eleventh_of setup.segments))) (node (suc end))
 
 -- the last quantum of node i in a silence that begins with its quantum `first`
 abbrev pub last_silent : Stations → (first : ℕ → ℕ) → ℕ → ℕ
