@@ -107,6 +107,14 @@ module _ (laws : SilentClock) (setup : NodeSetup) (book : ByTheBook setup.segmen
     place zero = first + way begin
     place (suc n) = place n + B
 
+    pub place_first : place 0 ≡ first + way begin
+    unfolding place
+    place_first = refl
+
+    pub place_next : (n : ℕ) → place (suc n) ≡ place n + B
+    unfolding place
+    place_next n = refl
+
     pub place_is : (n : ℕ) → place n ≡ place 0 + n * B
     unfolding place
     place_is zero = omega arith
@@ -201,40 +209,45 @@ module _ (laws : SilentClock) (setup : NodeSetup) (book : ByTheBook setup.segmen
     same_in n q in_time more less = subst (SameIn n) (let e : suc (place n + S) + (q - suc (place n + S)) ≡ q = omega arith in e) (same_up n (q - suc (place n + S)) in_time (omega arith))
 
     -- it drives nothing, and is error active
-    module _ (drives : (q : ℕ) → first ≤ q → q ≤ last → (node (suc q)).drive ≡ Recessive) (active : (q : ℕ) → first ≤ q → q ≤ suc last → mode_of (counts_of (node q).happened) ≡ Active) where
-      pub wants_none : (n : ℕ) → next n ≤ last → drive_of (X n) ≡ Recessive
+    module _ (limit : ℕ) (room : limit + B ≤ last) (drives : (q : ℕ) → first ≤ q → q ≤ limit → (node (suc q)).drive ≡ Recessive)
+        (active : (q : ℕ) → first ≤ q → q ≤ limit → mode_of (counts_of (node (suc q)).happened) ≡ Active) where
+      pub wants_none : (n : ℕ) → place n + B ≤ limit → drive_of (X n) ≡ Recessive
       wants_none n in_time =
           let low = place_low n in
           let some = long in
           let deep : 0 < S = omega arith in
-          sym ((same_in n (suc (place n + B)) in_time (omega arith) (omega arith)).drive (omega arith)) ∙ drives (place n + B) (omega arith) (omega arith)
+          sym ((same_in n (suc (place n + B)) (omega arith) (omega arith) (omega arith)).drive (omega arith)) ∙ drives (place n + B) (omega arith) in_time
 
       abbrev pub given : ℕ → Sampled
       given n = sampled_next setup (node (next n)) (levels (next n))
 
-      pub given_level : (n : ℕ) → next n ≤ last → (given n).level ≡ Recessive
+      pub given_level : (n : ℕ) → next n ≤ limit → (given n).level ≡ Recessive
       given_level n in_time = let low = place_low n in silent (next n) (omega arith) (omega arith)
 
-      pub given_mode : (n : ℕ) → next n ≤ last → (given n).mode ≡ Active
-      given_mode n in_time = let low = place_low n in active (next n) (omega arith) (omega arith)
+      active_at : (q : ℕ) → first < q → q ≤ limit → mode_of (counts_of (node q).happened) ≡ Active
+      active_at zero later in_time = absurd (omega arith)
+      active_at (suc q) later in_time = active q (omega arith) (omega arith)
 
-      pub beat_next : (n : ℕ) → next n ≤ last → beat_of l (seen_before sees (next n)) (sees (next n)) ≡ beats.Sample Recessive
-      beat_next n in_time = (bit n in_time).samples.beat
+      pub given_mode : (n : ℕ) → next n ≤ limit → (given n).mode ≡ Active
+      given_mode n in_time = let low = place_low n in let some = long in active_at (next n) (omega arith) in_time
 
-      same_next : (n : ℕ) → next n ≤ last → SameIn n (next n)
-      same_next n in_time = same_in n (next n) in_time (let some = long in omega arith) (omega arith)
+      pub beat_next : (n : ℕ) → next n ≤ limit → beat_of l (seen_before sees (next n)) (sees (next n)) ≡ beats.Sample Recessive
+      beat_next n in_time = (bit n (omega arith)).samples.beat
 
-      happened_next : (n : ℕ) → next n ≤ last → (node (suc (next n))).happened ≡ (node (next n)).happened ++ (judged (stretch_of (node (next n)).inputs) (given n)).happened ∷ []
+      same_next : (n : ℕ) → next n ≤ limit → SameIn n (next n)
+      same_next n in_time = same_in n (next n) (omega arith) (let some = long in omega arith) (omega arith)
+
+      happened_next : (n : ℕ) → next n ≤ limit → (node (suc (next n))).happened ≡ (node (next n)).happened ++ (judged (stretch_of (node (next n)).inputs) (given n)).happened ∷ []
       happened_next n in_time = happened_by setup levels node run (next n) (beats.Sample Recessive) (beat_next n in_time)
 
-      none_off : (n : ℕ) → next n ≤ last
+      none_off : (n : ℕ) → next n ≤ limit
           → switched_off (given n).mode (mode_of (counts_of ((node (next n)).happened ++ (judged (stretch_of (node (next n)).inputs) (given n)).happened ∷ []))) ≡ []
       none_off n in_time =
           let low = place_low n in
           ap (λ m. switched_off m (mode_of (counts_of ((node (next n)).happened ++ (judged (stretch_of (node (next n)).inputs) (given n)).happened ∷ [])))) (given_mode n in_time)
-          ∙ ap (λ h. switched_off Active (mode_of (counts_of h))) (sym (happened_next n in_time)) ∙ ap (switched_off Active) (active (suc (next n)) (omega arith) (omega arith))
+          ∙ ap (λ h. switched_off Active (mode_of (counts_of h))) (sym (happened_next n in_time)) ∙ ap (switched_off Active) (active (next n) (omega arith) in_time)
 
-      pub stretch_then : (n : ℕ) → next n ≤ last → X (suc n) ≡ stretch_after (X n) (Sample (given n))
+      pub stretch_then : (n : ℕ) → next n ≤ limit → X (suc n) ≡ stretch_after (X n) (Sample (given n))
       unfolding place
       stretch_then n in_time =
           ap stretch_of
@@ -257,22 +270,22 @@ module _ (laws : SilentClock) (setup : NodeSetup) (book : ByTheBook setup.segmen
       place_up k zero = let e : k + 0 ≡ k = omega arith in let f = ap place e in omega arith
       place_up k (suc n) = let e : k + suc n ≡ suc (k + n) = omega arith in let f = ap place e in let before = place_up k n in omega arith
 
-      earlier : (k n : ℕ) → place (k + suc n) + S ≤ last → next k ≤ last
+      earlier : (k n : ℕ) → place (k + suc n) + S ≤ limit → next k ≤ limit
       unfolding place
       earlier k n in_time = let e : k + suc n ≡ suc k + n = omega arith in let f = ap place e in let up = place_up (suc k) n in omega arith
 
-      pub samples_on : (k n : ℕ) → place (k + n) + S ≤ last → stretch_on (X k) (given_from k n) ≡ X (k + n)
+      pub samples_on : (k n : ℕ) → place (k + n) + S ≤ limit → stretch_on (X k) (given_from k n) ≡ X (k + n)
       unfolding given_from
       samples_on k zero in_time = ap X (let e : k ≡ k + 0 = omega arith in e)
       samples_on k (suc n) in_time =
           let e : suc k + n ≡ k + suc n = omega arith in
-          ap (λ s. stretch_on s (given_from (suc k) n)) (sym (stretch_then k (earlier k n in_time))) ∙ samples_on (suc k) n (subst (λ j. place j + S ≤ last) (sym e) in_time) ∙ ap X e
+          ap (λ s. stretch_on s (given_from (suc k) n)) (sym (stretch_then k (earlier k n in_time))) ∙ samples_on (suc k) n (subst (λ j. place j + S ≤ limit) (sym e) in_time) ∙ ap X e
 
-      pub silence_on : (k n : ℕ) → place (k + n) + S ≤ last → IsSilence (X k) (given_from k n)
+      pub silence_on : (k n : ℕ) → place (k + n) + S ≤ limit → IsSilence (X k) (given_from k n)
       unfolding given_from
       silence_on k zero in_time = tt
       silence_on k (suc n) in_time =
           let e : suc k + n ≡ k + suc n = omega arith in
           let early = earlier k n in_time in
-          (given_level k early, wants_none k early,
-          subst (λ s. IsSilence s (given_from (suc k) n)) (stretch_then k early) (silence_on (suc k) n (subst (λ j. place j + S ≤ last) (sym e) in_time)))
+          (given_level k early, wants_none k (omega arith),
+          subst (λ s. IsSilence s (given_from (suc k) n)) (stretch_then k early) (silence_on (suc k) n (subst (λ j. place j + S ≤ limit) (sym e) in_time)))

@@ -1,5 +1,5 @@
 -- A line that is silent for a while, whatever was on it before, and what it does then.
-use Rattle.std.specs.Prelude.{◌≡◌, ℕ, suc, ◌+◌, ◌*◌, ◌<◌, ◌≤◌, false, true, List, [], length}
+use Rattle.std.specs.Prelude.{◌≡◌, ℕ, suc, ◌+◌, ◌-◌, ◌*◌, ◌<◌, ◌≤◌, false, true, List, [], length}
 use Rattle.wl_level.specs.declared.Level.{Level}
 use Rattle.wl_level.specs.Levels.{is_dominant}
 use Rattle.wl_confine.specs.declared.Mode.TheVariants.{Active}
@@ -10,13 +10,15 @@ use Rattle.wl_machine.specs.Judged.{stretch_of}
 use Rattle.wl_node.specs.declared.setup.NodeSetup.{NodeSetup}
 use Rattle.wl_node.specs.History.{History, counters_of, staying_history, unsent_of}
 use Rattle.wl_phase.specs.Clocks.{steady_tick}
+use Rattle.wl_phase.specs.InStep.{seen_before}
+use Rattle.wl_phase.specs.Ways.{sample_way}
 use Rattle.wl_plan.specs.Line.{Line}
 use Rattle.wl_plan.specs.Simulation.{AreInside, level, seen}
 use Rattle.wl_plan.specs.Sound.{IsCausal}
 use Rattle.wl_wire.specs.InStep.{AreSoundFrames}
 use Rattle.wl_heal.specs.Silence.{is_off}
 use Rattle.wl_buses.specs.BothProofs.Queues.{queued_contents}
-use Rattle.wl_buses.specs.OneFrame.Nodes.{IsRun}
+use Rattle.wl_buses.specs.OneFrame.Nodes.{IsRun, clock_sees}
 use Rattle.wl_buses.specs.OneFrame.Stations.{Stations}
 use Rattle.wl_buses.specs.CleanLines.Lines.{LineGetsThrough, line_history, waiting_with}
 use Rattle.wl_silence.specs.Restarts.{GoesOnAs, line_since, setup_since, stations_since}
@@ -36,12 +38,16 @@ pub record IsLineOfSince (l : Line) (setups : ℕ → NodeSetup) (s : Stations) 
 abbrev pub silence_bits : ℕ
 silence_bits = 36
 
--- A node in a silence from its quantum `first` on: it sees recessive in all these bits, drives nothing, and is on the bus and error active.
+-- A node in a silence from its quantum `first` on: it sees recessive in all these bits. It drives nothing up to the last one, and is on the bus and error active.
 pub record IsSilentNode (setup : NodeSetup) (levels : ℕ → Level) (node : ℕ → History) (first : ℕ) : Type 0 where
   pub silent : (q : ℕ) → first ≤ q → q ≤ first + silence_bits * bit_quanta setup.segments → levels q ≡ Recessive
-  pub drives : (q : ℕ) → first ≤ q → q ≤ first + silence_bits * bit_quanta setup.segments → (node (suc q)).drive ≡ Recessive
-  pub active : (q : ℕ) → first ≤ q → q ≤ suc (first + silence_bits * bit_quanta setup.segments) → mode_of (counters_of (node q)) ≡ Active
-  pub on : (q : ℕ) → first ≤ q → q ≤ first + silence_bits * bit_quanta setup.segments → is_off (stretch_of (node q).inputs) ≡ false
+  pub drives : (q : ℕ) → first ≤ q → q ≤ first + (silence_bits - 1) * bit_quanta setup.segments → (node (suc q)).drive ≡ Recessive
+  pub active : (q : ℕ) → first ≤ q → q ≤ first + (silence_bits - 1) * bit_quanta setup.segments → mode_of (counters_of (node (suc q))) ≡ Active
+  pub on : (q : ℕ) → first ≤ q → q ≤ first + (silence_bits - 1) * bit_quanta setup.segments → is_off (stretch_of (node (suc q)).inputs) ≡ false
+
+-- the quantum with which the 24th bit of a node in a silence begins, from its first sample on: a bit after its first one comes the next sample at the latest
+abbrev pub joins_at : NodeSetup → (levels : ℕ → Level) → (node : ℕ → History) → (first : ℕ) → ℕ
+joins_at setup levels node first = first + sample_way setup.segments (seen_before (clock_sees levels node) (first + sample_at setup.segments)) + 23 * bit_quanta setup.segments
 
 -- The sample of the eleventh bit of a node, counted from a bit of it on.
 abbrev pub eleventh_of : Lengths → ℕ

@@ -8,7 +8,7 @@ ghost use Rattle.wl_buses.specs.OneFrame.Nodes.{IsRun};
 ghost use Rattle.wl_node.specs.declared.setup.NodeSetup.{NodeSetup};
 ghost use Rattle.wl_node.specs.History.{History};
 ghost use Rattle.wl_silence.specs.Restarts.{GoesOnAs, IsUnharmed, history_on, setup_since};
-ghost use Rattle.wl_silence.specs.Silences.{IsAsFresh, IsSilentNode, eleventh_of, silence_bits};
+ghost use Rattle.wl_silence.specs.Silences.{IsAsFresh, IsSilentNode, eleventh_of, joins_at, silence_bits};
 
 /// Law: a node goes on as one that powered up later with the frames that it hadn't sent then, if both are alike once. Both drive the same, and the
 /// same frames pass them. It takes that the later one finds no error and counts nothing. Then the other one finds none, and its counters don't
@@ -27,8 +27,11 @@ pub fn a_node_goes_on_as_a_later_one()
 pub fn a_silent_node_is_as_a_fresh_one()
     ensures { (setup : NodeSetup) (levels : ℕ → Level) (node : ℕ → History) (first : ℕ) → ByTheBook setup.segments
         → IsRun setup levels node → IsSilentNode setup levels node first
-        → (at : ℕ) × (first ≤ at) × (at + 12 * bit_quanta setup.segments ≤ first + silence_bits * bit_quanta setup.segments)
-        × IsAsFresh setup node at (at + eleventh_of setup.segments) }
+        → (first ≤ joins_at setup levels node first)
+        × (joins_at setup levels node first + 12 * bit_quanta setup.segments
+        ≤ first + silence_bits * bit_quanta setup.segments)
+        × IsAsFresh setup node (joins_at setup levels node first)
+        (joins_at setup levels node first + eleventh_of setup.segments) }
 {
     wl_sync::clock_goes_on();
     wl_sync::the_sample_comes_near();
