@@ -4,6 +4,7 @@ mod Possible
 mod Inside
 mod Wires
 mod Silent
+mod Idles
 mod Healed
 mod Phases
 mod Costs
@@ -27,3 +28,4 @@ mod Tails
 mod Late
 mod LongHits
 mod Bursts
+pub mod Callers

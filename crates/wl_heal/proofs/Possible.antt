@@ -39,6 +39,7 @@ IsPossibleBy (Waiting (PassiveFlag unacknowledged) role flagged) own = Unit {0}
 IsPossibleBy (Waiting flag role flagged) own = length flagged ≤ 6
 IsPossibleBy (Delimiting role) own = length own < 8
 IsPossibleBy (Intermission role) own = length own < 3
+IsPossibleBy Suspension own = length own < 8
 IsPossibleBy OffBus own = recessive_runs own ≡ 128 → ⊥
 IsPossibleBy sort own = Unit {0}
 
@@ -61,7 +62,7 @@ freed None = tt
 freed (Some c) = none_ended
 
 behind_intermission : (role : Role) (mode : Mode) (head : Option Content) → IsPossible (stretch_by (after_intermission role mode head) [])
-behind_intermission Tx Passive head = tt
+behind_intermission Tx Passive head = omega arith
 behind_intermission Tx Active head = freed head
 behind_intermission Tx Off head = freed head
 behind_intermission Rx mode head = freed head
@@ -101,9 +102,12 @@ module _ (x : Sampled) where
       (λ e. either (Goes (Intermission role) own) (is_dominant x.level) _ _ (one_ended x.level) (behind_intermission role x.mode x.head))
       (λ e. let f = eqb-false (length own) 2 e in either (Goes (Intermission role) own) (is_dominant x.level) _ _ (omega arith) (omega arith))
 
-  suspends : (own : List Level) → Goes Suspension own (judged_by Suspension own x)
-  suspends own =
-      either (Goes Suspension own) (is_dominant x.level) _ _ (one_ended x.level) (either (Goes Suspension own) (length own == 7) _ _ (freed x.head) tt)
+  suspends : (own : List Level) → length own < 8 → Goes Suspension own (judged_by Suspension own x)
+  suspends own h =
+      let more = longer own x.level in
+      either (Goes Suspension own) (is_dominant x.level) _ _ (one_ended x.level)
+      (cond_both (length own == 7) (begins happens.Nothing (free x.head) []) (continues happens.Nothing) (Goes Suspension own) (λ e. freed x.head)
+      (λ e. let f = eqb-false (length own) 7 e in omega arith))
 
   offs : (own : List Level) → Goes OffBus own (judged_by OffBus own x)
   offs own = cond_both (recessive_runs (own ++ x.level ∷ []) == 128) (begins happens.Recovered (free x.head) []) (continues happens.Nothing) (Goes OffBus own) (λ e. freed x.head) (λ e. eqb-false (recessive_runs (own ++ x.level ∷ [])) 128 e)
@@ -200,7 +204,7 @@ module _ (x : Sampled) where
   by_sort (Waiting flag role flags) own h = waits flag role flags own h
   by_sort (Delimiting role) own h = delimits role own h
   by_sort (Intermission role) own h = intermits role own h
-  by_sort Suspension own h = suspends own
+  by_sort Suspension own h = suspends own h
   by_sort OffBus own h = offs own
 
 pub possible_next : (s : Stretch) (input : Input) → IsPossible s → IsPossible (stretch_after s input)

@@ -209,7 +209,7 @@ module _ (head : Option Content) (mode : Mode) where
     framed Tx (Some c) own r t d h = sends (Some c) own c t r (stuffed_end own) refl d h
     framed Rx frame own r t d h = receives frame own t (stuffed_end own) refl h
 
-    nearer : (sort : Sort) (own : List Level) → IsPossibleBy sort own → is_off_by sort ≡ false → drive_by sort own ≡ Recessive → IsNear (suc n) (stretch_by sort own)
+    pub nearer : (sort : Sort) (own : List Level) → IsPossibleBy sort own → is_off_by sort ≡ false → drive_by sort own ≡ Recessive → IsNear (suc n) (stretch_by sort own)
         → Goal n sort own (judged_by sort own x)
     nearer sort own p off d (inl b) = stays n sort own b d
     nearer Integration own p off d (inr h) = integrates own h
@@ -225,7 +225,7 @@ module _ (head : Option Content) (mode : Mode) where
     nearer OffBus own p off d (inr h) = cc
 
 -- at the end of the way it is between frames
-there : (sort : Sort) (own : List Level) → IsPossibleBy sort own → is_off_by sort ≡ false → left_by sort own ≤ 0 → is_between_by sort own ≡ true
+pub there : (sort : Sort) (own : List Level) → IsPossibleBy sort own → is_off_by sort ≡ false → left_by sort own ≤ 0 → is_between_by sort own ≡ true
 there Integration own p off h = absurd (omega arith)
 there Idle own p off h = refl
 there (Framing frame) own p off h = absurd (by (stuffed_end own) refl h)
@@ -260,7 +260,7 @@ comes (x ∷ xs) s p off near h =
     comes xs (stretch_after s (Sample x)) (possible_next s (Sample x) p) (inside_next is_off_by off_test s x off)
     (subst (λ y. IsNear (length xs) (stretch_after s (Sample y))) (sym x_is) (nearer x.head x.mode (length xs) s.sort s.own p off h.1 near)) h.2
 
-far : (sort : Sort) (own : List Level) (n : ℕ) → silent_bits ≤ n → left_by sort own ≤ n
+pub far : (sort : Sort) (own : List Level) (n : ℕ) → silent_bits ≤ n → left_by sort own ≤ n
 far Integration own n h = omega arith
 far Idle own n h = omega arith
 far (Framing frame) own n h = by (stuffed_end own)

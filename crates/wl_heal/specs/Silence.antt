@@ -29,6 +29,10 @@ AreOnBus w = (k : ℕ) → k < w.count → is_off (stretch_at w k) ≡ false
 abbrev pub silent_bits : ℕ
 silent_bits = 23
 
+-- so many leave it on an idle bus: those, the third bit of the intermission, and eight of a suspension; Bosch CAN 2.0 part B, section 3.2.5
+abbrev pub idle_bits : ℕ
+idle_bits = 32
+
 -- so many if it is in no frame: six bits of a passive flag, eight of a delimiter, and two of an intermission
 abbrev pub silent_bits_after_a_frame : ℕ
 silent_bits_after_a_frame = 16

@@ -7,7 +7,9 @@ ghost use Rattle.wl_confine.specs.Counts.{Counts, mode_of};
 ghost use Rattle.wl_machine.specs.Stretch.{Sampled, Input};
 ghost use Rattle.wl_level.specs.declared.Level.{Level};
 ghost use Rattle.wl_machine.specs.Stretch.Ended.{Received, Sent};
-ghost use Rattle.wl_machine.specs.Judged.{stretch_of};
+ghost use Rattle.wl_level.specs.declared.Level.TheVariants.{Recessive};
+ghost use Rattle.wl_machine.specs.Stretch.Sort.{Idle};
+ghost use Rattle.wl_machine.specs.Judged.{drive_of, stretch_of};
 ghost use Rattle.wl_wire.specs.Heads.{OwnHeads};
 ghost use Rattle.wl_wire.specs.InStep.{AreSoundFrames, AreInStep, FindsNoError};
 ghost use Rattle.wl_wire.specs.Wire.{Event, Wire, Handed, is_between, stretch_at, wire_after};
@@ -17,7 +19,7 @@ ghost use Rattle.wl_heal.specs.Disturbed.{Course, TakesPart, IsSentFrom, IsClear
 ghost use Rattle.wl_heal.specs.Healing.{AreActive, AllTakePart, IsDominantFor, HealWithin};
 ghost use Rattle.wl_heal.specs.Healing.{StayWithoutError, bits_after, healing_bits};
 ghost use Rattle.wl_heal.specs.Joining.{Change, AreThosePresent, AreInStepBeside, FindNoFault, wire_with};
-ghost use Rattle.wl_heal.specs.Silence.{stretch_on, is_off, is_in_frame, AreOnBus, silent_bits, silent_bits_after_a_frame, IsSilence, bus_bits, StaysRecessive};
+ghost use Rattle.wl_heal.specs.Silence.{stretch_on, is_off, is_in_frame, idle_bits, AreOnBus, silent_bits, silent_bits_after_a_frame, IsSilence, bus_bits, StaysRecessive};
 
 /// Law: 23 recessive samples bring each machine between frames, whatever reached it before and whatever it is handed meanwhile, in whatever
 /// modes. It has to drive recessive at each of them, and not to be off the bus before them. So if a bus stays recessive for 23 bits, all
@@ -32,6 +34,14 @@ pub fn a_silence_brings_all_between()
     ensures flag { (w : Wire) (events : List Event) → silent_bits_after_a_frame ≤ bus_bits events
         → StaysRecessive w events → (k : ℕ) → k < w.count → is_off (stretch_at w k) ≡ false
         → is_in_frame (stretch_at w k) ≡ false → is_between (stretch_at (wire_after w events) k) ≡ true }
+{}
+
+/// Law: 32 recessive samples leave each machine on an idle bus, without a frame of its own. It has to drive recessive at each of them and then,
+/// and not to be off the bus before them. So no frame was handed to it with the last one.
+pub fn a_silence_leaves_all_idle()
+    ensures { (past : List Input) (xs : List Sampled) → is_off (stretch_of past) ≡ false
+        → idle_bits ≤ length xs → IsSilence (stretch_of past) xs
+        → drive_of (stretch_on (stretch_of past) xs) ≡ Recessive → (stretch_on (stretch_of past) xs).sort ≡ Idle }
 {}
 
 /// Law: such a silence heals a bus, whatever its machines did before, if none is off the bus. From then on they are in step, and none finds

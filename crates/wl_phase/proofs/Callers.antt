@@ -5,7 +5,7 @@ pub use Rattle.wl_phase.proofs.Edges.{late_is, late_over, driving_late, soft_dri
 pub use Rattle.wl_phase.proofs.Runs.{Goes, IsSilent, first_silent, valid_after, valid_at, sync_is}
 pub use Rattle.wl_phase.proofs.Listening.{before_dominant, cases_level, now_recessive, counts_then, looks_from, soft_from, unsampled_by}
 pub use Rattle.wl_phase.proofs.Instants.{bit_next, quantum_more, unarrived_low, unarrived_from}
-pub use Rattle.wl_phase.proofs.Floors.{floor_low, floor_high}
+pub use Rattle.wl_phase.proofs.Floors.{floor_low, floor_high, rate_tick, tick_from}
 pub use Rattle.wl_phase.proofs.Hearing.{tick_up}
 pub use Rattle.wl_phase.proofs.Starting.{IsQuiet, hard_from}
 pub use Rattle.wl_phase.proofs.Answering.{few_of}

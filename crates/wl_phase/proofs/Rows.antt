@@ -6,18 +6,17 @@ use Rattle.wl_segments.specs.Lengths.{Lengths}
 use Rattle.wl_sync.specs.declared.Sync.TheVariants.{Hard, Error}
 use Rattle.wl_phase.specs.Clocks.{Steady, steady_tick, instant}
 use Rattle.wl_phase.specs.Ways.{way_after}
-use Rattle.wl_clock.specs.Timing.{tick_of}
 
 -- offset 1 and 3/2 ticks a quantum: quanta 0 to 4 begin at ticks 1, 2, 4, 5 and 7
 abbrev clock : Steady
-clock = record { offset = 1; num = 3; den = 2 }
+clock = record { offset = 1; part = 0; num = 3; den = 2 }
 
 one : steady_tick clock 1 ≡ 2
-unfolding tick_of
+unfolding steady_tick
 one = refl
 
 four : steady_tick clock 4 ≡ 7
-unfolding tick_of
+unfolding steady_tick
 four = refl
 
 four_exact : instant clock 4 ≡ 14

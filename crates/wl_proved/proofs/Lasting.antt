@@ -12,6 +12,7 @@ use Rattle.wl_plan.specs.declared.plan.Plan.{Plan}
 use Rattle.wl_plan.specs.PlanLine.{line_of, no_setup, setup_at}
 use Rattle.wl_plan.specs.Sound.{IsCausal}
 use Rattle.wl_phase.specs.Clocks.{steady_tick}
+use Rattle.wl_phase.proofs.Callers.{rate_tick}
 use Rattle.wl_bound.specs.Verdicts.{has_frames}
 use Rattle.wl_buses.specs.BothProofs.Queues.{decides_at}
 use Rattle.wl_buses.specs.BothProofs.Queues.{first_ready}
@@ -77,7 +78,7 @@ module _ (plan : Plan) (s : Stations) (of : IsPlanOf plan s) (late : EndsLate pl
   node i h = let e = of.count in omega arith
 
   pub tick_is : (i k : ℕ) → i < s.count → T i k ≡ tick_of (setup_at plan i).clock k
-  tick_is i k h = sym (ap (λ t. tick_of t k) (of.rates i h))
+  tick_is i k h = sym (rate_tick (of.rates i h) k)
 
   rises : (i a n : ℕ) → i < s.count → T i a + n ≤ T i (a + n)
   rises i a zero h = let e : T i (a + 0) ≡ T i a = ap (T i) (let z : a + 0 ≡ a = omega arith in z) in omega arith

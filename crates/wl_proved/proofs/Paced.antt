@@ -13,7 +13,7 @@ use Rattle.wl_topology.proofs.Callers.{any_one}
 use Rattle.wl_node.specs.declared.setup.Queued.{Queued}
 use Rattle.wl_plan.specs.declared.plan.Plan.{Plan}
 use Rattle.wl_plan.specs.PlanLine.{no_setup, setup_at}
-use Rattle.wl_phase.specs.Clocks.{Steady, steady_timing}
+use Rattle.wl_phase.specs.Clocks.{HasRate, Steady, steady_timing}
 use Rattle.wl_bound.specs.Conditions.{first_failure_of, plain}
 use Rattle.wl_bound.specs.Families.{Buses, longest_in, shortest_in, units}
 use Rattle.wl_bound.specs.Verdicts.{at_node, for_any, for_one, has_frames, is_after, sends_something, unless_outside, verdict_of, without_book}
@@ -58,13 +58,13 @@ from_first rates r one order = eqb-true r.from 0 (and_parts (r.from == 0) true (
 
 -- a clock of one rate
 one_rate : (t : Timing) (r : Rate) → t.rates ≡ r ∷ [] → in_order t.rates ≡ true
-    → t ≡ steady_timing (record { offset = t.offset; num = num_of t.rates; den = den_of t.rates })
+    → HasRate t (record { offset = t.offset; part = 0; num = num_of t.rates; den = den_of t.rates })
 one_rate t r one order =
     let from = from_first t.rates r one order in
     let num : r.num ≡ num_of t.rates = sym (ap num_of one) in
     let den : r.den ≡ den_of t.rates = sym (ap den_of one) in
     let rate : r ∷ [] ≡ record { from = 0; num = num_of t.rates; den = den_of t.rates } ∷ [] = λ k. record { from = from k; num = num k; den = den k } ∷ [] in
-    λ k. record { offset = t.offset; rates = (one ∙ rate) k }
+    record { timing = λ k. record { offset = t.offset; rates = (one ∙ rate) k }; whole = refl }
 
 by_book : (rules : SyncRules) → is_after rules ≡ false → rules ≡ Book
 by_book After e = cc
@@ -82,6 +82,7 @@ module _ (f : Buses) (plan : Plan) (of : IsPlanOfFamily f plan) where
   abbrev pub clocks : ℕ → Steady
   clocks i = record {
     offset = (setup_at plan i).clock.offset;
+    part = 0;
     num = num_of (setup_at plan i).clock.rates;
     den = den_of (setup_at plan i).clock.rates;
   }
@@ -89,7 +90,7 @@ module _ (f : Buses) (plan : Plan) (of : IsPlanOfFamily f plan) where
   pace_at : (i : ℕ) → i < length plan.nodes → HasPace f i (setup_at plan i).clock.rates
   pace_at i inside = has_pace f i (setup_at plan i).clock.rates (not-false _ (none_below (length plan.nodes) (breaks_pace plan f) (not-true _ of.pace) i inside))
 
-  pub rates : (i : ℕ) → i < length plan.nodes → (setup_at plan i).clock ≡ steady_timing (clocks i)
+  pub rates : (i : ℕ) → i < length plan.nodes → HasRate (setup_at plan i).clock (clocks i)
   rates i inside =
       let pace = pace_at i inside in
       one_rate (setup_at plan i).clock pace.rate pace.one (All-get_or (λ node. IsTiming node.clock) plan.nodes i no_setup inside of.runs.checked.clocks).order

@@ -1,6 +1,6 @@
 -- How long the messages of a plan wait at most. This project's.
 use Rattle.std.specs.Prelude.{◌≡◌, ℕ, ◌<◌, ◌&&◌, nat_le, nat_lt, Bool, true, false, List, length, map, unwrap_or, if◌then◌else◌, Some, None}
-use Rattle.wl_phase.specs.Clocks.{Steady, steady_timing}
+use Rattle.wl_phase.specs.Clocks.{HasRate, Steady}
 use Rattle.wl_node.specs.declared.setup.QueueOrder.{QueueOrder}
 use Rattle.wl_node.specs.declared.setup.QueueOrder.TheVariants.{Fifo, Priority}
 use Rattle.wl_plan.specs.declared.plan.Plan.{Plan}
@@ -47,7 +47,7 @@ wait_of messages e = (message_at messages e).wait
 -- a node has been for longer than that after its frame was ready, it has sent it.
 pub record HasBoundedWaits (f : Buses) (plan : Plan) (messages : List MessageWait) : Type 0 where
   pub clocks : ℕ → Steady
-  pub rates : (i : ℕ) → i < length plan.nodes → (setup_at plan i).clock ≡ steady_timing (clocks i)
+  pub rates : (i : ℕ) → i < length plan.nodes → HasRate (setup_at plan i).clock (clocks i)
   pub all : AllGetThrough plan (stations_of f plan clocks)
   pub waits : WaitInQuanta plan (stations_of f plan clocks) all.bus (messages_in plan messages) (plain_bus f).shortest (wait_of messages)
   pub passes : PassInTime plan (stations_of f plan clocks) all (messages_in plan messages) (plain_bus f).shortest (wait_of messages)

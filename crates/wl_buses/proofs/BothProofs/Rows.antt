@@ -12,8 +12,8 @@ l = record { prop = 3; ps1 = 3; ps2 = 3; sjw = 2; sync = Book }
 
 -- station 0 has quanta of 10 ticks from tick 0 on, each other one of 10 1/2 ticks from tick 7 on
 abbrev pub clock_of : ℕ → Steady
-clock_of zero = record { offset = 0; num = 10; den = 1 }
-clock_of (suc i) = record { offset = 7; num = 21; den = 2 }
+clock_of zero = record { offset = 0; part = 0; num = 10; den = 1 }
+clock_of (suc i) = record { offset = 7; part = 0; num = 21; den = 2 }
 
 -- 4 ticks to itself, 9 to another
 abbrev pub delay_of : ℕ → ℕ → ℕ

@@ -18,7 +18,7 @@ use Rattle.wl_sync.specs.Steps.{running_sync}
 use Rattle.wl_plan.specs.declared.plan.Plan.{Plan}
 use Rattle.wl_plan.specs.Checked.{IsChecked}
 use Rattle.wl_plan.specs.PlanLine.{no_setup, setup_at}
-use Rattle.wl_phase.specs.Clocks.{IsSteady, Steady, steady_tick, steady_timing}
+use Rattle.wl_phase.specs.Clocks.{HasRate, IsSteady, Steady, steady_tick, steady_timing}
 use Rattle.wl_phase.proofs.Callers.{floor_high}
 use Rattle.wl_bound.specs.Covered.{finds_one_busy, is_covered, is_uncovered, leaves}
 use Rattle.wl_bound.specs.Families.{only_listens}
@@ -54,9 +54,9 @@ loop_over cable i j k =
     omega arith
 
 -- a clock of a checked plan that has one rate is steady, and segments of one are sound
-pub steady_at : (plan : Plan) → IsChecked plan → (i : ℕ) → i < length plan.nodes → (r : Steady) → (setup_at plan i).clock ≡ steady_timing r → IsSteady r
-steady_at plan is i less r e =
-    let timing = subst IsTiming e (All-get_or (λ node. IsTiming node.clock) plan.nodes i no_setup less is.clocks) in
+pub steady_at : (plan : Plan) → IsChecked plan → (i : ℕ) → i < length plan.nodes → (r : Steady) → HasRate (setup_at plan i).clock r → IsSteady r
+steady_at plan is i less r has =
+    let timing = subst IsTiming has.timing (All-get_or (λ node. IsTiming node.clock) plan.nodes i no_setup less is.clocks) in
     let rate = All-get_or IsRate (steady_timing r).rates 0 (record { from = 0; num = 1; den = 1 }) (omega arith) timing.rates in
     record { divides = rate.divides; not_fast = rate.not_fast }
 

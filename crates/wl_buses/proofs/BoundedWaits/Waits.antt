@@ -56,7 +56,7 @@ module _ (setups : ℕ → NodeSetup) (s : Stations) (bus : FramesOfLine setups 
       (table_by (scaled D (terms_of t ms d)) (in_parts (terms_of t ms d) blocking r D some delays.positive blocking) (in_parts (terms_of t ms d) blocking r D some delays.positive r))
       (frames_in (frames_on setups s bus t ms)) (scaled D (terms_of t ms d)).period (in_parts (terms_of t ms d) blocking r D some delays.positive widest) (λ m j. w m j * D)
       (in_parts (terms_of t ms d) blocking r D some delays.positive r) bus.count (enough_in_parts (terms_of t ms d) blocking r D some delays.positive widest w enough) windows is.sporadic n less in
-      own_parts t.unit (product_but (λ k. (s.clocks k).den) (bus.by.winner n) s.count) ((s.clocks (bus.by.winner n)).den * (s.clocks (bus.by.winner n)).offset) (s.clocks (bus.by.winner n)).num
+      own_parts t.unit (product_but (λ k. (s.clocks k).den) (bus.by.winner n) s.count) ((s.clocks (bus.by.winner n)).den * (s.clocks (bus.by.winner n)).offset + (s.clocks (bus.by.winner n)).part) (s.clocks (bus.by.winner n)).num
       (s.clocks (bus.by.winner n)).den (line_sent setups s bus n) (line_ready setups s bus n) (r (ms.of (bus.by.winner n) (bus.by.content n))) D
       (but_some setups s bus t ms d of are room idle_at late_enough have delays hands handed began rests readies parts first chase for_all decide once forward lasts passing (bus.by.winner n) inside)
       (whole s are t (bus.by.winner n) inside) h

@@ -9,7 +9,7 @@ use Rattle.wl_frame.specs.Grammar.{Content}
 use Rattle.wl_node.specs.declared.setup.NodeSetup.{NodeSetup}
 use Rattle.wl_node.specs.declared.setup.Queued.{Queued}
 use Rattle.wl_phase.specs.Clocks.{steady_tick}
-use Rattle.wl_phase.proofs.Callers.{tick_up}
+use Rattle.wl_phase.proofs.Callers.{rate_tick, tick_up}
 use Rattle.wl_plan.specs.declared.plan.Plan.{Plan}
 use Rattle.wl_plan.specs.PlanLine.{line_of, no_setup, setup_at}
 use Rattle.wl_plan.specs.Sound.{IsCausal}
@@ -53,7 +53,7 @@ module _ (plan : Plan) (queues : ℕ → List Content) (s : Stations) (of : IsPl
       (omega arith, omega arith)
 
   tick_is : (i k : ℕ) → i < s.count → tick_of (setup_at plan i).clock k ≡ steady_tick (s.clocks i) k
-  tick_is i k inside = ap (λ t. tick_of t k) (of.rates i inside)
+  tick_is i k inside = rate_tick (of.rates i inside) k
 
   up : (i k n : ℕ) → i < s.count → k ≤ n → steady_tick (s.clocks i) k ≤ steady_tick (s.clocks i) n
   up i k n inside h = tick_up (s.clocks i) (line.steady i inside).divides k n h

@@ -45,5 +45,5 @@ tail : tail_time (record { unit = 1; bit = 2000; sample = 1625; shift = 375 }) 1
 tail = refl
 
 -- a quantum of 7 / 3 ticks after another one, in sixths of a tick
-instant : whole_instant (record { unit = 6; bit = 0; sample = 0; shift = 0 }) (record { offset = 5; num = 7; den = 3 }) 1 ≡ 44
+instant : whole_instant (record { unit = 6; bit = 0; sample = 0; shift = 0 }) (record { offset = 5; part = 0; num = 7; den = 3 }) 1 ≡ 44
 instant = refl

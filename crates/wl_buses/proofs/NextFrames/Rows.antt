@@ -2,7 +2,7 @@
 use Rattle.std.proofs.Common.{◌≡◌, ℕ, zero, suc, true, false, [], ◌∷◌, None, Some, refl}
 use Rattle.wl_level.specs.declared.Level.TheVariants.{Recessive}
 use Rattle.wl_confine.specs.declared.Mode.TheVariants.{Active}
-use Rattle.wl_clock.specs.Timing.{tick_of}
+use Rattle.wl_phase.specs.Clocks.{steady_tick}
 use Rattle.wl_machine.specs.Stretch.Input.{Sample}
 use Rattle.wl_machine.specs.States.{sample_of}
 use Rattle.wl_buses.specs.OneFrame.Machines.{no_frame_sample}
@@ -40,45 +40,45 @@ due_other = refl
 
 -- With a frame that is ready by its third bit station 0 begins at tick 1100. That reaches station 1 at tick 1109, before it decides by its quantum 112, at tick 1183: its frame waits.
 alone : edge_next (after 0) 0 ≡ None
-unfolding tick_of
+unfolding steady_tick
 alone = refl
 
 too_late : begins_next (after 0) 1 ≡ false
-unfolding tick_of
+unfolding steady_tick
 too_late = refl
 
 follows : (start_next (after 0)).from 1 ≡ 105
-unfolding tick_of
+unfolding steady_tick
 follows = refl
 
 last_third : last_next (after 0) 1 ≡ 0
-unfolding tick_of
+unfolding steady_tick
 last_third = refl
 
 -- With one that is ready a bit later station 0 begins at tick 1200. That reaches station 1 at tick 1209, after it has decided: it begins with its quantum 115, which finds the edge.
 both : begins_next (after 1) 1 ≡ true
-unfolding tick_of
+unfolding steady_tick
 both = refl
 
 with_it : (start_next (after 1)).place 1 ≡ 114
-unfolding tick_of
+unfolding steady_tick
 with_it = refl
 
 last_one : rest_next (after 1) 1 ≡ 105
-unfolding tick_of
+unfolding steady_tick
 last_one = refl
 
 -- With one that is ready two bits later station 0 decides by its quantum 127, too late: the start of frame of station 1 reaches it at tick 1223.
 loses : begins_next (after 2) 0 ≡ false
-unfolding tick_of
+unfolding steady_tick
 loses = refl
 
 found : edge_next (after 2) 0 ≡ Some 123
-unfolding tick_of
+unfolding steady_tick
 found = refl
 
 last_before : rest_next (after 2) 0 ≡ 110
-unfolding tick_of
+unfolding steady_tick
 last_before = refl
 
 -- a station that has sent its frames has none left

@@ -26,7 +26,7 @@ use Rattle.wl_buses.proofs.OneFrame.Machines.{FindNoErrors, LeastWins, SendStuff
 
 -- a clock of a tick a quantum
 abbrev unit : Steady
-unit = record { offset = 0; num = 1; den = 1 }
+unit = record { offset = 0; part = 0; num = 1; den = 1 }
 
 unit_tick : (k : ℕ) → steady_tick unit k ≡ k
 unit_tick k = let low = floor_low unit k in let high = floor_high unit k (omega arith) in omega arith

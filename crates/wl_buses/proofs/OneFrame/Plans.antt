@@ -1,7 +1,7 @@
 -- The line of a plan is that of its stations.
 use Rattle.std.proofs.Common.{◌≡◌, ap, sym, [], arith}
 use Rattle.std.specs.List.{list_any}
-use Rattle.wl_clock.specs.Timing.{tick_of}
+use Rattle.wl_phase.proofs.Callers.{rate_tick}
 use Rattle.wl_plan.specs.declared.plan.Plan.{Plan}
 use Rattle.wl_plan.specs.Checked.{CheckedIsSound}
 use Rattle.wl_plan.specs.PlanLine.{is_at, line_of, setup_at}
@@ -18,7 +18,7 @@ line_of_plan sound plan s of calm =
       causal = (sound plan of.checked).causal;
       nodes = count;
       drives = λ i levels less. ap (λ h. is_dominant h.drive) (stays_on (setup_at plan i) levels (of.stays i (omega arith)));
-      ticks = λ i k less. ap (λ t. tick_of t k) (of.rates i (omega arith));
+      ticks = λ i k less. rate_tick (of.rates i (omega arith)) k;
       segments = λ i less. sym (of.lengths i (omega arith));
       delays = λ i k ni nk. of.delays i k (omega arith) (omega arith);
       undisturbed = λ i t less. ap (list_any (is_at plan i t)) calm;

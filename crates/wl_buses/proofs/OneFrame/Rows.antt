@@ -1,7 +1,7 @@
 -- Worked stations, by computation.
 use Rattle.std.proofs.Common.{◌≡◌, ℕ, zero, suc, ◌+◌, Bool, true, false, [], ◌∷◌, Some, refl}
 use Rattle.wl_level.specs.declared.Level.TheVariants.{Dominant}
-use Rattle.wl_clock.specs.Timing.{tick_of}
+use Rattle.wl_phase.specs.Clocks.{steady_tick}
 use Rattle.wl_bound.specs.Families.{Bus}
 use Rattle.wl_bound.specs.Rooms.{beyond_jump, left_over}
 use Rattle.wl_bound.specs.Terms.{drift, jump, look}
@@ -58,11 +58,11 @@ abbrev b : Start
 b = record { drives = λ i. true; due = λ i. 20 + i; place = places; from = λ i. 20 }
 
 edge : reaches_at s b 0 1 ≡ 209
-unfolding tick_of
+unfolding steady_tick
 edge = refl
 
 back : reaches_at s b 1 0 ≡ 226
-unfolding tick_of
+unfolding steady_tick
 back = refl
 
 -- instants of both in half ticks: 0 begins less than a way before 1 is there, and 1 less than a way and its look before
@@ -133,11 +133,11 @@ abbrev dues : ℕ → ℕ
 dues i = 20 + i
 
 begins_alone : from_after s both dues 2 0 ≡ 20
-unfolding tick_of
+unfolding steady_tick
 begins_alone = refl
 
 follows : from_after s both dues 2 1 ≡ 20
-unfolding tick_of
+unfolding steady_tick
 follows = refl
 
 moved_place : place_found s dues 1 (Some 20) ≡ 19

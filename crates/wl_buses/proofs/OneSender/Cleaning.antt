@@ -13,7 +13,7 @@ use Rattle.wl_plan.specs.PlanLine.{no_setup, setup_at}
 use Rattle.wl_phase.specs.Clocks.{Steady, steady_tick}
 use Rattle.wl_phase.specs.InStep.{arrival}
 use Rattle.wl_topology.specs.Limits.{never}
-use Rattle.wl_phase.proofs.Callers.{tick_up}
+use Rattle.wl_phase.proofs.Callers.{rate_tick, tick_up}
 use Rattle.wl_bound.specs.Conditions.{plain}
 use Rattle.wl_bound.specs.Senders.{lone_sender}
 use Rattle.wl_bound.specs.Families.{Buses, bus_of, delay_in, lengths_in, longest_in, no_member, only_listens, sends_in, shortest_in, units}
@@ -145,8 +145,8 @@ module _ (f : Buses) (plan : Plan) (clocks : ℕ → Steady) (sender : ℕ) (one
           → steady_tick (clocks j) (10 * bit_quanta (lengths_of b j) + sample_at (lengths_of b j)) < arrival (sender_of b) (listener_of b j) 0
       others j p ready_by =
           let by = idle_by j p in
-          let first_is = ap (λ t. tick_of t (11 * bit_quanta (setup_at plan j).segments)) (steady.rates j p.0) in
-          let own_is = ap (λ t. tick_of t ready) (steady.rates sender one.inside) in
+          let first_is = rate_tick (steady.rates j p.0) (11 * bit_quanta (setup_at plan j).segments) in
+          let own_is = rate_tick (steady.rates sender one.inside) ready in
           let low = up_to j p.0 (10 * bit_quanta (lengths_of b j) + sample_at (lengths_of b j)) (11 * bit_quanta (setup_at plan j).segments) (omega arith) in
           let bits : suc decides * bit_quanta l ≡ decides * bit_quanta l + bit_quanta l = omega arith in
           let high = up_to sender one.inside ready (suc decides * bit_quanta l + 0 * bit_quanta l) (omega arith) in

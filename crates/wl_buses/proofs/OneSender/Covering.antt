@@ -8,7 +8,7 @@ use Rattle.wl_node.specs.declared.setup.Queued.{Queued}
 use Rattle.wl_plan.specs.declared.plan.Plan.{Plan}
 use Rattle.wl_plan.specs.Checked.{IsChecked}
 use Rattle.wl_plan.specs.PlanLine.{setup_at}
-use Rattle.wl_phase.specs.Clocks.{Steady, steady_timing}
+use Rattle.wl_phase.specs.Clocks.{HasRate, Steady}
 use Rattle.wl_bound.specs.Covered.{is_covered, is_uncovered}
 use Rattle.wl_bound.specs.Verdicts.{idle_at, is_ready_from}
 use Rattle.wl_buses.specs.BothProofs.Plans.{IsSteadyPlan}
@@ -46,7 +46,7 @@ module _ (plan : Plan) (covered : is_covered plan ≡ true) where
       not-false (is_ready_from (setup_at plan i) (setup_at plan i).queue (idle_at (setup_at plan j)))
       (ap (λ v. v && not (is_ready_from (setup_at plan i) (setup_at plan i).queue (idle_at (setup_at plan j)))) (sym other) ∙ busy)
 
-  pub steady_plan : (clocks : ℕ → Steady) → IsChecked plan → ((i : ℕ) → i < length plan.nodes → (setup_at plan i).clock ≡ steady_timing (clocks i))
+  pub steady_plan : (clocks : ℕ → Steady) → IsChecked plan → ((i : ℕ) → i < length plan.nodes → HasRate (setup_at plan i).clock (clocks i))
       → ((i : ℕ) → i < length plan.nodes → (setup_at plan i).segments.sync ≡ Book) → IsSteadyPlan plan clocks
   steady_plan clocks checked rates book = record {
     checked = checked;

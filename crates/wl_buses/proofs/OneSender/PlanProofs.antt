@@ -4,11 +4,11 @@ use Rattle.std.specs.Prelude.{◌==◌}
 use Rattle.std.specs.List.{list_any}
 use Rattle.std.proofs.lemmas.Bool.{cases_Bool, cases_eq, and_from, and_parts, ne_eqb}
 use Rattle.wl_level.specs.declared.Level.{Level}
-use Rattle.wl_clock.specs.Timing.{tick_of}
 use Rattle.wl_topology.specs.Delays.{Cable, IsTopology, delay_of, place_at, propagation_of}
 use Rattle.wl_topology.specs.Limits.{never}
 use Rattle.wl_frame.specs.Grammar.{Content}
 use Rattle.wl_phase.specs.Clocks.{Steady}
+use Rattle.wl_phase.proofs.Callers.{rate_tick}
 use Rattle.wl_plan.specs.declared.plan.Plan.{Plan}
 use Rattle.wl_plan.specs.Checked.{CheckedIsSound}
 use Rattle.wl_plan.specs.PlanLine.{is_at, setup_at}
@@ -83,7 +83,7 @@ module _ (sound : CheckedIsSound) (plan : Plan) (clocks : ℕ → Steady) (is : 
     sender = inside;
     other = other;
     drives = λ i levels less. ap (λ h. is_dominant h.drive) (stays_on (setup_at plan i) levels (is.stays i less));
-    ticks = λ i k less. ap (λ t. tick_of t k) (is.rates i less);
+    ticks = λ i k less. rate_tick (is.rates i less) k;
     steady = λ i less. steady_at plan is.checked i less (clocks i) (is.rates i less);
     book = λ i less. record { lengths = lengths_at plan is.checked i less; book = is.book i less };
     undisturbed = λ i t less. ap (list_any (is_at plan i t)) is.undisturbed;

@@ -11,14 +11,14 @@ use Rattle.wl_phase.specs.InStep.{Sender, Listener, AreNear}
 use Rattle.wl_phase.specs.Answer.{IsInTime, ComesAfterSample, EndsAfterMove, EndsBeforeSample, EndsInTime, FitsBit}
 
 abbrev s : Sender
-s = record { clock = record { offset = 0; num = 100; den = 1 }; bit_quanta = 10; from = 110; bits = [] }
+s = record { clock = record { offset = 0; part = 0; num = 100; den = 1 }; bit_quanta = 10; from = 110; bits = [] }
 
 -- 100 ticks from the sender
 abbrev fast : Listener
-fast = record { clock = record { offset = 0; num = 99; den = 1 }; lengths = l; delay = 100 }
+fast = record { clock = record { offset = 0; part = 0; num = 99; den = 1 }; lengths = l; delay = 100 }
 
 abbrev slow : Listener
-slow = record { clock = record { offset = 0; num = 101; den = 1 }; lengths = l; delay = 100 }
+slow = record { clock = record { offset = 0; part = 0; num = 101; den = 1 }; lengths = l; delay = 100 }
 
 fast_near : AreNear 1000 99 1 l
 fast_near = record { slow = omega arith; fast = omega arith; sample = omega arith }
@@ -42,7 +42,7 @@ fast_after = omega arith
 
 -- 10 ticks farther from the sender, and at the place of the other one, the slow one may sample too late: 1098 ticks are more than 1090
 abbrev far : Listener
-far = record { clock = record { offset = 0; num = 101; den = 1 }; lengths = l; delay = 110 }
+far = record { clock = record { offset = 0; part = 0; num = 101; den = 1 }; lengths = l; delay = 110 }
 
 fast_too_early : ComesAfterSample s fast far 0 → ⊥
 fast_too_early h = omega arith

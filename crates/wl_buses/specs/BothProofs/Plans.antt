@@ -4,7 +4,7 @@ use Rattle.wl_segments.specs.declared.SyncRules.TheVariants.{Book}
 use Rattle.wl_plan.specs.declared.plan.Plan.{Plan}
 use Rattle.wl_plan.specs.Checked.{IsChecked}
 use Rattle.wl_plan.specs.PlanLine.{setup_at}
-use Rattle.wl_phase.specs.Clocks.{Steady, steady_timing}
+use Rattle.wl_phase.specs.Clocks.{HasRate, Steady}
 use Rattle.wl_bound.specs.Conditions.{plain}
 use Rattle.wl_bound.specs.Families.{Buses, longest_in, member_at, shortest_in, units}
 
@@ -16,7 +16,7 @@ NoneLeaves plan = (i : ℕ) → i < length plan.nodes → (setup_at plan i).unti
 pub record IsSteadyPlan (plan : Plan) (clocks : ℕ → Steady) : Type 0 where
   pub checked : IsChecked plan
   pub two : 2 ≤ length plan.nodes
-  pub rates : (i : ℕ) → i < length plan.nodes → (setup_at plan i).clock ≡ steady_timing (clocks i)
+  pub rates : (i : ℕ) → i < length plan.nodes → HasRate (setup_at plan i).clock (clocks i)
   pub book : (i : ℕ) → i < length plan.nodes → (setup_at plan i).segments.sync ≡ Book
   pub undisturbed : plan.disturbances ≡ []
   pub stays : NoneLeaves plan

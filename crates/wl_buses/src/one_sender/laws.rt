@@ -3,7 +3,7 @@
 ghost use Rattle.std.specs.Prelude.{◌≡◌, ◌≢◌, ℕ, ◌-◌, ◌<◌, ◌≤◌, ◌&&◌, nat_le, Bool, true, false, List, [], ◌∷◌, length, None};
 ghost use Rattle.wl_level.specs.declared.Level.{Level};
 ghost use Rattle.wl_frame.specs.Grammar.{Content};
-ghost use Rattle.wl_phase.specs.Clocks.{Steady, steady_timing};
+ghost use Rattle.wl_phase.specs.Clocks.{HasRate, Steady};
 ghost use Rattle.wl_topology.specs.Driven.{driven};
 ghost use Rattle.wl_plan.specs.declared.plan.Plan.{Plan};
 ghost use Rattle.wl_plan.specs.Checked.{IsChecked};
@@ -155,7 +155,7 @@ pub fn one_sender_is_clean()
 /// that for each node with frames as the only sender.
 pub fn a_covered_plan_is_one_of_these()
     ensures steady { (plan : Plan) (clocks : ℕ → Steady) → is_covered plan ≡ true → IsChecked plan
-        → ((i : ℕ) → i < length plan.nodes → (setup_at plan i).clock ≡ steady_timing (clocks i))
+        → ((i : ℕ) → i < length plan.nodes → HasRate (setup_at plan i).clock (clocks i))
         → ((i : ℕ) → i < length plan.nodes → (setup_at plan i).segments.sync ≡ Book) → IsSteadyPlan plan clocks }
     ensures sender { (plan : Plan) (sender : ℕ) (first : Queued) (later : List Queued) → is_covered plan ≡ true
         → sender < length plan.nodes → (setup_at plan sender).queue ≡ first ∷ later

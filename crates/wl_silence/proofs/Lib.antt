@@ -1,0 +1,4 @@
+mod Queues
+mod Alike
+mod Bits
+mod Rested

@@ -1,0 +1,98 @@
+-- A line that is silent for a while, whatever was on it before, and what it does then.
+use Rattle.std.specs.Prelude.{◌≡◌, ℕ, suc, ◌+◌, ◌-◌, ◌*◌, ◌<◌, ◌≤◌, false, true, List, [], length}
+use Rattle.wl_level.specs.declared.Level.{Level}
+use Rattle.wl_level.specs.Levels.{is_dominant}
+use Rattle.wl_confine.specs.declared.Mode.TheVariants.{Active}
+use Rattle.wl_confine.specs.Counts.{mode_of}
+use Rattle.wl_level.specs.declared.Level.TheVariants.{Recessive}
+use Rattle.wl_segments.specs.Lengths.{Lengths, bit_quanta, sample_at}
+use Rattle.wl_machine.specs.Judged.{stretch_of}
+use Rattle.wl_node.specs.declared.setup.NodeSetup.{NodeSetup}
+use Rattle.wl_node.specs.History.{History, counters_of, staying_history, unsent_of}
+use Rattle.wl_phase.specs.Clocks.{steady_tick}
+use Rattle.wl_phase.specs.InStep.{seen_before}
+use Rattle.wl_phase.specs.Ways.{sample_way}
+use Rattle.wl_plan.specs.Line.{Line}
+use Rattle.wl_plan.specs.Simulation.{AreInside, level, seen}
+use Rattle.wl_plan.specs.Sound.{IsCausal}
+use Rattle.wl_wire.specs.InStep.{AreSoundFrames}
+use Rattle.wl_heal.specs.Silence.{is_off}
+use Rattle.wl_buses.specs.BothProofs.Queues.{queued_contents}
+use Rattle.wl_buses.specs.OneFrame.Nodes.{IsRun, clock_sees}
+use Rattle.wl_buses.specs.OneFrame.Stations.{Stations}
+use Rattle.wl_buses.specs.CleanLines.Lines.{LineGetsThrough, line_history, waiting_with}
+use Rattle.wl_silence.specs.Restarts.{GoesOnAs, line_since, setup_since, stations_since}
+
+-- The nodes of a line are these stations. Nothing disturbs them from the tick `from` on.
+pub record IsLineOfSince (l : Line) (setups : ℕ → NodeSetup) (s : Stations) (from : ℕ) : Type 0 where
+  pub causal : IsCausal l
+  pub nodes : s.count ≡ l.nodes
+  pub drives : (i : ℕ) (levels : List Level) → i < l.nodes → l.drives i levels ≡ is_dominant (staying_history (setups i) levels).drive
+  pub ticks : (i k : ℕ) → i < l.nodes → l.instant i k ≡ steady_tick (s.clocks i) k
+  pub segments : (i : ℕ) → i < l.nodes → (setups i).segments ≡ s.lengths i
+  pub delays : (i k : ℕ) → i < l.nodes → k < l.nodes → s.delay i k ≡ l.delay i k
+  pub undisturbed : (i t : ℕ) → i < l.nodes → from ≤ t → l.disturbed i t ≡ false
+
+-- So many bits of each node are in the silence: two up to its first sample, 32 that leave the bus idle to it, and two for a start of frame that doesn't come (Bosch CAN 2.0 part B, sections 2 and 3.2). In eleven of these
+-- a node that powers up may join.
+abbrev pub silence_bits : ℕ
+silence_bits = 36
+
+-- A node in a silence from its quantum `first` on: it sees recessive in all these bits. It drives nothing up to the last one, and is on the bus and error active.
+pub record IsSilentNode (setup : NodeSetup) (levels : ℕ → Level) (node : ℕ → History) (first : ℕ) : Type 0 where
+  pub silent : (q : ℕ) → first ≤ q → q ≤ first + silence_bits * bit_quanta setup.segments → levels q ≡ Recessive
+  pub drives : (q : ℕ) → first ≤ q → q ≤ first + (silence_bits - 1) * bit_quanta setup.segments → (node (suc q)).drive ≡ Recessive
+  pub active : (q : ℕ) → first ≤ q → q ≤ first + (silence_bits - 1) * bit_quanta setup.segments → mode_of (counters_of (node (suc q))) ≡ Active
+  pub on : (q : ℕ) → first ≤ q → q ≤ first + (silence_bits - 1) * bit_quanta setup.segments → is_off (stretch_of (node (suc q)).inputs) ≡ false
+
+-- the quantum with which the 24th bit of a node in a silence begins, from its first sample on: a bit after its first one comes the next sample at the latest
+abbrev pub joins_at : NodeSetup → (levels : ℕ → Level) → (node : ℕ → History) → (first : ℕ) → ℕ
+joins_at setup levels node first = first + sample_way setup.segments (seen_before (clock_sees levels node) (first + sample_at setup.segments)) + 23 * bit_quanta setup.segments
+
+-- The sample of the eleventh bit of a node, counted from a bit of it on.
+abbrev pub eleventh_of : Lengths → ℕ
+eleventh_of l = 10 * bit_quanta l + sample_at l
+
+-- After its quantum `end` a node goes on as any node that powers up at its quantum `at` with the frames that it hasn't sent by then, if this one sees recessive in its first eleven bits.
+abbrev pub IsAsFresh : NodeSetup → (node : ℕ → History) → (at end : ℕ) → Type 0
+IsAsFresh setup node at end =
+    (levels : ℕ → Level) (fresh : ℕ → History) → IsRun (setup_since setup at (node (suc end))) levels fresh → ((q : ℕ) → q ≤ eleventh_of setup.segments → levels q ≡ Recessive)
+    → GoesOnAs setup at (node (suc end)) (fresh (suc (eleventh_of setup.segments))) (node (suc end))
+
+-- the last quantum of node i in a silence that begins with its quantum `first`
+abbrev pub last_silent : Stations → (first : ℕ → ℕ) → ℕ → ℕ
+last_silent s first i = first i + silence_bits * bit_quanta (s.lengths i)
+
+-- Nobody drives dominant from the tick `from` up to the tick `until`. From its quantum `first i` on node i is there, all that was driven before has passed it, and so many of its bits fit before `until`. It is on the
+-- bus and error active in all of them.
+pub record IsSilentFor (l : Line) (setups : ℕ → NodeSetup) (s : Stations) (from until : ℕ) (first : ℕ → ℕ) : Type 0 where
+  pub inside : until ≤ l.stop
+  pub quiet : (i t : ℕ) → i < l.nodes → from ≤ t → t < until → level l i t ≡ false
+  pub over : (i k : ℕ) → i < l.nodes → k < l.nodes → from + l.delay k i ≤ l.instant i (first i)
+  pub lasts : (i : ℕ) → i < l.nodes → l.instant i (last_silent s first i) < until
+  pub on : (i : ℕ) → i < l.nodes → is_off (stretch_of (line_history l setups i (first i)).inputs) ≡ false
+  pub active : (i k : ℕ) → i < l.nodes → first i ≤ k → k ≤ last_silent s first i → mode_of (counters_of (line_history l setups i k)) ≡ Active
+
+-- Frames of two nodes differ in format, identifier or RTR bit, and a node with frames may send. Some node has one left all the time.
+pub record HaveFramesLeft (l : Line) (setups : ℕ → NodeSetup) (s : Stations) (first : ℕ → ℕ) : Type 0 where
+  pub frames : AreSoundFrames s.count (λ i. queued_contents (setups i).queue)
+  pub none : (i : ℕ) → s.count ≤ i → (setups i).queue ≡ []
+  pub may : (i : ℕ) → i < s.count → 0 < length (setups i).queue → s.may_send i ≡ true
+  pub some : ℕ
+  pub inside : some < s.count
+  pub left : (k : ℕ) → first some ≤ k → k ≤ last_silent s first some → 0 < length (unsent_of (setups some) (line_history l setups some k))
+
+-- the nodes of the line from their quanta `at i` on, as nodes that power up then
+abbrev pub restarts : Line → (setups : ℕ → NodeSetup) → (at : ℕ → ℕ) → ℕ → NodeSetup
+restarts l setups at i = setup_since (setups i) (at i) (line_history l setups i (at i))
+
+-- The line is clean since the silence: its nodes go on as nodes that power up within it, each at its quantum `at i`, and all frames of these get through. The bus is what it is on their line. From the eleventh bit on each node
+-- is where the other one puts it.
+pub record IsCleanSince (l : Line) (setups : ℕ → NodeSetup) (s : Stations) (from : ℕ) (first : ℕ → ℕ) : Type 0 where
+  pub at : ℕ → ℕ
+  pub late : (i : ℕ) → i < s.count → first i ≤ at i
+  pub soon : (i : ℕ) → i < s.count → at i + 12 * bit_quanta (s.lengths i) ≤ last_silent s first i
+  pub through : LineGetsThrough (line_since l (restarts l setups at) at) (restarts l setups at) (waiting_with (restarts l setups at) (stations_since s at))
+  pub drives : (i t : ℕ) → i < l.nodes → from ≤ t → t < l.stop → level l i t ≡ level (line_since l (restarts l setups at) at) i t
+  pub goes : (i k : ℕ) → i < l.nodes → 11 * bit_quanta (s.lengths i) ≤ k → AreInside l i (at i + k)
+      → GoesOnAs (setups i) (at i) (line_history l setups i (at i)) (line_history (line_since l (restarts l setups at) at) (restarts l setups at) i k) (line_history l setups i (at i + k))
