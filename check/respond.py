@@ -23,6 +23,7 @@ import longest
 import random_plans
 
 T, LIMIT = 1_000_000, 1 << 90
+IDLE = 17  # by this bit of its own each node can be idle, as offsets are up to 40 quanta here: four bits
 ceil = lambda a, b: -(-a // b)
 
 
@@ -112,7 +113,7 @@ def bounds(plan, any_data):
                 if needed >= LIMIT or needed > 10**19: return bus, all_, False
                 if needed == m.window: break
                 m.window, grew = needed, True
-            wait, m.j, m.own_window = longest(bus, all_, m, blocked)
+            wait, m.j, m.own_window = worst(bus, all_, m, blocked)
             grew, m.wait = grew or wait != m.wait, wait
     return bus, all_, True
 
@@ -122,7 +123,7 @@ def shares(bus, all_, m, j, window):
     return [j * m.cost if e is m else ceil(bus.lead + (e.wait if e.level > m.level else 0) + window, e.period) * e.cost if e.field <= m.level else 0 for e in all_]
 
 
-def longest(bus, all_, m, blocked):
+def worst(bus, all_, m, blocked):
     """The longest wait of an instance of m, the first such instance, and its window."""
     window, best = 0, (0, 0, 0)
     for j in range(ceil(bus.lead + m.window, m.period)):
@@ -164,7 +165,7 @@ def moved(rng, plan):
     for x in plan["node"]:
         bit = 1 + x["prop"] + x["ps1"] + x["ps2"]
         node = dict(x, offset=rng.randrange(40 * x["quantum"]), ppm=rng.choice([-1, 0, 1]) * x["tolerance"])
-        node["frame"] = [dict(f, ready=12 * bit + (at + rng.randrange(bit) if rng.random() < 0.7 else rng.randrange(2 * f["every"]))) for f in x["frame"]]
+        node["frame"] = [dict(f, ready=IDLE * bit + (at + rng.randrange(bit) if rng.random() < 0.7 else rng.randrange(2 * f["every"]))) for f in x["frame"]]
         nodes.append(node)
     return dict(plan, node=nodes)
 
@@ -281,7 +282,7 @@ def loaded(rng, load, order):
     for x in plan["node"]: x["queue"] = rng.choice(["fifo", "priority"]) if order == "both" else order
     for x, f in frames:
         f.pop("jitter", None), f.pop("deadline", None)
-        f["every"], f["ready"] = max(1, round(f["every"] * now / load)), 12 * (1 + x["prop"] + x["ps1"] + x["ps2"])
+        f["every"], f["ready"] = max(1, round(f["every"] * now / load)), IDLE * (1 + x["prop"] + x["ps1"] + x["ps2"])
     return dict(plan, end=rng.randint(4, 16) * 1000 * plan["node"][0]["quantum"] * 16)
 
 
@@ -292,7 +293,7 @@ def changed(rng, plan):
         x = rng.choice(nodes)
         f, bit = rng.choice(x["frame"]), 1 + x["prop"] + x["ps1"] + x["ps2"]
         if rng.random() < 0.2: x["offset"] = rng.randrange(40 * x["quantum"])
-        else: f["ready"] = max(12 * bit, f["ready"] + rng.choice([-1, 1]) * rng.randrange(1, rng.choice([3, bit, 20 * bit, 200 * bit])))
+        else: f["ready"] = max(IDLE * bit, f["ready"] + rng.choice([-1, 1]) * rng.randrange(1, rng.choice([3, bit, 20 * bit, 200 * bit])))
     return dict(plan, node=nodes)
 
 

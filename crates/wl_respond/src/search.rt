@@ -15,9 +15,9 @@ use wl_bound::Family;
 /// How often the window of a message is widened at most.
 const MOST_STEPS: u32 = 1 << 24;
 
-/// How many shares of messages in windows of instances are counted at most, for all messages. With half of it more messages of a great bus have the
-/// bound by one window; with twice of it a bus of 256 messages may take twice as long.
-const MOST_SHARES: usize = 1 << 24;
+/// How many shares are counted at most in the windows of all instances: a share is one message in a window of another. With half of it more messages
+/// of a great bus have the bound by one window. With twice of it 256 messages may take 0.3 s longer.
+const MOST_SHARES: usize = 1 << 26;
 
 /// A load of 100 %.
 const FULL: u128 = 1 << 40;
