@@ -35,11 +35,6 @@ pub ok_so : {A E : Type 0} {P Q : A → Type 0} (r : Result A E) → ((x : A) �
 ok_so (Ok x) so h = so x h
 ok_so (Err e) so h = h
 
--- two facts of the answer that came
-pub ok_both : {A E : Type 0} {P Q : A → Type 0} (r : Result A E) → IfOk r P → IfOk r Q → IfOk r (λ x. P x × Q x)
-ok_both (Ok x) h g = (h, g)
-ok_both (Err e) h g = tt
-
 -- what was done with a whole text was done with what was read
 pub pages_whole : {S T : Type 0} (gives : S → Answer → S → Type 0) (takes : T → Answer → T → Type 0) (tick : Tick) (asked : Option Window) (s s' : S) (t t' : T) (text : List ℕ)
     → ReadsUpTo gives s most_bytes text reading.End s' → (r : Result (Unit {0}) RunFault) → PagesText takes tick asked text t t' r → PagesAsked gives takes tick asked s s' t t' r

@@ -8,8 +8,17 @@ use Rattle.wl_engines.specs.declared.fault.RunFault.{RunFault}
 use Rattle.wl_engines.specs.declared.fault.RunFault.TheVariants as run
 use Rattle.wl_engines.specs.declared.plan.Report.{Report}
 use Rattle.wl_engines.specs.Output.{WritesAnswer}
-use Rattle.wl_engines.specs.Plans.{IsReportOutput}
+use Rattle.wl_report.specs.Report.{report_text}
+use Rattle.wl_serial.specs.Outcome.{outcome_of, totals_of}
+use Rattle.wl_engines.specs.Plans.{IsReportOutput, is_clean_run, shown_totals}
 use Rattle.wl_engines.specs.Workers.{CanWork, IsWorkFault, RunsByWorkersAs}
+
+-- the report of the workers, and its verdict
+pub is_report : (brief : Bool) (plan : Plan) (names : List (List ℕ)) (made : Result Report RunFault)
+    → IfOk made (λ x. x.text.items ≡ report_text (shown_totals brief (totals_of (outcome_of plan)))) → IfOk made (λ x. x.clean ≡ is_clean_run plan)
+    → IfOk made (λ x. IsReportOutput brief plan names x.text.items x.clean)
+is_report brief plan names (Ok x) text clean = (text, clean)
+is_report brief plan names (Err fault) text clean = tt
 
 module _ {S T : Type 0} (gives : S → Answer → S → Type 0) (takes : T → Answer → T → Type 0) (brief : Bool) (workers : ℕ) (s s' : S) (t t' : T) where
   -- the workers came to no outcome

@@ -1,5 +1,5 @@
 -- The page of a run goes out (this project's profile).
-use Rattle.std.specs.Prelude.{◌≡◌, ◌≢◌, ℕ, not, List, Option, Some, None, Result, Ok, Err, string_bytes}
+use Rattle.std.specs.Prelude.{◌≡◌, ◌≢◌, ℕ, Bool, not, List, Option, Some, None, Result, Ok, Err, string_bytes}
 use Rattle.wl_device.specs.Bounded.{ReadsUpTo}
 use Rattle.wl_device.specs.Devices.{Answer, Writes}
 use Rattle.wl_device.specs.declared.bounded.Ended.{Ended}
