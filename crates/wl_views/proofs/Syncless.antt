@@ -1,5 +1,5 @@
 -- If no synchronisation may be picked, none is.
-use Rattle.std.proofs.Common.{◌≡◌, ◌∙◌, refl, ap, arith, ℕ, suc, ◌<◌, ◌&&◌, Bool, true, false, List, [], ◌∷◌, ◌++◌, length, fold, Option, None, Some, option_map}
+use Rattle.std.proofs.Common.{◌≡◌, refl, arith, ℕ, suc, ◌&&◌, Bool, true, false, List, [], ◌∷◌, fold, Option, None, Some, option_map}
 use Rattle.std.specs.List.{All, filter}
 use Rattle.std.proofs.lemmas.List.Elements.{All-append, All-cons, All-nil}
 use Rattle.wl_level.specs.declared.Level.{Level}

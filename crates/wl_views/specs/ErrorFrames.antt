@@ -1,6 +1,6 @@
 -- The log of can-utils with error frames, as Linux has them (linux/can/error.h): errors that nodes find, and their modes. `candump -L` writes such a frame under its class
 -- with the flag 0x20000000 as 8 digits, and has 8 bytes.
-use Rattle.std.specs.Prelude.{ℕ, ◌+◌, nat_lt, min, Bool, List, [], ◌∷◌, ◌++◌, codes, if◌then◌else◌, None, Some}
+use Rattle.std.specs.Prelude.{ℕ, ◌+◌, nat_lt, min, Bool, List, [], ◌++◌, codes, if◌then◌else◌, None, Some}
 use Rattle.std.specs.List.{filter, flat_map}
 use Rattle.wl_confine.specs.Counts.{Counts, mode_of}
 use Rattle.wl_confine.specs.declared.ErrorKind.{ErrorKind}

@@ -1,8 +1,9 @@
 -- One sample more, or all events of the node.
-use Rattle.std.proofs.Common.{◌≡◌, ◌∙◌, ◌+◌, ◌<◌, ◌≤◌, ◌++◌, [], ◌∷◌, append-nil, ap, ap₂, sym, subst, arith, ℕ, List, length, map}
+use Rattle.std.proofs.Common.{◌≡◌, ◌∙◌, ◌≤◌, ◌++◌, [], ◌∷◌, append-nil, ap, ap₂, sym, subst, arith, ℕ, List, length, map}
 use Rattle.std.specs.List.{All, filter}
 use Rattle.wl_level.specs.declared.Level.{Level}
 use Rattle.wl_node.specs.declared.setup.NodeSetup.{NodeSetup}
+use Rattle.wl_node.specs.History.{history_of}
 use Rattle.wl_node.specs.Limits.{most_run_quanta}
 use Rattle.wl_plan.specs.declared.plan.Plan.{Plan}
 use Rattle.wl_plan.specs.PlanLine.{line_of, setup_at}
@@ -106,7 +107,9 @@ returns c =
     let there : NodeSetup = setup_at plan i in
     let told : List Noted → List (ℕ × (ℕ × Noted)) = λ es. c.args.told.now.items ++ filter (is_picked c.args.pick.now) (told_by there.clock i es) in
     let levels : List Level = (history (line_of plan) plan.end).seen i in
-    let all : (replay_of there (given_by plan i c.loop-quantum.samples)).1 ≡ events_at_end plan i =
-    ap (λ (xs : List (ℕ × Level)). (replay_of there xs).1) (c.next.ensures.all c.in_default.is) ∙ all_replayed there levels
+    let so_far : List Noted = (replay_of there (given_by plan i c.loop-quantum.samples)).1 in
+    let all : so_far ≡ events_at_end plan i =
+    ◌∙◌ {b = (replay_of there (history_of there levels).samples).1}
+    (ap (λ (xs : List (ℕ × Level)). (replay_of there xs).1) (c.next.ensures.all c.in_default.is)) (all_replayed there levels)
     in
-    c.loop-quantum.invariant.told ∙ ap told all
+    ◌∙◌ {b = told so_far} c.loop-quantum.invariant.told (ap told all)

@@ -1,5 +1,5 @@
 -- What is said of the samples is after how the node was synchronised.
-use Rattle.std.proofs.Common.{◌≡◌, ◌∙◌, ◌++◌, ap, sym, List, append_assoc, ℕ}
+use Rattle.std.proofs.Common.{◌∙◌, ◌++◌, ap, sym, List, append_assoc, ℕ}
 use Rattle.std.specs.List.{filter}
 use Rattle.std.proofs.lemmas.List.Elements.{filter-append}
 use Rattle.wl_trace.specs.declared.event.Noted.{Noted}

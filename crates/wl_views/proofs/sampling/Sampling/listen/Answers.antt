@@ -1,5 +1,5 @@
 -- The line stays up to its next change.
-use Rattle.std.proofs.Common.{◌≡◌, ◌∙◌, ◌<◌, ◌≤◌, ap, sym, subst, arith, inl, inr, get_or, ℕ, List}
+use Rattle.std.proofs.Common.{◌≡◌, ◌∙◌, ◌<◌, ◌≤◌, ap, sym, subst, arith, inl, inr, get_or, ℕ}
 use Rattle.std.proofs.lemmas.Bool.{cases_lt}
 use Rattle.wl_clock.specs.Timing.{tick_of}
 use Rattle.wl_level.specs.Levels.{level_of}

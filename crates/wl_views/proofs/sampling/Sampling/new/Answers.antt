@@ -1,8 +1,8 @@
 -- Nothing was seen.
-use Rattle.std.proofs.Common.{◌≡◌, ◌∙◌, [], ap, subst, arith, ℕ, List}
+use Rattle.std.proofs.Common.{◌≡◌, ◌∙◌, [], ap, subst, arith}
 use Rattle.wl_node.specs.declared.setup.NodeSetup.{NodeSetup}
 use Rattle.wl_node.proofs.Callers.{history_begins}
-use Rattle.wl_node.specs.History.{History, history_of}
+use Rattle.wl_node.specs.History.{History}
 use Rattle.wl_plan.specs.declared.plan.Plan.{Plan}
 use Rattle.wl_plan.specs.PlanLine.{setup_at}
 use Rattle.wl_plan.specs.Simulation.{seen}
