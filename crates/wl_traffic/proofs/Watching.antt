@@ -1,5 +1,5 @@
 -- One sample more of a node: what it does after it, and the spans.
-use Rattle.std.proofs.Common.{◌≡◌, ◌∙◌, refl, sym, ap, ap₂, arith, inl, inr, ℕ, zero, suc, ◌+◌, ◌<◌, ◌≤◌, ◌||◌, max, Bool, true, false, cond, List, [], ◌∷◌, ◌++◌, length, map, fold, get_or, zero-add, Option, Some, None}
+use Rattle.std.proofs.Common.{◌≡◌, ◌∙◌, refl, sym, subst, ap, ap₂, arith, add-one, inl, inr, ℕ, zero, suc, ◌+◌, ◌<◌, ◌≤◌, ◌||◌, max, Bool, true, false, cond, List, [], ◌∷◌, ◌++◌, length, map, fold, get_or, zero-add, Option, Some, None}
 use Rattle.std.specs.Prelude.{nat_lt}
 use Rattle.std.specs.List.{list_any, range_with_len}
 use Rattle.std.proofs.lemmas.Bool.{cases_lt}
@@ -20,10 +20,14 @@ use Rattle.wl_traffic.specs.States.{doing_after, past_of_samples, sample_tick, s
 use Rattle.wl_traffic.specs.Waits.{final_sample}
 use Rattle.wl_traffic.specs.Watching.{queue_by_samples}
 
--- functions that agree on numbers give the same list
-same_map : {X : Type 0} (f g : ℕ → X) (a n : ℕ) → ((k : ℕ) → a ≤ k → k < a + n → f k ≡ g k) → map f (range_with_len a n) ≡ map g (range_with_len a n)
-same_map f g a zero h = refl
-same_map f g a (suc n) h = ap₂ (λ x xs. x ∷ xs) (h a (omega arith) (omega arith)) (same_map f g (a + 1) n (λ k from below. h k (omega arith) (omega arith)))
+-- functions that agree below n give the same spans
+same_spans : (f g : ℕ → Span) (n : ℕ) → ((k : ℕ) → k < n → f k ≡ g k) → map f (range_with_len 0 n) ≡ map g (range_with_len 0 n)
+same_spans f g zero h = refl
+same_spans f g (suc n) h =
+    subst (λ (m : ℕ). map f (range_with_len 0 m) ≡ map g (range_with_len 0 m)) (add-one n)
+    (map-range_with_len_more f 0 n n (zero-add n)
+    ∙ ap₂ (λ (ys : List Span) (y : Span). ys ++ y ∷ []) (same_spans f g n (λ k below. h k (omega arith))) (h n (omega arith))
+    ∙ sym (map-range_with_len_more g 0 n n (zero-add n)))
 
 -- one element more is no other one
 get_before : (xs : List (ℕ × Level)) (s d : ℕ × Level) (k : ℕ) → k < length xs → get_or (xs ++ s ∷ []) k d ≡ get_or xs k d
@@ -98,7 +102,7 @@ module _ (setup : NodeSetup) where
         ap (λ (n : ℕ). map (span_at setup end all) (range_with_len 0 n)) (long xs s)
         ∙ map-range_with_len_more (span_at setup end all) 0 (length xs) (length xs) (zero-add (length xs))
         ∙ ap₂ (λ (ys : List Span) (y : Span). ys ++ y ∷ [])
-        (same_map (span_at setup end all) (span_at setup at xs) 0 (length xs) (λ k from below. span_before k (omega (arith, below)))) span_last
+        (same_spans (span_at setup end all) (span_at setup at xs) (length xs) span_before) span_last
 
     -- what holds of one of them
     pub any_more : (p : Span → Bool) → list_any p (spans_of setup end all) ≡ (list_any p (spans_of setup at xs) || p last_span)
