@@ -2,3 +2,6 @@ mod Queues
 mod Alike
 mod Bits
 mod Rested
+mod Moved
+mod Lines
+mod PoweredUp

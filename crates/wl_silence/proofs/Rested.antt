@@ -300,6 +300,11 @@ module _ (laws : SilentClock) (leaves : LeavesIdle) (setup : NodeSetup) (book : 
   pub rested_fresh : IsAsFresh setup node joins (joins + eleventh)
   rested_fresh = subst (λ a. IsAsFresh setup node a (a + eleventh)) at_joins fresh_at
 
+  pub rested_none : head_by setup.order (unsent_of setup (node (suc (joins + eleventh)))) (joins + eleventh) ≡ None
+  rested_none =
+      subst (λ a. head_by setup.order (unsent_of setup (node (suc (a + eleventh)))) (a + eleventh) ≡ None) at_joins
+      (ap (λ q. head_by setup.order (unsent_of setup (node (suc q))) (at + eleventh)) at_is ∙ head_none_then)
+
   pub rested_unready : (j : ℕ) → joins + (12 + j) * B ≤ limit → head_by setup.order (unsent_of setup (node (suc (joins + eleventh)))) (joins + ((11 + j) * B + S)) ≡ None
   rested_unready j =
       subst (λ a. a + (12 + j) * B ≤ limit → head_by setup.order (unsent_of setup (node (suc (a + eleventh)))) (a + ((11 + j) * B + S)) ≡ None) at_joins
