@@ -5,3 +5,4 @@ mod Rested
 mod Moved
 mod Lines
 mod PoweredUp
+mod Through

@@ -87,10 +87,10 @@ module _ (laws : SilentLaws) (l : Line) (setups : ℕ → NodeSetup) (s : Statio
   long : 1 < B
   long = let h = book.lengths.low in omega arith
 
-  up : (k m : ℕ) → k ≤ m → l.instant i k ≤ l.instant i m
+  pub up : (k m : ℕ) → k ≤ m → l.instant i k ≤ l.instant i m
   up k m less = laws.lines.clock_later l i k m of.causal inside less
 
-  after : (k q : ℕ) → k < l.nodes → first i ≤ q → from + l.delay k i ≤ l.instant i q
+  pub after : (k q : ℕ) → k < l.nodes → first i ≤ q → from + l.delay k i ≤ l.instant i q
   after k q there less = let a = is.over i k inside there in let b = up (first i) q less in omega arith
 
   -- what it sees and drives in the silence
@@ -125,7 +125,7 @@ module _ (laws : SilentLaws) (l : Line) (setups : ℕ → NodeSetup) (s : Statio
   pub on : (q : ℕ) → first i ≤ q → l.instant i q < until → is_off (stretch_of (node (suc q)).inputs) ≡ false
   on q less early = ap (λ h. is_off (stretch_of h.inputs)) (sym (history_is l setups i (suc q))) ∙ is.on i q inside less early
 
-  early : (q : ℕ) → q ≤ first i + 36 * B → l.instant i q < until
+  pub early : (q : ℕ) → q ≤ first i + 36 * B → l.instant i q < until
   early q less = let a = up q (first i + 36 * B) less in let b = is.lasts i inside in omega arith
 
   abbrev pub at : ℕ

@@ -76,7 +76,7 @@ module _ (laws : SilentLaws) (l : Line) (setups : ℕ → NodeSetup) (s : Statio
   node : (i : ℕ) → i < s.count → i < l.nodes
   node i inside = let e = of.nodes in omega arith
 
-  causal : IsCausal L
+  pub causal : IsCausal L
   causal = record {
     delays = of.causal.delays;
     clocks = λ i k inside. subst (λ n. l.instant i (at i + k) < l.instant i n) (let e : suc (at i + k) ≡ at i + suc k = omega arith in e) (of.causal.clocks i (at i + k) inside);
