@@ -26,8 +26,10 @@ module _ (s : Stations) (at : ℕ → ℕ) where
   pub room_since : (chase : ℕ → ℕ) → HasRoomForAll s chase → HasRoomForAll (stations_since s at) chase
   unfolding most_overrun
   room_since chase room w less may =
-      let r = room w less may in
-      (record {
-        catch = r.0.catch;
-        room = record { late_fits = r.0.room.late_fits; is_there = r.0.room.is_there; loops = r.0.room.loops; not_early = r.0.room.not_early };
-      }, r.1)
+      let r = room w less may in (
+        record {
+          catch = r.0.catch;
+          room = record { late_fits = r.0.room.late_fits; is_there = r.0.room.is_there; loops = r.0.room.loops; not_early = r.0.room.not_early };
+        },
+        r.1,
+      )

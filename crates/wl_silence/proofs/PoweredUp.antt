@@ -202,8 +202,11 @@ module _ (laws : SilentLaws) (l : Line) (setups : ℕ → NodeSetup) (s : Statio
     };
     inside = inside_is;
     may = may;
-    some = (left.some.0, has_is' left.some.0 left.some.1
-        ∙ lt-ltb 0 (length (R left.some.0).queue) (let h = left.some.2 in let e = length-map (unsent_of (setups left.some.0) (line_history l setups left.some.0 (joined l setups first left.some.0))) (ready_since (at left.some.0)) in omega arith));
+    some = (
+      left.some.0,
+      has_is' left.some.0 left.some.1
+          ∙ lt-ltb 0 (length (R left.some.0).queue) (let h = left.some.2 in let e = length-map (unsent_of (setups left.some.0) (line_history l setups left.some.0 (joined l setups first left.some.0))) (ready_since (at left.some.0)) in omega arith),
+    );
     later = λ i. omega arith;
     idle = idle_before;
   }

@@ -313,11 +313,12 @@ module _ (laws : SilentClock) (leaves : LeavesIdle) (setup : NodeSetup) (book : 
 -- so it is with each node in a silence
 pub as_fresh : (laws : SilentClock) → LeavesIdle → (setup : NodeSetup) (levels : ℕ → Level) (node : ℕ → History) (first : ℕ) → ByTheBook setup.segments → IsRun setup levels node → IsSilentNode setup levels node first
     → let at : ℕ = joins_at setup levels node first in
-      (first ≤ at) × (at + 12 * bit_quanta setup.segments ≤ first + silence_bits * bit_quanta setup.segments) × IsAsFresh setup node at (at + eleventh_of setup.segments)
+    (first ≤ at) × (at + 12 * bit_quanta setup.segments ≤ first + silence_bits * bit_quanta setup.segments) × IsAsFresh setup node at (at + eleventh_of setup.segments)
 as_fresh laws leaves setup levels node first book run is =
     let B : ℕ = bit_quanta setup.segments in
     let room : first + 35 * B + B ≤ first + 36 * B = omega arith in
-    let enough : first + 35 * B ≤ first + 35 * B = omega arith in
-    (rested_low laws leaves setup book levels node run first (first + 35 * B) (first + 36 * B) room enough is.silent is.drives is.active is.on,
-    rested_high laws leaves setup book levels node run first (first + 35 * B) (first + 36 * B) room enough is.silent is.drives is.active is.on,
-    rested_fresh laws leaves setup book levels node run first (first + 35 * B) (first + 36 * B) room enough is.silent is.drives is.active is.on)
+    let enough : first + 35 * B ≤ first + 35 * B = omega arith in (
+      rested_low laws leaves setup book levels node run first (first + 35 * B) (first + 36 * B) room enough is.silent is.drives is.active is.on,
+      rested_high laws leaves setup book levels node run first (first + 35 * B) (first + 36 * B) room enough is.silent is.drives is.active is.on,
+      rested_fresh laws leaves setup book levels node run first (first + 35 * B) (first + 36 * B) room enough is.silent is.drives is.active is.on,
+    )
