@@ -6,3 +6,4 @@ mod Moved
 mod Lines
 mod PoweredUp
 mod Through
+mod Shows

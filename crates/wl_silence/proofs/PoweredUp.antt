@@ -52,7 +52,7 @@ unsent_none : (order : QueueOrder) (frames : List Passed) → unsent_by order []
 unsent_none Fifo frames = drop_none _
 unsent_none Priority frames = none_left frames
 
-contents_since : (p : ℕ) (q : List Queued) → queued_contents (map (ready_since p) q) ≡ queued_contents q
+pub contents_since : (p : ℕ) (q : List Queued) → queued_contents (map (ready_since p) q) ≡ queued_contents q
 contents_since p [] = refl
 contents_since p (x ∷ more) = ap (λ l. x.frame ∷ l) (contents_since p more)
 

@@ -1,6 +1,6 @@
 //! Laws of a bus after a silence, each proved as the contract of a function that does nothing.
 
-ghost use Rattle.std.specs.Prelude.{◌≡◌, ◌+◌, ◌*◌, ◌≤◌, ℕ, true, List, take};
+ghost use Rattle.std.specs.Prelude.{◌≡◌, ◌+◌, ◌*◌, ◌<◌, ◌≤◌, ℕ, true, List, take};
 ghost use Rattle.wl_level.specs.declared.Level.{Level};
 ghost use Rattle.wl_segments.specs.Lengths.{bit_quanta};
 ghost use Rattle.wl_phase.specs.Ways.{ByTheBook};
@@ -9,6 +9,9 @@ ghost use Rattle.wl_plan.specs.declared.plan.Plan.{Plan};
 ghost use Rattle.wl_plan.specs.Checked.{IsChecked};
 ghost use Rattle.wl_plan.specs.Line.{Line};
 ghost use Rattle.wl_plan.specs.PlanLine.{line_of, setup_at};
+ghost use Rattle.wl_plan.specs.Simulation.{AreInside};
+ghost use Rattle.wl_frame.specs.Grammar.{Content};
+ghost use Rattle.wl_buses.specs.CleanLines.Lines.{line_history};
 ghost use Rattle.wl_bound.specs.Conditions.{IsSound};
 ghost use Rattle.wl_bound.specs.Families.{Bus, Buses};
 ghost use Rattle.wl_bound.specs.Rooms.{leaves_room, plain_bus};
@@ -24,7 +27,8 @@ ghost use Rattle.wl_buses.specs.NextFrames.Frames.{HasRoomForAll};
 ghost use Rattle.wl_node.specs.declared.setup.NodeSetup.{NodeSetup};
 ghost use Rattle.wl_node.specs.History.{History};
 ghost use Rattle.wl_silence.specs.Restarts.{GoesOnAs, IsUnharmed, history_on, setup_since};
-ghost use Rattle.wl_silence.specs.Silences.{HaveFramesLeft, IsAsFresh, IsCleanSince, IsLineOfSince, IsSilentFor, IsSilentNode, eleventh_of, joins_at, silence_bits};
+ghost use Rattle.wl_silence.specs.Silences.{HaveFramesLeft, IsAsFresh, IsCleanSince, IsLineOfSince, IsSilentFor, IsSilentNode, eleventh_of, joined, joins_at, silence_bits};
+ghost use Rattle.wl_silence.specs.Shown.{ShowsClean};
 ghost use Rattle.wl_silence.specs.SilentPlans.{HavePassed, undisturbed_plan};
 
 /// Law: a node goes on as one that powered up later with the frames that it hadn't sent then, if both are alike once. Both drive the same, and the
@@ -77,6 +81,17 @@ pub fn a_line_is_clean_after_a_silence()
     wl_buses::one_frame::laws::a_station_begins_its_bits();
     wl_buses::clean_lines::laws::all_frames_of_a_line_get_through();
 }
+
+/// Law: what that says of a node. One list of frames, each with its sender, is on the bus since then, and first frames of the list have passed each
+/// node. Its own it has sent, all others it has received. It has found no error since, and no counter of it has risen. What it has sent since,
+/// and what its queue still has, are the frames that were left in it, each once.
+pub fn what_a_clean_line_shows()
+    ensures { (l : Line) (setups : ℕ → NodeSetup) (s : Stations) (from : ℕ) (first : ℕ → ℕ) → s.count ≡ l.nodes
+        → IsCleanSince l setups s from first → (sender : ℕ → ℕ) × (content : ℕ → Content) × (count : ℕ)
+        × ((i k : ℕ) → i < l.nodes → joined l setups first i ≤ k → AreInside l i k
+        → ShowsClean (setups i) i sender content count (line_history l setups i (joined l setups first i))
+        (line_history l setups i k)) }
+{}
 
 /// Law: so it is with each plan on a bus that is proved for any senders, but with disturbances, and with power-ups at any time before the
 /// silence. Let all disturbances have passed. Wherever within its tolerance each clock lies, the bus is clean since such a silence.
