@@ -286,6 +286,8 @@ module _ (laws : SilentClock) (setup : NodeSetup) (book : ByTheBook setup.segmen
       silence_on k zero in_time = tt
       silence_on k (suc n) in_time =
           let e : suc k + n ≡ k + suc n = omega arith in
-          let early = earlier k n in_time in
-          (given_level k early, wants_none k (omega arith),
-          subst (λ s. IsSilence s (given_from (suc k) n)) (stretch_then k early) (silence_on (suc k) n (subst (λ j. place j + S ≤ limit) (sym e) in_time)))
+          let early = earlier k n in_time in (
+            given_level k early,
+            wants_none k (omega arith),
+            subst (λ s. IsSilence s (given_from (suc k) n)) (stretch_then k early) (silence_on (suc k) n (subst (λ j. place j + S ≤ limit) (sym e) in_time)),
+          )

@@ -2,3 +2,8 @@ mod Queues
 mod Alike
 mod Bits
 mod Rested
+mod Moved
+mod Lines
+mod PoweredUp
+mod Through
+mod Shows

@@ -300,6 +300,11 @@ module _ (laws : SilentClock) (leaves : LeavesIdle) (setup : NodeSetup) (book : 
   pub rested_fresh : IsAsFresh setup node joins (joins + eleventh)
   rested_fresh = subst (λ a. IsAsFresh setup node a (a + eleventh)) at_joins fresh_at
 
+  pub rested_none : head_by setup.order (unsent_of setup (node (suc (joins + eleventh)))) (joins + eleventh) ≡ None
+  rested_none =
+      subst (λ a. head_by setup.order (unsent_of setup (node (suc (a + eleventh)))) (a + eleventh) ≡ None) at_joins
+      (ap (λ q. head_by setup.order (unsent_of setup (node (suc q))) (at + eleventh)) at_is ∙ head_none_then)
+
   pub rested_unready : (j : ℕ) → joins + (12 + j) * B ≤ limit → head_by setup.order (unsent_of setup (node (suc (joins + eleventh)))) (joins + ((11 + j) * B + S)) ≡ None
   rested_unready j =
       subst (λ a. a + (12 + j) * B ≤ limit → head_by setup.order (unsent_of setup (node (suc (a + eleventh)))) (a + ((11 + j) * B + S)) ≡ None) at_joins
@@ -308,11 +313,12 @@ module _ (laws : SilentClock) (leaves : LeavesIdle) (setup : NodeSetup) (book : 
 -- so it is with each node in a silence
 pub as_fresh : (laws : SilentClock) → LeavesIdle → (setup : NodeSetup) (levels : ℕ → Level) (node : ℕ → History) (first : ℕ) → ByTheBook setup.segments → IsRun setup levels node → IsSilentNode setup levels node first
     → let at : ℕ = joins_at setup levels node first in
-      (first ≤ at) × (at + 12 * bit_quanta setup.segments ≤ first + silence_bits * bit_quanta setup.segments) × IsAsFresh setup node at (at + eleventh_of setup.segments)
+    (first ≤ at) × (at + 12 * bit_quanta setup.segments ≤ first + silence_bits * bit_quanta setup.segments) × IsAsFresh setup node at (at + eleventh_of setup.segments)
 as_fresh laws leaves setup levels node first book run is =
     let B : ℕ = bit_quanta setup.segments in
     let room : first + 35 * B + B ≤ first + 36 * B = omega arith in
-    let enough : first + 35 * B ≤ first + 35 * B = omega arith in
-    (rested_low laws leaves setup book levels node run first (first + 35 * B) (first + 36 * B) room enough is.silent is.drives is.active is.on,
-    rested_high laws leaves setup book levels node run first (first + 35 * B) (first + 36 * B) room enough is.silent is.drives is.active is.on,
-    rested_fresh laws leaves setup book levels node run first (first + 35 * B) (first + 36 * B) room enough is.silent is.drives is.active is.on)
+    let enough : first + 35 * B ≤ first + 35 * B = omega arith in (
+      rested_low laws leaves setup book levels node run first (first + 35 * B) (first + 36 * B) room enough is.silent is.drives is.active is.on,
+      rested_high laws leaves setup book levels node run first (first + 35 * B) (first + 36 * B) room enough is.silent is.drives is.active is.on,
+      rested_fresh laws leaves setup book levels node run first (first + 35 * B) (first + 36 * B) room enough is.silent is.drives is.active is.on,
+    )

@@ -1,2 +1,4 @@
 pub mod Restarts
 pub mod Silences
+pub mod SilentPlans
+pub mod Shown

@@ -17,7 +17,9 @@ use Rattle.wl_plan.specs.Simulation.{AreInside, level, seen}
 use Rattle.wl_plan.specs.Sound.{IsCausal}
 use Rattle.wl_wire.specs.InStep.{AreSoundFrames}
 use Rattle.wl_heal.specs.Silence.{is_off}
+use Rattle.wl_buses.specs.BothProofs.Expected.{levels_found}
 use Rattle.wl_buses.specs.BothProofs.Queues.{queued_contents}
+use Rattle.wl_buses.specs.OneFrame.Lines.{node_after}
 use Rattle.wl_buses.specs.OneFrame.Nodes.{IsRun, clock_sees}
 use Rattle.wl_buses.specs.OneFrame.Stations.{Stations}
 use Rattle.wl_buses.specs.CleanLines.Lines.{LineGetsThrough, line_history, waiting_with}
@@ -59,40 +61,47 @@ IsAsFresh setup node at end =
     (levels : ℕ → Level) (fresh : ℕ → History) → IsRun (setup_since setup at (node (suc end))) levels fresh → ((q : ℕ) → q ≤ eleventh_of setup.segments → levels q ≡ Recessive)
     → GoesOnAs setup at (node (suc end)) (fresh (suc (eleventh_of setup.segments))) (node (suc end))
 
--- the last quantum of node i in a silence that begins with its quantum `first`
-abbrev pub last_silent : Stations → (first : ℕ → ℕ) → ℕ → ℕ
-last_silent s first i = first i + silence_bits * bit_quanta (s.lengths i)
-
--- Nobody drives dominant from the tick `from` up to the tick `until`. From its quantum `first i` on node i is there, all that was driven before has passed it, and so many of its bits fit before `until`. It is on the
--- bus and error active in all of them.
-pub record IsSilentFor (l : Line) (setups : ℕ → NodeSetup) (s : Stations) (from until : ℕ) (first : ℕ → ℕ) : Type 0 where
+-- Nobody drives dominant from the tick `from` up to the tick `until`. From its quantum `first i` on node i is there, all that was driven before `from` has passed it, and so many of its bits fit before `until`.
+-- In all of them it is on the bus and error active.
+pub record IsSilentFor (l : Line) (setups : ℕ → NodeSetup) (from until : ℕ) (first : ℕ → ℕ) : Type 0 where
   pub inside : until ≤ l.stop
   pub quiet : (i t : ℕ) → i < l.nodes → from ≤ t → t < until → level l i t ≡ false
   pub over : (i k : ℕ) → i < l.nodes → k < l.nodes → from + l.delay k i ≤ l.instant i (first i)
-  pub lasts : (i : ℕ) → i < l.nodes → l.instant i (last_silent s first i) < until
-  pub on : (i : ℕ) → i < l.nodes → is_off (stretch_of (line_history l setups i (first i)).inputs) ≡ false
-  pub active : (i k : ℕ) → i < l.nodes → first i ≤ k → k ≤ last_silent s first i → mode_of (counters_of (line_history l setups i k)) ≡ Active
+  pub lasts : (i : ℕ) → i < l.nodes → l.instant i (first i + silence_bits * bit_quanta (setups i).segments) < until
+  pub on : (i k : ℕ) → i < l.nodes → first i ≤ k → l.instant i k < until → is_off (stretch_of (line_history l setups i (suc k)).inputs) ≡ false
+  pub active : (i k : ℕ) → i < l.nodes → first i ≤ k → l.instant i k < until → mode_of (counters_of (line_history l setups i (suc k))) ≡ Active
 
--- Frames of two nodes differ in format, identifier or RTR bit, and a node with frames may send. Some node has one left all the time.
+-- the quantum of each node at which the fresh one powers up, and the one after its eleventh sample
+abbrev pub joins : Line → (setups : ℕ → NodeSetup) → (first : ℕ → ℕ) → ℕ → ℕ
+joins l setups first i = joins_at (setups i) (levels_found l (level l) i) (node_after (setups i) (levels_found l (level l) i)) (first i)
+
+abbrev pub joined : Line → (setups : ℕ → NodeSetup) → (first : ℕ → ℕ) → ℕ → ℕ
+joined l setups first i = suc (joins l setups first i + eleventh_of (setups i).segments)
+
+-- the fresh nodes, each with the frames that the other one hasn't sent by then, their line, and as stations
+abbrev pub fresh_setups : Line → (setups : ℕ → NodeSetup) → (first : ℕ → ℕ) → ℕ → NodeSetup
+fresh_setups l setups first i = setup_since (setups i) (joins l setups first i) (line_history l setups i (joined l setups first i))
+
+abbrev pub fresh_line : Line → (setups : ℕ → NodeSetup) → (first : ℕ → ℕ) → Line
+fresh_line l setups first = line_since l (fresh_setups l setups first) (joins l setups first)
+
+abbrev pub fresh_stations : Line → (setups : ℕ → NodeSetup) → (first : ℕ → ℕ) → Stations → Stations
+fresh_stations l setups first s = stations_since s (joins l setups first)
+
+-- Frames of two nodes differ in format, identifier or RTR bit, and a node with frames may send. After the silence some node has one left.
 pub record HaveFramesLeft (l : Line) (setups : ℕ → NodeSetup) (s : Stations) (first : ℕ → ℕ) : Type 0 where
   pub frames : AreSoundFrames s.count (λ i. queued_contents (setups i).queue)
   pub none : (i : ℕ) → s.count ≤ i → (setups i).queue ≡ []
   pub may : (i : ℕ) → i < s.count → 0 < length (setups i).queue → s.may_send i ≡ true
-  pub some : ℕ
-  pub inside : some < s.count
-  pub left : (k : ℕ) → first some ≤ k → k ≤ last_silent s first some → 0 < length (unsent_of (setups some) (line_history l setups some k))
+  pub some : (i : ℕ) × (i < s.count) × (0 < length (unsent_of (setups i) (line_history l setups i (joined l setups first i))))
 
--- the nodes of the line from their quanta `at i` on, as nodes that power up then
-abbrev pub restarts : Line → (setups : ℕ → NodeSetup) → (at : ℕ → ℕ) → ℕ → NodeSetup
-restarts l setups at i = setup_since (setups i) (at i) (line_history l setups i (at i))
-
--- The line is clean since the silence: its nodes go on as nodes that power up within it, each at its quantum `at i`, and all frames of these get through. The bus is what it is on their line. From the eleventh bit on each node
--- is where the other one puts it.
+-- The line is clean since the silence. The fresh nodes power up in it, each at a quantum of the other one, and all frames of theirs get through. What these drive is what is on the line. From the eleventh sample on
+-- each node is where its fresh one puts it.
 pub record IsCleanSince (l : Line) (setups : ℕ → NodeSetup) (s : Stations) (from : ℕ) (first : ℕ → ℕ) : Type 0 where
-  pub at : ℕ → ℕ
-  pub late : (i : ℕ) → i < s.count → first i ≤ at i
-  pub soon : (i : ℕ) → i < s.count → at i + 12 * bit_quanta (s.lengths i) ≤ last_silent s first i
-  pub through : LineGetsThrough (line_since l (restarts l setups at) at) (restarts l setups at) (waiting_with (restarts l setups at) (stations_since s at))
-  pub drives : (i t : ℕ) → i < l.nodes → from ≤ t → t < l.stop → level l i t ≡ level (line_since l (restarts l setups at) at) i t
-  pub goes : (i k : ℕ) → i < l.nodes → 11 * bit_quanta (s.lengths i) ≤ k → AreInside l i (at i + k)
-      → GoesOnAs (setups i) (at i) (line_history l setups i (at i)) (line_history (line_since l (restarts l setups at) at) (restarts l setups at) i k) (line_history l setups i (at i + k))
+  pub late : (i : ℕ) → i < l.nodes → first i ≤ joins l setups first i
+  pub soon : (i : ℕ) → i < l.nodes → joined l setups first i ≤ first i + silence_bits * bit_quanta (setups i).segments
+  pub through : LineGetsThrough (fresh_line l setups first) (fresh_setups l setups first) (waiting_with (fresh_setups l setups first) (fresh_stations l setups first s))
+  pub drives : (i t : ℕ) → i < l.nodes → from ≤ t → t < l.stop → level l i t ≡ level (fresh_line l setups first) i t
+  pub goes : (i k : ℕ) → i < l.nodes → eleventh_of (setups i).segments < k → AreInside (fresh_line l setups first) i k
+      → GoesOnAs (setups i) (joins l setups first i) (line_history l setups i (joined l setups first i)) (line_history (fresh_line l setups first) (fresh_setups l setups first) i k)
+      (line_history l setups i (joins l setups first i + k))
