@@ -9,14 +9,14 @@ ghost use Rattle.wl_topology.specs.Driven.{driven};
 ghost use Rattle.wl_buses.specs.OneFrame.Acknowledged.{IsAnsweredByAll, answering};
 ghost use Rattle.wl_buses.specs.OneFrame.Expected.{IsOutset, Outset, expected_bits, expected_sample};
 ghost use Rattle.wl_buses.specs.OneFrame.Machines.{HasWon};
-ghost use Rattle.wl_buses.specs.OneFrame.Nodes.{IsInBit, IsRun};
+ghost use Rattle.wl_buses.specs.OneFrame.Nodes.{IsRun};
 ghost use Rattle.wl_buses.specs.OneFrame.Starts.{Start};
 ghost use Rattle.wl_buses.specs.OneFrame.Stations.{AreStations, FitsBut, HaveRoom, HaveRoomToSample, Stations, with_longer_ways};
 ghost use Rattle.wl_buses.specs.OneListener.Beside.{AreCloseBeside, HasRoomToListen, HearsTheEnd, ListensToTheEnd, beside, hears, others_answering};
 ghost use Rattle.wl_buses.specs.OneListener.Ends.{CanBeHeard, HasRoomToRestBeside, IsUnheard, others_gathered};
 ghost use Rattle.wl_buses.specs.FrameEnd.Asked.{EndsBefore};
 ghost use Rattle.wl_buses.specs.FrameEnd.Finds.{FindsTheEnd, finds_at};
-ghost use Rattle.wl_buses.specs.FrameEnd.Rests.{NodeEnds};
+ghost use Rattle.wl_buses.specs.PassedFrames.Passing.{PassesOne};
 ghost use Rattle.wl_buses.specs.FrameEnd.Again.{RestsAgain};
 ghost use Rattle.wl_buses.specs.NextFrames.NextNodes.{GoesThrough};
 ghost use Rattle.wl_buses.specs.OneFrame.Lines.{BeginsAfter};
@@ -61,27 +61,6 @@ pub fn a_listener_finds_the_end()
     wl_frame::laws::ten_bits_have_an_edge();
 }
 
-/// Law: so a node that only listens receives the frame. From the last bit of the CRC sequence on it goes to the end of the frame as is
-/// expected: it samples each bit as it is on the bus, finds no error, has received the winner's frame with the last but one bit of the end
-/// of frame, and rests with the third bit of the intermission.
-pub fn a_listener_receives_the_frame()
-    ensures { (s : Stations) (o : Outset) (end : ℕ) (way : ℕ → ℕ → ℕ) (chase more : ℕ → ℕ) → AreStations (beside s)
-        → HaveRoom (beside s) → s.may_send s.count ≡ false → IsOutset (beside s) o → EndsBefore (beside s) o end
-        → (won : HasWon (beside s) (expected_bits (beside s) o) o.frames end)
-        → CanBeHeard s won.station way chase more → IsUnheard s o end
-        → (setup : NodeSetup) (levels : ℕ → Level) (node : ℕ → History)
-        → setup.segments ≡ s.lengths s.count → IsRun setup levels node
-        → ((n q : ℕ) → suc n ≡ end → expected_sample (beside s) o n s.count < q
-        → q ≤ expected_sample (beside s) o (end + 12) s.count
-        → levels q ≡ level_of (finds_at (beside s) o end s.count q))
-        → ((n : ℕ) → suc n ≡ end → IsInBit (beside s) o s.count levels node n)
-        → (won.station ≢ s.count)
-        × NodeEnds (beside s) o end won.station s.count won.frame setup levels node }
-{
-    a_listener_finds_the_end();
-    crate::frame_end::laws::a_node_that_finds_the_end_goes_to_it();
-}
-
 /// Law: and it rests before the next frame, with room for twelve bits' drift at the listener: the start of frame that any of the others
 /// begins by itself, a bit after its third bit of the intermission, reaches it after its own sample of that bit.
 pub fn the_next_frame_finds_a_listener_at_rest()
@@ -103,9 +82,10 @@ pub fn the_next_frame_finds_a_listener_at_rest()
     wl_frame::laws::ten_bits_have_an_edge();
 }
 
-/// Law: so a listener that rests goes through the whole next frame, from its rest to its rest, if it finds what the others drive. It begins
-/// the frame by the edge of a start of frame that reaches it.
-pub fn a_listener_goes_through_the_next_frame()
+/// Law: so a listener that rests receives the next frame, if it finds what the others drive, and it hears itself alone. It begins the frame
+/// by the edge of a start of frame that reaches it, samples each bit as it is on the bus, and finds no error. The winner's frame passes it,
+/// and nothing else. With the third bit of the intermission it rests again.
+pub fn a_listener_receives_the_next_frame()
     ensures { (s : Stations) (o : Outset) (end : ℕ) (way : ℕ → ℕ → ℕ) (chase more : ℕ → ℕ) → AreStations (beside s)
         → HaveRoom (beside s) → s.may_send s.count ≡ false → IsOutset (beside s) o → 0 < end
         → EndsBefore (beside s) o end → (won : HasWon (beside s) (expected_bits (beside s) o) o.frames end)
@@ -116,8 +96,11 @@ pub fn a_listener_goes_through_the_next_frame()
         → since ≤ rest + sample_at (s.lengths s.count)
         → ((q : ℕ) → rest + sample_at (s.lengths s.count) < q → q ≤ expected_sample (beside s) o (end + 12) s.count
         → levels q ≡ level_of (finds_at (beside s) o end s.count q))
-        → GoesThrough (beside s) o end won.station s.count won.frame setup levels node since }
+        → (won.station ≢ s.count)
+        × GoesThrough (beside s) o end won.station s.count won.frame setup levels node since
+        × PassesOne (beside s) o end won.station s.count rest won.frame node }
 {
     a_listener_finds_the_end();
     crate::next_frames::nodes::a_node_that_finds_its_end_goes_through_the_next_frame();
+    crate::passed_frames::laws::a_frame_passes_a_node_that_finds_its_end();
 }
