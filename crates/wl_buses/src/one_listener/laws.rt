@@ -1,6 +1,6 @@
 //! Laws of a node that only listens, each proved as the contract of a function that does nothing.
 
-ghost use Rattle.std.specs.Prelude.{◌≡◌, ◌≢◌, ◌+◌, ◌<◌, ◌≤◌, ◌||◌, ◌&&◌, ◌-◌, nat_le, ℕ, suc, Bool, false};
+ghost use Rattle.std.specs.Prelude.{◌≡◌, ◌≢◌, ◌+◌, ◌<◌, ◌≤◌, ◌||◌, ◌&&◌, ◌-◌, nat_le, ℕ, suc, Bool, false, []};
 ghost use Rattle.wl_level.specs.declared.Level.{Level};
 ghost use Rattle.wl_level.specs.Levels.{level_of};
 ghost use Rattle.wl_node.specs.declared.setup.NodeSetup.{NodeSetup};
@@ -19,6 +19,9 @@ ghost use Rattle.wl_buses.specs.FrameEnd.Finds.{FindsTheEnd, finds_at};
 ghost use Rattle.wl_buses.specs.PassedFrames.Passing.{PassesOne};
 ghost use Rattle.wl_buses.specs.FrameEnd.Again.{RestsAgain};
 ghost use Rattle.wl_buses.specs.NextFrames.NextNodes.{GoesThrough};
+ghost use Rattle.wl_buses.specs.NextFrames.Frames.{AreInOrder, Frame, frames_drove, third_sample};
+ghost use Rattle.wl_buses.specs.OneListener.Frames.{CanAllBeHeard, ReceivesAll};
+ghost use Rattle.wl_frame.specs.Grammar.{Content};
 ghost use Rattle.wl_buses.specs.OneFrame.Lines.{BeginsAfter};
 ghost use Rattle.wl_segments.specs.Lengths.{bit_quanta, sample_at};
 ghost use Rattle.wl_phase.specs.Clocks.{steady_tick};
@@ -103,4 +106,36 @@ pub fn a_listener_receives_the_next_frame()
     a_listener_finds_the_end();
     crate::next_frames::nodes::a_node_that_finds_its_end_goes_through_the_next_frame();
     crate::passed_frames::laws::a_frame_passes_a_node_that_finds_its_end();
+}
+
+/// Law: so a listener receives frame after frame, if it rests before the first one and finds what all drive in them. It goes through each,
+/// and rests between any two. It has received exactly these frames, in their order, and found no error.
+pub fn a_listener_receives_all_frames()
+    ensures { (s : Stations) (frames : ℕ → Frame) (count : ℕ) (way : ℕ → ℕ → ℕ) (chase more : ℕ → ℕ)
+        → AreStations (beside s) → HaveRoom (beside s) → s.may_send s.count ≡ false
+        → (are : AreInOrder (beside s) frames count) → CanAllBeHeard s frames count are way chase more
+        → (content : ℕ → Content)
+        → ((n : ℕ) (less : n < count) → (are.each n less).won.frame ≡ content n)
+        → (setup : NodeSetup) → setup.segments ≡ s.lengths s.count → setup.queue ≡ []
+        → (levels : ℕ → Level) (node : ℕ → History) → IsRun setup levels node
+        → ((n q : ℕ) → n < count → q ≤ third_sample (beside s) (frames n) s.count
+        → levels q ≡ level_of (hears s (frames_drove (beside s) frames count) (steady_tick (s.clocks s.count) q)))
+        → (rest since : ℕ) → BeginsAfter (beside s) (frames 0).outset s.count rest
+        → RestsAgain (beside s) ((frames 0).outset.past s.count) s.count levels node rest since
+        → since ≤ rest + sample_at (s.lengths s.count)
+        → ReceivesAll s frames count are content setup levels node rest since }
+{
+    wl_topology::driven_laws();
+    crate::one_frame::before::nothing_is_found_before_a_frame();
+    crate::frame_end::laws::all_may_begin_again();
+    wl_wire::laws::machines_stay_in_step();
+    wl_wire::laws::the_least_field_wins();
+    wl_machine::laws::a_transmitter_sends_its_head_stuffed();
+    wl_frame::laws::a_front_of_no_stuffing_ends_six_equal_bits();
+    wl_frame::laws::ten_bits_have_an_edge();
+    crate::next_frames::laws::stations_rest_after_a_frame();
+    crate::next_frames::nodes::a_node_waits_for_the_next_frame();
+    crate::next_frames::nodes::a_node_that_finds_its_end_goes_through_the_next_frame();
+    crate::passed_frames::laws::a_frame_passes_a_node_that_finds_its_end();
+    crate::passed_frames::laws::nothing_passes_a_waiting_node();
 }
