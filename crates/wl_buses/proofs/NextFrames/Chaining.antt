@@ -1,35 +1,22 @@
 -- A node goes from frame to frame, if there is room for acknowledgements and for rest.
-use Rattle.std.proofs.Common.{◌≡◌, ◌∙◌, inl, inr, refl, sym, ap, subst, ℕ, zero, suc, ◌+◌, ◌<◌, ◌≤◌, List, [], ◌∷◌, ◌++◌, length, Option, arith}
-use Rattle.std.specs.Prelude.{slice_get}
-use Rattle.std.proofs.lemmas.Bool.{cases_Bool, cases_eq}
-use Rattle.std.proofs.lemmas.Option.{slice_get_past}
+use Rattle.std.proofs.Common.{◌≡◌, ℕ, suc, ◌+◌, ◌<◌, ◌≤◌, arith}
 use Rattle.wl_level.specs.declared.Level.{Level}
-use Rattle.wl_level.specs.declared.Level.TheVariants.{Recessive}
 use Rattle.wl_level.specs.Levels.{level_of}
-use Rattle.wl_confine.specs.declared.Mode.TheVariants.{Active}
 use Rattle.wl_segments.specs.Lengths.{sample_at}
 use Rattle.wl_topology.specs.Driven.{driven}
-use Rattle.wl_frame.specs.Grammar.{Content}
-use Rattle.wl_machine.specs.Stretch.{Input}
-use Rattle.wl_machine.specs.Stretch.Input.{Sample}
 use Rattle.wl_node.specs.declared.setup.NodeSetup.{NodeSetup}
 use Rattle.wl_node.specs.History.{History, unsent_of}
 use Rattle.wl_phase.specs.Clocks.{steady_tick}
-use Rattle.wl_wire.specs.Wire.{Handed, sampled}
-use Rattle.wl_buses.specs.OneFrame.Expected.{IsOutset, Outset, expected_bits, expected_drove, expected_sample, past_at}
 use Rattle.wl_buses.specs.OneFrame.Lines.{BeginsAfter}
-use Rattle.wl_buses.specs.OneFrame.Machines.{HasWon}
 use Rattle.wl_buses.specs.OneFrame.Nodes.{IsRun}
-use Rattle.wl_buses.specs.OneFrame.Stations.{AreOnALine, AreStations, HaveRoom, Stations}
-use Rattle.wl_buses.specs.FrameEnd.Again.{RestsAgain, past_end}
-use Rattle.wl_buses.specs.FrameEnd.Asked.{CanBeAnswered, EndsBefore}
-use Rattle.wl_buses.specs.FrameEnd.Rests.{NodeEnds, waiting_frame}
+use Rattle.wl_buses.specs.OneFrame.Stations.{AreStations, HaveRoom, Stations}
+use Rattle.wl_buses.specs.FrameEnd.Again.{RestsAgain}
+use Rattle.wl_buses.specs.FrameEnd.Rests.{waiting_frame}
 use Rattle.wl_buses.proofs.FrameEnd.Below.{MachineLaws}
-use Rattle.wl_buses.specs.NextFrames.Frames.{FollowOneAnother, IsBegunAfter, Frame, IsBegun, frame_drove, frames_drove, resting_of, third_sample}
-use Rattle.wl_buses.specs.NextFrames.NextNodes.{GoesThrough, HandsNext, head_after}
-use Rattle.wl_buses.specs.NextFrames.NextStarts.{AreFreeNext, AreResting, Resting, has_next, outset_next, rest_next, rested, start_next}
-use Rattle.wl_buses.specs.NextFrames.Runs.{GoesThroughOne, HandsBetween, quiet_by}
-use Rattle.wl_buses.specs.NextFrames.Frames.{in_order}
+use Rattle.wl_buses.specs.NextFrames.Frames.{FollowOneAnother, Frame, frame_drove, frames_drove, resting_of, third_sample}
+use Rattle.wl_buses.specs.NextFrames.NextNodes.{HandsNext}
+use Rattle.wl_buses.specs.NextFrames.Runs.{GoesThroughOne, HandsBetween}
+use Rattle.wl_buses.specs.NextFrames.Frames.{frames_in_order}
 use Rattle.wl_buses.proofs.NextFrames.Onward as onward
 pub use Rattle.wl_buses.proofs.NextFrames.Onward.{FreeLaw, GoesOn, RestsLaw, ThroughLaw, WaitLaw}
 use Rattle.wl_buses.proofs.NextFrames.Windows as windows
@@ -47,15 +34,15 @@ module _ (m : MachineLaws) (nothing : NothingFound) (is_heard : IsHeard) (rest_a
 
   pub finds_alone : (n q : ℕ) → n < count → ((j : ℕ) → suc j ≡ n → T j < q) → q ≤ T n
       → levels q ≡ level_of (driven s.count s.delay (frame_drove s (fs n)) i (steady_tick (s.clocks i) q))
-  finds_alone = onward.finds_alone m nothing rests free wait through s are room fs count (in_order s fs count frames) i inside (windows.hears m nothing is_heard rest_after s are room fs count frames i inside) (windows.resting m nothing is_heard rest_after s are room fs count frames) setup segments levels node run finds first_rest first_since begins first early
+  finds_alone = onward.finds_alone m nothing rests free wait through s are room fs count (frames_in_order s fs count frames) i inside (windows.hears m nothing is_heard rest_after s are room fs count frames i inside) (windows.resting m nothing is_heard rest_after s are room fs count frames) setup segments levels node run finds first_rest first_since begins first early
 
   pub goes_on : (n : ℕ) (less : suc n < count) → GoesThroughOne s fs count frames i first_since setup levels node n (omega arith)
       → HandsNext (resting_of s (fs n) (fs (suc n)) (frames.next n less)) i (waiting_frame setup (node (T n))) (head_at setup (unsent_of setup (node (suc (T n)))))
-      → GoesOn s fs count (in_order s fs count frames) i first_since setup levels node n less
-  goes_on = onward.goes_on m nothing rests free wait through s are room fs count (in_order s fs count frames) i inside (windows.hears m nothing is_heard rest_after s are room fs count frames i inside) (windows.resting m nothing is_heard rest_after s are room fs count frames) setup segments levels node run finds first_rest first_since begins first early
+      → GoesOn s fs count (frames_in_order s fs count frames) i first_since setup levels node n less
+  goes_on = onward.goes_on m nothing rests free wait through s are room fs count (frames_in_order s fs count frames) i inside (windows.hears m nothing is_heard rest_after s are room fs count frames i inside) (windows.resting m nothing is_heard rest_after s are room fs count frames) setup segments levels node run finds first_rest first_since begins first early
 
   pub goes_first : (less : 0 < count) → GoesThroughOne s fs count frames i first_since setup levels node 0 less
-  goes_first = onward.goes_first m nothing rests free wait through s are room fs count (in_order s fs count frames) i inside (windows.hears m nothing is_heard rest_after s are room fs count frames i inside) (windows.resting m nothing is_heard rest_after s are room fs count frames) setup segments levels node run finds first_rest first_since begins first early
+  goes_first = onward.goes_first m nothing rests free wait through s are room fs count (frames_in_order s fs count frames) i inside (windows.hears m nothing is_heard rest_after s are room fs count frames i inside) (windows.resting m nothing is_heard rest_after s are room fs count frames) setup segments levels node run finds first_rest first_since begins first early
 
   pub chained : HandsBetween s fs count frames i setup node → (n : ℕ) (less : n < count) → GoesThroughOne s fs count frames i first_since setup levels node n less
-  chained = onward.chained m nothing rests free wait through s are room fs count (in_order s fs count frames) i inside (windows.hears m nothing is_heard rest_after s are room fs count frames i inside) (windows.resting m nothing is_heard rest_after s are room fs count frames) setup segments levels node run finds first_rest first_since begins first early
+  chained = onward.chained m nothing rests free wait through s are room fs count (frames_in_order s fs count frames) i inside (windows.hears m nothing is_heard rest_after s are room fs count frames i inside) (windows.resting m nothing is_heard rest_after s are room fs count frames) setup segments levels node run finds first_rest first_since begins first early

@@ -9,14 +9,13 @@ use Rattle.wl_machine.specs.Frames.{stuffed_end}
 use Rattle.wl_phase.specs.Clocks.{steady_tick}
 use Rattle.wl_buses.specs.OneFrame.Expected.{IsOutset, Outset, expected_bits, expected_drove, expected_sample, past_at}
 use Rattle.wl_buses.specs.OneFrame.Lines.{BeginsAfter}
-use Rattle.wl_buses.specs.OneFrame.Machines.{HasWon, bus_levels}
+use Rattle.wl_buses.specs.OneFrame.Machines.{bus_levels}
 use Rattle.wl_buses.specs.OneFrame.Starts.{Drives, reaches_at}
 use Rattle.wl_buses.specs.OneFrame.Stations.{AreStations, HaveRoom, Stations}
 use Rattle.wl_buses.proofs.OneFrame.Expecting.{from_sample}
 use Rattle.wl_buses.proofs.OneFrame.Measures.{tick_next}
 use Rattle.wl_buses.specs.FirstFrame.FirstStarts.{hard_from}
 use Rattle.wl_buses.proofs.FirstFrame.Reaching as reaching
-use Rattle.wl_buses.specs.FrameEnd.Asked.{EndsBefore}
 use Rattle.wl_buses.specs.FrameEnd.Finds.{FindsTheEnd}
 use Rattle.wl_buses.proofs.FrameEnd.Below.{MachineLaws}
 use Rattle.wl_buses.proofs.FrameEnd.Placing.{found_was, samples_up}

@@ -1,31 +1,18 @@
 -- Of several frames a station finds one at a time, if there is room for acknowledgements and for rest.
-use Rattle.std.proofs.Common.{◌≡◌, ◌≢◌, ◌∙◌, ◌⊎◌, inl, inr, refl, sym, ap, subst, ℕ, zero, suc, ◌+◌, ◌-◌, ◌<◌, ◌≤◌, Bool, false, List, Option, Some, None, arith}
-use Rattle.std.proofs.lemmas.Bool.{both_ways, cases_Bool, cases_eq, cases_lt, false_from_ne_true}
-use Rattle.wl_segments.specs.Lengths.{bit_quanta, sample_at}
-use Rattle.wl_topology.specs.Driven.{any_below, driven}
-use Rattle.wl_topology.proofs.Callers.{any_from, any_none}
-use Rattle.wl_machine.specs.Stretch.{Input}
-use Rattle.wl_machine.specs.Frames.{stuffed_end}
+use Rattle.std.proofs.Common.{◌≡◌, ℕ, suc, ◌+◌, ◌<◌, ◌≤◌, Bool, false, arith}
+use Rattle.wl_segments.specs.Lengths.{sample_at}
+use Rattle.wl_topology.specs.Driven.{driven}
 use Rattle.wl_phase.specs.Clocks.{steady_tick}
 use Rattle.wl_buses.specs.OneFrame.Acknowledged.{IsAcknowledgedByAll, chased_way}
-use Rattle.wl_buses.specs.OneFrame.Expected.{IsOutset, Outset, expected_bits, expected_drove, expected_sample, past_at}
+use Rattle.wl_buses.specs.OneFrame.Expected.{IsOutset, Outset, expected_bits, expected_drove}
 use Rattle.wl_buses.specs.OneFrame.Lines.{BeginsAfter}
-use Rattle.wl_buses.specs.OneFrame.Machines.{HasWon, bus_levels}
-use Rattle.wl_buses.specs.OneFrame.Starts.{Drives, reaches_at}
+use Rattle.wl_buses.specs.OneFrame.Machines.{HasWon}
 use Rattle.wl_buses.specs.OneFrame.Stations.{AreStations, HaveRoom, Stations}
-use Rattle.wl_buses.proofs.OneFrame.Expecting.{from_sample}
-use Rattle.wl_buses.proofs.OneFrame.Measures.{tick_next}
-use Rattle.wl_buses.specs.FirstFrame.FirstStarts.{hard_from}
-use Rattle.wl_buses.proofs.FirstFrame.Reaching as reaching
 use Rattle.wl_buses.specs.FrameEnd.Asked.{CanBeAnswered, EndsBefore}
 use Rattle.wl_buses.proofs.FrameEnd.Below.{MachineLaws}
-use Rattle.wl_buses.proofs.FrameEnd.Hearing.{found_was, samples_up}
-use Rattle.wl_buses.proofs.FrameEnd.Slot.{over_is}
 use Rattle.wl_buses.specs.NextFrames.Frames.{FollowOneAnother, IsBegunAfter, Frame, IsBegun, frame_drove, frames_drove, resting_of, third_sample}
-use Rattle.wl_buses.specs.NextFrames.NextStarts.{AreResting, Resting, due_next, edge_next, has_next, is_reached_next, outset_next, rest_next, start_next}
-use Rattle.wl_buses.proofs.NextFrames.Beginning.{rest_early}
-use Rattle.wl_buses.proofs.NextFrames.Lasting.{after_next, last_at, silence_of, silent_of}
-use Rattle.wl_buses.specs.NextFrames.Frames.{in_order}
+use Rattle.wl_buses.specs.NextFrames.NextStarts.{AreResting, rest_next, start_next}
+use Rattle.wl_buses.specs.NextFrames.Frames.{frames_in_order}
 use Rattle.wl_buses.specs.FrameEnd.Finds.{FindsTheEnd}
 use Rattle.wl_buses.proofs.FrameEnd.Finding.{finds_the_end}
 use Rattle.wl_buses.proofs.NextFrames.Found as windows
@@ -60,29 +47,29 @@ module _ (m : MachineLaws) (nothing : NothingFound) (is_heard : IsHeard) (rest_a
   resting n less = rest_after s (fs n) (fs (suc n)) are room (frames.each n (omega arith)) (frames.next n less)
 
   pub over_by_third : (n i : ℕ) → n < count → i < s.count → (expected_bits s (fs n).outset (suc (suc (fs n).bits))).from i + sample_at (s.lengths i) ≤ T n i
-  over_by_third n i less inside = windows.over_by_third m nothing s are room fs count (in_order s fs count frames) i inside (hears i inside) resting n less
+  over_by_third n i less inside = windows.over_by_third m nothing s are room fs count (frames_in_order s fs count frames) i inside (hears i inside) resting n less
 
   pub begins_after : (n : ℕ) (less : suc n < count) (i : ℕ) → i < s.count → BeginsAfter s (fs (suc n)).outset i (rest_next (resting_of s (fs n) (fs (suc n)) (frames.next n less)) i)
-  begins_after n less i inside = windows.begins_after m nothing s are room fs count (in_order s fs count frames) i inside (hears i inside) resting n less
+  begins_after n less i inside = windows.begins_after m nothing s are room fs count (frames_in_order s fs count frames) i inside (hears i inside) resting n less
 
   pub third_before : (n : ℕ) → suc n < count → (i : ℕ) → i < s.count → T n i < (fs (suc n)).outset.start.from i
-  third_before n less i inside = windows.third_before m nothing s are room fs count (in_order s fs count frames) i inside (hears i inside) resting n less
+  third_before n less i inside = windows.third_before m nothing s are room fs count (frames_in_order s fs count frames) i inside (hears i inside) resting n less
 
   pub silent_before : (n : ℕ) (less : suc n < count) (i : ℕ) → i < s.count → (q : ℕ) → q < (start_next (resting_of s (fs n) (fs (suc n)) (frames.next n less))).from i → found (suc n) i q ≡ false
-  silent_before n less i inside = windows.silent_before m nothing s are room fs count (in_order s fs count frames) i inside (hears i inside) resting n less
+  silent_before n less i inside = windows.silent_before m nothing s are room fs count (frames_in_order s fs count frames) i inside (hears i inside) resting n less
 
   pub by_third : (n : ℕ) (less : suc n < count) (i : ℕ) → i < s.count → (q : ℕ) → q < (start_next (resting_of s (fs n) (fs (suc n)) (frames.next n less))).from i → q ≤ T (suc n) i
-  by_third n less i inside = windows.by_third m nothing s are room fs count (in_order s fs count frames) i inside (hears i inside) resting n less
+  by_third n less i inside = windows.by_third m nothing s are room fs count (frames_in_order s fs count frames) i inside (hears i inside) resting n less
 
   pub thirds_up : (n g i : ℕ) → n ≤ g → g < count → i < s.count → T n i ≤ T g i
-  thirds_up n g i low less inside = windows.thirds_up m nothing s are room fs count (in_order s fs count frames) i inside (hears i inside) resting n g low less
+  thirds_up n g i low less inside = windows.thirds_up m nothing s are room fs count (frames_in_order s fs count frames) i inside (hears i inside) resting n g low less
 
   pub alone : (n i q : ℕ) → n < count → i < s.count → ((j : ℕ) → suc j ≡ n → T j i < q) → q ≤ T n i → driven s.count s.delay (frames_drove s fs count) i (tick i q) ≡ found n i q
-  alone n i q less inside = windows.alone m nothing s are room fs count (in_order s fs count frames) i inside (hears i inside) resting n q less
+  alone n i q less inside = windows.alone m nothing s are room fs count (frames_in_order s fs count frames) i inside (hears i inside) resting n q less
 
   pub silent_after : (i q : ℕ) → i < s.count → ((g : ℕ) → g < count → T g i < q) → driven s.count s.delay (frames_drove s fs count) i (tick i q) ≡ false
-  silent_after i q inside = windows.silent_after m nothing s are room fs count (in_order s fs count frames) i inside (hears i inside) resting q
+  silent_after i q inside = windows.silent_after m nothing s are room fs count (frames_in_order s fs count frames) i inside (hears i inside) resting q
 
   pub first_alone : 0 < count → (i rest q : ℕ) → i < s.count → BeginsAfter s (fs 0).outset i rest → q ≤ rest + sample_at (s.lengths i)
       → driven s.count s.delay (frames_drove s fs count) i (tick i q) ≡ driven s.count s.delay (expected_drove s (fs 0).outset (fs 0).bits) i (tick i q)
-  first_alone some i rest q inside = windows.first_alone m nothing s are room fs count (in_order s fs count frames) i inside (hears i inside) resting some rest q
+  first_alone some i rest q inside = windows.first_alone m nothing s are room fs count (frames_in_order s fs count frames) i inside (hears i inside) resting some rest q

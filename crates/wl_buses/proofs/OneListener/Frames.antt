@@ -1,22 +1,14 @@
 -- A station that only listens goes from frame to frame, and receives each.
-use Rattle.std.proofs.Common.{◌≡◌, ◌≢◌, ◌∙◌, refl, sym, ap, subst, ℕ, zero, suc, ◌+◌, ◌*◌, ◌<◌, ◌≤◌, cond, Bool, true, false, List, [], ◌∷◌, ◌++◌, Option, None, arith, append-nil, append_assoc, inl, inr}
-use Rattle.std.specs.Prelude.{◌==◌}
-use Rattle.std.proofs.lemmas.Bool.{cases_Bool, cases_lt, ne_eqb}
-use Rattle.std.proofs.Math.Seq.{drop-nil}
-use Rattle.std.specs.Prelude.{slice_get, fold}
+use Rattle.std.proofs.Common.{◌≡◌, ◌≢◌, ◌∙◌, refl, sym, ap, subst, ℕ, zero, suc, ◌+◌, ◌*◌, ◌<◌, ◌≤◌, cond, true, false, [], ◌∷◌, ◌++◌, None, arith, append-nil, append_assoc, inl, inr}
+use Rattle.std.proofs.lemmas.Bool.{cases_lt, ne_eqb}
 use Rattle.wl_level.specs.declared.Level.{Level}
-use Rattle.wl_level.specs.declared.Level.TheVariants.{Recessive}
 use Rattle.wl_level.specs.Levels.{level_of}
 use Rattle.wl_segments.specs.Lengths.{bit_quanta, sample_at}
 use Rattle.wl_topology.specs.Driven.{driven}
 use Rattle.wl_frame.specs.Grammar.{Content}
-use Rattle.wl_machine.specs.Stretch.{Input}
 use Rattle.wl_node.specs.declared.setup.NodeSetup.{NodeSetup}
 use Rattle.wl_node.specs.declared.setup.Passed.{Passed}
-use Rattle.wl_node.specs.declared.setup.Queued.{Queued}
-use Rattle.wl_node.specs.declared.setup.QueueOrder.{QueueOrder}
-use Rattle.wl_node.specs.declared.setup.QueueOrder.TheVariants.{Fifo, Priority}
-use Rattle.wl_node.specs.Queues.{head_by, queue_after, unsent_by}
+use Rattle.wl_node.specs.Queues.{head_by, unsent_by}
 use Rattle.wl_node.specs.History.{History, error_count, unsent_of}
 use Rattle.wl_phase.specs.Clocks.{steady_tick}
 use Rattle.wl_buses.specs.BothProofs.Queues.{head_at}
@@ -29,14 +21,15 @@ use Rattle.wl_buses.specs.FirstFrame.Faults.{fault_count}
 use Rattle.wl_buses.specs.FrameEnd.Again.{RestsAgain}
 use Rattle.wl_buses.specs.FrameEnd.Asked.{EndsBefore}
 use Rattle.wl_buses.specs.FrameEnd.Finds.{FindsTheEnd, finds_at}
-use Rattle.wl_buses.specs.FrameEnd.Rests.{passed_frame, passing_bit, waiting_frame}
-use Rattle.wl_buses.specs.NextFrames.Frames.{AreInOrder, Frame, IsOneFrame, frames_drove, resting_of, third_sample}
+use Rattle.wl_buses.specs.FrameEnd.Rests.{passed_frame, waiting_frame}
+use Rattle.wl_buses.specs.NextFrames.Frames.{AreInOrder, Frame, frames_drove, resting_of, third_sample}
 use Rattle.wl_buses.specs.NextFrames.NextNodes.{HandsNext, head_after}
 use Rattle.wl_buses.specs.NextFrames.NextStarts.{AreResting, Resting, due_next, has_next, rest_next}
 use Rattle.wl_buses.specs.NextFrames.Runs.{GoesThroughInOrder}
 use Rattle.wl_buses.specs.PassedFrames.Passing.{PassesOne}
-use Rattle.wl_buses.specs.OneListener.Beside.{beside}
+use Rattle.wl_buses.specs.OneListener.Beside.{with_listener}
 use Rattle.wl_buses.specs.OneListener.Frames.{CanAllBeHeard, ReceivesAll, received_with}
+use Rattle.wl_buses.proofs.BothProofs.Orders.{left_none, none_by}
 use Rattle.wl_buses.proofs.OneFrame.Measures.{tick_next}
 use Rattle.wl_buses.proofs.FrameEnd.Below.{MachineLaws}
 use Rattle.wl_buses.proofs.NextFrames.Found.{NothingFound}
@@ -52,38 +45,21 @@ PassFound = (s : Stations) (o : Outset) (end : ℕ) → AreStations s → HaveRo
     → BeginsAfter s o i rest → RestsAgain s (o.past i) i levels node rest since → since ≤ rest + sample_at (s.lengths i)
     → ((q : ℕ) → rest + sample_at (s.lengths i) < q → q ≤ expected_sample s o (end + 12) i → levels q ≡ level_of (finds_at s o end i q)) → PassesOne s o end won.station i rest won.frame node
 
--- an empty queue hands nothing
-none_either : (b : Bool) (none : List Queued) → cond b none none ≡ none
-none_either true none = refl
-none_either false none = refl
-
-queue_stays : (p : Passed) → queue_after [] p ≡ []
-queue_stays p = none_either p.sent []
-
-none_left : (order : QueueOrder) (passed : List Passed) → unsent_by order [] passed ≡ []
-none_left Fifo passed = drop-nil _
-none_left Priority [] = refl
-none_left Priority (p ∷ more) = ap (λ q. fold queue_after q more) (queue_stays p) ∙ none_left Priority more
-
-none_handed : (order : QueueOrder) (quantum : ℕ) → head_by order [] quantum ≡ None
-none_handed Fifo quantum = refl
-none_handed Priority quantum = refl
-
 module _ (m : MachineLaws) (nothing : NothingFound) (rests : RestsLaw) (free : FreeLaw) (wait : WaitLaw) (through : ThroughLaw) (pass : PassFound) (wait_fine : WaitFine)
-    (s : Stations) (are : AreStations (beside s)) (room : HaveRoom (beside s)) (mute : s.may_send s.count ≡ false) (fs : ℕ → Frame) (count : ℕ) (frames : AreInOrder (beside s) fs count)
+    (s : Stations) (are : AreStations (with_listener s)) (room : HaveRoom (with_listener s)) (mute : s.may_send s.count ≡ false) (fs : ℕ → Frame) (count : ℕ) (frames : AreInOrder (with_listener s) fs count)
     (way : ℕ → ℕ → ℕ) (chase more : ℕ → ℕ) (can : CanAllBeHeard s fs count frames way chase more)
     (content : ℕ → Content) (wins_with : (n : ℕ) (less : n < count) → (frames.each n less).won.frame ≡ content n)
     (setup : NodeSetup) (segments : setup.segments ≡ s.lengths s.count) (empty : setup.queue ≡ []) (levels : ℕ → Level) (node : ℕ → History) (run : IsRun setup levels node)
-    (finds : (n q : ℕ) → n < count → q ≤ third_sample (beside s) (fs n) s.count
-    → levels q ≡ level_of (driven (suc s.count) s.delay (frames_drove (beside s) fs count) s.count (steady_tick (s.clocks s.count) q)))
-    (first_rest first_since : ℕ) (begins : BeginsAfter (beside s) (fs 0).outset s.count first_rest)
-    (first : RestsAgain (beside s) ((fs 0).outset.past s.count) s.count levels node first_rest first_since)
+    (finds : (n q : ℕ) → n < count → q ≤ third_sample (with_listener s) (fs n) s.count
+    → levels q ≡ level_of (driven (suc s.count) s.delay (frames_drove (with_listener s) fs count) s.count (steady_tick (s.clocks s.count) q)))
+    (first_rest first_since : ℕ) (begins : BeginsAfter (with_listener s) (fs 0).outset s.count first_rest)
+    (first : RestsAgain (with_listener s) ((fs 0).outset.past s.count) s.count levels node first_rest first_since)
     (early : first_since ≤ first_rest + sample_at (s.lengths s.count)) where
   abbrev l : ℕ
   l = s.count
 
   abbrev x : Stations
-  x = beside s
+  x = with_listener s
 
   abbrev T : ℕ → ℕ
   T n = third_sample x (fs n) l
@@ -150,7 +126,7 @@ module _ (m : MachineLaws) (nothing : NothingFound) (rests : RestsLaw) (free : F
   -- and the listener is handed nothing
   none_head : (h : History) (quantum : ℕ) → head_at setup (unsent_of setup h) quantum ≡ None
   none_head h quantum =
-      ap (λ q. head_by setup.order (unsent_by setup.order q h.frames) quantum) empty ∙ ap (λ q. head_by setup.order q quantum) (none_left setup.order h.frames) ∙ none_handed setup.order quantum
+      ap (λ q. head_by setup.order (unsent_by setup.order q h.frames) quantum) empty ∙ ap (λ q. head_by setup.order q quantum) (left_none setup.order h.frames) ∙ none_by setup.order quantum
 
   hands : (n : ℕ) (less : suc n < count) → HandsNext (r n less) l (waiting_frame setup (node (T n))) (head_at setup (unsent_of setup (node (suc (T n)))))
   hands n less = record {

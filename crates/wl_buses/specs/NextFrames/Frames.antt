@@ -46,8 +46,8 @@ pub record AreInOrder (s : Stations) (frames : ℕ → Frame) (count : ℕ) : Ty
   pub each : (n : ℕ) → n < count → IsOneFrame s (frames n)
   pub next : (n : ℕ) → suc n < count → IsBegunAfter s (frames n) (frames (suc n))
 
-abbrev pub in_order : (s : Stations) (frames : ℕ → Frame) (count : ℕ) → FollowOneAnother s frames count → AreInOrder s frames count
-in_order s frames count are = record {
+abbrev pub frames_in_order : (s : Stations) (frames : ℕ → Frame) (count : ℕ) → FollowOneAnother s frames count → AreInOrder s frames count
+frames_in_order s frames count are = record {
   each = λ n less. record { outset = (are.each n less).outset; some = (are.each n less).some; ends = (are.each n less).ends; won = (are.each n less).won };
   next = are.next;
 }

@@ -127,9 +127,9 @@ pub fn all_find_the_end()
     wl_frame::laws::ten_bits_have_an_edge();
 }
 
-/// Law: a bit clock that finds the end of a frame and sees what is expected goes on as is expected, from the last bit of the stuffed part to
-/// the third bit of the intermission. It begins the ACK slot where that is expected, and samples it dominant, and all that comes after it
-/// recessive.
+/// Law: a bit clock goes on as is expected, if it finds the end of the frame and sees what is expected. That is from the last bit of the
+/// stuffed part to the third bit of the intermission. It begins the ACK slot where that is expected. It samples that dominant, and all that
+/// comes after it recessive.
 pub fn bit_clocks_go_to_the_end()
     ensures { (s : Stations) (o : Outset) (end : ℕ) → AreStations s → HaveRoom s → IsOutset s o → EndsBefore s o end
         → (won : HasWon s (expected_bits s o) o.frames end)
