@@ -2,12 +2,14 @@ pub mod Beginning
 pub mod Chaining
 pub mod Driving
 pub mod Falling
+pub mod Found
 pub mod Free
 pub mod Histories
 pub mod Idle
 pub mod Lasting
 pub mod LineGoing
 pub mod LineResting
+pub mod Onward
 pub mod Outset
 pub mod PoweredUp
 pub mod Quiet

@@ -1,3 +1,4 @@
 pub mod Slotting
 pub mod Hearing
 pub mod AtEnd
+pub mod Frames

@@ -1,5 +1,5 @@
 -- With room for acknowledgements each station finds the end of a frame.
-use Rattle.std.proofs.Common.{◌≡◌, ◌∙◌, sym, ap, subst, ℕ, suc, ◌<◌, ◌≤◌, Bool, true, false, Some, None, arith}
+use Rattle.std.proofs.Common.{◌≡◌, ◌∙◌, sym, ap, subst, ℕ, suc, ◌<◌, ◌≤◌, true, false, Some, None, arith}
 use Rattle.wl_machine.specs.Frames.{stuffed_end}
 use Rattle.wl_phase.specs.Clocks.{steady_tick}
 use Rattle.wl_buses.specs.OneFrame.Stations.{AreStations, HaveRoom, HaveRoomToSample, Stations}
@@ -8,7 +8,7 @@ use Rattle.wl_buses.specs.OneFrame.Course.{bus_bit}
 use Rattle.wl_buses.specs.OneFrame.Machines.{HasWon, bus_levels}
 use Rattle.wl_buses.specs.OneFrame.Acknowledged.{CatchUp, answering, chased_way}
 use Rattle.wl_buses.specs.OneFrame.Expected.{IsOutset, Outset, expected_bits, expected_sample}
-use Rattle.wl_buses.specs.FrameEnd.Finds.{FindsTheEnd, IsAnsweredBy, finds_at, slot_of}
+use Rattle.wl_buses.specs.FrameEnd.Finds.{FindsTheEnd, IsAnsweredBy, finds_at, ack_slot}
 use Rattle.wl_buses.proofs.FrameEnd.Below.{MachineLaws}
 use Rattle.wl_buses.proofs.FrameEnd.Hearing as hearing
 use Rattle.wl_buses.proofs.FrameEnd.Slot.{begin_slot, slot_is}
@@ -18,7 +18,7 @@ module _ (m : MachineLaws) (s : Stations) (are : AreStations s) (room : HaveRoom
     (over : stuffed_end (bus_levels s (expected_bits s o) end) ≡ Some end) (won : HasWon s (expected_bits s o) o.frames end)
     (chase : ℕ → ℕ) (catch : CatchUp s won.station chase) (enough : HaveRoomToSample (answering s (chased_way s won.station chase))) (i : ℕ) (inside : i < s.count) where
   abbrev slot : Start
-  slot = slot_of s o end
+  slot = ack_slot s o end
 
   abbrev e : Start
   e = hearing.e m s are room o is end valid over won chase catch enough

@@ -1,6 +1,6 @@
 -- What each station finds at the end of a frame, between its samples.
-use Rattle.std.proofs.Common.{◌≡◌, ◌∙◌, inl, inr, refl, sym, ap, subst, ℕ, zero, suc, ◌+◌, ◌-◌, ◌*◌, ◌<◌, ◌≤◌, Bool, true, false, Some, None, arith}
-use Rattle.std.proofs.lemmas.Bool.{both_ways, cases_eq, cases_lt, false_from_ne_true, ne_eqb}
+use Rattle.std.proofs.Common.{◌≡◌, ◌∙◌, inl, inr, refl, sym, ap, subst, ℕ, suc, ◌+◌, ◌-◌, ◌*◌, ◌<◌, ◌≤◌, Bool, true, false, Some, None, arith}
+use Rattle.std.proofs.lemmas.Bool.{both_ways, cases_eq, cases_lt, false_from_ne_true}
 use Rattle.wl_segments.specs.Lengths.{bit_quanta, sample_at}
 use Rattle.wl_topology.specs.Driven.{driven}
 use Rattle.wl_machine.specs.Frames.{stuffed_end}
@@ -12,16 +12,16 @@ use Rattle.wl_buses.specs.OneFrame.Machines.{HasWon, bus_levels}
 use Rattle.wl_buses.specs.OneFrame.Acknowledged.{AreAllClose, CatchUp, answering, chased_way}
 use Rattle.wl_buses.specs.OneFrame.Expected.{IsOutset, Outset, edge_start, expected_bits, expected_drove, expected_end, expected_sample, wants}
 use Rattle.wl_buses.proofs.OneFrame.AckWays.{any_close, chased_stations, closer}
-use Rattle.wl_buses.proofs.OneFrame.Expecting.{course, plain_is}
+use Rattle.wl_buses.proofs.OneFrame.Expecting.{course}
 use Rattle.wl_buses.proofs.OneFrame.Measures.{drifted, instant_more, tick_next, ticks_before}
-use Rattle.wl_buses.proofs.OneFrame.Seeing.{driving_at, due_sample, from_low, on_bus, place_up, plain_when}
+use Rattle.wl_buses.proofs.OneFrame.Seeing.{driving_at, due_sample, from_low, on_bus}
 use Rattle.wl_buses.proofs.OneFrame.Sampled.{is_there}
 use Rattle.wl_buses.specs.FrameEnd.Ends.{end_bit}
 use Rattle.wl_buses.specs.FrameEnd.Asked.{EndAsAsked}
 use Rattle.wl_buses.proofs.FrameEnd.Below.{MachineLaws}
 use Rattle.wl_buses.proofs.FrameEnd.Asked.{as_asked}
 use Rattle.wl_buses.proofs.FrameEnd.Placing as placing
-use Rattle.wl_buses.proofs.FrameEnd.Slot.{close, delimiter_place, drove_after, drove_before, drove_slot, few, heard, last, last_is, over_after, over_is, slot_after, slot_is, was_quiet}
+use Rattle.wl_buses.proofs.FrameEnd.Slot.{close, delimiter_place, drove_after, drove_before, drove_slot, few, heard, over_after, over_is, slot_is, was_quiet}
 
 module _ (m : MachineLaws) (s : Stations) (are : AreStations s) (room : HaveRoom s) (o : Outset) (is : IsOutset s o) (end : ℕ)
     (valid : (n : ℕ) → n < end → stuffed_end (bus_levels s (expected_bits s o) n) ≡ None)

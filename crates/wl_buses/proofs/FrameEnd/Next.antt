@@ -1,6 +1,6 @@
 -- No next frame reaches a station before it rests, if there is room for twelve bits' drift.
-use Rattle.std.proofs.Common.{◌≡◌, ◌∙◌, inl, inr, refl, sym, ap, subst, ℕ, zero, suc, ◌+◌, ◌*◌, ◌<◌, ◌≤◌, Some, None, arith}
-use Rattle.std.proofs.lemmas.Bool.{cases_eq, ne_eqb}
+use Rattle.std.proofs.Common.{◌≡◌, inl, inr, refl, ap, subst, ℕ, suc, ◌+◌, ◌*◌, ◌<◌, Some, None, arith}
+use Rattle.std.proofs.lemmas.Bool.{cases_eq}
 use Rattle.wl_segments.specs.Lengths.{bit_quanta, sample_at}
 use Rattle.wl_machine.specs.Frames.{stuffed_end}
 use Rattle.wl_phase.specs.Clocks.{steady_tick}

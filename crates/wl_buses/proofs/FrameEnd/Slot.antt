@@ -1,41 +1,22 @@
 -- The ACK slot that is expected, and how it begins at each station.
-use Rattle.std.proofs.Common.{◌≡◌, ◌≢◌, ◌∙◌, ◌⊎◌, inl, inr, refl, sym, ap, subst, ℕ, zero, suc, ◌+◌, ◌-◌, ◌*◌, ◌<◌, ◌≤◌, ◌&&◌, ◌||◌, not, cond, Bool, true, false, List, [], ◌∷◌, ◌++◌, Some, None, arith}
-use Rattle.std.specs.Prelude.{◌==◌, nat_le, nat_lt}
-use Rattle.std.proofs.lemmas.Bool.{and_right, both_ways, cases_Bool, cases_eq, cases_lt, eq-eqb, le-leb, le-ltb, lt-leb, lt-ltb, ne_eqb}
-use Rattle.std.proofs.lemmas.List.{length-append}
+use Rattle.std.proofs.Common.{◌≡◌, ◌≢◌, inl, refl, ap, ℕ, suc, ◌+◌, ◌*◌, ◌<◌, ◌≤◌, Bool, true, false, List, Some, None, arith}
 use Rattle.std.proofs.Math.Nat.{mul-le-mul_right}
 use Rattle.wl_level.specs.declared.Level.{Level}
-use Rattle.wl_level.specs.declared.Level.TheVariants.{Dominant, Recessive}
-use Rattle.wl_level.specs.Levels.{is_dominant, level_of}
-use Rattle.wl_level.specs.Places.{at}
-use Rattle.wl_level.proofs.Callers.{at_front, at_new}
 use Rattle.wl_segments.specs.Lengths.{bit_quanta, sample_at}
-use Rattle.wl_topology.specs.Driven.{any_below}
-use Rattle.wl_topology.proofs.Callers.{any_one}
-use Rattle.wl_frame.specs.Grammar.{bits_of}
-use Rattle.wl_frame.specs.Laws.{IsEdge, up_to_ack}
-use Rattle.wl_frame.proofs.Callers.{length_more}
 use Rattle.wl_machine.specs.Frames.{stuffed_end}
 use Rattle.wl_phase.specs.Clocks.{steady_tick}
 use Rattle.wl_buses.specs.OneFrame.Stations.{AreStations, HaveRoom, HaveRoomToSample, Stations, bit_drift, shared_instant, shared_quantum}
-use Rattle.wl_buses.specs.OneFrame.Starts.{BeginBit, Drives, Start, reaches_at}
-use Rattle.wl_buses.specs.OneFrame.OneBit.{FollowsOne}
-use Rattle.wl_buses.specs.OneFrame.Course.{begins_with_edge, bus_bit, since_edge}
+use Rattle.wl_buses.specs.OneFrame.Starts.{BeginBit, Start, reaches_at}
+use Rattle.wl_buses.specs.OneFrame.Course.{since_edge}
 use Rattle.wl_buses.specs.OneFrame.Machines.{HasWon, bus_levels}
 use Rattle.wl_buses.specs.OneFrame.Acknowledged.{AreAllClose, CatchUp, IsAcknowledgedByAll, IsAnsweredByAll, answering, chased_way, gathered_way, most_overrun}
-use Rattle.wl_buses.specs.OneFrame.Expected.{IsOutset, Outset, edge_start, expected_bits, expected_drove, expected_end, plain_start, settled, wants}
+use Rattle.wl_buses.specs.OneFrame.Expected.{IsOutset, Outset, edge_start, expected_bits, expected_drove, expected_end, settled, wants}
 use Rattle.wl_buses.proofs.OneFrame.Acks.{acknowledged}
-use Rattle.wl_buses.proofs.OneFrame.AckWays.{any_close, begin_there, chased_stations, closer, fits_but, gathered_stations, there_drives}
-use Rattle.wl_buses.proofs.OneFrame.Settling.{begin_bit, begins_by, caught}
-use Rattle.wl_buses.proofs.OneFrame.Expecting.{course, drives_are, edge_is, from_all, from_sample, none_driven, plain_is}
-use Rattle.wl_buses.proofs.OneFrame.Measures.{drifted, instant_more, tick_next, ticks_before}
-use Rattle.wl_buses.proofs.OneFrame.Machines.{level_back, levels_length}
-use Rattle.wl_buses.proofs.OneFrame.Lines.{no_or}
+use Rattle.wl_buses.proofs.OneFrame.AckWays.{any_close, chased_stations, closer, fits_but, gathered_stations}
+use Rattle.wl_buses.proofs.OneFrame.Expecting.{course}
+use Rattle.wl_buses.proofs.OneFrame.Measures.{drifted, instant_more, ticks_before}
 use Rattle.wl_buses.proofs.OneFrame.Passing.{same_places}
-use Rattle.wl_buses.specs.FrameEnd.Ends.{end_bit}
-use Rattle.wl_buses.specs.FrameEnd.Asked.{EndAsAsked}
 use Rattle.wl_buses.proofs.FrameEnd.Below.{MachineLaws}
-use Rattle.wl_buses.proofs.FrameEnd.Asked.{and_yes, as_asked, not_first}
 use Rattle.wl_buses.proofs.FrameEnd.Delimiter as delimiter
 pub use Rattle.wl_buses.proofs.FrameEnd.Delimiter.{delimiter_from, delimiter_place, few, last, last_is, over_is, slot_is}
 

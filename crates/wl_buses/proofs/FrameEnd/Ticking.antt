@@ -25,7 +25,7 @@ use Rattle.wl_buses.proofs.OneFrame.Seeing.{place_up}
 use Rattle.wl_buses.proofs.OneFrame.Measures.{tick_next}
 use Rattle.wl_buses.specs.FrameEnd.Ends.{end_bit}
 use Rattle.wl_buses.specs.FrameEnd.Clocks.{SeesEnd}
-use Rattle.wl_buses.specs.FrameEnd.Finds.{FindsTheEnd, slot_of}
+use Rattle.wl_buses.specs.FrameEnd.Finds.{FindsTheEnd, ack_slot}
 use Rattle.wl_buses.proofs.FrameEnd.Below.{ClockLaws, MachineLaws}
 use Rattle.wl_buses.proofs.FrameEnd.Slot.{slot_is}
 use Rattle.wl_buses.proofs.FrameEnd.Placing as placing
@@ -150,16 +150,16 @@ module _ (m : MachineLaws) (s : Stations) (are : AreStations s) (room : HaveRoom
     next_is : bits (suc n) ≡ e
     next_is = ap (λ k. bits (suc k)) slot ∙ slot_is m s are room o is end valid over won
 
-    slot_e : slot_of s o end ≡ e
+    slot_e : ack_slot s o end ≡ e
     slot_e = slot_is m s are room o is end valid over won
 
     begin : BeginsAlone s e i ⊎ FollowsSoft s e i
     begin = subst (λ b. BeginsAlone s b i ⊎ FollowsSoft s b i) slot_e hears.begin
 
-    drives_slot : (k : ℕ) → Drives s e i k → Drives s (slot_of s o end) i k
+    drives_slot : (k : ℕ) → Drives s e i k → Drives s (ack_slot s o end) i k
     drives_slot k h = subst (λ b. Drives s b i k) (sym slot_e) h
 
-    reaches_same : (k : ℕ) → reaches_at s (slot_of s o end) k i ≡ reaches_at s e k i
+    reaches_same : (k : ℕ) → reaches_at s (ack_slot s o end) k i ≡ reaches_at s e k i
     reaches_same k = ap (λ b. reaches_at s b k i) slot_e
 
     S_next : S (suc n) ≡ e.place i + sample_at l

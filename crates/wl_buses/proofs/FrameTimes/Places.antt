@@ -18,7 +18,7 @@ use Rattle.wl_buses.proofs.OneFrame.Measures.{instant_more}
 use Rattle.wl_buses.proofs.OneFrame.Passing.{sampled_bit, still_before}
 use Rattle.wl_buses.specs.FrameEnd.Again.{HasRoomToRest}
 use Rattle.wl_buses.proofs.FrameEnd.Below.{MachineLaws}
-use Rattle.wl_buses.proofs.FrameEnd.Next.{place_after}
+use Rattle.wl_buses.proofs.FrameEnd.Placing.{place_after}
 use Rattle.wl_buses.proofs.FrameEnd.Slot.{answered, delimiter_place, heard, last, last_is}
 
 -- A bit that a station drives dominant begins no later than it is due, and any other one a jump later at most.
@@ -132,7 +132,7 @@ module _ (m : MachineLaws) (s : Stations) (are : AreStations s) (room : HaveRoom
 
   -- and after it each bit is a bit later
   pub after : (n i : ℕ) → n ≤ 11 → (bits (suc end + n)).place i ≡ (bits (suc end)).place i + n * quanta i
-  after n i small = place_after m s are room o is end valid over won chase catch enough rest n i small
+  after n i small = place_after m s are room o is end valid over won n i small
 
   after_next : (n i : ℕ) → end < n → n < end + 12 → (bits (suc n)).place i ≡ (bits n).place i + quanta i
   after_next n i later low =

@@ -10,7 +10,7 @@ use Rattle.wl_buses.proofs.OneFrame.Starting.{IsAhead, followed, alone, no_more}
 use Rattle.wl_phase.proofs.Callers.{few_of}
 
 -- what moves to an aim by the jump at most, and doesn't get there
-stays_above : (aim jump n : ℕ) → aim < moved_to aim jump n → n ≡ moved_to aim jump n + jump
+pub stays_above : (aim jump n : ℕ) → aim < moved_to aim jump n → n ≡ moved_to aim jump n + jump
 stays_above aim jump n h = omega arith
 
 pub stays_below : (aim jump n : ℕ) → moved_to aim jump n < aim → moved_to aim jump n ≡ n + jump

@@ -8,14 +8,14 @@ use Rattle.wl_topology.specs.Driven.{driven}
 use Rattle.wl_machine.specs.Frames.{stuffed_end}
 use Rattle.wl_phase.specs.Clocks.{steady_tick}
 use Rattle.wl_buses.specs.OneFrame.Stations.{AreStations, HaveRoom, ReachesBy, Stations, bit_drift, shared_instant, shared_quantum, with_longer_ways}
-use Rattle.wl_buses.specs.OneFrame.Starts.{BeginsAlone, Drives, FindsFirst, FollowsSoft, Start, reaches_at}
+use Rattle.wl_buses.specs.OneFrame.Starts.{BeginsAlone, Drives, FollowsSoft, Start, reaches_at}
 use Rattle.wl_buses.specs.OneFrame.OneBit.{FollowsOne}
 use Rattle.wl_buses.specs.OneFrame.Course.{bus_bit, since_edge, still_sends}
 use Rattle.wl_buses.specs.OneFrame.Machines.{HasWon, bus_levels}
 use Rattle.wl_buses.specs.OneFrame.Acknowledged.{IsAnsweredByAll, answering, gathered_by}
 use Rattle.wl_buses.specs.OneFrame.Expected.{IsOutset, Outset, edge_start, expected_bits, expected_drove, expected_end, expected_sample, most, settled, wants}
-use Rattle.wl_buses.specs.FrameEnd.Finds.{FindsTheEnd, IsAnsweredBy, finds_at, slot_of}
-use Rattle.wl_buses.specs.OneListener.Beside.{AreCloseBeside, HearsTheEnd, ListensToTheEnd, beside, no_listener, others_answering}
+use Rattle.wl_buses.specs.FrameEnd.Finds.{FindsTheEnd, IsAnsweredBy, finds_at, ack_slot}
+use Rattle.wl_buses.specs.OneListener.Beside.{AreCloseBeside, HearsTheEnd, ListensToTheEnd, with_listener, no_listener, others_answering}
 use Rattle.wl_buses.specs.OneListener.Ends.{CanBeHeard, HasRoomToRestBeside, IsUnheard}
 use Rattle.wl_buses.proofs.OneFrame.Acks.{another}
 use Rattle.wl_buses.proofs.OneFrame.AckWays.{answering_stations, close_if_one_answers}
@@ -29,15 +29,15 @@ use Rattle.wl_buses.proofs.FrameEnd.Delimiter as delimiter
 use Rattle.wl_buses.proofs.FrameEnd.Placing as placing
 use Rattle.wl_buses.proofs.OneListener.Hearing as hearing
 
-module _ (m : MachineLaws) (s : Stations) (are : AreStations (beside s)) (room : HaveRoom (beside s)) (mute : s.may_send s.count ≡ false) (o : Outset) (is : IsOutset (beside s) o) (end : ℕ)
-    (valid : (n : ℕ) → n < end → stuffed_end (bus_levels (beside s) (expected_bits (beside s) o) n) ≡ None)
-    (over : stuffed_end (bus_levels (beside s) (expected_bits (beside s) o) end) ≡ Some end) (won : HasWon (beside s) (expected_bits (beside s) o) o.frames end)
+module _ (m : MachineLaws) (s : Stations) (are : AreStations (with_listener s)) (room : HaveRoom (with_listener s)) (mute : s.may_send s.count ≡ false) (o : Outset) (is : IsOutset (with_listener s) o) (end : ℕ)
+    (valid : (n : ℕ) → n < end → stuffed_end (bus_levels (with_listener s) (expected_bits (with_listener s) o) n) ≡ None)
+    (over : stuffed_end (bus_levels (with_listener s) (expected_bits (with_listener s) o) end) ≡ Some end) (won : HasWon (with_listener s) (expected_bits (with_listener s) o) o.frames end)
     (way : ℕ → ℕ → ℕ) (chase more : ℕ → ℕ) (can : CanBeHeard s won.station way chase more) (unheard : IsUnheard s o end) where
   abbrev l : ℕ
   l = s.count
 
   abbrev x : Stations
-  x = beside s
+  x = with_listener s
 
   abbrev winner : ℕ
   winner = won.station
@@ -308,13 +308,13 @@ module _ (m : MachineLaws) (s : Stations) (are : AreStations (beside s)) (room :
   abbrev point : ℕ
   point = sample_at (s.lengths l)
 
-  reaches_same : (k i : ℕ) → reaches_at x (slot_of x o end) k i ≡ reaches_at x e k i
+  reaches_same : (k i : ℕ) → reaches_at x (ack_slot x o end) k i ≡ reaches_at x e k i
   reaches_same k i = ap (λ b. reaches_at x b k i) slot_is
 
   S_slot : S (suc end) l ≡ e.place l + point
   S_slot = ap (λ b. b.place l + point) slot_is
 
-  other_inside : (k : ℕ) → Drives x (slot_of x o end) l k → k < s.count
+  other_inside : (k : ℕ) → Drives x (ack_slot x o end) l k → k < s.count
   other_inside k h = (let low = h.inside in let other = h.other in omega (arith, low, other))
 
   -- what one of the others begins up to eleven bits' drift later than its way, and what the listener begins
@@ -421,7 +421,7 @@ module _ (m : MachineLaws) (s : Stations) (are : AreStations (beside s)) (room :
   answered_at : (t : ℕ) → S end l < t → finds_at x o end l t ≡ true → IsAnsweredBy x o end l t
   answered_at t after f = (let w = m.driven.dominant_by x.count s.delay drove l (tick l t) f in answered_by t w.0 after w.1 w.2 w.3)
 
-  lasts : (k t : ℕ) → Drives x (slot_of x o end) l k → reaches_at x (slot_of x o end) k l ≤ tick l t → t ≤ S (suc end) l → finds_at x o end l t ≡ true
+  lasts : (k t : ℕ) → Drives x (ack_slot x o end) l k → reaches_at x (ack_slot x o end) k l ≤ tick l t → t ≤ S (suc end) l → finds_at x o end l t ≡ true
   lasts k t drives reach by_next =
       let by = other_inside k drives in
       let same = reaches_same k l in

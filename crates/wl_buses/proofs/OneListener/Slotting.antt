@@ -1,6 +1,5 @@
 -- How far apart the ACK slot begins at the others and at a station that only listens.
-use Rattle.std.proofs.Common.{◌≡◌, ◌≢◌, ◌∙◌, ◌⊎◌, inl, inr, refl, sym, ap, subst, ℕ, zero, suc, ◌+◌, ◌-◌, ◌*◌, ◌<◌, ◌≤◌, Bool, true, false, not, ◌&&◌, arith}
-use Rattle.std.specs.Prelude.{◌==◌}
+use Rattle.std.proofs.Common.{◌≡◌, ◌≢◌, ◌∙◌, inl, inr, refl, sym, ap, subst, ℕ, zero, suc, ◌+◌, ◌-◌, ◌*◌, ◌<◌, ◌≤◌, Bool, true, not, ◌&&◌, arith}
 use Rattle.std.proofs.lemmas.Bool.{and_from, and_parts, cases_lt, ne_eqb}
 use Rattle.std.proofs.Math.Nat.{mul-le-mul_right}
 use Rattle.wl_segments.specs.Lengths.{bit_quanta, sample_at}
@@ -12,18 +11,15 @@ use Rattle.wl_buses.specs.OneFrame.Stations.{Stations, AreClose, AreStations, Fi
 use Rattle.wl_buses.specs.OneFrame.Starts.{Start, AreAllowed, BeginBit, BeginsAlone, Drives, FollowsSoft, reaches_at}
 use Rattle.wl_buses.specs.OneFrame.OneBit.{AreRight, sampled_at}
 use Rattle.wl_buses.specs.OneFrame.Acknowledged.{AreAllClose, IsAcknowledgedByAll, IsAnsweredByAll, answering, recessive_bit}
-use Rattle.wl_buses.specs.OneListener.Beside.{AreCloseBeside, HasRoomToListen, ListensToTheEnd, beside, no_listener, others_answering}
+use Rattle.wl_buses.specs.OneListener.Beside.{AreCloseBeside, HasRoomToListen, ListensToTheEnd, with_listener, no_listener, others_answering}
 use Rattle.wl_buses.proofs.OneFrame.Acks.{acknowledged, delimited, slotted}
 use Rattle.wl_buses.proofs.OneFrame.AckWays.{begin_there}
 use Rattle.wl_buses.proofs.OneFrame.Measures.{drifted, exact_before, instant_more, tick_next, ticks_before, ticks_by}
-use Rattle.wl_buses.proofs.OneFrame.Nearing.{ahead_by, due_by, from_by, stays_below}
+use Rattle.wl_buses.proofs.OneFrame.Nearing.{ahead_by, due_by, from_by, stays_above, stays_below}
 use Rattle.wl_buses.proofs.OneFrame.Passing.{same_places}
 use Rattle.wl_buses.proofs.OneFrame.Starting.{IsAhead, alone, followed, followed_one}
 
--- what moves to an aim by the jump at most, and doesn't get there, and what moves back
-stays_above : (aim jump n : ℕ) → aim < moved_to aim jump n → n ≡ moved_to aim jump n + jump
-stays_above aim jump n h = omega arith
-
+-- what moves back to an aim
 moves_down : (aim jump n : ℕ) → aim ≤ n → (moved_to aim jump n ≤ n) × (aim ≤ moved_to aim jump n)
 moves_down aim jump n h = (omega arith, omega arith)
 
@@ -138,7 +134,7 @@ module _ (s : Stations) (way : ℕ → ℕ → ℕ) (more : ℕ → ℕ) (are : 
 
   -- whose edges the listener finds
   abbrev Finds : ℕ → Type 0
-  Finds k = Drives (beside s) slot l k
+  Finds k = Drives (with_listener s) slot l k
 
   drives_l : (k : ℕ) → k < s.count → slot.drives k ≡ true → Finds k
   drives_l k there dominant = record { inside = beside_l k there; other = λ e. other_l k there (sym e); dominant = dominant }
@@ -183,10 +179,10 @@ module _ (s : Stations) (way : ℕ → ℕ → ℕ) (more : ℕ → ℕ) (are : 
   abbrev Ahead : ℕ → ℕ → Type 0
   Ahead i k = IsAhead p are more b allowed i k
 
-  alone_ahead : (k : ℕ) → Finds k → BeginsAlone (beside s) slot l → Ahead l k
+  alone_ahead : (k : ℕ) → Finds k → BeginsAlone (with_listener s) slot l → Ahead l k
   alone_ahead k drives itself = (let first = itself.unfound k drives in exact_before p are l k inside_l drives.inside (slot.place l) (slot.from k) (s.delay k l + more l) (omega arith))
 
-  near_ahead : (k : ℕ) → Finds k → (f : FollowsSoft (beside s) slot l) → slot.place l ≤ f.found - 1 → Ahead l k
+  near_ahead : (k : ℕ) → Finds k → (f : FollowsSoft (with_listener s) slot l) → slot.place l ≤ f.found - 1 → Ahead l k
   near_ahead k drives f close =
       let later = f.finds.later in
       let unseen = f.finds.finds.unseen (f.found - 1) (omega arith) in
@@ -320,7 +316,7 @@ module _ (s : Stations) (way : ℕ → ℕ → ℕ) (more : ℕ → ℕ) (are : 
       let f : shared_instant s l k (slot.place l) ≡ shared_instant s l k (slot.due l) = ap (shared_instant s l k) at in
       omega arith
 
-  in_followed : (k : ℕ) → k < s.count → slot.drives k ≡ true → FollowsSoft (beside s) slot l → ReachesBy q 0 k l (slot.place k) (slot.place l)
+  in_followed : (k : ℕ) → k < s.count → slot.drives k ≡ true → FollowsSoft (with_listener s) slot l → ReachesBy q 0 k l (slot.place k) (slot.place l)
   in_followed k there dominant soft =
       let at = soft.place in
       let early = soft.early own.answers in

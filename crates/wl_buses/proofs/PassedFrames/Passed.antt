@@ -21,7 +21,6 @@ use Rattle.wl_node.specs.History.{History, sampled_next}
 use Rattle.wl_phase.specs.Clocks.{steady_tick}
 use Rattle.wl_phase.specs.Ways.{ByTheBook, WayLaws}
 use Rattle.wl_wire.specs.InStep.{is_fine}
-use Rattle.wl_buses.specs.OneFrame.Acknowledged.{CatchUp, answering, chased_way}
 use Rattle.wl_buses.specs.OneFrame.Clocked.{NoEdgeLaws}
 use Rattle.wl_buses.specs.OneFrame.Course.{bus_bit}
 use Rattle.wl_buses.specs.OneFrame.Expected.{IsOutset, Outset, expected_bits, expected_drove, expected_sample}
@@ -29,15 +28,16 @@ use Rattle.wl_buses.specs.OneFrame.Lines.{BeginsAfter}
 use Rattle.wl_buses.specs.OneFrame.Machines.{HasWon, MayBegin, bus_levels}
 use Rattle.wl_buses.specs.OneFrame.Nodes.{IsRun, clock_sees}
 use Rattle.wl_buses.specs.OneFrame.Starts.{Drives, reaches_at}
-use Rattle.wl_buses.specs.OneFrame.Stations.{AreStations, HaveRoom, HaveRoomToSample, Stations}
+use Rattle.wl_buses.specs.OneFrame.Stations.{AreStations, HaveRoom, Stations}
 use Rattle.wl_buses.proofs.OneFrame.Expecting.{from_sample}
 use Rattle.wl_buses.proofs.OneFrame.TakenOn.{TakesOn}
 use Rattle.wl_buses.specs.FirstFrame.Faults.{is_fault}
+use Rattle.wl_buses.specs.FrameEnd.Finds.{FindsTheEnd}
 use Rattle.wl_buses.specs.FrameEnd.Again.{RestsAgain}
 use Rattle.wl_buses.specs.FrameEnd.Asked.{EndAsAsked}
 use Rattle.wl_buses.specs.FrameEnd.Rests.{passed_frame, passing_bit}
 use Rattle.wl_buses.proofs.FrameEnd.Below.{MachineLaws}
-use Rattle.wl_buses.proofs.FrameEnd.Hearing.{found_was, samples_up}
+use Rattle.wl_buses.proofs.FrameEnd.Placing.{found_was, samples_up}
 use Rattle.wl_buses.specs.NextFrames.NextNodes.{GoesThrough}
 use Rattle.wl_buses.specs.PassedFrames.Passing.{PassesOne}
 use Rattle.wl_buses.proofs.PassedFrames.Judging.{takes_idle, takes_stuffed}
@@ -60,15 +60,14 @@ passing_place false = (omega arith, omega arith)
 module _ (m : MachineLaws) (ways : WayLaws) (calm_clock : NoEdgeLaws) (s : Stations) (are : AreStations s) (room : HaveRoom s) (o : Outset) (is : IsOutset s o) (end : ℕ) (some : 0 < end)
     (valid : (n : ℕ) → n < end → stuffed_end (bus_levels s (expected_bits s o) n) ≡ None)
     (over : stuffed_end (bus_levels s (expected_bits s o) end) ≡ Some end) (won : HasWon s (expected_bits s o) o.frames end)
-    (chase : ℕ → ℕ) (catch : CatchUp s won.station chase) (enough : HaveRoomToSample (answering s (chased_way s won.station chase)))
-    (asked : EndAsAsked s o end won.station won.frame) (i : ℕ) (inside : i < s.count)
+    (asked : EndAsAsked s o end won.station won.frame) (i : ℕ) (inside : i < s.count) (hears : FindsTheEnd s o end i)
     (setup : NodeSetup) (segments : setup.segments ≡ s.lengths i) (levels : ℕ → Level) (node : ℕ → History) (run : IsRun setup levels node) (since rest : ℕ)
     (after : BeginsAfter s o i rest) (rests : RestsAgain s (o.past i) i levels node rest since)
     (finds : (q : ℕ) → rest + sample_at (s.lengths i) < q → q ≤ expected_sample s o (end + 12) i
     → levels q ≡ level_of (driven s.count s.delay (expected_drove s o (end + 13)) i (steady_tick (s.clocks i) q)))
-    (early : steps.Early m ways s are room o is end some valid over won chase catch enough asked i inside)
-    (late : steps.Late m ways s are room o is end some valid over won chase catch enough asked i inside)
-    (ends : steps.Ends m ways s are room o is end some valid over won chase catch enough asked i inside)
+    (early : steps.Early m ways s are room o is end some valid over won asked i inside hears)
+    (late : steps.Late m ways s are room o is end some valid over won asked i inside hears)
+    (ends : steps.Ends m ways s are room o is end some valid over won asked i inside hears)
     (nothing : Nothing s o end i) (x : GoesThrough s o end won.station i won.frame setup levels node since) where
   abbrev R : ℕ
   R = rest + sample_at (s.lengths i)
@@ -98,9 +97,9 @@ module _ (m : MachineLaws) (ways : WayLaws) (calm_clock : NoEdgeLaws) (s : Stati
   silent : (q : ℕ) → R < q → q ≤ o.start.from i → ((k : ℕ) → Drives s o.start i k → steady_tick (s.clocks i) q < reaches_at s o.start k i) → levels q ≡ Recessive
   silent q more less unreached =
       let sample = by_first in
-      let stuffed = samples_up m s are room o is end valid over won chase catch enough 0 end i inside (omega arith) in
-      let third = samples_up m s are room o is end valid over won chase catch enough end (end + 12) i inside (omega arith) in
-      finds q more (omega arith) ∙ ap level_of (found_was m s are room o is end valid over won chase catch enough i q inside (omega arith)) ∙ ap level_of (nothing q less unreached)
+      let stuffed = samples_up m s are room o is end valid over won 0 end i inside (omega arith) in
+      let third = samples_up m s are room o is end valid over won end (end + 12) i inside (omega arith) in
+      finds q more (omega arith) ∙ ap level_of (found_was m s are room o is end valid over won i inside hears.later q (omega arith)) ∙ ap level_of (nothing q less unreached)
 
   none : samples.NoneSamples (s.lengths i) sees R (S 0)
   none = none_first ways calm_clock s are o i inside rest after sees Recessive first rests.sampled x.begins.bit.clock.sampled silent (is.begin i inside)
@@ -117,7 +116,7 @@ module _ (m : MachineLaws) (ways : WayLaws) (calm_clock : NoEdgeLaws) (s : Stati
 
   takes : TakesOn (judged X given)
   takes =
-      let f = steps.framing_at m ways s are room o is end some valid over won chase catch enough asked i inside 0 some in
+      let f = steps.framing_at m ways s are room o is end some valid over won asked i inside hears 0 some in
       let then = samples.stretch_then setup levels node run (s.lengths i) segments R (S 0) longer none first x.begins.bit.clock.sampled X rests.stretch rests.counts x.begins.bit.counts in
       takes_by (is.may i inside) f.0 (ap (λ y. y.sort) (sym then ∙ x.begins.bit.stretch ∙ f.1))
 
@@ -129,8 +128,8 @@ module _ (m : MachineLaws) (ways : WayLaws) (calm_clock : NoEdgeLaws) (s : Stati
   by_low = let h = longer in omega arith
 
   goes_at : (n : ℕ) → n < end + 12
-      → steps.Goes m ways s are room o is end some valid over won chase catch enough asked i inside setup segments levels node run since R by_low finds early late ends x n
-  goes_at n less = steps.goes_at m ways s are room o is end some valid over won chase catch enough asked i inside setup segments levels node run since R by_low finds early late ends x n less
+      → steps.Goes m ways s are room o is end some valid over won asked i inside hears setup segments levels node run since R by_low finds early late ends x n
+  goes_at n less = steps.goes_at m ways s are room o is end some valid over won asked i inside hears setup segments levels node run since R by_low finds early late ends x n less
 
   count_at : (p : Happened → Bool) → IsCalm p → (n : ℕ) → n ≤ end + 12 → count_by p (node (suc (S n))).happened ≡ count_by p (node (suc R)).happened
   count_at p calm zero less =

@@ -26,25 +26,25 @@ use Rattle.wl_phase.specs.Clocks.{steady_tick}
 use Rattle.wl_phase.specs.Ways.{ByTheBook, WayLaws}
 use Rattle.wl_wire.specs.InStep.{is_fine}
 use Rattle.wl_wire.specs.Wire.{sampled}
-use Rattle.wl_buses.specs.OneFrame.Acknowledged.{CatchUp, answering, chased_way}
 use Rattle.wl_buses.specs.OneFrame.Clocked.{BitIs}
 use Rattle.wl_buses.specs.OneFrame.Course.{bus_bit}
 use Rattle.wl_buses.specs.OneFrame.Expected.{HasSampled, IsOutset, Outset, SeesExpected, expected_bits, expected_drove, expected_sample, past_at, wants}
 use Rattle.wl_buses.specs.OneFrame.Machines.{AreMachines, HasWon, bus_levels}
 use Rattle.wl_buses.specs.OneFrame.Nodes.{IsInBit, IsRun, clock_sees}
 use Rattle.wl_buses.specs.OneFrame.Starts.{Start}
-use Rattle.wl_buses.specs.OneFrame.Stations.{AreStations, HaveRoom, HaveRoomToSample, Stations}
+use Rattle.wl_buses.specs.OneFrame.Stations.{AreStations, HaveRoom, Stations}
 use Rattle.wl_buses.proofs.OneFrame.Expecting.{after_there, drives_are}
 use Rattle.wl_buses.proofs.OneFrame.Machines.{goes, levels_length}
 use Rattle.wl_buses.proofs.OneFrame.Nodes.{has_expected}
 use Rattle.wl_buses.proofs.OneFrame.Seeing.{right_at}
 use Rattle.wl_buses.proofs.OneFrame.TakenOn.{TakesOn}
+use Rattle.wl_buses.specs.FrameEnd.Finds.{FindsTheEnd}
 use Rattle.wl_buses.specs.FrameEnd.Asked.{EndAsAsked, begun_frame}
 use Rattle.wl_buses.specs.FrameEnd.Clocks.{SeesEnd}
 use Rattle.wl_buses.specs.FrameEnd.Ends.{GoesToEnd, end_bit, end_frame, end_levels, end_stretch}
 use Rattle.wl_buses.specs.FrameEnd.Rests.{passing_bit}
 use Rattle.wl_buses.proofs.FrameEnd.Below.{MachineLaws}
-use Rattle.wl_buses.proofs.FrameEnd.Hearing.{begins_after, found_was, samples_up}
+use Rattle.wl_buses.proofs.FrameEnd.Placing.{begins_after, found_was, samples_up}
 use Rattle.wl_buses.specs.NextFrames.NextNodes.{GoesThrough}
 use Rattle.wl_buses.proofs.FrameEnd.Sampling as sampling
 use Rattle.wl_buses.proofs.PassedFrames.Between as between
@@ -55,8 +55,7 @@ use Rattle.wl_buses.proofs.PassedFrames.Samples as samples
 module _ (m : MachineLaws) (ways : WayLaws) (s : Stations) (are : AreStations s) (room : HaveRoom s) (o : Outset) (is : IsOutset s o) (end : ℕ) (some : 0 < end)
     (valid : (n : ℕ) → n < end → stuffed_end (bus_levels s (expected_bits s o) n) ≡ None)
     (over : stuffed_end (bus_levels s (expected_bits s o) end) ≡ Some end) (won : HasWon s (expected_bits s o) o.frames end)
-    (chase : ℕ → ℕ) (catch : CatchUp s won.station chase) (enough : HaveRoomToSample (answering s (chased_way s won.station chase)))
-    (asked : EndAsAsked s o end won.station won.frame) (i : ℕ) (inside : i < s.count) where
+    (asked : EndAsAsked s o end won.station won.frame) (i : ℕ) (inside : i < s.count) (hears : FindsTheEnd s o end i) where
   abbrev bits : ℕ → Start
   bits = expected_bits s o
 
@@ -108,8 +107,8 @@ module _ (m : MachineLaws) (ways : WayLaws) (s : Stations) (are : AreStations s)
   -- its samples come one after another
   inner : (n : ℕ) → n < end + 12 → (S 0 ≤ S n) × (S (suc n) ≤ S (end + 12))
   inner n less = (
-    samples_up m s are room o is end valid over won chase catch enough 0 n i inside (omega arith),
-    samples_up m s are room o is end valid over won chase catch enough (suc n) (end + 12) i inside less,
+    samples_up m s are room o is end valid over won 0 n i inside (omega arith),
+    samples_up m s are room o is end valid over won (suc n) (end + 12) i inside less,
   )
 
   module _ (setup : NodeSetup) (segments : setup.segments ≡ s.lengths i) (levels : ℕ → Level) (node : ℕ → History) (run : IsRun setup levels node) (since low : ℕ) (by_low : low ≤ S 0)
@@ -187,8 +186,8 @@ module _ (m : MachineLaws) (ways : WayLaws) (s : Stations) (are : AreStations s)
           (let within = inner n (omega arith) in
           let low = within.0 in
           let high = within.1 in
-          let stuffed = samples_up m s are room o is end valid over won chase catch enough (suc n) end i inside (omega arith) in
-          finds q (omega arith) (omega arith) ∙ ap level_of (found_was m s are room o is end valid over won chase catch enough i q inside (omega arith)))
+          let stuffed = samples_up m s are room o is end valid over won (suc n) end i inside (omega arith) in
+          finds q (omega arith) (omega arith) ∙ ap level_of (found_was m s are room o is end valid over won i inside hears.later q (omega arith)))
 
       sees_early : SeesExpected s o end i expects n
       sees_early = record {
@@ -223,7 +222,7 @@ module _ (m : MachineLaws) (ways : WayLaws) (s : Stations) (are : AreStations s)
       at_end = in_bit n (omega arith)
 
       begins_end : S n < (bits (suc n)).from i
-      begins_end = begins_after m s are room o is end valid over won chase catch enough place n i small there inside
+      begins_end = begins_after m s are room o is end valid over won i inside hears.later place n small there
 
       abbrev expects_end : ℕ → Seen
       expects_end = between.expects setup levels node run s o i n segments at_end begins_end

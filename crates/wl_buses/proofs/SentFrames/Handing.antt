@@ -25,7 +25,7 @@ use Rattle.wl_buses.specs.FrameEnd.Again.{RestsAgain}
 use Rattle.wl_buses.specs.FrameEnd.Asked.{CanBeAnswered, EndsBefore}
 use Rattle.wl_buses.specs.FrameEnd.Rests.{passed_frame, waiting_frame}
 use Rattle.wl_buses.proofs.FrameEnd.Below.{MachineLaws}
-use Rattle.wl_buses.specs.NextFrames.Frames.{FollowOneAnother, Frame, IsBegun, frames_drove, resting_of, third_sample}
+use Rattle.wl_buses.specs.NextFrames.Frames.{FollowOneAnother, Frame, IsBegun, frames_drove, frames_in_order, resting_of, third_sample}
 use Rattle.wl_buses.specs.NextFrames.NextNodes.{HandsNext}
 use Rattle.wl_buses.specs.NextFrames.NextStarts.{AreFreeNext, AreResting, Resting, rest_next, rested, start_next}
 use Rattle.wl_buses.specs.NextFrames.Runs.{GoesThroughOne}
@@ -106,7 +106,7 @@ module _ (m : MachineLaws) (nothing : NothingFound) (is_heard : IsHeard) (rest_a
       (subst (DecidesByQueue (resting_of s (fs n) (fs (suc n)) (frames.next n less)) i (setups i)) (sym (ap (unsent_after (setups i)) x.third)) (by.queues i n less inside))
       (ap (unsent_after (setups i)) x.passed ∙ sym (ap (unsent_after (setups i)) x.third))
 
-  goes_over : (n : ℕ) (less : suc n < count) → Stage n (omega arith) → GoesOn s fs count frames i first_since (setups i) levels node n less
+  goes_over : (n : ℕ) (less : suc n < count) → Stage n (omega arith) → GoesOn s fs count (frames_in_order s fs count frames) i first_since (setups i) levels node n less
   goes_over n less x =
       goes_on m nothing is_heard rest_after rests free wait through s are room fs count frames i inside (setups i) segments levels node run finds first_rest first_since begins first early n less x.goes
       (hand n less x)
@@ -114,11 +114,11 @@ module _ (m : MachineLaws) (nothing : NothingFound) (is_heard : IsHeard) (rest_a
   step : (n : ℕ) (less : suc n < count) → Stage n (omega arith) → Stage (suc n) less
   step n less x =
       let f : IsBegun s (fs n) = frames.each n (omega arith) in
-      let g : GoesOn s fs count frames i first_since (setups i) levels node n less = goes_over n less x in
+      let g : GoesOn s fs count (frames_in_order s fs count frames) i first_since (setups i) levels node n less = goes_over n less x in
       let r : Resting = resting_of s (fs n) (fs (suc n)) (frames.next n less) in
       let clean_then =
       wait_fine (resting_of s (fs n) (fs (suc n)) (frames.next n less)) (past_at s (fs n).outset ((fs n).bits + 12)) are.line
-      (resting m nothing is_heard rest_after s are room fs count frames n less i inside) (free s (fs n).outset (fs n).bits are room f.outset f.ends f.won) i inside (setups i) segments levels node run g.handed
+      (resting m nothing is_heard rest_after s are room fs count frames n less) (free s (fs n).outset (fs n).bits are room f.outset f.ends f.won) i inside (setups i) segments levels node run g.handed
       g.active g.since g.early g.rests g.silent g.hands in
       stage (suc n) less (rest_next (resting_of s (fs n) (fs (suc n)) (frames.next n less)) i) (T n) g.begins g.again (omega arith)
       (λ j e. (let same : j ≡ n = omega (arith, e) in let h : T j ≡ T n = ap T same in omega arith)) g.goes (g.same ∙ x.passed) (clean_then.1 ∙ x.clean)

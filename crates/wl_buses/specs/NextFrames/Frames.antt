@@ -35,6 +35,23 @@ pub record FollowOneAnother (s : Stations) (frames : ℕ → Frame) (count : ℕ
   pub each : (n : ℕ) → n < count → IsBegun s (frames n)
   pub next : (n : ℕ) → suc n < count → IsBegunAfter s (frames n) (frames (suc n))
 
+-- The same of frames, and nothing of how they are acknowledged: what each station finds of that is said of it alone.
+pub record IsOneFrame (s : Stations) (f : Frame) : Type 0 where
+  pub outset : IsOutset s f.outset
+  pub some : 0 < f.bits
+  pub ends : EndsBefore s f.outset f.bits
+  pub won : HasWon s (expected_bits s f.outset) f.outset.frames f.bits
+
+pub record AreInOrder (s : Stations) (frames : ℕ → Frame) (count : ℕ) : Type 0 where
+  pub each : (n : ℕ) → n < count → IsOneFrame s (frames n)
+  pub next : (n : ℕ) → suc n < count → IsBegunAfter s (frames n) (frames (suc n))
+
+abbrev pub frames_in_order : (s : Stations) (frames : ℕ → Frame) (count : ℕ) → FollowOneAnother s frames count → AreInOrder s frames count
+frames_in_order s frames count are = record {
+  each = λ n less. record { outset = (are.each n less).outset; some = (are.each n less).some; ends = (are.each n less).ends; won = (are.each n less).won };
+  next = are.next;
+}
+
 -- the stations between two frames
 abbrev pub resting_of : (s : Stations) (a b : Frame) → IsBegunAfter s a b → Resting
 resting_of s a b next = resting_after s a.outset a.bits next.which next.decides

@@ -9,8 +9,8 @@ use Rattle.wl_buses.specs.OneFrame.OneBit.{sampled_at}
 use Rattle.wl_buses.specs.OneFrame.Acknowledged.{recessive_bit}
 
 -- The stations and the listener, whose number is theirs: so what it drives reaches none of them.
-abbrev pub beside : Stations → Stations
-beside s = record s { count = suc s.count }
+abbrev pub with_listener : Stations → Stations
+with_listener s = record s { count = suc s.count }
 
 -- any of them but the listener
 abbrev pub no_listener : Stations → ℕ → Bool
@@ -40,7 +40,7 @@ pub record HasRoomToListen (s : Stations) (late : ℕ → ℕ → ℕ) : Type 0 
 pub record ListensToTheEnd (s : Stations) (place : ℕ → ℕ) (slot : Start) (over : ℕ → ℕ) (drove : ℕ → ℕ → Bool) (until : ℕ → ℕ) : Type 0 where
   pub answers : slot.drives s.count ≡ true
   pub due : slot.due s.count ≡ place s.count + bit_quanta (s.lengths s.count)
-  pub begin : BeginsAlone (beside s) slot s.count ⊎ FollowsSoft (beside s) slot s.count
+  pub begin : BeginsAlone (with_listener s) slot s.count ⊎ FollowsSoft (with_listener s) slot s.count
   pub ends : over s.count ≡ slot.place s.count + bit_quanta (s.lengths s.count)
   pub quiet : (t : ℕ) → steady_tick (s.clocks s.count) (place s.count) ≤ t → t < steady_tick (s.clocks s.count) (slot.from s.count) → drove s.count t ≡ false
   pub rests : (t : ℕ) → steady_tick (s.clocks s.count) (over s.count) ≤ t → t < until s.count → drove s.count t ≡ false

@@ -127,13 +127,13 @@ pub fn all_find_the_end()
     wl_frame::laws::ten_bits_have_an_edge();
 }
 
-/// Law: a bit clock that sees what is expected goes on as is expected, from the last bit of the stuffed part to the third bit of the
-/// intermission. It begins the ACK slot where that is expected, and samples it dominant, and all that comes after it recessive.
+/// Law: a bit clock goes on as is expected, if it finds the end of the frame and sees what is expected. That is from the last bit of the
+/// stuffed part to the third bit of the intermission. It begins the ACK slot where that is expected. It samples that dominant, and all that
+/// comes after it recessive.
 pub fn bit_clocks_go_to_the_end()
-    ensures { (s : Stations) (o : Outset) (end : ℕ) (chase : ℕ → ℕ) → AreStations s → HaveRoom s
-        → IsOutset s o → EndsBefore s o end → (won : HasWon s (expected_bits s o) o.frames end)
-        → CanBeAnswered s won.station chase
-        → (place n i : ℕ) (seen : ℕ → Seen) → place ≤ 12 → end + place ≡ suc n → i < s.count
+    ensures { (s : Stations) (o : Outset) (end : ℕ) → AreStations s → HaveRoom s → IsOutset s o → EndsBefore s o end
+        → (won : HasWon s (expected_bits s o) o.frames end)
+        → (place n i : ℕ) (seen : ℕ → Seen) → place ≤ 12 → end + place ≡ suc n → i < s.count → FindsTheEnd s o end i
         → SeesEnd s o end i seen n → HasSampled s o i seen n
         → BitIs (s.lengths i) seen (expected_sample s o n i) ((expected_bits s o (suc n)).place i)
         ((expected_bits s o (suc n)).from i)

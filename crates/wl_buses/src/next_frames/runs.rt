@@ -17,7 +17,7 @@ ghost use Rattle.wl_buses.specs.NextFrames.Runs.{GoesThroughOne, HandsBetween};
 
 use crate::next_frames::laws::stations_rest_after_a_frame;
 use crate::next_frames::nodes::{
-    a_node_goes_through_the_next_frame, a_node_waits_for_the_next_frame,
+    a_node_that_finds_its_end_goes_through_the_next_frame, a_node_waits_for_the_next_frame,
 };
 
 /// Law: of several frames that follow one another a station finds one at a time. That is from its third bit of the intermission of one up to
@@ -67,5 +67,5 @@ pub fn a_node_goes_from_frame_to_frame()
     wl_frame::laws::ten_bits_have_an_edge();
     stations_rest_after_a_frame();
     a_node_waits_for_the_next_frame();
-    a_node_goes_through_the_next_frame();
+    a_node_that_finds_its_end_goes_through_the_next_frame();
 }

@@ -41,11 +41,11 @@ pub fn any_two_stay_close()
     wl_topology::driven_laws();
 }
 
-/// Law: so it is of any two stations of which one answers, if others than the answering ones drive nothing that any station hears. Who
-/// doesn't answer has nobody that follows it: so its way there and back isn't asked.
+/// Law: so it is of any two stations if one of them answers, and if only those that answer are heard by others. Nobody follows a station
+/// that doesn't answer: so of that one no way there and back is asked.
 pub fn any_two_stay_close_if_one_answers()
-    ensures { (s : Stations) (answers : ℕ → Bool) (way : ℕ → ℕ → ℕ) (bits : ℕ → Start) (drove : ℕ → ℕ → Bool) (length : ℕ)
-        (until : ℕ → ℕ) (winner : ℕ) (chase : ℕ → ℕ) → AreStations s → HaveRoom s
+    ensures { (s : Stations) (answers : ℕ → Bool) (way : ℕ → ℕ → ℕ) (bits : ℕ → Start) (drove : ℕ → ℕ → Bool)
+        (length : ℕ) (until : ℕ → ℕ) (winner : ℕ) (chase : ℕ → ℕ) → AreStations s → HaveRoom s
         → HaveWays (answering_by s answers way)
         → ((k : ℕ) → k < s.count → s.may_send k ≡ true → answers k ≡ true) → IsCourse s bits drove length until
         → winner < s.count → still_sends s bits length winner ≡ true → CatchUp s winner chase

@@ -1,6 +1,6 @@
 //! Laws of a node that only listens, each proved as the contract of a function that does nothing.
 
-ghost use Rattle.std.specs.Prelude.{◌≡◌, ◌≢◌, ◌+◌, ◌<◌, ◌≤◌, ◌||◌, ◌&&◌, ◌-◌, nat_le, ℕ, suc, Bool, false};
+ghost use Rattle.std.specs.Prelude.{◌≡◌, ◌≢◌, ◌+◌, ◌<◌, ◌≤◌, ◌||◌, ◌&&◌, ◌-◌, nat_le, ℕ, suc, Bool, false, []};
 ghost use Rattle.wl_level.specs.declared.Level.{Level};
 ghost use Rattle.wl_level.specs.Levels.{level_of};
 ghost use Rattle.wl_node.specs.declared.setup.NodeSetup.{NodeSetup};
@@ -9,16 +9,19 @@ ghost use Rattle.wl_topology.specs.Driven.{driven};
 ghost use Rattle.wl_buses.specs.OneFrame.Acknowledged.{IsAnsweredByAll, answering};
 ghost use Rattle.wl_buses.specs.OneFrame.Expected.{IsOutset, Outset, expected_bits, expected_sample};
 ghost use Rattle.wl_buses.specs.OneFrame.Machines.{HasWon};
-ghost use Rattle.wl_buses.specs.OneFrame.Nodes.{IsInBit, IsRun};
+ghost use Rattle.wl_buses.specs.OneFrame.Nodes.{IsRun};
 ghost use Rattle.wl_buses.specs.OneFrame.Starts.{Start};
 ghost use Rattle.wl_buses.specs.OneFrame.Stations.{AreStations, FitsBut, HaveRoom, HaveRoomToSample, Stations, with_longer_ways};
-ghost use Rattle.wl_buses.specs.OneListener.Beside.{AreCloseBeside, HasRoomToListen, HearsTheEnd, ListensToTheEnd, beside, hears, others_answering};
+ghost use Rattle.wl_buses.specs.OneListener.Beside.{AreCloseBeside, HasRoomToListen, HearsTheEnd, ListensToTheEnd, with_listener, hears, others_answering};
 ghost use Rattle.wl_buses.specs.OneListener.Ends.{CanBeHeard, HasRoomToRestBeside, IsUnheard, others_gathered};
 ghost use Rattle.wl_buses.specs.FrameEnd.Asked.{EndsBefore};
 ghost use Rattle.wl_buses.specs.FrameEnd.Finds.{FindsTheEnd, finds_at};
-ghost use Rattle.wl_buses.specs.FrameEnd.Rests.{NodeEnds};
+ghost use Rattle.wl_buses.specs.PassedFrames.Passing.{PassesOne};
 ghost use Rattle.wl_buses.specs.FrameEnd.Again.{RestsAgain};
 ghost use Rattle.wl_buses.specs.NextFrames.NextNodes.{GoesThrough};
+ghost use Rattle.wl_buses.specs.NextFrames.Frames.{AreInOrder, Frame, frames_drove, third_sample};
+ghost use Rattle.wl_buses.specs.OneListener.Frames.{CanAllBeHeard, ReceivesAll};
+ghost use Rattle.wl_frame.specs.Grammar.{Content};
 ghost use Rattle.wl_buses.specs.OneFrame.Lines.{BeginsAfter};
 ghost use Rattle.wl_segments.specs.Lengths.{bit_quanta, sample_at};
 ghost use Rattle.wl_phase.specs.Clocks.{steady_tick};
@@ -47,11 +50,12 @@ pub fn a_listener_samples_the_acknowledgement()
 
 /// Law: so a listener finds the end of each frame that two others at least send and acknowledge, as a station does that they hear.
 pub fn a_listener_finds_the_end()
-    ensures { (s : Stations) (o : Outset) (end : ℕ) (way : ℕ → ℕ → ℕ) (chase more : ℕ → ℕ) → AreStations (beside s)
-        → HaveRoom (beside s) → s.may_send s.count ≡ false → IsOutset (beside s) o → EndsBefore (beside s) o end
-        → (won : HasWon (beside s) (expected_bits (beside s) o) o.frames end)
+    ensures { (s : Stations) (o : Outset) (end : ℕ) (way : ℕ → ℕ → ℕ) (chase more : ℕ → ℕ)
+        → AreStations (with_listener s) → HaveRoom (with_listener s) → s.may_send s.count ≡ false
+        → IsOutset (with_listener s) o → EndsBefore (with_listener s) o end
+        → (won : HasWon (with_listener s) (expected_bits (with_listener s) o) o.frames end)
         → CanBeHeard s won.station way chase more → IsUnheard s o end
-        → (won.station ≢ s.count) × FindsTheEnd (beside s) o end s.count }
+        → (won.station ≢ s.count) × FindsTheEnd (with_listener s) o end s.count }
 {
     wl_topology::driven_laws();
     wl_wire::laws::machines_stay_in_step();
@@ -61,38 +65,18 @@ pub fn a_listener_finds_the_end()
     wl_frame::laws::ten_bits_have_an_edge();
 }
 
-/// Law: so a node that only listens receives the frame. From the last bit of the CRC sequence on it goes to the end of the frame as is
-/// expected: it samples each bit as it is on the bus, finds no error, has received the winner's frame with the last but one bit of the end
-/// of frame, and rests with the third bit of the intermission.
-pub fn a_listener_receives_the_frame()
-    ensures { (s : Stations) (o : Outset) (end : ℕ) (way : ℕ → ℕ → ℕ) (chase more : ℕ → ℕ) → AreStations (beside s)
-        → HaveRoom (beside s) → s.may_send s.count ≡ false → IsOutset (beside s) o → EndsBefore (beside s) o end
-        → (won : HasWon (beside s) (expected_bits (beside s) o) o.frames end)
-        → CanBeHeard s won.station way chase more → IsUnheard s o end
-        → (setup : NodeSetup) (levels : ℕ → Level) (node : ℕ → History)
-        → setup.segments ≡ s.lengths s.count → IsRun setup levels node
-        → ((n q : ℕ) → suc n ≡ end → expected_sample (beside s) o n s.count < q
-        → q ≤ expected_sample (beside s) o (end + 12) s.count
-        → levels q ≡ level_of (finds_at (beside s) o end s.count q))
-        → ((n : ℕ) → suc n ≡ end → IsInBit (beside s) o s.count levels node n)
-        → (won.station ≢ s.count)
-        × NodeEnds (beside s) o end won.station s.count won.frame setup levels node }
-{
-    a_listener_finds_the_end();
-    crate::frame_end::laws::a_node_that_finds_the_end_goes_to_it();
-}
-
 /// Law: and it rests before the next frame, with room for twelve bits' drift at the listener: the start of frame that any of the others
 /// begins by itself, a bit after its third bit of the intermission, reaches it after its own sample of that bit.
 pub fn the_next_frame_finds_a_listener_at_rest()
-    ensures { (s : Stations) (o : Outset) (end : ℕ) (way : ℕ → ℕ → ℕ) (chase more : ℕ → ℕ) → AreStations (beside s)
-        → HaveRoom (beside s) → s.may_send s.count ≡ false → IsOutset (beside s) o → EndsBefore (beside s) o end
-        → (won : HasWon (beside s) (expected_bits (beside s) o) o.frames end)
+    ensures { (s : Stations) (o : Outset) (end : ℕ) (way : ℕ → ℕ → ℕ) (chase more : ℕ → ℕ)
+        → AreStations (with_listener s) → HaveRoom (with_listener s) → s.may_send s.count ≡ false
+        → IsOutset (with_listener s) o → EndsBefore (with_listener s) o end
+        → (won : HasWon (with_listener s) (expected_bits (with_listener s) o) o.frames end)
         → CanBeHeard s won.station way chase more → IsUnheard s o end
         → HasRoomToRestBeside s (with_longer_ways (others_gathered s won.station way chase) more).way
         → (k : ℕ) → k < s.count
-        → steady_tick (s.clocks s.count) (expected_sample (beside s) o (end + 12) s.count)
-        < steady_tick (s.clocks k) ((expected_bits (beside s) o (end + 12)).place k + bit_quanta (s.lengths k))
+        → steady_tick (s.clocks s.count) (expected_sample (with_listener s) o (end + 12) s.count)
+        < steady_tick (s.clocks k) ((expected_bits (with_listener s) o (end + 12)).place k + bit_quanta (s.lengths k))
         + s.delay k s.count }
 {
     wl_topology::driven_laws();
@@ -103,21 +87,60 @@ pub fn the_next_frame_finds_a_listener_at_rest()
     wl_frame::laws::ten_bits_have_an_edge();
 }
 
-/// Law: so a listener that rests goes through the whole next frame, from its rest to its rest, if it finds what the others drive. It begins
-/// the frame by the edge of a start of frame that reaches it.
-pub fn a_listener_goes_through_the_next_frame()
-    ensures { (s : Stations) (o : Outset) (end : ℕ) (way : ℕ → ℕ → ℕ) (chase more : ℕ → ℕ) → AreStations (beside s)
-        → HaveRoom (beside s) → s.may_send s.count ≡ false → IsOutset (beside s) o → 0 < end
-        → EndsBefore (beside s) o end → (won : HasWon (beside s) (expected_bits (beside s) o) o.frames end)
+/// Law: so a listener that rests receives the next frame, if it finds what the others drive, and it hears itself alone. It begins the frame
+/// by the edge of a start of frame that reaches it, samples each bit as it is on the bus, and finds no error. The winner's frame passes it,
+/// and nothing else. With the third bit of the intermission it rests again.
+pub fn a_listener_receives_the_next_frame()
+    ensures { (s : Stations) (o : Outset) (end : ℕ) (way : ℕ → ℕ → ℕ) (chase more : ℕ → ℕ)
+        → AreStations (with_listener s) → HaveRoom (with_listener s) → s.may_send s.count ≡ false
+        → IsOutset (with_listener s) o → 0 < end → EndsBefore (with_listener s) o end
+        → (won : HasWon (with_listener s) (expected_bits (with_listener s) o) o.frames end)
         → CanBeHeard s won.station way chase more → IsUnheard s o end
         → (rest since : ℕ) (setup : NodeSetup) (levels : ℕ → Level) (node : ℕ → History)
-        → setup.segments ≡ s.lengths s.count → IsRun setup levels node → BeginsAfter (beside s) o s.count rest
-        → RestsAgain (beside s) (o.past s.count) s.count levels node rest since
+        → setup.segments ≡ s.lengths s.count → IsRun setup levels node → BeginsAfter (with_listener s) o s.count rest
+        → RestsAgain (with_listener s) (o.past s.count) s.count levels node rest since
         → since ≤ rest + sample_at (s.lengths s.count)
-        → ((q : ℕ) → rest + sample_at (s.lengths s.count) < q → q ≤ expected_sample (beside s) o (end + 12) s.count
-        → levels q ≡ level_of (finds_at (beside s) o end s.count q))
-        → GoesThrough (beside s) o end won.station s.count won.frame setup levels node since }
+        → ((q : ℕ) → rest + sample_at (s.lengths s.count) < q
+        → q ≤ expected_sample (with_listener s) o (end + 12) s.count
+        → levels q ≡ level_of (finds_at (with_listener s) o end s.count q))
+        → (won.station ≢ s.count)
+        × GoesThrough (with_listener s) o end won.station s.count won.frame setup levels node since
+        × PassesOne (with_listener s) o end won.station s.count rest won.frame node }
 {
     a_listener_finds_the_end();
     crate::next_frames::nodes::a_node_that_finds_its_end_goes_through_the_next_frame();
+    crate::passed_frames::laws::a_frame_passes_a_node_that_finds_its_end();
+}
+
+/// Law: so a listener receives frame after frame, if it rests before the first one and finds what all drive in them. It goes through each,
+/// and rests between any two. It has received exactly these frames, in their order, and found no error.
+pub fn a_listener_receives_all_frames()
+    ensures { (s : Stations) (frames : ℕ → Frame) (count : ℕ) (way : ℕ → ℕ → ℕ) (chase more : ℕ → ℕ)
+        → AreStations (with_listener s) → HaveRoom (with_listener s) → s.may_send s.count ≡ false
+        → (are : AreInOrder (with_listener s) frames count) → CanAllBeHeard s frames count are way chase more
+        → (content : ℕ → Content)
+        → ((n : ℕ) (less : n < count) → (are.each n less).won.frame ≡ content n)
+        → (setup : NodeSetup) → setup.segments ≡ s.lengths s.count → setup.queue ≡ []
+        → (levels : ℕ → Level) (node : ℕ → History) → IsRun setup levels node
+        → ((n q : ℕ) → n < count → q ≤ third_sample (with_listener s) (frames n) s.count
+        → levels q
+        ≡ level_of (hears s (frames_drove (with_listener s) frames count) (steady_tick (s.clocks s.count) q)))
+        → (rest since : ℕ) → BeginsAfter (with_listener s) (frames 0).outset s.count rest
+        → RestsAgain (with_listener s) ((frames 0).outset.past s.count) s.count levels node rest since
+        → since ≤ rest + sample_at (s.lengths s.count)
+        → ReceivesAll s frames count are content setup levels node rest since }
+{
+    wl_topology::driven_laws();
+    crate::one_frame::before::nothing_is_found_before_a_frame();
+    crate::frame_end::laws::all_may_begin_again();
+    wl_wire::laws::machines_stay_in_step();
+    wl_wire::laws::the_least_field_wins();
+    wl_machine::laws::a_transmitter_sends_its_head_stuffed();
+    wl_frame::laws::a_front_of_no_stuffing_ends_six_equal_bits();
+    wl_frame::laws::ten_bits_have_an_edge();
+    crate::next_frames::laws::stations_rest_after_a_frame();
+    crate::next_frames::nodes::a_node_waits_for_the_next_frame();
+    crate::next_frames::nodes::a_node_that_finds_its_end_goes_through_the_next_frame();
+    crate::passed_frames::laws::a_frame_passes_a_node_that_finds_its_end();
+    crate::passed_frames::laws::nothing_passes_a_waiting_node();
 }

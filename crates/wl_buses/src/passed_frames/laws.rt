@@ -24,6 +24,7 @@ ghost use Rattle.wl_buses.specs.OneFrame.Stations.{AreOnALine, AreStations, Have
 ghost use Rattle.wl_buses.specs.FirstFrame.Faults.{fault_count};
 ghost use Rattle.wl_buses.specs.FrameEnd.Again.{RestsAgain};
 ghost use Rattle.wl_buses.specs.FrameEnd.Asked.{CanBeAnswered, EndsBefore};
+ghost use Rattle.wl_buses.specs.FrameEnd.Finds.{FindsTheEnd, finds_at};
 ghost use Rattle.wl_buses.specs.NextFrames.NextNodes.{HandsNext};
 ghost use Rattle.wl_buses.specs.NextFrames.NextStarts.{AreFreeNext, AreResting, Resting, rest_next, rested, start_next};
 ghost use Rattle.wl_buses.specs.PassedFrames.Passing.{PassesOne};
@@ -67,8 +68,35 @@ pub fn nothing_passes_a_waiting_node()
     crate::next_frames::nodes::a_node_waits_for_the_next_frame();
 }
 
-/// Law: one frame passes a node that rests and goes through it: that frame alone, and with the quantum that is expected. It finds no error
+/// Law: one frame passes a node that rests and finds its end, whoever hears that node: that frame alone, and with the quantum that is expected. It finds no error
 /// from the sample by which it rests up to that of the third bit of the intermission, and nothing else happens to it that isn't fine.
+pub fn a_frame_passes_a_node_that_finds_its_end()
+    ensures { (s : Stations) (o : Outset) (end : ℕ) → AreStations s → HaveRoom s
+        → IsOutset s o → 0 < end → EndsBefore s o end → (won : HasWon s (expected_bits s o) o.frames end)
+        → (i rest since : ℕ) (setup : NodeSetup) (levels : ℕ → Level) (node : ℕ → History) → i < s.count
+        → FindsTheEnd s o end i → setup.segments ≡ s.lengths i → IsRun setup levels node → BeginsAfter s o i rest
+        → RestsAgain s (o.past i) i levels node rest since → since ≤ rest + sample_at (s.lengths i)
+        → ((q : ℕ) → rest + sample_at (s.lengths i) < q → q ≤ expected_sample s o (end + 12) i
+        → levels q ≡ level_of (finds_at s o end i q))
+        → PassesOne s o end won.station i rest won.frame node }
+{
+    wl_topology::driven_laws();
+    crate::one_frame::before::nothing_is_found_before_a_frame();
+    crate::one_frame::laws::bit_clocks_go_as_expected();
+    crate::one_frame::laws::no_edge_counts_then();
+    crate::frame_end::laws::a_machine_ends_its_frame();
+    crate::frame_end::laws::bit_clocks_go_to_the_end();
+    crate::frame_end::laws::machines_answer_as_asked();
+    crate::next_frames::nodes::a_node_that_finds_its_end_goes_through_the_next_frame();
+    wl_phase::laws::an_edge_moves_the_sample();
+    wl_wire::laws::machines_stay_in_step();
+    wl_wire::laws::the_least_field_wins();
+    wl_machine::laws::a_transmitter_sends_its_head_stuffed();
+    wl_frame::laws::a_front_of_no_stuffing_ends_six_equal_bits();
+    wl_frame::laws::ten_bits_have_an_edge();
+}
+
+/// Law: so a frame passes each node that rests, if there is room for acknowledgements.
 pub fn a_frame_passes_a_node()
     ensures { (s : Stations) (o : Outset) (end : ℕ) (chase : ℕ → ℕ) → AreStations s → HaveRoom s
         → IsOutset s o → 0 < end → EndsBefore s o end → (won : HasWon s (expected_bits s o) o.frames end)
@@ -81,17 +109,6 @@ pub fn a_frame_passes_a_node()
         → PassesOne s o end won.station i rest won.frame node }
 {
     wl_topology::driven_laws();
-    crate::one_frame::before::nothing_is_found_before_a_frame();
-    crate::one_frame::laws::bit_clocks_go_as_expected();
-    crate::one_frame::laws::no_edge_counts_then();
-    crate::frame_end::laws::a_machine_ends_its_frame();
-    crate::frame_end::laws::bit_clocks_go_to_the_end();
-    crate::frame_end::laws::machines_answer_as_asked();
-    crate::next_frames::nodes::a_node_goes_through_the_next_frame();
-    wl_phase::laws::an_edge_moves_the_sample();
-    wl_wire::laws::machines_stay_in_step();
-    wl_wire::laws::the_least_field_wins();
-    wl_machine::laws::a_transmitter_sends_its_head_stuffed();
-    wl_frame::laws::a_front_of_no_stuffing_ends_six_equal_bits();
-    wl_frame::laws::ten_bits_have_an_edge();
+    crate::frame_end::laws::all_find_the_end();
+    a_frame_passes_a_node_that_finds_its_end();
 }

@@ -42,7 +42,7 @@ pub fn a_queue_hands_all_its_frames()
     wl_frame::laws::ten_bits_have_an_edge();
     crate::next_frames::laws::stations_rest_after_a_frame();
     crate::next_frames::nodes::a_node_waits_for_the_next_frame();
-    crate::next_frames::nodes::a_node_goes_through_the_next_frame();
+    crate::next_frames::nodes::a_node_that_finds_its_end_goes_through_the_next_frame();
     crate::passed_frames::laws::what_is_found_stays();
     crate::passed_frames::laws::a_frame_passes_a_node();
     crate::passed_frames::laws::nothing_passes_a_waiting_node();

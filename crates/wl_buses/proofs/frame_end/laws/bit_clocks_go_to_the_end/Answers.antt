@@ -1,10 +1,9 @@
 use Rattle.wl_buses.proofs.FrameEnd.Below.{ClockLaws, MachineLaws}
-use Rattle.wl_buses.proofs.FrameEnd.Finding.{finds_the_end}
 use Rattle.wl_buses.proofs.FrameEnd.Ticking.{bit_goes, has_next}
 use Rattle.wl_buses.proofs.frame_end.laws.bit_clocks_go_to_the_end.Goals as goal
 
 pub returns : goal.returns
-returns c = λ s o end chase are room is stuffed won can place n i seen small at inside sees has.
+returns c = λ s o end are room is stuffed won place n i seen small at inside hears sees has.
     (let m : MachineLaws = record {
       steps = c.machines_stay_in_step.ensures.step;
       errors = c.machines_stay_in_step.ensures.errors;
@@ -16,6 +15,6 @@ returns c = λ s o end chase are room is stuffed won can place n i seen small at
       driven = c.driven_laws.ensures;
     } in
     let clocks : ClockLaws = record { edges = c.a_station_begins_its_bits.ensures; calm = c.no_edge_counts_then.ensures } in (
-      bit_goes m s are room o is end stuffed.none stuffed.there won clocks place n i small at inside (finds_the_end m s are room o is end stuffed.none stuffed.there won chase can.catch can.room i inside) seen sees has,
-      has_next m s are room o is end stuffed.none stuffed.there won clocks place n i small at inside (finds_the_end m s are room o is end stuffed.none stuffed.there won chase can.catch can.room i inside) seen sees has,
+      bit_goes m s are room o is end stuffed.none stuffed.there won clocks place n i small at inside hears seen sees has,
+      has_next m s are room o is end stuffed.none stuffed.there won clocks place n i small at inside hears seen sees has,
     ))
