@@ -10,7 +10,7 @@ use crate::respond::text_of;
 use std::alloc::{AllocError, Global};
 use wl_device::{Ended, Sink, Source};
 use wl_judge::{Answer, Judgement, Manner, RunSaid, RunState, judge_plan};
-use wl_serial::run_serial;
+use wl_serial::run_counted;
 use wl_setup::{Bus, PlanText, SetupFault, bus_of_bytes, read_bytes};
 use wl_traffic::{Reason, traffic_of};
 use wl_views::Tick;
@@ -32,8 +32,8 @@ fn run_state(reason: Reason) -> RunState
 fn run_reason(alloc: Global, tick: Tick, bus: &Bus) -> Result<Reason, AllocError>
     ensures { IfOk result (λ reason. reason ≡ reason_of bus.now.plan) }
 {
-    let outcome = run_serial(alloc, &bus.plan)?;
-    let found = traffic_of(alloc, tick, &bus.plan, &bus.names, &outcome)?;
+    let counted = run_counted(alloc, &bus.plan)?;
+    let found = traffic_of(alloc, tick, &bus.plan, &bus.names, &counted)?;
     Ok(found.reason)
 }
 

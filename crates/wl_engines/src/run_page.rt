@@ -1,7 +1,7 @@
 //! A run of a plan as one page.
 ghost use Rattle.std.specs.Prelude.{◌≡◌, ◌≤◌, IfOk, length};
 ghost use Rattle.wl_report.specs.Report.{report_text};
-ghost use Rattle.wl_serial.specs.Outcome.{drives_of, outcome_of, totals_of};
+ghost use Rattle.wl_serial.specs.Outcome.{counted_of, drives_of, outcome_of};
 ghost use Rattle.wl_setup.specs.Limits.{most_bytes};
 ghost use Rattle.wl_views.specs.Vcd.{vcd_text};
 ghost use Rattle.wl_engines.specs.Paged.{IsPage, Pages, PagesAsked, PagesText, PagesWithin, ShowsBus, ShowsRun};
@@ -20,7 +20,7 @@ use wl_explain::explain_found;
 use wl_margin::margin_of;
 use wl_page::{Texts, page};
 use wl_plan::CheckedPlan;
-use wl_serial::{Drives, Outcome, run_serial};
+use wl_serial::{Counted, Drives, run_counted};
 use wl_setup::{Bus, Names, PlanText, SetupFault, bus_of_bytes, check_plan, read_bytes};
 use wl_traffic::traffic_of_bus;
 use wl_views::{Tick, Window, trace, vcd};
@@ -77,33 +77,25 @@ struct RunTexts {
     wave: Vec<u8>,
 }
 
-/// Returns the report of a run, without the lines of frames if it is to be brief.
-fn report_of_run(alloc: Global, brief: bool, outcome: &Outcome) -> Result<Vec<u8>, AllocError>
-    ensures { IfOk result (λ text. text.items ≡ report_text (shown_totals brief (totals_of outcome.now))) }
-{
-    let totals = outcome.totals(alloc)?;
-    report_as(alloc, brief, &totals)
-}
-
-/// Returns what the page shows of a window of a run of a plan, which has this outcome.
+/// Returns what the page shows of a window of a run of a plan, in which this was counted.
 fn run_texts_of(
     alloc: Global,
     tick: Tick,
     shown: Window,
     plain: &PlanText,
     bus: &Bus,
-    outcome: &Outcome,
+    counted: &Counted,
 ) -> Result<RunTexts, AllocError>
     requires deviations { length bus.now.deviations ≡ length bus.now.plan.nodes }
-    requires outcome { outcome.now ≡ outcome_of bus.now.plan }
+    requires counted { counted.now ≡ counted_of (outcome_of bus.now.plan) }
     ensures { IfOk result (ShowsRun tick shown plain.now bus.now) }
 {
-    let traffic = traffic_of_bus(alloc, tick, plain, bus, outcome)?.text;
-    let report = report_of_run(alloc, !is_whole_run(shown), outcome)?;
-    let part = shown_text(alloc, shown, &bus.plan, outcome)?;
-    let trace = trace(alloc, &pick_of(shown), &bus.plan, &bus.names, outcome)?;
-    let drives = outcome.drives(alloc)?;
-    let wave = wave_of(alloc, tick, shown, &bus.plan, &bus.names, &drives)?;
+    let traffic = traffic_of_bus(alloc, tick, plain, bus, counted)?.text;
+    let report = report_as(alloc, !is_whole_run(shown), &counted.totals)?;
+    let part = shown_text(alloc, shown, &bus.plan, counted)?;
+    let drives = &counted.drives;
+    let trace = trace(alloc, &pick_of(shown), &bus.plan, &bus.names, drives)?;
+    let wave = wave_of(alloc, tick, shown, &bus.plan, &bus.names, drives)?;
     Ok(RunTexts {
         traffic,
         report,
@@ -124,9 +116,9 @@ fn run_texts(
     requires deviations { length bus.now.deviations ≡ length bus.now.plan.nodes }
     ensures { IfOk result (ShowsRun tick (shown_by asked bus.now.plan) plain.now bus.now) }
 {
-    let outcome = run_serial(alloc, &bus.plan)?;
-    let shown = shown_by(alloc, asked, &bus.plan, &outcome)?;
-    run_texts_of(alloc, tick, shown, plain, bus, &outcome)
+    let counted = run_counted(alloc, &bus.plan)?;
+    let shown = shown_by(alloc, asked, &bus.plan, &counted.drives)?;
+    run_texts_of(alloc, tick, shown, plain, bus, &counted)
 }
 
 /// Returns the page of a bus, whose text is given: the simulation of its plan is run once.

@@ -2,13 +2,13 @@
 ghost use Rattle.std.specs.Prelude.{◌≡◌, ◌*◌, ◌<◌, ◌++◌, length, IfOk, OnOk, string_bytes};
 ghost use Rattle.wl_engines.specs.Shown.{chosen_by, is_long_run, is_none, is_whole_run, run_parts, shown_by, shown_text, pick_of, shown_window, span_text, ten_bits};
 ghost use Rattle.wl_report.specs.Lines.{GrowsBy};
-ghost use Rattle.wl_serial.specs.Outcome.{outcome_of};
+ghost use Rattle.wl_serial.specs.Outcome.{counted_of, drives_of, outcome_of};
 ghost use Rattle.wl_views.specs.Windows.{span_of};
 
 use crate::view::WHOLE;
 use std::alloc::{AllocError, Global};
 use wl_plan::CheckedPlan;
-use wl_serial::Outcome;
+use wl_serial::{Counted, Drives};
 use wl_views::{Pick, Span, Window, first_error_tick, thousandths};
 
 /// How many bits of all nodes together a page shows at once. That is some 5 MB; at half of them a page has half its bytes, at twice
@@ -78,37 +78,37 @@ fn chosen_by(plan: &CheckedPlan, error: Option<u64>) -> Window
     }
 }
 
-/// Returns the window of a page of a simulation, which is `outcome`: that which is asked for. If none is, and the run is long, it is the one
+/// Returns the window of a page of a simulation, in which drives changed so: that which is asked for. If none is, and the run is long, it is the one
 /// around its first error, or its begin.
 fn shown_window(
     alloc: Global,
     window: Window,
     plan: &CheckedPlan,
-    outcome: &Outcome,
+    drives: &Drives,
 ) -> Result<Window, AllocError>
-    requires outcome { outcome.now ≡ outcome_of plan.now }
+    requires drives { drives.now ≡ drives_of (outcome_of plan.now) }
     ensures { IfOk result (λ shown. shown ≡ shown_window window plan.now) }
 {
     if is_whole_run(window) && is_long_run(plan) {
-        let error = first_error_tick(alloc, plan, outcome)?;
+        let error = first_error_tick(alloc, plan, drives)?;
         return Ok(chosen_by(plan, error));
     }
     Ok(window)
 }
 
-/// Returns the window of a page of a simulation, which is `outcome`: the same if one is asked for, and else all of it.
+/// Returns the window of a page of a simulation, in which drives changed so: the same if one is asked for, and else all of it.
 pub(crate) fn shown_by(
     alloc: Global,
     asked: Option<Window>,
     plan: &CheckedPlan,
-    outcome: &Outcome,
+    drives: &Drives,
 ) -> Result<Window, AllocError>
-    requires outcome { outcome.now ≡ outcome_of plan.now }
+    requires drives { drives.now ≡ drives_of (outcome_of plan.now) }
     ensures { IfOk result (λ shown. shown ≡ shown_by asked plan.now) }
 {
     match asked {
         None => Ok(WHOLE),
-        Some(window) => shown_window(alloc, window, plan, outcome),
+        Some(window) => shown_window(alloc, window, plan, drives),
     }
 }
 
@@ -120,26 +120,26 @@ fn push_span(text: &mut String, span: Span, end: u64) -> Result<(), AllocError>
     writeln!(text, "{from} {to} {end}")
 }
 
-/// Returns a simulation, which is `outcome`, in a thousand parts.
-fn parts_of(alloc: Global, plan: &CheckedPlan, outcome: &Outcome) -> Result<String, AllocError>
-    requires outcome { outcome.now ≡ outcome_of plan.now }
+/// Returns a simulation, in which this was counted, in a thousand parts.
+fn parts_of(alloc: Global, plan: &CheckedPlan, counted: &Counted) -> Result<String, AllocError>
+    requires counted { counted.now ≡ counted_of (outcome_of plan.now) }
     ensures { IfOk result (λ text. string_bytes text ≡ run_parts plan.now) }
 {
-    thousandths(alloc, plan, outcome)
+    thousandths(alloc, plan, counted)
 }
 
-/// Returns which part of a simulation, which is `outcome`, a window has, and the run in a thousand parts.
+/// Returns which part of a simulation, in which this was counted, a window has, and the run in a thousand parts.
 fn part_of(
     alloc: Global,
     window: Window,
     plan: &CheckedPlan,
-    outcome: &Outcome,
+    counted: &Counted,
 ) -> Result<String, AllocError>
-    requires outcome { outcome.now ≡ outcome_of plan.now }
+    requires counted { counted.now ≡ counted_of (outcome_of plan.now) }
     ensures { IfOk result (λ text. string_bytes text
         ≡ span_text (span_of window plan.now.end) plan.now.end ++ run_parts plan.now) }
 {
-    let parts = parts_of(alloc, plan, outcome)?;
+    let parts = parts_of(alloc, plan, counted)?;
     let mut text = String::new(alloc);
     push_span(&mut text, window.span(plan.end), plan.end)?;
     text.push_str(parts.as_str())?;
@@ -151,15 +151,15 @@ pub(crate) fn shown_text(
     alloc: Global,
     window: Window,
     plan: &CheckedPlan,
-    outcome: &Outcome,
+    counted: &Counted,
 ) -> Result<String, AllocError>
-    requires outcome { outcome.now ≡ outcome_of plan.now }
+    requires counted { counted.now ≡ counted_of (outcome_of plan.now) }
     ensures { IfOk result (λ text. string_bytes text ≡ shown_text window plan.now) }
 {
     if is_whole_run(window) {
         return Ok(String::new(alloc));
     }
-    part_of(alloc, window, plan, outcome)
+    part_of(alloc, window, plan, counted)
 }
 
 /// Returns that all events of a window are picked.

@@ -9,7 +9,7 @@ use crate::output::write_answer;
 use crate::respond::text_of;
 use std::alloc::Global;
 use wl_device::{Ended, Sink, Source};
-use wl_serial::run_serial;
+use wl_serial::run_counted;
 use wl_setup::{SetupFault, bus_of_bytes, read_bytes};
 use wl_traffic::{Reason, traffic_of_bus};
 use wl_views::Tick;
@@ -26,8 +26,8 @@ fn traffic_of_text<W: Sink>(
 {
     let plain = text_of(alloc, text)?;
     let bus = bus_of_bytes(alloc, text)?;
-    let outcome = run_serial(alloc, &bus.plan)?;
-    let found = traffic_of_bus(alloc, tick, &plain, &bus, &outcome)?;
+    let counted = run_counted(alloc, &bus.plan)?;
+    let found = traffic_of_bus(alloc, tick, &plain, &bus, &counted)?;
     write_answer(found.reason, found.text.as_bytes(), writer)
 }
 

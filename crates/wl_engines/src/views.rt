@@ -12,7 +12,7 @@ use crate::view::{View, WHOLE, run_view};
 use std::alloc::{AllocError, Global};
 use wl_device::{Sink, Source};
 use wl_plan::CheckedPlan;
-use wl_serial::{run_drives, run_serial, run_totals};
+use wl_serial::{run_drives, run_totals};
 use wl_setup::Names;
 use wl_views::{Pick, Tick, Window, candump, candump_errors, sent_in_time, trace, vcd};
 
@@ -74,8 +74,8 @@ pub(crate) fn error_log_text(
 ) -> Result<Vec<u8>, AllocError>
     ensures { IfOk result (λ text. text.items ≡ error_log tick from window plan.now) }
 {
-    let outcome = run_serial(alloc, plan)?;
-    candump_errors(alloc, tick, from, window, plan, &outcome)
+    let drives = run_drives(alloc, plan)?;
+    candump_errors(alloc, tick, from, window, plan, &drives)
 }
 
 /// Does as `candump_run_within`, and writes a line for each error that a node finds and for each mode of a node, too, as Linux's error frames.
@@ -169,8 +169,8 @@ pub(crate) fn trace_text(
 ) -> Result<Vec<u8>, AllocError>
     ensures { IfOk result (λ text. text.items ≡ trace_text pick plan.now names.now) }
 {
-    let outcome = run_serial(alloc, plan)?;
-    trace(alloc, &pick, plan, names, &outcome)
+    let drives = run_drives(alloc, plan)?;
+    trace(alloc, &pick, plan, names, &drives)
 }
 
 /// Reads a plan's text, simulates the plan, and writes a line for each event of each node that is picked, in the order of their ticks.

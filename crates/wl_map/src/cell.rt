@@ -13,7 +13,7 @@ use std::alloc::{AllocError, Global};
 use std::thread::Threads;
 use std::time::Clock;
 use wl_plan::CheckedPlan;
-use wl_serial::run_serial;
+use wl_serial::run_drives;
 use wl_setup::{Names, PlanText, SetupFault};
 use wl_sweep::{Sweep, Tally, Workers};
 use wl_views::first_error;
@@ -72,8 +72,8 @@ fn push_plan_error(
 ) -> Result<(), AllocError>
     ensures { OnOk result (GrowsBy text.old text.new (error_line (first_error_text plan.now names.now))) }
 {
-    let outcome = run_serial(alloc, plan)?;
-    let line = first_error(alloc, plan, names, &outcome)?;
+    let drives = run_drives(alloc, plan)?;
+    let line = first_error(alloc, plan, names, &drives)?;
     push_line(text, line.as_str())
 }
 

@@ -9,6 +9,7 @@ use Rattle.wl_plan.specs.PlanLine.{setup_at, line_of, table_of}
 use Rattle.wl_plan.specs.Simulation.{history}
 use Rattle.wl_serial.specs.declared.outcome.NodeOutcome.{NodeOutcome}
 use Rattle.wl_serial.specs.declared.outcome.NodeTotals.{NodeTotals}
+use Rattle.wl_serial.specs.declared.outcome.Counted.{Counted}
 use Rattle.wl_serial.specs.declared.outcome.Outcome.{Outcome}
 
 -- what a node of this setup did, by the ticks at which its drive changed and by its history
@@ -54,6 +55,10 @@ totals_of outcome = map node_totals outcome.nodes
 -- the ticks at which the drive of each node changed
 abbrev pub drives_of : Outcome → List (List ℕ)
 drives_of outcome = map (λ n. n.changes) outcome.nodes
+
+-- these ticks, and what a report says of all nodes
+abbrev pub counted_of : Outcome → Counted
+counted_of outcome = record { drives = drives_of outcome; totals = totals_of outcome }
 
 -- of one node more: what came before, and the outcome of that node
 abbrev pub GoesNodeByNode : Type 0

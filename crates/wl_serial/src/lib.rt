@@ -19,8 +19,9 @@ mod turn;
 pub use engine::{run_serial, run_totals};
 pub use laws::{outcome_is_recordable, outcome_node_by_node, records_are_true, records_are_within};
 pub use outcome::{
-    Changes, Drives, Frames, NodeOutcome, NodeOutcomes, NodeTotals, Outcome, Phases, Totals,
+    Changes, Counted, Drives, Frames, NodeOutcome, NodeOutcomes, NodeTotals, Outcome, Phases,
+    Totals,
 };
-pub use recorded::{run_drives, run_records};
+pub use recorded::{run_counted, run_drives, run_records};
 pub use records::records_of;
 pub use so_far::{node_outcome, node_totals};

@@ -1,6 +1,6 @@
 //! The outcome of a simulation, and what a report says of it.
 ghost use Rattle.std.specs.Prelude.{◌≡◌, IfOk, map};
-ghost use Rattle.wl_serial.specs.Outcome.{drives_of, node_totals, totals_of};
+ghost use Rattle.wl_serial.specs.Outcome.{node_totals, totals_of};
 
 use std::alloc::{AllocError, Global};
 use wl_confine::Counters;
@@ -75,6 +75,15 @@ pub struct NodeTotals {
 /// What a report says of each node, node `i` at place `i`.
 pub type Totals = Listed<NodeTotals>;
 
+/// What is kept of a simulation whose nodes only count.
+#[derive(Debug, Drop)]
+pub struct Counted {
+    /// The ticks at which the drive of each node changed.
+    pub drives: Drives,
+    /// What a report says of each node.
+    pub totals: Totals,
+}
+
 impl NodeOutcome {
     /// Returns what a report says of the node. Refused only when out of memory.
     fn totals(&self, alloc: Global) -> Result<NodeTotals, AllocError>
@@ -103,17 +112,5 @@ impl Outcome {
             totals.push(node.totals(alloc)?)?;
         }
         Ok(totals)
-    }
-
-    /// Returns the ticks at which the drive of each node changed. Refused only when out of memory.
-    pub fn drives(&self, alloc: Global) -> Result<Drives, AllocError>
-        ensures { IfOk result (λ drives. drives ≡ drives_of self.now) }
-    {
-        let mut drives = Listed::new(alloc);
-        let nodes = self.nodes.as_slice();
-        for node in nodes {
-            drives.push(node.changes.clone_in(alloc)?)?;
-        }
-        Ok(drives)
     }
 }

@@ -1,17 +1,17 @@
-//! The records of a simulation whose nodes only count, and the changes of its nodes' drives.
+//! The records of a simulation whose nodes only count, the changes of its nodes' drives, and their totals.
 ghost use Rattle.std.specs.Prelude.{◌≡◌, ◌<◌, ◌≤◌, ℕ, IfOk, length, map};
 ghost use Rattle.std.specs.List.{range_with_len};
 ghost use Rattle.wl_plan.specs.Checked.{IsChecked};
 ghost use Rattle.wl_plan.specs.declared.plan.Plan.{Plan as GivenPlan};
 ghost use Rattle.wl_plan.specs.PlanLine.{table_of};
-ghost use Rattle.wl_serial.specs.Outcome.{drives_of, outcome_of};
+ghost use Rattle.wl_serial.specs.Outcome.{counted_of, drives_of, node_outcome_of, node_totals, outcome_of};
 ghost use Rattle.wl_serial.specs.Records.{outcome_records};
 ghost use Rattle.wl_serial.specs.Running.{AreRunning, IsRunning, NoneBefore};
 
 use crate::checked::Checked;
 use crate::engine::simulate;
 use crate::laws::outcome_is_recordable;
-use crate::outcome::{Changes, Drives};
+use crate::outcome::{Changes, Counted, Drives};
 use crate::records::push_node;
 use crate::running_node::Running;
 use std::alloc::{AllocError, Global};
@@ -97,4 +97,41 @@ fn drives_at_end(alloc: Global, plan: &Checked, running: Vec<Running>) -> Result
         drives.push(drive_at_end(r))?;
     }
     Ok(drives)
+}
+
+/// Returns the changes of [`run_drives`] and what a report says of the outcome ([`run_totals`](crate::run_totals)), by one run.
+///
+/// Refused only when out of memory.
+pub fn run_counted(alloc: Global, plan: &Plan) -> Result<Counted, AllocError>
+    requires { IsChecked plan.now }
+    ensures { IfOk result (λ counted. counted ≡ counted_of (outcome_of plan.now)) }
+{
+    let checked = Checked::new(plan);
+    let nodes = simulate(alloc, &checked, false)?;
+    let counted = counted_at_end(alloc, &checked, nodes)?;
+    Ok(counted)
+}
+
+/// Returns the changes and the totals of the nodes; all have run to the end.
+fn counted_at_end(
+    alloc: Global,
+    plan: &Checked,
+    running: Vec<Running>,
+) -> Result<Counted, AllocError>
+    requires running { AreRunning plan.now running.items }
+    requires ended { NoneBefore plan.now.end running.items }
+    ensures drives { IfOk result (λ counted. counted.drives
+        ≡ map (table_of plan.now) (range_with_len 0 (length plan.now.nodes))) }
+    ensures totals { IfOk result (λ counted. counted.totals
+        ≡ map (λ i. node_totals (node_outcome_of plan.now i)) (range_with_len 0 (length plan.now.nodes))) }
+{
+    plan.laws();
+    let mut drives = Listed::new(alloc);
+    let mut totals = Listed::new(alloc);
+    for r in running {
+        let (changes, counted) = r.counted();
+        drives.push(changes)?;
+        totals.push(counted)?;
+    }
+    Ok(Counted { drives, totals })
 }

@@ -8,7 +8,7 @@ ghost use Rattle.wl_node.specs.Limits.{most_run_quanta};
 ghost use Rattle.wl_node.specs.Marks.{HasPassed};
 ghost use Rattle.wl_node.specs.Reached.{IsNode, keeps_lists, node_setup, quanta_of};
 ghost use Rattle.wl_plan.specs.Limits.{most_quanta};
-ghost use Rattle.wl_plan.specs.PlanLine.{setup_at};
+ghost use Rattle.wl_plan.specs.PlanLine.{setup_at, table_of};
 ghost use Rattle.wl_serial.specs.declared.running_node.Running.{Running as GivenRunning};
 ghost use Rattle.wl_serial.specs.Guess.{IsBefore, IsBack};
 ghost use Rattle.wl_serial.specs.Outcome.{node_outcome_of, node_totals};
@@ -268,6 +268,16 @@ impl Running {
         ensures { (plan : GivenPlan) (i : ℕ) → IsChecked plan → i < length plan.nodes → IsRunning plan i self
             → plan.end ≤ self.next → result ≡ node_totals (node_outcome_of plan i) }
     {
+        self.counted().1
+    }
+
+    /// Returns the ticks at which its drive changed, and what a report says of it; it has run all its quanta before the end.
+    pub(crate) fn counted(self) -> (Changes, NodeTotals)
+        ensures drives { (plan : GivenPlan) (i : ℕ) → IsChecked plan → i < length plan.nodes → IsRunning plan i self
+            → plan.end ≤ self.next → result.0 ≡ table_of plan i }
+        ensures totals { (plan : GivenPlan) (i : ℕ) → IsChecked plan → i < length plan.nodes → IsRunning plan i self
+            → plan.end ≤ self.next → result.1 ≡ node_totals (node_outcome_of plan i) }
+    {
         wl_plan::checked_is_sound();
         wl_plan::simulation_laws();
         let samples = self.node.sample_count();
@@ -277,7 +287,7 @@ impl Running {
         let unsent = self.node.unsent();
         let phases = self.node.phase_totals();
         let lists = self.node.into_lists();
-        NodeTotals {
+        let totals = NodeTotals {
             samples,
             frames: lists.frames,
             counters,
@@ -285,7 +295,8 @@ impl Running {
             hards,
             errors,
             unsent,
-        }
+        };
+        (self.changes, totals)
     }
 }
 

@@ -4,3 +4,4 @@ mod Loads
 mod Marking
 mod Quanta
 mod Rows
+mod Watching

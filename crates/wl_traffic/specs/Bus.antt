@@ -5,6 +5,7 @@ use Rattle.std.specs.List.{range_with_len, list_any}
 use Rattle.wl_machine.specs.declared.doing.Doing.{Doing}
 use Rattle.wl_machine.specs.declared.doing.Doing.TheVariants as doings
 use Rattle.wl_plan.specs.declared.plan.Plan.{Plan}
+use Rattle.wl_traffic.specs.declared.bus.Bus.{Bus}
 use Rattle.wl_traffic.specs.declared.load.Load.{Load}
 use Rattle.wl_traffic.specs.declared.spans.Span.{Span}
 use Rattle.wl_traffic.specs.States.{node_spans}
@@ -56,6 +57,10 @@ was_off plan i = list_any (λ s. is_off_doing s.doing) (node_spans plan i)
 
 abbrev pub any_off : Plan → Bool
 any_off plan = list_any (was_off plan) (range_with_len 0 (length plan.nodes))
+
+-- both of a run
+abbrev pub bus_found : Plan → Bus
+bus_found plan = record { load = bus_load plan; off = any_off plan }
 
 -- the share of a time in the whole, in hundredths of a per cent; a time is no longer than the whole
 abbrev pub share_of : ℕ → ℕ → ℕ

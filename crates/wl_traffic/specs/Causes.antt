@@ -5,7 +5,7 @@ use Rattle.std.specs.List.{flat_map, enumerate_from, list_any}
 use Rattle.wl_margin.specs.Pieces.{joined}
 use Rattle.wl_report.specs.Lines.{hexadecimal}
 use Rattle.wl_report.specs.Report.{id_digits}
-use Rattle.wl_serial.specs.declared.outcome.NodeOutcome.{NodeOutcome}
+use Rattle.wl_serial.specs.declared.outcome.NodeTotals.{NodeTotals}
 use Rattle.wl_setup.specs.Names.{name_of}
 use Rattle.wl_views.specs.declared.tick.Tick.{Tick}
 use Rattle.wl_views.specs.Ticks.{microseconds}
@@ -48,13 +48,13 @@ abbrev pub full_line : Tick → (full : ℕ) → List LateMessage → List ℕ
 full_line tick full late = if list_any (is_stuck full) late then full_words (microseconds tick full) else []
 
 -- a node that missed frames: how many passed through it, and how many through the node through which most did
-abbrev pub deaf_line : List (List ℕ) → (most : ℕ) → ℕ × NodeOutcome → List ℕ
+abbrev pub deaf_line : List (List ℕ) → (most : ℕ) → ℕ × NodeTotals → List ℕ
 deaf_line names most (i, n) =
     if misses_frames most n
     then joined (codes "deaf " ∷ name_of names i ∷ codes " " ∷ decimal (length n.frames) ∷ codes " of " ∷ decimal most ∷ codes " frames\n" ∷ [])
     else []
 
-abbrev pub deaf_lines : List (List ℕ) → List NodeOutcome → List ℕ
+abbrev pub deaf_lines : List (List ℕ) → List NodeTotals → List ℕ
 deaf_lines names nodes = flat_map (deaf_line names (most_passed nodes)) (enumerate_from 0 nodes)
 
 -- what is found of a run
@@ -62,11 +62,11 @@ abbrev pub found_of : Plan → Found
 found_of plan = record { load = bus_load plan; late = late_messages (node_queues plan); reason = reason_of plan }
 
 -- the lines of a reason
-abbrev pub lines_by : Tick → List (List ℕ) → Found → List NodeOutcome → Reason → List ℕ
+abbrev pub lines_by : Tick → List (List ℕ) → Found → List NodeTotals → Reason → List ℕ
 lines_by tick names found nodes Overloaded = full_line tick found.load.full found.late ++ late_lines tick names found.late
 lines_by tick names found nodes Starved = late_lines tick names found.late
 lines_by tick names found nodes Deaf = deaf_lines names nodes
 lines_by tick names found nodes reason = []
 
-abbrev pub cause_lines : Tick → List (List ℕ) → Found → List NodeOutcome → List ℕ
+abbrev pub cause_lines : Tick → List (List ℕ) → Found → List NodeTotals → List ℕ
 cause_lines tick names found nodes = lines_by tick names found nodes found.reason

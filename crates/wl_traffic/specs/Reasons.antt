@@ -2,8 +2,8 @@
 use Rattle.std.specs.Prelude.{ℕ, nat_lt, max, ◌&&◌, ◌||◌, Bool, true, false, not, List, codes, length, fold, if◌then◌else◌}
 use Rattle.std.specs.List.{list_any}
 use Rattle.wl_plan.specs.declared.plan.Plan.{Plan}
-use Rattle.wl_serial.specs.declared.outcome.NodeOutcome.{NodeOutcome}
-use Rattle.wl_serial.specs.Outcome.{outcome_of}
+use Rattle.wl_serial.specs.declared.outcome.NodeTotals.{NodeTotals}
+use Rattle.wl_serial.specs.Outcome.{outcome_of, totals_of}
 use Rattle.wl_traffic.specs.Entries.{node_queues}
 use Rattle.wl_traffic.specs.Bus.{any_off, bus_load}
 use Rattle.wl_traffic.specs.Late.{late_messages}
@@ -11,22 +11,22 @@ use Rattle.wl_traffic.specs.declared.late.LateMessage.{LateMessage}
 use Rattle.wl_traffic.specs.declared.reason.Reason.{Reason}
 use Rattle.wl_traffic.specs.declared.reason.Reason.TheVariants.{Works, Errors, Overloaded, Starved, EndsTooEarly, BusOff, Deaf}
 
-abbrev pub has_errors : NodeOutcome → Bool
+abbrev pub has_errors : NodeTotals → Bool
 has_errors n = nat_lt 0 n.errors
 
-abbrev pub has_unsent : NodeOutcome → Bool
+abbrev pub has_unsent : NodeTotals → Bool
 has_unsent n = nat_lt 0 n.unsent
 
 -- a node takes part if it samples before the end
-abbrev pub takes_part : NodeOutcome → Bool
-takes_part n = nat_lt 0 (length n.samples)
+abbrev pub takes_part : NodeTotals → Bool
+takes_part n = nat_lt 0 n.samples
 
 -- the most frames that passed through a node
-abbrev pub most_passed : List NodeOutcome → ℕ
+abbrev pub most_passed : List NodeTotals → ℕ
 most_passed nodes = fold (λ most n. max most (length n.frames)) 0 nodes
 
 -- it takes part, and fewer frames passed through it than through another
-abbrev pub misses_frames : ℕ → NodeOutcome → Bool
+abbrev pub misses_frames : ℕ → NodeTotals → Bool
 misses_frames most n = if takes_part n then nat_lt (length n.frames) most else false
 
 -- at the end a late frame waits, and the bus had no pause for longer than the frame may wait
@@ -51,16 +51,16 @@ first_reason true errors waiting = BusOff
 first_reason false true waiting = Errors
 first_reason false false waiting = waiting
 
-abbrev pub waiting_by : (full : ℕ) → List LateMessage → List NodeOutcome → Reason
+abbrev pub waiting_by : (full : ℕ) → List LateMessage → List NodeTotals → Reason
 waiting_by full late nodes =
     waiting_reason (list_any (is_overload full) late) (nat_lt 0 (length late)) (list_any has_unsent nodes)
     (list_any (misses_frames (most_passed nodes)) nodes)
 
-abbrev pub reason_by : (off : Bool) → (full : ℕ) → List LateMessage → List NodeOutcome → Reason
+abbrev pub reason_by : (off : Bool) → (full : ℕ) → List LateMessage → List NodeTotals → Reason
 reason_by off full late nodes = first_reason off (list_any has_errors nodes) (waiting_by full late nodes)
 
 abbrev pub reason_of : Plan → Reason
-reason_of plan = reason_by (any_off plan) (bus_load plan).full (late_messages (node_queues plan)) (outcome_of plan).nodes
+reason_of plan = reason_by (any_off plan) (bus_load plan).full (late_messages (node_queues plan)) (totals_of (outcome_of plan))
 
 abbrev pub reason_word : Reason → List ℕ
 reason_word Works = codes "works"

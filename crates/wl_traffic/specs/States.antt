@@ -19,9 +19,12 @@ use Rattle.wl_traffic.specs.declared.spans.Span.{Span}
 abbrev pub past_of_samples : NodeSetup → List (ℕ × Level) → SampledPast
 past_of_samples setup samples = fold (past_after setup) no_past samples
 
--- what the node does after sample k
+-- what the node does after these samples, and after sample k of them
+abbrev pub doing_after : NodeSetup → List (ℕ × Level) → Doing
+doing_after setup samples = doing_of (stretch_of (past_of_samples setup samples).inputs)
+
 abbrev pub doing_at : NodeSetup → List (ℕ × Level) → ℕ → Doing
-doing_at setup samples k = doing_of (stretch_of (past_of_samples setup (take (k + 1) samples)).inputs)
+doing_at setup samples k = doing_after setup (take (k + 1) samples)
 
 -- the tick of sample k; the end, if there is none
 abbrev pub sample_tick : NodeSetup → (end : ℕ) → List (ℕ × Level) → ℕ → ℕ

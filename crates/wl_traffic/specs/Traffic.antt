@@ -9,7 +9,7 @@ use Rattle.wl_setup.specs.declared.bus.Bus.{Bus}
 use Rattle.wl_setup.specs.declared.plan_text.PlanText.{PlanText}
 use Rattle.wl_views.specs.declared.tick.Tick.{Tick}
 use Rattle.wl_views.specs.Ticks.{microseconds, tick_picoseconds}
-use Rattle.wl_serial.specs.Outcome.{outcome_of}
+use Rattle.wl_serial.specs.Outcome.{outcome_of, totals_of}
 use Rattle.wl_traffic.specs.Bounds.{bound_lines}
 use Rattle.wl_traffic.specs.Bus.{bus_load, share_of}
 use Rattle.wl_traffic.specs.Causes.{cause_lines, found_of}
@@ -30,7 +30,7 @@ verdict_words reason = joined (codes "verdict " ∷ reason_word reason ∷ codes
 abbrev pub bounded_text : Tick → Plan → List (List ℕ) → Option Waits → List ℕ
 bounded_text tick plan names waits =
     bus_line tick plan.end (bus_load plan) ++ all_messages tick plan names ++ bound_lines names waits
-    ++ cause_lines tick names (found_of plan) (outcome_of plan).nodes ++ verdict_words (reason_of plan)
+    ++ cause_lines tick names (found_of plan) (totals_of (outcome_of plan)) ++ verdict_words (reason_of plan)
 
 -- of a run alone, without bounds
 abbrev pub traffic_text : Tick → Plan → List (List ℕ) → List ℕ

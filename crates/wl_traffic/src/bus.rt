@@ -1,19 +1,18 @@
 //! When the bus was busy.
-ghost use Rattle.std.specs.Prelude.{◌≡◌, ◌<◌, ◌≤◌, ◌||◌, ℕ, length, IfOk, OnOk};
-ghost use Rattle.std.specs.List.{All, list_any, range_with_len};
+ghost use Rattle.std.specs.Prelude.{◌≡◌, ◌<◌, ◌≤◌, ◌||◌, ◌++◌, [], ◌∷◌, List, ℕ, IfOk, OnOk};
+ghost use Rattle.wl_clock.specs.Timing.{tick_of};
 ghost use Rattle.wl_intervals.specs.Pairs.{covers, has_tick};
-ghost use Rattle.wl_serial.specs.Outcome.{outcome_of};
-ghost use Rattle.wl_traffic.specs.Bus.{any_off, bus_load, finds_busy, is_busy_at, is_busy_doing, is_busy_span, is_off_doing, was_off};
-ghost use Rattle.wl_traffic.specs.States.{node_spans};
+ghost use Rattle.wl_level.specs.declared.Level.{Level};
+ghost use Rattle.wl_node.specs.declared.setup.NodeSetup.{NodeSetup};
+ghost use Rattle.wl_traffic.specs.Bus.{is_busy_doing, is_busy_span, is_off_doing};
+ghost use Rattle.wl_traffic.specs.States.{doing_after};
+ghost use Rattle.wl_traffic.specs.Watching.{HasFound, finds_up_to, found_so_far};
 
-use crate::load::{Load, load_below};
-use crate::nodes::{node_at, quanta_are_known};
-use crate::spans::{Span, spans, there_until};
+use crate::load::Load;
+use crate::spans::Span;
 use std::alloc::{AllocError, Global};
 use wl_intervals::{Intervals, IntervalsFault};
 use wl_machine::Doing;
-use wl_plan::CheckedPlan;
-use wl_serial::Outcome;
 
 /// How busy the bus was, and whether some node was bus off at some time.
 #[derive(Clone, Copy, Debug)]
@@ -84,66 +83,81 @@ fn run_after(
     Ok((span.from, span.until))
 }
 
-/// Returns the ticks of the spans in which the bus is busy.
-fn busy_ticks(alloc: Global, spans: &[Span]) -> Result<Intervals, AllocError>
-    requires { All (λ s. s.from ≤ s.until) spans.now }
-    ensures { IfOk result (λ busy. (t : ℕ) → covers busy t ≡ list_any (is_busy_span t) spans.now) }
+/// True if a node that does this is bus off.
+fn is_off(doing: Doing) -> bool
+    ensures { result ≡ is_off_doing doing }
 {
-    let mut busy = Intervals::new(alloc);
-    let mut run = (0, 0);
-    for span in spans {
-        run = run_after(alloc, &mut busy, run, span)?;
+    matches!(&doing, Doing::OffBus)
+}
+
+/// When a node found the bus busy, sample by sample.
+#[derive(Drop)]
+pub(crate) struct BusyTicks {
+    /// The ticks up to its last sample, but for the running ones.
+    pub(crate) busy: Intervals,
+    /// The running ticks: from one up to, and not with, another.
+    pub(crate) run: (u64, u64),
+    /// What it has been doing since its last sample, and the tick of that.
+    pub(crate) doing: Option<(Doing, u64)>,
+    /// Whether it was bus off after some sample.
+    pub(crate) off: bool,
+}
+
+impl BusyTicks {
+    /// Returns what a node found that had no sample yet.
+    pub(crate) fn new(alloc: Global) -> BusyTicks
+        ensures { (setup : NodeSetup) → HasFound setup [] result }
+    {
+        BusyTicks {
+            busy: Intervals::new(alloc),
+            run: (0, 0),
+            doing: None,
+            off: false,
+        }
     }
-    add(alloc, &mut busy, run.0, run.1)?;
-    Ok(busy)
-}
 
-/// Adds the ticks at which node `i` finds the bus busy, and returns whether it was bus off.
-fn add_node(
-    alloc: Global,
-    busy: &mut Intervals,
-    plan: &CheckedPlan,
-    outcome: &Outcome,
-    i: usize,
-) -> Result<bool, AllocError>
-    requires outcome { outcome.now ≡ outcome_of plan.now }
-    requires node { i < length plan.now.nodes }
-    ensures ticks { OnOk result ((t : ℕ) → covers busy.new t ≡ (covers busy.old t || finds_busy plan.now t i)) }
-    ensures off { IfOk result (λ off. off ≡ was_off plan.now i) }
-{
-    quanta_are_known(plan);
-    let (setup, node) = node_at(plan, outcome, i);
-    let samples = node.samples.list(alloc)?;
-    let until = there_until(setup, plan.end);
-    let spans = spans(alloc, setup, until, samples.as_slice())?;
-    let found = busy_ticks(alloc, &spans)?;
-    busy.join(&found)?;
-    Ok(was_off(&spans))
-}
-
-/// True if a node was bus off at some time.
-fn was_off(spans: &[Span]) -> bool
-    ensures { result ≡ list_any (λ s. is_off_doing s.doing) spans.now }
-{
-    spans.iter().any(|span| span.doing == Doing::OffBus)
-}
-
-/// Returns how busy the bus was, as all nodes together find it, and whether some node was bus off.
-pub(crate) fn bus_of(
-    alloc: Global,
-    plan: &CheckedPlan,
-    outcome: &Outcome,
-) -> Result<Bus, AllocError>
-    requires outcome { outcome.now ≡ outcome_of plan.now }
-    ensures load { IfOk result (λ bus. bus.load ≡ bus_load plan.now) }
-    ensures off { IfOk result (λ bus. bus.off ≡ any_off plan.now) }
-{
-    let mut busy = Intervals::new(alloc);
-    let mut off = false;
-    for i in 0..plan.nodes.len() {
-        let was_off = add_node(alloc, &mut busy, plan, outcome, i)?;
-        off = off || was_off;
+    /// Adds what the node has been doing since its last sample, up to a tick.
+    fn close(&mut self, alloc: Global, until: u64) -> Result<(), AllocError>
+        requires { self.old.run.0 ≤ self.old.run.1 }
+        ensures order { OnOk result (self.new.run.0 ≤ self.new.run.1) }
+        ensures ticks { OnOk result ((t : ℕ) → found_so_far self.new t ≡ finds_up_to until self.old t) }
+        ensures off { OnOk result (self.new.off ≡ self.old.off) }
+    {
+        match self.doing {
+            None => Ok(()),
+            Some((doing, from)) => {
+                let until = from.max(until);
+                let span = Span { doing, from, until };
+                self.run = run_after(alloc, &mut self.busy, self.run, &span)?;
+                Ok(())
+            }
+        }
     }
-    let load = load_below(&busy, plan.end);
-    Ok(Bus { load, off })
+
+    /// Takes a sample at this tick, after which the node does this.
+    pub(crate) fn take(&mut self, alloc: Global, doing: Doing, at: u64) -> Result<(), AllocError>
+        requires { self.old.run.0 ≤ self.old.run.1 }
+        ensures { (setup : NodeSetup) (samples : List (ℕ × Level)) (sample : ℕ × Level)
+            → HasFound setup samples self.old → at ≡ tick_of setup.clock sample.0
+            → doing ≡ doing_after setup (samples ++ sample ∷ [])
+            → OnOk result (HasFound setup (samples ++ sample ∷ []) self.new) }
+    {
+        self.close(alloc, at)?;
+        self.doing = Some((doing, at));
+        self.off = self.off || is_off(doing);
+        Ok(())
+    }
+
+    /// Returns the ticks at which the node found the bus busy, up to a tick.
+    pub(crate) fn all_until(self, alloc: Global, until: u64) -> Result<Intervals, AllocError>
+        requires { self.run.0 ≤ self.run.1 }
+        ensures { IfOk result (λ found. (t : ℕ) → covers found t ≡ finds_up_to until self t) }
+    {
+        let mut found = self;
+        found.close(alloc, until)?;
+        let (from, to) = found.run;
+        let mut busy = found.busy;
+        add(alloc, &mut busy, from, to)?;
+        Ok(busy)
+    }
 }

@@ -11,7 +11,7 @@ use crate::late::LateMessage;
 use crate::reason::{Reason, is_stuck, misses_frames, most_passed};
 use std::alloc::AllocError;
 use wl_report::push_id;
-use wl_serial::NodeOutcome;
+use wl_serial::NodeTotals;
 use wl_setup::Names;
 use wl_views::Tick;
 
@@ -116,7 +116,7 @@ fn push_deaf_line(
     names: &Names,
     most: usize,
     i: usize,
-    node: &NodeOutcome,
+    node: &NodeTotals,
 ) -> Result<(), AllocError>
     ensures { OnOk result (GrowsBy text.old text.new (deaf_line names.now most (i, node.now))) }
 {
@@ -129,11 +129,7 @@ fn push_deaf_line(
 }
 
 /// Adds the lines of the nodes that missed frames.
-fn push_deaf_lines(
-    text: &mut String,
-    names: &Names,
-    nodes: &[NodeOutcome],
-) -> Result<(), AllocError>
+fn push_deaf_lines(text: &mut String, names: &Names, nodes: &[NodeTotals]) -> Result<(), AllocError>
     ensures { OnOk result (GrowsBy text.old text.new (deaf_lines names.now nodes.now)) }
 {
     let most = most_passed(nodes);
@@ -149,7 +145,7 @@ pub(crate) fn push_causes(
     tick: Tick,
     names: &Names,
     found: &Found,
-    nodes: &[NodeOutcome],
+    nodes: &[NodeTotals],
 ) -> Result<(), AllocError>
     ensures { OnOk result (GrowsBy text.old text.new (cause_lines tick names.now found.now nodes.now)) }
 {

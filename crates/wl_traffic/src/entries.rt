@@ -1,18 +1,14 @@
 //! The frames of a queue, and what became of them.
-ghost use Rattle.std.specs.Prelude.{◌≡◌, ◌<◌, List, fold, length, map, IfOk, OnOk};
+ghost use Rattle.std.specs.Prelude.{◌≡◌, List, fold, map, IfOk, OnOk};
 ghost use Rattle.std.specs.Option.{option_copied};
-ghost use Rattle.wl_serial.specs.Outcome.{outcome_of};
 ghost use Rattle.wl_trace.specs.declared.event.Noted.{Noted as GivenNoted};
 ghost use Rattle.wl_trace.specs.Replay.{IsWatchedNode, SampledPast, past_after};
-ghost use Rattle.wl_traffic.specs.Entries.{entries_after_event, entries_by, entries_of, entries_tried, entries_with, entry_with, is_pending, queue_with_sample, waiting_entry};
+ghost use Rattle.wl_traffic.specs.Entries.{entries_after_event, entries_tried, entries_with, entry_with, is_pending, queue_with_sample, waiting_entry};
 
-use crate::nodes::node_at;
 use std::alloc::{AllocError, Global};
 use wl_frame::frame::Frame;
 use wl_level::Level;
 use wl_node::{NodeSetup, Queued};
-use wl_plan::CheckedPlan;
-use wl_serial::Outcome;
 use wl_trace::{FrameField, NodeEvent, Noted, WatchedNode};
 
 /// A frame of a queue, and what became of it.
@@ -55,7 +51,7 @@ fn waiting_entry(queued: &Queued) -> Entry
 }
 
 /// Returns the frames of a queue before the run.
-fn waiting_entries(alloc: Global, queue: &[Queued]) -> Result<Vec<Entry>, AllocError>
+pub(crate) fn waiting_entries(alloc: Global, queue: &[Queued]) -> Result<Vec<Entry>, AllocError>
     ensures { IfOk result (λ entries. entries.items ≡ map waiting_entry queue.now) }
 {
     let mut entries = Vec::new(alloc);
@@ -140,14 +136,13 @@ fn note_events(entries: &mut Vec<Entry>, head: Option<&Frame>, events: &[Noted])
     }
 }
 
-/// Notes what a sample does, of this quantum and level. There were `bit` samples before it.
-fn note_sample(
+/// Notes what a sample does, of this quantum and level.
+pub(crate) fn note_sample(
     alloc: Global,
     setup: &NodeSetup,
     kept: &mut WatchedNode,
     entries: &mut Vec<Entry>,
     sample: (u64, Level),
-    bit: u64,
 ) -> Result<(), AllocError>
     ensures past { (p : SampledPast) → IsWatchedNode setup.now kept.old p
         → OnOk result (IsWatchedNode setup.now kept.new (past_after setup.now p sample)) }
@@ -156,39 +151,7 @@ fn note_sample(
 {
     let head = kept.head();
     let (quantum, level) = sample;
-    let events = kept.take(alloc, setup, quantum, bit, level)?;
+    let events = kept.take(alloc, setup, quantum, 0, level)?; // no event is asked for its bit
     note_events(entries, head.as_ref(), &events);
     Ok(())
-}
-
-/// Returns what became of the frames of a node's queue with its samples.
-fn entries_by(
-    alloc: Global,
-    setup: &NodeSetup,
-    samples: &[(u64, Level)],
-) -> Result<Vec<Entry>, AllocError>
-    ensures { IfOk result (λ entries. entries.items ≡ entries_by setup.now samples.now) }
-{
-    let mut kept = WatchedNode::new(alloc, setup)?;
-    let mut entries = waiting_entries(alloc, setup.queue.as_slice())?;
-    for k in 0..samples.len() {
-        note_sample(alloc, setup, &mut kept, &mut entries, samples[k], k as u64)?;
-    }
-    Ok(entries)
-}
-
-/// Returns the frames of node `i`, and what became of them.
-pub(crate) fn entries(
-    alloc: Global,
-    plan: &CheckedPlan,
-    outcome: &Outcome,
-    i: usize,
-) -> Result<Vec<Entry>, AllocError>
-    requires outcome { outcome.now ≡ outcome_of plan.now }
-    requires node { i < length plan.now.nodes }
-    ensures { IfOk result (λ entries. entries.items ≡ entries_of plan.now i) }
-{
-    let (setup, node) = node_at(plan, outcome, i);
-    let samples = node.samples.list(alloc)?;
-    entries_by(alloc, setup, samples.as_slice())
 }

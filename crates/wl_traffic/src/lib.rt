@@ -16,6 +16,7 @@ mod spans;
 mod statistics;
 mod text;
 mod waits;
+mod watch;
 
 pub use reason::Reason;
 pub use text::{Traffic, traffic_of, traffic_of_bus};

@@ -1,12 +1,12 @@
 //! The nodes of a plan, each with what it did.
 ghost use Rattle.std.specs.Prelude.{◌≡◌, ◌<◌, length};
 ghost use Rattle.wl_plan.specs.PlanLine.{setup_at};
-ghost use Rattle.wl_serial.specs.Outcome.{node_outcome_of, outcome_of};
+ghost use Rattle.wl_serial.specs.Outcome.{node_outcome_of, node_totals, outcome_of, totals_of};
 ghost use Rattle.wl_traffic.specs.Known.{QuantaAreKnown};
 
 use wl_node::NodeSetup;
 use wl_plan::CheckedPlan;
-use wl_serial::{NodeOutcome, Outcome};
+use wl_serial::{NodeTotals, Totals};
 
 /// Returns what node `i` is made of.
 pub(crate) fn setup_of(plan: &CheckedPlan, i: usize) -> &NodeSetup
@@ -17,19 +17,19 @@ pub(crate) fn setup_of(plan: &CheckedPlan, i: usize) -> &NodeSetup
     &setups[i]
 }
 
-/// Returns what node `i` is made of, and what it did.
+/// Returns what node `i` is made of, and what a report says of it.
 pub(crate) fn node_at<'a>(
     plan: &'a CheckedPlan,
-    outcome: &'a Outcome,
+    totals: &'a Totals,
     i: usize,
-) -> (&'a NodeSetup, &'a NodeOutcome)
-    requires outcome { outcome.now ≡ outcome_of plan.now }
+) -> (&'a NodeSetup, &'a NodeTotals)
+    requires totals { totals.now ≡ totals_of (outcome_of plan.now) }
     requires node { i < length plan.now.nodes }
     ensures setup { result.0.now ≡ setup_at plan.now i }
-    ensures outcome { result.1.now ≡ node_outcome_of plan.now i }
+    ensures totals { result.1.now ≡ node_totals (node_outcome_of plan.now i) }
 {
     let setups = plan.nodes.as_slice();
-    let nodes = outcome.nodes.as_slice();
+    let nodes = totals.as_slice();
     (&setups[i], &nodes[i])
 }
 

@@ -4,7 +4,7 @@ ghost use Rattle.std.specs.List.{list_any};
 ghost use Rattle.wl_traffic.specs.Reasons.{has_errors, has_unsent, is_overload, is_stuck, misses_frames, most_passed, reason_by, reason_word, waiting_by, waiting_reason};
 
 use crate::late::LateMessage;
-use wl_serial::NodeOutcome;
+use wl_serial::NodeTotals;
 
 /// Why a run didn't work, or that it did.
 #[derive(Clone, Copy, Debug, PartialEq, Eq)]
@@ -43,21 +43,21 @@ impl Reason {
 }
 
 /// True if some node found an error.
-fn any_errors(nodes: &[NodeOutcome]) -> bool
+fn any_errors(nodes: &[NodeTotals]) -> bool
     ensures { result ≡ list_any has_errors nodes.now }
 {
     nodes.iter().any(|node| 0 < node.errors)
 }
 
 /// True if some node has a frame left.
-fn any_unsent(nodes: &[NodeOutcome]) -> bool
+fn any_unsent(nodes: &[NodeTotals]) -> bool
     ensures { result ≡ list_any has_unsent nodes.now }
 {
     nodes.iter().any(|node| 0 < node.unsent)
 }
 
 /// Returns the most frames that passed through a node.
-pub(crate) fn most_passed(nodes: &[NodeOutcome]) -> usize
+pub(crate) fn most_passed(nodes: &[NodeTotals]) -> usize
     ensures { result ≡ most_passed nodes.now }
 {
     let mut most = 0;
@@ -68,14 +68,14 @@ pub(crate) fn most_passed(nodes: &[NodeOutcome]) -> usize
 }
 
 /// True if a node takes part and fewer frames than this many passed through it.
-pub(crate) fn misses_frames(most: usize, node: &NodeOutcome) -> bool
+pub(crate) fn misses_frames(most: usize, node: &NodeTotals) -> bool
     ensures { result ≡ misses_frames most node.now }
 {
-    0 < node.samples.len() && node.frames.len() < most
+    0 < node.samples && node.frames.len() < most
 }
 
 /// True if fewer frames passed through some node than through another.
-fn any_deaf(nodes: &[NodeOutcome]) -> bool
+fn any_deaf(nodes: &[NodeTotals]) -> bool
     ensures { result ≡ list_any (misses_frames (most_passed nodes.now)) nodes.now }
 {
     let most = most_passed(nodes);
@@ -121,7 +121,7 @@ fn waiting_reason(overload: bool, late: bool, unsent: bool, deaf: bool) -> Reaso
 }
 
 /// Returns why frames of these nodes came late or not at all. The bus was full for this many ticks at the end.
-fn waiting_by(full: u64, late: &[LateMessage], nodes: &[NodeOutcome]) -> Reason
+fn waiting_by(full: u64, late: &[LateMessage], nodes: &[NodeTotals]) -> Reason
     ensures { result ≡ waiting_by full late.now nodes.now }
 {
     let overload = any_overload(full, late);
@@ -131,7 +131,7 @@ fn waiting_by(full: u64, late: &[LateMessage], nodes: &[NodeOutcome]) -> Reason
 }
 
 /// Returns why a run of these outcomes didn't work, in which some node was bus off or none.
-pub(crate) fn reason_by(off: bool, full: u64, late: &[LateMessage], nodes: &[NodeOutcome]) -> Reason
+pub(crate) fn reason_by(off: bool, full: u64, late: &[LateMessage], nodes: &[NodeTotals]) -> Reason
     ensures { result ≡ reason_by off full late.now nodes.now }
 {
     if off {

@@ -1,7 +1,7 @@
 //! The traffic of a run as text.
 ghost use Rattle.std.specs.Prelude.{◌≡◌, length, string_bytes, IfOk, IfSome, OnOk};
 ghost use Rattle.wl_report.specs.Lines.{GrowsBy};
-ghost use Rattle.wl_serial.specs.Outcome.{outcome_of};
+ghost use Rattle.wl_serial.specs.Outcome.{counted_of, outcome_of};
 ghost use Rattle.wl_traffic.specs.Reasons.{reason_of};
 ghost use Rattle.wl_traffic.specs.Traffic.{IsTrafficOfBus, bus_line, bounded_text, traffic_text, verdict_words};
 
@@ -10,13 +10,14 @@ use crate::causes::{microseconds_of, push_causes};
 use crate::found::found_of;
 use crate::load::{Load, share};
 use crate::messages::push_messages;
-use crate::queues::{node_queues, queues_are_known};
+use crate::queues::queues_are_known;
 use crate::reason::Reason;
+use crate::watch::watch_all;
 use std::alloc::{AllocError, Global};
 use wl_margin::Hundredths;
 use wl_plan::CheckedPlan;
 use wl_respond::{Waits, waits_of_bus};
-use wl_serial::Outcome;
+use wl_serial::Counted;
 use wl_setup::{Bus, Names, PlanText};
 use wl_views::Tick;
 
@@ -52,28 +53,29 @@ fn traffic_with(
     tick: Tick,
     plan: &CheckedPlan,
     names: &Names,
-    outcome: &Outcome,
+    counted: &Counted,
     waits: &Option<Waits>,
 ) -> Result<Traffic, AllocError>
-    requires outcome { outcome.now ≡ outcome_of plan.now }
+    requires counted { counted.now ≡ counted_of (outcome_of plan.now) }
     requires lines { IfSome waits.now (λ w. length w.asked ≡ length w.lines) }
     ensures text { IfOk result (λ t. string_bytes t.text ≡ bounded_text tick plan.now names.now waits.now) }
     ensures reason { IfOk result (λ t. t.reason ≡ reason_of plan.now) }
 {
-    let queues = node_queues(alloc, plan, outcome)?;
+    let seen = watch_all(alloc, plan, counted)?;
     queues_are_known(plan);
-    let found = found_of(alloc, plan, outcome, queues.as_slice())?;
+    let queues = &seen.queues;
+    let found = found_of(alloc, seen.bus, queues.as_slice(), &counted.totals)?;
     let mut text = String::new(alloc);
     push_bus(&mut text, tick, plan.end, found.load)?;
     push_messages(alloc, &mut text, tick, plan, names, queues.as_slice())?;
     push_bounds(&mut text, names, waits)?;
-    push_causes(&mut text, tick, names, &found, outcome.nodes.as_slice())?;
+    push_causes(&mut text, tick, names, &found, counted.totals.as_slice())?;
     push_reason(&mut text, found.reason)?;
     let reason = found.reason;
     Ok(Traffic { text, reason })
 }
 
-/// Returns the traffic of a plan's simulation, which is `outcome`, under these names of its nodes. A tick takes as long as `tick` says.
+/// Returns the traffic of a plan's simulation, in which this was counted, under these names of its nodes. A tick takes as long as `tick` says.
 ///
 /// The first line says for which share of the time the bus was busy, and for how long it wasn't at most. Then follows a line for each
 /// identifier of each node. It has how many frames were sent and are left, and how many waited at once at most. It has how many attempts
@@ -85,16 +87,16 @@ pub fn traffic_of(
     tick: Tick,
     plan: &CheckedPlan,
     names: &Names,
-    outcome: &Outcome,
+    counted: &Counted,
 ) -> Result<Traffic, AllocError>
-    requires outcome { outcome.now ≡ outcome_of plan.now }
+    requires counted { counted.now ≡ counted_of (outcome_of plan.now) }
     ensures text { IfOk result (λ t. string_bytes t.text ≡ traffic_text tick plan.now names.now) }
     ensures reason { IfOk result (λ t. t.reason ≡ reason_of plan.now) }
 {
-    traffic_with(alloc, tick, plan, names, outcome, &None)
+    traffic_with(alloc, tick, plan, names, counted, &None)
 }
 
-/// Returns the traffic of the simulation of a bus's plan, which is `outcome`. It is the text of [`traffic_of`]. After the lines of messages it
+/// Returns the traffic of the simulation of a bus's plan, in which this was counted. It is the text of [`traffic_of`]. After the lines of messages it
 /// has a line for each message that comes again, with the longest time that it waits on any run, if that is proved. The bus is that of the
 /// plan's text. Refused out of memory alone.
 pub fn traffic_of_bus(
@@ -102,13 +104,13 @@ pub fn traffic_of_bus(
     tick: Tick,
     plain: &PlanText,
     bus: &Bus,
-    outcome: &Outcome,
+    counted: &Counted,
 ) -> Result<Traffic, AllocError>
     requires deviations { length bus.now.deviations ≡ length bus.now.plan.nodes }
-    requires outcome { outcome.now ≡ outcome_of bus.now.plan }
+    requires counted { counted.now ≡ counted_of (outcome_of bus.now.plan) }
     ensures text { IfOk result (λ t. IsTrafficOfBus tick plain.now bus.now (string_bytes t.text)) }
     ensures reason { IfOk result (λ t. t.reason ≡ reason_of bus.now.plan) }
 {
     let waits = waits_of_bus(alloc, tick.picoseconds(), plain, bus)?;
-    traffic_with(alloc, tick, &bus.plan, &bus.names, outcome, &waits)
+    traffic_with(alloc, tick, &bus.plan, &bus.names, counted, &waits)
 }

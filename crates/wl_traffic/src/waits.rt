@@ -5,13 +5,12 @@ ghost use Rattle.wl_clock.specs.Timing.{tick_of};
 ghost use Rattle.wl_node.specs.Limits.{most_run_quanta};
 ghost use Rattle.wl_plan.specs.Limits.{latest_end};
 ghost use Rattle.wl_views.specs.Ticks.{microseconds};
-ghost use Rattle.wl_traffic.specs.Waits.{is_in_time, final_sample, more_waiting, most_waiting, quanta_waited, time_by, time_waited, waits_at};
+ghost use Rattle.wl_traffic.specs.Waits.{is_in_time, more_waiting, most_waiting, quanta_waited, time_by, time_waited, waits_at};
 ghost use Rattle.wl_traffic.specs.Known.{IsKnown, IsSoon};
 
 use crate::entries::Entry;
 use std::alloc::{AllocError, Global};
 use wl_clock::Clock;
-use wl_level::Level;
 use wl_views::Tick;
 
 /// Returns for how many quanta each frame waited that was sent.
@@ -87,17 +86,6 @@ fn waiting_at(quantum: u64, mine: &[Entry]) -> u64
         }
     }
     waiting
-}
-
-/// Returns the quantum of a node's last sample.
-pub(crate) fn final_sample(samples: &[(u64, Level)]) -> Option<u64>
-    ensures { result ≡ final_sample samples.now }
-{
-    let mut last = None;
-    for (quantum, _) in samples {
-        last = Some(*quantum);
-    }
-    last
 }
 
 /// True if a frame became ready by the last sample.

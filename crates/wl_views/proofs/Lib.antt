@@ -16,3 +16,6 @@ mod Going
 mod Calendars
 mod Dates
 mod Times
+mod Resampling
+mod Replaying
+mod Syncless

@@ -4,6 +4,7 @@ pub mod Digits
 pub mod Windows
 pub mod SentFrames
 pub mod Candump
+pub mod Sampling
 pub mod Signals
 pub mod PlaceLine
 pub mod Probe

@@ -32,6 +32,12 @@ abbrev pub is_asked_kind : Option EventKind → NodeEvent → Bool
 is_asked_kind None event = true
 is_asked_kind (Some kind) event = is_event_of kind event
 
+-- a synchronisation may be of the kind that is asked for
+abbrev pub asks_for_syncs : Option EventKind → Bool
+asks_for_syncs None = true
+asks_for_syncs (Some kinds.Sync) = true
+asks_for_syncs (Some kind) = false
+
 -- of the node that is asked for, if one is
 abbrev pub is_asked_node : Option ℕ → ℕ → Bool
 is_asked_node None i = true

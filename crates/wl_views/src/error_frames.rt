@@ -1,7 +1,7 @@
 //! The log of can-utils with error frames.
 ghost use Rattle.std.specs.Prelude.{◌≡◌, ◌<◌, ◌≤◌, ◌++◌, OnOk, IfOk};
 ghost use Rattle.std.specs.List.{flat_map};
-ghost use Rattle.wl_serial.specs.Outcome.{outcome_of};
+ghost use Rattle.wl_serial.specs.Outcome.{drives_of, outcome_of};
 ghost use Rattle.wl_views.specs.Digits.{Extends, digits_of};
 ghost use Rattle.wl_views.specs.ErrorFrames.{class_word, error_log, error_frame_words, event_line, kind_code, location_by, log_start, logged, mode_words, off_words, passive_code, status_words, logged_line, type_code};
 
@@ -14,7 +14,7 @@ use crate::window::Window;
 use std::alloc::{AllocError, Global};
 use wl_confine::{Counters, ErrorKind, Mode};
 use wl_plan::CheckedPlan;
-use wl_serial::Outcome;
+use wl_serial::Drives;
 use wl_trace::{FrameField, FramePlace, NodeEvent, Noted};
 
 /// Returns where in a frame a place is, by the numbers of linux/can/error.h.
@@ -196,7 +196,7 @@ fn logged(window: Window) -> Pick
     }
 }
 
-/// Returns the log of [`candump`](crate::candump) with error frames, of a plan's simulation, which is `outcome`: also a line for each
+/// Returns the log of [`candump`](crate::candump) with error frames, of a plan's simulation in which drives changed so: also a line for each
 /// error that a node finds, and for each mode of a node. These are in the order of their ticks; those of one tick node by node.
 ///
 /// An error frame is as Linux has it (linux/can/error.h) and as `candump -L` writes it: its class with the flag `0x20000000`, and 8 bytes. Of an
@@ -208,12 +208,12 @@ pub fn candump_errors(
     from: u32,
     window: Window,
     plan: &CheckedPlan,
-    outcome: &Outcome,
+    drives: &Drives,
 ) -> Result<Vec<u8>, AllocError>
-    requires outcome { outcome.now ≡ outcome_of plan.now }
+    requires drives { drives.now ≡ drives_of (outcome_of plan.now) }
     ensures { IfOk result (λ text. text.items ≡ error_log tick from window plan.now) }
 {
-    let told = told_in_order(alloc, &logged(window), plan, outcome)?;
+    let told = told_in_order(alloc, &logged(window), plan, drives)?;
     let mut text = Vec::new(alloc);
     push_events(&mut text, tick, from, &told)?;
     Ok(text)

@@ -2,7 +2,7 @@
 ghost use Rattle.std.specs.Prelude.{◌≡◌, ◌+◌, ◌≤◌, ◌<◌, OnOk, IfOk, string_bytes};
 ghost use Rattle.wl_plan.specs.Limits.{latest_end};
 ghost use Rattle.wl_report.specs.Lines.{GrowsBy};
-ghost use Rattle.wl_serial.specs.Outcome.{outcome_of};
+ghost use Rattle.wl_serial.specs.Outcome.{counted_of, outcome_of};
 ghost use Rattle.wl_views.specs.Parts.{between_text, bits_between, errors_between, unstuffed_bits, frames_between, is_between_ticks, part_begin, part_line, parts_by, thousandths_text};
 
 use crate::laws::sent_in_time;
@@ -12,7 +12,7 @@ use crate::told::told_in_order;
 use std::alloc::{AllocError, Global};
 use wl_frame::frame::Frame;
 use wl_plan::CheckedPlan;
-use wl_serial::Outcome;
+use wl_serial::Counted;
 use wl_trace::Noted;
 
 /// True if a tick is between two, or the first of them.
@@ -141,21 +141,21 @@ fn parts_by(
     Ok(text)
 }
 
-/// Returns a plan's simulation, which is `outcome`, in a thousand equal parts, a line for each: how many frames were completed in it, how many
-/// bits these have without stuff bits but with the intermission after each, and how many errors nodes found. Refused only when out of memory.
+/// Returns a plan's simulation, in which this was counted, in a thousand equal parts, a line for each: how many frames were completed in it,
+/// how many bits these have without stuff bits but with the intermission after each, and how many errors nodes found. Refused only when out of
+/// memory.
 pub fn thousandths(
     alloc: Global,
     plan: &CheckedPlan,
-    outcome: &Outcome,
+    counted: &Counted,
 ) -> Result<String, AllocError>
-    requires outcome { outcome.now ≡ outcome_of plan.now }
+    requires { counted.now ≡ counted_of (outcome_of plan.now) }
     ensures { IfOk result (λ text. string_bytes text ≡ thousandths_text plan.now) }
 {
     plan.laws();
     sent_in_time();
-    let totals = outcome.totals(alloc)?;
-    let sent = all_sent(alloc, plan, totals.as_slice())?;
-    let errors = told_in_order(alloc, &Pick::errors(), plan, outcome)?;
+    let sent = all_sent(alloc, plan, counted.totals.as_slice())?;
+    let errors = told_in_order(alloc, &Pick::errors(), plan, &counted.drives)?;
     let text = parts_by(alloc, plan.end, &sent, &errors)?;
     Ok(text)
 }

@@ -2,8 +2,8 @@
 ghost use Rattle.std.specs.Prelude.{◌≡◌, OnOk, IfOk};
 ghost use Rattle.std.specs.List.{flat_map};
 ghost use Rattle.wl_report.specs.Lines.{GrowsBy};
-ghost use Rattle.wl_serial.specs.Outcome.{outcome_of};
-ghost use Rattle.wl_views.specs.Picks.{all_errors, is_asked_kind, is_asked_node, is_event_of, is_picked, trace_text};
+ghost use Rattle.wl_serial.specs.Outcome.{drives_of, outcome_of};
+ghost use Rattle.wl_views.specs.Picks.{all_errors, asks_for_syncs, is_asked_kind, is_asked_node, is_event_of, is_picked, trace_text};
 ghost use Rattle.wl_views.specs.TraceText.{trace_line};
 
 use crate::told::told_in_order;
@@ -11,7 +11,7 @@ use crate::trace_text::push_line;
 use crate::window::Window;
 use std::alloc::{AllocError, Global};
 use wl_plan::CheckedPlan;
-use wl_serial::Outcome;
+use wl_serial::Drives;
 use wl_setup::Names;
 use wl_trace::{NodeEvent, Noted};
 
@@ -94,6 +94,16 @@ impl Pick {
         }
     }
 
+    /// True if a synchronisation may be picked.
+    pub(crate) fn asks_for_syncs(&self) -> bool
+        ensures { result ≡ asks_for_syncs self.now.only }
+    {
+        match self.only {
+            None => true,
+            Some(kind) => matches!(kind, EventKind::Sync),
+        }
+    }
+
     /// True if an event of node `i` at a tick is shown.
     pub(crate) fn shows(&self, tick: u64, i: usize, noted: &Noted) -> bool
         ensures { result ≡ is_picked self.now (tick, (i, noted.now)) }
@@ -118,7 +128,7 @@ fn push_lines(
     Ok(())
 }
 
-/// Returns the trace of a plan's simulation, which is `outcome`, under these names of its nodes: for each event that is picked a line
+/// Returns the trace of a plan's simulation, in which drives changed so, under these names of its nodes: for each event that is picked a line
 /// `{tick} {node} {name} q {quantum} b {bit} {what}`, in the order of their ticks; those of one tick node by node. Refused only when out of
 /// memory.
 pub fn trace(
@@ -126,12 +136,12 @@ pub fn trace(
     pick: &Pick,
     plan: &CheckedPlan,
     names: &Names,
-    outcome: &Outcome,
+    drives: &Drives,
 ) -> Result<Vec<u8>, AllocError>
-    requires outcome { outcome.now ≡ outcome_of plan.now }
+    requires drives { drives.now ≡ drives_of (outcome_of plan.now) }
     ensures { IfOk result (λ text. text.items ≡ trace_text pick.now plan.now names.now) }
 {
-    let told = told_in_order(alloc, pick, plan, outcome)?;
+    let told = told_in_order(alloc, pick, plan, drives)?;
     let mut text = String::new(alloc);
     push_lines(&mut text, names, &told)?;
     Ok(text.into_bytes())

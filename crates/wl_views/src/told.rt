@@ -2,6 +2,7 @@
 ghost use Rattle.std.specs.Prelude.{◌≡◌, ◌-◌, ◌<◌, ◌≤◌, ◌++◌, OnOk, IfOk, length};
 ghost use Rattle.std.specs.List.{All, filter};
 ghost use Rattle.wl_node.specs.Limits.{most_run_quanta};
+ghost use Rattle.wl_plan.specs.PlanLine.{setup_at};
 ghost use Rattle.wl_serial.specs.Outcome.{drives_of, outcome_of};
 ghost use Rattle.wl_level.specs.ByTick.{by_tick};
 ghost use Rattle.wl_views.specs.Picks.{is_picked};
@@ -10,11 +11,12 @@ ghost use Rattle.wl_views.specs.TraceText.{all_told, events_at_end, syncs_at_end
 use crate::pick::Pick;
 use crate::place_line::PlaceLine;
 use crate::probe::level_of;
+use crate::sampling::Sampling;
 use std::alloc::{AllocError, Global};
 use wl_clock::Clock;
 use wl_plan::CheckedPlan;
-use wl_serial::{Drives, Outcome};
-use wl_trace::{Noted, Rerun, node_events};
+use wl_serial::Drives;
+use wl_trace::{Noted, Rerun, WatchedNode};
 
 /// Adds those of these events of node `i` that are picked, each with its tick.
 fn push_told(
@@ -69,22 +71,55 @@ fn syncs_at_end(
     Ok(syncs)
 }
 
-/// Returns what the samples of node `i` did.
-fn events_at_end(
+/// Adds what the samples of node `i` did, each with its tick, as far as it is picked: the node is watched sample by sample.
+fn push_events(
     alloc: Global,
+    told: &mut Vec<(u64, (usize, Noted))>,
+    pick: &Pick,
     plan: &CheckedPlan,
-    outcome: &Outcome,
+    drives: &Drives,
     i: usize,
-) -> Result<Vec<Noted>, AllocError>
-    requires outcome { outcome.now ≡ outcome_of plan.now }
+) -> Result<(), AllocError>
+    requires drives { drives.now ≡ drives_of (outcome_of plan.now) }
     requires node { i < length plan.now.nodes }
-    ensures { IfOk result (λ events. events.items ≡ events_at_end plan.now i) }
+    ensures { OnOk result (told.new.items ≡ told.old.items
+        ++ filter (is_picked pick.now) (told_by (setup_at plan.now i).clock i (events_at_end plan.now i))) }
 {
-    let setups = plan.nodes.as_slice();
-    let nodes = outcome.nodes.as_slice();
-    let samples = nodes[i].samples.list(alloc)?;
-    let events = node_events(alloc, &setups[i], samples.as_slice())?;
-    Ok(events)
+    let setup = &plan.nodes.as_slice()[i];
+    let mut node = WatchedNode::new(alloc, setup)?;
+    let mut samples = Sampling::new(alloc, plan, i)?;
+    let mut bit = 0;
+    while let Some((quantum, level)) = samples.next(plan, drives, i) {
+        let events = node.take(alloc, setup, quantum, bit, level)?;
+        push_told(told, pick, &setup.clock, i, &events)?;
+        bit += 1;
+    }
+    Ok(())
+}
+
+/// Adds how node `i` was synchronised, each with its tick, as far as it is picked.
+fn push_syncs(
+    alloc: Global,
+    told: &mut Vec<(u64, (usize, Noted))>,
+    pick: &Pick,
+    plan: &CheckedPlan,
+    drives: &Drives,
+    i: usize,
+) -> Result<(), AllocError>
+    requires drives { drives.now ≡ drives_of (outcome_of plan.now) }
+    requires node { i < length plan.now.nodes }
+    ensures { OnOk result (told.new.items ≡ told.old.items
+        ++ filter (is_picked pick.now) (told_by (setup_at plan.now i).clock i (syncs_at_end plan.now i))) }
+{
+    plan.laws();
+    wl_plan::simulation_laws();
+    wl_trace::trace_laws();
+    if !pick.asks_for_syncs() {
+        return Ok(());
+    }
+    let clock = &plan.nodes.as_slice()[i].clock;
+    let syncs = syncs_at_end(alloc, plan, drives, i)?;
+    push_told(told, pick, clock, i, &syncs)
 }
 
 /// Adds how node `i` was synchronised and what its samples did, each with its tick, as far as it is picked.
@@ -93,24 +128,15 @@ fn push_node(
     told: &mut Vec<(u64, (usize, Noted))>,
     pick: &Pick,
     plan: &CheckedPlan,
-    outcome: &Outcome,
     drives: &Drives,
     i: usize,
 ) -> Result<(), AllocError>
-    requires outcome { outcome.now ≡ outcome_of plan.now }
     requires drives { drives.now ≡ drives_of (outcome_of plan.now) }
     requires node { i < length plan.now.nodes }
     ensures { OnOk result (told.new.items ≡ told.old.items ++ filter (is_picked pick.now) (told_at_end plan.now i)) }
 {
-    plan.laws();
-    wl_plan::simulation_laws();
-    wl_trace::trace_laws();
-    let clock = &plan.nodes.as_slice()[i].clock;
-    let syncs = syncs_at_end(alloc, plan, drives, i)?;
-    push_told(told, pick, clock, i, &syncs)?;
-    let events = events_at_end(alloc, plan, outcome, i)?;
-    push_told(told, pick, clock, i, &events)?;
-    Ok(())
+    push_syncs(alloc, told, pick, plan, drives, i)?;
+    push_events(alloc, told, pick, plan, drives, i)
 }
 
 /// Returns the events of all nodes that are picked, node by node, each with its tick.
@@ -118,15 +144,14 @@ fn all_told(
     alloc: Global,
     pick: &Pick,
     plan: &CheckedPlan,
-    outcome: &Outcome,
+    drives: &Drives,
 ) -> Result<Vec<(u64, (usize, Noted))>, AllocError>
-    requires outcome { outcome.now ≡ outcome_of plan.now }
+    requires drives { drives.now ≡ drives_of (outcome_of plan.now) }
     ensures { IfOk result (λ told. told.items ≡ filter (is_picked pick.now) (all_told plan.now)) }
 {
-    let drives = outcome.drives(alloc)?;
     let mut told = Vec::new(alloc);
     for i in 0..plan.nodes.len() {
-        push_node(alloc, &mut told, pick, plan, outcome, &drives, i)?;
+        push_node(alloc, &mut told, pick, plan, drives, i)?;
     }
     Ok(told)
 }
@@ -136,16 +161,16 @@ pub(crate) fn told_in_order(
     alloc: Global,
     pick: &Pick,
     plan: &CheckedPlan,
-    outcome: &Outcome,
+    drives: &Drives,
 ) -> Result<Vec<(u64, (usize, Noted))>, AllocError>
-    requires outcome { outcome.now ≡ outcome_of plan.now }
+    requires drives { drives.now ≡ drives_of (outcome_of plan.now) }
     ensures { IfOk result (λ told. told.items
         ≡ filter (is_picked pick.now) (by_tick plan.now.end (all_told plan.now))) }
 {
     plan.laws();
     wl_plan::simulation_laws();
     wl_trace::trace_laws();
-    let mut told = all_told(alloc, pick, plan, outcome)?;
+    let mut told = all_told(alloc, pick, plan, drives)?;
     told.sort_by_cached_key(|(tick, _)| *tick)?;
     Ok(told)
 }

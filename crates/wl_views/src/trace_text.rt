@@ -3,7 +3,7 @@ ghost use Rattle.std.specs.Prelude.{◌≡◌, ◌+◌, ◌≤◌, ◌++◌, OnO
 ghost use Rattle.std.specs.Fmt.{decimal};
 ghost use Rattle.arrayvec.specs.ArrayString.{array_string_len};
 ghost use Rattle.wl_report.specs.Lines.{GrowsBy};
-ghost use Rattle.wl_serial.specs.Outcome.{outcome_of};
+ghost use Rattle.wl_serial.specs.Outcome.{drives_of, outcome_of};
 ghost use Rattle.wl_views.specs.TraceText.{error_kind_word, event_text, field_word, first_error_at, first_error_in, first_error_text, first_error_tick, flag_word, is_error, line_start, place_text, sample_words, trace_line};
 
 use crate::pick::Pick;
@@ -14,7 +14,7 @@ use std::alloc::{AllocError, Global};
 use wl_confine::{Counters, ErrorKind};
 use wl_plan::CheckedPlan;
 use wl_report::{mode_word, push_content};
-use wl_serial::Outcome;
+use wl_serial::Drives;
 use wl_setup::Names;
 use wl_trace::{FlagForm, FrameField, FramePlace, NodeEvent, Noted};
 
@@ -219,18 +219,18 @@ fn push_first_error(
     Ok(())
 }
 
-/// Returns the line that the trace of a plan's simulation, which is `outcome`, has of the first error; no letter if there was none. Refused only
-/// when out of memory.
+/// Returns the line that the trace of a plan's simulation, in which drives changed so, has of the first error; no letter if there was none.
+/// Refused only when out of memory.
 pub fn first_error(
     alloc: Global,
     plan: &CheckedPlan,
     names: &Names,
-    outcome: &Outcome,
+    drives: &Drives,
 ) -> Result<String, AllocError>
-    requires outcome { outcome.now ≡ outcome_of plan.now }
+    requires drives { drives.now ≡ drives_of (outcome_of plan.now) }
     ensures { IfOk result (λ text. string_bytes text ≡ first_error_text plan.now names.now) }
 {
-    let errors = told_in_order(alloc, &Pick::errors(), plan, outcome)?;
+    let errors = told_in_order(alloc, &Pick::errors(), plan, drives)?;
     let mut text = String::new(alloc);
     push_first_error(&mut text, names, &errors)?;
     Ok(text)
@@ -248,15 +248,15 @@ fn first_error_at(told: &[(u64, (usize, Noted))]) -> Option<u64>
     None
 }
 
-/// Returns the tick of the first error of a plan's simulation, which is `outcome`, if there was one. Refused only when out of memory.
+/// Returns the tick of the first error of a plan's simulation, in which drives changed so, if there was one. Refused only when out of memory.
 pub fn first_error_tick(
     alloc: Global,
     plan: &CheckedPlan,
-    outcome: &Outcome,
+    drives: &Drives,
 ) -> Result<Option<u64>, AllocError>
-    requires outcome { outcome.now ≡ outcome_of plan.now }
+    requires drives { drives.now ≡ drives_of (outcome_of plan.now) }
     ensures { IfOk result (λ tick. tick ≡ first_error_tick plan.now) }
 {
-    let errors = told_in_order(alloc, &Pick::errors(), plan, outcome)?;
+    let errors = told_in_order(alloc, &Pick::errors(), plan, drives)?;
     Ok(first_error_at(&errors))
 }

@@ -1,21 +1,19 @@
-use Rattle.std.proofs.Common.{◌∙◌, ap, not, Bool}
+use Rattle.std.proofs.Common.{◌∙◌, ap, ap₂, not, Bool, List}
 use Rattle.wl_report.specs.Report.{report_text}
-use Rattle.wl_serial.specs.Outcome.{totals_of}
+use Rattle.wl_serial.specs.declared.outcome.Counted.{Counted}
+use Rattle.wl_serial.specs.declared.outcome.NodeTotals.{NodeTotals}
+use Rattle.wl_views.specs.declared.pick.Pick.{Pick}
 use Rattle.wl_views.specs.Picks.{trace_text}
 use Rattle.wl_engines.specs.Plans.{shown_totals}
-use Rattle.wl_engines.specs.Shown.{is_whole_run}
 use Rattle.wl_engines.proofs.run_page.run_texts_of.Goals as goal
 
 -- each text is that of its definition
 pub returns : goal.returns
-returns c =
-    let plan = c.args.bus.now.plan in
-    let brief = ap (λ (whole : Bool). report_text (shown_totals (not whole) (totals_of c.args.outcome.now))) c.is_whole_run.ensures in
-    let same = ap (λ outcome. report_text (shown_totals (not (is_whole_run c.args.shown)) (totals_of outcome))) c.requires.outcome in
-    let picked = ap (λ pick. trace_text pick plan c.args.bus.now.names) c.pick_of.ensures in (
-      c.in_ok-traffic.ensures.text,
-      c.in_ok-report.ensures ∙ (brief ∙ same),
-      c.in_ok-part.ensures,
-      c.in_ok-trace.ensures ∙ picked,
-      c.in_ok-wave.ensures,
-    )
+returns c = (
+  c.in_ok-traffic.ensures.text,
+  c.in_ok-report.ensures
+  ∙ ap₂ (λ (b : Bool) (totals : List NodeTotals). report_text (shown_totals (not b) totals)) c.is_whole_run.ensures (ap (λ (n : Counted). n.totals) c.requires.counted),
+  c.in_ok-part.ensures,
+  c.in_ok-trace.ensures ∙ ap (λ (p : Pick). trace_text p c.args.bus.now.plan c.args.bus.now.names) c.pick_of.ensures,
+  c.in_ok-wave.ensures,
+)

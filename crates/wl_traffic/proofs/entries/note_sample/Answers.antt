@@ -21,5 +21,5 @@ returns-clause-entries c p is =
     let events : List NodeEvent = then_events setup p quantum c.args.sample.1 in
     c.note_events.ensures
     ∙ ap (fold (λ (es : List Entry) (n : Noted). entries_after_event told n.quantum es n.event) old) (c.deref.ensures.value ∙ c.in_ok-events.ensures.events p is)
-    ∙ fold-map (λ (es : List Entry) (n : Noted). entries_after_event told n.quantum es n.event) (noted quantum c.args.bit) old events
+    ∙ fold-map (λ (es : List Entry) (n : Noted). entries_after_event told n.quantum es n.event) (noted quantum 0) old events
     ∙ ap (λ (h : Option Content). fold (entries_after_event h quantum) old events) (c.as_ref.ensures.value ∙ c.head-head.ensures setup p is)

@@ -1,0 +1,32 @@
+-- Nothing was seen.
+use Rattle.std.proofs.Common.{◌≡◌, ◌∙◌, [], ap, subst, arith, ℕ, List}
+use Rattle.wl_node.specs.declared.setup.NodeSetup.{NodeSetup}
+use Rattle.wl_node.proofs.Callers.{history_begins}
+use Rattle.wl_node.specs.History.{History, history_of}
+use Rattle.wl_plan.specs.declared.plan.Plan.{Plan}
+use Rattle.wl_plan.specs.PlanLine.{setup_at}
+use Rattle.wl_plan.specs.Simulation.{seen}
+use Rattle.wl_trace.specs.Rerun.{RunsAgain}
+use Rattle.wl_views.proofs.Going.{setup_is}
+use Rattle.wl_views.proofs.sampling.Sampling.new.Goals as goal
+
+pub returns-clause-is : goal.returns-clause-is
+unfolding seen
+returns-clause-is c =
+    let setup : c.index-as_slice-i.result ≡ setup_at c.args.plan.now c.args.i =
+    c.index-as_slice-i.is ∙ setup_is c.args.plan.now c.as_slice.result.now c.args.i c.index-as_slice-i.result
+    (c.as_slice.ensures ∙ ap (λ (p : Plan). p.nodes) c.deref.ensures.0) c.requires.node
+    in
+    record {
+      node = subst (λ (s : NodeSetup). RunsAgain s [] c.in_ok-new.field-0) setup c.in_ok-new.ensures.runs;
+      remembers = c.new.ensures c.args.plan.now c.args.i;
+      before = λ q below. absurd (omega arith);
+      next = omega arith;
+      few = omega arith;
+      inside = omega arith;
+      stays = λ q from below. absurd (omega arith);
+    }
+
+pub returns-clause-none : goal.returns-clause-none
+unfolding seen
+returns-clause-none c = ap (λ (h : History). h.samples) (history_begins (setup_at c.args.plan.now c.args.i))
