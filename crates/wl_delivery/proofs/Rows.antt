@@ -6,7 +6,7 @@ use Rattle.wl_clock.specs.Timing.{Timing, tick_of}
 use Rattle.wl_frame.specs.Grammar.{Content}
 use Rattle.wl_node.specs.declared.setup.Passed.{Passed}
 use Rattle.wl_delivery.specs.Deliveries.{delivery_of, presence_of}
-use Rattle.wl_delivery.specs.Instances.{instances_of}
+use Rattle.wl_delivery.specs.Instances.{taken_instances}
 use Rattle.wl_delivery.specs.Joining.{joined_quantum}
 use Rattle.wl_delivery.specs.Messages.{is_first_sent, message_ticks}
 
@@ -62,7 +62,7 @@ only_taken : is_first_sent (taken 90 5 ∷ sent 100 5 ∷ sent 200 5 ∷ []) 0 �
 only_taken = refl
 
 -- A frame is sent at 100, 200 and 300. A node takes the first once, the second never, the third twice, and what it takes at 310 isn't sent by the end.
-counted : instances_of (100 ∷ 200 ∷ 300 ∷ []) (98 ∷ 250 ∷ 300 ∷ 310 ∷ [])
+counted : taken_instances (100 ∷ 200 ∷ 300 ∷ []) (98 ∷ 250 ∷ 300 ∷ 310 ∷ [])
     ≡ record { sent = 100; taken = 1 } ∷ record { sent = 200; taken = 0 } ∷ record { sent = 300; taken = 2 } ∷ []
 counted = refl
 

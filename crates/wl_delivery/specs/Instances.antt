@@ -17,5 +17,5 @@ with_taken tick [] = []
 with_taken tick (i ∷ is) = if nat_le tick i.sent then taken_again i ∷ is else i ∷ with_taken tick is
 
 -- the frames that were sent at these ticks, after frames were taken at those
-abbrev pub instances_of : (sent taken : List ℕ) → List Instance
-instances_of sent taken = fold (λ is tick. with_taken tick is) (map new_instance sent) taken
+abbrev pub taken_instances : (sent taken : List ℕ) → List Instance
+taken_instances sent taken = fold (λ is tick. with_taken tick is) (map new_instance sent) taken

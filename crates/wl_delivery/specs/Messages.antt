@@ -22,10 +22,10 @@ message_ticks clock sent c frames = map (λ p. tick_of clock p.quantum) (filter 
 abbrev pub no_passed : Passed
 no_passed = record { sent = false; quantum = 0; frame = record { extended = false; id = 0; remote = false; dlc = 0; bytes = [] } }
 
-abbrev pub passed_at : List Passed → ℕ → Passed
-passed_at frames k = slice_index_or frames k no_passed
+abbrev pub frame_passed : List Passed → ℕ → Passed
+frame_passed frames k = slice_index_or frames k no_passed
 
 -- frame k was sent, and none of its message before it
 abbrev pub is_first_sent : List Passed → ℕ → Bool
 is_first_sent frames k =
-    (passed_at frames k).sent && not (list_any (is_of_message true (passed_at frames k).frame) (take k frames))
+    (frame_passed frames k).sent && not (list_any (is_of_message true (frame_passed frames k).frame) (take k frames))

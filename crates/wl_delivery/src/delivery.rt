@@ -1,10 +1,10 @@
 //! How many frames of a message a node misses, and how many it takes twice.
 ghost use Rattle.std.specs.Prelude.{◌≡◌, ◌≤◌, IfOk, IfSome, count_by};
 ghost use Rattle.wl_node.specs.Limits.{most_run_quanta};
-ghost use Rattle.wl_delivery.specs.Deliveries.{delivery_of, is_missed, is_twice, presence_of};
-ghost use Rattle.wl_delivery.specs.Instances.{instances_of};
+ghost use Rattle.wl_delivery.specs.Deliveries.{delivery_of, misses_instance, is_twice, presence_of};
+ghost use Rattle.wl_delivery.specs.Instances.{taken_instances};
 
-use crate::instances::{Instance, instances_of};
+use crate::instances::{Instance, taken_instances};
 use std::alloc::{AllocError, Global};
 use wl_clock::Clock;
 
@@ -42,19 +42,19 @@ pub fn presence_of(clock: &Clock, joined: Option<u64>, last: Option<u64>) -> Pre
 }
 
 /// True if a node takes part when a frame is sent, and doesn't take the frame.
-fn is_missed(presence: Presence, instance: &Instance) -> bool
-    ensures { result ≡ is_missed presence instance.now }
+fn misses_instance(presence: Presence, instance: &Instance) -> bool
+    ensures { result ≡ misses_instance presence instance.now }
 {
     instance.taken == 0 && presence.from < instance.sent && instance.sent <= presence.until
 }
 
 /// Returns how many frames a node misses.
 fn missed_count(presence: Presence, instances: &[Instance]) -> u64
-    ensures { result ≡ count_by (is_missed presence) instances.now }
+    ensures { result ≡ count_by (misses_instance presence) instances.now }
 {
     let mut count = 0;
     for instance in instances {
-        if is_missed(presence, instance) {
+        if misses_instance(presence, instance) {
             count += 1;
         }
     }
@@ -84,7 +84,7 @@ pub fn delivery_of(
 ) -> Result<Delivery, AllocError>
     ensures { IfOk result (λ found. found ≡ delivery_of presence sent.now taken.now) }
 {
-    let instances = instances_of(alloc, sent, taken)?;
+    let instances = taken_instances(alloc, sent, taken)?;
     Ok(Delivery {
         missed: missed_count(presence, &instances),
         twice: twice_count(&instances),

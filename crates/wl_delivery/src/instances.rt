@@ -2,7 +2,7 @@
 ghost use Rattle.std.specs.Prelude.{◌≡◌, ◌<◌, List, map, take, IfOk};
 ghost use Rattle.std.specs.List.{All};
 ghost use Rattle.wl_delivery.specs.declared.instances.Instance.{Instance as Sent};
-ghost use Rattle.wl_delivery.specs.Instances.{instances_of, new_instance, with_taken};
+ghost use Rattle.wl_delivery.specs.Instances.{taken_instances, new_instance, with_taken};
 
 use std::alloc::{AllocError, Global};
 
@@ -31,7 +31,8 @@ fn new_instances(alloc: Global, sent: &[u64]) -> Result<Vec<Instance>, AllocErro
 
 /// Returns from which place on a frame can be that was sent at `tick` or later, if none of those before `place` was sent at `before` or later.
 fn start(tick: u64, before: u64, place: usize) -> usize
-    ensures { (all : List Sent) → All (λ i. i.sent < before) (take place all) → All (λ i. i.sent < tick) (take result all) }
+    ensures { (all : List Sent)
+        → All (λ i. i.sent < before) (take place all) → All (λ i. i.sent < tick) (take result all) }
 {
     if tick < before { 0 } else { place }
 }
@@ -54,12 +55,12 @@ fn note_taken(instances: &mut Vec<Instance>, from: usize, tick: u64) -> usize
 }
 
 /// Returns the frames that were sent at these ticks, and how often each was taken, if frames were taken at those.
-pub(crate) fn instances_of(
+pub(crate) fn taken_instances(
     alloc: Global,
     sent: &[u64],
     taken: &[u64],
 ) -> Result<Vec<Instance>, AllocError>
-    ensures { IfOk result (λ instances. instances.items ≡ instances_of sent.now taken.now) }
+    ensures { IfOk result (λ instances. instances.items ≡ taken_instances sent.now taken.now) }
 {
     let mut instances = new_instances(alloc, sent)?;
     let mut before = 0;

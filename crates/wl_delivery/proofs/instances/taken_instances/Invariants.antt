@@ -1,7 +1,7 @@
 use Rattle.std.proofs.Common.{◌≡◌, ◌<◌, fold, map, take}
 use Rattle.std.specs.List.{All}
 use Rattle.wl_delivery.specs.Instances.{new_instance, with_taken}
-use Rattle.wl_delivery.proofs.instances.instances_of.Given as goal
+use Rattle.wl_delivery.proofs.instances.taken_instances.Given as goal
 
 -- with those so far; what was sent before the last of them lies before its place
 abbrev pub invariant-loop-tick : goal.invariant-loop-tick
