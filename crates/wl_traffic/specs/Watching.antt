@@ -1,5 +1,5 @@
 -- What is seen of a node that runs again, sample by sample, and when it finds the bus busy (this project's profile).
-use Rattle.std.specs.Prelude.{◌≡◌, ℕ, ◌≤◌, ◌||◌, max, Bool, true, false, List, ◌∷◌, fold, Option, Some, None}
+use Rattle.std.specs.Prelude.{◌≡◌, ℕ, ◌≤◌, ◌||◌, max, Bool, false, List, fold, Option, Some, None}
 use Rattle.std.specs.List.{list_any}
 use Rattle.wl_delivery.specs.Joining.{joining_with, no_joining}
 use Rattle.wl_intervals.specs.Pairs.{covers, has_tick}

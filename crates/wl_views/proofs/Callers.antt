@@ -1,3 +1,2 @@
 -- What the proofs of upper crates may use, and no other lemma of this crate.
 pub use Rattle.wl_views.proofs.InTime.{few, frames_ran, inside, within}
-pub use Rattle.wl_views.proofs.SignalProofs.{node_is, nodes_all}

@@ -11,7 +11,6 @@ use Rattle.wl_plan.specs.Simulation.{level}
 use Rattle.wl_plan.specs.SimulationLaws.{SimulationLaws}
 use Rattle.wl_plan.specs.Sound.{IsSound}
 use Rattle.wl_serial.specs.declared.outcome.NodeOutcome.{NodeOutcome}
-use Rattle.wl_serial.specs.declared.outcome.Outcome.{Outcome}
 use Rattle.wl_serial.specs.Outcome.{drives_of, node_outcome_of, outcome_of}
 use Rattle.wl_pulse.specs.Pulses.{drove}
 use Rattle.wl_pulse.specs.declared.pulse.Pulse.{Pulse}
@@ -21,14 +20,6 @@ use Rattle.wl_level.specs.declared.Level.{Level}
 use Rattle.wl_level.specs.Levels.{is_dominant}
 use Rattle.wl_node.specs.History.{history_of}
 use Rattle.wl_views.proofs.Turns.{holds_as}
-
-pub node_is : (plan : Plan) (outcome : Outcome) (i : ℕ) (d : NodeOutcome) → outcome ≡ outcome_of plan → i < length plan.nodes
-    → get_or outcome.nodes i d ≡ node_outcome_of plan i
-node_is plan outcome i d is b =
-    ap (λ (o : Outcome). get_or o.nodes i d) is ∙ get_or-map-range_with_len (node_outcome_of plan) 0 (length plan.nodes) i i d b (zero-add i)
-
-pub nodes_all : (plan : Plan) (outcome : Outcome) → outcome ≡ outcome_of plan → length outcome.nodes ≡ length plan.nodes
-nodes_all plan outcome is = ap (λ (o : Outcome). length o.nodes) is ∙ length-map-range_with_len (node_outcome_of plan) 0 (length plan.nodes)
 
 -- the changes of a node among those of all
 drives_are : (plan : Plan) (drives : List (List ℕ)) → drives ≡ drives_of (outcome_of plan) → drives ≡ map (table_of plan) (range_with_len 0 (length plan.nodes))

@@ -85,8 +85,8 @@ not_picked : (pick : Pick) (t i : ℕ) (n : Noted) → IsSync n → asks_for_syn
 not_picked pick t i n is none =
     both_false (is_within pick.window t) (is_asked_node pick.node i) (is_asked_kind pick.only n.event) (not_asked pick.only n.event is none)
 
-pub none_picked : (pick : Pick) (clock : Timing) (i : ℕ) (es : List Noted) → asks_for_syncs pick.only ≡ false → All IsSync es
+pub no_sync_picked : (pick : Pick) (clock : Timing) (i : ℕ) (es : List Noted) → asks_for_syncs pick.only ≡ false → All IsSync es
     → filter (is_picked pick) (told_by clock i es) ≡ []
-none_picked pick clock i [] none are = refl
-none_picked pick clock i (n ∷ es) none are =
-    rw (not_picked pick (tick_of clock n.quantum) i n (are 0 n (omega arith)) none) (none_picked pick clock i es none (λ k d b. are (suc k) d (omega arith)))
+no_sync_picked pick clock i [] none are = refl
+no_sync_picked pick clock i (n ∷ es) none are =
+    rw (not_picked pick (tick_of clock n.quantum) i n (are 0 n (omega arith)) none) (no_sync_picked pick clock i es none (λ k d b. are (suc k) d (omega arith)))

@@ -58,6 +58,7 @@ impl Sampling {
         ensures more { (sample : ℕ × Level) → result ≡ Some sample
             → given_by plan.now i self.new ≡ given_by plan.now i self.old ++ sample ∷ [] }
         ensures all { result ≡ None → given_by plan.now i self.old ≡ (node_outcome_of plan.now i).samples }
+        ensures ended { result ≡ None → given_by plan.now i self.new ≡ given_by plan.now i self.old }
         ensures later { (sample : ℕ × Level) → result ≡ Some sample → quanta_sampled self.old < quanta_sampled self.new }
         ensures few { (sample : ℕ × Level) → result ≡ Some sample → quanta_sampled self.new ≤ most_run_quanta }
         ensures at { (sample : ℕ × Level) → result ≡ Some sample → sample.0 < quanta_sampled self.new }

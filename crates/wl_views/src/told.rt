@@ -136,7 +136,8 @@ fn push_node(
     ensures { OnOk result (told.new.items ≡ told.old.items ++ filter (is_picked pick.now) (told_at_end plan.now i)) }
 {
     push_syncs(alloc, told, pick, plan, drives, i)?;
-    push_events(alloc, told, pick, plan, drives, i)
+    push_events(alloc, told, pick, plan, drives, i)?;
+    Ok(())
 }
 
 /// Returns the events of all nodes that are picked, node by node, each with its tick.
