@@ -65,7 +65,13 @@ class Watched(plain.Node):
 
     def __init__(self, setup):
         super().__init__(setup)
-        self.tries = []
+        self.tries, self.recessive, self.joined, self.last = [], 0, None, None
+
+    def sample(self, level):
+        super().sample(level)
+        self.recessive = self.recessive + 1 if level == plain.RECESSIVE else 0
+        self.last = self.quanta
+        if self.recessive == 11 and self.joined is None: self.joined = self.quanta
 
     def note(self, *what):
         before = len(self.events)
@@ -153,9 +159,37 @@ def late_words(message, tick):
     return f"{word} {message.name} {digits(message.message)} waits {waits} us allowed {allowed} us"
 
 
-def verdict(setups, nodes, full, tick):
+def kind_of(frame):
+    return frame.extended, frame.id, frame.remote
+
+
+def ticks_of(setup, node, sent, kind):
+    return [setup.clock.at(quantum) for what, quantum, frame in node.frames if (what == "sent") == sent and kind_of(frame) == kind]
+
+
+def unequal(setups, nodes):
+    """Of each kind of frame that one node alone has sent, and each other node: how many it misses, and how many it has taken twice. What it has
+    received since the sender's last such frame was sent belongs to the next one."""
+    both = list(zip(setups, nodes))
+    for i, (setup, node) in enumerate(both):
+        for kind in dict.fromkeys(kind_of(frame) for what, _, frame in node.frames if what == "sent"):
+            if any(ticks_of(*other, True, kind) for k, other in enumerate(both) if k != i): continue
+            sent = ticks_of(setup, node, True, kind)
+            for k, (at, other) in enumerate(both):
+                if k == i: continue
+                taken = ticks_of(at, other, False, kind)
+                each = [sum(before < tick <= after for tick in taken) for before, after in zip([-1] + sent, sent)]
+                there = lambda tick: other.joined is not None and at.clock.at(other.joined) < tick <= at.clock.at(other.last)
+                missed, twice = sum(not n and there(tick) for n, tick in zip(each, sent)), sum(1 < n for n in each)
+                for word, count in (("missed", missed), ("twice", twice)):
+                    if count: yield f"{word} {at.name} {count} of {len(sent)} frames of {setup.name} {digits(kind)}"
+
+
+def verdict(setups, nodes, full, tick, words):
     """The lines of the causes, and that of the reason."""
     if any(state[3] == "bus_off" for node in nodes for _, state in node.states): return ["verdict bus off"]
+    if any(line.startswith("missed ") for line in words): return ["verdict missed"]
+    if any(line.startswith("twice ") for line in words): return ["verdict taken twice"]
     if any(node.errors for node in nodes): return ["verdict errors"]
     late = late_messages(setups, nodes)
     lines = [late_words(message, tick) for message in late]
@@ -176,7 +210,8 @@ def traffic_text(plan, tick=1_000):
     full = plan.end - max((after for _, after in free), default=0)
     lines = [bus_words(free, plan.end, tick)]
     for i, (setup, node) in enumerate(zip(plan.nodes, nodes)): lines += messages(i, setup, node, tick)
-    return lines + verdict(plan.nodes, nodes, full, tick)
+    words = list(unequal(plan.nodes, nodes))
+    return lines + words + verdict(plan.nodes, nodes, full, tick, words)
 
 
 def picoseconds(word):

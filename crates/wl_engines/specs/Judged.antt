@@ -13,7 +13,7 @@ use Rattle.wl_judge.specs.declared.judgement.RunState.{RunState}
 use Rattle.wl_judge.specs.declared.judgement.RunState.TheVariants as state
 use Rattle.wl_plan.specs.declared.plan.Plan.{Plan}
 use Rattle.wl_traffic.specs.declared.reason.Reason.{Reason}
-use Rattle.wl_traffic.specs.declared.reason.Reason.TheVariants.{Works, Errors, Overloaded, Starved, EndsTooEarly, BusOff, Deaf}
+use Rattle.wl_traffic.specs.declared.reason.Reason.TheVariants.{Works, Errors, Overloaded, Starved, EndsTooEarly, BusOff, Deaf, Missed, TakenTwice}
 use Rattle.wl_traffic.specs.Reasons.{reason_of, reason_word}
 use Rattle.wl_engines.specs.Explained.{bus_answer}
 use Rattle.wl_engines.specs.Answered.{Answers, AnswersText}
@@ -28,6 +28,8 @@ run_state Starved = state.Fails
 run_state EndsTooEarly = state.EndsTooEarly
 run_state BusOff = state.Fails
 run_state Deaf = state.Fails
+run_state Missed = state.Fails
+run_state TakenTwice = state.Fails
 
 abbrev pub plan_state : Plan → RunState
 plan_state plan = run_state (reason_of plan)

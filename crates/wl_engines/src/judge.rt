@@ -22,9 +22,13 @@ fn run_state(reason: Reason) -> RunState
     match reason {
         Reason::Works => RunState::Works,
         Reason::EndsTooEarly => RunState::EndsTooEarly,
-        Reason::Errors | Reason::Overloaded | Reason::Starved | Reason::BusOff | Reason::Deaf => {
-            RunState::Fails
-        }
+        Reason::Errors
+        | Reason::Overloaded
+        | Reason::Starved
+        | Reason::BusOff
+        | Reason::Deaf
+        | Reason::Missed
+        | Reason::TakenTwice => RunState::Fails,
     }
 }
 

@@ -61,6 +61,11 @@ causes : formatted Json subject.Traffic (codes "full for the last 9936 us\nstarv
     ≡ Some (codes "{\"command\":\"traffic\",\"records\":[\n{\"kind\":\"full\",\"full_us\":9936},\n{\"kind\":\"starved\",\"name\":\"pump\",\"id\":\"0x1a0\",\"waits_us\":558,\"allowed_us\":50},\n{\"kind\":\"deaf\",\"name\":\"panel\",\"passed\":3,\"most_passed\":12}\n]}\n")
 causes = refl
 
+-- and for each message and node that misses frames of it or has taken some twice
+deliveries : formatted Json subject.Traffic (codes "missed far 1 of 3 frames of pump 1a0\ntwice panel 2 of 3 frames of pump 000001a0\n")
+    ≡ Some (codes "{\"command\":\"traffic\",\"records\":[\n{\"kind\":\"missed\",\"receiver\":\"far\",\"frames\":1,\"sent\":3,\"name\":\"pump\",\"id\":\"0x1a0\"},\n{\"kind\":\"twice\",\"receiver\":\"panel\",\"frames\":2,\"sent\":3,\"name\":\"pump\",\"id\":\"0x000001a0\"}\n]}\n")
+deliveries = refl
+
 no_line : formatted Json subject.Trace [] ≡ Some (codes "{\"command\":\"trace\",\"records\":[\n]}\n")
 no_line = refl
 

@@ -13,6 +13,16 @@ late_form kind = record {
       field (codes "allowed_us") Number ∷ literal (codes " us") ∷ [];
 }
 
+-- a node that misses frames of a message, or has taken some twice: how many of those that were sent
+abbrev pub delivery_form : Text → Form
+delivery_form kind = record {
+  kind = kind;
+  parts =
+      literal (kind ++ codes " ") ∷ field (codes "receiver") Word ∷ literal (codes " ") ∷ field (codes "frames") Number ∷
+      literal (codes " of ") ∷ field (codes "sent") Number ∷ literal (codes " frames of ") ∷ field (codes "name") Word ∷
+      literal (codes " ") ∷ field (codes "id") Hexadecimal ∷ [];
+}
+
 abbrev pub traffic_layout : Layout
 traffic_layout = record {
   command = codes "traffic";
@@ -20,7 +30,8 @@ traffic_layout = record {
       codes "load_percent" ∷ codes "gap_us" ∷ codes "node" ∷ codes "name" ∷ codes "id" ∷ codes "sent" ∷ codes "left" ∷
       codes "waiting" ∷ codes "lost" ∷ codes "broken" ∷ codes "least_quanta" ∷ codes "mean_quanta" ∷
       codes "greatest_quanta" ∷ codes "least_us" ∷ codes "mean_us" ∷ codes "greatest_us" ∷ codes "verdict" ∷ codes "full_us" ∷
-      codes "waits_us" ∷ codes "allowed_us" ∷ codes "passed" ∷ codes "most_passed" ∷ codes "bound_quanta" ∷ codes "bound_us" ∷ [];
+      codes "waits_us" ∷ codes "allowed_us" ∷ codes "passed" ∷ codes "most_passed" ∷ codes "bound_quanta" ∷ codes "bound_us" ∷
+      codes "receiver" ∷ codes "frames" ∷ [];
   forms =
       record {
         kind = codes "bus";
@@ -62,6 +73,8 @@ traffic_layout = record {
             literal (codes "deaf ") ∷ field (codes "name") Word ∷ literal (codes " ") ∷ field (codes "passed") Number ∷
             literal (codes " of ") ∷ field (codes "most_passed") Number ∷ literal (codes " frames") ∷ [];
       } ∷
+      delivery_form (codes "missed") ∷
+      delivery_form (codes "twice") ∷
       record {
         kind = codes "verdict";
         parts =

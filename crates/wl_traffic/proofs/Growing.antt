@@ -1,11 +1,15 @@
 -- Lists and folds that grow by one.
-use Rattle.std.proofs.Common.{◌≡◌, ◌∙◌, sym, ap, arith, refl, zero-add, add-one, ℕ, suc, Bool, true, false, ◌&&◌, ◌||◌, ◌+◌, ◌*◌, ◌/◌, ◌%◌, ◌<◌, ◌≤◌, List, [], ◌∷◌, ◌++◌, length, fold, Option, Some, get_or, take, append-nil}
+use Rattle.std.proofs.Common.{◌≡◌, ◌∙◌, sym, ap, arith, refl, zero-add, add-one, ℕ, suc, Bool, true, false, ◌&&◌, ◌||◌, ◌+◌, ◌*◌, ◌/◌, ◌%◌, ◌<◌, ◌≤◌, List, [], ◌∷◌, ◌++◌, length, fold, nat_lt, is_some, Option, Some, get_or, take, append-nil}
 use Rattle.std.specs.List.{All, flat_map, list_all, list_any, range_with_len}
 use Rattle.std.proofs.Math.Nat.{add-mul, mul_assoc, div-add-mod, mul-add-div}
 use Rattle.std.proofs.lemmas.List.{take_more}
 use Rattle.std.proofs.lemmas.List.Concat.{flat_map-append}
 use Rattle.std.proofs.lemmas.List.Folds.{list_all-append, list_any-append}
 use Rattle.std.proofs.lemmas.List.Sums.{fold-append}
+use Rattle.std.proofs.lemmas.Bool.{cond_both}
+use Rattle.wl_delivery.specs.declared.joining.Joining.{Joining}
+use Rattle.wl_delivery.specs.Joining.{joining_by, joining_with}
+use Rattle.wl_level.specs.declared.Level.TheVariants.{Dominant, Recessive}
 use Rattle.wl_level.proofs.Callers.{range_more}
 use Rattle.wl_level.specs.declared.Level.{Level}
 use Rattle.wl_node.specs.Limits.{most_run_quanta}
@@ -44,6 +48,19 @@ pub last_known : (samples : List (ℕ × Level)) (last : Option ℕ) → IsKnown
     → IsKnownQuantum (fold (λ (at : Option ℕ) (s : ℕ × Level). Some s.0) last samples)
 last_known [] last k h = k
 last_known (s ∷ samples) last k h = last_known samples (Some s.0) (h 0 s (omega arith)) (λ i d b. h (suc i) d (omega arith))
+
+-- and so that at which a node takes part at first
+pub joined_known : (samples : List (ℕ × Level)) (j : Joining) → IsKnownQuantum j.at → All (λ s. s.0 ≤ most_run_quanta) samples
+    → IsKnownQuantum (fold joining_with j samples).at
+joined_known [] j k h = k
+joined_known (s ∷ samples) j k h = joined_known samples (joining_with j s) (one j s k (h 0 s (omega arith))) (λ i d b. h (suc i) d (omega arith))
+  where
+    by : (j : Joining) (quantum : ℕ) (level : Level) → IsKnownQuantum j.at → quantum ≤ most_run_quanta → IsKnownQuantum (joining_by j quantum level).at
+    by j quantum Dominant k le = k
+    by j quantum Recessive k le = cond_both (nat_lt j.run 10) (record j { run = j.run + 1 }) (record j { at = Some quantum }) (λ (x : Joining). IsKnownQuantum x.at) (λ yes. k) (λ no. le)
+
+    one : (j : Joining) (s : ℕ × Level) → IsKnownQuantum j.at → s.0 ≤ most_run_quanta → IsKnownQuantum (joining_with j s).at
+    one j (quantum, level) k le = cond_both (is_some j.at) j (joining_by j quantum level) (λ (x : Joining). IsKnownQuantum x.at) (λ yes. k) (λ no. by j quantum level k le)
 
 -- a mean by parts, so that it stays below 2^128
 parts : (n s : ℕ) → n * (s / n * 100) + s % n * 100 ≡ s * 100

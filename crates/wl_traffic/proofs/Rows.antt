@@ -6,6 +6,7 @@ use Rattle.wl_clock.specs.Timing.{tick_of}
 use Rattle.wl_confine.specs.declared.ErrorKind.TheVariants.{Bit}
 use Rattle.wl_machine.specs.declared.doing.Doing.{Doing}
 use Rattle.wl_machine.specs.declared.doing.Doing.TheVariants.{Integrating, Idle, Receiving, Transmitting, Intermission, Suspended, OffBus}
+use Rattle.wl_node.specs.declared.setup.Passed.{Passed}
 use Rattle.wl_trace.specs.declared.event.NodeEvent.{NodeEvent}
 use Rattle.wl_trace.specs.declared.event.NodeEvent.TheVariants as events
 use Rattle.wl_frame.specs.Grammar.{Content}
@@ -17,7 +18,7 @@ use Rattle.wl_views.specs.declared.tick.Tick.{Tick}
 use Rattle.wl_views.specs.declared.tick.TimeUnit.TheVariants.{Nanosecond}
 use Rattle.wl_traffic.specs.declared.late.LateMessage.{LateMessage}
 use Rattle.wl_traffic.specs.declared.queues.NodeQueue.{NodeQueue}
-use Rattle.wl_traffic.specs.declared.reason.Reason.TheVariants.{Works, Errors, Overloaded, Starved, EndsTooEarly, BusOff, Deaf}
+use Rattle.wl_traffic.specs.declared.reason.Reason.TheVariants.{Works, Errors, Overloaded, Starved, EndsTooEarly, BusOff, Deaf, Missed, TakenTwice}
 use Rattle.wl_traffic.specs.declared.spans.Span.{Span}
 use Rattle.wl_traffic.specs.Entries.{entries_after, no_queued}
 use Rattle.wl_traffic.specs.Bus.{is_busy_span, load_below, share_of}
@@ -25,6 +26,7 @@ use Rattle.wl_traffic.specs.Causes.{full_line, line_of_late}
 use Rattle.wl_traffic.specs.Late.{in_time, is_beaten, is_late, late_messages, period_of, ticks_waited}
 use Rattle.wl_traffic.specs.Messages.{statistics_words}
 use Rattle.wl_traffic.specs.Reasons.{first_reason, is_overload, is_stuck, waiting_reason}
+use Rattle.wl_traffic.specs.Unequal.{unequal_deliveries, unequal_lines}
 use Rattle.wl_traffic.specs.Waits.{most_waiting, quanta_waited}
 
 abbrev span : Doing → ℕ → ℕ → Span
@@ -127,7 +129,9 @@ abbrev a_queue : NodeQueue
 a_queue = record {
   node = 1;
   clock = record { offset = 7; rates = record { from = 0; num = 125; den = 1 } ∷ [] };
+  joined = Some 90;
   last = Some 2000;
+  frames = [];
   received = 600 ∷ [];
   entries = entry 100 500 ∷ entry 500 800 ∷ left 900 ∷ [];
 }
@@ -180,6 +184,35 @@ a_message : late_messages (a_queue ∷ [])
 unfolding tick_of
 a_message = refl
 
+-- Node 0 sends frame 5 at its quanta 100, 200 and 300. Node 1 takes the first and the third, and the third again before it is sent; node 2 never takes part.
+abbrev a_frame : Bool → ℕ → Passed
+a_frame sent quantum = record { sent = sent; quantum = quantum; frame = content 5 }
+
+abbrev a_sender : NodeQueue
+a_sender = record a_queue { node = 0; joined = Some 11; frames = a_frame true 100 ∷ a_frame true 200 ∷ a_frame true 300 ∷ [] }
+
+abbrev a_receiver : NodeQueue
+a_receiver = record a_queue { joined = Some 11; frames = a_frame false 98 ∷ a_frame false 250 ∷ a_frame false 299 ∷ [] }
+
+abbrev an_absent_node : NodeQueue
+an_absent_node = record a_queue { node = 2; joined = None; frames = [] }
+
+one_unequal : unequal_deliveries (a_sender ∷ a_receiver ∷ an_absent_node ∷ [])
+    ≡ record { sender = 0; frame = content 5; sent = 3; node = 1; missed = 1; twice = 1 } ∷ []
+unfolding tick_of
+one_unequal = refl
+
+-- nothing is said of a message that two nodes have sent
+two_senders : unequal_deliveries (a_sender ∷ a_receiver ∷ record an_absent_node { frames = a_frame true 400 ∷ [] } ∷ []) ≡ []
+unfolding tick_of
+two_senders = refl
+
+-- a line for what is missed, and one for what is taken twice
+unequal_of_valve : unequal_lines (codes "pump" ∷ codes "valve" ∷ []) (record { sender = 0; frame = content 5; sent = 3; node = 1; missed = 1; twice = 2 } ∷ [])
+    ≡ codes "missed valve 1 of 3 frames of pump 005\ntwice valve 2 of 3 frames of pump 005\n"
+unfolding digits
+unequal_of_valve = refl
+
 -- all wait for the longest period, 800 quanta of the second node; the first one's frame was never sent, and others were
 abbrev a_slow_queue : NodeQueue
 a_slow_queue = record a_queue { node = 0; received = 600 ∷ 1000 ∷ []; entries = left 900 ∷ [] }
@@ -204,7 +237,9 @@ overload : is_overload 0 (message false false) ∷ is_overload 0 (message true t
 overload = refl
 
 -- the first that applies, in this order
-reasons : first_reason true true Starved ∷ first_reason false true Starved ∷ first_reason false false Starved ∷ [] ≡ BusOff ∷ Errors ∷ Starved ∷ []
+reasons : first_reason true true true true Starved ∷ first_reason false true true true Starved ∷ first_reason false false true true Starved
+    ∷ first_reason false false false true Starved ∷ first_reason false false false false Starved ∷ []
+    ≡ BusOff ∷ Missed ∷ TakenTwice ∷ Errors ∷ Starved ∷ []
 reasons = refl
 
 waiting_reasons : waiting_reason true true true true ∷ waiting_reason false true true true ∷ waiting_reason false false true true

@@ -17,6 +17,7 @@ use Rattle.wl_traffic.specs.declared.reason.Reason.TheVariants.{Overloaded, Star
 use Rattle.wl_traffic.specs.Entries.{node_queues}
 use Rattle.wl_traffic.specs.Bus.{bus_load}
 use Rattle.wl_traffic.specs.Late.{late_messages}
+use Rattle.wl_traffic.specs.Unequal.{unequal_deliveries}
 use Rattle.wl_traffic.specs.Reasons.{is_stuck, misses_frames, most_passed, reason_of}
 
 -- other nodes sent while its late frames waited, or its node alone asks for more than the bus has
@@ -59,7 +60,12 @@ deaf_lines names nodes = flat_map (deaf_line names (most_passed nodes)) (enumera
 
 -- what is found of a run
 abbrev pub found_of : Plan → Found
-found_of plan = record { load = bus_load plan; late = late_messages (node_queues plan); reason = reason_of plan }
+found_of plan = record {
+  load = bus_load plan;
+  late = late_messages (node_queues plan);
+  unequal = unequal_deliveries (node_queues plan);
+  reason = reason_of plan;
+}
 
 -- the lines of a reason
 abbrev pub lines_by : Tick → List (List ℕ) → Found → List NodeTotals → Reason → List ℕ

@@ -3,6 +3,7 @@
 use Rattle.std.specs.Prelude.{ℕ, ◌+◌, ◌&&◌, min, Bool, true, false, not, List, [], ◌∷◌, length, map, fold, is_some, Option, Some, None, if◌then◌else◌}
 use Rattle.std.specs.List.{filter, range_with_len}
 use Rattle.wl_level.specs.declared.Level.{Level}
+use Rattle.wl_delivery.specs.Joining.{joined_quantum}
 use Rattle.wl_frame.specs.Grammar.{Content}
 use Rattle.wl_frame.specs.Same.{same_content}
 use Rattle.wl_frame.specs.declared.field.FrameField.{FrameField}
@@ -93,12 +94,14 @@ entries_by setup samples = (fold (queue_with_sample setup) (queue_before setup) 
 abbrev pub entries_of : Plan → ℕ → List Entry
 entries_of plan i = entries_by (setup_at plan i) (node_outcome_of plan i).samples
 
--- node i with its frames, the quantum of its last sample, and those at which it received a frame
+-- node i with its frames, the quanta of its eleventh recessive sample in a row and of its last one, and those at which it received a frame
 abbrev pub node_queue : Plan → ℕ → NodeQueue
 node_queue plan i = record {
   node = i;
   clock = (setup_at plan i).clock;
+  joined = joined_quantum (node_outcome_of plan i).samples;
   last = final_sample (node_outcome_of plan i).samples;
+  frames = (node_outcome_of plan i).frames;
   received = received_quanta (node_outcome_of plan i).frames;
   entries = entries_of plan i;
 }

@@ -1,7 +1,8 @@
 -- Quanta that clocks know.
-use Rattle.std.specs.Prelude.{ℕ, ◌<◌, ◌≤◌, length, Option, Some, None}
+use Rattle.std.specs.Prelude.{ℕ, ◌<◌, ◌≤◌, length, List, Option, Some, None}
 use Rattle.std.specs.List.{All}
 use Rattle.wl_clock.specs.Timing.{Timing, tick_of}
+use Rattle.wl_node.specs.declared.setup.Passed.{Passed}
 use Rattle.wl_node.specs.Limits.{most_run_quanta}
 use Rattle.wl_plan.specs.declared.plan.Plan.{Plan}
 use Rattle.wl_plan.specs.Limits.{latest_end}
@@ -38,8 +39,18 @@ pub record AreKnown (clock : Timing) (node : NodeOutcome) : Type 0 where
 abbrev pub QuantaAreKnown : Plan → Type 0
 QuantaAreKnown plan = (i : ℕ) → i < length plan.nodes → AreKnown (setup_at plan i).clock (node_outcome_of plan i)
 
--- A clock knows the quanta of a node's frames that were sent, and of its last sample; those of frames begin before any plan ends.
+-- a clock knows the quanta of frames
+abbrev pub AreKnownFrames : List Passed → Type 0
+AreKnownFrames frames = All (λ p. p.quantum ≤ most_run_quanta) frames
+
+abbrev pub FramesAreKnown : Plan → Type 0
+FramesAreKnown plan = (i : ℕ) → i < length plan.nodes → AreKnownFrames (node_outcome_of plan i).frames
+
+-- A clock knows the quanta of a node's frames, and of its eleventh recessive sample in a row and its last sample; those of frames that were sent begin before
+-- any plan ends.
 pub record IsKnownQueue (q : NodeQueue) : Type 0 where
+  pub joined : IsKnownQuantum q.joined
   pub last : IsKnownQuantum q.last
+  pub frames : AreKnownFrames q.frames
   pub entries : All IsKnown q.entries
   pub soon : All (IsSoon q.clock) q.entries

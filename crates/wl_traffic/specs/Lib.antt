@@ -6,6 +6,7 @@ pub mod Known
 pub mod Watching
 pub mod Messages
 pub mod Late
+pub mod Unequal
 pub mod Reasons
 pub mod Causes
 pub mod Bounds

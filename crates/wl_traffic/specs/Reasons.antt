@@ -9,7 +9,9 @@ use Rattle.wl_traffic.specs.Bus.{any_off, bus_load}
 use Rattle.wl_traffic.specs.Late.{late_messages}
 use Rattle.wl_traffic.specs.declared.late.LateMessage.{LateMessage}
 use Rattle.wl_traffic.specs.declared.reason.Reason.{Reason}
-use Rattle.wl_traffic.specs.declared.reason.Reason.TheVariants.{Works, Errors, Overloaded, Starved, EndsTooEarly, BusOff, Deaf}
+use Rattle.wl_traffic.specs.declared.reason.Reason.TheVariants.{Works, Errors, Overloaded, Starved, EndsTooEarly, BusOff, Deaf, Missed, TakenTwice}
+use Rattle.wl_traffic.specs.declared.unequal.Unequal.{Unequal}
+use Rattle.wl_traffic.specs.Unequal.{is_missing, is_twice_taken, unequal_deliveries}
 
 abbrev pub has_errors : NodeTotals → Bool
 has_errors n = nat_lt 0 n.errors
@@ -45,22 +47,26 @@ waiting_reason false false true deaf = EndsTooEarly
 waiting_reason false false false true = Deaf
 waiting_reason false false false false = Works
 
--- a node was bus off, there were errors, or that
-abbrev pub first_reason : (off errors : Bool) → Reason → Reason
-first_reason true errors waiting = BusOff
-first_reason false true waiting = Errors
-first_reason false false waiting = waiting
+-- a node was bus off, misses a frame, has taken one twice, there were errors, or that
+abbrev pub first_reason : (off missed twice errors : Bool) → Reason → Reason
+first_reason true missed twice errors waiting = BusOff
+first_reason false true twice errors waiting = Missed
+first_reason false false true errors waiting = TakenTwice
+first_reason false false false true waiting = Errors
+first_reason false false false false waiting = waiting
 
 abbrev pub waiting_by : (full : ℕ) → List LateMessage → List NodeTotals → Reason
 waiting_by full late nodes =
     waiting_reason (list_any (is_overload full) late) (nat_lt 0 (length late)) (list_any has_unsent nodes)
     (list_any (misses_frames (most_passed nodes)) nodes)
 
-abbrev pub reason_by : (off : Bool) → (full : ℕ) → List LateMessage → List NodeTotals → Reason
-reason_by off full late nodes = first_reason off (list_any has_errors nodes) (waiting_by full late nodes)
+abbrev pub reason_by : (off : Bool) → List Unequal → (full : ℕ) → List LateMessage → List NodeTotals → Reason
+reason_by off unequal full late nodes =
+    first_reason off (list_any is_missing unequal) (list_any is_twice_taken unequal) (list_any has_errors nodes) (waiting_by full late nodes)
 
 abbrev pub reason_of : Plan → Reason
-reason_of plan = reason_by (any_off plan) (bus_load plan).full (late_messages (node_queues plan)) (totals_of (outcome_of plan))
+reason_of plan =
+    reason_by (any_off plan) (unequal_deliveries (node_queues plan)) (bus_load plan).full (late_messages (node_queues plan)) (totals_of (outcome_of plan))
 
 abbrev pub reason_word : Reason → List ℕ
 reason_word Works = codes "works"
@@ -70,3 +76,5 @@ reason_word Starved = codes "starved"
 reason_word EndsTooEarly = codes "ends too early"
 reason_word BusOff = codes "bus off"
 reason_word Deaf = codes "deaf"
+reason_word Missed = codes "missed"
+reason_word TakenTwice = codes "taken twice"

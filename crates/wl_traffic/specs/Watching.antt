@@ -1,6 +1,7 @@
 -- What is seen of a node that runs again, sample by sample, and when it finds the bus busy (this project's profile).
 use Rattle.std.specs.Prelude.{◌≡◌, ℕ, ◌≤◌, ◌||◌, max, Bool, false, List, fold, Option, Some, None}
 use Rattle.std.specs.List.{list_any}
+use Rattle.wl_delivery.specs.Joining.{joining_with, no_joining}
 use Rattle.wl_intervals.specs.Pairs.{covers, has_tick}
 use Rattle.wl_level.specs.declared.Level.{Level}
 use Rattle.wl_machine.specs.declared.doing.Doing.{Doing}
@@ -40,5 +41,6 @@ queue_by_samples setup samples = fold (queue_with_sample setup) (queue_before se
 pub record HasWatched (setup : NodeSetup) (samples : List (ℕ × Level)) (w : Watch) : Type 0 where
   pub kept : IsWatchedNode setup w.kept (queue_by_samples setup samples).0
   pub entries : w.entries.items ≡ (queue_by_samples setup samples).1
+  pub joining : w.joining ≡ fold joining_with no_joining samples
   pub last : w.last ≡ final_sample samples
   pub found : HasFound setup samples w.found

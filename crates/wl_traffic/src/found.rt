@@ -13,6 +13,7 @@ use crate::late::{LateMessage, late_messages};
 use crate::load::Load;
 use crate::queues::NodeQueue;
 use crate::reason::{Reason, reason_by};
+use crate::unequal::{Unequal, unequal_deliveries};
 use std::alloc::{AllocError, Global};
 use wl_level::Listed;
 use wl_serial::Totals;
@@ -24,6 +25,8 @@ pub struct Found {
     pub(crate) load: Load,
     /// The messages that wait for longer than they may.
     pub(crate) late: Listed<LateMessage>,
+    /// The messages with sent frames that some node misses, or has taken twice.
+    pub(crate) unequal: Listed<Unequal>,
     /// Why the run didn't work.
     pub(crate) reason: Reason,
 }
@@ -40,10 +43,12 @@ pub(crate) fn found_of(
         → totals.now ≡ totals_of (outcome_of plan) → IfOk result (λ found. found ≡ found_of plan) }
 {
     let late = late_messages(alloc, queues)?;
-    let reason = reason_by(bus.off, bus.load.full, &late, totals.as_slice());
+    let unequal = unequal_deliveries(alloc, queues)?;
+    let reason = reason_by(bus.off, &unequal, bus.load.full, &late, totals.as_slice());
     Ok(Found {
         load: bus.load,
         late: Listed::from_vec(late),
+        unequal: Listed::from_vec(unequal),
         reason,
     })
 }

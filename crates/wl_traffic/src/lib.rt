@@ -15,6 +15,7 @@ mod reason;
 mod spans;
 mod statistics;
 mod text;
+mod unequal;
 mod waits;
 mod watch;
 

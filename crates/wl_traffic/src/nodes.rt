@@ -2,7 +2,7 @@
 ghost use Rattle.std.specs.Prelude.{◌≡◌, ◌<◌, length};
 ghost use Rattle.wl_plan.specs.PlanLine.{setup_at};
 ghost use Rattle.wl_serial.specs.Outcome.{node_outcome_of, node_totals, outcome_of, totals_of};
-ghost use Rattle.wl_traffic.specs.Known.{QuantaAreKnown};
+ghost use Rattle.wl_traffic.specs.Known.{FramesAreKnown, QuantaAreKnown};
 
 use wl_node::NodeSetup;
 use wl_plan::CheckedPlan;
@@ -39,4 +39,12 @@ pub(crate) fn quanta_are_known(plan: &CheckedPlan)
 {
     plan.laws();
     wl_plan::simulation_laws();
+}
+
+/// Law: a clock knows each quantum at which a node of a checked plan completed a frame.
+pub(crate) fn frames_are_known(plan: &CheckedPlan)
+    ensures { FramesAreKnown plan.now }
+{
+    plan.laws();
+    wl_views::sent_in_time();
 }

@@ -5,7 +5,7 @@ ghost use Rattle.wl_traffic.specs.Entries.{node_queue, node_queues, received_qua
 ghost use Rattle.wl_traffic.specs.Known.{IsKnownQueue};
 
 use crate::entries::Entry;
-use crate::nodes::quanta_are_known;
+use crate::nodes::{frames_are_known, quanta_are_known};
 use std::alloc::{AllocError, Global};
 use wl_clock::Clock;
 use wl_level::Listed;
@@ -19,8 +19,12 @@ pub struct NodeQueue {
     pub(crate) node: usize,
     /// The ticks of its quanta.
     pub(crate) clock: Clock,
+    /// The quantum of its eleventh recessive sample in a row.
+    pub(crate) joined: Option<u64>,
     /// The quantum of its last sample.
     pub(crate) last: Option<u64>,
+    /// The frames that it sent or received.
+    pub(crate) frames: Listed<Passed>,
     /// The quanta at which it received a frame of another node.
     pub(crate) received: Listed<u64>,
     /// The frames, in the order of its queue.
@@ -40,10 +44,12 @@ pub(crate) fn received_quanta(alloc: Global, frames: &[Passed]) -> Result<Vec<u6
     Ok(received)
 }
 
-/// Law: a clock knows the quanta of what the nodes of a checked plan sent, and of their last samples.
+/// Law: a clock knows the quanta at which the nodes of a checked plan sent and received frames, at which they took part at first, and of their last
+/// samples.
 pub(crate) fn queues_are_known(plan: &CheckedPlan)
     ensures each { (i : ℕ) → i < length plan.now.nodes → IsKnownQueue (node_queue plan.now i) }
     ensures all { All IsKnownQueue (node_queues plan.now) }
 {
     quanta_are_known(plan);
+    frames_are_known(plan);
 }

@@ -4,6 +4,7 @@ ghost use Rattle.std.specs.List.{list_any};
 ghost use Rattle.wl_traffic.specs.Reasons.{has_errors, has_unsent, is_overload, is_stuck, misses_frames, most_passed, reason_by, reason_word, waiting_by, waiting_reason};
 
 use crate::late::LateMessage;
+use crate::unequal::{Unequal, any_missed, any_twice};
 use wl_serial::NodeTotals;
 
 /// Why a run didn't work, or that it did.
@@ -23,10 +24,14 @@ pub enum Reason {
     BusOff,
     /// There was no error, and all frames were sent in time, but not all of them passed through each node.
     Deaf,
+    /// Some node misses a frame that was sent while the node took part.
+    Missed,
+    /// Some node has taken a frame twice.
+    TakenTwice,
 }
 
 impl Reason {
-    /// Returns the reason in words: `works`, `errors`, `overloaded`, `starved`, `ends too early`, `bus off` or `deaf`.
+    /// Returns the reason in words: `works`, `errors`, `overloaded`, `starved`, `ends too early`, `bus off`, `deaf`, `missed` or `taken twice`.
     pub fn word(self) -> &'static str
         ensures { result.now ≡ reason_word self }
     {
@@ -38,6 +43,8 @@ impl Reason {
             Reason::EndsTooEarly => "ends too early",
             Reason::BusOff => "bus off",
             Reason::Deaf => "deaf",
+            Reason::Missed => "missed",
+            Reason::TakenTwice => "taken twice",
         }
     }
 }
@@ -130,12 +137,24 @@ fn waiting_by(full: u64, late: &[LateMessage], nodes: &[NodeTotals]) -> Reason
     waiting_reason(overload, !late.is_empty(), unsent, deaf)
 }
 
-/// Returns why a run of these outcomes didn't work, in which some node was bus off or none.
-pub(crate) fn reason_by(off: bool, full: u64, late: &[LateMessage], nodes: &[NodeTotals]) -> Reason
-    ensures { result ≡ reason_by off full late.now nodes.now }
+/// Returns why a run of these totals didn't work, in which some node was bus off or none, and of whose messages these came unequally.
+pub(crate) fn reason_by(
+    off: bool,
+    unequal: &[Unequal],
+    full: u64,
+    late: &[LateMessage],
+    nodes: &[NodeTotals],
+) -> Reason
+    ensures { result ≡ reason_by off unequal.now full late.now nodes.now }
 {
     if off {
         return Reason::BusOff;
+    }
+    if any_missed(unequal) {
+        return Reason::Missed;
+    }
+    if any_twice(unequal) {
+        return Reason::TakenTwice;
     }
     if any_errors(nodes) {
         return Reason::Errors;

@@ -16,6 +16,7 @@ use crate::nodes::{node_at, setup_of};
 use crate::queues::{NodeQueue, received_quanta};
 use crate::spans::there_until;
 use std::alloc::{AllocError, Global};
+use wl_delivery::Joining;
 use wl_intervals::Intervals;
 use wl_level::{Level, Listed};
 use wl_node::NodeSetup;
@@ -38,6 +39,8 @@ pub(crate) struct Watched {
 pub(crate) struct Watch {
     pub(crate) kept: WatchedNode,
     pub(crate) entries: Vec<Entry>,
+    /// When it took part at first.
+    pub(crate) joining: Joining,
     /// The quantum of its last sample.
     pub(crate) last: Option<u64>,
     pub(crate) found: BusyTicks,
@@ -51,6 +54,7 @@ impl Watch {
         Ok(Watch {
             kept: WatchedNode::new(alloc, setup)?,
             entries: waiting_entries(alloc, setup.queue.as_slice())?,
+            joining: Joining::new(),
             last: None,
             found: BusyTicks::new(alloc),
         })
@@ -71,6 +75,7 @@ impl Watch {
         note_sample(alloc, setup, &mut self.kept, &mut self.entries, sample)?;
         let doing = self.kept.doing();
         self.found.take(alloc, doing, setup.clock.at(sample.0))?;
+        self.joining = self.joining.with(sample);
         self.last = Some(sample.0);
         Ok(())
     }
@@ -111,6 +116,7 @@ fn watch_node(
     ensures ticks { OnOk result ((t : ℕ) → covers busy.new t ≡ (covers busy.old t || finds_busy plan.now t i)) }
 {
     let (setup, node) = node_at(plan, &counted.totals, i);
+    let frames = node.frames.clone_in(alloc)?;
     let received = received_quanta(alloc, node.frames.as_slice())?;
     let seen = watch_samples(alloc, plan, &counted.drives, i)?;
     let off = seen.found.off;
@@ -119,7 +125,9 @@ fn watch_node(
     let queue = NodeQueue {
         node: i,
         clock: setup.clock,
+        joined: seen.joining.at,
         last: seen.last,
+        frames,
         received: Listed::from_vec(received),
         entries: Listed::from_vec(seen.entries),
     };

@@ -13,7 +13,7 @@ static TRAFFIC: Table = Table {
     columns: &[
         "load_percent", "gap_us", "node", "name", "id", "sent", "left", "waiting", "lost", "broken", "least_quanta",
         "mean_quanta", "greatest_quanta", "least_us", "mean_us", "greatest_us", "verdict", "full_us", "waits_us",
-        "allowed_us", "passed", "most_passed", "bound_quanta", "bound_us",
+        "allowed_us", "passed", "most_passed", "bound_quanta", "bound_us", "receiver", "frames",
     ],
     shapes: &[
         Shape { kind: "bus", pieces: &[
@@ -45,6 +45,14 @@ static TRAFFIC: Table = Table {
         Shape { kind: "deaf", pieces: &[
             Fixed("deaf "), Field("name", Word), Fixed(" "), Field("passed", Number), Fixed(" of "), Field("most_passed", Number),
             Fixed(" frames"),
+        ] },
+        Shape { kind: "missed", pieces: &[
+            Fixed("missed "), Field("receiver", Word), Fixed(" "), Field("frames", Number), Fixed(" of "), Field("sent", Number),
+            Fixed(" frames of "), Field("name", Word), Fixed(" "), Field("id", Hexadecimal),
+        ] },
+        Shape { kind: "twice", pieces: &[
+            Fixed("twice "), Field("receiver", Word), Fixed(" "), Field("frames", Number), Fixed(" of "), Field("sent", Number),
+            Fixed(" frames of "), Field("name", Word), Fixed(" "), Field("id", Hexadecimal),
         ] },
         Shape { kind: "verdict", pieces: &[
             Fixed("verdict "), Field("verdict", Phrase),

@@ -1,5 +1,7 @@
 -- The node's frames, its last sample, and what it received.
 use Rattle.std.proofs.Common.{◌≡◌, ◌∙◌, ap, ℕ}
+use Rattle.wl_delivery.specs.declared.joining.Joining.{Joining}
+use Rattle.wl_delivery.specs.Joining.{joined_quantum}
 use Rattle.wl_node.specs.declared.setup.NodeSetup.{NodeSetup}
 use Rattle.wl_plan.specs.PlanLine.{setup_at}
 use Rattle.wl_serial.specs.declared.outcome.NodeTotals.{NodeTotals}
@@ -15,7 +17,10 @@ returns-clause-queue c =
     let at : ℕ = c.args.i in
     let clock : c.node_at.result.0.now.clock ≡ (setup_at plan at).clock = ap (λ (s : NodeSetup). s.clock) c.node_at.ensures.setup in
     let last : c.in_ok-seen.seen.last ≡ final_sample (node_outcome_of plan at).samples = c.in_ok-seen.ensures.last in
+    let joined : c.in_ok-seen.seen.joining.at ≡ joined_quantum (node_outcome_of plan at).samples =
+    ap (λ (j : Joining). j.at) c.in_ok-seen.ensures.joining in
+    let frames = c.in_ok-frames.ensures ∙ ap (λ (n : NodeTotals). n.frames) c.node_at.ensures.totals in
     let received : c.from_vec.result ≡ received_quanta (node_outcome_of plan at).frames =
     c.from_vec.ensures ∙ c.in_ok-received.ensures ∙ ap received_quanta (c.as_slice.ensures ∙ ap (λ (n : NodeTotals). n.frames) c.node_at.ensures.totals) in
     let entries : c.from_vec-2.result ≡ entries_of plan at = c.from_vec-2.ensures ∙ c.in_ok-seen.ensures.entries in
-    λ i. record { node = at; clock = clock i; last = last i; received = received i; entries = entries i }
+    λ i. record { node = at; clock = clock i; joined = joined i; last = last i; frames = frames i; received = received i; entries = entries i }

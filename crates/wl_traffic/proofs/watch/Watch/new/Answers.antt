@@ -8,6 +8,7 @@ pub returns : goal.returns
 returns c = record {
   kept = c.in_ok-new.ensures;
   entries = c.in_ok-waiting_entries.ensures ∙ ap (λ (qs : List Queued). map waiting_entry qs) c.as_slice.ensures;
+  joining = c.new-2.ensures;
   last = refl;
-  found = c.new-2.ensures c.args.setup.now;
+  found = c.new-3.ensures c.args.setup.now;
 }

@@ -1,5 +1,8 @@
 -- The node, its frames, its last sample and when it found the bus busy, with one sample more.
 use Rattle.std.proofs.Common.{◌≡◌, ◌∙◌, ◌++◌, ◌∷◌, [], ap, sym, subst, ℕ, List}
+use Rattle.std.proofs.lemmas.List.Sums.{fold-append}
+use Rattle.wl_delivery.specs.declared.joining.Joining.{Joining}
+use Rattle.wl_delivery.specs.Joining.{joining_with, no_joining}
 use Rattle.wl_level.specs.declared.Level.{Level}
 use Rattle.wl_machine.specs.Doing.{doing_of}
 use Rattle.wl_machine.specs.Judged.{stretch_of}
@@ -29,6 +32,7 @@ returns c samples seen =
           c.in_ok-note_sample.ensures.entries front.0 seen.kept
           ∙ ap (λ (es : List Entry). (queue_with_sample setup (front.0, es) sample).1) seen.entries
           ∙ ap (λ (r : SampledPast × List Entry). r.1) (sym more);
+      joining = c.with-self.ensures ∙ ap (λ (j : Joining). joining_with j sample) seen.joining ∙ sym (fold-append joining_with no_joining samples (sample ∷ []));
       last = sym (final_more samples sample);
       found = c.in_ok-take.ensures setup samples sample seen.found c.at.ensures.tick doing;
     }

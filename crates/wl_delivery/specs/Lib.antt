@@ -1,0 +1,4 @@
+pub mod Joining
+pub mod Messages
+pub mod Instances
+pub mod Deliveries
