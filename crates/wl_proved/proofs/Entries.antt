@@ -46,12 +46,12 @@ not_less n = by (nat_lt n n) (λ h. (let less = ltb-true n n h in omega arith))
     by false h = refl
 
 -- what is said of a message by its place
-record IsOf (messages : List MessageWait) (i : ℕ) (frame : Content) (e : ℕ) : Type 0 where
-  inside : e < length messages
-  node : (message_at messages e).node ≡ i
-  field : (message_at messages e).field ≡ field_of frame
+pub record IsOf (messages : List MessageWait) (i : ℕ) (frame : Content) (e : ℕ) : Type 0 where
+  pub inside : e < length messages
+  pub node : (message_at messages e).node ≡ i
+  pub field : (message_at messages e).field ≡ field_of frame
 
-is_of : (messages : List MessageWait) (i : ℕ) (frame : Content) (e : ℕ) → message_of messages i frame ≡ Some e → IsOf messages i frame e
+pub is_of : (messages : List MessageWait) (i : ℕ) (frame : Content) (e : ℕ) → message_of messages i frame ≡ Some e → IsOf messages i frame e
 is_of messages i frame e is =
     let first = first_is (is_message messages i (field_of frame)) (length messages) e is in
     let parts = and_parts ((message_at messages e).node == i) ((message_at messages e).field == field_of frame) first.passes in

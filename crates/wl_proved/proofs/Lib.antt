@@ -21,3 +21,4 @@ mod Tables
 mod Stuffings
 mod Texts
 mod Bounded
+mod OfText

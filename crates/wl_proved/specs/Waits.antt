@@ -1,20 +1,28 @@
 -- How long the messages of a plan wait at most. This project's.
+<<<<<<< HEAD
 use Rattle.std.specs.Prelude.{◌≡◌, ℕ, ◌<◌, ◌&&◌, nat_le, nat_lt, Bool, true, false, List, length, map, unwrap_or, if◌then◌else◌, Some, None}
 use Rattle.wl_phase.specs.Clocks.{HasRate, Steady}
+=======
+use Rattle.std.specs.Prelude.{◌≡◌, ℕ, ◌<◌, ◌≤◌, ◌&&◌, nat_le, nat_lt, Bool, true, false, List, ◌∷◌, ◌++◌, length, map, unwrap_or, if◌then◌else◌, Some, None}
+use Rattle.wl_frame.specs.Grammar.{IsContent}
+use Rattle.wl_phase.specs.Clocks.{Steady, steady_timing}
+use Rattle.wl_node.specs.declared.setup.Queued.{Queued}
+>>>>>>> da1454274b387ebf471f84a415239309444ce5fa
 use Rattle.wl_node.specs.declared.setup.QueueOrder.{QueueOrder}
 use Rattle.wl_node.specs.declared.setup.QueueOrder.TheVariants.{Fifo, Priority}
 use Rattle.wl_plan.specs.declared.plan.Plan.{Plan}
 use Rattle.wl_plan.specs.PlanLine.{setup_at}
 use Rattle.wl_setup.specs.declared.bus.Bus.{Bus}
+use Rattle.wl_setup.specs.declared.plan_text.FrameText.{FrameText}
 use Rattle.wl_setup.specs.declared.plan_text.PlanText.{PlanText}
 use Rattle.wl_bound.specs.Families.{Buses}
 use Rattle.wl_bound.specs.Rooms.{plain_bus}
 use Rattle.wl_respond.specs.declared.bounds.Waits.{Waits}
 use Rattle.wl_respond.specs.declared.message.MessageWait.{MessageWait}
-use Rattle.wl_respond.specs.Asks.{message_in}
+use Rattle.wl_respond.specs.Asks.{IsOfText, frames_at, is_frame_of, message_in}
 use Rattle.wl_respond.specs.Bounds.{AreWaitsFor, asked_in}
 use Rattle.wl_respond.specs.Levels.{top_of}
-use Rattle.wl_respond.specs.Plans.{message_of}
+use Rattle.wl_respond.specs.Plans.{ArePeriodApart, eleventh_sample, entry_at, message_of}
 use Rattle.wl_respond.specs.Tests.{message_at}
 use Rattle.wl_respond.specs.Texts.{IsTextOf}
 use Rattle.wl_buses.specs.FamilyPlans.FamilyStations.{stations_of}
@@ -65,3 +73,25 @@ pub record HasBoundedText (tick : ℕ) (any : Bool) (plain : PlanText) (bus : Bu
   pub told : IsTextOf bus.names (Some figures) text met
   pub proved : figures.lacking ≡ None
   pub waits : HasBoundedWaits family bus.plan (messages_asked family any plain are.0)
+
+-- An entry of node i is a frame of its text, but for its data: of one that has the identifier of the entry's message.
+pub record HasTextFrame (plain : PlanText) (messages : List MessageWait) (i : ℕ) (entry : Queued) : Type 0 where
+  pub message : ℕ
+  pub is : message_of messages i entry.frame ≡ Some message
+  pub before : List FrameText
+  pub text : FrameText
+  pub later : List FrameText
+  pub frames : frames_at plain i ≡ before ++ text ∷ later
+  pub own : is_frame_of (message_at messages message).frame text ≡ true
+  pub same : IsOfText entry.frame text
+  pub content : IsContent entry.frame
+
+-- A queue keeps the messages, as `HasMessages` of wl_respond has it, with frames of the text that may have any data.
+pub record HasTextFrames (plain : PlanText) (messages : List MessageWait) (i from : ℕ) (queue : List Queued) : Type 0 where
+  pub known : (n : ℕ) → n < length queue → HasTextFrame plain messages i (entry_at queue n)
+  pub late : (n : ℕ) → n < length queue → from ≤ (entry_at queue n).ready
+  pub ordered : (m n : ℕ) → m < n → n < length queue → (entry_at queue m).ready ≤ (entry_at queue n).ready
+  pub apart : (m n : ℕ) → m < n → n < length queue → ArePeriodApart messages i (entry_at queue m) (entry_at queue n)
+
+abbrev pub KeepsText : PlanText → Plan → List MessageWait → Type 0
+KeepsText plain plan messages = (i : ℕ) → i < length plan.nodes → HasTextFrames plain messages i (eleventh_sample plan i) (setup_at plan i).queue

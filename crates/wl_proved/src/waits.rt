@@ -17,7 +17,7 @@ ghost use Rattle.wl_respond.specs.Plans.{KeepsTable};
 ghost use Rattle.wl_respond.specs.Tests.{pass};
 ghost use Rattle.wl_respond.specs.Texts.{IsTextOfBus};
 ghost use Rattle.wl_proved.specs.PlansOfFamily.{IsPlanOfFamily, IsRunnable};
-ghost use Rattle.wl_proved.specs.Waits.{HasBoundedText, HasBoundedWaits, messages_asked};
+ghost use Rattle.wl_proved.specs.Waits.{HasBoundedText, HasBoundedWaits, KeepsText, messages_asked};
 ghost use Rattle.wl_proved.specs.Words.{IsFamilyOfText, SaysBounded};
 
 /// Law: let a table of messages pass its test. Take a plan of the family whose queues have frames of these messages. Let each message have
@@ -40,14 +40,19 @@ pub fn respond_law()
 }
 
 /// Law: let no premise of the waits of a bus lack. On each plan of their family that keeps their table of messages no frame waits longer than
-/// its message says there. The plan of the bus is such a plan. If the first line of a text of `respond` is 'proved: waits_are_bounded', the
-/// text is about such waits.
+/// its message says there. With any data it is so on each plan whose frames are those of the text but for their data. The plan of the bus is
+/// such a plan. If the first line of a text of `respond` is 'proved: waits_are_bounded', the text is about such waits.
 pub fn respond_means_bounded()
     ensures any { (tick : ℕ) (any : Bool) (plain : PlanText) (bus : Bus) (f : Buses) (w : Waits)
         (are : AreWaitsFor tick any plain bus f w) → w.lacking ≡ None
         → (plan : Plan) → IsPlanOfFamily f plan → KeepsTable plan (messages_asked f any plain are.0)
         → has_levels plan (messages_asked f any plain are.0) ≡ true
         → HasBoundedWaits f plan (messages_asked f any plain are.0) }
+    ensures any_data { (tick : ℕ) (plain : PlanText) (bus : Bus) (f : Buses) (w : Waits)
+        (are : AreWaitsFor tick true plain bus f w) → w.lacking ≡ None
+        → (plan : Plan) → IsPlanOfFamily f plan → KeepsText plain plan (messages_asked f true plain are.0)
+        → has_levels plan (messages_asked f true plain are.0) ≡ true
+        → HasBoundedWaits f plan (messages_asked f true plain are.0) }
     ensures own { (tick : ℕ) (any : Bool) (plain : PlanText) (bus : Bus) (f : Buses) (w : Waits)
         (are : AreWaitsFor tick any plain bus f w) → w.lacking ≡ None → IsFamilyOfText plain bus f
         → IsRunnable bus.plan → length bus.deviations ≡ length bus.plan.nodes
@@ -58,6 +63,7 @@ pub fn respond_means_bounded()
         → HasBoundedText tick any plain bus text met }
 {
     wl_level::place_laws();
+    wl_respond::any_data_is_within_the_bits();
     wl_margin::clocks_keep_pace();
     respond_law();
 }
