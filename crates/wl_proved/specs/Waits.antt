@@ -1,13 +1,8 @@
 -- How long the messages of a plan wait at most. This project's.
-<<<<<<< HEAD
-use Rattle.std.specs.Prelude.{◌≡◌, ℕ, ◌<◌, ◌&&◌, nat_le, nat_lt, Bool, true, false, List, length, map, unwrap_or, if◌then◌else◌, Some, None}
-use Rattle.wl_phase.specs.Clocks.{HasRate, Steady}
-=======
 use Rattle.std.specs.Prelude.{◌≡◌, ℕ, ◌<◌, ◌≤◌, ◌&&◌, nat_le, nat_lt, Bool, true, false, List, ◌∷◌, ◌++◌, length, map, unwrap_or, if◌then◌else◌, Some, None}
 use Rattle.wl_frame.specs.Grammar.{IsContent}
-use Rattle.wl_phase.specs.Clocks.{Steady, steady_timing}
+use Rattle.wl_phase.specs.Clocks.{HasRate, Steady}
 use Rattle.wl_node.specs.declared.setup.Queued.{Queued}
->>>>>>> da1454274b387ebf471f84a415239309444ce5fa
 use Rattle.wl_node.specs.declared.setup.QueueOrder.{QueueOrder}
 use Rattle.wl_node.specs.declared.setup.QueueOrder.TheVariants.{Fifo, Priority}
 use Rattle.wl_plan.specs.declared.plan.Plan.{Plan}
