@@ -31,10 +31,10 @@ use Rattle.wl_apply.specs.declared.fault.ApplyFault.{ApplyFault}
 use Rattle.wl_apply.specs.declared.fault.ApplyFault.TheVariants.{Tick}
 use Rattle.wl_apply.specs.declared.labels.Label.{Label}
 use Rattle.wl_apply.specs.Answers.{each_made, if_made}
-use Rattle.wl_apply.specs.Applied.{AreNumbersOfKeys, IsWritable, ReadsBack, applied, if_runs, is_tick, made_plan, named_all, node_at, plan_with}
+use Rattle.wl_apply.specs.Applied.{AreNumbersOfKeys, IsWritable, IsReadBack, applied, if_runs, is_tick_said, if_made_runs, named_all, node_at, set_plan}
 use Rattle.wl_apply.specs.Labels.{first_fitting, first_unnamed, fits_node, labels_of}
 use Rattle.wl_apply.specs.Moves.{frame_in_time, from_one, moved, moved_every, moved_frame, ratio_of, unless_late, with_times}
-use Rattle.wl_apply.specs.Nodes.{by_clocks, by_old_clock, clock_for, clock_with, has_segments, node_by, node_made, node_with, only_clock, quantum_in}
+use Rattle.wl_apply.specs.Nodes.{by_clocks, by_old_clock, clock_for, deviating_clock, has_segments, node_by, node_made, set_node, only_clock, nominal_quantum}
 
 -- ---- values that are the same, and answers that aren't
 
@@ -198,7 +198,7 @@ module _ (wide : Bool) (c : Chosen) (keys : IsWritable c) where
       let (is, same) = kept_if wide (Fraction c.quantum.num c.quantum.den ppm) clock h in
       subst (λ x. is_clock_text wide x ≡ true) same (rw (is, number_fits c.quantum.num keys.num, number_fits c.quantum.den keys.den, fits) refl)
 
-  clock_fits : (known : Bool) (old clock : ClockText) → is_clock_text known old ≡ true → clock_with wide c.quantum old ≡ Some clock → is_clock_text wide clock ≡ true
+  clock_fits : (known : Bool) (old clock : ClockText) → is_clock_text known old ≡ true → deviating_clock wide c.quantum old ≡ Some clock → is_clock_text wide clock ≡ true
   clock_fits known (Rate num den) clock fits h =
       subst (λ x. is_clock_text wide x ≡ true) (same_some (Rate c.quantum.num c.quantum.den) clock h)
       (rw (number_fits c.quantum.num keys.num, number_fits c.quantum.den keys.den) refl)
@@ -250,7 +250,7 @@ node_tests version n =
     ∷ is_small_number n.x ∷ is_number_of_key n.out_delay ∷ is_number_of_key n.in_delay ∷ is_tolerance n.tolerance ∷ (not n.listens || has_traffic version)
     ∷ (not (is_by_priority n.queue) || has_controllers version) ∷ is_number_if (has_controllers version) n.until ∷ list_all (is_frame_text version) n.frame ∷ []
 
-node_fits : (version : ℕ) (c : Chosen) → IsWritable c → (i : ℕ) (n m : NodeText) → is_node version n ≡ true → node_with (has_controllers version) c (i, n) ≡ Ok m
+node_fits : (version : ℕ) (c : Chosen) → IsWritable c → (i : ℕ) (n m : NodeText) → is_node version n ≡ true → set_node (has_controllers version) c (i, n) ≡ Ok m
     → is_node version m ≡ true
 node_fits version c keys i n m fits h = by_old (only_clock n.rates) refl h
   where
@@ -258,15 +258,15 @@ node_fits version c keys i n m fits h = by_old (only_clock n.rates) refl h
     wide = has_controllers version
 
     by_frames : (old clock : ClockText) (r : Result (List FrameText) ApplyFault) → only_clock n.rates ≡ Some old → clock_for wide c old ≡ Some clock
-        → each_made (frame_in_time (ratio_of (quantum_in old) c.quantum) i) (enumerate_from 0 n.frame) ≡ r
+        → each_made (frame_in_time (ratio_of (nominal_quantum old) c.quantum) i) (enumerate_from 0 n.frame) ≡ r
         → if_made r (λ frames. Ok (node_made c clock frames n)) ≡ Ok m → is_node version m ≡ true
     by_frames old clock (Err e) is_old is_clock is h = absurd (not_made m e h)
     by_frames old clock (Ok frames) is_old is_clock is h =
         let (name, (offset, (rates, (segments, (sjw, (x, (out, (into, (tolerance, (listens, (queue, (until, frame)))))))))))) = parted (node_tests version n) fits in
         let one = one_rate version n.rates old rates is_old in
-        let (has, with) = asked_if (has_segments wide c.segments) (clock_with wide c.quantum old) clock is_clock in
+        let (has, with) = asked_if (has_segments wide c.segments) (deviating_clock wide c.quantum old) clock is_clock in
         let rates' = rates_fit version old clock one (clock_fits wide c keys one.known old clock one.fits with) in
-        let frames' = each_fits (frame_in_time (ratio_of (quantum_in old) c.quantum) i) (is_frame_text version) (λ k f g. late_fits version (ratio_of (quantum_in old) c.quantum) i k f g) 0 n.frame frames frame is in
+        let frames' = each_fits (frame_in_time (ratio_of (nominal_quantum old) c.quantum) i) (is_frame_text version) (λ k f g. late_fits version (ratio_of (nominal_quantum old) c.quantum) i k f g) 0 n.frame frames frame is in
         subst (λ x. is_node version x ≡ true) (same_ok (node_made c clock frames n) m h)
         (joined (node_tests version (node_made c clock frames n))
         (name, (offset, (rates', (segments_fit wide c.segments keys.segments has, (number_fits c.sjw keys.sjw, (x, (out, (into, (tolerance, (listens, (queue, (until, frames')))))))))))))
@@ -280,7 +280,7 @@ node_fits version c keys i n m fits h = by_old (only_clock n.rates) refl h
     by_old None is h = absurd (not_made m _ h)
     by_old (Some old) is h = by_clock old (clock_for wide c old) is refl h
 
-node_named : (wide : Bool) (c : Chosen) (i : ℕ) (n m : NodeText) → node_with wide c (i, n) ≡ Ok m → m.name ≡ n.name
+node_named : (wide : Bool) (c : Chosen) (i : ℕ) (n m : NodeText) → set_node wide c (i, n) ≡ Ok m → m.name ≡ n.name
 node_named wide c i n m h = by_old (only_clock n.rates) h
   where
     by_frames : (clock : ClockText) (r : Result (List FrameText) ApplyFault) → if_made r (λ frames. Ok (node_made c clock frames n)) ≡ Ok m → m.name ≡ n.name
@@ -333,7 +333,7 @@ plan_tests p =
     ∷ is_scale_if (has_controllers p.version) LONGEST_UNIT p.unit ∷ []
 
 pub plan_fits : (chosen : List Chosen) (labels : List Label) → All IsWritable chosen → (read made : PlanText) → is_printable read ≡ true
-    → plan_with chosen labels read ≡ Ok made → is_printable made ≡ true
+    → set_plan chosen labels read ≡ Ok made → is_printable made ≡ true
 plan_fits chosen labels all read made fits h = by_names (named_all (first_unnamed labels read.node chosen)) h
   where
     by_nodes : (r : Result (List NodeText) ApplyFault) → each_made (node_at (has_controllers read.version) chosen labels) (enumerate_from 0 read.node) ≡ r
@@ -363,15 +363,15 @@ ticks_or : {T : Type 0} (b : Bool) (a : Result T ApplyFault) (y : T) → (if b t
 ticks_or true a y h = h
 ticks_or false a y h = absurd (not_made y Tick h)
 
-made_or_not : (r : Result PlanText ApplyFault) (y : PlanText) → made_plan r ≡ Ok y → r ≡ Ok y
+made_or_not : (r : Result PlanText ApplyFault) (y : PlanText) → if_made_runs r ≡ Ok y → r ≡ Ok y
 made_or_not (Err e) y h = absurd (not_made y e h)
 made_or_not (Ok made) y h =
     let (plan, runs, same) = runs_or (plan_of_text made) (Ok made) y h in same
 
 pub read_back : (tick : ℕ) (chosen : List Chosen) (top : Members) (read made : PlanText) (text : List ℕ) → ReadIsPrintable → applied tick chosen top read ≡ Ok made
-    → PrintsBack made text → ReadsBack tick chosen top read text
+    → PrintsBack made text → IsReadBack tick chosen top read text
 read_back tick chosen top read made text law is back bytes other reads all same =
     let (plan, runs, ticked) = runs_or (plan_of_text read) _ made is in
-    let with = made_or_not (plan_with chosen (labels_of top) read) made (ticks_or (is_tick tick read.tick) _ made ticked) in
+    let with = made_or_not (set_plan chosen (labels_of top) read) made (ticks_or (is_tick_said tick read.tick) _ made ticked) in
     let fits = plan_fits chosen (labels_of top) all read made (law bytes read plan reads runs).0 with in
     subst (λ (m : PlanText). text_answer text ≡ Ok m) (same_ok made other (sym is ∙ same)) (back fits)

@@ -3,9 +3,9 @@ use Rattle.std.proofs.Common.{◌≡◌, refl, true, false, Some, None}
 use Rattle.std.specs.Prelude.{pos}
 use Rattle.wl_units.specs.Ratios.{greatest_common}
 use Rattle.wl_setup.specs.declared.plan_text.ClockText.TheVariants.{Ppm, Fraction}
-use Rattle.wl_apply.specs.Applied.{is_tick}
+use Rattle.wl_apply.specs.Applied.{is_tick_said}
 use Rattle.wl_apply.specs.Moves.{moved, moved_every, ratio_of}
-use Rattle.wl_apply.specs.Nodes.{clock_with}
+use Rattle.wl_apply.specs.Nodes.{deviating_clock}
 
 -- A quantum of 500 ns is four of 125 ns, and 250 ns are five quarters of 200 ns; 1000/9 ns are eight ninths of 125 ns.
 quarter : ratio_of (record { num = 500; den = 1 }) (record { num = 125; den = 1 }) ≡ Some (4, 1)
@@ -41,18 +41,18 @@ not_again : moved_every (Some (5, 4)) (Some 3) ≡ None
 not_again = refl
 
 -- a deviation stays, and beside a fraction it wants version 4
-stays : clock_with false (record { num = 125; den = 1 }) (Ppm 500 (pos 40)) ≡ Some (Ppm 125 (pos 40))
+stays : deviating_clock false (record { num = 125; den = 1 }) (Ppm 500 (pos 40)) ≡ Some (Ppm 125 (pos 40))
 stays = refl
 
-old_version : clock_with false (record { num = 1000; den = 9 }) (Ppm 500 (pos 40)) ≡ None
+old_version : deviating_clock false (record { num = 1000; den = 9 }) (Ppm 500 (pos 40)) ≡ None
 old_version = refl
 
-new_version : clock_with true (record { num = 1000; den = 9 }) (Ppm 500 (pos 40)) ≡ Some (Fraction 1000 9 (pos 40))
+new_version : deviating_clock true (record { num = 1000; den = 9 }) (Ppm 500 (pos 40)) ≡ Some (Fraction 1000 9 (pos 40))
 new_version = refl
 
 -- a tick of 125 ps has 125,000 fs
-same_tick : is_tick 125 (Some 125000) ≡ true
+same_tick : is_tick_said 125 (Some 125000) ≡ true
 same_tick = refl
 
-other_tick : is_tick 1000 (Some 125000) ≡ false
+other_tick : is_tick_said 1000 (Some 125000) ≡ false
 other_tick = refl

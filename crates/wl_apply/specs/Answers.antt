@@ -14,5 +14,5 @@ each_made make [] = Ok []
 each_made make (x ∷ xs) = if_made (make x) (λ y. if_made (each_made make xs) (λ ys. Ok (y ∷ ys)))
 
 -- an answer is this one, unless memory was refused
-abbrev pub IsMade : {T : Type 0} → Result T ApplyFault → Result T ApplyFault → Type 0
-IsMade wanted answer = MatchResult answer (λ x. wanted ≡ Ok x) (λ e. e ≢ Memory → wanted ≡ Err e)
+abbrev pub AnswersMade : {T : Type 0} → Result T ApplyFault → Result T ApplyFault → Type 0
+AnswersMade wanted answer = MatchResult answer (λ x. wanted ≡ Ok x) (λ e. e ≢ Memory → wanted ≡ Err e)

@@ -23,19 +23,19 @@ use Rattle.wl_apply.specs.Labels.{first_fitting, first_unnamed, labels_of}
 use Rattle.wl_apply.specs.Nodes.{node_by}
 
 -- a fault of a plan's text as one of a plan with settings
-abbrev pub of_setup : SetupFault → ApplyFault
-of_setup setup.Memory = fault.Memory
-of_setup refusal = fault.Setup refusal
+abbrev pub setup_refusal : SetupFault → ApplyFault
+setup_refusal setup.Memory = fault.Memory
+setup_refusal refusal = fault.Setup refusal
 
 -- what is made of a plan that can be run
 abbrev pub if_runs : {T : Type 0} → Result Plan SetupFault → Result T ApplyFault → Result T ApplyFault
 if_runs (Ok plan) made = made
-if_runs (Err refusal) made = Err (of_setup refusal)
+if_runs (Err refusal) made = Err (setup_refusal refusal)
 
--- a plan has ticks of so many picoseconds, as far as it says them
-abbrev pub is_tick : ℕ → Option ℕ → Bool
-is_tick tick None = true
-is_tick tick (Some said) = said == tick * 1000
+-- a tick of a plan takes this number of picoseconds, as far as the plan says it
+abbrev pub is_tick_said : ℕ → Option ℕ → Bool
+is_tick_said tick None = true
+is_tick_said tick (Some said) = said == tick * 1000
 
 -- a numbered node with the first setting that is for it
 abbrev pub node_at : Bool → List Chosen → List Label → ℕ × NodeText → Result NodeText ApplyFault
@@ -47,19 +47,19 @@ named_all None = Ok tt
 named_all (Some c) = Err (fault.NoNode c.name)
 
 -- the plan with its nodes' settings: each other key stays
-abbrev pub plan_with : List Chosen → List Label → PlanText → Result PlanText ApplyFault
-plan_with chosen labels read =
+abbrev pub set_plan : List Chosen → List Label → PlanText → Result PlanText ApplyFault
+set_plan chosen labels read =
     if_made (named_all (first_unnamed labels read.node chosen)) (λ u.
     if_made (each_made (node_at (has_controllers read.version) chosen labels) (enumerate_from 0 read.node)) (λ nodes. Ok (record read { node = nodes })))
 
 -- a plan that can be run
-abbrev pub made_plan : Result PlanText ApplyFault → Result PlanText ApplyFault
-made_plan (Ok made) = if_runs (plan_of_text made) (Ok made)
-made_plan (Err refusal) = Err refusal
+abbrev pub if_made_runs : Result PlanText ApplyFault → Result PlanText ApplyFault
+if_made_runs (Ok made) = if_runs (plan_of_text made) (Ok made)
+if_made_runs (Err refusal) = Err refusal
 
 abbrev pub applied : ℕ → List Chosen → Members → PlanText → Result PlanText ApplyFault
 applied tick chosen top read =
-    if_runs (plan_of_text read) (if is_tick tick read.tick then made_plan (plan_with chosen (labels_of top) read) else Err fault.Tick)
+    if_runs (plan_of_text read) (if is_tick_said tick read.tick then if_made_runs (set_plan chosen (labels_of top) read) else Err fault.Tick)
 
 -- the text of such a plan
 abbrev pub IsWritten : Result PlanText ApplyFault → List ℕ → Type 0
@@ -77,6 +77,6 @@ pub record IsWritable (c : Chosen) : Type 0 where
   pub sjw : c.sjw ≤ LARGEST_NUMBER
 
 -- if they are, what is written of a plan that was read is read as the plan with these settings
-abbrev pub ReadsBack : ℕ → List Chosen → Members → PlanText → List ℕ → Type 0
-ReadsBack tick chosen top read text =
+abbrev pub IsReadBack : ℕ → List Chosen → Members → PlanText → List ℕ → Type 0
+IsReadBack tick chosen top read text =
     (bytes : List ℕ) (made : PlanText) → text_answer bytes ≡ Ok read → All IsWritable chosen → applied tick chosen top read ≡ Ok made → text_answer text ≡ Ok made

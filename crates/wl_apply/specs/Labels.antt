@@ -21,8 +21,8 @@ table_named controllers name = option_and_then as_table (get_member name control
 abbrev pub controller_in : Option (List ℕ) → Members → Option Members
 controller_in name controllers = option_and_then (table_named controllers) name
 
-abbrev pub controller_of : Members → Members → Option Members
-controller_of top ms = option_and_then (controller_in (controller_name ms)) (option_and_then as_table (get_member (codes "controller") top))
+abbrev pub node_controller : Members → Members → Option Members
+node_controller top ms = option_and_then (controller_in (controller_name ms)) (option_and_then as_table (get_member (codes "controller") top))
 
 -- the frequency that a text says, in Hz
 abbrev pub hertz : List ℕ → Option ℕ
@@ -36,12 +36,12 @@ abbrev pub own_clock_or : Option ℕ → Option Members → Option ℕ
 own_clock_or (Some clock) controller = Some clock
 own_clock_or None controller = option_and_then clock_said controller
 
-abbrev pub clock_of : Members → Members → Option ℕ
-clock_of top ms = own_clock_or (clock_said ms) (controller_of top ms)
+abbrev pub hertz_of_node : Members → Members → Option ℕ
+hertz_of_node top ms = own_clock_or (clock_said ms) (node_controller top ms)
 
 -- what a node's table says of its controller, and all tables of a document
 abbrev pub label_of : Members → Members → Label
-label_of top ms = record { controller = controller_name ms; clock = clock_of top ms }
+label_of top ms = record { controller = controller_name ms; clock = hertz_of_node top ms }
 
 abbrev pub labels_in : Members → List Data → List Label
 labels_in top values = map (label_of top) (filter_map as_table values)
@@ -58,12 +58,12 @@ abbrev pub fits_clock : Chosen → Option ℕ → Bool
 fits_clock c None = true
 fits_clock c (Some clock) = clock == c.clock
 
-abbrev pub fits : Chosen → Label → NodeText → Bool
-fits c label node = (bytes_eq c.name node.name || fits_name c label.controller) && fits_clock c label.clock
+abbrev pub is_meant_for : Chosen → Label → NodeText → Bool
+is_meant_for c label node = (bytes_eq c.name node.name || fits_name c label.controller) && fits_clock c label.clock
 
 abbrev pub fits_label : Chosen → Option Label → NodeText → Bool
 fits_label c None node = false
-fits_label c (Some label) node = fits c label node
+fits_label c (Some label) node = is_meant_for c label node
 
 abbrev pub fits_node : List Label → Chosen → ℕ × NodeText → Bool
 fits_node labels c (i, node) = fits_label c (slice_get labels i) node
@@ -74,9 +74,9 @@ first_fitting labels (i, node) [] = None
 first_fitting labels (i, node) (c ∷ cs) = if fits_node labels c (i, node) then Some c else first_fitting labels (i, node) cs
 
 -- a setting is for some node, and the first that is for none
-abbrev pub is_named : List Label → List NodeText → Chosen → Bool
-is_named labels nodes c = list_any (fits_node labels c) (enumerate_from 0 nodes)
+abbrev pub is_for_some : List Label → List NodeText → Chosen → Bool
+is_for_some labels nodes c = list_any (fits_node labels c) (enumerate_from 0 nodes)
 
 abbrev pub first_unnamed : List Label → List NodeText → List Chosen → Option Chosen
 first_unnamed labels nodes [] = None
-first_unnamed labels nodes (c ∷ cs) = if is_named labels nodes c then first_unnamed labels nodes cs else Some c
+first_unnamed labels nodes (c ∷ cs) = if is_for_some labels nodes c then first_unnamed labels nodes cs else Some c

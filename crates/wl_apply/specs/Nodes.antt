@@ -16,17 +16,17 @@ use Rattle.wl_apply.specs.Answers.{each_made, if_made}
 use Rattle.wl_apply.specs.Moves.{frame_in_time, ratio_of}
 
 -- the quantum of a clock without its deviation
-abbrev pub quantum_in : ClockText → QuantumLength
-quantum_in (Rate num den) = record { num = num; den = den }
-quantum_in (Ppm quantum ppm) = record { num = quantum; den = 1 }
-quantum_in (Fraction num den ppm) = record { num = num; den = den }
+abbrev pub nominal_quantum : ClockText → QuantumLength
+nominal_quantum (Rate num den) = record { num = num; den = den }
+nominal_quantum (Ppm quantum ppm) = record { num = quantum; den = 1 }
+nominal_quantum (Fraction num den ppm) = record { num = num; den = den }
 
 -- A clock with another quantum and the same deviation. A deviation beside a fraction is written in version 4 alone.
-abbrev pub clock_with : Bool → QuantumLength → ClockText → Option ClockText
-clock_with wide q (Rate num den) = Some (Rate q.num q.den)
-clock_with wide q (Ppm quantum ppm) =
+abbrev pub deviating_clock : Bool → QuantumLength → ClockText → Option ClockText
+deviating_clock wide q (Rate num den) = Some (Rate q.num q.den)
+deviating_clock wide q (Ppm quantum ppm) =
     if q.den == 1 then Some (Ppm q.num ppm) else (if wide then Some (Fraction q.num q.den ppm) else None)
-clock_with wide q (Fraction num den ppm) = if wide then Some (Fraction q.num q.den ppm) else None
+deviating_clock wide q (Fraction num den ppm) = if wide then Some (Fraction q.num q.den ppm) else None
 
 -- so are the segments of a controller
 abbrev pub has_segments : Bool → SegmentsText → Bool
@@ -34,7 +34,7 @@ has_segments wide (Each prop ps1 ps2) = true
 has_segments wide (Controller tseg1 tseg2) = wide
 
 abbrev pub clock_for : Bool → Chosen → ClockText → Option ClockText
-clock_for wide c clock = if has_segments wide c.segments then clock_with wide c.quantum clock else None
+clock_for wide c clock = if has_segments wide c.segments then deviating_clock wide c.quantum clock else None
 
 -- the clock of one rate
 abbrev pub only_clock : List RateText → Option ClockText
@@ -50,16 +50,16 @@ node_made c clock frames node =
 abbrev pub by_clocks : Chosen → ℕ × NodeText → ClockText → Option ClockText → Result NodeText ApplyFault
 by_clocks c (i, node) old None = Err (WantsVersion4 i)
 by_clocks c (i, node) old (Some clock) =
-    if_made (each_made (frame_in_time (ratio_of (quantum_in old) c.quantum) i) (enumerate_from 0 node.frame)) (λ frames. Ok (node_made c clock frames node))
+    if_made (each_made (frame_in_time (ratio_of (nominal_quantum old) c.quantum) i) (enumerate_from 0 node.frame)) (λ frames. Ok (node_made c clock frames node))
 
 abbrev pub by_old_clock : Bool → Chosen → ℕ × NodeText → Option ClockText → Result NodeText ApplyFault
 by_old_clock wide c (i, node) None = Err (Rates i)
 by_old_clock wide c (i, node) (Some old) = by_clocks c (i, node) old (clock_for wide c old)
 
-abbrev pub node_with : Bool → Chosen → ℕ × NodeText → Result NodeText ApplyFault
-node_with wide c (i, node) = by_old_clock wide c (i, node) (only_clock node.rates)
+abbrev pub set_node : Bool → Chosen → ℕ × NodeText → Result NodeText ApplyFault
+set_node wide c (i, node) = by_old_clock wide c (i, node) (only_clock node.rates)
 
 -- or as it is, without a setting
 abbrev pub node_by : Bool → Option Chosen → ℕ × NodeText → Result NodeText ApplyFault
 node_by wide None (i, node) = Ok node
-node_by wide (Some c) (i, node) = node_with wide c (i, node)
+node_by wide (Some c) (i, node) = set_node wide c (i, node)

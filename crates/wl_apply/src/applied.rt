@@ -3,13 +3,13 @@ ghost use Rattle.std.specs.Prelude.{◌≡◌, ◌≢◌, map, option_map, strin
 ghost use Rattle.std.specs.List.{enumerate_from};
 ghost use Rattle.toml.specs.View.{table_view};
 ghost use Rattle.wl_apply.specs.declared.fault.ApplyFault.TheVariants.{Memory};
-ghost use Rattle.wl_apply.specs.Answers.{IsMade, each_made};
-ghost use Rattle.wl_apply.specs.Applied.{IsWritten, ReadsBack, applied, is_tick, made_plan, named_all, node_at, plan_with};
+ghost use Rattle.wl_apply.specs.Answers.{AnswersMade, each_made};
+ghost use Rattle.wl_apply.specs.Applied.{IsWritten, IsReadBack, applied, is_tick_said, if_made_runs, named_all, node_at, set_plan};
 ghost use Rattle.wl_apply.specs.Labels.{first_unnamed, labels_of};
 
 use crate::chosen::Chosen;
 use crate::fault::ApplyFault;
-use crate::labels::{Label, first_fitting, is_named, labels_of};
+use crate::labels::{Label, first_fitting, is_for_some, labels_of};
 use crate::node::node_by;
 use std::alloc::Global;
 use toml::Table;
@@ -23,9 +23,9 @@ const VERSION_OF_CONTROLLERS: u64 = 4;
 /// How many femtoseconds a picosecond has.
 const FEMTOSECONDS: u128 = 1_000;
 
-/// True if a plan has ticks of so many picoseconds, as far as it says them.
-fn is_tick(tick: u64, said: Option<u64>) -> bool
-    ensures { result ≡ is_tick tick said }
+/// True if a tick of a plan takes `tick` picoseconds, as far as the plan says it.
+fn is_tick_said(tick: u64, said: Option<u64>) -> bool
+    ensures { result ≡ is_tick_said tick said }
 {
     match said {
         Some(said) => said as u128 == tick as u128 * FEMTOSECONDS,
@@ -44,7 +44,7 @@ fn first_unnamed<'a>(
     match chosen {
         [] => None,
         [first, rest @ ..] => {
-            if is_named(first, labels, nodes) {
+            if is_for_some(first, labels, nodes) {
                 first_unnamed(rest, labels, nodes)
             } else {
                 Some(first)
@@ -60,7 +60,7 @@ fn name_all(
     labels: &[Label],
     nodes: &[NodeText],
 ) -> Result<(), ApplyFault>
-    ensures { IsMade (named_all (first_unnamed labels.now nodes.now chosen.now)) result }
+    ensures { AnswersMade (named_all (first_unnamed labels.now nodes.now chosen.now)) result }
 {
     match first_unnamed(chosen, labels, nodes) {
         Some(chosen) => Err(ApplyFault::NoNode(Text::new(alloc, chosen.name.as_str())?)),
@@ -76,7 +76,7 @@ fn nodes_with(
     labels: &[Label],
     nodes: &[NodeText],
 ) -> Result<Listed<NodeText>, ApplyFault>
-    ensures { IsMade (each_made (node_at wide chosen.now labels.now) (enumerate_from 0 nodes.now)) result }
+    ensures { AnswersMade (each_made (node_at wide chosen.now labels.now) (enumerate_from 0 nodes.now)) result }
 {
     let mut made = Listed::new(alloc);
     for (i, node) in nodes.iter().enumerate() {
@@ -87,13 +87,13 @@ fn nodes_with(
 }
 
 /// Returns a plan with the settings of its nodes, and each time as it was.
-fn plan_with(
+fn set_plan(
     alloc: Global,
     chosen: &[Chosen],
     labels: &[Label],
     read: PlanText,
 ) -> Result<PlanText, ApplyFault>
-    ensures { IsMade (plan_with chosen.now labels.now read) result }
+    ensures { AnswersMade (set_plan chosen.now labels.now read) result }
 {
     let wide = read.version == VERSION_OF_CONTROLLERS;
     name_all(alloc, chosen, labels, read.node.as_slice())?;
@@ -109,14 +109,14 @@ fn applied(
     top: &Table,
     read: PlanText,
 ) -> Result<PlanText, ApplyFault>
-    ensures { IsMade (applied tick chosen.now (table_view top.now) read) result }
+    ensures { AnswersMade (applied tick chosen.now (table_view top.now) read) result }
 {
     read.plan(alloc)?;
-    if !is_tick(tick, read.tick) {
+    if !is_tick_said(tick, read.tick) {
         return Err(ApplyFault::Tick);
     }
     let labels = labels_of(alloc, top)?;
-    let made = plan_with(alloc, chosen, labels.as_slice(), read)?;
+    let made = set_plan(alloc, chosen, labels.as_slice(), read)?;
     made.plan(alloc)?;
     Ok(made)
 }
@@ -135,9 +135,11 @@ pub fn applied_text(
     top: &Table,
     read: PlanText,
 ) -> Result<String, ApplyFault>
-    ensures text { IfOk result (λ text. IsWritten (applied tick chosen.now (table_view top.now) read) (string_bytes text)) }
+    ensures text { IfOk result (λ text. IsWritten (applied tick chosen.now (table_view top.now) read)
+        (string_bytes text)) }
     ensures fault { IfErr result (λ e. e ≢ Memory → applied tick chosen.now (table_view top.now) read ≡ Err e) }
-    ensures reads_back { IfOk result (λ text. ReadsBack tick chosen.now (table_view top.now) read (string_bytes text)) }
+    ensures reads_back { IfOk result (λ text. IsReadBack tick chosen.now (table_view top.now) read
+        (string_bytes text)) }
 {
     read_is_printable();
     let made = applied(alloc, tick, chosen, top, read)?;

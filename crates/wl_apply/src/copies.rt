@@ -50,7 +50,7 @@ struct Timing {
 }
 
 /// Returns a node with other rates, segments and frames.
-fn node_with(
+fn node_with_timing(
     alloc: Global,
     node: &NodeText,
     timing: Timing,
@@ -90,7 +90,7 @@ pub(crate) fn node_same(alloc: Global, node: &NodeText) -> Result<NodeText, Allo
         segments: node.segments,
         sjw: node.sjw,
     };
-    node_with(alloc, node, timing, frame)
+    node_with_timing(alloc, node, timing, frame)
 }
 
 /// Returns a clock that keeps its rate.
@@ -117,5 +117,5 @@ pub(crate) fn node_made(
         segments: chosen.segments,
         sjw: chosen.sjw,
     };
-    node_with(alloc, node, timing, frame)
+    node_with_timing(alloc, node, timing, frame)
 }

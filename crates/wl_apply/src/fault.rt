@@ -31,9 +31,9 @@ pub enum ApplyFault {
 
 impl From<SetupFault> for ApplyFault {
     ghost use Rattle.std.specs.Prelude.{◌≡◌};
-    ghost use Rattle.wl_apply.specs.Applied.{of_setup};
+    ghost use Rattle.wl_apply.specs.Applied.{setup_refusal};
 
-    ghost from_gives = { λ fault given. given ≡ of_setup fault };
+    ghost from_gives = { λ fault given. given ≡ setup_refusal fault };
 
     fn from(fault: SetupFault) -> ApplyFault {
         match fault {

@@ -1,7 +1,7 @@
 //! Which nodes get a setting: by the names and the clocks of their controllers, as the plan's document says them.
 ghost use Rattle.std.specs.Prelude.{◌≡◌, map, option_map, IfOk};
 ghost use Rattle.toml.specs.View.{view, table_view};
-ghost use Rattle.wl_apply.specs.Labels.{clock_of, clock_said, controller_name, controller_of, first_fitting, fits, fits_clock, fits_name, fits_node, is_named, label_of, labels_in, labels_of};
+ghost use Rattle.wl_apply.specs.Labels.{hertz_of_node, clock_said, controller_name, node_controller, first_fitting, is_meant_for, fits_clock, fits_name, fits_node, is_for_some, label_of, labels_in, labels_of};
 
 use crate::chosen::Chosen;
 use std::alloc::{AllocError, Global};
@@ -30,8 +30,8 @@ fn controller_name(table: &Table) -> Option<&str>
 }
 
 /// Returns the table of the controller that a node's table names, if there is one.
-fn controller_of<'a>(top: &'a Table, table: &Table) -> Option<&'a Table>
-    ensures { option_map (λ t. table_view t.now) result ≡ controller_of (table_view top.now) (table_view table.now) }
+fn node_controller<'a>(top: &'a Table, table: &Table) -> Option<&'a Table>
+    ensures { option_map (λ t. table_view t.now) result ≡ node_controller (table_view top.now) (table_view table.now) }
 {
     let controllers = value_named(top, "controller")?.as_table()?;
     let name = controller_name(table)?;
@@ -48,12 +48,12 @@ fn clock_said(table: &Table) -> Option<u64>
 }
 
 /// Returns the frequency of a node's clock in Hz: its own, or that of its controller.
-fn clock_of(top: &Table, table: &Table) -> Option<u64>
-    ensures { result ≡ clock_of (table_view top.now) (table_view table.now) }
+fn hertz_of_node(top: &Table, table: &Table) -> Option<u64>
+    ensures { result ≡ hertz_of_node (table_view top.now) (table_view table.now) }
 {
     match clock_said(table) {
         Some(clock) => Some(clock),
-        None => clock_said(controller_of(top, table)?),
+        None => clock_said(node_controller(top, table)?),
     }
 }
 
@@ -67,7 +67,7 @@ fn label_of(alloc: Global, top: &Table, table: &Table) -> Result<Label, AllocErr
     };
     Ok(Label {
         controller,
-        clock: clock_of(top, table),
+        clock: hertz_of_node(top, table),
     })
 }
 
@@ -112,8 +112,8 @@ fn fits_clock(chosen: &Chosen, clock: Option<u64>) -> bool
 }
 
 /// True if a setting is for this node, by its name or that of its controller, and by its clock.
-fn fits(chosen: &Chosen, label: &Label, node: &NodeText) -> bool
-    ensures { result ≡ fits chosen.now label.now node.now }
+fn is_meant_for(chosen: &Chosen, label: &Label, node: &NodeText) -> bool
+    ensures { result ≡ is_meant_for chosen.now label.now node.now }
 {
     (chosen.name.as_str() == node.name.as_str() || fits_name(chosen, &label.controller))
         && fits_clock(chosen, label.clock)
@@ -124,7 +124,7 @@ fn fits_node(chosen: &Chosen, labels: &[Label], i: usize, node: &NodeText) -> bo
     ensures { result ≡ fits_node labels.now chosen.now (i, node.now) }
 {
     match labels.get(i) {
-        Some(label) => fits(chosen, label, node),
+        Some(label) => is_meant_for(chosen, label, node),
         None => false,
     }
 }
@@ -151,8 +151,8 @@ pub(crate) fn first_fitting<'a>(
 }
 
 /// True if a setting is for some node.
-pub(crate) fn is_named(chosen: &Chosen, labels: &[Label], nodes: &[NodeText]) -> bool
-    ensures { result ≡ is_named labels.now nodes.now chosen.now }
+pub(crate) fn is_for_some(chosen: &Chosen, labels: &[Label], nodes: &[NodeText]) -> bool
+    ensures { result ≡ is_for_some labels.now nodes.now chosen.now }
 {
     for (i, node) in nodes.iter().enumerate() {
         if fits_node(chosen, labels, i, node) {

@@ -1,7 +1,7 @@
 //! Times in quanta, by another quantum.
 ghost use Rattle.std.specs.Prelude.{◌≡◌, IfOk};
 ghost use Rattle.std.specs.List.{enumerate_from};
-ghost use Rattle.wl_apply.specs.Answers.{IsMade, each_made};
+ghost use Rattle.wl_apply.specs.Answers.{AnswersMade, each_made};
 ghost use Rattle.wl_apply.specs.Moves.{frame_in_time, moved, moved_every, moved_frame, ratio_of};
 
 use crate::chosen::QuantumLength;
@@ -65,7 +65,7 @@ fn frame_in_time(
     n: u64,
     frame: &FrameText,
 ) -> Result<FrameText, ApplyFault>
-    ensures { IsMade (frame_in_time ratio i (n, frame.now)) result }
+    ensures { AnswersMade (frame_in_time ratio i (n, frame.now)) result }
 {
     match moved_frame(alloc, ratio, frame)? {
         Some(made) => Ok(made),
@@ -80,7 +80,7 @@ pub(crate) fn moved_frames(
     i: u64,
     frames: &[FrameText],
 ) -> Result<Listed<FrameText>, ApplyFault>
-    ensures { IsMade (each_made (frame_in_time ratio i) (enumerate_from 0 frames.now)) result }
+    ensures { AnswersMade (each_made (frame_in_time ratio i) (enumerate_from 0 frames.now)) result }
 {
     let mut made = Listed::new(alloc);
     for (n, frame) in frames.iter().enumerate() {

@@ -1,7 +1,7 @@
 //! A node with another setting.
 ghost use Rattle.std.specs.Prelude.{◌≡◌, option_map};
-ghost use Rattle.wl_apply.specs.Answers.{IsMade};
-ghost use Rattle.wl_apply.specs.Nodes.{clock_for, clock_with, has_segments, node_by, node_with, only_clock, quantum_in};
+ghost use Rattle.wl_apply.specs.Answers.{AnswersMade};
+ghost use Rattle.wl_apply.specs.Nodes.{clock_for, deviating_clock, has_segments, node_by, set_node, only_clock, nominal_quantum};
 
 use crate::chosen::{Chosen, QuantumLength};
 use crate::copies::{node_made, node_same};
@@ -11,8 +11,8 @@ use std::alloc::Global;
 use wl_setup::{ClockText, NodeText, RateText, SegmentsText};
 
 /// Returns the quantum of a clock without its deviation.
-fn quantum_in(clock: ClockText) -> QuantumLength
-    ensures { result ≡ quantum_in clock }
+fn nominal_quantum(clock: ClockText) -> QuantumLength
+    ensures { result ≡ nominal_quantum clock }
 {
     match clock {
         ClockText::Rate { num, den } | ClockText::Fraction { num, den, .. } => QuantumLength {
@@ -27,8 +27,8 @@ fn quantum_in(clock: ClockText) -> QuantumLength
 }
 
 /// Returns a clock with another quantum and the same deviation, if the version has both. It has in version 4.
-fn clock_with(wide: bool, quantum: QuantumLength, clock: ClockText) -> Option<ClockText>
-    ensures { result ≡ clock_with wide quantum clock }
+fn deviating_clock(wide: bool, quantum: QuantumLength, clock: ClockText) -> Option<ClockText>
+    ensures { result ≡ deviating_clock wide quantum clock }
 {
     let QuantumLength { num, den } = quantum;
     match clock {
@@ -67,7 +67,7 @@ fn clock_for(wide: bool, chosen: &Chosen, clock: ClockText) -> Option<ClockText>
     ensures { result ≡ clock_for wide chosen.now clock }
 {
     if has_segments(wide, chosen.segments) {
-        clock_with(wide, chosen.quantum, clock)
+        deviating_clock(wide, chosen.quantum, clock)
     } else {
         None
     }
@@ -84,14 +84,14 @@ fn only_clock(rates: &[RateText]) -> Option<ClockText>
 }
 
 /// Returns node `i` with a setting, and each of its frames at the times that it had.
-fn node_with(
+fn set_node(
     alloc: Global,
     wide: bool,
     chosen: &Chosen,
     i: u64,
     node: &NodeText,
 ) -> Result<NodeText, ApplyFault>
-    ensures { IsMade (node_with wide chosen.now (i, node.now)) result }
+    ensures { AnswersMade (set_node wide chosen.now (i, node.now)) result }
 {
     let Some(old) = only_clock(node.rates.as_slice()) else {
         return Err(ApplyFault::Rates(i));
@@ -99,7 +99,7 @@ fn node_with(
     let Some(clock) = clock_for(wide, chosen, old) else {
         return Err(ApplyFault::WantsVersion4(i));
     };
-    let ratio = ratio_of(quantum_in(old), chosen.quantum);
+    let ratio = ratio_of(nominal_quantum(old), chosen.quantum);
     let frame = moved_frames(alloc, ratio, i, node.frame.as_slice())?;
     Ok(node_made(alloc, chosen, clock, frame, node)?)
 }
@@ -112,10 +112,10 @@ pub(crate) fn node_by(
     i: u64,
     node: &NodeText,
 ) -> Result<NodeText, ApplyFault>
-    ensures { IsMade (node_by wide (option_map (λ c. c.now) chosen.entry) (i, node.now)) result }
+    ensures { AnswersMade (node_by wide (option_map (λ c. c.now) chosen.entry) (i, node.now)) result }
 {
     match chosen {
-        Some(chosen) => node_with(alloc, wide, chosen, i, node),
+        Some(chosen) => set_node(alloc, wide, chosen, i, node),
         None => Ok(node_same(alloc, node)?),
     }
 }

@@ -89,7 +89,8 @@ fn with_chosen(
 pub fn chosen_settings(alloc: Global, wanted: &Wanted) -> Result<Listed<Chosen>, SettingsFault>
     ensures ok { IfOk result (λ all. AreFirstChosen wanted.now.asked wanted.now.controllers all) }
     ensures keys { IfOk result (λ all. All IsWritable all) }
-    ensures fault { IfErr result (λ e. e ≢ Memory → (e ≡ NoSetting) × LacksSetting wanted.now.asked wanted.now.controllers) }
+    ensures fault { IfErr result (λ e. e ≢ Memory
+        → (e ≡ NoSetting) × LacksSetting wanted.now.asked wanted.now.controllers) }
 {
     with_chosen(
         alloc,
