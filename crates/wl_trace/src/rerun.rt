@@ -7,7 +7,7 @@ ghost use Rattle.wl_trace.specs.Rerun.{IsRerun, RunsAgain, RunsOver, samples_see
 ghost use Rattle.wl_trace.specs.StayingRerun.{sample_if};
 ghost use Rattle.wl_trace.specs.declared.event.Noted.{Noted as GivenNoted};
 ghost use Rattle.wl_trace.specs.Snapshot.{snapshot_of};
-ghost use Rattle.wl_trace.specs.Synced.{syncs_of};
+ghost use Rattle.wl_trace.specs.Synced.{syncs_of, with_next};
 
 use crate::event::Noted;
 use crate::snapshot::NodeSnapshot;
@@ -140,6 +140,9 @@ impl Rerun {
         ensures samples { (levels : List Level) → length levels ≡ quantum → RunsAgain setup.now levels self.old
             → samples_seen setup.now (levels ++ replicate result.quanta level)
             ≡ samples_seen setup.now levels ++ sample_if result.sampled (quantum + result.quanta - 1) level }
+        ensures syncs { (levels : List Level) → length levels ≡ quantum → RunsAgain setup.now levels self.old
+            → syncs_of setup.now (levels ++ replicate result.quanta level)
+            ≡ with_next (syncs_of setup.now levels) result.sync }
         ensures some { 0 < result.quanta }
         ensures few { result.quanta ≤ most }
     {

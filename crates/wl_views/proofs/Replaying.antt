@@ -1,5 +1,5 @@
 -- The events of a node's samples, one sample more at a time, as far as they are picked.
-use Rattle.std.proofs.Common.{◌≡◌, ◌∙◌, ap, ap₂, sym, ℕ, ◌+◌, ◌≤◌, Bool, List, [], ◌∷◌, ◌++◌, append_assoc, length, map}
+use Rattle.std.proofs.Common.{◌≡◌, ◌∙◌, ap, sym, ℕ, ◌+◌, ◌≤◌, Bool, List, [], ◌∷◌, ◌++◌, append_assoc, length, map}
 use Rattle.std.specs.List.{All, filter}
 use Rattle.std.proofs.lemmas.List.{length-append, map-append}
 use Rattle.std.proofs.lemmas.List.Elements.{All-map, filter-append}
@@ -19,6 +19,17 @@ use Rattle.wl_views.specs.TraceText.{told_by}
 -- events of a quantum that clocks know are known
 pub known_events : (quantum bit : ℕ) (told : List NodeEvent) → quantum ≤ most_run_quanta → All (λ n. n.quantum ≤ most_run_quanta) (map (noted quantum bit) told)
 known_events quantum bit told few = All-map (λ (n : Noted). n.quantum ≤ most_run_quanta) (noted quantum bit) told (λ k d b. few)
+
+-- some events more, as far as they are picked
+pub told_on : (p : ℕ × (ℕ × Noted) → Bool) (clock : Timing) (i : ℕ) (old now new : List (ℕ × (ℕ × Noted))) (before found : List Noted)
+    → now ≡ old ++ filter p (told_by clock i before) → new ≡ now ++ filter p (told_by clock i found) → new ≡ old ++ filter p (told_by clock i (before ++ found))
+told_on p clock i old now new before found so_far more =
+    more
+    ∙ ap (λ xs. xs ++ filter p (told_by clock i found)) so_far
+    ∙ append_assoc old (filter p (told_by clock i before)) (filter p (told_by clock i found))
+    ∙ ap (λ xs. old ++ xs)
+    (sym (filter-append p (told_by clock i before) (told_by clock i found))
+    ∙ ap (filter p) (sym (map-append (λ (n : Noted). (tick_of clock n.quantum, (i, n))) before found)))
 
 module _ (setup : NodeSetup) (samples : List (ℕ × Level)) (quantum : ℕ) (level : Level) where
   abbrev before : SampledPast × List Noted
@@ -45,14 +56,8 @@ module _ (setup : NodeSetup) (samples : List (ℕ × Level)) (quantum : ℕ) (le
   told_more p clock i bit old now new found counted are so_far more =
       let told : List Noted = map (noted quantum (length before.0.samples)) (then_events setup before.0 quantum level) in
       let same : found ≡ told = are ∙ ap (λ (b : ℕ). map (noted quantum b) (then_events setup before.0 quantum level)) (sym counted) in
-      let tell : Noted → ℕ × (ℕ × Noted) = λ n. (tick_of clock n.quantum, (i, n)) in
-      more
-      ∙ ap₂ (λ xs ys. xs ++ filter p (told_by clock i ys)) so_far same
-      ∙ append_assoc old (filter p (told_by clock i before.1)) (filter p (told_by clock i told))
-      ∙ ap (λ xs. old ++ xs)
-      (sym (filter-append p (told_by clock i before.1) (told_by clock i told))
-      ∙ ap (filter p) (sym (map-append tell before.1 told))
-      ∙ ap (λ (r : SampledPast × List Noted). filter p (told_by clock i r.1)) (sym next))
+      told_on p clock i old now new before.1 told so_far (more ∙ ap (λ (es : List Noted). now ++ filter p (told_by clock i es)) same)
+      ∙ ap (λ (r : SampledPast × List Noted). old ++ filter p (told_by clock i r.1)) (sym next)
 
 -- at the end they are those of what the node saw
 pub all_replayed : (setup : NodeSetup) (levels : List Level) → (replay_of setup (history_of setup levels).samples).1 ≡ events_of setup levels

@@ -9,14 +9,12 @@ ghost use Rattle.wl_views.specs.Picks.{is_picked};
 ghost use Rattle.wl_views.specs.TraceText.{all_told, events_at_end, syncs_at_end, told_at_end, told_by};
 
 use crate::pick::Pick;
-use crate::place_line::PlaceLine;
-use crate::probe::level_of;
 use crate::sampling::Sampling;
 use std::alloc::{AllocError, Global};
 use wl_clock::Clock;
 use wl_plan::CheckedPlan;
 use wl_serial::Drives;
-use wl_trace::{Noted, Rerun, WatchedNode};
+use wl_trace::{Noted, WatchedNode};
 
 /// Adds those of these events of node `i` that are picked, each with its tick.
 fn push_told(
@@ -37,38 +35,6 @@ fn push_told(
         }
     }
     Ok(())
-}
-
-/// Returns how node `i` was synchronised: it runs again up to the end, from one change of the line at its place to the next.
-fn syncs_at_end(
-    alloc: Global,
-    plan: &CheckedPlan,
-    drives: &Drives,
-    i: usize,
-) -> Result<Vec<Noted>, AllocError>
-    requires drives { drives.now ≡ drives_of (outcome_of plan.now) }
-    requires node { i < length plan.now.nodes }
-    ensures { IfOk result (λ syncs. syncs.items ≡ syncs_at_end plan.now i) }
-{
-    plan.laws();
-    wl_plan::simulation_laws();
-    let (setup, end) = (&plan.nodes.as_slice()[i], plan.end);
-    let mut line = PlaceLine::new();
-    let mut node = Rerun::new(alloc, setup)?;
-    let mut syncs = Vec::new(alloc);
-    let mut quanta = 0;
-    let mut t = 0;
-    while t < end {
-        line.hear(plan, drives, i, t);
-        let found = line.found();
-        let until = found.until.min(end);
-        let next = setup.clock.first_not_before(until);
-        let level = level_of(found.dominant);
-        node.go(setup, quanta, level, next - quanta, &mut syncs)?;
-        quanta = next;
-        t = until;
-    }
-    Ok(syncs)
 }
 
 /// Adds what the samples of node `i` did, each with its tick, as far as it is picked: the node is watched sample by sample.
@@ -97,7 +63,7 @@ fn push_events(
     Ok(())
 }
 
-/// Adds how node `i` was synchronised, each with its tick, as far as it is picked.
+/// Adds how node `i` was synchronised, each with its tick, as far as it is picked: the node runs again from one synchronisation to the next.
 fn push_syncs(
     alloc: Global,
     told: &mut Vec<(u64, (usize, Noted))>,
@@ -118,8 +84,11 @@ fn push_syncs(
         return Ok(());
     }
     let clock = &plan.nodes.as_slice()[i].clock;
-    let syncs = syncs_at_end(alloc, plan, drives, i)?;
-    push_told(told, pick, clock, i, &syncs)
+    let mut node = Sampling::new(alloc, plan, i)?;
+    while let Some(sync) = node.next_sync(plan, drives, i) {
+        push_told(told, pick, clock, i, &[sync])?;
+    }
+    Ok(())
 }
 
 /// Adds how node `i` was synchronised and what its samples did, each with its tick, as far as it is picked.

@@ -1,12 +1,14 @@
 -- Nothing was seen.
 use Rattle.std.proofs.Common.{◌≡◌, ◌∙◌, [], ap, subst, arith}
 use Rattle.wl_node.specs.declared.setup.NodeSetup.{NodeSetup}
-use Rattle.wl_node.proofs.Callers.{history_begins}
+use Rattle.wl_node.proofs.Callers.{history_begins, none_yet}
 use Rattle.wl_node.specs.History.{History}
 use Rattle.wl_plan.specs.declared.plan.Plan.{Plan}
 use Rattle.wl_plan.specs.PlanLine.{setup_at}
 use Rattle.wl_plan.specs.Simulation.{seen}
 use Rattle.wl_trace.specs.Rerun.{RunsAgain}
+use Rattle.wl_trace.specs.Synced.{staying_syncs}
+use Rattle.wl_trace.proofs.Callers.{syncs_first}
 use Rattle.wl_views.proofs.Going.{setup_is}
 use Rattle.wl_views.proofs.sampling.Sampling.new.Goals as goal
 
@@ -30,3 +32,8 @@ returns-clause-is c =
 pub returns-clause-none : goal.returns-clause-none
 unfolding seen
 returns-clause-none c = ap (λ (h : History). h.samples) (history_begins (setup_at c.args.plan.now c.args.i))
+
+pub returns-clause-no_syncs : goal.returns-clause-no_syncs
+unfolding seen
+returns-clause-no_syncs c =
+    let there : NodeSetup = setup_at c.args.plan.now c.args.i in ap (staying_syncs there) (none_yet there.until).there ∙ syncs_first there

@@ -1,0 +1,15 @@
+use Rattle.std.proofs.Common.{◌≡◌, ◌-◌, ◌+◌, ◌≤◌}
+use Rattle.wl_node.specs.Limits.{most_run_quanta}
+use Rattle.wl_views.specs.Sampling.{IsSampling, synced_by}
+use Rattle.wl_views.proofs.sampling.Sampling.next_sync.Given as goal
+
+-- no edge more synchronised it
+abbrev pub invariant-loop-stride : goal.invariant-loop-stride
+invariant-loop-stride l = record {
+  is : IsSampling l.plan l.i l.self;
+  same : synced_by l.plan l.i l.self ≡ synced_by l.plan l.i l.initial.self;
+  later : l.initial.self.quanta ≤ l.self.quanta;
+}
+
+abbrev pub decreases-loop-stride : goal.decreases-loop-stride
+decreases-loop-stride l = most_run_quanta + 1 - l.self.quanta
