@@ -27,9 +27,9 @@ ghost use Rattle.wl_buses.specs.NextFrames.Frames.{HasRoomForAll};
 ghost use Rattle.wl_node.specs.declared.setup.NodeSetup.{NodeSetup};
 ghost use Rattle.wl_node.specs.History.{History};
 ghost use Rattle.wl_silence.specs.Restarts.{GoesOnAs, IsUnharmed, history_on, setup_since};
-ghost use Rattle.wl_silence.specs.Silences.{HaveFramesLeft, IsAsFresh, IsCleanSince, IsLineOfSince, IsSilentFor, IsSilentNode, eleventh_of, joined, joins_at, silence_bits};
+ghost use Rattle.wl_silence.specs.Silences.{HaveFramesLeft, IsAsFresh, IsCleanSince, IsLineOfSince, IsSilentFor, IsSilentNode, eleventh_of, after_eleventh, joins_at, silence_bits};
 ghost use Rattle.wl_silence.specs.Shown.{ShowsClean};
-ghost use Rattle.wl_silence.specs.SilentPlans.{HavePassed, undisturbed_plan};
+ghost use Rattle.wl_silence.specs.SilentPlans.{NoneDisturbsSince, undisturbed_plan};
 
 /// Law: a node goes on as one that powered up later with the frames that it hadn't sent then, if both are alike once. Both drive the same, and the
 /// same frames pass them. It takes that the later one finds no error and counts nothing. Then the other one finds none, and its counters don't
@@ -88,8 +88,8 @@ pub fn a_line_is_clean_after_a_silence()
 pub fn what_a_clean_line_shows()
     ensures { (l : Line) (setups : ℕ → NodeSetup) (s : Stations) (from : ℕ) (first : ℕ → ℕ) → s.count ≡ l.nodes
         → IsCleanSince l setups s from first → (sender : ℕ → ℕ) × (content : ℕ → Content) × (count : ℕ)
-        × ((i k : ℕ) → i < l.nodes → joined l setups first i ≤ k → AreInside l i k
-        → ShowsClean (setups i) i sender content count (line_history l setups i (joined l setups first i))
+        × ((i k : ℕ) → i < l.nodes → after_eleventh l setups first i ≤ k → AreInside l i k
+        → ShowsClean (setups i) i sender content count (line_history l setups i (after_eleventh l setups first i))
         (line_history l setups i k)) }
 {}
 
@@ -98,13 +98,13 @@ pub fn what_a_clean_line_shows()
 pub fn a_bus_is_clean_after_a_silence()
     ensures plan { (plan : Plan) (s : Stations) (bus : Bus) (from until : ℕ) (first chase : ℕ → ℕ) → IsPlanOf plan s
         → HasStations bus s → IsSound bus → HasRoomToAnswer bus chase → LeavesRoomToRest bus chase
-        → HavePassed plan from → IsSilentFor (line_of plan) (setup_at plan) from until first
+        → NoneDisturbsSince plan from → IsSilentFor (line_of plan) (setup_at plan) from until first
         → HaveFramesLeft (line_of plan) (setup_at plan) s first
         → IsCleanSince (line_of plan) (setup_at plan) s from first }
     ensures family { (f : Buses) (plan : Plan) (clocks : ℕ → Steady) (from until : ℕ) (first : ℕ → ℕ) → IsChecked plan
         → IsSteadyPlan (undisturbed_plan plan) clocks → IsOfFamily f (undisturbed_plan plan) clocks → NoneListens plan
         → leaves_room f ≡ true → IsSound (plain_bus f)
-        → HavePassed plan from → IsSilentFor (line_of plan) (setup_at plan) from until first
+        → NoneDisturbsSince plan from → IsSilentFor (line_of plan) (setup_at plan) from until first
         → HaveFramesLeft (line_of plan) (setup_at plan) (stations_of f plan clocks) first
         → IsCleanSince (line_of plan) (setup_at plan) (stations_of f plan clocks) from first }
 {

@@ -1,4 +1,4 @@
-use Rattle.std.proofs.Common.{◌≡◌, ap, sym, ℕ, arith}
+use Rattle.std.proofs.Common.{ap, sym, ℕ, arith}
 use Rattle.wl_level.specs.Levels.{is_dominant}
 use Rattle.wl_node.proofs.Callers.{stays_on}
 use Rattle.wl_phase.proofs.Callers.{rate_tick}
@@ -14,11 +14,11 @@ use Rattle.wl_buses.specs.OneFrame.Stations.{AreStations, Stations}
 use Rattle.wl_buses.specs.FrameEnd.Again.{LeavesRoomToRest}
 use Rattle.wl_buses.specs.FamilyPlans.FamilyStations.{stations_of}
 use Rattle.wl_silence.specs.Silences.{HaveFramesLeft, IsCleanSince, IsLineOfSince, IsSilentFor}
-use Rattle.wl_silence.specs.SilentPlans.{HavePassed, undisturbed_plan}
+use Rattle.wl_silence.specs.SilentPlans.{NoneDisturbsSince, undisturbed_plan}
 use Rattle.wl_silence.proofs.laws.a_bus_is_clean_after_a_silence.Goals as goal
 
 whole : goal.After-a_line_is_clean_after_a_silence → (plan : Plan) (s : Stations) (bus : Bus) (from until : ℕ) (first chase : ℕ → ℕ) → IsPlanOf plan s → HasStations bus s → IsSound bus → HasRoomToAnswer bus chase
-    → LeavesRoomToRest bus chase → HavePassed plan from → IsSilentFor (line_of plan) (setup_at plan) from until first → HaveFramesLeft (line_of plan) (setup_at plan) s first
+    → LeavesRoomToRest bus chase → NoneDisturbsSince plan from → IsSilentFor (line_of plan) (setup_at plan) from until first → HaveFramesLeft (line_of plan) (setup_at plan) s first
     → IsCleanSince (line_of plan) (setup_at plan) s from first
 whole c plan s bus from until first chase of bus_of sound answer rest passed silent left =
     (let on = c.a_plan_is_on_a_line.ensures plan s of in
