@@ -7,3 +7,4 @@ mod Lines
 mod PoweredUp
 mod Through
 mod Shows
+mod AtFirst

@@ -55,7 +55,7 @@ shows l setups s from first count clean = (clean.through.bus.by.winner, clean.th
         let g = clean.goes i k inside late there in
         let counted : i < s.count = omega arith in
         let passed = clean.through.passed i k counted there in
-        let come = (clean.through.sent i k counted there).once in
+        let come = clean.through.sent i k counted there in
         let left = unsent_is (setups i) p before fresh now g.frames g.quanta in
         record {
           errors = g.errors;
@@ -71,7 +71,10 @@ shows l setups s from first count clean = (clean.through.bus.by.winner, clean.th
           left =
               subst (λ q. IsPermutation q (sent_contents (map (passed_since p) fresh.frames) ++ queued_contents (unsent_of (setups i) now))) (contents_since p (unsent_of (setups i) before))
               (subst (λ f. IsPermutation (queued_contents R.queue) (f ++ queued_contents (unsent_of (setups i) now))) (sym (sent_since p fresh.frames))
-              (subst (λ u. IsPermutation (queued_contents R.queue) (sent_contents fresh.frames ++ u)) (ap queued_contents left ∙ contents_since p (unsent_of (setups i) now)) come));
+              (subst (λ u. IsPermutation (queued_contents R.queue) (sent_contents fresh.frames ++ u)) (ap queued_contents left ∙ contents_since p (unsent_of (setups i) now)) come.once));
+          order = λ fifo.
+              ap (λ f. f ++ queued_contents (unsent_of (setups i) now)) (sent_since p fresh.frames)
+              ∙ ap (λ u. sent_contents fresh.frames ++ u) (sym (ap queued_contents left ∙ contents_since p (unsent_of (setups i) now))) ∙ come.order fifo ∙ contents_since p (unsent_of (setups i) before);
         }
 
     node : (i k : ℕ) → i < l.nodes → after_eleventh l setups first i ≤ k → AreInside l i k

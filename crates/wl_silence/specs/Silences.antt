@@ -1,5 +1,5 @@
 -- A line that is silent for a while, whatever was on it before, and what it does then.
-use Rattle.std.specs.Prelude.{◌≡◌, ℕ, suc, ◌+◌, ◌-◌, ◌*◌, ◌<◌, ◌≤◌, false, true, List, [], length}
+use Rattle.std.specs.Prelude.{◌≡◌, ℕ, suc, ◌+◌, ◌-◌, ◌*◌, ◌<◌, ◌≤◌, false, true, List, [], length, None}
 use Rattle.wl_level.specs.declared.Level.{Level}
 use Rattle.wl_level.specs.Levels.{is_dominant}
 use Rattle.wl_confine.specs.declared.Mode.TheVariants.{Active}
@@ -18,7 +18,7 @@ use Rattle.wl_plan.specs.Sound.{IsCausal}
 use Rattle.wl_wire.specs.InStep.{AreSoundFrames}
 use Rattle.wl_heal.specs.Silence.{is_off}
 use Rattle.wl_buses.specs.BothProofs.Expected.{levels_found}
-use Rattle.wl_buses.specs.BothProofs.Queues.{queued_contents}
+use Rattle.wl_buses.specs.BothProofs.Queues.{head_at, queued_contents}
 use Rattle.wl_buses.specs.OneFrame.Lines.{node_after}
 use Rattle.wl_buses.specs.OneFrame.Nodes.{IsRun, clock_sees}
 use Rattle.wl_buses.specs.OneFrame.Stations.{Stations}
@@ -87,6 +87,14 @@ fresh_line l setups first = line_since l (fresh_setups l setups first) (joins l 
 
 abbrev pub fresh_stations : Line → (setups : ℕ → NodeSetup) → (first : ℕ → ℕ) → Stations → Stations
 fresh_stations l setups first s = stations_since s (joins l setups first)
+
+-- A line on which nobody has a frame for a while: all nodes power up after the tick `from`, and each has so many bits up to the tick `until` without a frame that is ready, 36 at least.
+pub record WaitsForFrames (l : Line) (setups : ℕ → NodeSetup) (from until : ℕ) (bits : ℕ → ℕ) : Type 0 where
+  pub inside : until ≤ l.stop
+  pub later : (i k : ℕ) → i < l.nodes → k < l.nodes → from + l.delay k i ≤ l.instant i 0
+  pub lasts : (i : ℕ) → i < l.nodes → l.instant i (silence_bits * bit_quanta (setups i).segments) < until
+  pub long : (i : ℕ) → i < l.nodes → until ≤ l.instant i (bits i * bit_quanta (setups i).segments + sample_at (setups i).segments)
+  pub none : (i n : ℕ) → i < l.nodes → 10 ≤ n → n ≤ bits i → head_at (setups i) (setups i).queue (n * bit_quanta (setups i).segments + sample_at (setups i).segments) ≡ None
 
 -- Frames of two nodes differ in format, identifier or RTR bit, and a node with frames may send. After the silence some node has one left.
 pub record HaveFramesLeft (l : Line) (setups : ℕ → NodeSetup) (s : Stations) (first : ℕ → ℕ) : Type 0 where

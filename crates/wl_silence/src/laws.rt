@@ -1,6 +1,6 @@
 //! Laws of a bus after a silence, each proved as the contract of a function that does nothing.
 
-ghost use Rattle.std.specs.Prelude.{◌≡◌, ◌+◌, ◌*◌, ◌<◌, ◌≤◌, ℕ, true, List, take};
+ghost use Rattle.std.specs.Prelude.{◌≡◌, ◌+◌, ◌*◌, ◌<◌, ◌≤◌, ℕ, true, List, [], length, take};
 ghost use Rattle.wl_level.specs.declared.Level.{Level};
 ghost use Rattle.wl_segments.specs.Lengths.{bit_quanta};
 ghost use Rattle.wl_phase.specs.Ways.{ByTheBook};
@@ -15,6 +15,8 @@ ghost use Rattle.wl_buses.specs.CleanLines.Lines.{line_history};
 ghost use Rattle.wl_bound.specs.Conditions.{IsSound};
 ghost use Rattle.wl_bound.specs.Families.{Bus, Buses};
 ghost use Rattle.wl_bound.specs.Rooms.{leaves_room, plain_bus};
+ghost use Rattle.wl_wire.specs.InStep.{AreSoundFrames};
+ghost use Rattle.wl_buses.specs.BothProofs.Queues.{queued_contents};
 ghost use Rattle.wl_buses.specs.BothProofs.Plans.{IsOfFamily, IsSteadyPlan};
 ghost use Rattle.wl_buses.specs.OneFrame.Answers.{HasRoomToAnswer};
 ghost use Rattle.wl_buses.specs.OneFrame.Bounds.{HasStations};
@@ -27,7 +29,7 @@ ghost use Rattle.wl_buses.specs.NextFrames.Frames.{HasRoomForAll};
 ghost use Rattle.wl_node.specs.declared.setup.NodeSetup.{NodeSetup};
 ghost use Rattle.wl_node.specs.History.{History};
 ghost use Rattle.wl_silence.specs.Restarts.{GoesOnAs, IsUnharmed, history_on, setup_since};
-ghost use Rattle.wl_silence.specs.Silences.{HaveFramesLeft, IsAsFresh, IsCleanSince, IsLineOfSince, IsSilentFor, IsSilentNode, eleventh_of, after_eleventh, joins_at, silence_bits};
+ghost use Rattle.wl_silence.specs.Silences.{HaveFramesLeft, IsAsFresh, IsCleanSince, IsLineOfSince, IsSilentFor, IsSilentNode, WaitsForFrames, eleventh_of, after_eleventh, joins_at, silence_bits};
 ghost use Rattle.wl_silence.specs.Shown.{ShowsClean};
 ghost use Rattle.wl_silence.specs.SilentPlans.{NoneDisturbsSince, undisturbed_plan};
 
@@ -115,4 +117,28 @@ pub fn a_bus_is_clean_after_a_silence()
     wl_buses::family_plans::laws::a_plan_has_stations();
     wl_buses::next_frames::begun::a_bus_has_room_for_all();
     a_line_is_clean_after_a_silence();
+}
+
+/// Law: what is asked of a silence is met by each line on which all nodes power up after the tick `from`, and have no frame ready for 36 bits and
+/// more. Nobody drives dominant in them, and no frame passes. What is asked of the frames that are left is met, if it is met by all frames.
+pub fn what_a_silence_asks_can_be_met()
+    ensures silence { (l : Line) (setups : ℕ → NodeSetup) (s : Stations) (from until : ℕ) (bits : ℕ → ℕ)
+        → IsLineOfSince l setups s from → AreStations s → WaitsForFrames l setups from until bits
+        → IsSilentFor l setups from until (λ i. 0) }
+    ensures left { (l : Line) (setups : ℕ → NodeSetup) (s : Stations) (from until : ℕ) (bits : ℕ → ℕ)
+        → IsLineOfSince l setups s from → AreStations s → WaitsForFrames l setups from until bits
+        → AreSoundFrames s.count (λ i. queued_contents (setups i).queue)
+        → ((i : ℕ) → s.count ≤ i → (setups i).queue ≡ [])
+        → ((i : ℕ) → i < s.count → 0 < length (setups i).queue → s.may_send i ≡ true)
+        → (i : ℕ) → i < s.count → 0 < length (setups i).queue → HaveFramesLeft l setups s (λ i. 0) }
+{
+    wl_sync::clock_goes_on();
+    wl_sync::the_sample_comes_near();
+    wl_topology::driven_laws();
+    wl_phase::laws::an_edge_moves_the_sample();
+    wl_heal::laws::a_silence_leaves_all_idle();
+    wl_plan::simulation_laws();
+    wl_buses::both_proofs::laws::what_is_expected_is_driven();
+    wl_buses::one_frame::laws::no_edge_counts_then();
+    wl_buses::one_frame::laws::a_station_begins_its_bits();
 }
