@@ -8,3 +8,4 @@ mod PoweredUp
 mod Through
 mod Shows
 mod AtFirst
+mod Rows

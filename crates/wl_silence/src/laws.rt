@@ -119,8 +119,8 @@ pub fn a_bus_is_clean_after_a_silence()
     a_line_is_clean_after_a_silence();
 }
 
-/// Law: what is asked of a silence is met by each line on which all nodes power up after the tick `from`, and have no frame ready for 36 bits and
-/// more. Nobody drives dominant in them, and no frame passes. What is asked of the frames that are left is met, if it is met by all frames.
+/// Law: what is asked of a silence can be met. Take a line on which all nodes power up after the tick `from`, and have no frame ready for 36 bits
+/// and more. Nobody drives dominant in them, and no frame passes. What is asked of the frames that are left is met, if it is met by all frames.
 pub fn what_a_silence_asks_can_be_met()
     ensures silence { (l : Line) (setups : ℕ → NodeSetup) (s : Stations) (from until : ℕ) (bits : ℕ → ℕ)
         → IsLineOfSince l setups s from → AreStations s → WaitsForFrames l setups from until bits
