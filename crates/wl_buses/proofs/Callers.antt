@@ -16,3 +16,4 @@ pub use Rattle.wl_buses.proofs.BothProofs.Orders.{left_none}
 pub use Rattle.wl_buses.proofs.OneFrame.Lines.{run_of}
 pub use Rattle.wl_buses.proofs.OneSender.Covering.{is_empty}
 pub use Rattle.wl_buses.proofs.PassedFrames.Waiting.{idle_is}
+pub use Rattle.wl_buses.proofs.CleanPlans.Verdicts.{of_verdict}

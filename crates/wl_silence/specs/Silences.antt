@@ -96,12 +96,16 @@ pub record WaitsForFrames (l : Line) (setups : ℕ → NodeSetup) (from until : 
   pub long : (i : ℕ) → i < l.nodes → until ≤ l.instant i (bits i * bit_quanta (setups i).segments + sample_at (setups i).segments)
   pub none : (i n : ℕ) → i < l.nodes → 10 ≤ n → n ≤ bits i → head_at (setups i) (setups i).queue (n * bit_quanta (setups i).segments + sample_at (setups i).segments) ≡ None
 
+-- A node has a frame left after its eleventh bit in the silence.
+abbrev pub HasFramesLeft : Line → (setups : ℕ → NodeSetup) → (first : ℕ → ℕ) → ℕ → Type 0
+HasFramesLeft l setups first i = 0 < length (unsent_of (setups i) (line_history l setups i (after_eleventh l setups first i)))
+
 -- Frames of two nodes differ in format, identifier or RTR bit, and a node with frames may send. After the silence some node has one left.
 pub record HaveFramesLeft (l : Line) (setups : ℕ → NodeSetup) (s : Stations) (first : ℕ → ℕ) : Type 0 where
   pub frames : AreSoundFrames s.count (λ i. queued_contents (setups i).queue)
   pub none : (i : ℕ) → s.count ≤ i → (setups i).queue ≡ []
   pub may : (i : ℕ) → i < s.count → 0 < length (setups i).queue → s.may_send i ≡ true
-  pub some : (i : ℕ) × (i < s.count) × (0 < length (unsent_of (setups i) (line_history l setups i (after_eleventh l setups first i))))
+  pub some : (i : ℕ) × (i < s.count) × HasFramesLeft l setups first i
 
 -- The line is clean since the silence. The fresh nodes power up in it, each at a quantum of the other one, and all frames of theirs get through. What these drive is what is on the line. From the eleventh sample on
 -- each node is where its fresh one puts it.

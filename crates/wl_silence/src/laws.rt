@@ -15,6 +15,8 @@ ghost use Rattle.wl_buses.specs.CleanLines.Lines.{line_history};
 ghost use Rattle.wl_bound.specs.Conditions.{IsSound};
 ghost use Rattle.wl_bound.specs.Families.{Bus, Buses};
 ghost use Rattle.wl_bound.specs.Rooms.{leaves_room, plain_bus};
+ghost use Rattle.wl_bound.specs.Verdicts.{verdict_of};
+ghost use Rattle.wl_bound.specs.declared.verdict.Verdict.TheVariants.{ForAny};
 ghost use Rattle.wl_wire.specs.InStep.{AreSoundFrames};
 ghost use Rattle.wl_buses.specs.BothProofs.Queues.{queued_contents};
 ghost use Rattle.wl_buses.specs.BothProofs.Plans.{IsOfFamily, IsSteadyPlan};
@@ -24,12 +26,12 @@ ghost use Rattle.wl_buses.specs.OneFrame.Nodes.{IsRun};
 ghost use Rattle.wl_buses.specs.OneFrame.Plans.{IsPlanOf};
 ghost use Rattle.wl_buses.specs.OneFrame.Stations.{AreStations, HaveRoom, Stations};
 ghost use Rattle.wl_buses.specs.FrameEnd.Again.{LeavesRoomToRest};
-ghost use Rattle.wl_buses.specs.FamilyPlans.FamilyStations.{NoneListens, stations_of};
+ghost use Rattle.wl_buses.specs.FamilyPlans.FamilyStations.{AreContents, NoneListens, SendAsFamily, stations_of};
 ghost use Rattle.wl_buses.specs.NextFrames.Frames.{HasRoomForAll};
 ghost use Rattle.wl_node.specs.declared.setup.NodeSetup.{NodeSetup};
 ghost use Rattle.wl_node.specs.History.{History};
 ghost use Rattle.wl_silence.specs.Restarts.{GoesOnAs, IsUnharmed, history_on, setup_since};
-ghost use Rattle.wl_silence.specs.Silences.{HaveFramesLeft, IsAsFresh, IsCleanSince, IsLineOfSince, IsSilentFor, IsSilentNode, WaitsForFrames, eleventh_of, after_eleventh, joins_at, silence_bits};
+ghost use Rattle.wl_silence.specs.Silences.{HasFramesLeft, HaveFramesLeft, IsAsFresh, IsCleanSince, IsLineOfSince, IsSilentFor, IsSilentNode, WaitsForFrames, eleventh_of, after_eleventh, joins_at, silence_bits};
 ghost use Rattle.wl_silence.specs.Shown.{ShowsClean};
 ghost use Rattle.wl_silence.specs.SilentPlans.{NoneDisturbsSince, undisturbed_plan};
 
@@ -96,7 +98,8 @@ pub fn what_a_clean_line_shows()
 {}
 
 /// Law: so it is with each plan on a bus that is proved for any senders, but with disturbances, and with power-ups at any time before the
-/// silence. Let all disturbances have passed. Wherever within its tolerance each clock lies, the bus is clean since such a silence.
+/// silence. Let all disturbances have passed. Wherever within its tolerance each clock lies, the bus is clean since such a silence. What `margin`
+/// tests of the plan without its disturbances is enough, if none of its nodes only listens.
 pub fn a_bus_is_clean_after_a_silence()
     ensures plan { (plan : Plan) (s : Stations) (bus : Bus) (from until : ℕ) (first chase : ℕ → ℕ) → IsPlanOf plan s
         → HasStations bus s → IsSound bus → HasRoomToAnswer bus chase → LeavesRoomToRest bus chase
@@ -109,12 +112,20 @@ pub fn a_bus_is_clean_after_a_silence()
         → NoneDisturbsSince plan from → IsSilentFor (line_of plan) (setup_at plan) from until first
         → HaveFramesLeft (line_of plan) (setup_at plan) (stations_of f plan clocks) first
         → IsCleanSince (line_of plan) (setup_at plan) (stations_of f plan clocks) from first }
+    ensures tested { (f : Buses) (plan : Plan) (clocks : ℕ → Steady) (from until i : ℕ) (first : ℕ → ℕ) → IsChecked plan
+        → IsSteadyPlan (undisturbed_plan plan) clocks → IsOfFamily f (undisturbed_plan plan) clocks → NoneListens plan
+        → AreContents plan → SendAsFamily f plan → verdict_of (undisturbed_plan plan) f ≡ ForAny → leaves_room f ≡ true
+        → NoneDisturbsSince plan from → IsSilentFor (line_of plan) (setup_at plan) from until first
+        → i < length plan.nodes → HasFramesLeft (line_of plan) (setup_at plan) first i
+        → IsCleanSince (line_of plan) (setup_at plan) (stations_of f plan clocks) from first }
 {
+    wl_bound::condition_laws();
     wl_plan::checked_is_sound();
     wl_buses::one_frame::laws::a_plan_is_on_a_line();
     wl_buses::one_frame::laws::a_sound_bus_has_room();
     wl_buses::family_plans::laws::a_family_leaves_room();
     wl_buses::family_plans::laws::a_plan_has_stations();
+    wl_buses::family_plans::laws::a_covered_plan_has_first_frames();
     wl_buses::next_frames::begun::a_bus_has_room_for_all();
     a_line_is_clean_after_a_silence();
 }
