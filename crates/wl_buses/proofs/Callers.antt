@@ -11,4 +11,9 @@ pub use Rattle.wl_buses.proofs.CleanPlans.Passed.{come_from, count_sent, left_is
 pub use Rattle.wl_buses.proofs.BothProofs.Heads.{head_early, head_late, head_none, unsent_first}
 pub use Rattle.wl_buses.proofs.BothProofs.Expecting.{LastQuantum, last_quantum, level_first, level_then, levels_same, seen_by_quanta}
 pub use Rattle.wl_buses.proofs.OneFrame.Nodes.{drive_by, frames_by, happened_by, inputs_by, seen_are, seen_before_same}
-pub use Rattle.wl_buses.proofs.FirstFrame.Silent.{counts_last, drive_last, drive_up_to, nothing_up_to, seen_length, steady_last, stretch_last}
+pub use Rattle.wl_buses.proofs.FirstFrame.Silent.{counts_last, drive_last, drive_up_to, nothing_up_to, quiet_after, seen_length, steady_last, still_at, stretch_last}
+pub use Rattle.wl_buses.proofs.BothProofs.Orders.{left_none}
+pub use Rattle.wl_buses.proofs.OneFrame.Lines.{run_of}
+pub use Rattle.wl_buses.proofs.OneSender.Covering.{is_empty}
+pub use Rattle.wl_buses.proofs.PassedFrames.Waiting.{idle_is}
+pub use Rattle.wl_buses.proofs.CleanPlans.Verdicts.{of_verdict}

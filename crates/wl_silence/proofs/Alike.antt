@@ -1,25 +1,22 @@
 -- A node goes on as one that powered up later, quantum by quantum, as long as this one finds no error.
-use Rattle.std.proofs.Common.{◌≡◌, ◌∙◌, ◌⊎◌, inl, inr, refl, sym, ap, subst, ℕ, zero, suc, ◌+◌, ◌-◌, ◌<◌, ◌≤◌, ◌||◌, cond, Bool, true, false, List, [], ◌∷◌, ◌++◌, length, Option, Some, None, arith, append-nil}
-use Rattle.std.specs.Prelude.{count_by, map, nat_le, nat_lt, take}
-use Rattle.std.proofs.lemmas.Bool.{cases_Bool, cases_lt, le-leb, lt-leb, leb-true, leb-false, le-ltb}
-use Rattle.std.proofs.lemmas.List.{map-append, length-append, append_assoc}
+use Rattle.std.proofs.Common.{◌≡◌, ◌∙◌, inl, inr, refl, sym, ap, subst, ℕ, suc, ◌+◌, ◌-◌, ◌<◌, ◌≤◌, ◌||◌, cond, Bool, true, false, List, [], ◌∷◌, ◌++◌, length, Option, Some, None, arith, append-nil}
+use Rattle.std.specs.Prelude.{count_by, map, nat_le, take}
+use Rattle.std.proofs.lemmas.Bool.{cases_lt, le-leb, lt-leb, le-ltb}
+use Rattle.std.proofs.lemmas.List.{map-append, append_assoc}
 use Rattle.std.proofs.lemmas.List.Sums.{fold-append}
 use Rattle.wl_level.specs.declared.Level.{Level}
 use Rattle.wl_level.specs.Levels.{is_dominant}
 use Rattle.wl_level.proofs.Callers.{length_more}
 use Rattle.wl_confine.specs.declared.Happened.{Happened}
 use Rattle.wl_confine.specs.declared.Happened.TheVariants as happens
-use Rattle.wl_confine.specs.declared.Mode.{Mode}
 use Rattle.wl_confine.specs.declared.Mode.TheVariants.{Active, Passive, Off}
 use Rattle.wl_confine.specs.Counts.{Counts, counts_after, counts_of, is_error, mode_of, no_counts}
-use Rattle.wl_segments.specs.Lengths.{Lengths}
 use Rattle.wl_sync.specs.declared.Beat.{Beat}
 use Rattle.wl_sync.specs.declared.Beat.TheVariants as beats
 use Rattle.wl_sync.specs.declared.Seen.{Seen}
 use Rattle.wl_sync.specs.Bits.{beat_of}
 use Rattle.wl_sync.specs.Running.{clock_after}
 use Rattle.wl_sync.specs.Steps.{running_after, running_beat, running_edge}
-use Rattle.wl_frame.specs.Grammar.{Content}
 use Rattle.wl_machine.specs.Stretch.{Ended, Judgement, Sampled, Sort, Stretch}
 use Rattle.wl_machine.specs.Stretch.Ended.{NoFrame, Received, Sent}
 use Rattle.wl_machine.specs.Stretch.Sort.{Idle}
@@ -28,40 +25,40 @@ use Rattle.wl_machine.specs.Judged.{awaits_by, awaits_start, drive_by, drive_of,
 use Rattle.wl_machine.specs.BetweenFrames.{idle}
 use Rattle.wl_machine.proofs.Callers.{stretch_next}
 use Rattle.wl_node.specs.declared.setup.NodeSetup.{NodeSetup}
-use Rattle.wl_node.specs.declared.setup.Passed.{Passed}
 use Rattle.wl_node.specs.History.{History, by_beat, counters_of, error_count, handed, history_after, is_integration, passed_frames, sampled_next, seen_next, switched_off}
 use Rattle.wl_node.proofs.Callers.{count_append}
-use Rattle.wl_silence.specs.Restarts.{DoNotRise, GoesOnAs, IsAlike, IsUnharmed, history_on, passed_since, setup_since}
+use Rattle.wl_phase.proofs.Callers.{Goes}
+use Rattle.wl_silence.specs.Restarts.{DoNotRise, GoesOnAs, GoAlike, IsUnharmed, history_on, passed_since, setup_since}
 use Rattle.wl_silence.proofs.Queues.{head_is}
 
 -- machines that go on alike look alike from outside
-by_sort : {A : Type 0} (f : Sort → List Level → A) (a : A) → ((own : List Level) → f Idle own ≡ a) → (x y : Stretch) → IsAlike x y → f x.sort x.own ≡ f y.sort y.own
+by_sort : {A : Type 0} (f : Sort → List Level → A) (a : A) → ((own : List Level) → f Idle own ≡ a) → (x y : Stretch) → GoAlike x y → f x.sort x.own ≡ f y.sort y.own
 by_sort f a at x y (inl e) = ap (λ s. f s.sort s.own) e
 by_sort f a at x y (inr (i, j)) = ap (λ s. f s x.own) i ∙ at x.own ∙ sym (at y.own) ∙ ap (λ s. f s y.own) (sym j)
 
-idle_same : (x y : Stretch) → IsAlike x y → is_idle_sort x.sort ≡ is_idle_sort y.sort
+idle_same : (x y : Stretch) → GoAlike x y → is_idle_sort x.sort ≡ is_idle_sort y.sort
 idle_same x y a = by_sort (λ s own. is_idle_sort s) true (λ own. refl) x y a
 
-awaits_same : (x y : Stretch) → IsAlike x y → awaits_start x ≡ awaits_start y
+awaits_same : (x y : Stretch) → GoAlike x y → awaits_start x ≡ awaits_start y
 awaits_same x y a = by_sort awaits_by true (λ own. refl) x y a
 
-integrates_same : (x y : Stretch) → IsAlike x y → is_integration x.sort ≡ is_integration y.sort
+integrates_same : (x y : Stretch) → GoAlike x y → is_integration x.sort ≡ is_integration y.sort
 integrates_same x y a = by_sort (λ s own. is_integration s) false (λ own. refl) x y a
 
-drive_same : (x y : Stretch) → IsAlike x y → drive_of x ≡ drive_of y
+drive_same : (x y : Stretch) → GoAlike x y → drive_of x ≡ drive_of y
 drive_same x y a = by_sort drive_by (drive_by Idle []) (λ own. refl) x y a
 
-judged_same : (x y : Stretch) (v : Sampled) → IsAlike x y → judged x v ≡ judged y v
+judged_same : (x y : Stretch) (v : Sampled) → GoAlike x y → judged x v ≡ judged y v
 judged_same x y v a = by_sort (λ s own. judged_by s own v) (idle v) (λ own. refl) x y a
 
-next_alike : (o : Option Stretch) (x y : Stretch) → x.sort ≡ Idle → y.sort ≡ Idle → IsAlike (or_next o x) (or_next o y)
+next_alike : (o : Option Stretch) (x y : Stretch) → x.sort ≡ Idle → y.sort ≡ Idle → GoAlike (or_next o x) (or_next o y)
 next_alike None x y i j = inr (i, j)
 next_alike (Some n) x y i j = inl refl
 
-alike_next : (x y : Stretch) (v : Sampled) → IsAlike x y → IsAlike (stretch_after x (Sample v)) (stretch_after y (Sample v))
+alike_next : (x y : Stretch) (v : Sampled) → GoAlike x y → GoAlike (stretch_after x (Sample v)) (stretch_after y (Sample v))
 alike_next x y v (inl e) = inl (ap (λ s. stretch_after s (Sample v)) e)
 alike_next x y v (inr (i, j)) =
-    subst (λ o. IsAlike (or_next o (record { sort = x.sort; own = x.own ++ v.level ∷ [] })) (stretch_after y (Sample v))) (sym (ap (λ g. g.next) (judged_same x y v (inr (i, j)))))
+    subst (λ o. GoAlike (or_next o (record { sort = x.sort; own = x.own ++ v.level ∷ [] })) (stretch_after y (Sample v))) (sym (ap (λ g. g.next) (judged_same x y v (inr (i, j)))))
     (next_alike (judged y v).next (record { sort = x.sort; own = x.own ++ v.level ∷ [] }) (record { sort = y.sort; own = y.own ++ v.level ∷ [] }) i j)
 
 -- what happens to a node that finds no error, and whose counters stay 0
@@ -121,17 +118,12 @@ calm_after c happens.PassiveAck low calm = (let e = ap (λ n. n.tec) calm.counts
 calm_after c happens.TxFlagBit low calm = (let e = ap (λ n. n.tec) calm.counts in absurd (omega arith))
 calm_after c happens.TxLong low calm = (let e = ap (λ n. n.tec) calm.counts in absurd (omega arith))
 
--- the laws of a bit clock that this rests on
-pub record ClockGoesOn : Type 0 where
-  pub clock : (l : Lengths) (past : List Seen) (x : Seen) → clock_after l (past ++ x ∷ []) ≡ running_after (clock_after l past) x
-  pub beat : (l : Lengths) (past : List Seen) (x : Seen) → beat_of l past x ≡ running_beat (running_edge (clock_after l past)) x
-
 passed_later : (p n : ℕ) (e : Ended) → passed_frames (p + n) e ≡ map (passed_since p) (passed_frames n e)
 passed_later p n NoFrame = refl
 passed_later p n (Sent frame) = refl
 passed_later p n (Received frame) = refl
 
-module _ (goes : ClockGoesOn) (setup : NodeSetup) (p : ℕ) (before : History) (fresh now : History) (on : GoesOnAs setup p before fresh now) (clean : IsUnharmed fresh) (v : Level) where
+module _ (goes : Goes) (setup : NodeSetup) (p : ℕ) (before : History) (fresh now : History) (on : GoesOnAs setup p before fresh now) (clean : IsUnharmed fresh) (v : Level) where
   abbrev setup' : NodeSetup
   setup' = setup_since setup p before
 
@@ -241,11 +233,11 @@ module _ (goes : ClockGoesOn) (setup : NodeSetup) (p : ℕ) (before : History) (
     stretch_fresh =
         ap stretch_of (ap (λ l. (fresh.inputs ++ Sample given' ∷ []) ++ l) none_off' ∙ append-nil (fresh.inputs ++ Sample given' ∷ [])) ∙ stretch_next fresh.inputs (Sample given')
 
-    machine_then : IsAlike (stretch_of ((now.inputs ++ Sample given ∷ []) ++ switched_off given.mode (mode_of (counts_of (now.happened ++ judgement.happened ∷ [])))))
+    machine_then : GoAlike (stretch_of ((now.inputs ++ Sample given ∷ []) ++ switched_off given.mode (mode_of (counts_of (now.happened ++ judgement.happened ∷ [])))))
         (stretch_of ((fresh.inputs ++ Sample given' ∷ []) ++ switched_off given'.mode (mode_of (counts_of (fresh.happened ++ judgement'.happened ∷ [])))))
     machine_then =
-        subst (λ s. IsAlike s (stretch_of ((fresh.inputs ++ Sample given' ∷ []) ++ switched_off given'.mode (mode_of (counts_of (fresh.happened ++ judgement'.happened ∷ [])))))) (sym stretch_now)
-        (subst (IsAlike (stretch_after (stretch_of now.inputs) (Sample given'))) (sym stretch_fresh) (alike_next (stretch_of now.inputs) (stretch_of fresh.inputs) given' on.machine))
+        subst (λ s. GoAlike s (stretch_of ((fresh.inputs ++ Sample given' ∷ []) ++ switched_off given'.mode (mode_of (counts_of (fresh.happened ++ judgement'.happened ∷ [])))))) (sym stretch_now)
+        (subst (GoAlike (stretch_after (stretch_of now.inputs) (Sample given'))) (sym stretch_fresh) (alike_next (stretch_of now.inputs) (stretch_of fresh.inputs) given' on.machine))
 
     frames_then : now.frames ++ passed_frames (length now.seen) judgement.ended ≡ before.frames ++ map (passed_since p) (fresh.frames ++ passed_frames (length fresh.seen) judgement'.ended)
     frames_then =
@@ -260,7 +252,7 @@ module _ (goes : ClockGoesOn) (setup : NodeSetup) (p : ℕ) (before : History) (
 
   -- a quantum by its beat
   by_same : (b : Beat) → IsUnharmed (by_beat setup' fresh v b) → let n : History = by_beat setup now v b in let f : History = by_beat setup' fresh v b in
-      IsAlike (stretch_of n.inputs) (stretch_of f.inputs) × (n.drive ≡ f.drive) × (n.frames ≡ before.frames ++ map (passed_since p) f.frames) × (error_count n ≡ error_count before)
+      GoAlike (stretch_of n.inputs) (stretch_of f.inputs) × (n.drive ≡ f.drive) × (n.frames ≡ before.frames ++ map (passed_since p) f.frames) × (error_count n ≡ error_count before)
       × DoNotRise (counters_of before) (counters_of n)
   by_same beats.Plain ok = (on.machine, on.drive, on.frames, on.errors, on.counters)
   by_same beats.Start ok = (on.machine, drive_same (stretch_of now.inputs) (stretch_of fresh.inputs) on.machine, on.frames, on.errors, on.counters)
@@ -274,7 +266,7 @@ module _ (goes : ClockGoesOn) (setup : NodeSetup) (p : ℕ) (before : History) (
       record {
         quanta = longer_same;
         clock = clock_next;
-        machine = subst (λ c. IsAlike (stretch_of (by_beat setup now v c).inputs) (stretch_of (by_beat setup' fresh v b).inputs)) (sym beat_same) r.0;
+        machine = subst (λ c. GoAlike (stretch_of (by_beat setup now v c).inputs) (stretch_of (by_beat setup' fresh v b).inputs)) (sym beat_same) r.0;
         drive = ap (λ c. (by_beat setup now v c).drive) beat_same ∙ r.1;
         frames = ap (λ c. (by_beat setup now v c).frames) beat_same ∙ r.2;
         errors = ap (λ c. error_count (by_beat setup now v c)) beat_same ∙ r.3;
@@ -282,7 +274,7 @@ module _ (goes : ClockGoesOn) (setup : NodeSetup) (p : ℕ) (before : History) (
       }
 
 -- and quantum after quantum
-pub goes_on : (goes : ClockGoesOn) (setup : NodeSetup) (p : ℕ) (before fresh now : History) (levels : List Level) → GoesOnAs setup p before fresh now
+pub goes_on : (goes : Goes) (setup : NodeSetup) (p : ℕ) (before fresh now : History) (levels : List Level) → GoesOnAs setup p before fresh now
     → ((k : ℕ) → IsUnharmed (history_on (setup_since setup p before) fresh (take k levels)))
     → GoesOnAs setup p before (history_on (setup_since setup p before) fresh levels) (history_on setup now levels)
 goes_on goes setup p before fresh now [] on clean = on

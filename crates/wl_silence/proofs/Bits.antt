@@ -1,24 +1,19 @@
 -- A node on a line that falls silent, whatever it did before: where its bits lie, what it samples, and that it wants nothing.
-use Rattle.std.proofs.Common.{◌≡◌, ◌≢◌, ◌∙◌, ◌⊎◌, inl, inr, refl, sym, ap, subst, ℕ, zero, suc, ◌+◌, ◌-◌, ◌*◌, ◌<◌, ◌≤◌, cond, Bool, true, false, List, [], ◌∷◌, ◌++◌, length, Option, Some, None, arith, append-nil}
-use Rattle.std.specs.Prelude.{◌==◌, nat_le, nat_lt}
+use Rattle.std.proofs.Common.{◌≡◌, ◌≢◌, ◌∙◌, inl, inr, refl, sym, ap, subst, ℕ, zero, suc, ◌+◌, ◌-◌, ◌*◌, ◌<◌, ◌≤◌, cond, List, [], ◌∷◌, ◌++◌, length, Some, None, arith, append-nil}
+use Rattle.std.specs.Prelude.{nat_le, nat_lt}
 use Rattle.std.proofs.lemmas.Bool.{and_from, cases_eq, cases_lt, le-leb, lt-ltb, ne_eqb}
 use Rattle.wl_level.specs.declared.Level.{Level}
-use Rattle.wl_level.specs.declared.Level.TheVariants.{Dominant, Recessive}
-use Rattle.wl_confine.specs.declared.Happened.{Happened}
+use Rattle.wl_level.specs.declared.Level.TheVariants.{Recessive}
 use Rattle.wl_confine.specs.declared.Mode.TheVariants.{Active}
 use Rattle.wl_confine.specs.Counts.{counts_of, mode_of}
 use Rattle.wl_segments.specs.Lengths.{Lengths, bit_quanta, sample_at}
-use Rattle.wl_sync.specs.declared.Beat.{Beat}
 use Rattle.wl_sync.specs.declared.Beat.TheVariants as beats
 use Rattle.wl_sync.specs.declared.Seen.{Seen}
 use Rattle.wl_sync.specs.Bits.{beat_of, sync_of}
 use Rattle.wl_sync.specs.Running.{Running, clock_after}
 use Rattle.wl_sync.specs.SampleLaws.{SampleLaws, quanta_to_sample}
 use Rattle.wl_sync.specs.Skips.{moved_place, steady_clock}
-use Rattle.wl_sync.specs.Steps.{end_of}
-use Rattle.wl_frame.specs.Grammar.{Content}
-use Rattle.wl_machine.specs.Stretch.{Input, Sampled, Stretch}
-use Rattle.wl_machine.specs.Stretch.Sort.{Idle}
+use Rattle.wl_machine.specs.Stretch.{Sampled, Stretch}
 use Rattle.wl_machine.specs.Stretch.Input.{Sample}
 use Rattle.wl_machine.specs.Judged.{drive_of, judged, stretch_after, stretch_of}
 use Rattle.wl_machine.proofs.Callers.{stretch_next}
@@ -26,11 +21,11 @@ use Rattle.wl_node.specs.declared.setup.NodeSetup.{NodeSetup}
 use Rattle.wl_node.specs.History.{History, sampled_next, switched_off}
 use Rattle.wl_phase.specs.InStep.{seen_before}
 use Rattle.wl_phase.specs.Ways.{ByTheBook, WayLaws, sample_way, way_after}
-use Rattle.wl_phase.proofs.Callers.{Goes, IsValid, valid_at, way_before, way_past}
-use Rattle.wl_heal.specs.Silence.{IsSilence, is_off, stretch_on}
+use Rattle.wl_phase.proofs.Callers.{Goes, valid_at, way_before, way_past}
+use Rattle.wl_heal.specs.Silence.{IsSilence, stretch_on}
 use Rattle.wl_buses.specs.OneFrame.Clocked.{BitIs, EdgeLaws, NoEdgeLaws, SamplesBy}
 use Rattle.wl_buses.specs.OneFrame.Nodes.{IsRun, clock_sees}
-use Rattle.wl_buses.proofs.Callers.{drive_by as driven_by, frames_by, happened_by, inputs_by, seen_are}
+use Rattle.wl_buses.proofs.Callers.{drive_by as driven_by, frames_by, happened_by, inputs_by}
 
 -- the laws of a bit clock that this rests on
 pub record SilentClock : Type 0 where

@@ -7,3 +7,5 @@ mod Lines
 mod PoweredUp
 mod Through
 mod Shows
+mod AtFirst
+mod Rows

@@ -1,49 +1,35 @@
 -- A line after a silence, node by node.
-use Rattle.std.proofs.Common.{◌≡◌, ◌≢◌, ◌∙◌, ◌⊎◌, inl, inr, refl, sym, ap, subst, ℕ, zero, suc, ◌+◌, ◌-◌, ◌*◌, ◌<◌, ◌≤◌, ◌||◌, cond, Bool, true, false, List, [], ◌∷◌, ◌++◌, length, Option, Some, None, arith, append-nil}
-use Rattle.std.specs.Prelude.{map, nat_le, nat_lt, slice_get}
-use Rattle.std.proofs.lemmas.Bool.{cases_Bool, cases_eq, cases_lt, le-leb, lt-leb, lt-ltb, ltb-true}
+use Rattle.std.proofs.Common.{◌≡◌, ◌∙◌, inl, inr, sym, ap, subst, ℕ, suc, ◌+◌, ◌-◌, ◌*◌, ◌<◌, ◌≤◌, ◌||◌, cond, false, List, None, arith}
+use Rattle.std.specs.Prelude.{nat_le}
+use Rattle.std.proofs.lemmas.Bool.{cases_Bool, cases_lt, le-leb, lt-leb}
 use Rattle.wl_level.specs.declared.Level.{Level}
-use Rattle.wl_level.specs.declared.Level.TheVariants.{Dominant, Recessive}
-use Rattle.wl_level.specs.Levels.{is_dominant, level_of}
+use Rattle.wl_level.specs.declared.Level.TheVariants.{Recessive}
+use Rattle.wl_level.specs.Levels.{level_of}
 use Rattle.wl_level.proofs.Callers.{recessive_from}
 use Rattle.wl_confine.specs.declared.Mode.TheVariants.{Active}
 use Rattle.wl_confine.specs.Counts.{counts_of, mode_of}
 use Rattle.wl_segments.specs.Lengths.{bit_quanta, sample_at}
-use Rattle.wl_sync.specs.declared.Seen.{Seen}
 use Rattle.wl_topology.specs.Driven.{DrivenLaws, driven}
-use Rattle.wl_frame.specs.Grammar.{Content}
 use Rattle.wl_machine.specs.Judged.{stretch_of}
 use Rattle.wl_node.specs.declared.setup.NodeSetup.{NodeSetup}
 use Rattle.wl_node.specs.declared.setup.Queued.{Queued}
-use Rattle.wl_node.specs.History.{History, counters_of, error_count, staying_history, unsent_of}
+use Rattle.wl_node.specs.History.{History, counters_of, staying_history, unsent_of}
 use Rattle.wl_node.specs.Queues.{head_by}
-use Rattle.wl_node.proofs.Callers.{history_first, history_next}
-use Rattle.wl_phase.specs.Clocks.{steady_tick}
-use Rattle.wl_phase.specs.InStep.{seen_before}
 use Rattle.wl_phase.specs.Ways.{ByTheBook, sample_way}
-use Rattle.wl_phase.proofs.Callers.{tick_from}
-use Rattle.wl_plan.specs.Line.{Line, found}
-use Rattle.wl_plan.specs.Simulation.{AreInside, level, seen}
+use Rattle.wl_plan.specs.Line.{Line}
+use Rattle.wl_plan.specs.Simulation.{level}
 use Rattle.wl_plan.specs.SimulationLaws.{SimulationLaws}
-use Rattle.wl_plan.specs.Sound.{IsCausal}
 use Rattle.wl_heal.specs.Silence.{is_off}
 use Rattle.wl_buses.specs.BothProofs.Expected.{levels_found}
 use Rattle.wl_buses.specs.BothProofs.Levels.{levels_before}
-use Rattle.wl_buses.specs.BothProofs.Queues.{head_at, queued_contents}
 use Rattle.wl_buses.specs.OneFrame.Lines.{node_after}
 use Rattle.wl_buses.specs.OneFrame.Nodes.{IsRun, clock_sees}
 use Rattle.wl_buses.specs.OneFrame.Stations.{AreStations, Stations}
 use Rattle.wl_buses.specs.CleanLines.Lines.{line_history}
-use Rattle.wl_buses.proofs.Callers.{LastQuantum, last_quantum, level_first, level_then, levels_same, seen_before_same, seen_by_quanta}
-use Rattle.wl_silence.specs.Restarts.{GoesOnAs, IsUnharmed, setup_since}
-use Rattle.wl_silence.specs.Silences.{IsAsFresh, IsLineOfSince, IsSilentFor, IsSilentNode, eleventh_of, fresh_line, fresh_setups, joined, joins, joins_at, silence_bits}
-use Rattle.wl_silence.proofs.Alike.{ClockGoesOn, goes_on_once}
+use Rattle.wl_buses.proofs.Callers.{level_then, levels_same, run_of, seen_before_same, seen_by_quanta}
+use Rattle.wl_silence.specs.Silences.{IsAsFresh, IsLineOfSince, IsSilentFor, eleventh_of, joins, joins_at}
 use Rattle.wl_silence.proofs.Bits.{SilentClock}
 use Rattle.wl_silence.proofs.Rested.{LeavesIdle, rested_fresh, rested_high, rested_low, rested_none, rested_unready}
-
--- a node over levels by number is a run
-pub run_of : (setup : NodeSetup) (levels : ℕ → Level) → IsRun setup levels (node_after setup levels)
-run_of setup levels = record { first = history_first setup; next = λ q. history_next setup (levels_before levels q) (levels q) }
 
 -- a node is where the same levels put it
 pub node_same : (setup : NodeSetup) (a b : ℕ → Level) (q : ℕ) → ((j : ℕ) → j < q → a j ≡ b j) → node_after setup a q ≡ node_after setup b q

@@ -1,7 +1,7 @@
 -- Stations whose clocks are looked at from later quanta on are as near to each other, and have as much room.
 use Rattle.std.proofs.Common.{ℕ}
-use Rattle.wl_buses.specs.OneFrame.Acknowledged.{answering, chased_way, most_overrun}
-use Rattle.wl_buses.specs.OneFrame.Stations.{AreStations, HaveRoom, HaveRoomToSample, Stations}
+use Rattle.wl_buses.specs.OneFrame.Acknowledged.{most_overrun}
+use Rattle.wl_buses.specs.OneFrame.Stations.{AreStations, HaveRoom, Stations}
 use Rattle.wl_buses.specs.NextFrames.Frames.{HasRoomForAll}
 use Rattle.wl_silence.specs.Restarts.{stations_since}
 

@@ -1,19 +1,15 @@
 -- The nodes that power up in a silence wait for a first frame.
-use Rattle.std.proofs.Common.{◌≡◌, ◌≢◌, ◌∙◌, ◌⊎◌, inl, inr, refl, sym, ap, subst, ℕ, zero, suc, ◌+◌, ◌-◌, ◌*◌, ◌<◌, ◌≤◌, cond, Bool, true, false, List, [], ◌∷◌, ◌++◌, length, Option, Some, None, arith, append-nil}
-use Rattle.std.specs.Prelude.{drop, fold, map, nat_lt, slice_get}
+use Rattle.std.proofs.Common.{◌≡◌, ◌≢◌, ◌∙◌, inl, inr, refl, sym, ap, subst, ℕ, suc, ◌+◌, ◌-◌, ◌*◌, ◌<◌, ◌≤◌, true, false, List, [], ◌∷◌, ◌++◌, length, Some, None, arith, append-nil}
+use Rattle.std.specs.Prelude.{map, nat_lt, slice_get}
 use Rattle.std.proofs.lemmas.Bool.{cases_eq, cases_lt, lt-ltb}
 use Rattle.std.proofs.lemmas.List.{length-map}
-use Rattle.wl_level.specs.declared.Level.{Level}
 use Rattle.wl_level.specs.Levels.{is_dominant}
 use Rattle.wl_segments.specs.Lengths.{bit_quanta, sample_at}
 use Rattle.wl_frame.specs.Grammar.{Content}
 use Rattle.wl_node.specs.declared.setup.NodeSetup.{NodeSetup}
-use Rattle.wl_node.specs.declared.setup.Passed.{Passed}
 use Rattle.wl_node.specs.declared.setup.Queued.{Queued}
-use Rattle.wl_node.specs.declared.setup.QueueOrder.{QueueOrder}
-use Rattle.wl_node.specs.declared.setup.QueueOrder.TheVariants.{Fifo, Priority}
-use Rattle.wl_node.specs.History.{History, staying_history, unsent_of}
-use Rattle.wl_node.specs.Queues.{head_by, queue_after, unsent_by}
+use Rattle.wl_node.specs.History.{staying_history, unsent_of}
+use Rattle.wl_node.specs.Queues.{head_by, unsent_by}
 use Rattle.wl_node.proofs.Callers.{history_first}
 use Rattle.wl_phase.specs.Clocks.{steady_tick}
 use Rattle.wl_phase.proofs.Callers.{tick_from}
@@ -25,32 +21,12 @@ use Rattle.wl_buses.specs.OneFrame.Lines.{IsLineOf}
 use Rattle.wl_buses.specs.OneFrame.Stations.{AreStations, Stations}
 use Rattle.wl_buses.specs.FirstFrame.FirstStarts.{AreIdle, Waiting, due_first, eleventh, has_first}
 use Rattle.wl_buses.specs.CleanLines.Lines.{IsPoweredUp, line_history, waiting_with}
-use Rattle.wl_buses.proofs.Callers.{decided_after, hands, has_is, head_late, none_first, unsent_in, whole_begins}
+use Rattle.wl_buses.proofs.Callers.{decided_after, hands, has_is, head_late, is_empty, left_none, none_first, unsent_in, whole_begins}
 use Rattle.wl_silence.specs.Restarts.{ready_since}
-use Rattle.wl_silence.specs.Silences.{HaveFramesLeft, IsLineOfSince, IsSilentFor, eleventh_of, fresh_line, fresh_setups, fresh_stations, joined, joins}
+use Rattle.wl_silence.specs.Silences.{HaveFramesLeft, IsLineOfSince, IsSilentFor, eleventh_of, fresh_line, fresh_setups, fresh_stations, after_eleventh, joins}
 use Rattle.wl_silence.proofs.Queues.{head_since}
 use Rattle.wl_silence.proofs.Lines as lines
 use Rattle.wl_silence.proofs.Lines.{SilentLaws, history_is}
-
-nil_of : {A : Type 0} (xs : List A) → length xs ≤ 0 → xs ≡ []
-nil_of [] less = refl
-nil_of (x ∷ xs) less = absurd (omega (arith, less))
-
-drop_none : {A : Type 0} (n : ℕ) → ◌≡◌ {A = List A} (drop n []) []
-drop_none zero = refl
-drop_none (suc n) = refl
-
-none_left : (frames : List Passed) → fold queue_after [] frames ≡ []
-none_left [] = refl
-none_left (p ∷ more) = ap (λ q. fold queue_after q more) (by p.sent) ∙ none_left more
-  where
-    by : (b : Bool) → ◌≡◌ {A = List Queued} (cond b [] []) []
-    by true = refl
-    by false = refl
-
-unsent_none : (order : QueueOrder) (frames : List Passed) → unsent_by order [] frames ≡ []
-unsent_none Fifo frames = drop_none _
-unsent_none Priority frames = none_left frames
 
 pub contents_since : (p : ℕ) (q : List Queued) → queued_contents (map (ready_since p) q) ≡ queued_contents q
 contents_since p [] = refl
@@ -80,7 +56,7 @@ module _ (laws : SilentLaws) (l : Line) (setups : ℕ → NodeSetup) (s : Statio
   causal = record {
     delays = of.causal.delays;
     clocks = λ i k inside. subst (λ n. l.instant i (at i + k) < l.instant i n) (let e : suc (at i + k) ≡ at i + suc k = omega arith in e) (of.causal.clocks i (at i + k) inside);
-    quiet_stays = λ i levels more inside few. ap (λ m. is_dominant (staying_history (R i) (levels ++ m)).drive) (nil_of more few) ∙ ap (λ m. is_dominant (staying_history (R i) m).drive) (append-nil levels);
+    quiet_stays = λ i levels more inside few. ap (λ m. is_dominant (staying_history (R i) (levels ++ m)).drive) (is_empty more few) ∙ ap (λ m. is_dominant (staying_history (R i) m).drive) (append-nil levels);
     begins = λ i inside. ap (λ h. is_dominant h.drive) (history_first (R i));
   }
 
@@ -107,7 +83,7 @@ module _ (laws : SilentLaws) (l : Line) (setups : ℕ → NodeSetup) (s : Statio
   has_none : (i : ℕ) → (setups i).queue ≡ [] → has_first w i ≡ false
   has_none i e =
       none_first R (λ i. queued_contents (R i).queue) s' lengths some_bit (λ i. whole_begins (R i)) i
-      (ap (map (ready_since (at i))) (ap (λ q. unsent_by (setups i).order q (line_history l setups i (joined l setups first i)).frames) e ∙ unsent_none (setups i).order (line_history l setups i (joined l setups first i)).frames))
+      (ap (map (ready_since (at i))) (ap (λ q. unsent_by (setups i).order q (line_history l setups i (after_eleventh l setups first i)).frames) e ∙ left_none (setups i).order (line_history l setups i (after_eleventh l setups first i)).frames))
 
   inside_is : (i : ℕ) → has_first w i ≡ true → i < s'.count
   inside_is i e = elim (cases_lt i s.count) [
@@ -118,13 +94,13 @@ module _ (laws : SilentLaws) (l : Line) (setups : ℕ → NodeSetup) (s : Statio
   may : (i : ℕ) → has_first w i ≡ true → s'.may_send i ≡ true
   may i e = elim (cases_lt 0 (length (setups i).queue)) [
     | inl some ↦ left.may i (inside_is i e) some
-    | inr none ↦ (let f = has_none i (nil_of (setups i).queue none) in cc)
+    | inr none ↦ (let f = has_none i (is_empty (setups i).queue none) in cc)
   ]
 
   own : (k : ℕ) (c : Content) → Has w.frames k c → Has (λ i. queued_contents (setups i).queue) k c
   own k c (n, e) =
-      unsent_in (setups k) (line_history l setups k (joined l setups first k)).frames n c
-      (ap (λ f. slice_get f n) (sym (contents_since (at k) (unsent_of (setups k) (line_history l setups k (joined l setups first k))))) ∙ e)
+      unsent_in (setups k) (line_history l setups k (after_eleventh l setups first k)).frames n c
+      (ap (λ f. slice_get f n) (sym (contents_since (at k) (unsent_of (setups k) (line_history l setups k (after_eleventh l setups first k))))) ∙ e)
 
   -- a node of these decides no earlier than at the end of the silence
   module _ (k : ℕ) (inside : k < l.nodes) (counted : k < s'.count) (has : has_first w k ≡ true) where
@@ -143,19 +119,19 @@ module _ (laws : SilentLaws) (l : Line) (setups : ℕ → NodeSetup) (s : Statio
     abbrev unsent : List Queued
     unsent = lines.unsent laws l setups s from until first of is are k inside
 
-    queue_is : unsent_of setup (line_history l setups k (joined l setups first k)) ≡ unsent
-    queue_is = ap (unsent_of setup) (history_is l setups k (joined l setups first k))
+    queue_is : unsent_of setup (line_history l setups k (after_eleventh l setups first k)) ≡ unsent
+    queue_is = ap (unsent_of setup) (history_is l setups k (after_eleventh l setups first k))
 
     some_left : 0 < length (R k).queue
     some_left = elim (cases_lt 0 (length (R k).queue)) [
       | inl some ↦ some
-      | inr none ↦ (let e = ap (λ q. nat_lt 0 (length q)) (nil_of (R k).queue none) in let f = has_is' k counted in cc)
+      | inr none ↦ (let e = ap (λ q. nat_lt 0 (length q)) (is_empty (R k).queue none) in let f = has_is' k counted in cc)
     ]
 
     handed_some : (c : Content) × (head_by setup.order unsent (at k + (d * B + S)) ≡ Some c)
     handed_some =
         let x = head_late (R k) (R k).queue (d * B + S) some_left (decided_after setup.segments (wakes_at (R k) (R k).queue) (some_bit k counted)) in
-        (x.frame, ap (λ u. head_by setup.order u (at k + (d * B + S))) (sym queue_is) ∙ sym (head_since (at k) setup.order (unsent_of setup (line_history l setups k (joined l setups first k))) (d * B + S)) ∙ x.is)
+        (x.frame, ap (λ u. head_by setup.order u (at k + (d * B + S))) (sym queue_is) ∙ sym (head_since (at k) setup.order (unsent_of setup (line_history l setups k (after_eleventh l setups first k))) (d * B + S)) ∙ x.is)
 
     not_none : head_by setup.order unsent (at k + (d * B + S)) ≡ None → ⊥
     not_none e = let f = handed_some.1 in cc
@@ -205,7 +181,7 @@ module _ (laws : SilentLaws) (l : Line) (setups : ℕ → NodeSetup) (s : Statio
     some = (
       left.some.0,
       has_is' left.some.0 left.some.1
-          ∙ lt-ltb 0 (length (R left.some.0).queue) (let h = left.some.2 in let e = length-map (unsent_of (setups left.some.0) (line_history l setups left.some.0 (joined l setups first left.some.0))) (ready_since (at left.some.0)) in omega arith),
+          ∙ lt-ltb 0 (length (R left.some.0).queue) (let h = left.some.2 in let e = length-map (unsent_of (setups left.some.0) (line_history l setups left.some.0 (after_eleventh l setups first left.some.0))) (ready_since (at left.some.0)) in omega arith),
     );
     later = λ i. omega arith;
     idle = idle_before;

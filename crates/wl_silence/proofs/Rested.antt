@@ -1,26 +1,23 @@
 -- A node that has rested in a silence, and one that powers up in it with the frames that it hasn't sent.
-use Rattle.std.proofs.Common.{◌≡◌, ◌∙◌, ◌⊎◌, inl, inr, refl, sym, ap, subst, ℕ, zero, suc, ◌+◌, ◌-◌, ◌*◌, ◌<◌, ◌≤◌, cond, Bool, true, false, List, [], ◌∷◌, ◌++◌, length, replicate, Option, Some, None, arith, append-nil}
+use Rattle.std.proofs.Common.{◌≡◌, ◌∙◌, inr, refl, sym, ap, subst, ℕ, zero, suc, ◌+◌, ◌-◌, ◌*◌, ◌<◌, ◌≤◌, false, List, [], ◌∷◌, ◌++◌, length, Option, Some, None, arith, append-nil}
 use Rattle.std.specs.Prelude.{map}
 use Rattle.wl_level.specs.declared.Level.{Level}
-use Rattle.wl_level.specs.declared.Level.TheVariants.{Dominant, Recessive}
-use Rattle.wl_level.specs.Levels.{is_dominant}
-use Rattle.wl_confine.specs.declared.Happened.TheVariants as happens
+use Rattle.wl_level.specs.declared.Level.TheVariants.{Recessive}
 use Rattle.wl_confine.specs.declared.Mode.TheVariants.{Active}
-use Rattle.wl_confine.specs.Counts.{counts_of, mode_of, no_counts}
+use Rattle.wl_confine.specs.Counts.{counts_of, mode_of}
 use Rattle.wl_segments.specs.Lengths.{Lengths, bit_quanta, sample_at}
 use Rattle.wl_sync.specs.declared.Beat.TheVariants as beats
 use Rattle.wl_sync.specs.Running.{clock_after}
 use Rattle.wl_sync.specs.Skips.{steady_clock}
 use Rattle.wl_frame.specs.Grammar.{Content}
-use Rattle.wl_machine.specs.Stretch.{Judgement, Sampled, Stretch, begins, continues}
+use Rattle.wl_machine.specs.Stretch.{Sampled, Stretch}
 use Rattle.wl_machine.specs.Stretch.Ended.{NoFrame}
 use Rattle.wl_machine.specs.Stretch.Sort.{Framing, Idle}
 use Rattle.wl_machine.specs.Stretch.Input.{Sample}
 use Rattle.wl_machine.specs.BetweenFrames.{idle_on}
-use Rattle.wl_machine.specs.Judged.{drive_by, drive_of, judged, judged_by, or_next, stretch_after, stretch_of}
-use Rattle.wl_machine.specs.States.{sample_of, stretch_by}
+use Rattle.wl_machine.specs.Judged.{drive_by, drive_of, judged, or_next, stretch_after, stretch_of}
 use Rattle.wl_node.specs.declared.setup.NodeSetup.{NodeSetup}
-use Rattle.wl_node.specs.History.{History, handed, head_at_next, passed_frames, sampled_next, unsent_of}
+use Rattle.wl_node.specs.History.{History, handed, head_at_next, passed_frames, unsent_of}
 use Rattle.wl_node.specs.Queues.{head_by, unsent_by}
 use Rattle.wl_phase.specs.InStep.{seen_before}
 use Rattle.wl_phase.specs.Ways.{ByTheBook}
@@ -28,8 +25,8 @@ use Rattle.wl_heal.specs.Silence.{idle_bits, is_off, stretch_on, IsSilence}
 use Rattle.wl_heal.proofs.Callers.{first_dominant, two_levels}
 use Rattle.wl_machine.specs.Stretch.{Input}
 use Rattle.wl_buses.specs.OneFrame.Nodes.{IsRun, clock_sees}
-use Rattle.wl_buses.proofs.Callers.{counts_last, drive_last, frames_by, nothing_up_to, seen_are, seen_length, steady_last, stretch_last}
-use Rattle.wl_silence.specs.Restarts.{DoNotRise, GoesOnAs, passed_since, ready_since, setup_since}
+use Rattle.wl_buses.proofs.Callers.{drive_last, frames_by, idle_is, nothing_up_to, seen_are, seen_length, steady_last, stretch_last}
+use Rattle.wl_silence.specs.Restarts.{GoesOnAs, passed_since, setup_since}
 use Rattle.wl_silence.specs.Silences.{IsAsFresh, IsSilentNode, eleventh_of, joins_at, silence_bits}
 use Rattle.wl_silence.proofs.Bits as bits
 use Rattle.wl_silence.proofs.Bits.{SilentClock}
@@ -41,17 +38,14 @@ record StaysIdle (x : Stretch) (v : Sampled) : Type 0 where
   head : v.head ≡ None
   ended : (judged x v).ended ≡ NoFrame
 
-judged_idle : (x : Stretch) (v : Sampled) → x.sort ≡ Idle → v.level ≡ Recessive → judged x v ≡ idle_on v.head
-judged_idle x v i e = ap (λ k. judged_by k x.own v) i ∙ ap (λ t. cond (is_dominant t) (begins happens.Nothing (Framing None) (v.level ∷ [])) (idle_on v.head)) e
-
 stays_idle : (x : Stretch) (v : Sampled) → x.sort ≡ Idle → v.level ≡ Recessive → drive_of (stretch_after x (Sample v)) ≡ Recessive → StaysIdle x v
 stays_idle x v i e d = by v.head refl
   where
     then : (h : Option Content) → v.head ≡ h → stretch_after x (Sample v) ≡ or_next (idle_on h).next (record { sort = x.sort; own = x.own ++ v.level ∷ [] })
-    then h f = ap (λ j. or_next j.next (record { sort = x.sort; own = x.own ++ v.level ∷ [] })) (judged_idle x v i e ∙ ap idle_on f)
+    then h f = ap (λ j. or_next j.next (record { sort = x.sort; own = x.own ++ v.level ∷ [] })) (idle_is x v i e ∙ ap idle_on f)
 
     by : (h : Option Content) → v.head ≡ h → StaysIdle x v
-    by None f = record { sort = ap (λ s. s.sort) (then None f) ∙ i; head = f; ended = ap (λ j. j.ended) (judged_idle x v i e ∙ ap idle_on f) }
+    by None f = record { sort = ap (λ s. s.sort) (then None f) ∙ i; head = f; ended = ap (λ j. j.ended) (idle_is x v i e ∙ ap idle_on f) }
     by (Some c) f = absurd (two_levels (drive_by (Framing (Some c)) []) (first_dominant c) (sym (ap drive_of (then (Some c) f)) ∙ d))
 
 -- what a silence leaves of a machine

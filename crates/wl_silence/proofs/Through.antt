@@ -1,5 +1,5 @@
 -- A line after a silence goes as the line of the nodes that power up in it, tick by tick.
-use Rattle.std.proofs.Common.{◌≡◌, ◌≢◌, ◌∙◌, ◌⊎◌, inl, inr, refl, sym, ap, subst, ℕ, zero, suc, ◌+◌, ◌-◌, ◌*◌, ◌<◌, ◌≤◌, ◌||◌, Bool, true, false, List, [], ◌∷◌, ◌++◌, length, Option, Some, None, arith}
+use Rattle.std.proofs.Common.{◌≡◌, ◌∙◌, inl, inr, sym, ap, subst, ℕ, zero, suc, ◌+◌, ◌-◌, ◌*◌, ◌<◌, ◌≤◌, ◌||◌, false, None, arith}
 use Rattle.std.proofs.lemmas.Bool.{cases_eq, cases_lt}
 use Rattle.wl_level.specs.declared.Level.{Level}
 use Rattle.wl_level.specs.declared.Level.TheVariants.{Recessive}
@@ -8,8 +8,8 @@ use Rattle.wl_segments.specs.Lengths.{bit_quanta, sample_at}
 use Rattle.wl_topology.specs.Driven.{driven}
 use Rattle.wl_node.specs.declared.setup.NodeSetup.{NodeSetup}
 use Rattle.wl_node.specs.History.{History, history_after, unsent_of}
-use Rattle.wl_plan.specs.Line.{Line, found}
-use Rattle.wl_plan.specs.Simulation.{AreInside, level, seen}
+use Rattle.wl_plan.specs.Line.{Line}
+use Rattle.wl_plan.specs.Simulation.{AreInside, level}
 use Rattle.wl_buses.specs.BothProofs.Expected.{levels_found}
 use Rattle.wl_buses.specs.BothProofs.Levels.{levels_before}
 use Rattle.wl_buses.specs.BothProofs.Queues.{head_at}
@@ -19,13 +19,13 @@ use Rattle.wl_buses.specs.OneFrame.Stations.{AreStations, HaveRoom, Stations}
 use Rattle.wl_buses.specs.FirstFrame.FirstStarts.{Waiting}
 use Rattle.wl_buses.specs.NextFrames.Frames.{HasRoomForAll}
 use Rattle.wl_buses.specs.CleanLines.Lines.{IsPoweredUp, LineGetsThrough, line_history, waiting_with}
-use Rattle.wl_buses.proofs.Callers.{LastQuantum, drive_up_to, last_quantum, level_first, level_then}
+use Rattle.wl_buses.proofs.Callers.{drive_up_to, last_quantum, level_first, level_then, run_of}
 use Rattle.wl_silence.specs.Restarts.{GoesOnAs, IsUnharmed, setup_since}
-use Rattle.wl_silence.specs.Silences.{HaveFramesLeft, IsCleanSince, IsLineOfSince, IsSilentFor, eleventh_of, fresh_line, fresh_setups, fresh_stations, joined, joins}
-use Rattle.wl_silence.proofs.Alike.{ClockGoesOn, goes_on_once}
+use Rattle.wl_silence.specs.Silences.{HaveFramesLeft, IsCleanSince, IsLineOfSince, IsSilentFor, eleventh_of, fresh_line, fresh_setups, fresh_stations, after_eleventh, joins}
+use Rattle.wl_silence.proofs.Alike.{goes_on_once}
 use Rattle.wl_silence.proofs.Queues.{head_since}
 use Rattle.wl_silence.proofs.Lines as lines
-use Rattle.wl_silence.proofs.Lines.{SilentLaws, history_is, node_same, run_of}
+use Rattle.wl_silence.proofs.Lines.{SilentLaws, history_is, node_same}
 use Rattle.wl_silence.proofs.Moved.{are_since, have_since, room_since}
 use Rattle.wl_silence.proofs.PoweredUp as powered
 
@@ -33,7 +33,7 @@ use Rattle.wl_silence.proofs.PoweredUp as powered
 abbrev pub AllGetThroughLaw : Type 0
 AllGetThroughLaw = (l : Line) (setups : ℕ → NodeSetup) (w : Waiting) (chase : ℕ → ℕ) → IsPoweredUp l setups w → AreStations w.stations → HaveRoom w.stations → HasRoomForAll w.stations chase → LineGetsThrough l setups w
 
-module _ (laws : SilentLaws) (goes : ClockGoesOn) (all : AllGetThroughLaw) (l : Line) (setups : ℕ → NodeSetup) (s : Stations) (from until : ℕ) (first : ℕ → ℕ) (of : IsLineOfSince l setups s from)
+module _ (laws : SilentLaws) (all : AllGetThroughLaw) (l : Line) (setups : ℕ → NodeSetup) (s : Stations) (from until : ℕ) (first : ℕ → ℕ) (of : IsLineOfSince l setups s from)
     (is : IsSilentFor l setups from until first) (are : AreStations s) (have : HaveRoom s) (chase : ℕ → ℕ) (room : HasRoomForAll s chase) (left : HaveFramesLeft l setups s first) where
   abbrev R : ℕ → NodeSetup
   R = fresh_setups l setups first
@@ -74,7 +74,7 @@ module _ (laws : SilentLaws) (goes : ClockGoesOn) (all : AllGetThroughLaw) (l : 
     node = node_after setup levels
 
     abbrev before : History
-    before = line_history l setups i (joined l setups first i)
+    before = line_history l setups i (after_eleventh l setups first i)
 
     -- the fresh one on the levels that this one sees
     abbrev levels' : ℕ → Level
@@ -115,7 +115,7 @@ module _ (laws : SilentLaws) (goes : ClockGoesOn) (all : AllGetThroughLaw) (l : 
         let f : suc (at i + K) ≡ at i + suc K = omega arith in
         let next = (run_of (R i) levels').next K in
         let step =
-        goes_on_once goes setup (at i) before (star K) (node (at i + K)) (on_up m (λ j less. ok j (omega arith))) (ok K (omega arith)) (levels' K)
+        goes_on_once laws.clock.goes setup (at i) before (star K) (node (at i + K)) (on_up m (λ j less. ok j (omega arith))) (ok K (omega arith)) (levels' K)
         (subst IsUnharmed next (ok (suc K) (omega arith))) in
         subst (λ k. GoesOnAs setup (at i) before (star k) (node (at i + k))) e
         (subst (GoesOnAs setup (at i) before (star (suc K))) (sym ((run_of setup levels).next (at i + K)) ∙ ap node f)
@@ -204,13 +204,13 @@ module _ (laws : SilentLaws) (goes : ClockGoesOn) (all : AllGetThroughLaw) (l : 
 
   -- each node is where its fresh one puts it
   goes_at : (i k : ℕ) → i < l.nodes → eleventh_of (setups i).segments < k → AreInside L i k
-      → GoesOnAs (setups i) (at i) (line_history l setups i (joined l setups first i)) (line_history L R i k) (line_history l setups i (at i + k))
+      → GoesOnAs (setups i) (at i) (line_history l setups i (after_eleventh l setups first i)) (line_history L R i k) (line_history l setups i (at i + k))
   goes_at i zero inside more there = absurd (omega arith)
   goes_at i (suc q) inside more there =
       let below : l.instant i (at i + q) < l.stop = there q (omega arith) in
       let same = nodes_same l.stop (all_same l.stop) i inside q (omega arith) below (suc q) (omega arith) in
-      subst (λ h. GoesOnAs (setups i) (at i) (line_history l setups i (joined l setups first i)) h (line_history l setups i (at i + suc q))) (sym (history_is L R i (suc q) ∙ same))
-      (subst (GoesOnAs (setups i) (at i) (line_history l setups i (joined l setups first i)) (star i inside (suc q))) (sym (history_is l setups i (at i + suc q)))
+      subst (λ h. GoesOnAs (setups i) (at i) (line_history l setups i (after_eleventh l setups first i)) h (line_history l setups i (at i + suc q))) (sym (history_is L R i (suc q) ∙ same))
+      (subst (GoesOnAs (setups i) (at i) (line_history l setups i (after_eleventh l setups first i)) (star i inside (suc q))) (sym (history_is l setups i (at i + suc q)))
       (on_at i inside (suc q) more (unharmed l.stop (all_same l.stop) i inside q (omega arith) below)))
 
   pub clean_since : IsCleanSince l setups s from first

@@ -28,8 +28,8 @@ abbrev pub setup_since : NodeSetup → (p : ℕ) → (before : History) → Node
 setup_since setup p before = record setup { queue = map (ready_since p) (unsent_of setup before) }
 
 -- Two machines go on alike: in one stretch, or the bus is idle to both.
-abbrev pub IsAlike : Stretch → Stretch → Type 0
-IsAlike x y = (x ≡ y) ⊎ ((x.sort ≡ Idle) × (y.sort ≡ Idle))
+abbrev pub GoAlike : Stretch → Stretch → Type 0
+GoAlike x y = (x ≡ y) ⊎ ((x.sort ≡ Idle) × (y.sort ≡ Idle))
 
 -- a node has found no error, and its counters are 0
 pub record IsUnharmed (h : History) : Type 0 where
@@ -47,7 +47,7 @@ pub record DoNotRise (before now : Counts) : Type 0 where
 pub record GoesOnAs (setup : NodeSetup) (p : ℕ) (before fresh now : History) : Type 0 where
   pub quanta : length now.seen ≡ p + length fresh.seen
   pub clock : clock_after setup.segments now.seen ≡ clock_after setup.segments fresh.seen
-  pub machine : IsAlike (stretch_of now.inputs) (stretch_of fresh.inputs)
+  pub machine : GoAlike (stretch_of now.inputs) (stretch_of fresh.inputs)
   pub drive : now.drive ≡ fresh.drive
   pub frames : now.frames ≡ before.frames ++ map (passed_since p) fresh.frames
   pub errors : error_count now ≡ error_count before

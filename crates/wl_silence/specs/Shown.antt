@@ -4,7 +4,7 @@ use Rattle.wl_frame.specs.Grammar.{Content}
 use Rattle.wl_node.specs.declared.setup.NodeSetup.{NodeSetup}
 use Rattle.wl_node.specs.declared.setup.Passed.{Passed}
 use Rattle.wl_node.specs.History.{History, counters_of, error_count, unsent_of}
-use Rattle.wl_buses.specs.BothProofs.Queues.{queued_contents}
+use Rattle.wl_buses.specs.BothProofs.Queues.{IsFifo, queued_contents}
 use Rattle.wl_buses.specs.CleanPlans.Clean.{sent_contents}
 use Rattle.wl_silence.specs.Restarts.{DoNotRise}
 
@@ -13,16 +13,17 @@ abbrev pub way_passed : Passed → Bool × Content
 way_passed p = (p.sent, p.frame)
 
 -- The first n frames of a list, each with its sender, as they pass node i: its own it has sent, all others it has received (Bosch CAN 2.0 part B, section 5).
-abbrev pub first_passing : (sender : ℕ → ℕ) → (content : ℕ → Content) → (i n : ℕ) → List (Bool × Content)
-first_passing sender content i zero = []
-first_passing sender content i (suc n) = first_passing sender content i n ++ (i == sender n, content n) ∷ []
+abbrev pub frames_passing : (sender : ℕ → ℕ) → (content : ℕ → Content) → (i n : ℕ) → List (Bool × Content)
+frames_passing sender content i zero = []
+frames_passing sender content i (suc n) = frames_passing sender content i n ++ (i == sender n, content n) ∷ []
 
 -- Since it was there before, node i has found no error, and its counters haven't risen. First frames of the list have passed it since. The frames that it has sent since, and those that are left in its queue, are those that
--- were left before, each once.
+-- were left before, each once, and in their order if that is first in, first out.
 pub record ShowsClean (setup : NodeSetup) (i : ℕ) (sender : ℕ → ℕ) (content : ℕ → Content) (count : ℕ) (before now : History) : Type 0 where
   pub errors : error_count now ≡ error_count before
   pub counters : DoNotRise (counters_of before) (counters_of now)
   pub since : List Passed
   pub frames : now.frames ≡ before.frames ++ since
-  pub passed : (n : ℕ) × (n ≤ count) × (map way_passed since ≡ first_passing sender content i n)
+  pub passed : (n : ℕ) × (n ≤ count) × (map way_passed since ≡ frames_passing sender content i n)
   pub left : IsPermutation (queued_contents (unsent_of setup before)) (sent_contents since ++ queued_contents (unsent_of setup now))
+  pub order : IsFifo setup → sent_contents since ++ queued_contents (unsent_of setup now) ≡ queued_contents (unsent_of setup before)

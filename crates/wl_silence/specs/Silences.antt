@@ -1,5 +1,5 @@
 -- A line that is silent for a while, whatever was on it before, and what it does then.
-use Rattle.std.specs.Prelude.{◌≡◌, ℕ, suc, ◌+◌, ◌-◌, ◌*◌, ◌<◌, ◌≤◌, false, true, List, [], length}
+use Rattle.std.specs.Prelude.{◌≡◌, ℕ, suc, ◌+◌, ◌-◌, ◌*◌, ◌<◌, ◌≤◌, false, true, List, [], length, None}
 use Rattle.wl_level.specs.declared.Level.{Level}
 use Rattle.wl_level.specs.Levels.{is_dominant}
 use Rattle.wl_confine.specs.declared.Mode.TheVariants.{Active}
@@ -13,12 +13,12 @@ use Rattle.wl_phase.specs.Clocks.{steady_tick}
 use Rattle.wl_phase.specs.InStep.{seen_before}
 use Rattle.wl_phase.specs.Ways.{sample_way}
 use Rattle.wl_plan.specs.Line.{Line}
-use Rattle.wl_plan.specs.Simulation.{AreInside, level, seen}
+use Rattle.wl_plan.specs.Simulation.{AreInside, level}
 use Rattle.wl_plan.specs.Sound.{IsCausal}
 use Rattle.wl_wire.specs.InStep.{AreSoundFrames}
 use Rattle.wl_heal.specs.Silence.{is_off}
 use Rattle.wl_buses.specs.BothProofs.Expected.{levels_found}
-use Rattle.wl_buses.specs.BothProofs.Queues.{queued_contents}
+use Rattle.wl_buses.specs.BothProofs.Queues.{head_at, queued_contents}
 use Rattle.wl_buses.specs.OneFrame.Lines.{node_after}
 use Rattle.wl_buses.specs.OneFrame.Nodes.{IsRun, clock_sees}
 use Rattle.wl_buses.specs.OneFrame.Stations.{Stations}
@@ -75,12 +75,12 @@ pub record IsSilentFor (l : Line) (setups : ℕ → NodeSetup) (from until : ℕ
 abbrev pub joins : Line → (setups : ℕ → NodeSetup) → (first : ℕ → ℕ) → ℕ → ℕ
 joins l setups first i = joins_at (setups i) (levels_found l (level l) i) (node_after (setups i) (levels_found l (level l) i)) (first i)
 
-abbrev pub joined : Line → (setups : ℕ → NodeSetup) → (first : ℕ → ℕ) → ℕ → ℕ
-joined l setups first i = suc (joins l setups first i + eleventh_of (setups i).segments)
+abbrev pub after_eleventh : Line → (setups : ℕ → NodeSetup) → (first : ℕ → ℕ) → ℕ → ℕ
+after_eleventh l setups first i = suc (joins l setups first i + eleventh_of (setups i).segments)
 
 -- the fresh nodes, each with the frames that the other one hasn't sent by then, their line, and as stations
 abbrev pub fresh_setups : Line → (setups : ℕ → NodeSetup) → (first : ℕ → ℕ) → ℕ → NodeSetup
-fresh_setups l setups first i = setup_since (setups i) (joins l setups first i) (line_history l setups i (joined l setups first i))
+fresh_setups l setups first i = setup_since (setups i) (joins l setups first i) (line_history l setups i (after_eleventh l setups first i))
 
 abbrev pub fresh_line : Line → (setups : ℕ → NodeSetup) → (first : ℕ → ℕ) → Line
 fresh_line l setups first = line_since l (fresh_setups l setups first) (joins l setups first)
@@ -88,20 +88,32 @@ fresh_line l setups first = line_since l (fresh_setups l setups first) (joins l 
 abbrev pub fresh_stations : Line → (setups : ℕ → NodeSetup) → (first : ℕ → ℕ) → Stations → Stations
 fresh_stations l setups first s = stations_since s (joins l setups first)
 
+-- A line on which nobody has a frame for a while: all nodes power up after the tick `from`, and each has so many bits up to the tick `until` without a frame that is ready, 36 at least.
+pub record WaitsForFrames (l : Line) (setups : ℕ → NodeSetup) (from until : ℕ) (bits : ℕ → ℕ) : Type 0 where
+  pub inside : until ≤ l.stop
+  pub later : (i k : ℕ) → i < l.nodes → k < l.nodes → from + l.delay k i ≤ l.instant i 0
+  pub lasts : (i : ℕ) → i < l.nodes → l.instant i (silence_bits * bit_quanta (setups i).segments) < until
+  pub long : (i : ℕ) → i < l.nodes → until ≤ l.instant i (bits i * bit_quanta (setups i).segments + sample_at (setups i).segments)
+  pub none : (i n : ℕ) → i < l.nodes → 10 ≤ n → n ≤ bits i → head_at (setups i) (setups i).queue (n * bit_quanta (setups i).segments + sample_at (setups i).segments) ≡ None
+
+-- A node has a frame left after its eleventh bit in the silence.
+abbrev pub HasFramesLeft : Line → (setups : ℕ → NodeSetup) → (first : ℕ → ℕ) → ℕ → Type 0
+HasFramesLeft l setups first i = 0 < length (unsent_of (setups i) (line_history l setups i (after_eleventh l setups first i)))
+
 -- Frames of two nodes differ in format, identifier or RTR bit, and a node with frames may send. After the silence some node has one left.
 pub record HaveFramesLeft (l : Line) (setups : ℕ → NodeSetup) (s : Stations) (first : ℕ → ℕ) : Type 0 where
   pub frames : AreSoundFrames s.count (λ i. queued_contents (setups i).queue)
   pub none : (i : ℕ) → s.count ≤ i → (setups i).queue ≡ []
   pub may : (i : ℕ) → i < s.count → 0 < length (setups i).queue → s.may_send i ≡ true
-  pub some : (i : ℕ) × (i < s.count) × (0 < length (unsent_of (setups i) (line_history l setups i (joined l setups first i))))
+  pub some : (i : ℕ) × (i < s.count) × HasFramesLeft l setups first i
 
 -- The line is clean since the silence. The fresh nodes power up in it, each at a quantum of the other one, and all frames of theirs get through. What these drive is what is on the line. From the eleventh sample on
 -- each node is where its fresh one puts it.
 pub record IsCleanSince (l : Line) (setups : ℕ → NodeSetup) (s : Stations) (from : ℕ) (first : ℕ → ℕ) : Type 0 where
   pub late : (i : ℕ) → i < l.nodes → first i ≤ joins l setups first i
-  pub soon : (i : ℕ) → i < l.nodes → joined l setups first i ≤ first i + silence_bits * bit_quanta (setups i).segments
+  pub soon : (i : ℕ) → i < l.nodes → after_eleventh l setups first i ≤ first i + silence_bits * bit_quanta (setups i).segments
   pub through : LineGetsThrough (fresh_line l setups first) (fresh_setups l setups first) (waiting_with (fresh_setups l setups first) (fresh_stations l setups first s))
   pub drives : (i t : ℕ) → i < l.nodes → from ≤ t → t < l.stop → level l i t ≡ level (fresh_line l setups first) i t
   pub goes : (i k : ℕ) → i < l.nodes → eleventh_of (setups i).segments < k → AreInside (fresh_line l setups first) i k
-      → GoesOnAs (setups i) (joins l setups first i) (line_history l setups i (joined l setups first i)) (line_history (fresh_line l setups first) (fresh_setups l setups first) i k)
+      → GoesOnAs (setups i) (joins l setups first i) (line_history l setups i (after_eleventh l setups first i)) (line_history (fresh_line l setups first) (fresh_setups l setups first) i k)
       (line_history l setups i (joins l setups first i + k))

@@ -4,8 +4,8 @@ use Rattle.wl_plan.specs.declared.plan.Plan.{Plan}
 use Rattle.wl_plan.specs.PlanLine.{disturbed}
 
 -- No disturbance is at any node from this tick on.
-abbrev pub HavePassed : Plan → (from : ℕ) → Type 0
-HavePassed plan from = (i t : ℕ) → i < length plan.nodes → from ≤ t → disturbed plan i t ≡ false
+abbrev pub NoneDisturbsSince : Plan → (from : ℕ) → Type 0
+NoneDisturbsSince plan from = (i t : ℕ) → i < length plan.nodes → from ≤ t → disturbed plan i t ≡ false
 
 -- the plan without its disturbances
 abbrev pub undisturbed_plan : Plan → Plan

@@ -268,9 +268,9 @@ module _ (ways : WayLaws) (calm : NoEdgeLaws) (edges : EdgeLaws) (setup : NodeSe
 
   -- all its quanta
   module _ (m : ℕ) (silent : (q : ℕ) → q ≤ m * B + S → levels q ≡ Recessive) (unready : (n : ℕ) → 10 ≤ n → n < m → head_at setup setup.queue (n * B + S) ≡ None) where
-    record Still (q : ℕ) : Type 0 where
-      count : ℕ
-      is : IsStill q count
+    pub record Still (q : ℕ) : Type 0 where
+      pub count : ℕ
+      pub is : IsStill q count
 
     unready_at : (c q : ℕ) → q ≡ c * B + S → c < m → (c < 10) ⊎ (head_at setup setup.queue q ≡ None)
     unready_at c q place few = elim (cases_lt c 10) [
@@ -288,7 +288,7 @@ module _ (ways : WayLaws) (calm : NoEdgeLaws) (edges : EdgeLaws) (setup : NodeSe
       | inr apart ↦ record { count = x.count; is = passes q x.count (silent q (omega arith)) x.is apart (beat_of l (seen_before sees q) (sees q)) refl }
     ]
 
-    still_at : (q : ℕ) → q ≤ m * B + S → Still q
+    pub still_at : (q : ℕ) → q ≤ m * B + S → Still q
     still_at zero less = record { count = 0; is = still_first }
     still_at (suc q) less = still_on q less (still_at q (omega arith))
 

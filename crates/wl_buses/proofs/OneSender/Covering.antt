@@ -22,7 +22,7 @@ neither : (v w : Bool) → (v || w) ≡ false → (v ≡ false) × (w ≡ false)
 neither false w e = (refl, e)
 neither true w e = absurd (both_ways true e refl)
 
-is_empty : {A : Type 0} (xs : List A) → length xs ≤ 0 → xs ≡ []
+pub is_empty : {A : Type 0} (xs : List A) → length xs ≤ 0 → xs ≡ []
 is_empty [] h = refl
 is_empty (x ∷ xs) h = absurd (omega arith)
 

@@ -61,7 +61,7 @@ idle_by x (inl idle) e = idle
 idle_by x (inr begun) e = (let f : Dominant ≡ Recessive = sym (drives_start begun.0) ∙ sym (ap drive_of begun.1) ∙ e in cc)
 
 -- a recessive sample on an idle bus
-idle_is : (x : Stretch) (z : Sampled) → x.sort ≡ Idle → z.level ≡ Recessive → judged x z ≡ idle_on z.head
+pub idle_is : (x : Stretch) (z : Sampled) → x.sort ≡ Idle → z.level ≡ Recessive → judged x z ≡ idle_on z.head
 idle_is x z idle e =
     ap (λ k. judged_by k x.own z) idle ∙ ap (λ v. cond (is_dominant v) (begins Nothing (Framing None) (z.level ∷ [])) (idle_on z.head)) e
 

@@ -16,4 +16,4 @@ returns c = λ l setups s from until first chase of is are have room left.
       };
       leaves = c.a_silence_leaves_all_idle.ensures;
     })
-    (record { clock = c.clock_goes_on.ensures.clock; beat = c.clock_goes_on.ensures.beat }) c.all_frames_of_a_line_get_through.ensures l setups s from until first of is are have chase room left
+    c.all_frames_of_a_line_get_through.ensures l setups s from until first of is are have chase room left
