@@ -2,3 +2,4 @@ pub mod Slotting
 pub mod Hearing
 pub mod AtEnd
 pub mod Frames
+pub mod PoweredUp
