@@ -3,3 +3,4 @@ pub mod Hearing
 pub mod AtEnd
 pub mod Frames
 pub mod PoweredUp
+pub mod Unchanged

@@ -1,13 +1,13 @@
 //! Laws of a node that only listens, each proved as the contract of a function that does nothing.
 
-ghost use Rattle.std.specs.Prelude.{◌≡◌, ◌≢◌, ◌+◌, ◌<◌, ◌≤◌, ◌||◌, ◌&&◌, ◌-◌, nat_le, ℕ, suc, Bool, false, []};
+ghost use Rattle.std.specs.Prelude.{◌≡◌, ◌≢◌, ◌⊎◌, ◌+◌, ◌<◌, ◌≤◌, ◌||◌, ◌&&◌, ◌-◌, nat_le, ℕ, suc, Bool, true, false, []};
 ghost use Rattle.wl_level.specs.declared.Level.{Level};
 ghost use Rattle.wl_level.specs.Levels.{level_of};
 ghost use Rattle.wl_node.specs.declared.setup.NodeSetup.{NodeSetup};
 ghost use Rattle.wl_node.specs.History.{History};
 ghost use Rattle.wl_topology.specs.Driven.{driven};
 ghost use Rattle.wl_buses.specs.OneFrame.Acknowledged.{IsAnsweredByAll, answering};
-ghost use Rattle.wl_buses.specs.OneFrame.Expected.{IsOutset, Outset, expected_bits, expected_sample};
+ghost use Rattle.wl_buses.specs.OneFrame.Expected.{IsOutset, Outset, edge_start, expected_bits, expected_sample};
 ghost use Rattle.wl_buses.specs.OneFrame.Machines.{HasWon};
 ghost use Rattle.wl_buses.specs.OneFrame.Nodes.{IsRun};
 ghost use Rattle.wl_buses.specs.OneFrame.Starts.{Start};
@@ -183,3 +183,16 @@ pub fn a_listener_receives_all_frames_from_its_power_up()
     crate::passed_frames::laws::nothing_passes_a_waiting_node();
     crate::passed_frames::laws::what_is_found_stays();
 }
+
+/// Law: a bit with an edge begins at the others as without the listener, if that one drives it recessive, or if what it drives reaches no
+/// other one before all have begun the bit.
+pub fn a_listener_moves_no_edge()
+    ensures { (s : Stations) (drives old : ℕ → Bool) (due due_old : ℕ → ℕ) → AreStations (with_listener s) → AreStations s
+        → ((k : ℕ) → k < s.count → drives k ≡ old k) → ((k : ℕ) → k < s.count → due k ≡ due_old k)
+        → (drives s.count ≡ false) ⊎ ((i k : ℕ) → i < s.count → k < s.count
+        → steady_tick (s.clocks k) (due k) + s.delay k i < s.delay s.count i)
+        → ((i : ℕ) → i < s.count → drives i ≡ false → (w : ℕ) × (w < s.count) × (drives w ≡ true))
+        → (i : ℕ) → i < s.count
+        → ((edge_start (with_listener s) drives due).place i ≡ (edge_start s old due_old).place i)
+        × ((edge_start (with_listener s) drives due).from i ≡ (edge_start s old due_old).from i) }
+{}
