@@ -4,3 +4,4 @@ pub mod AtEnd
 pub mod Frames
 pub mod PoweredUp
 pub mod Unchanged
+pub mod Same

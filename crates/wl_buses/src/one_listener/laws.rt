@@ -20,6 +20,7 @@ ghost use Rattle.wl_buses.specs.PassedFrames.Passing.{PassesOne};
 ghost use Rattle.wl_buses.specs.FrameEnd.Again.{RestsAgain};
 ghost use Rattle.wl_buses.specs.NextFrames.NextNodes.{GoesThrough};
 ghost use Rattle.wl_buses.specs.NextFrames.Frames.{AreInOrder, Frame, frames_drove, third_sample};
+ghost use Rattle.wl_buses.specs.OneListener.Same.{ExpectsTheSame};
 ghost use Rattle.wl_buses.specs.OneListener.Frames.{CanAllBeHeard, ReceivesAll, ReceivesFromPowerUp, waiting_with};
 ghost use Rattle.wl_buses.specs.FirstFrame.FirstStarts.{AreIdle, HandTheFirst, Waiting, first_outset};
 ghost use Rattle.wl_frame.specs.Grammar.{Content};
@@ -196,3 +197,20 @@ pub fn a_listener_moves_no_edge()
         → ((edge_start (with_listener s) drives due).place i ≡ (edge_start s old due_old).place i)
         × ((edge_start (with_listener s) drives due).from i ≡ (edge_start s old due_old).from i) }
 {}
+
+/// Law: so a listener changes no bit that is expected of the others. Whether it is among the stations or not, the same reaches their machines,
+/// their bits begin with the same quanta, and they drive the same.
+pub fn a_listener_changes_no_expected_bit()
+    ensures { (s : Stations) (o : Outset) (end : ℕ) → AreStations (with_listener s) → HaveRoom (with_listener s)
+        → AreStations s → 1 < s.count → s.may_send s.count ≡ false → IsOutset (with_listener s) o
+        → EndsBefore (with_listener s) o end
+        → HasWon (with_listener s) (expected_bits (with_listener s) o) o.frames end
+        → IsUnheard s o end → ExpectsTheSame s o end }
+{
+    wl_topology::driven_laws();
+    wl_wire::laws::machines_stay_in_step();
+    wl_wire::laws::the_least_field_wins();
+    wl_machine::laws::a_transmitter_sends_its_head_stuffed();
+    wl_frame::laws::a_front_of_no_stuffing_ends_six_equal_bits();
+    wl_frame::laws::ten_bits_have_an_edge();
+}
