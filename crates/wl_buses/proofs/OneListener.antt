@@ -2,3 +2,6 @@ pub mod Slotting
 pub mod Hearing
 pub mod AtEnd
 pub mod Frames
+pub mod PoweredUp
+pub mod Unchanged
+pub mod Same

@@ -1,3 +1,4 @@
 pub mod Beside
 pub mod Ends
 pub mod Frames
+pub mod Same

@@ -16,15 +16,13 @@ use Rattle.wl_node.specs.declared.setup.NodeSetup.{NodeSetup}
 use Rattle.wl_node.specs.History.{History}
 use Rattle.wl_phase.specs.Clocks.{steady_tick}
 use Rattle.wl_phase.specs.Ways.{WayLaws}
-use Rattle.wl_plan.specs.Line.{Line}
 use Rattle.wl_buses.specs.OneFrame.Stations.{AreStations, HaveRoom, Stations}
 use Rattle.wl_buses.specs.OneFrame.Starts.{Drives, reaches_at}
 use Rattle.wl_buses.specs.OneFrame.Clocked.{EdgeLaws, NoEdgeLaws}
 use Rattle.wl_buses.specs.OneFrame.Expected.{IsOutset, Outset, expected_bits, expected_drove}
-use Rattle.wl_buses.specs.OneFrame.Lines.{IsLineOf, RestsBefore, finds_expected, node_after}
+use Rattle.wl_buses.specs.OneFrame.Lines.{RestsBefore}
 use Rattle.wl_buses.specs.OneFrame.Machines.{bus_levels, no_frame_sample}
 use Rattle.wl_buses.specs.OneFrame.Nodes.{IsRun}
-use Rattle.wl_buses.proofs.OneFrame.Lines.{finds_what_comes, run_of}
 use Rattle.wl_buses.specs.FirstFrame.FirstStarts.{AreIdle, HandTheFirst, Waiting, begins_first, due_first, edge_first, first_outset, hard_from, has_first, is_reached_first, last_before, rest_first, silent_past}
 use Rattle.wl_buses.proofs.FirstFrame.Beginning.{IsLast, MayTogether, decided, first_some, last_at, many, silence_of, silent_of}
 use Rattle.wl_buses.proofs.FirstFrame.Reaching as reaching
@@ -38,9 +36,12 @@ NothingFound = (s : Stations) (o : Outset) (length i q : ℕ) → AreStations s 
     → ((k : ℕ) → Drives s o.start i k → steady_tick (s.clocks i) q < reaches_at s o.start k i)
     → driven s.count s.delay (expected_drove s o length) i (steady_tick (s.clocks i) q) ≡ false
 
-module _ (together : MayTogether) (nothing : NothingFound) (ways : WayLaws) (calm : NoEdgeLaws) (edges : EdgeLaws) (l : Line) (setups : ℕ → NodeSetup) (w : Waiting)
-    (line : IsLineOf l setups w.stations) (on : AreStations w.stations) (room : HaveRoom w.stations) (are : AreIdle w) (hand : HandTheFirst w setups) (outset : IsOutset w.stations (first_outset w))
-    (total : ℕ) (valid : (n : ℕ) → n < total → stuffed_end (bus_levels w.stations (expected_bits w.stations (first_outset w)) n) ≡ None) (i : ℕ) (inside : i < w.stations.count) where
+module _ (together : MayTogether) (nothing : NothingFound) (ways : WayLaws) (calm : NoEdgeLaws) (edges : EdgeLaws) (setups : ℕ → NodeSetup) (w : Waiting)
+    (on : AreStations w.stations) (room : HaveRoom w.stations) (are : AreIdle w) (hand : HandTheFirst w setups) (outset : IsOutset w.stations (first_outset w))
+    (total : ℕ) (valid : (n : ℕ) → n < total → stuffed_end (bus_levels w.stations (expected_bits w.stations (first_outset w)) n) ≡ None) (i : ℕ) (inside : i < w.stations.count)
+    (segments : (setups i).segments ≡ w.stations.lengths i) (levels : ℕ → Level) (node : ℕ → History) (run : IsRun (setups i) levels node)
+    (finds : (q : ℕ) → q < (first_outset w).start.from i
+    → levels q ≡ level_of (driven w.stations.count w.stations.delay (expected_drove w.stations (first_outset w) total) i (steady_tick (w.stations.clocks i) q))) where
   abbrev s : Stations
   s = w.stations
 
@@ -52,18 +53,6 @@ module _ (together : MayTogether) (nothing : NothingFound) (ways : WayLaws) (cal
 
   abbrev m : ℕ
   m = last_before w i
-
-  abbrev levels : ℕ → Level
-  levels = finds_expected l s o total i
-
-  abbrev node : ℕ → History
-  node = node_after (setups i) levels
-
-  run : IsRun (setups i) levels node
-  run = run_of (setups i) levels
-
-  segments : (setups i).segments ≡ s.lengths i
-  segments = line.segments i (let e = line.nodes in omega arith)
 
   last : IsLast w on.line are i
   last = last_at w on.line are i inside
@@ -85,7 +74,7 @@ module _ (together : MayTogether) (nothing : NothingFound) (ways : WayLaws) (cal
 
   silent : (q : ℕ) → q < o.start.from i → levels q ≡ Recessive
   silent q less =
-      finds_what_comes l setups s line o total i q inside
+      finds q less
       ∙ ap level_of
       (nothing s o total i q on room outset valid inside (omega arith)
       (reaching.unfound_before (silence_of w) on.line (silent_of w on.line are) i q inside (unreached q less (edge_first w i) refl) (due_or_none q less (edge_first w i) refl)))

@@ -173,6 +173,23 @@ module _ (s : Stations) (are : AreStations s) (drives : ℕ → Bool) (due : ℕ
       let bound = most_from s.count (λ k. tick k (due k)) i inside in
       sym ((rounds enough i inside).0 (omega arith))
 
+  -- no other way to begin stays as it is in a round
+  stays : (f : ℕ → ℕ) → ((i : ℕ) → i < s.count → turn f i ≡ f i) → (m : ℕ) → Agree m f (after m)
+  unfolding turn
+  stays f fix zero x inside = ((λ less. absurd (omega arith)), (λ less. absurd (omega arith)))
+  stays f fix (suc m) x inside =
+      let next = agree_next m f (after m) (stays f fix m) x inside in
+      let e = fix x inside in
+      let same : tick x (turn f x) ≡ tick x (f x) = ap (tick x) e in ((λ less. next.0 (omega arith) ∙ e), (λ less. sym e ∙ next.1 less))
+
+  pub only_one : (f : ℕ → ℕ) → ((i : ℕ) → i < s.count → from_found s due i (found_before s drives f i (suc (due i))) ≡ f i) → ((i : ℕ) → i < s.count → f i ≤ due i)
+      → (i : ℕ) → i < s.count → from i ≡ f i
+  unfolding turn
+  only_one f fix by_due i inside =
+      let up = tick_next s are i inside (f i) (due i) (by_due i inside) in
+      let bound = most_from s.count (λ k. tick k (due k)) i inside in
+      (stays f fix enough i inside).0 (omega arith)
+
   abbrev b : Start
   b = edge_start s drives due
 

@@ -12,7 +12,7 @@ use Rattle.wl_node.specs.Queues.{head_by, unsent_by}
 use Rattle.wl_node.specs.History.{History, error_count, unsent_of}
 use Rattle.wl_phase.specs.Clocks.{steady_tick}
 use Rattle.wl_buses.specs.BothProofs.Queues.{head_at}
-use Rattle.wl_buses.specs.OneFrame.Expected.{IsOutset, Outset, expected_bits, expected_sample, past_at}
+use Rattle.wl_buses.specs.OneFrame.Expected.{IsOutset, Outset, expected_bits, expected_drove, expected_sample, past_at}
 use Rattle.wl_buses.specs.OneFrame.Lines.{BeginsAfter}
 use Rattle.wl_buses.specs.OneFrame.Machines.{HasWon}
 use Rattle.wl_buses.specs.OneFrame.Nodes.{IsRun}
@@ -32,7 +32,9 @@ use Rattle.wl_buses.specs.OneListener.Frames.{CanAllBeHeard, ReceivesAll, receiv
 use Rattle.wl_buses.proofs.BothProofs.Orders.{left_none, none_by}
 use Rattle.wl_buses.proofs.OneFrame.Measures.{tick_next}
 use Rattle.wl_buses.proofs.FrameEnd.Below.{MachineLaws}
-use Rattle.wl_buses.proofs.NextFrames.Found.{NothingFound}
+use Rattle.wl_buses.proofs.FrameEnd.Placing as placing
+use Rattle.wl_buses.proofs.OneFrame.Expecting.{from_sample}
+use Rattle.wl_buses.proofs.NextFrames.Found.{NothingFound, alone}
 use Rattle.wl_buses.proofs.NextFrames.Onward as onward
 use Rattle.wl_buses.proofs.NextFrames.Onward.{FreeLaw, GoesOn, RestsLaw, ThroughLaw, WaitLaw}
 use Rattle.wl_buses.proofs.SentFrames.Handing.{WaitFine}
@@ -51,10 +53,7 @@ module _ (m : MachineLaws) (nothing : NothingFound) (rests : RestsLaw) (free : F
     (content : ℕ → Content) (wins_with : (n : ℕ) (less : n < count) → (frames.each n less).won.frame ≡ content n)
     (setup : NodeSetup) (segments : setup.segments ≡ s.lengths s.count) (empty : setup.queue ≡ []) (levels : ℕ → Level) (node : ℕ → History) (run : IsRun setup levels node)
     (finds : (n q : ℕ) → n < count → q ≤ third_sample (with_listener s) (fs n) s.count
-    → levels q ≡ level_of (driven (suc s.count) s.delay (frames_drove (with_listener s) fs count) s.count (steady_tick (s.clocks s.count) q)))
-    (first_rest first_since : ℕ) (begins : BeginsAfter (with_listener s) (fs 0).outset s.count first_rest)
-    (first : RestsAgain (with_listener s) ((fs 0).outset.past s.count) s.count levels node first_rest first_since)
-    (early : first_since ≤ first_rest + sample_at (s.lengths s.count)) where
+    → levels q ≡ level_of (driven (suc s.count) s.delay (frames_drove (with_listener s) fs count) s.count (steady_tick (s.clocks s.count) q))) where
   abbrev l : ℕ
   l = s.count
 
@@ -139,65 +138,81 @@ module _ (m : MachineLaws) (nothing : NothingFound) (rests : RestsLaw) (free : F
       all_none zero = none_head (node (T n)) _
       all_none (suc k) = none_head (node (suc (T n))) _
 
-  abbrev Goes : (n : ℕ) → n < count → Type 0
-  Goes n less = GoesThroughInOrder x fs count frames l first_since setup levels node n less
+  -- up to its sample of the first CRC delimiter it finds what the first frame's stuffed part drives
+  pub finds_first : (some : 0 < count) (q : ℕ) → q < (fs 0).outset.start.from l
+      → levels q ≡ level_of (driven x.count s.delay (expected_drove x (fs 0).outset (fs 0).bits) l (steady_tick (s.clocks l) q))
+  finds_first some q less =
+      let f = frames.each 0 some in
+      let begun = from_sample m.steps m.errors m.winner m.stuffed m.six m.ten x are room (fs 0).outset f.outset (fs 0).bits f.ends.none 0 l inside_l in
+      let stuffed = placing.samples_up m x are room (fs 0).outset f.outset (fs 0).bits f.ends.none f.ends.there f.won 0 (fs 0).bits l inside_l (omega arith) in
+      let third = placing.samples_up m x are room (fs 0).outset f.outset (fs 0).bits f.ends.none f.ends.there f.won (fs 0).bits ((fs 0).bits + 12) l inside_l (omega arith) in
+      finds 0 q some (omega arith)
+      ∙ ap level_of
+      (alone m nothing x are room fs count frames l inside_l hears resting 0 q some (λ j e. absurd (omega (arith, e))) (omega arith)
+      ∙ placing.found_was m x are room (fs 0).outset f.outset (fs 0).bits f.ends.none f.ends.there f.won l inside_l (hears 0 some).later q (omega arith))
 
-  record Stage (n : ℕ) (less : n < count) : Type 0 where
-    goes : Goes n less
-    received : (node (suc (T n))).frames ≡ (node (suc (first_rest + S))).frames ++ received_with s fs content (suc n)
-    errors : error_count (node (suc (T n))) ≡ error_count (node (suc (first_rest + S)))
-    faults : fault_count (node (suc (T n))) ≡ fault_count (node (suc (first_rest + S)))
+  -- from its rest before the first frame on
+  module _ (first_rest first_since : ℕ) (begins : BeginsAfter x (fs 0).outset l first_rest) (first : RestsAgain x ((fs 0).outset.past l) l levels node first_rest first_since)
+      (early : first_since ≤ first_rest + sample_at (s.lengths l)) where
+    abbrev Goes : (n : ℕ) → n < count → Type 0
+    Goes n less = GoesThroughInOrder x fs count frames l first_since setup levels node n less
 
-  abbrev got : ℕ → Passed
-  got n = record { sent = false; quantum = expected_sample x (fs n).outset ((fs n).bits + 8) l; frame = content n }
+    record Stage (n : ℕ) (less : n < count) : Type 0 where
+      goes : Goes n less
+      received : (node (suc (T n))).frames ≡ (node (suc (first_rest + S))).frames ++ received_with s fs content (suc n)
+      errors : error_count (node (suc (T n))) ≡ error_count (node (suc (first_rest + S)))
+      faults : fault_count (node (suc (T n))) ≡ fault_count (node (suc (first_rest + S)))
 
-  got_is : (n : ℕ) (less : n < count) → passed_frame x (fs n).outset (fs n).bits l (frames.each n less).won.station (frames.each n less).won.frame ≡ got n
-  got_is n less =
-      ap (λ b. record { sent = b; quantum = expected_sample x (fs n).outset ((fs n).bits + cond b 9 8) l; frame = (frames.each n less).won.frame }) (ne_eqb l (frames.each n less).won.station (other n less))
-      ∙ ap (λ c. record { sent = false; quantum = expected_sample x (fs n).outset ((fs n).bits + 8) l; frame = c }) (wins_with n less)
+    abbrev got : ℕ → Passed
+    got n = record { sent = false; quantum = expected_sample x (fs n).outset ((fs n).bits + 8) l; frame = content n }
 
-  stage : (n : ℕ) (less : n < count) (rest since : ℕ) → BeginsAfter x (fs n).outset l rest → RestsAgain x ((fs n).outset.past l) l levels node rest since → since ≤ rest + S
-      → ((j : ℕ) → suc j ≡ n → T j ≤ rest + S) → Goes n less
-      → (node (suc (rest + S))).frames ≡ (node (suc (first_rest + S))).frames ++ received_with s fs content n
-      → error_count (node (suc (rest + S))) ≡ error_count (node (suc (first_rest + S)))
-      → fault_count (node (suc (rest + S))) ≡ fault_count (node (suc (first_rest + S))) → Stage n less
-  stage n less rest since after at by_then last goes had errors faults =
-      let f = frames.each n less in
-      let p : PassesOne x (fs n).outset (fs n).bits (frames.each n less).won.station l rest (frames.each n less).won.frame node =
-      pass x (fs n).outset (fs n).bits are room f.outset f.some f.ends f.won l rest since setup levels node inside_l (hears n less) segments run after at by_then
-      (λ q above up. onward.finds_alone m nothing rests free wait through x are room fs count frames l inside_l hears resting setup segments levels node run finds first_rest first_since begins first early
-      n q less (λ j e. (let low = last j e in omega arith)) up) in
-      record {
-        goes = goes;
-        received =
-            p.frames ∙ ap (λ g. (node (suc (rest + S))).frames ++ g ∷ []) (got_is n less) ∙ ap (λ w. w ++ got n ∷ []) had
-            ∙ append_assoc (node (suc (first_rest + S))).frames (received_with s fs content n) (got n ∷ []);
-        errors = p.errors ∙ errors;
-        faults = p.faults ∙ faults;
-      }
+    got_is : (n : ℕ) (less : n < count) → passed_frame x (fs n).outset (fs n).bits l (frames.each n less).won.station (frames.each n less).won.frame ≡ got n
+    got_is n less =
+        ap (λ b. record { sent = b; quantum = expected_sample x (fs n).outset ((fs n).bits + cond b 9 8) l; frame = (frames.each n less).won.frame }) (ne_eqb l (frames.each n less).won.station (other n less))
+        ∙ ap (λ c. record { sent = false; quantum = expected_sample x (fs n).outset ((fs n).bits + 8) l; frame = c }) (wins_with n less)
 
-  step : (n : ℕ) (less : suc n < count) → Stage n (omega arith) → Stage (suc n) less
-  step n less y =
-      let f = frames.each n (omega arith) in
-      let g : GoesOn x fs count frames l first_since setup levels node n less =
-      onward.goes_on m nothing rests free wait through x are room fs count frames l inside_l hears resting setup segments levels node run finds first_rest first_since begins first early n less y.goes (hands n less) in
-      let fine =
-      wait_fine (r n less) (past_at x (fs n).outset ((fs n).bits + 12)) are.line (resting n less) (free x (fs n).outset (fs n).bits are room f.outset f.ends f.won) l inside_l setup segments levels node run g.handed
-      g.active g.since g.early g.rests g.silent g.hands in
-      stage (suc n) less (rest_next (r n less) l) (T n) g.begins g.again (omega arith)
-      (λ j e. (let same : j ≡ n = omega (arith, e) in let h : T j ≡ T n = ap T same in omega arith)) g.goes (g.same ∙ y.received) (fine.0 ∙ y.errors) (fine.1 ∙ y.faults)
+    stage : (n : ℕ) (less : n < count) (rest since : ℕ) → BeginsAfter x (fs n).outset l rest → RestsAgain x ((fs n).outset.past l) l levels node rest since → since ≤ rest + S
+        → ((j : ℕ) → suc j ≡ n → T j ≤ rest + S) → Goes n less
+        → (node (suc (rest + S))).frames ≡ (node (suc (first_rest + S))).frames ++ received_with s fs content n
+        → error_count (node (suc (rest + S))) ≡ error_count (node (suc (first_rest + S)))
+        → fault_count (node (suc (rest + S))) ≡ fault_count (node (suc (first_rest + S))) → Stage n less
+    stage n less rest since after at by_then last goes had errors faults =
+        let f = frames.each n less in
+        let p : PassesOne x (fs n).outset (fs n).bits (frames.each n less).won.station l rest (frames.each n less).won.frame node =
+        pass x (fs n).outset (fs n).bits are room f.outset f.some f.ends f.won l rest since setup levels node inside_l (hears n less) segments run after at by_then
+        (λ q above up. onward.finds_alone m nothing rests free wait through x are room fs count frames l inside_l hears resting setup segments levels node run finds first_rest first_since begins first early
+        n q less (λ j e. (let low = last j e in omega arith)) up) in
+        record {
+          goes = goes;
+          received =
+              p.frames ∙ ap (λ g. (node (suc (rest + S))).frames ++ g ∷ []) (got_is n less) ∙ ap (λ w. w ++ got n ∷ []) had
+              ∙ append_assoc (node (suc (first_rest + S))).frames (received_with s fs content n) (got n ∷ []);
+          errors = p.errors ∙ errors;
+          faults = p.faults ∙ faults;
+        }
 
-  stages : (n : ℕ) (less : n < count) → Stage n less
-  stages zero less =
-      stage 0 less first_rest first_since begins first early (λ j e. absurd (omega (arith, e)))
-      (onward.goes_first m nothing rests free wait through x are room fs count frames l inside_l hears resting setup segments levels node run finds first_rest first_since begins first early less)
-      (sym (append-nil (node (suc (first_rest + S))).frames)) refl refl
-  stages (suc n) less = step n less (stages n (omega arith))
+    step : (n : ℕ) (less : suc n < count) → Stage n (omega arith) → Stage (suc n) less
+    step n less y =
+        let f = frames.each n (omega arith) in
+        let g : GoesOn x fs count frames l first_since setup levels node n less =
+        onward.goes_on m nothing rests free wait through x are room fs count frames l inside_l hears resting setup segments levels node run finds first_rest first_since begins first early n less y.goes (hands n less) in
+        let fine =
+        wait_fine (r n less) (past_at x (fs n).outset ((fs n).bits + 12)) are.line (resting n less) (free x (fs n).outset (fs n).bits are room f.outset f.ends f.won) l inside_l setup segments levels node run g.handed
+        g.active g.since g.early g.rests g.silent g.hands in
+        stage (suc n) less (rest_next (r n less) l) (T n) g.begins g.again (omega arith)
+        (λ j e. (let same : j ≡ n = omega (arith, e) in let h : T j ≡ T n = ap T same in omega arith)) g.goes (g.same ∙ y.received) (fine.0 ∙ y.errors) (fine.1 ∙ y.faults)
 
-  pub receives_all : ReceivesAll s fs count frames content setup levels node first_rest first_since
-  receives_all = record {
-    goes = λ n less. (stages n less).goes;
-    received = λ n less. (stages n less).received;
-    errors = λ n less. (stages n less).errors;
-    faults = λ n less. (stages n less).faults;
-  }
+    stages : (n : ℕ) (less : n < count) → Stage n less
+    stages zero less =
+        stage 0 less first_rest first_since begins first early (λ j e. absurd (omega (arith, e)))
+        (onward.goes_first m nothing rests free wait through x are room fs count frames l inside_l hears resting setup segments levels node run finds first_rest first_since begins first early less)
+        (sym (append-nil (node (suc (first_rest + S))).frames)) refl refl
+    stages (suc n) less = step n less (stages n (omega arith))
+
+    pub receives_all : ReceivesAll s fs count frames content setup levels node first_rest first_since
+    receives_all = record {
+      goes = λ n less. (stages n less).goes;
+      received = λ n less. (stages n less).received;
+      errors = λ n less. (stages n less).errors;
+      faults = λ n less. (stages n less).faults;
+    }

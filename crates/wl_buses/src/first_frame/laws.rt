@@ -3,6 +3,9 @@
 ghost use Rattle.std.specs.Prelude.{◌≡◌, ◌+◌, ◌<◌, ◌≤◌, ℕ, suc, List, [], None};
 ghost use Rattle.wl_level.specs.declared.Level.{Level};
 ghost use Rattle.wl_level.specs.declared.Level.TheVariants.{Recessive};
+ghost use Rattle.wl_level.specs.Levels.{level_of};
+ghost use Rattle.wl_topology.specs.Driven.{driven};
+ghost use Rattle.wl_phase.specs.Clocks.{steady_tick};
 ghost use Rattle.wl_segments.specs.Lengths.{sample_at};
 ghost use Rattle.wl_frame.specs.Grammar.{Content};
 ghost use Rattle.wl_machine.specs.Frames.{stuffed_end};
@@ -14,7 +17,7 @@ ghost use Rattle.wl_plan.specs.declared.plan.Plan.{Plan};
 ghost use Rattle.wl_bound.specs.Conditions.{IsSound};
 ghost use Rattle.wl_bound.specs.Families.{Bus};
 ghost use Rattle.wl_buses.specs.OneFrame.Bounds.{HasStations};
-ghost use Rattle.wl_buses.specs.OneFrame.Expected.{IsOutset, expected_bits};
+ghost use Rattle.wl_buses.specs.OneFrame.Expected.{IsOutset, expected_bits, expected_drove};
 ghost use Rattle.wl_buses.specs.OneFrame.Lines.{BeginsAfter, IsLineOf, RestsBefore, finds_expected, node_after};
 ghost use Rattle.wl_buses.specs.OneFrame.Machines.{bus_levels};
 ghost use Rattle.wl_buses.specs.OneFrame.Nodes.{IsRun};
@@ -34,8 +37,29 @@ pub fn idle_stations_begin_a_first_frame()
     crate::one_frame::laws::idle_machines_may_begin_together();
 }
 
-/// Law: each node rests before that frame, if all drive what is expected: from its power-up on it has sampled a silent line, and nothing
-/// has counted.
+/// Law: a node rests before that frame, if it finds up to its start what is expected: from its power-up on it has sampled a silent line, and
+/// nothing has counted. What it drives later doesn't matter, nor who hears it.
+pub fn a_node_rests_before_a_first_frame()
+    ensures { (setups : ℕ → NodeSetup) (w : Waiting) (length i : ℕ) → AreStations w.stations → HaveRoom w.stations
+        → AreIdle w → HandTheFirst w setups
+        → ((n : ℕ) → n < length
+        → stuffed_end (bus_levels w.stations (expected_bits w.stations (first_outset w)) n) ≡ None)
+        → i < w.stations.count → (setups i).segments ≡ w.stations.lengths i
+        → (levels : ℕ → Level) (node : ℕ → History) → IsRun (setups i) levels node
+        → ((q : ℕ) → q < (first_outset w).start.from i
+        → levels q ≡ level_of (driven w.stations.count w.stations.delay
+        (expected_drove w.stations (first_outset w) length) i (steady_tick (w.stations.clocks i) q)))
+        → RestsBefore w.stations (first_outset w) i levels node (rest_first w i) }
+{
+    wl_phase::laws::an_edge_moves_the_sample();
+    crate::one_frame::laws::idle_machines_may_begin_together();
+    crate::one_frame::laws::no_edge_counts_then();
+    crate::one_frame::laws::a_station_begins_its_bits();
+    crate::one_frame::before::nothing_is_found_before_a_frame();
+    idle_stations_begin_a_first_frame();
+}
+
+/// Law: so each node of a line rests before that frame, if all drive what is expected.
 pub fn nodes_rest_before_a_first_frame()
     ensures { (l : Line) (setups : ℕ → NodeSetup) (w : Waiting) (length i : ℕ) → IsLineOf l setups w.stations
         → AreStations w.stations → HaveRoom w.stations → AreIdle w → HandTheFirst w setups
@@ -45,12 +69,7 @@ pub fn nodes_rest_before_a_first_frame()
         → RestsBefore w.stations (first_outset w) i (finds_expected l w.stations (first_outset w) length i)
         (node_after (setups i) (finds_expected l w.stations (first_outset w) length i)) (rest_first w i) }
 {
-    wl_phase::laws::an_edge_moves_the_sample();
-    crate::one_frame::laws::idle_machines_may_begin_together();
-    crate::one_frame::laws::no_edge_counts_then();
-    crate::one_frame::laws::a_station_begins_its_bits();
-    crate::one_frame::before::nothing_is_found_before_a_frame();
-    idle_stations_begin_a_first_frame();
+    a_node_rests_before_a_first_frame();
 }
 
 /// Law: up to then no frame has passed it, and it has found no error, nor has anything else happened that isn't fine. So it is with any node whose line is silent up to the quantum from

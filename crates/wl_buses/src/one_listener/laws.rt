@@ -1,13 +1,13 @@
 //! Laws of a node that only listens, each proved as the contract of a function that does nothing.
 
-ghost use Rattle.std.specs.Prelude.{◌≡◌, ◌≢◌, ◌+◌, ◌<◌, ◌≤◌, ◌||◌, ◌&&◌, ◌-◌, nat_le, ℕ, suc, Bool, false, []};
+ghost use Rattle.std.specs.Prelude.{◌≡◌, ◌≢◌, ◌⊎◌, ◌+◌, ◌<◌, ◌≤◌, ◌||◌, ◌&&◌, ◌-◌, nat_le, ℕ, suc, Bool, true, false, []};
 ghost use Rattle.wl_level.specs.declared.Level.{Level};
 ghost use Rattle.wl_level.specs.Levels.{level_of};
 ghost use Rattle.wl_node.specs.declared.setup.NodeSetup.{NodeSetup};
 ghost use Rattle.wl_node.specs.History.{History};
 ghost use Rattle.wl_topology.specs.Driven.{driven};
 ghost use Rattle.wl_buses.specs.OneFrame.Acknowledged.{IsAnsweredByAll, answering};
-ghost use Rattle.wl_buses.specs.OneFrame.Expected.{IsOutset, Outset, expected_bits, expected_sample};
+ghost use Rattle.wl_buses.specs.OneFrame.Expected.{IsOutset, Outset, edge_start, expected_bits, expected_sample};
 ghost use Rattle.wl_buses.specs.OneFrame.Machines.{HasWon};
 ghost use Rattle.wl_buses.specs.OneFrame.Nodes.{IsRun};
 ghost use Rattle.wl_buses.specs.OneFrame.Starts.{Start};
@@ -20,7 +20,9 @@ ghost use Rattle.wl_buses.specs.PassedFrames.Passing.{PassesOne};
 ghost use Rattle.wl_buses.specs.FrameEnd.Again.{RestsAgain};
 ghost use Rattle.wl_buses.specs.NextFrames.NextNodes.{GoesThrough};
 ghost use Rattle.wl_buses.specs.NextFrames.Frames.{AreInOrder, Frame, frames_drove, third_sample};
-ghost use Rattle.wl_buses.specs.OneListener.Frames.{CanAllBeHeard, ReceivesAll};
+ghost use Rattle.wl_buses.specs.OneListener.Same.{ExpectsTheSame};
+ghost use Rattle.wl_buses.specs.OneListener.Frames.{CanAllBeHeard, ReceivesAll, ReceivesFromPowerUp, waiting_with};
+ghost use Rattle.wl_buses.specs.FirstFrame.FirstStarts.{AreIdle, HandTheFirst, Waiting, first_outset};
 ghost use Rattle.wl_frame.specs.Grammar.{Content};
 ghost use Rattle.wl_buses.specs.OneFrame.Lines.{BeginsAfter};
 ghost use Rattle.wl_segments.specs.Lengths.{bit_quanta, sample_at};
@@ -143,4 +145,72 @@ pub fn a_listener_receives_all_frames()
     crate::next_frames::nodes::a_node_that_finds_its_end_goes_through_the_next_frame();
     crate::passed_frames::laws::a_frame_passes_a_node_that_finds_its_end();
     crate::passed_frames::laws::nothing_passes_a_waiting_node();
+}
+
+/// Law: so it is from its power-up on. Let the stations and the listener be idle before the first frame that any of them begins. Then the
+/// listener has received exactly these frames, and its counters are 0.
+pub fn a_listener_receives_all_frames_from_its_power_up()
+    ensures { (s : Stations) (w : Waiting) (frames : ℕ → Frame) (count : ℕ) (way : ℕ → ℕ → ℕ) (chase more : ℕ → ℕ)
+        → AreStations (with_listener s) → HaveRoom (with_listener s) → s.may_send s.count ≡ false
+        → (are : AreInOrder (with_listener s) frames count) → CanAllBeHeard s frames count are way chase more
+        → (content : ℕ → Content)
+        → ((n : ℕ) (less : n < count) → (are.each n less).won.frame ≡ content n) → 0 < count
+        → (frames 0).outset ≡ first_outset (waiting_with s w)
+        → AreIdle (waiting_with s w) → (setups : ℕ → NodeSetup) → HandTheFirst (waiting_with s w) setups
+        → (setups s.count).segments ≡ s.lengths s.count → (setups s.count).queue ≡ []
+        → (levels : ℕ → Level) (node : ℕ → History) → IsRun (setups s.count) levels node
+        → ((n q : ℕ) → n < count → q ≤ third_sample (with_listener s) (frames n) s.count
+        → levels q
+        ≡ level_of (hears s (frames_drove (with_listener s) frames count) (steady_tick (s.clocks s.count) q)))
+        → ReceivesFromPowerUp s frames count are content (setups s.count) levels node }
+{
+    wl_topology::driven_laws();
+    wl_phase::laws::an_edge_moves_the_sample();
+    crate::one_frame::before::nothing_is_found_before_a_frame();
+    crate::one_frame::laws::a_station_begins_its_bits();
+    crate::one_frame::laws::idle_machines_may_begin_together();
+    crate::one_frame::laws::no_edge_counts_then();
+    crate::first_frame::laws::idle_stations_begin_a_first_frame();
+    crate::frame_end::laws::all_may_begin_again();
+    wl_wire::laws::machines_stay_in_step();
+    wl_wire::laws::the_least_field_wins();
+    wl_machine::laws::a_transmitter_sends_its_head_stuffed();
+    wl_frame::laws::a_front_of_no_stuffing_ends_six_equal_bits();
+    wl_frame::laws::ten_bits_have_an_edge();
+    crate::next_frames::laws::stations_rest_after_a_frame();
+    crate::next_frames::nodes::a_node_waits_for_the_next_frame();
+    crate::next_frames::nodes::a_node_that_finds_its_end_goes_through_the_next_frame();
+    crate::passed_frames::laws::a_frame_passes_a_node_that_finds_its_end();
+    crate::passed_frames::laws::nothing_passes_a_waiting_node();
+    crate::passed_frames::laws::what_is_found_stays();
+}
+
+/// Law: a bit with an edge begins at the others as without the listener, if that one drives it recessive, or if what it drives reaches no
+/// other one before all have begun the bit.
+pub fn a_listener_moves_no_edge()
+    ensures { (s : Stations) (drives old : ℕ → Bool) (due due_old : ℕ → ℕ) → AreStations (with_listener s) → AreStations s
+        → ((k : ℕ) → k < s.count → drives k ≡ old k) → ((k : ℕ) → k < s.count → due k ≡ due_old k)
+        → (drives s.count ≡ false) ⊎ ((i k : ℕ) → i < s.count → k < s.count
+        → steady_tick (s.clocks k) (due k) + s.delay k i < s.delay s.count i)
+        → ((i : ℕ) → i < s.count → drives i ≡ false → (w : ℕ) × (w < s.count) × (drives w ≡ true))
+        → (i : ℕ) → i < s.count
+        → ((edge_start (with_listener s) drives due).place i ≡ (edge_start s old due_old).place i)
+        × ((edge_start (with_listener s) drives due).from i ≡ (edge_start s old due_old).from i) }
+{}
+
+/// Law: so a listener changes no bit that is expected of the others. Whether it is among the stations or not, the same reaches their machines,
+/// their bits begin with the same quanta, and they drive the same.
+pub fn a_listener_changes_no_expected_bit()
+    ensures { (s : Stations) (o : Outset) (end : ℕ) → AreStations (with_listener s) → HaveRoom (with_listener s)
+        → AreStations s → 1 < s.count → s.may_send s.count ≡ false → IsOutset (with_listener s) o
+        → EndsBefore (with_listener s) o end
+        → HasWon (with_listener s) (expected_bits (with_listener s) o) o.frames end
+        → IsUnheard s o end → ExpectsTheSame s o end }
+{
+    wl_topology::driven_laws();
+    wl_wire::laws::machines_stay_in_step();
+    wl_wire::laws::the_least_field_wins();
+    wl_machine::laws::a_transmitter_sends_its_head_stuffed();
+    wl_frame::laws::a_front_of_no_stuffing_ends_six_equal_bits();
+    wl_frame::laws::ten_bits_have_an_edge();
 }
