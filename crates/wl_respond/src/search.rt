@@ -285,7 +285,8 @@ pub fn bounds_of(
     family: &Family,
     messages: &[MessageWait],
 ) -> Result<Found, AllocError>
-    ensures { IfOk result (λ found. found.passes ≡ pass (plain_bus family.now) found.messages.items found.windows.items) }
+    ensures { IfOk result (λ found. found.passes
+        ≡ pass (plain_bus family.now) found.messages.items found.windows.items) }
 {
     let times = family.times();
     let common = Common {
