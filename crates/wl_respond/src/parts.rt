@@ -147,8 +147,8 @@ pub(crate) struct Case<'a> {
 
 /// True if instance `j` of `m` waits as long as its bound says.
 fn reaches(case: &Case, m: &Row, j: usize) -> bool
-    ensures { result
-        ≡ reaches case.now.common.lead case.now.common.wake case.now.rows.now case.now.windows.now m.now j }
+    ensures { result ≡ reaches case.now.common.lead case.now.common.wake case.now.rows.now case.now.windows.now
+        m.now j }
 {
     let it = instance_at(case.windows, m, j);
     let late = (j as u128).saturating_mul(m.period());
@@ -201,8 +201,8 @@ fn shares_at(case: &Case, m: &Row, it: Instance) -> Shares
 /// Returns the parts of the bound of `m`, whose node has this shortest quantum, by what its instance waits for.
 fn parts_late(case: &Case, shortest: u128, m: &Row, by: Shares) -> Parts
     requires { case.now.tick < 2 ^ 36 }
-    ensures { result ≡ parts_late case.now.common.lead case.now.common.wake case.now.rows.now case.now.tick
-        shortest m.now by.late by.blocked by.own by.others }
+    ensures { result ≡ parts_late case.now.common.lead case.now.common.wake case.now.rows.now case.now.tick shortest
+        m.now by.late by.blocked by.own by.others }
 {
     let tick = case.tick;
     let bound = nanoseconds_around(tick, m.wait());
@@ -299,9 +299,8 @@ fn bounded_line(case: &Case, asked: &Asked) -> (Met, Parts)
     requires shift { case.now.times.shift < drift_limit }
     ensures met { result.0 ≡ met_by (row_for (plain_bus case.now.family.now) case.now.times asked.now.message).wait
         asked.now.jitter (deadline_of (plain_bus case.now.family.now) asked.now) }
-    ensures parts { result.1
-        ≡ parts_of case.now.common.lead case.now.common.wake case.now.rows.now case.now.windows.now case.now.tick
-        (shortest_at (plain_bus case.now.family.now) asked.now.message.node)
+    ensures parts { result.1 ≡ parts_of case.now.common.lead case.now.common.wake case.now.rows.now
+        case.now.windows.now case.now.tick (shortest_at (plain_bus case.now.family.now) asked.now.message.node)
         (row_for (plain_bus case.now.family.now) case.now.times asked.now.message) }
 {
     let family = case.family;
