@@ -1,22 +1,18 @@
 -- A node that runs again and may leave the bus: before it leaves it is one that stays, and after that nothing changes.
-use Rattle.std.proofs.Common.{◌≡◌, ◌∙◌, ℕ, zero, suc, Option, Some, nat_le, take, append_assoc, length-append, ◌+◌, ◌-◌, ◌<◌, ◌≤◌, Bool, true, false, List, [], ◌++◌, length, replicate, None, refl, sym, ap, subst, arith, append-nil}
+use Rattle.std.proofs.Common.{◌≡◌, ◌∙◌, ℕ, zero, suc, Option, Some, nat_le, take, length-append, ◌<◌, ◌≤◌, Bool, true, false, List, [], ◌++◌, length, replicate, None, refl, sym, ap, subst, arith, append-nil}
 use Rattle.std.proofs.lemmas.Bool.{le-leb, leb-true, leb-false, lt-leb, lt-ltb, ltb-true, ltb-false}
-use Rattle.std.proofs.lemmas.List.{length-replicate, length-take, replicate-append-replicate}
+use Rattle.std.proofs.lemmas.List.{length-replicate, length-take}
 use Rattle.wl_level.specs.declared.Level.{Level}
 use Rattle.wl_level.specs.declared.Level.TheVariants.{Recessive}
 use Rattle.wl_node.specs.declared.setup.NodeSetup.{NodeSetup}
 use Rattle.wl_node.specs.History.{levels_there, levels_away, is_after, has_left, quanta_before}
 use Rattle.wl_node.proofs.Callers.{AreThere, HaveLeft, all_of, are_there, away_drive, have_left, history_there, left_is, not_left, not_left_is, same_past}
-use Rattle.wl_trace.specs.declared.event.Noted.{Noted}
-use Rattle.wl_trace.specs.declared.rerun.Rerun.{Rerun}
 use Rattle.wl_trace.specs.declared.staying_rerun.StayingRerun.{StayingRerun}
-use Rattle.wl_trace.specs.Rerun.{RunsAgain, RunsOver, samples_seen}
+use Rattle.wl_trace.specs.Rerun.{samples_seen}
 use Rattle.wl_trace.specs.StayingRerun.{IsStayingRerun, RunsStaying, staying_samples}
-use Rattle.wl_trace.proofs.RunOver.{longer}
 use Rattle.wl_trace.specs.Snapshot.{mark, snapshot_of, staying_snapshot}
 use Rattle.wl_trace.specs.Starts.{starts_of, staying_starts}
 use Rattle.wl_trace.specs.States.{node_state_of, state_by}
-use Rattle.wl_trace.specs.Synced.{syncs_of}
 use Rattle.wl_confine.specs.Counts.{counts_of}
 use Rattle.wl_machine.specs.Judged.{stretch_of}
 
@@ -83,34 +79,6 @@ there_left until levels at = not_left_is until levels (ap length at.away)
 -- one that runs again with its starts runs again
 pub runs_on : {setup : NodeSetup} {levels : List Level} {kept : StayingRerun} → IsStayingRerun setup levels kept → RunsStaying setup levels kept
 runs_on {setup} {levels} is = record { starts = length (staying_starts setup levels); clock = is.clock; run = is.run; fewer = is.fewer }
-
--- quanta of one level, and some more
-pub over_more : (setup : NodeSetup) (quantum a b : ℕ) (level : Level) (old mid new : Rerun) (first second third : List Noted)
-    → RunsOver setup quantum a level old mid first second → RunsOver setup (quantum + a) b level mid new second third → RunsOver setup quantum (a + b) level old new first third
-over_more setup quantum a b level old mid new first second third left right = record {
-  run = λ levels n is. subst (λ more. RunsAgain setup more new) (together levels)
-      (right.run (levels ++ replicate a level) (longer levels level quantum a n) (left.run levels n is));
-  syncs = λ levels n is e.
-      right.syncs (levels ++ replicate a level) (longer levels level quantum a n) (left.run levels n is) (left.syncs levels n is e) ∙ ap (syncs_of setup) (together levels);
-}
-  where
-    together : (levels : List Level) → (levels ++ replicate a level) ++ replicate b level ≡ levels ++ replicate (a + b) level
-    together levels = append_assoc levels (replicate a level) (replicate b level) ∙ ap (λ more. levels ++ more) (replicate-append-replicate a b level)
-
-pub over_none : (setup : NodeSetup) (quantum : ℕ) (level : Level) (node : Rerun) (syncs : List Noted) → RunsOver setup quantum 0 level node node syncs syncs
-over_none setup quantum level node syncs = record {
-  run = λ levels n is. subst (λ more. RunsAgain setup more node) (sym (append-nil levels)) is;
-  syncs = λ levels n is e. e ∙ ap (syncs_of setup) (sym (append-nil levels));
-}
-
--- so many quanta come before it leaves that with the next it is away
-pub away_then : (until : Option ℕ) (quantum most : ℕ) → 0 < most - quanta_before until quantum most → is_after until (quantum + quanta_before until quantum most) ≡ true
-away_then None quantum most some = absurd (omega (arith, some))
-away_then (Some n) quantum most some = le-leb n (quantum + quanta_before (Some n) quantum most) (omega (arith, some))
-
-pub there_few : (until : Option ℕ) (quantum most : ℕ) → quanta_before until quantum most ≤ quanta_before until quantum (quanta_before until quantum most)
-there_few None quantum most = omega arith
-there_few (Some n) quantum most = omega arith
 
 -- so many quanta come before it leaves, at least one
 pub before_it : (until : Option ℕ) (levels : List Level) (level : Level) (most : ℕ) → most ≤ quanta_before until (length levels) most → 0 < most

@@ -1,12 +1,12 @@
 -- What is kept of a node that runs again over the levels that it saw, and that may leave the bus.
-use Rattle.std.specs.Prelude.{◌≡◌, ℕ, List, ◌++◌, length, replicate, Option, None, if◌then◌else◌}
+use Rattle.std.specs.Prelude.{◌≡◌, ℕ, List, length, Option, None, if◌then◌else◌}
 use Rattle.wl_level.specs.declared.Level.{Level}
 use Rattle.wl_node.specs.declared.setup.NodeSetup.{NodeSetup}
 use Rattle.wl_node.specs.History.{history_of, staying_history, levels_there, is_after, has_left}
 use Rattle.wl_trace.specs.declared.rerun.Rerun.{Rerun}
 use Rattle.wl_trace.specs.declared.event.Noted.{Noted}
 use Rattle.wl_trace.specs.StayingRerun.{IsStayingRerun, RunsStaying}
-use Rattle.wl_trace.specs.Synced.{sync_next, syncs_of}
+use Rattle.wl_trace.specs.Synced.{sync_next}
 
 -- what is kept is that of a node of this setup that saw these levels
 pub record IsRerun (setup : NodeSetup) (levels : List Level) (kept : Rerun) : Type 0 where
@@ -25,9 +25,3 @@ sync_at_next setup levels level = if is_after setup.until (length levels) then N
 -- the samples of a node that saw these levels
 abbrev pub samples_seen : NodeSetup → List Level → List (ℕ × Level)
 samples_seen setup levels = (history_of setup levels).samples
-
--- From one node to another so many quanta of this level have run, of which the first has this number, and how their edges synchronised it was added to a list.
-pub record RunsOver (setup : NodeSetup) (quantum n : ℕ) (level : Level) (old new : Rerun) (before after : List Noted) : Type 0 where
-  pub run : (levels : List Level) → length levels ≡ quantum → RunsAgain setup levels old → RunsAgain setup (levels ++ replicate n level) new
-  pub syncs : (levels : List Level) → length levels ≡ quantum → RunsAgain setup levels old → before ≡ syncs_of setup levels
-      → after ≡ syncs_of setup (levels ++ replicate n level)

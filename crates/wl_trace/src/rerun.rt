@@ -3,9 +3,8 @@ ghost use Rattle.std.specs.Prelude.{◌≡◌, ℕ, ◌+◌, ◌-◌, ◌<◌, �
 ghost use Rattle.wl_level.specs.declared.Level.{Level};
 ghost use Rattle.wl_node.specs.declared.setup.NodeSetup.{NodeSetup};
 ghost use Rattle.wl_node.specs.History.{is_after, quanta_before};
-ghost use Rattle.wl_trace.specs.Rerun.{IsRerun, RunsAgain, RunsOver, samples_seen, sync_at_next};
+ghost use Rattle.wl_trace.specs.Rerun.{IsRerun, RunsAgain, samples_seen, sync_at_next};
 ghost use Rattle.wl_trace.specs.StayingRerun.{sample_if};
-ghost use Rattle.wl_trace.specs.declared.event.Noted.{Noted as GivenNoted};
 ghost use Rattle.wl_trace.specs.Snapshot.{snapshot_of};
 ghost use Rattle.wl_trace.specs.Synced.{syncs_of, with_next};
 
@@ -109,26 +108,6 @@ impl Rerun {
         self.staying.pass(level, quanta_there(setup, quantum, most))
     }
 
-    /// Runs this many quanta of this level, and adds how edges synchronise it to `syncs`. `quantum` is the number of the first, counted from
-    /// 0; `setup` is what it was made of. Refused only if memory runs out.
-    pub fn go(
-        &mut self,
-        setup: &NodeSetup,
-        quantum: u64,
-        level: Level,
-        most: u64,
-        syncs: &mut Vec<Noted>,
-    ) -> Result<(), AllocError>
-        requires few { quantum + most < 2 ^ 64 }
-        ensures { OnOk result
-            (RunsOver setup.now quantum most level self.old self.new syncs.old.items syncs.new.items) }
-    {
-        let there = quanta_there(setup, quantum, most);
-        self.go_there(setup, quantum, level, there, syncs)?;
-        self.go_away(setup, quantum + there, level, most - there);
-        Ok(())
-    }
-
     /// Runs quanta of this level: up to and including its next sample, or some that have none; at least one, and at most `most`. A node that
     /// has left the bus, or leaves it with the first one, runs them all. `quantum` is the number of the first, counted from 0; `setup` is what
     /// it was made of.
@@ -156,37 +135,5 @@ impl Rerun {
         }
         let there = quanta_there(setup, quantum, most);
         self.staying.stride(setup, quantum, level, there)
-    }
-
-    /// Runs such quanta before it leaves the bus.
-    fn go_there(
-        &mut self,
-        setup: &NodeSetup,
-        quantum: u64,
-        level: Level,
-        most: u64,
-        syncs: &mut Vec<Noted>,
-    ) -> Result<(), AllocError>
-        requires there { most ≤ quanta_before setup.now.until quantum most }
-        requires few { quantum + most < 2 ^ 64 }
-        ensures { OnOk result
-            (RunsOver setup.now quantum most level self.old self.new syncs.old.items syncs.new.items) }
-    {
-        if most == 0 {
-            return Ok(());
-        }
-        self.staying.go(setup, quantum, level, most, syncs)?;
-        Ok(())
-    }
-
-    /// Runs such quanta after it has left the bus, or leaves it with the first one.
-    fn go_away(&mut self, setup: &NodeSetup, quantum: u64, level: Level, most: u64)
-        requires { 0 < most → is_after setup.now.until quantum ≡ true }
-        ensures { (syncs : List GivenNoted) → RunsOver setup.now quantum most level self.old self.new syncs syncs }
-    {
-        if most == 0 {
-            return;
-        }
-        self.left = true;
     }
 }

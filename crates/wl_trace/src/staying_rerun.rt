@@ -67,33 +67,6 @@ fn noted_sync(quantum: u64, bit: u64, sync: Option<Sync>) -> Option<Noted>
     }
 }
 
-/// Adds an event at this quantum.
-fn push_noted(
-    events: &mut Vec<Noted>,
-    quantum: u64,
-    bit: u64,
-    event: NodeEvent,
-) -> Result<(), AllocError>
-    ensures { OnOk result (events.new.items ≡ events.old.items ++ noted quantum bit event ∷ []) }
-{
-    events.push(Noted {
-        quantum,
-        bit,
-        event,
-    })?;
-    Ok(())
-}
-
-/// Adds a synchronisation, if there is one.
-fn push_sync(syncs: &mut Vec<Noted>, sync: Option<Noted>) -> Result<(), AllocError>
-    ensures { OnOk result (syncs.new.items ≡ with_next syncs.old.items sync) }
-{
-    match sync {
-        Some(one) => push_noted(syncs, one.quantum, one.bit, one.event),
-        None => Ok(()),
-    }
-}
-
 impl StayingRerun {
     /// Returns a node of this setup before its first quantum: it drives recessive. Refused only if memory runs out.
     pub fn new(alloc: Global, setup: &NodeSetup) -> Result<StayingRerun, AllocError>
@@ -229,27 +202,6 @@ impl StayingRerun {
         quanta
     }
 
-    /// Runs this many quanta of this level, and adds how edges synchronise it to `syncs`. `quantum` is the number of the first, counted from
-    /// 0; `setup` is what it was made of. Refused only if memory runs out.
-    pub fn go(
-        &mut self,
-        setup: &NodeSetup,
-        quantum: u64,
-        level: Level,
-        most: u64,
-        syncs: &mut Vec<Noted>,
-    ) -> Result<(), AllocError>
-        requires few { quantum + most < 2 ^ 64 }
-        ensures { OnOk result
-            (StaysOver setup.now quantum most level self.old self.new syncs.old.items syncs.new.items) }
-    {
-        let mut done = 0;
-        while done < most {
-            done += self.leap(setup, quantum + done, level, most - done, syncs)?;
-        }
-        Ok(())
-    }
-
     /// Runs the quanta of this level up to and including the next sample. It runs none if the sample comes later than `most` quanta, if an
     /// edge comes up to it, or if a bit's start before it changes what the node drives. The mark of starts isn't kept. Returns how many.
     fn sample_ahead(&mut self, setup: &NodeSetup, quantum: u64, level: Level, most: u64) -> u64
@@ -306,26 +258,5 @@ impl StayingRerun {
             sampled: self.sampled != before,
             sync,
         }
-    }
-
-    /// Runs such quanta, and adds how an edge synchronises the node. Returns how many.
-    fn leap(
-        &mut self,
-        setup: &NodeSetup,
-        quantum: u64,
-        level: Level,
-        most: u64,
-        syncs: &mut Vec<Noted>,
-    ) -> Result<u64, AllocError>
-        requires some { 0 < most }
-        requires few { quantum + most < 2 ^ 64 }
-        ensures ran { IfOk result (λ n.
-            StaysOver setup.now quantum n level self.old self.new syncs.old.items syncs.new.items) }
-        ensures some { IfOk result (λ n. 0 < n) }
-        ensures few { IfOk result (λ n. n ≤ most) }
-    {
-        let stride = self.stride(setup, quantum, level, most);
-        push_sync(syncs, stride.sync)?;
-        Ok(stride.quanta)
     }
 }
