@@ -20,4 +20,5 @@ mod Starting
 mod Tables
 mod Stuffings
 mod Texts
+mod Said
 mod Bounded
