@@ -8,26 +8,17 @@ use Rattle.wl_bound.specs.Conditions.{first_failure_of, plain}
 use Rattle.wl_bound.specs.Decides.{decides_twice, first_to_decide_twice, leaves_room_to_decide}
 use Rattle.wl_bound.specs.Families.{Buses}
 use Rattle.wl_bound.specs.Rooms.{plain_bus}
-use Rattle.wl_bound.specs.Verdicts.{for_any, for_one, outside_of, unless_outside, verdict_of}
-use Rattle.wl_bound.specs.declared.condition.Failure.{Failure}
+use Rattle.wl_bound.specs.Verdicts.{outside_of, unless_outside, verdict_of}
 use Rattle.wl_bound.specs.declared.condition.Senders.TheVariants.{Any, One}
 use Rattle.wl_bound.specs.declared.verdict.Outside.{Outside}
 use Rattle.wl_bound.specs.declared.verdict.Verdict.{Verdict}
 use Rattle.wl_bound.specs.declared.verdict.Verdict.TheVariants.{ForAny}
 use Rattle.wl_margin.specs.Paces.{is_turning}
+use Rattle.wl_proved.proofs.Said.{inside_verdict, none_fails}
 
 none_outside : (cause : Option Outside) (verdict : Verdict) → unless_outside cause verdict ≡ ForAny → cause ≡ None
 none_outside None verdict e = refl
 none_outside (Some cause) verdict e = cc
-
-inside_verdict : (cause : Option Outside) (verdict : Verdict) → unless_outside cause verdict ≡ ForAny → verdict ≡ ForAny
-inside_verdict None verdict e = e
-inside_verdict (Some cause) verdict e = cc
-
-none_fails : (any one : Option Failure) → for_any any (for_one one) ≡ ForAny → any ≡ None
-none_fails None one e = refl
-none_fails (Some failure) None e = cc
-none_fails (Some failure) (Some other) e = cc
 
 pub inside_of : (plan : Plan) (f : Buses) → verdict_of plan f ≡ ForAny → outside_of plan ≡ None
 inside_of plan f e = none_outside _ _ e

@@ -20,5 +20,6 @@ mod Starting
 mod Tables
 mod Stuffings
 mod Texts
+mod Said
 mod Bounded
 mod OfText

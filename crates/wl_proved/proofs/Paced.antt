@@ -13,7 +13,7 @@ use Rattle.wl_topology.proofs.Callers.{any_one}
 use Rattle.wl_node.specs.declared.setup.Queued.{Queued}
 use Rattle.wl_plan.specs.declared.plan.Plan.{Plan}
 use Rattle.wl_plan.specs.PlanLine.{no_setup, setup_at}
-use Rattle.wl_phase.specs.Clocks.{HasRate, Steady, steady_timing}
+use Rattle.wl_phase.specs.Clocks.{HasRate, Steady}
 use Rattle.wl_bound.specs.Conditions.{first_failure_of, plain}
 use Rattle.wl_bound.specs.Families.{Buses, longest_in, shortest_in, units}
 use Rattle.wl_bound.specs.Verdicts.{at_node, for_any, for_one, has_frames, is_after, sends_something, unless_outside, verdict_of, without_book}

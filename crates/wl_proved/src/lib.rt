@@ -6,4 +6,5 @@
 pub mod beside;
 pub mod laws;
 pub mod plans;
+pub mod silence;
 pub mod waits;

@@ -9,9 +9,6 @@ ghost use Rattle.wl_plan.specs.declared.plan.Plan.{Plan};
 ghost use Rattle.wl_plan.specs.Checked.{IsChecked};
 ghost use Rattle.wl_plan.specs.Line.{Line};
 ghost use Rattle.wl_plan.specs.PlanLine.{line_of, setup_at};
-ghost use Rattle.wl_plan.specs.Simulation.{AreInside};
-ghost use Rattle.wl_frame.specs.Grammar.{Content};
-ghost use Rattle.wl_buses.specs.CleanLines.Lines.{line_history};
 ghost use Rattle.wl_bound.specs.Conditions.{IsSound};
 ghost use Rattle.wl_bound.specs.Families.{Bus, Buses};
 ghost use Rattle.wl_bound.specs.Rooms.{leaves_room, plain_bus};
@@ -31,8 +28,8 @@ ghost use Rattle.wl_buses.specs.NextFrames.Frames.{HasRoomForAll};
 ghost use Rattle.wl_node.specs.declared.setup.NodeSetup.{NodeSetup};
 ghost use Rattle.wl_node.specs.History.{History};
 ghost use Rattle.wl_silence.specs.Restarts.{GoesOnAs, IsUnharmed, history_on, setup_since};
-ghost use Rattle.wl_silence.specs.Silences.{HasFramesLeft, HaveFramesLeft, IsAsFresh, IsCleanSince, IsLineOfSince, IsSilentFor, IsSilentNode, WaitsForFrames, eleventh_of, after_eleventh, joins_at, silence_bits};
-ghost use Rattle.wl_silence.specs.Shown.{ShowsClean};
+ghost use Rattle.wl_silence.specs.Silences.{HasFramesLeft, HaveFramesLeft, IsAsFresh, IsCleanSince, IsLineOfSince, IsSilentFor, IsSilentNode, WaitsForFrames, eleventh_of, joins_at, silence_bits};
+ghost use Rattle.wl_silence.specs.Shown.{ShowCleanSince};
 ghost use Rattle.wl_silence.specs.SilentPlans.{NoneDisturbsSince, undisturbed_plan};
 
 /// Law: a node goes on as one that powered up later with the frames that it hadn't sent then, if both are alike once. Both drive the same, and the
@@ -91,10 +88,7 @@ pub fn a_line_is_clean_after_a_silence()
 /// and what its queue still has, are the frames that were left in it, each once.
 pub fn what_a_clean_line_shows()
     ensures { (l : Line) (setups : ℕ → NodeSetup) (s : Stations) (from : ℕ) (first : ℕ → ℕ) → s.count ≡ l.nodes
-        → IsCleanSince l setups s from first → (sender : ℕ → ℕ) × (content : ℕ → Content) × (count : ℕ)
-        × ((i k : ℕ) → i < l.nodes → after_eleventh l setups first i ≤ k → AreInside l i k
-        → ShowsClean (setups i) i sender content count (line_history l setups i (after_eleventh l setups first i))
-        (line_history l setups i k)) }
+        → IsCleanSince l setups s from first → ShowCleanSince l setups first }
 {}
 
 /// Law: so it is with each plan on a bus that is proved for any senders, but with disturbances, and with power-ups at any time before the
