@@ -5,3 +5,4 @@ pub mod Frames
 pub mod PoweredUp
 pub mod Unchanged
 pub mod Same
+pub mod Rows

@@ -1,5 +1,5 @@
 -- A bit with an edge begins at the others as without a listener, if what that drives doesn't reach them in time.
-use Rattle.std.proofs.Common.{◌≡◌, ◌≢◌, ◌∙◌, ◌⊎◌, inl, inr, refl, sym, ap, subst, ℕ, zero, suc, ◌+◌, ◌-◌, ◌<◌, ◌≤◌, ◌&&◌, ◌||◌, not, max, cond, Bool, true, false, Option, Some, None, arith}
+use Rattle.std.proofs.Common.{◌≡◌, ◌≢◌, ◌∙◌, ◌⊎◌, inl, inr, refl, sym, ap, ℕ, zero, suc, ◌+◌, ◌-◌, ◌<◌, ◌≤◌, ◌&&◌, ◌||◌, not, max, cond, Bool, true, false, Option, Some, None, arith}
 use Rattle.std.specs.Prelude.{◌==◌, nat_le}
 use Rattle.std.proofs.lemmas.Bool.{and_from, and_right, cases_Bool, cases_lt, le-leb, lt-leb, ne_eqb, or_left}
 use Rattle.wl_level.proofs.Callers.{first_cong, first_found, first_is, first_none}
@@ -8,7 +8,7 @@ use Rattle.wl_topology.proofs.Callers.{any_from, any_same}
 use Rattle.wl_phase.specs.Clocks.{steady_tick}
 use Rattle.wl_phase.specs.Ways.{moved_to}
 use Rattle.wl_buses.specs.OneFrame.Stations.{AreStations, Stations}
-use Rattle.wl_buses.specs.OneFrame.Expected.{edge_start, found_before, from_found, is_reached, looks_up_to, most, place_found, settled}
+use Rattle.wl_buses.specs.OneFrame.Expected.{edge_start, found_before, from_found, is_reached, most, place_found, settled}
 use Rattle.wl_buses.specs.OneListener.Beside.{with_listener}
 use Rattle.wl_buses.proofs.BothProofs.Small.{ticks_up}
 use Rattle.wl_buses.proofs.OneFrame.Lines.{no_or}

@@ -185,10 +185,11 @@ pub fn a_listener_receives_all_frames_from_its_power_up()
     crate::passed_frames::laws::what_is_found_stays();
 }
 
-/// Law: a bit with an edge begins at the others as without the listener, if that one drives it recessive, or if what it drives reaches no
-/// other one before all have begun the bit.
+/// Law: a bit with an edge begins at the others as without the listener. That holds if the listener drives it recessive, or if what it drives
+/// reaches no other one before all have begun the bit.
 pub fn a_listener_moves_no_edge()
-    ensures { (s : Stations) (drives old : ℕ → Bool) (due due_old : ℕ → ℕ) → AreStations (with_listener s) → AreStations s
+    ensures { (s : Stations) (drives old : ℕ → Bool) (due due_old : ℕ → ℕ)
+        → AreStations (with_listener s) → AreStations s
         → ((k : ℕ) → k < s.count → drives k ≡ old k) → ((k : ℕ) → k < s.count → due k ≡ due_old k)
         → (drives s.count ≡ false) ⊎ ((i k : ℕ) → i < s.count → k < s.count
         → steady_tick (s.clocks k) (due k) + s.delay k i < s.delay s.count i)

@@ -1,4 +1,4 @@
-use Rattle.wl_buses.proofs.FirstFrame.Resting.{nothing_first, rests_first}
+use Rattle.wl_buses.proofs.FirstFrame.Resting.{rests_first}
 use Rattle.wl_buses.proofs.first_frame.laws.a_node_rests_before_a_first_frame.Goals as goal
 
 pub returns : goal.returns

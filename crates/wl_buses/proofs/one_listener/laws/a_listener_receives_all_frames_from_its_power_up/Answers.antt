@@ -1,6 +1,4 @@
-use Rattle.std.proofs.Common.{◌≡◌, ◌∙◌, ap, ℕ, suc, ◌+◌, ◌<◌, ◌≤◌, ◌++◌, arith}
-use Rattle.wl_segments.specs.Lengths.{sample_at}
-use Rattle.wl_node.specs.History.{error_count}
+use Rattle.std.proofs.Common.{◌≡◌, ◌∙◌, ap, ℕ, suc, ◌<◌, ◌++◌, arith}
 use Rattle.wl_buses.specs.FirstFrame.Faults.{fault_count}
 use Rattle.wl_buses.specs.FirstFrame.FirstStarts.{rest_first}
 use Rattle.wl_buses.specs.NextFrames.Frames.{third_sample}
