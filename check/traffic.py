@@ -20,6 +20,7 @@ from tally import asked_bare
 
 PICOSECONDS = {"ps": 1, "ns": 1_000, "us": 1_000_000}
 EXAMPLE = Path(__file__).resolve().parent.parent / "examples/periodic_500k.toml"
+TROUBLE = ("waiting", "delimiter")
 QUIET = ("idle", "suspended", "integrating", "bus_off")
 
 
@@ -159,6 +160,21 @@ def late_words(message, tick):
     return f"{word} {message.name} {digits(message.message)} waits {waits} us allowed {allowed} us"
 
 
+def trouble_until(setup, node, end):
+    """Until which tick a node is at a flag or its delimiter."""
+    gone = end if setup.until is None else min(end, setup.clock.at(setup.until))
+    ticks = [tick for tick, _ in node.states[1:]] + [gone]
+    return max((max(tick, after) for (tick, words), after in zip(node.states[1:], ticks[1:]) if words[3].endswith("_flag") or words[3] in TROUBLE), default=0)
+
+
+def healed(plan, nodes, tick):
+    """From when on no node is at a flag or its delimiter after the last disturbance, if all is over before the end and no node was bus off."""
+    last = max((to for _, _, _, to in plan.disturbances), default=0)
+    if not last or any(state[3] == "bus_off" for node in nodes for _, state in node.states): return
+    clean = max([last] + [trouble_until(setup, node, plan.end) for setup, node in zip(plan.nodes, nodes)])
+    if clean < plan.end: yield f"healed {(clean - last) * tick // 1_000_000} us after the last disturbance, clean from tick {clean} on"
+
+
 def kind_of(frame):
     return frame.extended, frame.id, frame.remote
 
@@ -211,7 +227,7 @@ def traffic_text(plan, tick=1_000):
     lines = [bus_words(free, plan.end, tick)]
     for i, (setup, node) in enumerate(zip(plan.nodes, nodes)): lines += messages(i, setup, node, tick)
     words = list(unequal(plan.nodes, nodes))
-    return lines + words + verdict(plan.nodes, nodes, full, tick, words)
+    return lines + words + list(healed(plan, nodes, tick)) + verdict(plan.nodes, nodes, full, tick, words)
 
 
 def picoseconds(word):

@@ -66,6 +66,10 @@ deliveries : formatted Json subject.Traffic (codes "missed far 1 of 3 frames of 
     ≡ Some (codes "{\"command\":\"traffic\",\"records\":[\n{\"kind\":\"missed\",\"receiver\":\"far\",\"frames\":1,\"sent\":3,\"name\":\"pump\",\"id\":\"0x1a0\"},\n{\"kind\":\"twice\",\"receiver\":\"panel\",\"frames\":2,\"sent\":3,\"name\":\"pump\",\"id\":\"0x000001a0\"}\n]}\n")
 deliveries = refl
 
+healed : formatted Json subject.Traffic (codes "healed 14 us after the last disturbance, clean from tick 412000 on\n")
+    ≡ Some (codes "{\"command\":\"traffic\",\"records\":[\n{\"kind\":\"healed\",\"healed_us\":14,\"tick\":412000}\n]}\n")
+healed = refl
+
 no_line : formatted Json subject.Trace [] ≡ Some (codes "{\"command\":\"trace\",\"records\":[\n]}\n")
 no_line = refl
 

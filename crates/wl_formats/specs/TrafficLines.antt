@@ -31,7 +31,7 @@ traffic_layout = record {
       codes "waiting" ∷ codes "lost" ∷ codes "broken" ∷ codes "least_quanta" ∷ codes "mean_quanta" ∷
       codes "greatest_quanta" ∷ codes "least_us" ∷ codes "mean_us" ∷ codes "greatest_us" ∷ codes "verdict" ∷ codes "full_us" ∷
       codes "waits_us" ∷ codes "allowed_us" ∷ codes "passed" ∷ codes "most_passed" ∷ codes "bound_quanta" ∷ codes "bound_us" ∷
-      codes "receiver" ∷ codes "frames" ∷ [];
+      codes "receiver" ∷ codes "frames" ∷ codes "healed_us" ∷ codes "tick" ∷ [];
   forms =
       record {
         kind = codes "bus";
@@ -75,6 +75,13 @@ traffic_layout = record {
       } ∷
       delivery_form (codes "missed") ∷
       delivery_form (codes "twice") ∷
+      record {
+        kind = codes "healed";
+        parts =
+            literal (codes "healed ") ∷ field (codes "healed_us") Number ∷
+            literal (codes " us after the last disturbance, clean from tick ") ∷ field (codes "tick") Number ∷
+            literal (codes " on") ∷ [];
+      } ∷
       record {
         kind = codes "verdict";
         parts =

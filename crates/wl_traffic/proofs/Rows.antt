@@ -5,7 +5,7 @@ use Rattle.std.specs.Fmt.{digits}
 use Rattle.wl_clock.specs.Timing.{tick_of}
 use Rattle.wl_confine.specs.declared.ErrorKind.TheVariants.{Bit}
 use Rattle.wl_machine.specs.declared.doing.Doing.{Doing}
-use Rattle.wl_machine.specs.declared.doing.Doing.TheVariants.{Integrating, Idle, Receiving, Transmitting, Intermission, Suspended, OffBus}
+use Rattle.wl_machine.specs.declared.doing.Doing.TheVariants.{ActiveFlag, Delimiting, Integrating, Idle, Receiving, Transmitting, Intermission, Suspended, OffBus, Waiting}
 use Rattle.wl_node.specs.declared.setup.Passed.{Passed}
 use Rattle.wl_trace.specs.declared.event.NodeEvent.{NodeEvent}
 use Rattle.wl_trace.specs.declared.event.NodeEvent.TheVariants as events
@@ -23,6 +23,7 @@ use Rattle.wl_traffic.specs.declared.spans.Span.{Span}
 use Rattle.wl_traffic.specs.Entries.{entries_after, no_queued}
 use Rattle.wl_traffic.specs.Bus.{is_busy_span, load_below, share_of}
 use Rattle.wl_traffic.specs.Causes.{full_line, line_of_late}
+use Rattle.wl_traffic.specs.Healing.{clean_from, disturbed_until, healed_by, trouble_until}
 use Rattle.wl_traffic.specs.Late.{in_time, is_beaten, is_late, late_messages, period_of, ticks_waited}
 use Rattle.wl_traffic.specs.Messages.{statistics_words}
 use Rattle.wl_traffic.specs.Reasons.{first_reason, is_overload, is_stuck, waiting_reason}
@@ -132,6 +133,7 @@ a_queue = record {
   joined = Some 90;
   last = Some 2000;
   frames = [];
+  trouble = 0;
   received = 600 ∷ [];
   entries = entry 100 500 ∷ entry 500 800 ∷ left 900 ∷ [];
 }
@@ -265,3 +267,25 @@ overloads_line = refl
 full_lines : full_line nanosecond 60999 (message true true ∷ []) ++ full_line nanosecond 50000 (message true true ∷ []) ≡ codes "full for the last 60 us\n"
 unfolding digits
 full_lines = refl
+
+-- a node is at a flag and its delimiter from 10 to 24, and at no other one
+flagged : trouble_until (span Receiving 0 10 ∷ span ActiveFlag 10 16 ∷ span Waiting 16 17 ∷ span Delimiting 17 24 ∷ span Intermission 24 27 ∷ []) ≡ 24
+flagged = refl
+
+never_flagged : trouble_until sender ≡ 0
+never_flagged = refl
+
+-- the last disturbance ends at 100,000, and node 0 is at a flag up to 114,500
+last_disturbed : disturbed_until (record { node = None; x = 0; from = 10; to = 100000 } ∷ record { node = Some 1; x = 0; from = 20; to = 30 } ∷ []) ≡ 100000
+last_disturbed = refl
+
+last_clean : clean_from 100000 (record a_queue { trouble = 114500 } ∷ a_queue ∷ []) ≡ 114500
+last_clean = refl
+
+healed : healed_by nanosecond 400000 100000 114500 false ≡ codes "healed 14 us after the last disturbance, clean from tick 114500 on\n"
+unfolding digits
+healed = refl
+
+-- nothing is said without a disturbance, if it isn't over before the end, and if a node was bus off
+not_healed : healed_by nanosecond 400000 0 114500 false ++ healed_by nanosecond 114500 100000 114500 false ++ healed_by nanosecond 400000 100000 114500 true ≡ []
+not_healed = refl

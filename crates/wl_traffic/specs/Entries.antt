@@ -23,6 +23,8 @@ use Rattle.wl_traffic.specs.declared.entries.Entry.{Entry}
 use Rattle.wl_traffic.specs.declared.entries.Fate.{Fate}
 use Rattle.wl_traffic.specs.declared.entries.Fate.TheVariants.{Sent, Lost, Broken}
 use Rattle.wl_traffic.specs.declared.queues.NodeQueue.{NodeQueue}
+use Rattle.wl_traffic.specs.Healing.{trouble_until}
+use Rattle.wl_traffic.specs.States.{node_spans}
 use Rattle.wl_traffic.specs.Waits.{final_sample}
 
 -- the quanta at which a node received a frame
@@ -94,7 +96,7 @@ entries_by setup samples = (fold (queue_with_sample setup) (queue_before setup) 
 abbrev pub entries_of : Plan → ℕ → List Entry
 entries_of plan i = entries_by (setup_at plan i) (node_outcome_of plan i).samples
 
--- node i with its frames, the quanta of its eleventh recessive sample in a row and of its last one, and those at which it received a frame
+-- node i with its frames, the quanta of its eleventh recessive sample in a row and of its last one, and those at which it received a frame, and until when it was at flags
 abbrev pub node_queue : Plan → ℕ → NodeQueue
 node_queue plan i = record {
   node = i;
@@ -103,6 +105,7 @@ node_queue plan i = record {
   last = final_sample (node_outcome_of plan i).samples;
   frames = (node_outcome_of plan i).frames;
   received = received_quanta (node_outcome_of plan i).frames;
+  trouble = trouble_until (node_spans plan i);
   entries = entries_of plan i;
 }
 

@@ -3,6 +3,7 @@ pub mod Bus
 pub mod Waits
 pub mod Entries
 pub mod Known
+pub mod Healing
 pub mod Watching
 pub mod Messages
 pub mod Late

@@ -13,6 +13,8 @@ use Rattle.wl_serial.specs.Outcome.{outcome_of, totals_of}
 use Rattle.wl_traffic.specs.Bounds.{bound_lines}
 use Rattle.wl_traffic.specs.Bus.{bus_load, share_of}
 use Rattle.wl_traffic.specs.Causes.{cause_lines, found_of}
+use Rattle.wl_traffic.specs.Entries.{node_queues}
+use Rattle.wl_traffic.specs.Healing.{healed_line}
 use Rattle.wl_traffic.specs.Messages.{all_messages}
 use Rattle.wl_traffic.specs.Unequal.{unequal_lines}
 use Rattle.wl_traffic.specs.Reasons.{reason_of, reason_word}
@@ -27,11 +29,12 @@ bus_line tick end bus =
 abbrev pub verdict_words : Reason → List ℕ
 verdict_words reason = joined (codes "verdict " ∷ reason_word reason ∷ codes "\n" ∷ [])
 
--- the bus, the messages of each node, bounds of their waits, the nodes that miss frames or have taken some twice, what the reason rests on, and the reason
+-- the bus, the messages of each node, bounds of their waits, the nodes that miss frames or have taken some twice, how soon the bus is clean after the last disturbance, what the reason rests on, and the reason
 abbrev pub bounded_text : Tick → Plan → List (List ℕ) → Option Waits → List ℕ
 bounded_text tick plan names waits =
     bus_line tick plan.end (bus_load plan) ++ all_messages tick plan names ++ bound_lines names waits
-    ++ unequal_lines names (found_of plan).unequal ++ cause_lines tick names (found_of plan) (totals_of (outcome_of plan)) ++ verdict_words (reason_of plan)
+    ++ unequal_lines names (found_of plan).unequal ++ healed_line tick plan (node_queues plan) (reason_of plan)
+    ++ cause_lines tick names (found_of plan) (totals_of (outcome_of plan)) ++ verdict_words (reason_of plan)
 
 -- of a run alone, without bounds
 abbrev pub traffic_text : Tick → Plan → List (List ℕ) → List ℕ

@@ -10,6 +10,7 @@ use Rattle.wl_trace.specs.Replay.{IsWatchedNode, SampledPast}
 use Rattle.wl_traffic.specs.declared.bus.BusyTicks.{BusyTicks}
 use Rattle.wl_traffic.specs.declared.entries.Entry.{Entry}
 use Rattle.wl_traffic.specs.declared.watch.Watch.{Watch}
+use Rattle.wl_traffic.specs.Healing.{HasTrouble}
 use Rattle.wl_traffic.specs.Bus.{is_busy_span, is_off_doing}
 use Rattle.wl_traffic.specs.Entries.{queue_before, queue_with_sample}
 use Rattle.wl_traffic.specs.States.{spans_of}
@@ -44,3 +45,4 @@ pub record HasWatched (setup : NodeSetup) (samples : List (ℕ × Level)) (w : W
   pub joining : w.joining ≡ fold joining_with no_joining samples
   pub last : w.last ≡ final_sample samples
   pub found : HasFound setup samples w.found
+  pub trouble : HasTrouble setup samples w.trouble

@@ -6,6 +6,7 @@ mod bus;
 mod causes;
 mod entries;
 mod found;
+mod healing;
 mod late;
 mod load;
 mod messages;

@@ -27,6 +27,8 @@ pub struct NodeQueue {
     pub(crate) frames: Listed<Passed>,
     /// The quanta at which it received a frame of another node.
     pub(crate) received: Listed<u64>,
+    /// Until which tick it was at flags and their delimiters; 0 if it never was.
+    pub(crate) trouble: u64,
     /// The frames, in the order of its queue.
     pub(crate) entries: Listed<Entry>,
 }

@@ -8,6 +8,7 @@ ghost use Rattle.wl_traffic.specs.Traffic.{IsTrafficOfBus, bus_line, bounded_tex
 use crate::bounds::push_bounds;
 use crate::causes::{microseconds_of, push_causes};
 use crate::found::found_of;
+use crate::healing::push_healed;
 use crate::load::{Load, share};
 use crate::messages::push_messages;
 use crate::queues::queues_are_known;
@@ -71,6 +72,7 @@ fn traffic_with(
     push_messages(alloc, &mut text, tick, plan, names, queues.as_slice())?;
     push_bounds(&mut text, names, waits)?;
     push_unequal(&mut text, names, found.unequal.as_slice())?;
+    push_healed(&mut text, tick, plan, queues.as_slice(), found.reason)?;
     push_causes(&mut text, tick, names, &found, counted.totals.as_slice())?;
     push_reason(&mut text, found.reason)?;
     let reason = found.reason;
@@ -82,7 +84,7 @@ fn traffic_with(
 /// The first line says for which share of the time the bus was busy, and for how long it wasn't at most. Then follows a line for each
 /// identifier of each node. It has how many frames were sent and are left, and how many waited at once at most. It has how many attempts
 /// lost the arbitration and broke off at an error, and how long the sent ones waited. Then follows a line for each node that misses frames of a
-/// message, or has taken some twice. The last line says why the run didn't work, or that it did. Before it is a line for each message that is
+/// message, or has taken some twice. If something disturbs, a line says how soon the bus is clean again. The last line says why the run didn't work, or that it did. Before it is a line for each message that is
 /// late, or for each node that is deaf, if the reason is that. Refused out of memory alone.
 pub fn traffic_of(
     alloc: Global,

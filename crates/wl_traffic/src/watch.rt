@@ -11,6 +11,7 @@ ghost use Rattle.wl_traffic.specs.Watching.{HasWatched};
 
 use crate::bus::{Bus, BusyTicks};
 use crate::entries::{Entry, note_sample, waiting_entries};
+use crate::healing::Trouble;
 use crate::load::load_below;
 use crate::nodes::{node_at, setup_of};
 use crate::queues::{NodeQueue, received_quanta};
@@ -44,6 +45,7 @@ pub(crate) struct Watch {
     /// The quantum of its last sample.
     pub(crate) last: Option<u64>,
     pub(crate) found: BusyTicks,
+    pub(crate) trouble: Trouble,
 }
 
 impl Watch {
@@ -57,6 +59,7 @@ impl Watch {
             joining: Joining::new(),
             last: None,
             found: BusyTicks::new(alloc),
+            trouble: Trouble::new(),
         })
     }
 
@@ -74,7 +77,9 @@ impl Watch {
     {
         note_sample(alloc, setup, &mut self.kept, &mut self.entries, sample)?;
         let doing = self.kept.doing();
-        self.found.take(alloc, doing, setup.clock.at(sample.0))?;
+        let at = setup.clock.at(sample.0);
+        self.found.take(alloc, doing, at)?;
+        self.trouble = self.trouble.with(doing, at);
         self.joining = self.joining.with(sample);
         self.last = Some(sample.0);
         Ok(())
@@ -120,7 +125,8 @@ fn watch_node(
     let received = received_quanta(alloc, node.frames.as_slice())?;
     let seen = watch_samples(alloc, plan, &counted.drives, i)?;
     let off = seen.found.off;
-    let found = seen.found.all_until(alloc, there_until(setup, plan.end))?;
+    let until = there_until(setup, plan.end);
+    let found = seen.found.all_until(alloc, until)?;
     busy.join(&found)?;
     let queue = NodeQueue {
         node: i,
@@ -129,6 +135,7 @@ fn watch_node(
         last: seen.last,
         frames,
         received: Listed::from_vec(received),
+        trouble: seen.trouble.by(until),
         entries: Listed::from_vec(seen.entries),
     };
     Ok((queue, off))

@@ -13,7 +13,8 @@ static TRAFFIC: Table = Table {
     columns: &[
         "load_percent", "gap_us", "node", "name", "id", "sent", "left", "waiting", "lost", "broken", "least_quanta",
         "mean_quanta", "greatest_quanta", "least_us", "mean_us", "greatest_us", "verdict", "full_us", "waits_us",
-        "allowed_us", "passed", "most_passed", "bound_quanta", "bound_us", "receiver", "frames",
+        "allowed_us", "passed", "most_passed", "bound_quanta", "bound_us", "receiver", "frames", "healed_us",
+        "tick",
     ],
     shapes: &[
         Shape { kind: "bus", pieces: &[
@@ -53,6 +54,10 @@ static TRAFFIC: Table = Table {
         Shape { kind: "twice", pieces: &[
             Fixed("twice "), Field("receiver", Word), Fixed(" "), Field("frames", Number), Fixed(" of "), Field("sent", Number),
             Fixed(" frames of "), Field("name", Word), Fixed(" "), Field("id", Hexadecimal),
+        ] },
+        Shape { kind: "healed", pieces: &[
+            Fixed("healed "), Field("healed_us", Number), Fixed(" us after the last disturbance, clean from tick "),
+            Field("tick", Number), Fixed(" on"),
         ] },
         Shape { kind: "verdict", pieces: &[
             Fixed("verdict "), Field("verdict", Phrase),

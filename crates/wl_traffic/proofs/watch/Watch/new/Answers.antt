@@ -11,4 +11,5 @@ returns c = record {
   joining = c.new-2.ensures;
   last = refl;
   found = c.new-3.ensures c.args.setup.now;
+  trouble = c.new-4.ensures c.args.setup.now;
 }

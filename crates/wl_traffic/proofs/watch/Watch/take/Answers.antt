@@ -32,7 +32,8 @@ returns c samples seen =
           c.in_ok-note_sample.ensures.entries front.0 seen.kept
           ∙ ap (λ (es : List Entry). (queue_with_sample setup (front.0, es) sample).1) seen.entries
           ∙ ap (λ (r : SampledPast × List Entry). r.1) (sym more);
-      joining = c.with-self.ensures ∙ ap (λ (j : Joining). joining_with j sample) seen.joining ∙ sym (fold-append joining_with no_joining samples (sample ∷ []));
+      joining = c.with-self-2.ensures ∙ ap (λ (j : Joining). joining_with j sample) seen.joining ∙ sym (fold-append joining_with no_joining samples (sample ∷ []));
       last = sym (final_more samples sample);
-      found = c.in_ok-take.ensures setup samples sample seen.found c.at.ensures.tick doing;
+      found = c.in_ok-take.ensures setup samples sample seen.found c.at-at.ensures.tick doing;
+      trouble = c.with-self.ensures setup samples sample seen.trouble c.at-at.ensures.tick doing;
     }
