@@ -31,7 +31,7 @@ INPUTS = {
     "plan-texts": (400, 60), "version-3": (200, 40), "settings": (60, 8), "formats": (60, 10), "sweeps": (60, 10), "hints": (100, 20), "workers": (20, 1),
 }
 PARTS = ["examples", "refused", "settings", "formats", "words"]
-ROWS = ["init", "margins", "plans", "records", "settings", "sweeps"]
+ROWS = ["init", "margins", "plans", "records", "settings", "sweeps", "waits"]
 PAGES = [
     "README.md", *(f"docs/use/{it}.md" for it in ["commands", "examples", "explain", "faults", "first-hour", "formats", "judge", "margins", "plan-text", "record-text", "units"]),
     *(f"docs/use/{it}.md" for it in ["reports", "respond", "settings", "sweeps", "trace", "traffic", "views"]), "docs/bus/any-senders.md",
