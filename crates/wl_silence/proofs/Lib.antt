@@ -6,6 +6,7 @@ mod Moved
 mod Lines
 mod PoweredUp
 mod Through
+mod Clean
 mod Shows
 mod AtFirst
 mod Rows
