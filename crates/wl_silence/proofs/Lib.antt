@@ -9,4 +9,5 @@ mod Through
 mod Clean
 mod Shows
 mod AtFirst
+mod Empty
 mod Rows

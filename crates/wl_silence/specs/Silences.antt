@@ -104,6 +104,10 @@ pub record WaitsForFrames (l : Line) (setups : ℕ → NodeSetup) (from until : 
 abbrev pub HasFramesLeft : Line → (setups : ℕ → NodeSetup) → (first : ℕ → ℕ) → ℕ → Type 0
 HasFramesLeft l setups first i = 0 < length (unsent_of (setups i) (line_history l setups i (after_eleventh l setups first i)))
 
+-- No node has one left.
+abbrev pub HaveNoFramesLeft : Line → (setups : ℕ → NodeSetup) → (first : ℕ → ℕ) → Type 0
+HaveNoFramesLeft l setups first = (i : ℕ) → i < l.nodes → unsent_of (setups i) (line_history l setups i (after_eleventh l setups first i)) ≡ []
+
 -- Frames of two nodes differ in format, identifier or RTR bit, and a node with frames may send. After the silence some node has one left.
 pub record HaveFramesLeft (l : Line) (setups : ℕ → NodeSetup) (s : Stations) (first : ℕ → ℕ) : Type 0 where
   pub frames : AreSoundFrames s.count (λ i. queued_contents (setups i).queue)
