@@ -1,22 +1,20 @@
 -- A line whose nodes wait for a first frame is silent.
-use Rattle.std.proofs.Common.{◌≡◌, ◌∙◌, ◌⊎◌, inl, inr, refl, sym, ap, subst, ℕ, zero, suc, ◌+◌, ◌-◌, ◌*◌, ◌<◌, ◌≤◌, ◌||◌, Bool, true, false, List, [], length, replicate, None, arith}
+use Rattle.std.proofs.Common.{◌≡◌, ◌∙◌, ◌⊎◌, inl, inr, refl, sym, ap, subst, ℕ, suc, ◌+◌, ◌*◌, ◌<◌, ◌≤◌, ◌||◌, Bool, true, false, [], length, replicate, None, arith}
 use Rattle.std.proofs.lemmas.Bool.{cases_Bool, cases_lt}
 use Rattle.wl_level.specs.declared.Level.{Level}
 use Rattle.wl_level.specs.declared.Level.TheVariants.{Recessive}
 use Rattle.wl_level.specs.Levels.{is_dominant, level_of}
-use Rattle.wl_confine.specs.declared.Mode.TheVariants.{Active}
 use Rattle.wl_confine.specs.Counts.{counts_of, is_error, mode_of, no_counts}
 use Rattle.wl_segments.specs.Lengths.{bit_quanta, sample_at}
-use Rattle.wl_topology.specs.Driven.{DrivenLaws, driven}
+use Rattle.wl_topology.specs.Driven.{driven}
 use Rattle.wl_machine.specs.Judged.{stretch_of}
 use Rattle.wl_machine.specs.Stretch.{Stretch}
 use Rattle.wl_machine.specs.Stretch.Sort.{Idle, Integration}
 use Rattle.wl_node.specs.declared.setup.NodeSetup.{NodeSetup}
-use Rattle.wl_node.specs.History.{History, counters_of, error_count, staying_history, unsent_of}
+use Rattle.wl_node.specs.History.{History, error_count, staying_history, unsent_of}
 use Rattle.wl_phase.specs.Ways.{ByTheBook}
-use Rattle.wl_plan.specs.Line.{Line, found}
+use Rattle.wl_plan.specs.Line.{Line}
 use Rattle.wl_plan.specs.Simulation.{level, seen}
-use Rattle.wl_plan.specs.SimulationLaws.{SimulationLaws}
 use Rattle.wl_plan.specs.Sound.{IsCausal}
 use Rattle.wl_wire.specs.InStep.{AreSoundFrames}
 use Rattle.wl_heal.specs.Silence.{is_off, is_off_by}
@@ -29,7 +27,6 @@ use Rattle.wl_buses.specs.OneFrame.Stations.{AreStations, Stations}
 use Rattle.wl_buses.specs.CleanLines.Lines.{line_history}
 use Rattle.wl_buses.proofs.Callers.{quiet_after, run_of, still_at, unsent_first}
 use Rattle.wl_silence.specs.Silences.{HaveFramesLeft, IsLineOfSince, IsSilentFor, NobodyIsReady, after_eleventh, silence_bits}
-use Rattle.wl_silence.proofs.Bits.{SilentClock}
 use Rattle.wl_silence.proofs.Lines as lines
 use Rattle.wl_silence.proofs.Lines.{SilentLaws, node_same}
 

@@ -1,5 +1,5 @@
 -- A line is clean since a silence, if its nodes have frames left.
-use Rattle.std.proofs.Common.{◌≡◌, sym, ℕ, suc, ◌<◌, ◌≤◌, arith}
+use Rattle.std.proofs.Common.{sym, ℕ, suc, ◌<◌, arith}
 use Rattle.wl_node.specs.declared.setup.NodeSetup.{NodeSetup}
 use Rattle.wl_plan.specs.Line.{Line}
 use Rattle.wl_plan.specs.Simulation.{AreInside}

@@ -1,13 +1,12 @@
 -- A line stays silent after a silence, if no node has a frame left.
-use Rattle.std.proofs.Common.{◌≡◌, ◌∙◌, ◌⊎◌, inl, inr, refl, sym, ap, subst, ℕ, zero, suc, ◌+◌, ◌-◌, ◌*◌, ◌<◌, ◌≤◌, Bool, true, false, List, [], ◌∷◌, ◌++◌, length, None, arith, append-nil}
+use Rattle.std.proofs.Common.{◌≡◌, ◌∙◌, refl, sym, ap, subst, ℕ, zero, suc, ◌+◌, ◌-◌, ◌*◌, ◌<◌, ◌≤◌, false, [], ◌++◌, arith, append-nil}
 use Rattle.std.specs.Prelude.{IsPermutation, map}
 use Rattle.std.proofs.lemmas.List.Sorted.{IsPermutation-refl}
 use Rattle.std.proofs.Math.Nat.{mul-le-mul_left}
 use Rattle.wl_segments.specs.Lengths.{bit_quanta, sample_at}
 use Rattle.wl_frame.specs.Grammar.{Content}
 use Rattle.wl_node.specs.declared.setup.NodeSetup.{NodeSetup}
-use Rattle.wl_node.specs.declared.setup.Passed.{Passed}
-use Rattle.wl_node.specs.History.{History, staying_history, unsent_of}
+use Rattle.wl_node.specs.History.{staying_history, unsent_of}
 use Rattle.wl_node.proofs.Callers.{history_first}
 use Rattle.wl_plan.specs.Line.{Line}
 use Rattle.wl_plan.specs.Simulation.{AreInside, level}
@@ -111,7 +110,12 @@ module _ (laws : SilentLaws) (driven_law : ExpectedLaw) (seen_law : ExpectedSeen
       }
 
   pub shows_silent : ShowCleanSince l setups first
-  shows_silent = (λ n. 0, λ n. no_content, 0, λ i k inside late there.
-      (let e : at i + (k - at i) ≡ k = omega arith in
-      subst (λ n. ShowsClean (setups i) i (λ n. 0) (λ n. no_content) 0 (line_history l setups i (after_eleventh l setups first i)) (line_history l setups i n)) e
-      (at_quantum i (k - at i) inside (omega arith) (λ j less. there (at i + j) (omega arith)))))
+  shows_silent = (
+    λ n. 0,
+    λ n. no_content,
+    0,
+    λ i k inside late there.
+        (let e : at i + (k - at i) ≡ k = omega arith in
+        subst (λ n. ShowsClean (setups i) i (λ n. 0) (λ n. no_content) 0 (line_history l setups i (after_eleventh l setups first i)) (line_history l setups i n)) e
+        (at_quantum i (k - at i) inside (omega arith) (λ j less. there (at i + j) (omega arith)))),
+  )

@@ -10,4 +10,5 @@ mod Clean
 mod Shows
 mod AtFirst
 mod Empty
+mod SilentPlans
 mod Rows

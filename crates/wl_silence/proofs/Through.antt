@@ -15,18 +15,15 @@ use Rattle.wl_buses.specs.BothProofs.Levels.{levels_before}
 use Rattle.wl_buses.specs.BothProofs.Queues.{head_at}
 use Rattle.wl_buses.specs.OneFrame.Lines.{node_after}
 use Rattle.wl_buses.specs.OneFrame.Nodes.{IsRun}
-use Rattle.wl_buses.specs.OneFrame.Stations.{AreStations, HaveRoom, Stations}
-use Rattle.wl_buses.specs.FirstFrame.FirstStarts.{Waiting}
-use Rattle.wl_buses.specs.NextFrames.Frames.{HasRoomForAll}
-use Rattle.wl_buses.specs.CleanLines.Lines.{IsPoweredUp, LineGetsThrough, line_history, waiting_with}
+use Rattle.wl_buses.specs.OneFrame.Stations.{AreStations, Stations}
+use Rattle.wl_buses.specs.CleanLines.Lines.{line_history}
 use Rattle.wl_buses.proofs.Callers.{drive_up_to, last_quantum, level_first, level_then, run_of}
 use Rattle.wl_silence.specs.Restarts.{GoesOnAs, IsUnharmed, setup_since}
-use Rattle.wl_silence.specs.Silences.{HaveFramesLeft, IsCleanSince, IsLineOfSince, IsSilentFor, eleventh_of, fresh_line, fresh_setups, fresh_stations, after_eleventh, joins}
+use Rattle.wl_silence.specs.Silences.{IsLineOfSince, IsSilentFor, eleventh_of, fresh_line, fresh_setups, after_eleventh, joins}
 use Rattle.wl_silence.proofs.Alike.{goes_on_once}
 use Rattle.wl_silence.proofs.Queues.{head_since}
 use Rattle.wl_silence.proofs.Lines as lines
 use Rattle.wl_silence.proofs.Lines.{SilentLaws, history_is, node_same}
-use Rattle.wl_silence.proofs.Moved.{are_since, have_since, room_since}
 use Rattle.wl_silence.proofs.PoweredUp as powered
 
 -- The fresh nodes find no error, and count nothing.

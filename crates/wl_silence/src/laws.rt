@@ -147,6 +147,24 @@ pub fn a_line_without_frames_stays_silent()
     wl_buses::one_frame::laws::a_station_begins_its_bits();
 }
 
+/// Law: so each such bus shows that it is clean since a silence, whatever frames are left: what `margin` tests of the plan without its disturbances
+/// is enough, if none of its nodes only listens.
+pub fn a_bus_shows_clean_after_a_silence()
+    ensures { (f : Buses) (plan : Plan) (clocks : ℕ → Steady) (from until : ℕ) (first : ℕ → ℕ) → IsChecked plan
+        → IsSteadyPlan (undisturbed_plan plan) clocks → IsOfFamily f (undisturbed_plan plan) clocks → NoneListens plan
+        → AreContents plan → SendAsFamily f plan → verdict_of (undisturbed_plan plan) f ≡ ForAny → leaves_room f ≡ true
+        → NoneDisturbsSince plan from → IsSilentFor (line_of plan) (setup_at plan) from until first
+        → ShowCleanSince (line_of plan) (setup_at plan) first }
+{
+    wl_plan::checked_is_sound();
+    wl_buses::one_frame::laws::a_plan_is_on_a_line();
+    wl_buses::one_frame::laws::a_sound_bus_has_room();
+    wl_buses::family_plans::laws::a_plan_has_stations();
+    a_bus_is_clean_after_a_silence();
+    a_line_without_frames_stays_silent();
+    what_a_clean_line_shows();
+}
+
 /// Law: what is asked of a silence can be met. Take a line on which all nodes power up after the tick `from`, and have no frame ready for 36 bits
 /// and more. Nobody drives dominant in them, and no frame passes. What is asked of the frames that are left is met, if it is met by all frames.
 pub fn what_a_silence_asks_can_be_met()
