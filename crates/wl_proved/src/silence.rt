@@ -1,6 +1,6 @@
 //! What the word 'proved' promises of a bus after a silence, proved as the contract of a function that does nothing.
 
-ghost use Rattle.std.specs.Prelude.{◌≡◌, ◌<◌, ℕ, true, length, List, None};
+ghost use Rattle.std.specs.Prelude.{◌≡◌, ℕ, true, List, None};
 ghost use Rattle.wl_plan.specs.declared.plan.Plan.{Plan};
 ghost use Rattle.wl_plan.specs.Checked.{IsChecked};
 ghost use Rattle.wl_plan.specs.PlanLine.{line_of, setup_at};
@@ -12,29 +12,26 @@ ghost use Rattle.wl_bound.specs.Rooms.{leaves_room};
 ghost use Rattle.wl_margin.specs.declared.reasons.Asked.{Asked};
 ghost use Rattle.wl_margin.specs.Margins.{IsTextFor};
 ghost use Rattle.wl_silence.specs.Shown.{ShowCleanSince};
-ghost use Rattle.wl_silence.specs.Silences.{HasFramesLeft, IsSilentFor};
+ghost use Rattle.wl_silence.specs.Silences.{IsSilentFor};
 ghost use Rattle.wl_silence.specs.SilentPlans.{NoneDisturbsSince, undisturbed_plan};
 ghost use Rattle.wl_proved.specs.PlansOfFamily.{IsPlanOfFamily};
 ghost use Rattle.wl_proved.specs.Words.{IsFamilyOf, IsProvedForAny};
 
 /// Law: if the first line of a bus's margin says 'proved' for any senders, a silence cleans the bus. Take a plan that is of its family but for its
-/// disturbances. Let these have passed, and let a silence follow in which all nodes are on the bus and error active, with a frame left. Since
-/// then no node finds an error, no counter rises, and first frames of one list pass each node.
+/// disturbances. Let these have passed, and let a silence follow in which all nodes are on the bus and error active. Since then no node finds an
+/// error, no counter rises, and first frames of one list pass each node.
 pub fn proved_means_clean_after_a_silence()
-    ensures tests { (f : Buses) (plan : Plan) (from until i : ℕ) (first : ℕ → ℕ) → IsChecked plan
+    ensures tests { (f : Buses) (plan : Plan) (from until : ℕ) (first : ℕ → ℕ) → IsChecked plan
         → IsPlanOfFamily f (undisturbed_plan plan) → first_failure_of f plain Any ≡ None → leaves_room f ≡ true
         → NoneDisturbsSince plan from → IsSilentFor (line_of plan) (setup_at plan) from until first
-        → i < length plan.nodes → HasFramesLeft (line_of plan) (setup_at plan) first i
         → ShowCleanSince (line_of plan) (setup_at plan) first }
     ensures proved { (asked : Asked) (tick : ℕ) (bus : Bus) (f : Buses) (text : List ℕ)
         → IsFamilyOf asked bus f → IsTextFor asked tick bus text → IsProvedForAny f bus.names text
-        → (plan : Plan) (from until i : ℕ) (first : ℕ → ℕ) → IsChecked plan → IsPlanOfFamily f (undisturbed_plan plan)
+        → (plan : Plan) (from until : ℕ) (first : ℕ → ℕ) → IsChecked plan → IsPlanOfFamily f (undisturbed_plan plan)
         → NoneDisturbsSince plan from → IsSilentFor (line_of plan) (setup_at plan) from until first
-        → i < length plan.nodes → HasFramesLeft (line_of plan) (setup_at plan) first i
         → ShowCleanSince (line_of plan) (setup_at plan) first }
 {
     wl_buses::one_sender::laws::a_covered_plan_is_one_of_these();
     wl_buses::family_plans::laws::a_covered_plan_has_first_frames();
-    wl_silence::laws::a_bus_is_clean_after_a_silence();
-    wl_silence::laws::what_a_clean_line_shows();
+    wl_silence::laws::a_bus_shows_clean_after_a_silence();
 }

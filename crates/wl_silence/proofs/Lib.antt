@@ -6,6 +6,9 @@ mod Moved
 mod Lines
 mod PoweredUp
 mod Through
+mod Clean
 mod Shows
 mod AtFirst
+mod Empty
+mod SilentPlans
 mod Rows

@@ -8,7 +8,7 @@ use Rattle.wl_node.specs.declared.setup.QueueOrder.TheVariants.{Fifo}
 use Rattle.wl_node.specs.History.{History, no_history}
 use Rattle.wl_node.specs.Queues.{head_by}
 use Rattle.wl_phase.specs.Clocks.{Steady, clock_from, steady_tick}
-use Rattle.wl_silence.specs.Restarts.{passed_since, ready_since, setup_since}
+use Rattle.wl_silence.specs.Restarts.{passed_since, setup_since}
 use Rattle.wl_silence.specs.Shown.{frames_passing}
 use Rattle.wl_silence.specs.Silences.{eleventh_of}
 

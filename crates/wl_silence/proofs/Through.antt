@@ -15,43 +15,29 @@ use Rattle.wl_buses.specs.BothProofs.Levels.{levels_before}
 use Rattle.wl_buses.specs.BothProofs.Queues.{head_at}
 use Rattle.wl_buses.specs.OneFrame.Lines.{node_after}
 use Rattle.wl_buses.specs.OneFrame.Nodes.{IsRun}
-use Rattle.wl_buses.specs.OneFrame.Stations.{AreStations, HaveRoom, Stations}
-use Rattle.wl_buses.specs.FirstFrame.FirstStarts.{Waiting}
-use Rattle.wl_buses.specs.NextFrames.Frames.{HasRoomForAll}
-use Rattle.wl_buses.specs.CleanLines.Lines.{IsPoweredUp, LineGetsThrough, line_history, waiting_with}
+use Rattle.wl_buses.specs.OneFrame.Stations.{AreStations, Stations}
+use Rattle.wl_buses.specs.CleanLines.Lines.{line_history}
 use Rattle.wl_buses.proofs.Callers.{drive_up_to, last_quantum, level_first, level_then, run_of}
 use Rattle.wl_silence.specs.Restarts.{GoesOnAs, IsUnharmed, setup_since}
-use Rattle.wl_silence.specs.Silences.{HaveFramesLeft, IsCleanSince, IsLineOfSince, IsSilentFor, eleventh_of, fresh_line, fresh_setups, fresh_stations, after_eleventh, joins}
+use Rattle.wl_silence.specs.Silences.{IsLineOfSince, IsSilentFor, eleventh_of, fresh_line, fresh_setups, after_eleventh, joins}
 use Rattle.wl_silence.proofs.Alike.{goes_on_once}
 use Rattle.wl_silence.proofs.Queues.{head_since}
 use Rattle.wl_silence.proofs.Lines as lines
 use Rattle.wl_silence.proofs.Lines.{SilentLaws, history_is, node_same}
-use Rattle.wl_silence.proofs.Moved.{are_since, have_since, room_since}
 use Rattle.wl_silence.proofs.PoweredUp as powered
 
--- the law of lines that this rests on
-abbrev pub AllGetThroughLaw : Type 0
-AllGetThroughLaw = (l : Line) (setups : ℕ → NodeSetup) (w : Waiting) (chase : ℕ → ℕ) → IsPoweredUp l setups w → AreStations w.stations → HaveRoom w.stations → HasRoomForAll w.stations chase → LineGetsThrough l setups w
-
-module _ (laws : SilentLaws) (all : AllGetThroughLaw) (l : Line) (setups : ℕ → NodeSetup) (s : Stations) (from until : ℕ) (first : ℕ → ℕ) (of : IsLineOfSince l setups s from)
-    (is : IsSilentFor l setups from until first) (are : AreStations s) (have : HaveRoom s) (chase : ℕ → ℕ) (room : HasRoomForAll s chase) (left : HaveFramesLeft l setups s first) where
+-- The fresh nodes find no error, and count nothing.
+module _ (laws : SilentLaws) (l : Line) (setups : ℕ → NodeSetup) (s : Stations) (from until : ℕ) (first : ℕ → ℕ) (of : IsLineOfSince l setups s from) (is : IsSilentFor l setups from until first)
+    (are : AreStations s)
+    (fine : (i k : ℕ) → i < l.nodes → AreInside (fresh_line l setups first) i k → IsUnharmed (line_history (fresh_line l setups first) (fresh_setups l setups first) i k)) where
   abbrev R : ℕ → NodeSetup
   R = fresh_setups l setups first
 
   abbrev L : Line
   L = fresh_line l setups first
 
-  abbrev s' : Stations
-  s' = fresh_stations l setups first s
-
-  abbrev w : Waiting
-  w = waiting_with R s'
-
   abbrev at : ℕ → ℕ
   at i = joins l setups first i
-
-  pub through : LineGetsThrough L R w
-  through = all L R w chase (powered.powered_up laws l setups s from until first of is are left) (are_since s at are) (have_since s at have) (room_since s at chase room)
 
   -- one node
   module _ (i : ℕ) (inside : i < l.nodes) where
@@ -83,10 +69,10 @@ module _ (laws : SilentLaws) (all : AllGetThroughLaw) (l : Line) (setups : ℕ �
     abbrev star : ℕ → History
     star = node_after (R i) levels'
 
-    late : first i ≤ at i
+    pub late : first i ≤ at i
     late = lines.late laws l setups s from until first of is are i inside
 
-    high : at i + 12 * B ≤ first i + 36 * B
+    pub high : at i + 12 * B ≤ first i + 36 * B
     high = lines.high laws l setups s from until first of is are i inside
 
     soon : (q : ℕ) → q ≤ end → l.instant i (at i + q) < until
@@ -174,28 +160,27 @@ module _ (laws : SilentLaws) (all : AllGetThroughLaw) (l : Line) (setups : ℕ �
       unharmed : (k : ℕ) → k ≤ suc q → IsUnharmed (star i inside k)
       unharmed k less =
           let there : AreInside L i k = λ j more. (let h = begun_before j (omega arith) in omega arith) in
-          let counted : i < s'.count = (let e = of.nodes in omega arith) in
-          subst IsUnharmed (history_is L R i k ∙ nodes_same k less) (record { counters = through.counters i k counted there; errors = through.fine i k counted there })
+          subst IsUnharmed (history_is L R i k ∙ nodes_same k less) (fine i k inside there)
 
   here : (n : ℕ) → IsSame n → (i : ℕ) → i < l.nodes → n < l.stop → from ≤ n → level L i n ≡ level l i n
   here n same i inside below late_enough = elim (cases_lt n (l.instant i (at i + 0))) [
     | inl early ↦
         (let e = soon i inside 0 (omega arith) in
-        level_first laws.lines L (powered.causal laws l setups s from until first of is are left) i n inside early ∙ sym (is.quiet i n inside late_enough (omega arith)))
+        level_first laws.lines L (powered.causal laws l setups s from until first of is are) i n inside early ∙ sym (is.quiet i n inside late_enough (omega arith)))
     | inr late ↦
-        (let q = last_quantum L (powered.causal laws l setups s from until first of is are left) i n inside late in
+        (let q = last_quantum L (powered.causal laws l setups s from until first of is are) i n inside late in
         let k : ℕ = q.quantum in
         let begun : l.instant i (at i + k) ≤ n = q.begun in
         let f : at i + suc k ≡ suc (at i + k) = omega arith in
         let next : n < l.instant i (suc (at i + k)) = subst (λ m. n < l.instant i m) f q.next in
-        level_then laws.lines L (powered.causal laws l setups s from until first of is are left) i k n inside below begun q.next
+        level_then laws.lines L (powered.causal laws l setups s from until first of is are) i k n inside below begun q.next
         ∙ ap (λ h. is_dominant h.drive) (nodes_same n same i inside k begun (omega arith) (suc k) (omega arith))
         ∙ ap is_dominant (drives_same i inside k (unharmed n same i inside k begun (omega arith)))
         ∙ sym (of.drives i (levels_before (levels i inside) (suc (at i + k))) inside)
         ∙ sym (level_then laws.lines l of.causal i (at i + k) n inside below begun next))
   ]
 
-  all_same : (n : ℕ) → IsSame n
+  pub all_same : (n : ℕ) → IsSame n
   all_same zero i t inside less below late = absurd (omega arith)
   all_same (suc n) i t inside less below late = elim (cases_eq t n) [
     | inl e ↦ subst (λ u. level L i u ≡ level l i u) (sym e) (here n (all_same n) i inside (omega (arith, e)) (omega (arith, e)))
@@ -203,7 +188,7 @@ module _ (laws : SilentLaws) (all : AllGetThroughLaw) (l : Line) (setups : ℕ �
   ]
 
   -- each node is where its fresh one puts it
-  goes_at : (i k : ℕ) → i < l.nodes → eleventh_of (setups i).segments < k → AreInside L i k
+  pub goes_at : (i k : ℕ) → i < l.nodes → eleventh_of (setups i).segments < k → AreInside L i k
       → GoesOnAs (setups i) (at i) (line_history l setups i (after_eleventh l setups first i)) (line_history L R i k) (line_history l setups i (at i + k))
   goes_at i zero inside more there = absurd (omega arith)
   goes_at i (suc q) inside more there =
@@ -212,12 +197,3 @@ module _ (laws : SilentLaws) (all : AllGetThroughLaw) (l : Line) (setups : ℕ �
       subst (λ h. GoesOnAs (setups i) (at i) (line_history l setups i (after_eleventh l setups first i)) h (line_history l setups i (at i + suc q))) (sym (history_is L R i (suc q) ∙ same))
       (subst (GoesOnAs (setups i) (at i) (line_history l setups i (after_eleventh l setups first i)) (star i inside (suc q))) (sym (history_is l setups i (at i + suc q)))
       (on_at i inside (suc q) more (unharmed l.stop (all_same l.stop) i inside q (omega arith) below)))
-
-  pub clean_since : IsCleanSince l setups s from first
-  clean_since = record {
-    late = late;
-    soon = λ i inside. (let h = high i inside in omega arith);
-    through = through;
-    drives = λ i t inside past below. sym (all_same (suc t) i t inside (omega arith) below past);
-    goes = goes_at;
-  }

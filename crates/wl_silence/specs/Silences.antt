@@ -88,17 +88,25 @@ fresh_line l setups first = line_since l (fresh_setups l setups first) (joins l 
 abbrev pub fresh_stations : Line → (setups : ℕ → NodeSetup) → (first : ℕ → ℕ) → Stations → Stations
 fresh_stations l setups first s = stations_since s (joins l setups first)
 
--- A line on which nobody has a frame for a while: all nodes power up after the tick `from`, and each has so many bits up to the tick `until` without a frame that is ready, 36 at least.
-pub record WaitsForFrames (l : Line) (setups : ℕ → NodeSetup) (from until : ℕ) (bits : ℕ → ℕ) : Type 0 where
+-- Nobody has a frame that is ready, up to the tick `until`: all nodes power up after the tick `from`, and in so many bits of each none is ready.
+pub record NobodyIsReady (l : Line) (setups : ℕ → NodeSetup) (from until : ℕ) (bits : ℕ → ℕ) : Type 0 where
   pub inside : until ≤ l.stop
   pub later : (i k : ℕ) → i < l.nodes → k < l.nodes → from + l.delay k i ≤ l.instant i 0
-  pub lasts : (i : ℕ) → i < l.nodes → l.instant i (silence_bits * bit_quanta (setups i).segments) < until
   pub long : (i : ℕ) → i < l.nodes → until ≤ l.instant i (bits i * bit_quanta (setups i).segments + sample_at (setups i).segments)
   pub none : (i n : ℕ) → i < l.nodes → 10 ≤ n → n ≤ bits i → head_at (setups i) (setups i).queue (n * bit_quanta (setups i).segments + sample_at (setups i).segments) ≡ None
+
+-- and that lasts for a silence
+pub record WaitsForFrames (l : Line) (setups : ℕ → NodeSetup) (from until : ℕ) (bits : ℕ → ℕ) : Type 0 where
+  pub unready : NobodyIsReady l setups from until bits
+  pub lasts : (i : ℕ) → i < l.nodes → l.instant i (silence_bits * bit_quanta (setups i).segments) < until
 
 -- A node has a frame left after its eleventh bit in the silence.
 abbrev pub HasFramesLeft : Line → (setups : ℕ → NodeSetup) → (first : ℕ → ℕ) → ℕ → Type 0
 HasFramesLeft l setups first i = 0 < length (unsent_of (setups i) (line_history l setups i (after_eleventh l setups first i)))
+
+-- No node has one left.
+abbrev pub HaveNoFramesLeft : Line → (setups : ℕ → NodeSetup) → (first : ℕ → ℕ) → Type 0
+HaveNoFramesLeft l setups first = (i : ℕ) → i < l.nodes → unsent_of (setups i) (line_history l setups i (after_eleventh l setups first i)) ≡ []
 
 -- Frames of two nodes differ in format, identifier or RTR bit, and a node with frames may send. After the silence some node has one left.
 pub record HaveFramesLeft (l : Line) (setups : ℕ → NodeSetup) (s : Stations) (first : ℕ → ℕ) : Type 0 where

@@ -1,6 +1,6 @@
 //! Laws of a bus after a silence, each proved as the contract of a function that does nothing.
 
-ghost use Rattle.std.specs.Prelude.{◌≡◌, ◌+◌, ◌*◌, ◌<◌, ◌≤◌, ℕ, true, List, [], length, take};
+ghost use Rattle.std.specs.Prelude.{◌≡◌, ◌+◌, ◌*◌, ◌<◌, ◌≤◌, ℕ, true, false, List, [], length, take};
 ghost use Rattle.wl_level.specs.declared.Level.{Level};
 ghost use Rattle.wl_segments.specs.Lengths.{bit_quanta};
 ghost use Rattle.wl_phase.specs.Ways.{ByTheBook};
@@ -8,6 +8,7 @@ ghost use Rattle.wl_phase.specs.Clocks.{Steady};
 ghost use Rattle.wl_plan.specs.declared.plan.Plan.{Plan};
 ghost use Rattle.wl_plan.specs.Checked.{IsChecked};
 ghost use Rattle.wl_plan.specs.Line.{Line};
+ghost use Rattle.wl_plan.specs.Simulation.{level};
 ghost use Rattle.wl_plan.specs.PlanLine.{line_of, setup_at};
 ghost use Rattle.wl_bound.specs.Conditions.{IsSound};
 ghost use Rattle.wl_bound.specs.Families.{Bus, Buses};
@@ -28,7 +29,7 @@ ghost use Rattle.wl_buses.specs.NextFrames.Frames.{HasRoomForAll};
 ghost use Rattle.wl_node.specs.declared.setup.NodeSetup.{NodeSetup};
 ghost use Rattle.wl_node.specs.History.{History};
 ghost use Rattle.wl_silence.specs.Restarts.{GoesOnAs, IsUnharmed, history_on, setup_since};
-ghost use Rattle.wl_silence.specs.Silences.{HasFramesLeft, HaveFramesLeft, IsAsFresh, IsCleanSince, IsLineOfSince, IsSilentFor, IsSilentNode, WaitsForFrames, eleventh_of, joins_at, silence_bits};
+ghost use Rattle.wl_silence.specs.Silences.{HasFramesLeft, HaveFramesLeft, HaveNoFramesLeft, IsAsFresh, IsCleanSince, IsLineOfSince, IsSilentFor, IsSilentNode, WaitsForFrames, eleventh_of, joins_at, silence_bits};
 ghost use Rattle.wl_silence.specs.Shown.{ShowCleanSince};
 ghost use Rattle.wl_silence.specs.SilentPlans.{NoneDisturbsSince, undisturbed_plan};
 
@@ -122,6 +123,46 @@ pub fn a_bus_is_clean_after_a_silence()
     wl_buses::family_plans::laws::a_covered_plan_has_first_frames();
     wl_buses::next_frames::begun::a_bus_has_room_for_all();
     a_line_is_clean_after_a_silence();
+}
+
+/// Law: if no node has a frame left by its eleventh bit in the silence, the line stays silent: nobody drives dominant any more, no frame passes, and
+/// no node finds an error.
+pub fn a_line_without_frames_stays_silent()
+    ensures silent { (l : Line) (setups : ℕ → NodeSetup) (s : Stations) (from until : ℕ) (first : ℕ → ℕ)
+        → IsLineOfSince l setups s from → IsSilentFor l setups from until first → AreStations s
+        → HaveNoFramesLeft l setups first
+        → (i t : ℕ) → i < l.nodes → from ≤ t → t < l.stop → level l i t ≡ false }
+    ensures shows { (l : Line) (setups : ℕ → NodeSetup) (s : Stations) (from until : ℕ) (first : ℕ → ℕ)
+        → IsLineOfSince l setups s from → IsSilentFor l setups from until first → AreStations s
+        → HaveNoFramesLeft l setups first → ShowCleanSince l setups first }
+{
+    wl_sync::clock_goes_on();
+    wl_sync::the_sample_comes_near();
+    wl_topology::driven_laws();
+    wl_phase::laws::an_edge_moves_the_sample();
+    wl_heal::laws::a_silence_leaves_all_idle();
+    wl_plan::simulation_laws();
+    wl_buses::both_proofs::laws::what_is_expected_is_driven();
+    wl_buses::one_frame::laws::no_edge_counts_then();
+    wl_buses::one_frame::laws::a_station_begins_its_bits();
+}
+
+/// Law: so each such bus shows that it is clean since a silence, whatever frames are left: what `margin` tests of the plan without its disturbances
+/// is enough, if none of its nodes only listens.
+pub fn a_bus_shows_clean_after_a_silence()
+    ensures { (f : Buses) (plan : Plan) (clocks : ℕ → Steady) (from until : ℕ) (first : ℕ → ℕ) → IsChecked plan
+        → IsSteadyPlan (undisturbed_plan plan) clocks → IsOfFamily f (undisturbed_plan plan) clocks → NoneListens plan
+        → AreContents plan → SendAsFamily f plan → verdict_of (undisturbed_plan plan) f ≡ ForAny → leaves_room f ≡ true
+        → NoneDisturbsSince plan from → IsSilentFor (line_of plan) (setup_at plan) from until first
+        → ShowCleanSince (line_of plan) (setup_at plan) first }
+{
+    wl_plan::checked_is_sound();
+    wl_buses::one_frame::laws::a_plan_is_on_a_line();
+    wl_buses::one_frame::laws::a_sound_bus_has_room();
+    wl_buses::family_plans::laws::a_plan_has_stations();
+    a_bus_is_clean_after_a_silence();
+    a_line_without_frames_stays_silent();
+    what_a_clean_line_shows();
 }
 
 /// Law: what is asked of a silence can be met. Take a line on which all nodes power up after the tick `from`, and have no frame ready for 36 bits

@@ -1,9 +1,6 @@
-use Rattle.std.proofs.Common.{◌≡◌, ap, sym, ℕ, true, length, arith}
+use Rattle.std.proofs.Common.{◌≡◌, ap, ℕ, true, length}
 use Rattle.std.proofs.lemmas.Bool.{lt-ltb}
 use Rattle.std.proofs.lemmas.List.{get_or_past}
-use Rattle.wl_level.specs.Levels.{is_dominant}
-use Rattle.wl_node.proofs.Callers.{stays_on}
-use Rattle.wl_phase.proofs.Callers.{rate_tick}
 use Rattle.wl_plan.specs.declared.plan.Plan.{Plan}
 use Rattle.wl_plan.specs.PlanLine.{line_of, no_setup, setup_at}
 use Rattle.wl_node.specs.declared.setup.NodeSetup.{NodeSetup}
@@ -20,8 +17,9 @@ use Rattle.wl_buses.specs.OneFrame.Plans.{IsPlanOf}
 use Rattle.wl_buses.specs.OneFrame.Stations.{AreStations, Stations}
 use Rattle.wl_buses.specs.FrameEnd.Again.{LeavesRoomToRest}
 use Rattle.wl_buses.specs.FamilyPlans.FamilyStations.{NoneListens, stations_of}
-use Rattle.wl_silence.specs.Silences.{HaveFramesLeft, IsCleanSince, IsLineOfSince, IsSilentFor}
+use Rattle.wl_silence.specs.Silences.{HaveFramesLeft, IsCleanSince, IsSilentFor}
 use Rattle.wl_silence.specs.SilentPlans.{NoneDisturbsSince, undisturbed_plan}
+use Rattle.wl_silence.proofs.SilentPlans.{line_since_of, plan_with}
 use Rattle.wl_silence.proofs.laws.a_bus_is_clean_after_a_silence.Goals as goal
 
 whole : goal.After-a_line_is_clean_after_a_silence → (plan : Plan) (s : Stations) (bus : Bus) (from until : ℕ) (first chase : ℕ → ℕ) → IsPlanOf plan s → HasStations bus s → IsSound bus → HasRoomToAnswer bus chase
@@ -31,16 +29,7 @@ whole c plan s bus from until first chase of bus_of sound answer rest passed sil
     (let on = c.a_plan_is_on_a_line.ensures plan s of in
     let are : AreStations s = record { line = on; ways = c.a_sound_bus_has_room.ensures.ways bus s on bus_of } in
     let room = c.a_sound_bus_has_room.ensures.room bus s on bus_of sound in
-    let count = of.count in
-    let line : IsLineOfSince (line_of plan) (setup_at plan) s from = record {
-      causal = (c.checked_is_sound.ensures plan of.checked).causal;
-      nodes = count;
-      drives = λ i levels less. ap (λ h. is_dominant h.drive) (stays_on (setup_at plan i) levels (of.stays i (omega arith)));
-      ticks = λ i k less. rate_tick (of.rates i (omega arith)) k;
-      segments = λ i less. sym (of.lengths i (omega arith));
-      delays = λ i k ni nk. of.delays i k (omega arith) (omega arith);
-      undisturbed = passed;
-    } in
+    let line = line_since_of c.checked_is_sound.ensures plan s from of passed in
     c.a_line_is_clean_after_a_silence.ensures (line_of plan) (setup_at plan) s from until first chase line silent are room (c.a_bus_has_room_for_all.ensures bus s chase on bus_of answer rest) left)
 
 pub returns-clause-plan : goal.returns-clause-plan
@@ -53,8 +42,7 @@ family : goal.After-a_line_is_clean_after_a_silence → (f : Buses) (plan : Plan
 family c f plan clocks from until first checked steady of speaks has sound passed silent left =
     (let bus = c.a_plan_has_stations.ensures.bus f (undisturbed_plan plan) clocks of speaks in
     let p = c.a_plan_has_stations.ensures.plan f (undisturbed_plan plan) clocks steady of speaks in
-    let q : IsPlanOf plan (stations_of f plan clocks) =
-    record { checked = checked; count = p.count; rates = p.rates; lengths = p.lengths; book = p.book; delays = p.delays; stays = p.stays; speaks = p.speaks } in
+    let q = plan_with plan (stations_of f plan clocks) checked p in
     whole c plan (stations_of f plan clocks) (plain_bus f) from until first (least_chase (plain_bus f)) q bus sound (c.a_family_leaves_room.ensures.answers f has) (c.a_family_leaves_room.ensures.rests f has) passed silent left)
 
 pub returns-clause-family : goal.returns-clause-family

@@ -1,4 +1,4 @@
-use Rattle.wl_silence.proofs.Through.{clean_since}
+use Rattle.wl_silence.proofs.Clean.{clean_since}
 use Rattle.wl_silence.proofs.laws.a_line_is_clean_after_a_silence.Goals as goal
 
 pub returns : goal.returns

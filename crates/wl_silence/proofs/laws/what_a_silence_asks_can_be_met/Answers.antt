@@ -17,7 +17,9 @@ laws c = record {
 }
 
 pub returns-clause-silence : goal.returns-clause-silence
-returns-clause-silence c = silent_for (laws c) c.what_is_expected_is_driven.ensures.driven c.what_is_expected_is_driven.ensures.seen
+returns-clause-silence c = λ l setups s from until bits of are waits.
+    silent_for (laws c) c.what_is_expected_is_driven.ensures.driven c.what_is_expected_is_driven.ensures.seen l setups s from until bits of are waits.unready waits.lasts
 
 pub returns-clause-left : goal.returns-clause-left
-returns-clause-left c = has_left (laws c) c.what_is_expected_is_driven.ensures.driven c.what_is_expected_is_driven.ensures.seen
+returns-clause-left c = λ l setups s from until bits of are waits.
+    has_left (laws c) c.what_is_expected_is_driven.ensures.driven c.what_is_expected_is_driven.ensures.seen l setups s from until bits of are waits.unready waits.lasts
