@@ -6,3 +6,4 @@ pub mod PoweredUp
 pub mod Unchanged
 pub mod Same
 pub mod Rows
+pub mod Muted

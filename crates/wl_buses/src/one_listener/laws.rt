@@ -6,7 +6,7 @@ ghost use Rattle.wl_level.specs.Levels.{level_of};
 ghost use Rattle.wl_node.specs.declared.setup.NodeSetup.{NodeSetup};
 ghost use Rattle.wl_node.specs.History.{History};
 ghost use Rattle.wl_topology.specs.Driven.{driven};
-ghost use Rattle.wl_buses.specs.OneFrame.Acknowledged.{IsAnsweredByAll, answering};
+ghost use Rattle.wl_buses.specs.OneFrame.Acknowledged.{IsAnsweredByAll, answering, chased_way, most_overrun};
 ghost use Rattle.wl_buses.specs.OneFrame.Expected.{IsOutset, Outset, edge_start, expected_bits, expected_sample};
 ghost use Rattle.wl_buses.specs.OneFrame.Machines.{HasWon};
 ghost use Rattle.wl_buses.specs.OneFrame.Nodes.{IsRun};
@@ -14,13 +14,14 @@ ghost use Rattle.wl_buses.specs.OneFrame.Starts.{Start};
 ghost use Rattle.wl_buses.specs.OneFrame.Stations.{AreStations, FitsBut, HaveRoom, HaveRoomToSample, Stations, with_longer_ways};
 ghost use Rattle.wl_buses.specs.OneListener.Beside.{AreCloseBeside, HasRoomToListen, HearsTheEnd, ListensToTheEnd, with_listener, hears, others_answering};
 ghost use Rattle.wl_buses.specs.OneListener.Ends.{CanBeHeard, HasRoomToRestBeside, IsUnheard, others_gathered};
-ghost use Rattle.wl_buses.specs.FrameEnd.Asked.{EndsBefore};
+ghost use Rattle.wl_buses.specs.FrameEnd.Asked.{CanBeAnswered, EndsBefore};
 ghost use Rattle.wl_buses.specs.FrameEnd.Finds.{FindsTheEnd, finds_at};
 ghost use Rattle.wl_buses.specs.PassedFrames.Passing.{PassesOne};
-ghost use Rattle.wl_buses.specs.FrameEnd.Again.{RestsAgain};
+ghost use Rattle.wl_buses.specs.FrameEnd.Again.{HasRoomToRest, RestsAgain};
 ghost use Rattle.wl_buses.specs.NextFrames.NextNodes.{GoesThrough};
 ghost use Rattle.wl_buses.specs.NextFrames.Frames.{AreInOrder, Frame, frames_drove, third_sample};
 ghost use Rattle.wl_buses.specs.OneListener.Same.{ExpectsTheSame};
+ghost use Rattle.wl_buses.specs.OneListener.Muted.{FitsEleven, MayListen, muted, muted_way};
 ghost use Rattle.wl_buses.specs.OneListener.Frames.{CanAllBeHeard, ReceivesAll, ReceivesFromPowerUp, waiting_with};
 ghost use Rattle.wl_buses.specs.FirstFrame.FirstStarts.{AreIdle, HandTheFirst, Waiting, first_outset};
 ghost use Rattle.wl_frame.specs.Grammar.{Content};
@@ -215,3 +216,21 @@ pub fn a_listener_changes_no_expected_bit()
     wl_frame::laws::a_front_of_no_stuffing_ends_six_equal_bits();
     wl_frame::laws::ten_bits_have_an_edge();
 }
+
+/// Law: all that these laws ask is met by stations with room for acknowledgements and for rest, if eleven bits' drift fits before the sample
+/// of the last of them, and if that one only listens in the place of being heard: what it drives takes any number of ticks longer to the
+/// others.
+pub fn a_station_with_room_may_listen()
+    ensures may { (s : Stations) (far winner : ℕ) (chase : ℕ → ℕ) → AreStations (with_listener s)
+        → HaveRoom (with_listener s) → ((k : ℕ) → s.may_send k ≡ true → k ≢ s.count) → 1 < s.count
+        → winner < s.count → CanBeAnswered (with_listener s) winner chase
+        → FitsEleven s (chased_way (with_listener s) winner chase) → MayListen s far winner chase }
+    ensures rest { (s : Stations) (far winner : ℕ) (chase : ℕ → ℕ) → AreStations (with_listener s)
+        → HaveRoom (with_listener s) → ((k : ℕ) → s.may_send k ≡ true → k ≢ s.count) → 1 < s.count
+        → winner < s.count → CanBeAnswered (with_listener s) winner chase
+        → FitsEleven s (chased_way (with_listener s) winner chase)
+        → HasRoomToRest (with_listener s) (chased_way (with_listener s) winner chase)
+        → HasRoomToRestBeside (muted s far)
+        (with_longer_ways (others_gathered (muted s far) winner (muted_way s far) chase)
+        (most_overrun (with_listener s) winner chase)).way }
+{}
