@@ -7,3 +7,4 @@ pub mod Unchanged
 pub mod Same
 pub mod Rows
 pub mod Muted
+pub mod BusRoom

@@ -1,16 +1,15 @@
 -- A station with room for acknowledgements may only listen, if eleven bits' drift fits before its sample.
-use Rattle.std.proofs.Common.{◌≡◌, ◌≢◌, ◌∙◌, ◌⊎◌, inl, inr, refl, sym, ap, ℕ, suc, ◌+◌, ◌-◌, ◌*◌, ◌<◌, ◌≤◌, ◌&&◌, not, cond, Bool, true, false, max, arith}
+use Rattle.std.proofs.Common.{◌≡◌, ◌≢◌, ◌∙◌, inl, inr, refl, ap, ℕ, ◌+◌, ◌*◌, ◌<◌, ◌≤◌, ◌&&◌, not, cond, Bool, true, false, max, arith}
 use Rattle.std.specs.Prelude.{◌==◌}
 use Rattle.std.proofs.lemmas.Bool.{and_right, cases_eq, eq-eqb, ne_eqb}
-use Rattle.wl_segments.specs.Lengths.{sample_at}
-use Rattle.wl_buses.specs.OneFrame.Acknowledged.{CatchUp, answering, any_way, chased_way, gathered_by, gathered_way, most_overrun}
-use Rattle.wl_buses.specs.OneFrame.Stations.{AreOnALine, AreStations, FitsBut, HaveRoom, HaveRoomToSample, HaveWays, Stations, bit_drift, shared_quantum, shared_tick, with_longer_ways}
+use Rattle.wl_buses.specs.OneFrame.Acknowledged.{answering, any_way, chased_way, gathered_by, gathered_way, most_overrun}
+use Rattle.wl_buses.specs.OneFrame.Stations.{AreOnALine, AreStations, HaveRoom, HaveRoomToSample, HaveWays, Stations, shared_tick, with_longer_ways}
 use Rattle.wl_buses.specs.FrameEnd.Again.{HasRoomToRest}
 use Rattle.wl_buses.specs.FrameEnd.Asked.{CanBeAnswered}
-use Rattle.wl_buses.specs.OneListener.Beside.{HasRoomToListen, no_listener, others_answering, with_listener}
+use Rattle.wl_buses.specs.OneListener.Beside.{no_listener, with_listener}
 use Rattle.wl_buses.specs.OneListener.Ends.{CanBeHeard, HasRoomToRestBeside, others_gathered}
 use Rattle.wl_buses.specs.OneListener.Muted.{FitsEleven, MayListen, farther, muted, muted_way}
-use Rattle.wl_buses.proofs.OneFrame.AckWays.{any_stations, fits_but}
+use Rattle.wl_buses.proofs.OneFrame.AckWays.{any_stations, chased_stations, fits_but}
 use Rattle.wl_buses.proofs.BothProofs.Small.{distinct}
 
 module _ (s : Stations) (far : ℕ) (are : AreStations (with_listener s)) (room : HaveRoom (with_listener s)) (none : (k : ℕ) → s.may_send k ≡ true → k ≢ s.count) where
@@ -122,10 +121,7 @@ module _ (s : Stations) (far : ℕ) (are : AreStations (with_listener s)) (room 
     all_ways = (any_stations x are.line (any_way x) (λ k i. omega arith)).ways
 
     all_late : HaveWays (answering x late)
-    all_late = (any_stations x are.line late (λ k i. longest (any_way x k i) (x.way k i) _ _)).ways
-      where
-        longest : (a b c d : ℕ) → a ≤ max a b + c + d
-        longest a b c d = omega arith
+    all_late = (chased_stations x are.line winner chase).ways
 
     few_ways : (way : ℕ → ℕ → ℕ) → HaveWays (answering x way) → HaveWays (record x { may_send = no_listener s; way = way })
     few_ways way h = record {

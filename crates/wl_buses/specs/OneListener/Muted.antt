@@ -6,9 +6,9 @@ use Rattle.wl_bound.specs.Rooms.{left_over}
 use Rattle.wl_bound.specs.Terms.{drift, look}
 use Rattle.wl_buses.specs.OneFrame.Acknowledged.{any_way, most_overrun}
 use Rattle.wl_buses.specs.OneFrame.Answers.{gathered}
-use Rattle.wl_buses.specs.OneFrame.Stations.{AreStations, HaveRoom, Stations, bit_drift, shared_quantum, shared_tick, with_longer_ways}
+use Rattle.wl_buses.specs.OneFrame.Stations.{AreStations, HaveRoom, Stations, bit_drift, shared_quantum, shared_tick}
 use Rattle.wl_buses.specs.OneListener.Beside.{with_listener}
-use Rattle.wl_buses.specs.OneListener.Ends.{CanBeHeard, HasRoomToRestBeside, others_gathered}
+use Rattle.wl_buses.specs.OneListener.Ends.{CanBeHeard}
 
 -- what the station after the last drives takes so many ticks longer to each other one
 abbrev pub farther : Stations → (far : ℕ) → (i k : ℕ) → ℕ

@@ -11,7 +11,7 @@ ghost use Rattle.wl_buses.specs.OneFrame.Expected.{IsOutset, Outset, edge_start,
 ghost use Rattle.wl_buses.specs.OneFrame.Machines.{HasWon};
 ghost use Rattle.wl_buses.specs.OneFrame.Nodes.{IsRun};
 ghost use Rattle.wl_buses.specs.OneFrame.Starts.{Start};
-ghost use Rattle.wl_buses.specs.OneFrame.Stations.{AreStations, FitsBut, HaveRoom, HaveRoomToSample, Stations, with_longer_ways};
+ghost use Rattle.wl_buses.specs.OneFrame.Stations.{AreOnALine, AreStations, FitsBut, HaveRoom, HaveRoomToSample, Stations, with_longer_ways};
 ghost use Rattle.wl_buses.specs.OneListener.Beside.{AreCloseBeside, HasRoomToListen, HearsTheEnd, ListensToTheEnd, with_listener, hears, others_answering};
 ghost use Rattle.wl_buses.specs.OneListener.Ends.{CanBeHeard, HasRoomToRestBeside, IsUnheard, others_gathered};
 ghost use Rattle.wl_buses.specs.FrameEnd.Asked.{CanBeAnswered, EndsBefore};
@@ -21,7 +21,10 @@ ghost use Rattle.wl_buses.specs.FrameEnd.Again.{HasRoomToRest, RestsAgain};
 ghost use Rattle.wl_buses.specs.NextFrames.NextNodes.{GoesThrough};
 ghost use Rattle.wl_buses.specs.NextFrames.Frames.{AreInOrder, Frame, frames_drove, third_sample};
 ghost use Rattle.wl_buses.specs.OneListener.Same.{ExpectsTheSame};
-ghost use Rattle.wl_buses.specs.OneListener.Muted.{FitsEleven, MayListen, muted, muted_way};
+ghost use Rattle.wl_buses.specs.OneListener.Muted.{FitsEleven, LeavesRoomToListen, MayListen, muted, muted_way};
+ghost use Rattle.wl_bound.specs.Families.{Bus};
+ghost use Rattle.wl_buses.specs.OneFrame.Answers.{HasRoomToAnswer};
+ghost use Rattle.wl_buses.specs.OneFrame.Bounds.{HasStations};
 ghost use Rattle.wl_buses.specs.OneListener.Frames.{CanAllBeHeard, ReceivesAll, ReceivesFromPowerUp, waiting_with};
 ghost use Rattle.wl_buses.specs.FirstFrame.FirstStarts.{AreIdle, HandTheFirst, Waiting, first_outset};
 ghost use Rattle.wl_frame.specs.Grammar.{Content};
@@ -217,9 +220,9 @@ pub fn a_listener_changes_no_expected_bit()
     wl_frame::laws::ten_bits_have_an_edge();
 }
 
-/// Law: all that these laws ask is met by stations with room for acknowledgements and for rest, if eleven bits' drift fits before the sample
-/// of the last of them, and if that one only listens in the place of being heard: what it drives takes any number of ticks longer to the
-/// others.
+/// Law: what these laws ask can be met. Take stations with room for acknowledgements and for rest. The last has no frames, and eleven bits'
+/// drift fits before its sample. If that one only listens in the place of being heard, all is met: what it drives takes any
+/// number of ticks longer to the others.
 pub fn a_station_with_room_may_listen()
     ensures may { (s : Stations) (far winner : ℕ) (chase : ℕ → ℕ) → AreStations (with_listener s)
         → HaveRoom (with_listener s) → ((k : ℕ) → s.may_send k ≡ true → k ≢ s.count) → 1 < s.count
@@ -234,3 +237,15 @@ pub fn a_station_with_room_may_listen()
         (with_longer_ways (others_gathered (muted s far) winner (muted_way s far) chase)
         (most_overrun (with_listener s) winner chase)).way }
 {}
+
+/// Law: a bus that meets the inequalities for acknowledgements, and one with eleven bits' drift at its last node, has that room, wherever
+/// within its tolerance each clock lies.
+pub fn a_bus_has_room_to_listen()
+    ensures { (bus : Bus) (s : Stations) (chase : ℕ → ℕ) → AreOnALine (with_listener s)
+        → HasStations bus (with_listener s) → HasRoomToAnswer bus chase → LeavesRoomToListen bus chase s.count
+        → (winner : ℕ) → winner < s.count → s.may_send winner ≡ true
+        → CanBeAnswered (with_listener s) winner chase
+        × FitsEleven s (chased_way (with_listener s) winner chase) }
+{
+    crate::one_frame::ack::a_bus_has_room_to_answer();
+}
