@@ -6,3 +6,5 @@ pub mod PoweredUp
 pub mod Unchanged
 pub mod Same
 pub mod Rows
+pub mod Muted
+pub mod BusRoom

@@ -36,7 +36,7 @@ use Rattle.wl_buses.proofs.NextFrames.Chaining.{FreeLaw, RestsLaw}
 use Rattle.wl_buses.proofs.NextFrames.LineGoing as going
 use Rattle.wl_buses.proofs.NextFrames.LineGoing.{AskedLaw, NodeLaw}
 use Rattle.wl_buses.proofs.NextFrames.Windows as windows
-use Rattle.wl_buses.proofs.NextFrames.Windows.{IsHeard, NothingFound, RestAfter}
+use Rattle.wl_buses.proofs.NextFrames.Windows.{NothingFound, RestAfter}
 use Rattle.wl_buses.specs.BothProofs.Queues.{head_at}
 use Rattle.wl_buses.proofs.BothProofs.Heads.{head_none}
 
@@ -47,7 +47,7 @@ QuietLaw = (s : Stations) (past : List Input) (i : ℕ) (setup : NodeSetup) (lev
     → unsent_of setup (node (suc (rest + sample_at (s.lengths i)))) ≡ [] → (q : ℕ) → rest + sample_at (s.lengths i) < q
     → ((j : ℕ) → rest + sample_at (s.lengths i) < j → j < q → levels j ≡ Recessive) → StillRests node (suc (rest + sample_at (s.lengths i))) q
 
-module _ (m : MachineLaws) (nothing : NothingFound) (is_heard : IsHeard) (rest_after : RestAfter) (asked : AskedLaw) (node_law : NodeLaw) (rests : RestsLaw) (free_law : FreeLaw) (quiet : QuietLaw)
+module _ (m : MachineLaws) (nothing : NothingFound) (rest_after : RestAfter) (asked : AskedLaw) (node_law : NodeLaw) (rests : RestsLaw) (free_law : FreeLaw) (quiet : QuietLaw)
     (l : Line) (setups : ℕ → NodeSetup) (s : Stations) (line : IsLineOf l setups s) (are : AreStations s) (room : HaveRoom s) (fs : ℕ → Frame) (count : ℕ) (frames : FollowOneAnother s fs count)
     (some : 0 < count) (begin : BeginFrames l setups s fs count frames) (sent : AllAreSent l setups s fs count) where
   abbrev drove : ℕ → ℕ → Bool
@@ -94,7 +94,7 @@ module _ (m : MachineLaws) (nothing : NothingFound) (is_heard : IsHeard) (rest_a
     at_rest : RestsAgain s past i (levels i) (node i) ((expected_bits s (fs n).outset ((fs n).bits + 12)).place i) since
     at_rest =
         rests s (fs n).outset (fs n).bits are room f.outset f.ends f.won (λ k. handed) (λ k lt. refl) i (setups i) (levels i) (node i) inside
-        (going.goes m nothing is_heard rest_after asked node_law l setups s line are room fs count frames some begin i n less inside).ends (none ∙ sym waits_none)
+        (going.goes m nothing rest_after asked node_law l setups s line are room fs count frames some begin i n less inside).ends (none ∙ sym waits_none)
 
     is_free : stretch_of past ≡ stretch_by (free None) []
     is_free = (free_law s (fs n).outset (fs n).bits are room f.outset f.ends f.won).free i handed inside refl ∙ ap (λ h. stretch_by (free h) []) none
@@ -103,11 +103,11 @@ module _ (m : MachineLaws) (nothing : NothingFound) (is_heard : IsHeard) (rest_a
     silent q more =
         finds_driven l setups s line drove i q inside
         ∙ ap level_of
-        (windows.silent_after m nothing is_heard rest_after s are room fs count frames i q inside
-        (λ g in_count. (let mono = windows.thirds_up m nothing is_heard rest_after s are room fs count frames g n i (omega arith) less inside in omega arith)))
+        (windows.silent_after m nothing rest_after s are room fs count frames i q inside
+        (λ g in_count. (let mono = windows.thirds_up m nothing rest_after s are room fs count frames g n i (omega arith) less inside in omega arith)))
 
     early : since ≤ T n i
-    early = let over = windows.over_by_third m nothing is_heard rest_after s are room fs count frames n i less inside in omega arith
+    early = let over = windows.over_by_third m nothing rest_after s are room fs count frames n i less inside in omega arith
 
     pub still : (q : ℕ) → T n i < q → StillRests (node i) (suc (T n i)) q
     still q more =
@@ -118,9 +118,9 @@ module _ (m : MachineLaws) (nothing : NothingFound) (is_heard : IsHeard) (rest_a
     -- and it drives nothing from then on
     none_driven : (t : ℕ) → tick i (suc (T n i)) ≤ t → drove i t ≡ false
     none_driven t low =
-        any_none count (λ g. frame_drove s (fs g) i t) (λ g in_count. (let mono = windows.thirds_up m nothing is_heard rest_after s are room fs count frames g n i (omega arith) less inside in
+        any_none count (λ g. frame_drove s (fs g) i t) (λ g in_count. (let mono = windows.thirds_up m nothing rest_after s are room fs count frames g n i (omega arith) less inside in
         let time = tick_next s are i inside (suc (T g i)) (suc (T n i)) (omega arith) in
-        going.none_after m nothing is_heard rest_after asked node_law l setups s line are room fs count frames some begin g in_count i inside t (omega arith)))
+        going.none_after m nothing rest_after asked node_law l setups s line are room fs count frames some begin g in_count i inside t (omega arith)))
 
     pub drives_then : (k t : ℕ) → T n i < k → tick i k ≤ t → drove i t ≡ is_dominant (node i (suc k)).drive
     drives_then k t more low =
@@ -130,7 +130,7 @@ module _ (m : MachineLaws) (nothing : NothingFound) (is_heard : IsHeard) (rest_a
     drives_at : (i k t : ℕ) → i < s.count → tick i k ≤ t → t < tick i (suc k) → drove i t ≡ is_dominant (node i (suc k)).drive
     drives_at i k t inside low high = elim (cases_lt (T (count - 1) i) k) [
       | inl more ↦ drives_then (count - 1) i (omega arith) inside k t more low
-      | inr few ↦ going.drives_there m nothing is_heard rest_after asked node_law l setups s line are room fs count frames some begin i k t inside few low high
+      | inr few ↦ going.drives_there m nothing rest_after asked node_law l setups s line are room fs count frames some begin i k t inside few low high
     ]
 
     is_expected : IsExpected l (λ i. stop) drove
@@ -138,7 +138,7 @@ module _ (m : MachineLaws) (nothing : NothingFound) (is_heard : IsHeard) (rest_a
       near = λ i j ni nj. omega arith;
       inside = λ i ni. in_line;
       before = λ i t ni less early. (let e = line.nodes in
-          going.none_at_first m nothing is_heard rest_after asked node_law l setups s line are room fs count frames some begin i t (omega arith) (let first = line.ticks i 0 ni in omega arith));
+          going.none_at_first m nothing rest_after asked node_law l setups s line are room fs count frames some begin i t (omega arith) (let first = line.ticks i 0 ni in omega arith));
       drives = λ i k t ni less low high. (let e = line.nodes in
           let one = line.ticks i k ni in
           let two = line.ticks i (suc k) ni in
@@ -150,7 +150,7 @@ module _ (m : MachineLaws) (nothing : NothingFound) (is_heard : IsHeard) (rest_a
       goes = record {
         drives = driven_is l (λ i. stop) drove line.causal is_expected;
         node = λ i k ni less. ap (staying_history (setups i)) (seen_is l (λ i. stop) drove line.causal is_expected i k ni less);
-        goes = going.goes m nothing is_heard rest_after asked node_law l setups s line are room fs count frames some begin;
+        goes = going.goes m nothing rest_after asked node_law l setups s line are room fs count frames some begin;
       };
       rests = λ i n q inside is more. still n i is inside q more;
     }

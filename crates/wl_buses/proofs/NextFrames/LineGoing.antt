@@ -29,7 +29,7 @@ use Rattle.wl_buses.specs.NextFrames.Runs.{GoesThroughOne, HandsBetween, quiet_b
 use Rattle.wl_buses.proofs.NextFrames.Driving as driving
 use Rattle.wl_buses.proofs.NextFrames.LineResting as resting
 use Rattle.wl_buses.proofs.NextFrames.Windows as windows
-use Rattle.wl_buses.proofs.NextFrames.Windows.{IsHeard, NothingFound, RestAfter, any_alone}
+use Rattle.wl_buses.proofs.NextFrames.Windows.{NothingFound, RestAfter, any_alone}
 
 -- the laws that this rests on
 abbrev pub AskedLaw : Type 0
@@ -42,7 +42,7 @@ NodeLaw = (s : Stations) (frames : ℕ → Frame) (count : ℕ) → AreStations 
     → (rest since : ℕ) → BeginsAfter s (frames 0).outset i rest → RestsAgain s ((frames 0).outset.past i) i levels node rest since → since ≤ rest + sample_at (s.lengths i)
     → HandsBetween s frames count are i setup node → (n : ℕ) (less : n < count) → GoesThroughOne s frames count are i since setup levels node n less
 
-module _ (m : MachineLaws) (nothing : NothingFound) (is_heard : IsHeard) (rest_after : RestAfter) (asked : AskedLaw) (node_law : NodeLaw) (l : Line) (setups : ℕ → NodeSetup) (s : Stations)
+module _ (m : MachineLaws) (nothing : NothingFound) (rest_after : RestAfter) (asked : AskedLaw) (node_law : NodeLaw) (l : Line) (setups : ℕ → NodeSetup) (s : Stations)
     (line : IsLineOf l setups s) (are : AreStations s) (room : HaveRoom s) (fs : ℕ → Frame) (count : ℕ) (frames : FollowOneAnother s fs count) (some : 0 < count)
     (begin : BeginFrames l setups s fs count frames) where
   abbrev drove : ℕ → ℕ → Bool
@@ -61,7 +61,7 @@ module _ (m : MachineLaws) (nothing : NothingFound) (is_heard : IsHeard) (rest_a
   node i = node_after (setups i) (levels i)
 
   rests_first : (i : ℕ) → i < s.count → RestsAgain s ((fs 0).outset.past i) i (levels i) (node i) (begin.rest i) 0
-  rests_first i inside = resting.rests_first m nothing is_heard rest_after l setups s line are room fs count frames some begin.rest begin.after begin.rests i inside
+  rests_first i inside = resting.rests_first m nothing rest_after l setups s line are room fs count frames some begin.rest begin.after begin.rests i inside
 
   pub goes : (i n : ℕ) (less : n < count) → i < s.count → GoesThroughOne s fs count frames i 0 (setups i) (levels i) (node i) n less
   goes i n less inside =
@@ -117,13 +117,13 @@ module _ (m : MachineLaws) (nothing : NothingFound) (is_heard : IsHeard) (rest_a
       any_alone count n (λ g. frame_drove s (fs g) i t) less (λ g in_count apart. elim (cases_lt g n) [
         | inl sooner ↦
             (let last = after (n - 1) (omega arith) in
-            let mono = windows.thirds_up m nothing is_heard rest_after s are room fs count frames g (n - 1) i (omega arith) (omega arith) inside in
+            let mono = windows.thirds_up m nothing rest_after s are room fs count frames g (n - 1) i (omega arith) (omega arith) inside in
             let time = tick_next s are i inside (suc (T g i)) k (omega arith) in
             none_after g in_count i inside t (omega arith))
         | inr later ↦
             (let e : suc (g - 1) ≡ g = omega (arith, apart, later) in
-            let mono = windows.thirds_up m nothing is_heard rest_after s are room fs count frames n (g - 1) i (omega (arith, apart, later)) (omega arith) inside in
-            let first = windows.third_before m nothing is_heard rest_after s are room fs count frames (g - 1) (omega arith) i inside in
+            let mono = windows.thirds_up m nothing rest_after s are room fs count frames n (g - 1) i (omega (arith, apart, later)) (omega arith) inside in
+            let first = windows.third_before m nothing rest_after s are room fs count frames (g - 1) (omega arith) i inside in
             let f : (fs (suc (g - 1))).outset.start.from i ≡ (fs g).outset.start.from i = ap (λ j. (fs j).outset.start.from i) e in
             let time = tick_next s are i inside (suc k) ((fs g).outset.start.from i) (omega arith) in
             none_before g in_count i inside t (omega arith))

@@ -17,7 +17,7 @@ use Rattle.wl_buses.specs.NextFrames.Frames.{FollowOneAnother, Frame}
 use Rattle.wl_buses.specs.NextFrames.Lines.{BeginFrames, finds_frames}
 use Rattle.wl_buses.specs.NextFrames.Runs.{HandsBetween}
 use Rattle.wl_buses.proofs.NextFrames.LineResting.{finds_first}
-use Rattle.wl_buses.proofs.NextFrames.Windows.{IsHeard, NothingFound, RestAfter}
+use Rattle.wl_buses.proofs.NextFrames.Windows.{NothingFound, RestAfter}
 
 -- the laws that this rests on
 abbrev pub AfterFirst : Type 0
@@ -58,7 +58,7 @@ NothingFirst = (l : Line) (setups : ℕ → NodeSetup) (w : Waiting) (length i :
     → (q : ℕ) → q ≤ suc (rest_first w i + sample_at (w.stations.lengths i))
     → IsUntouched (node_after (setups i) (finds_expected l w.stations (first_outset w) length i) q)
 
-module _ (m : MachineLaws) (nothing : NothingFound) (is_heard : IsHeard) (rest_after : RestAfter) (after : AfterFirst) (none : NothingFirst) (l : Line) (setups : ℕ → NodeSetup) (w : Waiting)
+module _ (m : MachineLaws) (nothing : NothingFound) (rest_after : RestAfter) (after : AfterFirst) (none : NothingFirst) (l : Line) (setups : ℕ → NodeSetup) (w : Waiting)
     (line : IsLineOf l setups w.stations) (are : AreStations w.stations) (room : HaveRoom w.stations) (idle : AreIdle w) (hand : HandTheFirst w setups) (fs : ℕ → Frame) (count : ℕ)
     (frames : FollowOneAnother w.stations fs count) (some : 0 < count) (first : (fs 0).outset ≡ first_outset w) (i : ℕ) (inside : i < w.stations.count) where
   abbrev s : Stations
@@ -76,4 +76,4 @@ module _ (m : MachineLaws) (nothing : NothingFound) (is_heard : IsHeard) (rest_a
   pub nothing_passed : (q : ℕ) → q ≤ suc (rest_first w i + sample_at (s.lengths i)) → IsUntouched (node_after (setups i) (finds_frames l s fs count i) q)
   nothing_passed q by =
       subst IsUntouched
-      (sym (ap (staying_history (setups i)) (levels_agree (finds_frames l s fs count i) (finds_expected l s (fs 0).outset (fs 0).bits i) q (λ j less. finds_first m nothing is_heard rest_after l setups s line are room fs count frames some i (rest_first w i) j inside begins (omega arith))))) (none_first q by)
+      (sym (ap (staying_history (setups i)) (levels_agree (finds_frames l s fs count i) (finds_expected l s (fs 0).outset (fs 0).bits i) q (λ j less. finds_first m nothing rest_after l setups s line are room fs count frames some i (rest_first w i) j inside begins (omega arith))))) (none_first q by)

@@ -3,12 +3,9 @@ use Rattle.std.proofs.Common.{◌≡◌, ℕ, suc, ◌+◌, ◌<◌, ◌≤◌, 
 use Rattle.wl_segments.specs.Lengths.{sample_at}
 use Rattle.wl_topology.specs.Driven.{driven}
 use Rattle.wl_phase.specs.Clocks.{steady_tick}
-use Rattle.wl_buses.specs.OneFrame.Acknowledged.{IsAcknowledgedByAll, chased_way}
-use Rattle.wl_buses.specs.OneFrame.Expected.{IsOutset, Outset, expected_bits, expected_drove}
+use Rattle.wl_buses.specs.OneFrame.Expected.{expected_bits, expected_drove}
 use Rattle.wl_buses.specs.OneFrame.Lines.{BeginsAfter}
-use Rattle.wl_buses.specs.OneFrame.Machines.{HasWon}
 use Rattle.wl_buses.specs.OneFrame.Stations.{AreStations, HaveRoom, Stations}
-use Rattle.wl_buses.specs.FrameEnd.Asked.{CanBeAnswered, EndsBefore}
 use Rattle.wl_buses.proofs.FrameEnd.Below.{MachineLaws}
 use Rattle.wl_buses.specs.NextFrames.Frames.{FollowOneAnother, IsBegunAfter, Frame, IsBegun, frame_drove, frames_drove, resting_of, third_sample}
 use Rattle.wl_buses.specs.NextFrames.NextStarts.{AreResting, rest_next, start_next}
@@ -19,15 +16,10 @@ use Rattle.wl_buses.proofs.NextFrames.Found as windows
 pub use Rattle.wl_buses.proofs.NextFrames.Found.{NothingFound, any_alone}
 
 -- the laws that this rests on
-abbrev pub IsHeard : Type 0
-IsHeard = (s : Stations) (o : Outset) (end : ℕ) (chase until : ℕ → ℕ) → AreStations s → HaveRoom s → IsOutset s o → EndsBefore s o end
-    → (won : HasWon s (expected_bits s o) o.frames end) → CanBeAnswered s won.station chase
-    → IsAcknowledgedByAll s (chased_way s won.station chase) (expected_bits s o end).place (expected_bits s o (suc end)) (expected_bits s o (suc (suc end))).from (expected_drove s o (end + 13)) until
-
 abbrev pub RestAfter : Type 0
 RestAfter = (s : Stations) (a b : Frame) → AreStations s → HaveRoom s → IsBegun s a → (next : IsBegunAfter s a b) → AreResting (resting_of s a b next)
 
-module _ (m : MachineLaws) (nothing : NothingFound) (is_heard : IsHeard) (rest_after : RestAfter) (s : Stations) (are : AreStations s) (room : HaveRoom s) (fs : ℕ → Frame) (count : ℕ)
+module _ (m : MachineLaws) (nothing : NothingFound) (rest_after : RestAfter) (s : Stations) (are : AreStations s) (room : HaveRoom s) (fs : ℕ → Frame) (count : ℕ)
     (frames : FollowOneAnother s fs count) where
   abbrev T : ℕ → ℕ → ℕ
   T n i = third_sample s (fs n) i

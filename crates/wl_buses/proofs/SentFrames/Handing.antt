@@ -30,7 +30,7 @@ use Rattle.wl_buses.specs.NextFrames.NextNodes.{HandsNext}
 use Rattle.wl_buses.specs.NextFrames.NextStarts.{AreFreeNext, AreResting, Resting, rest_next, rested, start_next}
 use Rattle.wl_buses.specs.NextFrames.Runs.{GoesThroughOne}
 use Rattle.wl_buses.proofs.NextFrames.Chaining.{FreeLaw, GoesOn, RestsLaw, ThroughLaw, WaitLaw, finds_alone, goes_first, goes_on}
-use Rattle.wl_buses.proofs.NextFrames.Windows.{IsHeard, NothingFound, RestAfter, resting}
+use Rattle.wl_buses.proofs.NextFrames.Windows.{NothingFound, RestAfter, resting}
 use Rattle.wl_buses.proofs.NextFrames.Queueing.{hands_one}
 use Rattle.wl_buses.specs.PassedFrames.Passing.{PassesOne}
 use Rattle.wl_buses.specs.SentFrames.Sending.{ByQueues, PassesAll}
@@ -60,7 +60,7 @@ WaitFine = (r : Resting) (before : ℕ → List Input) → AreOnALine r.stations
 abbrev pub FoundLaw : Type 0
 FoundLaw = (h : History) → fault_count h ≡ 0 → (error_count h ≡ 0) × (counters_of h ≡ no_counts)
 
-module _ (m : MachineLaws) (nothing : NothingFound) (is_heard : IsHeard) (rest_after : RestAfter) (rests : RestsLaw) (free : FreeLaw) (wait : WaitLaw) (through : ThroughLaw) (pass : PassLaw)
+module _ (m : MachineLaws) (nothing : NothingFound) (rest_after : RestAfter) (rests : RestsLaw) (free : FreeLaw) (wait : WaitLaw) (through : ThroughLaw) (pass : PassLaw)
     (wait_fine : WaitFine) (found : FoundLaw) (s : Stations) (are : AreStations s) (room : HaveRoom s) (setups : ℕ → NodeSetup) (fs : ℕ → Frame) (count : ℕ) (frames : FollowOneAnother s fs count)
     (by : ByQueues s setups fs count frames) (i : ℕ) (inside : i < s.count) (segments : (setups i).segments ≡ s.lengths i) (levels : ℕ → Level) (node : ℕ → History)
     (run : IsRun (setups i) levels node)
@@ -90,7 +90,7 @@ module _ (m : MachineLaws) (nothing : NothingFound) (is_heard : IsHeard) (rest_a
       let f : IsBegun s (fs n) = frames.each n less in
       let p : PassesOne s (fs n).outset (fs n).bits (frames.each n less).won.station i rest (frames.each n less).won.frame node =
       pass s (fs n).outset (fs n).bits f.chase are room f.outset f.some f.ends f.won f.answer i rest since (setups i) levels node inside segments run after at by_then
-      (λ q more up. finds_alone m nothing is_heard rest_after rests free wait through s are room fs count frames i inside (setups i) segments levels node run finds first_rest first_since begins first early
+      (λ q more up. finds_alone m nothing rest_after rests free wait through s are room fs count frames i inside (setups i) segments levels node run finds first_rest first_since begins first early
       n q less (λ j e. (let low = last j e in omega arith)) up) in
       let now : (node (suc (T n))).frames ≡ all (suc n) =
       p.frames ∙ ap (λ x. x ++ passed_frame s (fs n).outset (fs n).bits i (frames.each n less).won.station (frames.each n less).won.frame ∷ []) frames_before
@@ -108,7 +108,7 @@ module _ (m : MachineLaws) (nothing : NothingFound) (is_heard : IsHeard) (rest_a
 
   goes_over : (n : ℕ) (less : suc n < count) → Stage n (omega arith) → GoesOn s fs count (frames_in_order s fs count frames) i first_since (setups i) levels node n less
   goes_over n less x =
-      goes_on m nothing is_heard rest_after rests free wait through s are room fs count frames i inside (setups i) segments levels node run finds first_rest first_since begins first early n less x.goes
+      goes_on m nothing rest_after rests free wait through s are room fs count frames i inside (setups i) segments levels node run finds first_rest first_since begins first early n less x.goes
       (hand n less x)
 
   step : (n : ℕ) (less : suc n < count) → Stage n (omega arith) → Stage (suc n) less
@@ -118,7 +118,7 @@ module _ (m : MachineLaws) (nothing : NothingFound) (is_heard : IsHeard) (rest_a
       let r : Resting = resting_of s (fs n) (fs (suc n)) (frames.next n less) in
       let clean_then =
       wait_fine (resting_of s (fs n) (fs (suc n)) (frames.next n less)) (past_at s (fs n).outset ((fs n).bits + 12)) are.line
-      (resting m nothing is_heard rest_after s are room fs count frames n less) (free s (fs n).outset (fs n).bits are room f.outset f.ends f.won) i inside (setups i) segments levels node run g.handed
+      (resting m nothing rest_after s are room fs count frames n less) (free s (fs n).outset (fs n).bits are room f.outset f.ends f.won) i inside (setups i) segments levels node run g.handed
       g.active g.since g.early g.rests g.silent g.hands in
       stage (suc n) less (rest_next (resting_of s (fs n) (fs (suc n)) (frames.next n less)) i) (T n) g.begins g.again (omega arith)
       (λ j e. (let same : j ≡ n = omega (arith, e) in let h : T j ≡ T n = ap T same in omega arith)) g.goes (g.same ∙ x.passed) (clean_then.1 ∙ x.clean)
@@ -126,7 +126,7 @@ module _ (m : MachineLaws) (nothing : NothingFound) (is_heard : IsHeard) (rest_a
   stages : (n : ℕ) (less : n < count) → Stage n less
   stages zero less =
       stage 0 less first_rest first_since begins first early (λ j e. absurd (omega (arith, e)))
-      (goes_first m nothing is_heard rest_after rests free wait through s are room fs count frames i inside (setups i) segments levels node run finds first_rest first_since begins first early less) none fine
+      (goes_first m nothing rest_after rests free wait through s are room fs count frames i inside (setups i) segments levels node run finds first_rest first_since begins first early less) none fine
   stages (suc n) less = step n less (stages n (omega arith))
 
   pub all_passed : PassesAll s setups fs count frames by i node

@@ -15,13 +15,13 @@ use Rattle.wl_buses.specs.NextFrames.Frames.{FollowOneAnother, Frame, frames_dro
 use Rattle.wl_buses.specs.NextFrames.NextStarts.{decision_next}
 use Rattle.wl_buses.specs.NextFrames.Lines.{finds_frames}
 use Rattle.wl_buses.proofs.NextFrames.PoweredUp.{AfterFirst, RestFirst, begins_first, powered_up, rests_before}
-use Rattle.wl_buses.proofs.NextFrames.Windows.{IsHeard, NothingFound, RestAfter}
+use Rattle.wl_buses.proofs.NextFrames.Windows.{NothingFound, RestAfter}
 use Rattle.wl_buses.proofs.NextFrames.LineResting.{rests_first}
 use Rattle.wl_buses.specs.SentFrames.Sending.{ByQueues, PassesAll, LineSends, unsent_with}
 use Rattle.wl_buses.proofs.SentFrames.Handing.{HandLaw}
 use Rattle.wl_buses.proofs.SentFrames.Nexting.{FirstHanded, NextQueued, first_queued}
 
-module _ (m : MachineLaws) (nothing : NothingFound) (is_heard : IsHeard) (rest_after : RestAfter) (after : AfterFirst) (rest : RestFirst) (hand_law : HandLaw) (first_law : FirstHanded)
+module _ (m : MachineLaws) (nothing : NothingFound) (rest_after : RestAfter) (after : AfterFirst) (rest : RestFirst) (hand_law : HandLaw) (first_law : FirstHanded)
     (next_law : NextQueued) (l : Line) (setups : ℕ → NodeSetup) (w : Waiting) (line : IsLineOf l setups w.stations) (are : AreStations w.stations) (room : HaveRoom w.stations) (idle : AreIdle w)
     (hand : HandTheFirst w setups) (queues : (i : ℕ) → w.frames i ≡ queued_contents (setups i).queue) (fs : ℕ → Frame) (count : ℕ) (frames : FollowOneAnother w.stations fs count) (some : 0 < count)
     (first : (fs 0).outset ≡ first_outset w) (by : ByQueues w.stations setups fs count frames)
@@ -44,7 +44,7 @@ module _ (m : MachineLaws) (nothing : NothingFound) (is_heard : IsHeard) (rest_a
       let x = none i inside in
       hand_law s setups fs count are room frames by i inside (line.segments i (let e = line.nodes in omega arith)) (levels i) (node_after (setups i) (levels i)) (run_of (setups i) (levels i))
       (λ n q lt up. finds_driven l setups s line (frames_drove s fs count) i q inside) (rest_first w i) 0 (begins i inside)
-      (rests_first m nothing is_heard rest_after l setups s line are room fs count frames some (rest_first w) begins rests i inside) (omega arith) x.0 x.1
+      (rests_first m nothing rest_after l setups s line are room fs count frames some (rest_first w) begins rests i inside) (omega arith) x.0 x.1
 
   sent_next : (n : ℕ) → n < count → (quantum : ℕ) × (head_at (setups (by.winner n)) (unsent_with s setups fs by.winner by.content (by.winner n) n) quantum ≡ Some (by.content n))
   sent_next zero less = (decision_quantum w (by.winner 0), first_queued first_law setups w are room idle hand fs count frames less first by)

@@ -38,7 +38,6 @@ pub fn all_frames_of_a_line_get_through()
     crate::first_frame::laws::idle_stations_begin_a_first_frame();
     crate::first_frame::laws::nodes_rest_before_a_first_frame();
     crate::first_frame::laws::nothing_passes_before_a_first_frame();
-    crate::frame_end::laws::what_is_expected_is_answered();
     wl_wire::laws::machines_stay_in_step();
     wl_wire::laws::the_least_field_wins();
     wl_machine::laws::a_transmitter_sends_its_head_stuffed();

@@ -37,7 +37,6 @@ pub fn a_line_goes_from_frame_to_frame()
     wl_topology::driven_laws();
     crate::one_frame::before::nothing_is_found_before_a_frame();
     crate::frame_end::laws::machines_answer_as_asked();
-    crate::frame_end::laws::what_is_expected_is_answered();
     wl_wire::laws::machines_stay_in_step();
     wl_wire::laws::the_least_field_wins();
     wl_machine::laws::a_transmitter_sends_its_head_stuffed();
@@ -94,7 +93,6 @@ pub fn nothing_passes_before_the_frames()
     crate::first_frame::laws::idle_stations_begin_a_first_frame();
     crate::first_frame::laws::nothing_passes_before_a_first_frame();
     crate::first_frame::laws::a_plan_has_a_first_frame();
-    crate::frame_end::laws::what_is_expected_is_answered();
     wl_wire::laws::machines_stay_in_step();
     wl_wire::laws::the_least_field_wins();
     wl_machine::laws::a_transmitter_sends_its_head_stuffed();

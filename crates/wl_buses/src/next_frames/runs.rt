@@ -32,7 +32,6 @@ pub fn each_frame_is_found_alone()
 {
     wl_topology::driven_laws();
     crate::one_frame::before::nothing_is_found_before_a_frame();
-    crate::frame_end::laws::what_is_expected_is_answered();
     wl_wire::laws::machines_stay_in_step();
     wl_wire::laws::the_least_field_wins();
     wl_machine::laws::a_transmitter_sends_its_head_stuffed();
@@ -58,7 +57,6 @@ pub fn a_node_goes_from_frame_to_frame()
 {
     wl_topology::driven_laws();
     crate::one_frame::before::nothing_is_found_before_a_frame();
-    crate::frame_end::laws::what_is_expected_is_answered();
     crate::frame_end::laws::all_may_begin_again();
     wl_wire::laws::machines_stay_in_step();
     wl_wire::laws::the_least_field_wins();

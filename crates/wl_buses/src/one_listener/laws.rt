@@ -6,21 +6,25 @@ ghost use Rattle.wl_level.specs.Levels.{level_of};
 ghost use Rattle.wl_node.specs.declared.setup.NodeSetup.{NodeSetup};
 ghost use Rattle.wl_node.specs.History.{History};
 ghost use Rattle.wl_topology.specs.Driven.{driven};
-ghost use Rattle.wl_buses.specs.OneFrame.Acknowledged.{IsAnsweredByAll, answering};
+ghost use Rattle.wl_buses.specs.OneFrame.Acknowledged.{IsAnsweredByAll, answering, chased_way, most_overrun};
 ghost use Rattle.wl_buses.specs.OneFrame.Expected.{IsOutset, Outset, edge_start, expected_bits, expected_sample};
 ghost use Rattle.wl_buses.specs.OneFrame.Machines.{HasWon};
 ghost use Rattle.wl_buses.specs.OneFrame.Nodes.{IsRun};
 ghost use Rattle.wl_buses.specs.OneFrame.Starts.{Start};
-ghost use Rattle.wl_buses.specs.OneFrame.Stations.{AreStations, FitsBut, HaveRoom, HaveRoomToSample, Stations, with_longer_ways};
+ghost use Rattle.wl_buses.specs.OneFrame.Stations.{AreOnALine, AreStations, FitsBut, HaveRoom, HaveRoomToSample, Stations, with_longer_ways};
 ghost use Rattle.wl_buses.specs.OneListener.Beside.{AreCloseBeside, HasRoomToListen, HearsTheEnd, ListensToTheEnd, with_listener, hears, others_answering};
 ghost use Rattle.wl_buses.specs.OneListener.Ends.{CanBeHeard, HasRoomToRestBeside, IsUnheard, others_gathered};
-ghost use Rattle.wl_buses.specs.FrameEnd.Asked.{EndsBefore};
+ghost use Rattle.wl_buses.specs.FrameEnd.Asked.{CanBeAnswered, EndsBefore};
 ghost use Rattle.wl_buses.specs.FrameEnd.Finds.{FindsTheEnd, finds_at};
 ghost use Rattle.wl_buses.specs.PassedFrames.Passing.{PassesOne};
-ghost use Rattle.wl_buses.specs.FrameEnd.Again.{RestsAgain};
+ghost use Rattle.wl_buses.specs.FrameEnd.Again.{HasRoomToRest, RestsAgain};
 ghost use Rattle.wl_buses.specs.NextFrames.NextNodes.{GoesThrough};
 ghost use Rattle.wl_buses.specs.NextFrames.Frames.{AreInOrder, Frame, frames_drove, third_sample};
 ghost use Rattle.wl_buses.specs.OneListener.Same.{ExpectsTheSame};
+ghost use Rattle.wl_buses.specs.OneListener.Muted.{FitsEleven, LeavesRoomToListen, MayListen, muted, muted_way};
+ghost use Rattle.wl_bound.specs.Families.{Bus};
+ghost use Rattle.wl_buses.specs.OneFrame.Answers.{HasRoomToAnswer};
+ghost use Rattle.wl_buses.specs.OneFrame.Bounds.{HasStations};
 ghost use Rattle.wl_buses.specs.OneListener.Frames.{CanAllBeHeard, ReceivesAll, ReceivesFromPowerUp, waiting_with};
 ghost use Rattle.wl_buses.specs.FirstFrame.FirstStarts.{AreIdle, HandTheFirst, Waiting, first_outset};
 ghost use Rattle.wl_frame.specs.Grammar.{Content};
@@ -214,4 +218,34 @@ pub fn a_listener_changes_no_expected_bit()
     wl_machine::laws::a_transmitter_sends_its_head_stuffed();
     wl_frame::laws::a_front_of_no_stuffing_ends_six_equal_bits();
     wl_frame::laws::ten_bits_have_an_edge();
+}
+
+/// Law: what these laws ask can be met. Take stations with room for acknowledgements and for rest. The last has no frames, and eleven bits'
+/// drift fits before its sample. If that one only listens in the place of being heard, all is met: what it drives takes any
+/// number of ticks longer to the others.
+pub fn a_station_with_room_may_listen()
+    ensures may { (s : Stations) (far winner : ℕ) (chase : ℕ → ℕ) → AreStations (with_listener s)
+        → HaveRoom (with_listener s) → ((k : ℕ) → s.may_send k ≡ true → k ≢ s.count) → 1 < s.count
+        → winner < s.count → CanBeAnswered (with_listener s) winner chase
+        → FitsEleven s (chased_way (with_listener s) winner chase) → MayListen s far winner chase }
+    ensures rest { (s : Stations) (far winner : ℕ) (chase : ℕ → ℕ) → AreStations (with_listener s)
+        → HaveRoom (with_listener s) → ((k : ℕ) → s.may_send k ≡ true → k ≢ s.count) → 1 < s.count
+        → winner < s.count → CanBeAnswered (with_listener s) winner chase
+        → FitsEleven s (chased_way (with_listener s) winner chase)
+        → HasRoomToRest (with_listener s) (chased_way (with_listener s) winner chase)
+        → HasRoomToRestBeside (muted s far)
+        (with_longer_ways (others_gathered (muted s far) winner (muted_way s far) chase)
+        (most_overrun (with_listener s) winner chase)).way }
+{}
+
+/// Law: a bus that meets the inequalities for acknowledgements, and one with eleven bits' drift at its last node, has that room, wherever
+/// within its tolerance each clock lies.
+pub fn a_bus_has_room_to_listen()
+    ensures { (bus : Bus) (s : Stations) (chase : ℕ → ℕ) → AreOnALine (with_listener s)
+        → HasStations bus (with_listener s) → HasRoomToAnswer bus chase → LeavesRoomToListen bus chase s.count
+        → (winner : ℕ) → winner < s.count → s.may_send winner ≡ true
+        → CanBeAnswered (with_listener s) winner chase
+        × FitsEleven s (chased_way (with_listener s) winner chase) }
+{
+    crate::one_frame::ack::a_bus_has_room_to_answer();
 }

@@ -33,7 +33,6 @@ pub fn a_queue_hands_all_its_frames()
 {
     wl_topology::driven_laws();
     crate::one_frame::before::nothing_is_found_before_a_frame();
-    crate::frame_end::laws::what_is_expected_is_answered();
     crate::frame_end::laws::all_may_begin_again();
     wl_wire::laws::machines_stay_in_step();
     wl_wire::laws::the_least_field_wins();

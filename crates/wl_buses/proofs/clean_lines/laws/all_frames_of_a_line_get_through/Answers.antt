@@ -26,12 +26,12 @@ returns c = λ l setups w chase up are room enough.
     let x = c.the_frames_of_a_line.ensures setups w chase l.stop are room enough up.idle up.hands up.queues in
     let f = x.bus in
     let sends =
-    line_sends m c.nothing_is_found_before_a_frame.ensures c.what_is_expected_is_answered.ensures.heard
+    line_sends m c.nothing_is_found_before_a_frame.ensures
     (λ s a b are room f next. c.stations_rest_after_a_frame.ensures.rest s a.outset a.bits f.chase next.which next.decides are room f.outset f.ends f.won f.answer f.room next.more)
     c.idle_stations_begin_a_first_frame.ensures.after c.nodes_rest_before_a_first_frame.ensures c.a_queue_hands_all_its_frames.ensures c.the_winner_sends_its_next_frame.ensures.first
     c.the_winner_sends_its_next_frame.ensures.queued l setups w up.line are room up.idle up.hands up.queues f.frames f.count f.are f.some f.first f.by
     (λ i inside. (let none =
-    nothing_passed m c.nothing_is_found_before_a_frame.ensures c.what_is_expected_is_answered.ensures.heard
+    nothing_passed m c.nothing_is_found_before_a_frame.ensures
     (λ s a b are room f next. c.stations_rest_after_a_frame.ensures.rest s a.outset a.bits f.chase next.which next.decides are room f.outset f.ends f.won f.answer f.room next.more)
     c.idle_stations_begin_a_first_frame.ensures.after c.nothing_passes_before_a_first_frame.ensures.line l setups w up.line are room up.idle up.hands f.frames f.count f.are f.some f.first i inside
     (suc (rest_first w i + sample_at (w.stations.lengths i))) (omega arith) in

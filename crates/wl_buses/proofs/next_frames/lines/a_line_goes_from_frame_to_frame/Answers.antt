@@ -14,7 +14,7 @@ returns c = λ l setups s frames count stop line are room all some begin before.
       ten = c.ten_bits_have_an_edge.ensures.ten;
       driven = c.driven_laws.ensures;
     } in
-    line_goes m c.nothing_is_found_before_a_frame.ensures c.what_is_expected_is_answered.ensures.heard
+    line_goes m c.nothing_is_found_before_a_frame.ensures
     (λ s a b are room f next. c.stations_rest_after_a_frame.ensures.rest s a.outset a.bits f.chase next.which next.decides are room f.outset f.ends f.won f.answer f.room next.more)
     c.machines_answer_as_asked.ensures c.a_node_goes_from_frame_to_frame.ensures l setups s line are room frames count all some begin c.what_is_expected_is_driven.ensures.driven
     c.what_is_expected_is_driven.ensures.seen stop before)

@@ -20,7 +20,7 @@ returns c = λ plan queues s bus frames count i q of calm bus_of sound has all s
     } in
     let line = c.a_plan_is_on_a_line.ensures plan s of in
     let are : AreStations s = record { line = line; ways = c.a_sound_bus_has_room.ensures.ways bus s line bus_of } in
-    nothing_passed m c.nothing_is_found_before_a_frame.ensures c.what_is_expected_is_answered.ensures.heard
+    nothing_passed m c.nothing_is_found_before_a_frame.ensures
     (λ s a b are room f next. c.stations_rest_after_a_frame.ensures.rest s a.outset a.bits f.chase next.which next.decides are room f.outset f.ends f.won f.answer f.room next.more)
     c.idle_stations_begin_a_first_frame.ensures.after c.nothing_passes_before_a_first_frame.ensures.line (line_of plan) (setup_at plan) (waiting_of plan queues s)
     (line_of_plan c.checked_is_sound.ensures plan s of calm) are (c.a_sound_bus_has_room.ensures.room bus s line bus_of sound) (c.a_plan_has_a_first_frame.ensures.idle plan queues s of has)

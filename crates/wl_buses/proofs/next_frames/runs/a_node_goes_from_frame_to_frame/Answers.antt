@@ -14,7 +14,7 @@ returns c = λ s frames count are room all i inside setup segments levels node r
       ten = c.ten_bits_have_an_edge.ensures.ten;
       driven = c.driven_laws.ensures;
     } in
-    chained m c.nothing_is_found_before_a_frame.ensures c.what_is_expected_is_answered.ensures.heard
+    chained m c.nothing_is_found_before_a_frame.ensures
     (λ s a b are room f next. c.stations_rest_after_a_frame.ensures.rest s a.outset a.bits f.chase next.which next.decides are room f.outset f.ends f.won f.answer f.room next.more)
     c.all_may_begin_again.ensures.rests c.stations_rest_after_a_frame.ensures.free c.a_node_waits_for_the_next_frame.ensures c.a_node_that_finds_its_end_goes_through_the_next_frame.ensures
     s are room frames count all i inside setup segments levels node run finds rest since begins first early hands n less)

@@ -14,6 +14,6 @@ returns c = λ s frames count are room all n i q less inside after by.
       ten = c.ten_bits_have_an_edge.ensures.ten;
       driven = c.driven_laws.ensures;
     } in
-    alone m c.nothing_is_found_before_a_frame.ensures c.what_is_expected_is_answered.ensures.heard
+    alone m c.nothing_is_found_before_a_frame.ensures
     (λ s a b are room f next. c.stations_rest_after_a_frame.ensures.rest s a.outset a.bits f.chase next.which next.decides are room f.outset f.ends f.won f.answer f.room next.more)
     s are room frames count all n i q less inside after by)

@@ -14,7 +14,7 @@ returns c = λ s setups frames count are room all by i inside segments levels no
       ten = c.ten_bits_have_an_edge.ensures.ten;
       driven = c.driven_laws.ensures;
     } in
-    all_passed m c.nothing_is_found_before_a_frame.ensures c.what_is_expected_is_answered.ensures.heard
+    all_passed m c.nothing_is_found_before_a_frame.ensures
     (λ s a b are room f next. c.stations_rest_after_a_frame.ensures.rest s a.outset a.bits f.chase next.which next.decides are room f.outset f.ends f.won f.answer f.room next.more)
     c.all_may_begin_again.ensures.rests c.stations_rest_after_a_frame.ensures.free c.a_node_waits_for_the_next_frame.ensures c.a_node_that_finds_its_end_goes_through_the_next_frame.ensures
     c.a_frame_passes_a_node.ensures c.nothing_passes_a_waiting_node.ensures c.what_is_found_stays.ensures.counters

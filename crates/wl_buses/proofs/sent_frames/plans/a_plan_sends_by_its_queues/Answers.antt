@@ -25,7 +25,7 @@ returns c = λ plan s bus frames count of calm bus_of sound has all some first b
     let are : AreStations s = record { line = line; ways = c.a_sound_bus_has_room.ensures.ways bus s line bus_of } in
     let room = c.a_sound_bus_has_room.ensures.room bus s line bus_of sound in
     let on = line_of_plan c.checked_is_sound.ensures plan s of calm in
-    line_sends m c.nothing_is_found_before_a_frame.ensures c.what_is_expected_is_answered.ensures.heard
+    line_sends m c.nothing_is_found_before_a_frame.ensures
     (λ s a b are room f next. c.stations_rest_after_a_frame.ensures.rest s a.outset a.bits f.chase next.which next.decides are room f.outset f.ends f.won f.answer f.room next.more)
     c.idle_stations_begin_a_first_frame.ensures.after c.nodes_rest_before_a_first_frame.ensures c.a_queue_hands_all_its_frames.ensures c.the_winner_sends_its_next_frame.ensures.first
     c.the_winner_sends_its_next_frame.ensures.queued (line_of plan) (setup_at plan) (waiting_of plan (queues_of plan) s) on are room
