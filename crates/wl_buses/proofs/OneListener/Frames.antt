@@ -49,7 +49,7 @@ PassFound = (s : Stations) (o : Outset) (end : ℕ) → AreStations s → HaveRo
 
 module _ (m : MachineLaws) (nothing : NothingFound) (rests : RestsLaw) (free : FreeLaw) (wait : WaitLaw) (through : ThroughLaw) (pass : PassFound) (wait_fine : WaitFine)
     (s : Stations) (are : AreStations (with_listener s)) (room : HaveRoom (with_listener s)) (mute : s.may_send s.count ≡ false) (fs : ℕ → Frame) (count : ℕ) (frames : AreInOrder (with_listener s) fs count)
-    (way : ℕ → ℕ → ℕ) (chase more : ℕ → ℕ) (can : CanAllBeHeard s fs count frames way chase more)
+    (way : ℕ → ℕ → ℕ) (chase : ℕ → ℕ) (more : ℕ → ℕ → ℕ) (can : CanAllBeHeard s fs count frames way chase more)
     (content : ℕ → Content) (wins_with : (n : ℕ) (less : n < count) → (frames.each n less).won.frame ≡ content n)
     (setup : NodeSetup) (segments : setup.segments ≡ s.lengths s.count) (empty : setup.queue ≡ []) (levels : ℕ → Level) (node : ℕ → History) (run : IsRun setup levels node)
     (finds : (n q : ℕ) → n < count → q ≤ third_sample (with_listener s) (fs n) s.count
@@ -72,12 +72,12 @@ module _ (m : MachineLaws) (nothing : NothingFound) (rests : RestsLaw) (free : F
   hears : (n : ℕ) → n < count → FindsTheEnd x (fs n).outset (fs n).bits l
   hears n less =
       let f = frames.each n less in
-      finds_the_end m s are room mute (fs n).outset f.outset (fs n).bits f.ends.none f.ends.there f.won way chase more (can.each n less) (can.unheard n less)
+      finds_the_end m s are room mute (fs n).outset f.outset (fs n).bits f.ends.none f.ends.there f.won way chase (more n) (can.each n less) (can.unheard n less)
 
   other : (n : ℕ) (less : n < count) → l ≢ (frames.each n less).won.station
   other n less e =
       let f = frames.each n less in
-      other_wins m s are room mute (fs n).outset f.outset (fs n).bits f.ends.none f.ends.there f.won way chase more (can.each n less) (can.unheard n less) (sym e)
+      other_wins m s are room mute (fs n).outset f.outset (fs n).bits f.ends.none f.ends.there f.won way chase (more n) (can.each n less) (can.unheard n less) (sym e)
 
   abbrev r : (n : ℕ) → suc n < count → Resting
   r n less = resting_of x (fs n) (fs (suc n)) (frames.next n less)
@@ -96,7 +96,7 @@ module _ (m : MachineLaws) (nothing : NothingFound) (rests : RestsLaw) (free : F
         let before : n < count = omega arith in
         let f = frames.each n before in
         subst (λ w. steady_tick (s.clocks w) (third_sample x (fs n) w) < steady_tick (s.clocks k) ((expected_bits x (fs n).outset ((fs n).bits + 12)).place k + bit_quanta (s.lengths k)) + s.delay k w) same
-        (at_rest m s are room mute (fs n).outset f.outset (fs n).bits f.ends.none f.ends.there f.won way chase more (can.each n before) (can.unheard n before) (can.rest n before) k there))
+        (at_rest m s are room mute (fs n).outset f.outset (fs n).bits f.ends.none f.ends.there f.won way chase (more n) (can.each n before) (can.unheard n before) (can.rest n before) k there))
   ]
 
   idle_at : (n : ℕ) (less : suc n < count) (i k : ℕ) → i < x.count → i ≢ k → has_next (r n less) k ≡ true

@@ -17,11 +17,11 @@ use Rattle.wl_buses.specs.NextFrames.Runs.{GoesThroughInOrder}
 use Rattle.wl_buses.specs.OneListener.Beside.{with_listener}
 use Rattle.wl_buses.specs.OneListener.Ends.{CanBeHeard, HasRoomToRestBeside, IsUnheard, others_gathered}
 
--- Each frame can be heard by the listener, and what the listener drives in it reaches no other station. After each there is room for it to rest, and the others rest before the next one.
-pub record CanAllBeHeard (s : Stations) (frames : ℕ → Frame) (count : ℕ) (are : AreInOrder (with_listener s) frames count) (way : ℕ → ℕ → ℕ) (chase more : ℕ → ℕ) : Type 0 where
-  pub each : (n : ℕ) (less : n < count) → CanBeHeard s (are.each n less).won.station way chase more
+-- Each frame n can be heard by the listener, with what jumps leave there (`more n`), and what the listener drives in it reaches no other station. After each there is room for it to rest, and the others rest before the next one.
+pub record CanAllBeHeard (s : Stations) (frames : ℕ → Frame) (count : ℕ) (are : AreInOrder (with_listener s) frames count) (way : ℕ → ℕ → ℕ) (chase : ℕ → ℕ) (more : ℕ → ℕ → ℕ) : Type 0 where
+  pub each : (n : ℕ) (less : n < count) → CanBeHeard s (are.each n less).won.station way chase (more n)
   pub unheard : (n : ℕ) → n < count → IsUnheard s (frames n).outset (frames n).bits
-  pub rest : (n : ℕ) (less : n < count) → HasRoomToRestBeside s (with_longer_ways (others_gathered s (are.each n less).won.station way chase) more).way
+  pub rest : (n : ℕ) (less : n < count) → HasRoomToRestBeside s (with_longer_ways (others_gathered s (are.each n less).won.station way chase) (more n)).way
   pub others : (n i k : ℕ) → suc n < count → i < s.count → k < s.count → i ≢ k
       → steady_tick (s.clocks i) (third_sample (with_listener s) (frames n) i)
       < steady_tick (s.clocks k) ((expected_bits (with_listener s) (frames n).outset ((frames n).bits + 12)).place k + bit_quanta (s.lengths k)) + s.delay k i

@@ -121,7 +121,8 @@ pub fn a_listener_receives_the_next_frame()
 /// Law: so a listener receives frame after frame, if it rests before the first one and finds what all drive in them. It goes through each,
 /// and rests between any two. It has received exactly these frames, in their order, and found no error.
 pub fn a_listener_receives_all_frames()
-    ensures { (s : Stations) (frames : ℕ → Frame) (count : ℕ) (way : ℕ → ℕ → ℕ) (chase more : ℕ → ℕ)
+    ensures { (s : Stations) (frames : ℕ → Frame) (count : ℕ) (way : ℕ → ℕ → ℕ) (chase : ℕ → ℕ)
+        (more : ℕ → ℕ → ℕ)
         → AreStations (with_listener s) → HaveRoom (with_listener s) → s.may_send s.count ≡ false
         → (are : AreInOrder (with_listener s) frames count) → CanAllBeHeard s frames count are way chase more
         → (content : ℕ → Content)
@@ -154,7 +155,8 @@ pub fn a_listener_receives_all_frames()
 /// Law: so it is from its power-up on. Let the stations and the listener be idle before the first frame that any of them begins. Then the
 /// listener has received exactly these frames, and its counters are 0.
 pub fn a_listener_receives_all_frames_from_its_power_up()
-    ensures { (s : Stations) (w : Waiting) (frames : ℕ → Frame) (count : ℕ) (way : ℕ → ℕ → ℕ) (chase more : ℕ → ℕ)
+    ensures { (s : Stations) (w : Waiting) (frames : ℕ → Frame) (count : ℕ) (way : ℕ → ℕ → ℕ) (chase : ℕ → ℕ)
+        (more : ℕ → ℕ → ℕ)
         → AreStations (with_listener s) → HaveRoom (with_listener s) → s.may_send s.count ≡ false
         → (are : AreInOrder (with_listener s) frames count) → CanAllBeHeard s frames count are way chase more
         → (content : ℕ → Content)
