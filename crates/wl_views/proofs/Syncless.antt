@@ -1,4 +1,4 @@
--- If no synchronisation may be picked, none is.
+-- If no synchronisation may be picked, none is, and of a node that isn't asked for no event is.
 use Rattle.std.proofs.Common.{◌≡◌, refl, arith, ℕ, suc, ◌&&◌, Bool, true, false, List, [], ◌∷◌, fold, Option, None, Some, option_map}
 use Rattle.std.specs.List.{All, filter}
 use Rattle.std.proofs.lemmas.List.Elements.{All-append, All-cons, All-nil}
@@ -90,3 +90,14 @@ pub no_sync_picked : (pick : Pick) (clock : Timing) (i : ℕ) (es : List Noted) 
 no_sync_picked pick clock i [] none are = refl
 no_sync_picked pick clock i (n ∷ es) none are =
     rw (not_picked pick (tick_of clock n.quantum) i n (are 0 n (omega arith)) none) (no_sync_picked pick clock i es none (λ k d b. are (suc k) d (omega arith)))
+
+middle_false : (a b c : Bool) → b ≡ false → (a && (b && c)) ≡ false
+middle_false true b c none = rw none refl
+middle_false false b c none = refl
+
+not_of_node : (pick : Pick) (t i : ℕ) (n : Noted) → is_asked_node pick.node i ≡ false → is_picked pick (t, (i, n)) ≡ false
+not_of_node pick t i n none = middle_false (is_within pick.window t) (is_asked_node pick.node i) (is_asked_kind pick.only n.event) none
+
+pub none_of_node : (pick : Pick) (clock : Timing) (i : ℕ) (es : List Noted) → is_asked_node pick.node i ≡ false → filter (is_picked pick) (told_by clock i es) ≡ []
+none_of_node pick clock i [] none = refl
+none_of_node pick clock i (n ∷ es) none = rw (not_of_node pick (tick_of clock n.quantum) i n none) (none_of_node pick clock i es none)

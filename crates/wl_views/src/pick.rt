@@ -73,7 +73,7 @@ fn is_asked_kind(only: Option<EventKind>, event: NodeEvent) -> bool
 }
 
 /// True if node `i` is the one that is asked for, if one is.
-fn is_asked_node(node: Option<u8>, i: usize) -> bool
+pub(crate) fn is_asked_node(node: Option<u8>, i: usize) -> bool
     ensures { result ≡ is_asked_node node i }
 {
     match node {

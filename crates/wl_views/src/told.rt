@@ -8,7 +8,7 @@ ghost use Rattle.wl_level.specs.ByTick.{by_tick};
 ghost use Rattle.wl_views.specs.Picks.{is_picked};
 ghost use Rattle.wl_views.specs.TraceText.{all_told, events_at_end, syncs_at_end, told_at_end, told_by};
 
-use crate::pick::Pick;
+use crate::pick::{Pick, is_asked_node};
 use crate::sampling::Sampling;
 use std::alloc::{AllocError, Global};
 use wl_clock::Clock;
@@ -91,7 +91,8 @@ fn push_syncs(
     Ok(())
 }
 
-/// Adds how node `i` was synchronised and what its samples did, each with its tick, as far as it is picked.
+/// Adds how node `i` was synchronised and what its samples did, each with its tick, as far as it is picked: a node that isn't asked for doesn't
+/// run again.
 fn push_node(
     alloc: Global,
     told: &mut Vec<(u64, (usize, Noted))>,
@@ -104,6 +105,9 @@ fn push_node(
     requires node { i < length plan.now.nodes }
     ensures { OnOk result (told.new.items ≡ told.old.items ++ filter (is_picked pick.now) (told_at_end plan.now i)) }
 {
+    if !is_asked_node(pick.node, i) {
+        return Ok(());
+    }
     push_syncs(alloc, told, pick, plan, drives, i)?;
     push_events(alloc, told, pick, plan, drives, i)?;
     Ok(())
