@@ -12,7 +12,7 @@ pub returns : goal.returns
 returns c = (
   c.in_ok-traffic.ensures.text,
   c.in_ok-report.ensures
-  ∙ ap₂ (λ (b : Bool) (totals : List NodeTotals). report_text (shown_totals (not b) totals)) c.is_whole_run.ensures (ap (λ (n : Counted). n.totals) c.requires.counted),
+      ∙ ap₂ (λ (b : Bool) (totals : List NodeTotals). report_text (shown_totals (not b) totals)) c.is_whole_run.ensures (ap (λ (n : Counted). n.totals) c.requires.counted),
   c.in_ok-part.ensures,
   c.in_ok-trace.ensures ∙ ap (λ (p : Pick). trace_text p c.args.bus.now.plan c.args.bus.now.names) c.pick_of.ensures,
   c.in_ok-wave.ensures,
