@@ -436,7 +436,7 @@ page --format json
 records --format text
 merge --format text
 horizon --format csv
-settings --format json
+settings --format jsonl
 candump --from
 candump --from -1
 candump --from 1.5
@@ -484,10 +484,11 @@ for word in vcd page; do
   runs "a time that is none, $word" examples/clean_500k.toml 2 "$room/none" "$room/fault" "$word" --from 3m
   runs "a time that isn't whole in ticks, $word" examples/clean_500k.toml 2 "$room/none" "$room/fault" "$word" --to 0.5ns
 done
-for word in candump settings; do
-  printf '%s\n' "$tick" > "$room/fault"
-  runs "a tick that is none, $word" examples/clean_500k.toml 2 "$room/none" "$room/fault" "$word" --tick 1ms
-done
+printf '%s\n' "$tick" > "$room/fault"
+runs "a tick that is none, candump" examples/clean_500k.toml 2 "$room/none" "$room/fault" candump --tick 1ms
+printf '%s, --format text, json, csv, table or coloured, and what is asked for comes from a FILE or from options\n' "$tick" > "$room/fault"
+runs "a tick that is none, settings" examples/clean_500k.toml 2 "$room/none" "$room/fault" settings --tick 1ms
+runs "a format that is none, settings" examples/clean_500k.toml 2 "$room/none" "$room/fault" settings --format xml
 for word in judge margin respond traffic; do
   printf '%s, and --format text, json, csv, table or coloured\n' "$tick" > "$room/fault"
   runs "a tick that is none, $word" examples/clean_500k.toml 2 "$room/none" "$room/fault" "$word" --tick 1ms
