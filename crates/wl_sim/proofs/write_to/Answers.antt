@@ -1,4 +1,4 @@
-use Rattle.std.proofs.Common.{◌≡◌, ◌≢◌, ◌∙◌, refl, sym, subst, map, string_bytes, option_map, inr, Bool, true, false, Option, Some, Result, Ok, Err, Bor}
+use Rattle.std.proofs.Common.{◌∙◌, refl, sym, subst, map, string_bytes, option_map, inr, Bool, true, false, Option, Result, Ok, Err, Bor}
 use Rattle.clap.specs.Words.{Text}
 use Rattle.wl_files.specs.Files.{Standing, Keeps, Places}
 use Rattle.wl_setup.specs.declared.text.Text as setup
