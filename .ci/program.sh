@@ -14,7 +14,8 @@
 # - files for input and output: what stands at the named place on each outcome; devices, rights, full disks, closed descriptors, odd names
 # - settings: lists and plans as check/settings.py has them, and what is refused (.ci/settings.sh)
 # - the commands that README.md and the pages of docs/ show with a `$`, whose outputs are those below them (.ci/shown.py; .ci/test.py names the pages);
-#   the faults in the examples of docs/use/plan-text.md, the tables of docs/use/from-the-book.md (check/book.py), and the plan of README.md
+#   the faults in the examples of docs/use/plan-text.md, the tables of docs/use/from-the-book.md (check/book.py) and of
+#   docs/use/settings-beside.md (check/recommended.py), and the plan of README.md
 # - JSON and CSV of each command, by Python's readers (check/formats.py)
 # - sweeps: known answers, what is refused, files, memory (.ci/sweeps.sh)
 # - command lines that name no task, or are no text: status 2, and nothing on standard output
@@ -240,6 +241,9 @@ is "the faults that $use/plan-text.md answers: $(diff "$room/answers" "$room/fou
 python3 -B check/book.py "$program" | grep '^|' > "$room/tables"
 missed=$(grep -vxFf $use/from-the-book.md "$room/tables")
 is "the tables of $use/from-the-book.md: $missed" [ -s "$room/tables" -a -z "$missed" ]
+python3 -B check/recommended.py "$program" | grep '^|' > "$room/tables"
+missed=$(grep -vxFf $use/settings-beside.md "$room/tables")
+is "the table of $use/settings-beside.md: $missed" [ -s "$room/tables" -a -z "$missed" ]
 # README's plan is the head of an example, but for its remarks.
 bare() { sed -E 's/ *#.*//; /^$/d' "$@"; }
 sed -n '/^```toml$/,/^```$/{/^```/d;p}' README.md | bare > "$room/head"

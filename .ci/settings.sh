@@ -53,7 +53,7 @@ refuses 'Missing(cable)' "Add the key: docs/use/settings.md has all of them." /^
 refuses 'Kind(senders)' "Give it a value as docs/use/settings.md says." 's/"one"/"some"/'
 refuses 'Unknown(speed)' "Remove or rename the key; TOML puts a key into the table last begun." 's/^sjw/speed/'
 refuses NoController 'Add a `[[controller]]`.' '/^.*controller]]/,$d; s/^per/controller = []\nper/'
-refuses NoSetting "Leave out --plan: the list says why no setting works." 's/^cable = 10/cable = 100/' --plan
+refuses NoSetting "Leave out --plan or --apply: the list says why no setting works." 's/^cable = 10/cable = 100/' --plan
 { cat examples/settings/narrow_1m.toml; yes '# a comment' | head -c 1048576; } > "$room/input"
 printf 'fault: Size\nhint: Pass a text of at most 1,048,576 bytes.\n' > "$room/fault"
 runs "settings --hint, Size" "$room/input" 1 "$room/none" "$room/fault" settings --hint

@@ -3,6 +3,7 @@
 
 usage: long.py plan NODES QUANTA SECONDS busy|cyclic|idle    writes a plan: 500 kbit/s, by the book, bits of so many quanta
        long.py PROGRAM [SECONDS..]                           measures 2, 16, 32 and 64 nodes, 16 and 160 quanta a bit, for 1 s and for 10 s or as named
+       long.py PROGRAM views [SECONDS..]                     measures each of VIEWS on 16 nodes, 16 quanta a bit, busy, for 1 s and for 10 s or as named
 
 A tick is 1 ns; the sample is at 80 %, the jump width a tenth of a bit. All frames have 8 bytes. `busy` asks for 105 % of what the bus takes, `cyclic` for
 some 40 %; of `idle` no node has a frame. Prints the least processor time and the peak memory of RUNS (default 3) processes, and the size of the report;
@@ -19,6 +20,9 @@ import results
 
 BIT, FRAME_BITS, LISTS = 2_000, 130, 4  # ns, bits of a frame of 8 bytes with what follows it, messages of a node
 NODES, LENGTHS, KINDS = (2, 16, 32, 64), (16, 160), ("busy", "cyclic", "idle")
+WINDOW = ["--from", "400000000", "--to", "401000000"]  # a millisecond within the first second
+VIEWS = (["run"], ["records"], ["candump"], ["candump", "--errors"], ["traffic"], ["trace"], ["trace", "--only", "error"], ["trace", *WINDOW], ["vcd"], ["vcd", *WINDOW],
+         ["page"], ["page", *WINDOW])
 
 
 def clock(quanta, ppm):
@@ -49,11 +53,33 @@ def plan(nodes, quanta, seconds, kind):
     return "\n".join(lines) + "\n"
 
 
-def once(program, path, out):
-    """Processor seconds and peak memory in MiB of a run; GNU time starts it, so that Python's own memory isn't counted."""
+def once(program, path, out, words=("run",)):
+    """Processor seconds and peak memory in MiB of a command; GNU time starts it, so that Python's own memory isn't counted."""
     with open(path, "rb") as source, open(out, "wb") as sink:
-        told = subprocess.run(["/usr/bin/time", "-f", "%U %S %M", program, "run"], stdin=source, stdout=sink, stderr=subprocess.PIPE, check=True).stderr.split()
+        told = subprocess.run(["/usr/bin/time", "-f", "%U %S %M", program, *words], stdin=source, stdout=sink, stderr=subprocess.PIPE, check=True).stderr.split()
     return float(told[-3]) + float(told[-2]), int(told[-1]) / 1024
+
+
+def measure_views(program, lengths):
+    """Measures each of VIEWS on a full bus of 16 nodes. Its output is counted by a pipe, since a waveform of 10 s has gigabytes."""
+    runs, how = int(os.environ.get("RUNS", "3")), os.environ.get("HOW", "a build without proof at -O2")
+    print("| view, seconds | processor, s | peak, MiB | output, MB |\n|---|---:|---:|---:|")
+    for seconds in lengths:
+        for words in VIEWS:
+            with tempfile.TemporaryDirectory() as room:
+                path, pipe = f"{room}/in", f"{room}/out"
+                with open(path, "w", encoding="utf-8") as file: file.write(plan(16, 16, seconds, "busy"))
+                os.mkfifo(pipe)
+                found = []
+                for _ in range(runs):
+                    with subprocess.Popen(["wc", "-c", pipe], stdout=subprocess.PIPE) as counter:
+                        found.append(once(program, path, pipe, words))
+                        size = int(counter.stdout.read().split()[0]) / 1e6
+            time, peak = min(it[0] for it in found), max(it[1] for it in found)
+            row = f"16 nodes, 16 quanta a bit, busy: {' '.join(words)}, {seconds:g} s"
+            print(f"| {row} | {time:.2f} | {peak:.1f} | {size:.2f} |", flush=True)
+            results.keep_if_asked([(f"views of long runs / {how}: {row} / {column}", number, unit) for column, number, unit in
+                                   (("processor", time, "s"), ("peak", peak, "MiB"), ("output", size, "MB"))])
 
 
 def measure(program, lengths):
@@ -79,7 +105,8 @@ def main():
     words = sys.argv[1:]
     if len(words) == 5 and words[0] == "plan": return sys.stdout.write(plan(int(words[1]), int(words[2]), float(words[3]), words[4]))
     if not words: sys.exit(sys.stderr.write(__doc__) and 2)
-    measure(words[0], [float(it) for it in words[1:]] or [1, 10])
+    if words[1:2] == ["views"]: measure_views(words[0], [float(it) for it in words[2:]] or [1, 10])
+    else: measure(words[0], [float(it) for it in words[1:]] or [1, 10])
     print(f"least of {os.environ.get('RUNS', '3')} processes, load {os.getloadavg()[0]:.1f}, {os.cpu_count()} processors")
 
 

@@ -1,10 +1,13 @@
 #!/usr/bin/env python3
 """Compares `judge` with `run`, `traffic`, `margin`, `respond` and `sweep` on many plans: no line of one may contradict another.
 
-usage: judge.py PROGRAM [RANDOM [RUNS]]     RANDOM plans beside the examples, 160 if not said; RUNS members of each sweep, 40
+usage: judge.py PROGRAM [RANDOM [RUNS [SEED]]]     RANDOM plans beside the examples, 200 if not said; RUNS members of each sweep, 40; seed 1
 
-Half of the random plans are those of check/programs.py, and half those of `init`, with other tolerances, cables and cycles.
+Of four random plans one is of check/programs.py and check/families.py, one of `init`, with other tolerances, cables and cycles, and two are buses in version 4
+of controllers of several kinds, whose bits have 8 to 160 quanta, unlike at the nodes of one bus. Besides, no wait of a run may pass its bound, if
+`respond` says that the bounds are proved.
 """
+import collections
 import pathlib
 import random
 import re
@@ -53,9 +56,10 @@ def differences(program, plan, runs):
     if ("proved: any" in lines[0]) != (word == "works" and "proved: any_senders_are_clean" in margin[0]): found.append("the word proved")
     why = [it for it in margin if it.startswith(OTHERS)]
     if [it for it in lines if it.startswith(OTHERS)] != why: found.append(f"reasons {why}")
-    found += pairs(lines, margin) + reserve(lines, margin) + waits(lines, said(program, "respond", plan)[1])
+    respond = said(program, "respond", plan)[1]
+    found += pairs(lines, margin) + reserve(lines, margin) + waits(lines, respond) + waited(traffic, respond)
     if word == "works" and reason == "works": found += swept(program, plan, runs)
-    return found, word
+    return found, word if word != "works" else lines[0].split("_")[0]
 
 
 def pairs(lines, margin):
@@ -97,6 +101,17 @@ def waits(lines, respond):
     return [] if mine == wanted else [f"waits {mine}, wanted {wanted}"]
 
 
+def waited(traffic, respond):
+    """No wait of the run passes the bound of its message, in quanta, if the bounds are proved."""
+    if not respond[0].startswith("proved"): return []
+    bounds = {(it.split()[1], it.split()[3]): it.split()[it.split().index("quanta") + 1] for it in respond if it.startswith("message ")}
+    found = []
+    for words in (it.split() for it in traffic if it.startswith("message ") and " greatest " in it):
+        bound, wait = bounds.get((words[1], words[3]), "-"), words[words.index("greatest") + 1]
+        if bound != "-" and wait != "-" and float(wait) > int(bound): found.append(f"{words[3]} waited {wait} quanta, bound {bound}")
+    return found
+
+
 def swept(program, plan, runs):
     """A bus that works is clean at other offsets and clocks, or its plan ends too early there, as far as a sweep of its phases shows."""
     status, lines = said(program, "sweep", "--runs", str(runs), plan)
@@ -117,14 +132,62 @@ def begun(program, rng):
     return text.encode()
 
 
-def main(program, count="160", runs="40"):
-    counts, plans = dict.fromkeys([*WORDS, "refused"], 0), 0
+# Kinds with the clocks that boards have, in MHz, and whether their registers hold PROP_SEG and PHASE_SEG1 as one length of up to 256 quanta.
+KINDS = [("mcp2515", (16, 20, 40), False), ("sja1000", (8, 12), False), ("bxcan", (36, 42, 48), False), ("c_can", (16, 24), False),
+         ("flexcan", (20, 40), True), ("m_can", (40, 80), True), ("fdcan", (80, 160), True), ("mcp2518fd", (20, 40), True)]
+
+
+def timing(rng, rate, is_sane):
+    """The keys of a controller with this bit rate: a kind, its clock, its segments. A sane one samples late and has its widest jump width."""
+    while True:
+        kind, clocks, is_wide = rng.choice(KINDS)
+        clock = rng.choice(clocks)
+        counts = [it for it in range(8, 161 if is_wide else 26) if clock * 1_000_000 % (it * rate) == 0 and (kind != "mcp2515" or clock * 1_000_000 // it // rate % 2 == 0)]
+        if counts: break
+    quanta, late = rng.choice(counts), 0.25 if is_sane else 0.4
+    after = min(max(2, quanta - 97 if is_wide else quanta - 17, round(quanta * rng.uniform(0.15, late))), 64 if quanta > 128 else 32 if is_wide else 8)
+    before = quanta - 1 - after
+    keys = {"kind": f'"{kind}"', "clock": f'"{clock}MHz"', "bitrate": f'"{rate // 1000}k"'}
+    if is_wide:
+        widest = min(after, before - 1)
+        return keys | {"tseg1": before, "tseg2": after, "sjw": widest if is_sane else rng.randint(1, widest)}
+    ps1 = min(8, max(1, before - 8, before // 2 if is_sane else rng.randint(1, before - 1)))
+    widest = min(4, ps1, max(1, after - 1))
+    return keys | {"prop": before - ps1, "ps1": ps1, "ps2": after, "sjw": widest if is_sane else rng.randint(1, widest)}
+
+
+def mixed(rng):
+    """A bus in version 4 of two to six nodes, with one or two controllers of one bit rate. Many have a clock, a cable, a segment or a load that is bad for it."""
+    rate, is_sane = rng.choice([125_000, 250_000, 250_000, 500_000, 500_000, 1_000_000]), rng.random() < 0.6
+    tolerance, longest = rng.choice([50, 100, 300] if is_sane else [300, 3_000, 6_000]), max(2, rng.choice([2, 5] if is_sane else [20, 40, 80]) * 1_000_000 // rate)
+    text = f'version = 4\ntick = "1ns"\nend = "{rng.choice([4, 12, 12])}ms"\nper = "5ns/m"\nsync = "book"\n'
+    out, into, names = rng.choice([70, 120]), rng.choice([80, 130]), rng.choice(["aa", "ab"])
+    for name in sorted(set(names)):
+        keys = timing(rng, rate, is_sane) | {"tolerance": tolerance, "out": f'"{out}ns"', "in": f'"{into}ns"'}
+        text += f"\n[controller.{name}]\n" + "".join(f"{key} = {value}\n" for key, value in keys.items())
+    for number in range(rng.randint(2, 6)):
+        text += (f'\n[[node]]\nname = "n{number}"\ncontroller = "{rng.choice(names)}"\noffset = "{rng.randint(0, 900)}ns"\nx = "{rng.randint(0, longest)}m"\n')
+        for k in range(rng.randint(0, 2)):
+            data = ", ".join(str(rng.randrange(256)) for _ in range(8))
+            again = f'cycle = "{rng.choice([5, 10, 10])}ms"\n' if rng.random() < 0.7 else ""
+            text += f'[[node.frame]]\nid = {0x100 + 16 * rng.randrange(64) + 2 * number + k}\ndlc = 8\nbytes = [{data}]\nat = "{rng.choice([600, 800, 1000])}us"\n{again}'
+    return text.encode()
+
+
+def drawn(program, number, seed):
+    """The text of a random plan."""
+    rng = random.Random(f"judge {number} of {seed}")
+    if number % 2: return mixed(rng)
+    return begun(program, rng) if number % 4 else [programs.families.text_of, programs.plan_text][number // 4 % 2](rng)
+
+
+def main(program, count="200", runs="40", seed="1"):
+    counts, plans = collections.Counter(), 0
     with tempfile.TemporaryDirectory() as room:
         written = [str(it) for it in sorted((TOP / "examples").glob("*.toml")) if it.stem not in ("sixteen_nodes", "thirty_nodes_29bit")]
         for number in range(int(count)):
             name = f"{room}/{number}.toml"
-            rng = random.Random(f"judge {number}")
-            pathlib.Path(name).write_bytes(begun(program, rng) if number % 2 else [programs.families.text_of, programs.plan_text][number // 2 % 2](rng))
+            pathlib.Path(name).write_bytes(drawn(program, number, seed))
             written.append(name)
         bad = 0
         for plan in written:
@@ -133,7 +196,7 @@ def main(program, count="160", runs="40"):
             plans += 1
             for it in found: print(f"differs: {plan}: {it}")
             bad += bool(found)
-    print(f"{plans} plans, {', '.join(f'{it} {n}' for it, n in counts.items())}; {bad} differ")
+    print(f"{plans} plans, {', '.join(f'{it} {n}' for it, n in sorted(counts.items()))}; {bad} differ")
     return bad > 0
 
 

@@ -176,7 +176,7 @@ def by_another(words, text):
     word, options = words[0], words[1:]
     if word == "run" and options[:1] == ["--workers"]: options = options[2:]
     if "--strict" in options and word in OWN: return None
-    if word == "settings" and any(it in options for it in ("--kind", "--clock", "--bitrate", "--cable", "--format")): return None
+    if word == "settings" and any(it in options for it in ("--kind", "--clock", "--bitrate", "--cable", "--format", "--apply")): return None
     if word in OWN: script = [OWN[word]]
     elif options or word == "judge": return None
     else: script = ["plain.py", word]

@@ -3,7 +3,7 @@
 usage: check/windows.py PROGRAM [--plans N] [--seed N]
 
 Plans are random ones, of which most are refused for nothing and many have errors. Each is asked for a window at random, whose ends are often ticks of
-the text itself: `trace` also for one node and one kind of events, `records`, `candump` at ticks of a microsecond, which its times have whole, `vcd`,
+the text itself: `trace` also for one node, by its number or its name, and one kind of events, `records`, `candump` at ticks of a microsecond, which its times have whole, `vcd`,
 of one plan in five also the texts of `page`, and `run --brief`.
 """
 import html
@@ -93,7 +93,9 @@ def compare(tally, program, rng, text):
     node, only = rng.choice([None, None, rng.randint(0, 5)]), rng.choice([None, None, *KINDS])
     shown = [line for line in lines if is_within(window, trace_tick(line)) and (node is None or line.split()[1] == str(node))
              and (only is None or line.split()[7] in KINDS[only])]
-    words = words_of("--from", window) + ([] if node is None else ["--node", str(node)]) + ([] if only is None else ["--only", only])
+    names = dict(line.split()[1:3] for line in lines)
+    asked_of = [] if node is None else ["--node", names[str(node)] if str(node) in names and rng.random() < 0.5 else str(node)]
+    words = words_of("--from", window) + asked_of + ([] if only is None else ["--only", only])
     tally.compare("window", "trace", text, asked(program, "trace", *words, text=text), ("".join(shown), "", 0))
     for word, first, tick_of, more in (("records", "--from", record_tick, []), ("candump", "--since", log_tick, ["--tick", "1us"])):
         lines = asked(program, word, *more, text=text)[0].splitlines(True)

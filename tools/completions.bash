@@ -24,7 +24,7 @@ _wireline() {
     judge) options+=' --tick --explain --format' ;;
     respond) options+=' --tick --any-data --strict --format' ;;
     traffic) options+=' --tick --strict --format' ;;
-    settings) options+=' --tick --best --plan --strict --kind --clock --bitrate --cable --per --out --in --tolerance --senders --rate-error --sample-point --nodes --format' ;;
+    settings) options+=' --tick --best --plan --apply --strict --kind --clock --bitrate --cable --per --out --in --tolerance --senders --rate-error --sample-point --nodes --format' ;;
     sweep) options+=' --vary --step --runs --seed --keep-offsets --keep-ppm --worst --workers --print --page --part --join --format' ;;
   esac
   if [ "$COMP_CWORD" = 1 ]; then

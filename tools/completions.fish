@@ -21,6 +21,7 @@ complete -c wireline -n '__fish_seen_subcommand_from run' -l brief -d 'without l
 complete -c wireline -n '__fish_seen_subcommand_from run check format explain trace judge margin respond traffic settings sweep' -l format -x -a 'text json csv table coloured' -d 'the form of the output'
 complete -c wireline -n '__fish_seen_subcommand_from settings' -l best -x -d 'the most settings that are listed'
 complete -c wireline -n '__fish_seen_subcommand_from settings' -l plan -d 'the plan of the best one'
+complete -c wireline -n '__fish_seen_subcommand_from settings' -l apply -r -d 'a plan that gets the best one'
 complete -c wireline -n '__fish_seen_subcommand_from settings' -l kind -x -d 'the kind of a controller'
 complete -c wireline -n '__fish_seen_subcommand_from settings' -l clock -x -d 'the frequency of its clock'
 complete -c wireline -n '__fish_seen_subcommand_from settings' -l bitrate -x -d 'the bit rate'

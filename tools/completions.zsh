@@ -16,7 +16,7 @@ _wireline() {
     check) options+=($format) ;;
     explain) options+=('--strict[status 1 if anything is doubtful]' $format) ;;
     records) options+=('--from[the first tick of the window]:tick:' '--to[the first tick after it]:tick:') ;;
-    trace) options+=('--from[the first tick of the window]:tick:' '--to[the first tick after it]:tick:' '--node[the number of a node]:number:' '--only[the kind of events]:kind:(lost error flag frame mode sync)' $format) ;;
+    trace) options+=('--from[the first tick of the window]:tick:' '--to[the first tick after it]:tick:' '--node[a node, by its number or its name]:node:' '--only[the kind of events]:kind:(lost error flag frame mode sync)' $format) ;;
     candump) options+=('--tick[how long a tick takes]:time:' '--from[the second of tick 0]:seconds:' '--since[the first tick of the window]:tick:' '--to[the first tick after it]:tick:' '--errors[error frames, too]') ;;
     vcd | page) options+=('--tick[how long a tick takes]:time:' '--from[the first tick of the window]:time:' '--to[the first tick after it]:time:') ;;
     merge | horizon) options+=('--wide[records of plans of version 4]') ;;
@@ -25,7 +25,7 @@ _wireline() {
     respond) options+=('--tick[how long a tick takes]:time:' '--any-data[whatever data the frames have]' '--strict[status 1 unless all deadlines are met]' $format) ;;
     traffic) options+=('--tick[how long a tick takes]:time:' '--strict[status 1 unless the run works]' $format) ;;
     settings) options+=(
-      '--tick[how long a tick takes]:time:' '--best[the most settings that are listed]:number:' '--plan[the plan of the best one]' '--strict[status 1 if a controller has no setting]'
+      '--tick[how long a tick takes]:time:' '--best[the most settings that are listed]:number:' '--plan[the plan of the best one]' '--apply[a plan that gets the best one]:file:_files' '--strict[status 1 if a controller has no setting]'
       '*--kind[the kind of a controller]:kind:' '*--clock[the frequency of its clock]:frequency:' '--bitrate[the bit rate]:rate:'
       '--cable[the length of the cable]:length:' '--per[the time along a metre of cable]:time:' '--out[the time from a node to the cable]:time:'
       '--in[the time from the cable to a node]:time:' '--tolerance[how far clocks may be off]:ppm:' '--senders[one or any]:who:(one any)'

@@ -14,3 +14,6 @@ pub mod Sampling
 pub mod Slot
 pub mod Ticking
 pub mod Twelve
+pub mod Third
+pub mod ThirdRoom
+pub mod ThirdStart

@@ -13,4 +13,5 @@ mod CleanLines
 mod FrameTimes
 mod OneListener
 mod BoundedWaits
+mod HeardFrames
 pub mod Callers

@@ -1,6 +1,7 @@
 pub mod Beginning
 pub mod Chaining
 pub mod Driving
+pub mod DrivingOn
 pub mod Falling
 pub mod Found
 pub mod Free

@@ -6,3 +6,4 @@ pub mod Lines
 pub mod Again
 pub mod First
 pub mod Finds
+pub mod Third

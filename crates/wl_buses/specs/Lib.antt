@@ -13,3 +13,4 @@ pub mod CleanLines
 pub mod FrameTimes
 pub mod BoundedWaits
 pub mod OneListener
+pub mod HeardFrames

@@ -11,6 +11,7 @@ pub mod family_plans;
 pub mod first_frame;
 pub mod frame_end;
 pub mod frame_times;
+pub mod heard_frames;
 pub mod next_frames;
 pub mod one_frame;
 pub mod one_listener;

@@ -17,4 +17,5 @@ pub mod Shown
 pub mod Paged
 pub mod Output
 pub mod View
+pub mod Named
 pub mod Judged

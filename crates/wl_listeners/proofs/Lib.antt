@@ -1,6 +1,12 @@
 mod Parts
+mod Sums
+mod Edges
+mod BusParts
+mod BusRooms
+mod Whole
 mod Listeners
 mod Outcomes
 mod Rows
 mod Wires
 mod Beside
+mod Hearers

@@ -18,7 +18,7 @@ use Rattle.wl_plan.specs.Sound.{IsCausal}
 use Rattle.wl_listeners.specs.Listeners.{HasNodesOf, IsOneOf, IsWithoutLateNodes, IsWithoutListeners}
 use Rattle.wl_listeners.specs.Parts.{IsPart}
 
-ends_before : (plan : Plan) → IsChecked plan → plan.end ≤ never
+pub ends_before : (plan : Plan) → IsChecked plan → plan.end ≤ never
 ends_before plan checked = let ends : plan.end ≤ latest_end = checked.ends in omega arith
 
 -- a node drives nothing as long as it is sure to stay as it was before its first quantum
@@ -65,7 +65,7 @@ module _ (plan other : Plan) (at : ℕ → ℕ) (is : HasNodesOf other plan at) 
   }
 
 -- what a node drives that only listens comes to no other one
-never_comes : (plan : Plan) (k j : ℕ) → k ≢ j → (place_at plan.topology k).listens ≡ true → delay_of plan.topology k j ≡ never
+pub never_comes : (plan : Plan) (k j : ℕ) → k ≢ j → (place_at plan.topology k).listens ≡ true → delay_of plan.topology k j ≡ never
 never_comes plan k j apart listens =
     cond-true ((place_at plan.topology k).listens && not (k == j)) never (propagation_of plan.topology k j)
     (and_from (place_at plan.topology k).listens (not (k == j)) listens (not_from_false (k == j) (ne_eqb k j apart)))

@@ -1,5 +1,5 @@
 -- A plan of three nodes, of which the second only listens and begins at tick 1, and the plan of the other two.
-use Rattle.std.proofs.Common.{◌≡◌, ◌⊎◌, inl, inr, refl, ℕ, zero, suc, ◌<◌, ◌≤◌, true, false, [], ◌∷◌, arith}
+use Rattle.std.proofs.Common.{◌≡◌, ◌⊎◌, inl, inr, refl, ℕ, zero, suc, ◌+◌, ◌*◌, ◌==◌, ◌<◌, ◌≤◌, not, true, false, [], ◌∷◌, arith}
 use Rattle.wl_clock.specs.Timing.{tick_of}
 use Rattle.wl_node.specs.declared.setup.NodeSetup.{NodeSetup}
 use Rattle.wl_node.specs.Quiet.{quiet_of}
@@ -7,6 +7,9 @@ use Rattle.wl_topology.specs.Delays.{place_at}
 use Rattle.wl_topology.specs.declared.Place.{Place}
 use Rattle.wl_plan.specs.declared.plan.Plan.{Plan}
 use Rattle.wl_plan.specs.PlanLine.{no_setup, setup_at}
+use Rattle.wl_bound.specs.Families.{Bus}
+use Rattle.wl_bound.specs.Terms.{look}
+use Rattle.wl_listeners.specs.BusParts.{AreAllSenders, AreNodesOf, bus_part, then_node}
 use Rattle.wl_listeners.specs.Listeners.{HasNodesOf, IsNoneOf, IsOneOf, IsWithoutLateNodes, IsWithoutListeners}
 
 place : ℕ → Place
@@ -75,3 +78,57 @@ lacks_late (suc (suc (suc k))) less = absurd (omega arith)
 is_late : IsWithoutLateNodes without beside number 1
 unfolding beside
 is_late = record { nodes = has_nodes; lacks = lacks_late }
+
+-- A bus of three nodes, of which the second only listens, and the bus of the other two: its second node is the third of the whole.
+three : Bus
+three = record {
+  nodes = 3;
+  tick = 1;
+  shortest = λ i. 10 + i;
+  longest = λ i. 20 + i;
+  turns = λ i. 0;
+  lengths = λ i. no_setup.segments;
+  sends = λ i. not (i == 1);
+  delay = λ i k. 4 * i + k;
+  added = λ i k. 0;
+  listens = λ i. i == 1;
+}
+
+two_are_nodes : AreNodesOf three number 2
+unfolding three number without
+two_are_nodes = record {
+  inside = each_of_two (λ i. number i < 3) (omega arith) (omega arith);
+  once = λ i j ni nj. has_nodes.once i j ni nj;
+}
+
+two_are_senders : AreAllSenders three number 2
+unfolding three number
+two_are_senders zero less sends = (0, omega arith, refl)
+two_are_senders (suc zero) less sends = absurd (cc)
+two_are_senders (suc (suc zero)) less sends = (1, omega arith, refl)
+two_are_senders (suc (suc (suc k))) less sends = absurd (omega arith)
+
+-- the first two nodes aren't all that send
+first_two : AreAllSenders three (λ i. i) 2 → ⊥
+unfolding three
+first_two all = (let w = all 2 (omega arith) refl in let less = w.1 in let same = w.2 in omega arith)
+
+part_way : (bus_part three number 2).delay 1 0 ≡ 8
+unfolding three number
+part_way = refl
+
+part_quantum : (bus_part three number 2).shortest 1 ≡ 12
+unfolding three number
+part_quantum = refl
+
+part_look : look (bus_part three number 2) 1 ≡ 13
+unfolding three number look
+part_look = refl
+
+-- and with the listener after them
+listener_last : then_node number 2 1 2 ≡ 1
+listener_last = refl
+
+third_second : then_node number 2 1 1 ≡ 2
+unfolding number
+third_second = refl

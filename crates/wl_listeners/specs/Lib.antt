@@ -1,3 +1,5 @@
 pub mod Parts
 pub mod Listeners
 pub mod Wires
+pub mod Heard
+pub mod BusParts

@@ -67,7 +67,7 @@ module _ (laws : SimulationLaws) (verdicts : CleanIsClean) (plan : Plan) (causal
       let h = at_end i inside in
       record { errors = h.errors; counters = h.counters; passed = h.passed; unsent = h.unsent }
 
-  node_clean : (i : ℕ) (node : NodeOutcome) → slice_get (outcome_of plan).nodes i ≡ Some node → IsCleanNode plan bus i node
+  pub node_clean : (i : ℕ) (node : NodeOutcome) → slice_get (outcome_of plan).nodes i ≡ Some node → IsCleanNode plan bus i node
   node_clean i node is = let x = node_is i node is in subst (IsCleanNode plan bus i) x.1 (own i x.0)
 
   pub ends_clean : ((i : ℕ) → (later : List Content) × ComeFrom (setup_at plan i) (frames_from i bus) later) → IsCleanRun plan

@@ -1,6 +1,7 @@
 mod Alone
 mod Any
 mod Listening
+mod Heard
 mod Counting
 mod Frames
 mod Lasting

@@ -4,6 +4,7 @@
 #![tactic(auto)]
 
 pub mod beside;
+pub mod hearing;
 pub mod laws;
 pub mod plans;
 pub mod silence;

@@ -59,11 +59,12 @@ module _ (laws : SilentLaws) (driven_law : ExpectedLaw) (seen_law : ExpectedSeen
     up : (k m : ℕ) → k ≤ m → l.instant i k ≤ l.instant i m
     up k m less = laws.lines.clock_later l i k m of.causal inside less
 
-    recessive : (k : ℕ) → levels_found l none_drove i k ≡ Recessive
-    recessive k =
+    recessive : (k : ℕ) → l.instant i k < until → levels_found l none_drove i k ≡ Recessive
+    recessive k early =
         let a = waits.later i i inside inside in
+        let stop = waits.inside in
         let b = up 0 k (omega arith) in
-        ap level_of (ap (λ b. b || l.disturbed i (l.instant i k)) nothing ∙ of.undisturbed i (l.instant i k) inside (omega arith))
+        ap level_of (ap (λ b. b || l.disturbed i (l.instant i k)) nothing ∙ of.undisturbed i (l.instant i k) inside (omega arith) (omega arith))
       where
         nothing : driven l.nodes l.delay none_drove i (l.instant i k) ≡ false
         nothing = elim (cases_Bool (driven l.nodes l.delay none_drove i (l.instant i k))) [
@@ -109,8 +110,8 @@ module _ (laws : SilentLaws) (driven_law : ExpectedLaw) (seen_law : ExpectedSeen
           on = ap is_off x.is.stretch ∙ on_by (stretch_of (replicate x.count no_frame_sample)) (quiet_after x.count).sort;
         }
 
-    there_same : (q : ℕ) → node_after setup (levels_found l none_drove i) q ≡ node q
-    there_same q = node_same setup (levels_found l none_drove i) silent q (λ j less. recessive j)
+    there_same : (q : ℕ) → ((j : ℕ) → j < q → l.instant i j < until) → node_after setup (levels_found l none_drove i) q ≡ node q
+    there_same q early = node_same setup (levels_found l none_drove i) silent q (λ j less. recessive j (early j less))
 
   pub expected : IsExpected l (λ i. until) none_drove
   expected = record {
@@ -119,12 +120,13 @@ module _ (laws : SilentLaws) (driven_law : ExpectedLaw) (seen_law : ExpectedSeen
     before = λ i t inside less early. refl;
     drives = λ i k t inside less begun next.
         (let early = before_last i inside k (omega arith) in
-        sym (of.drives i (levels_before (levels_found l none_drove i) (suc k)) inside ∙ ap (λ h. is_dominant h.drive) (there_same i inside (suc k)) ∙ ap is_dominant (quiet_node i inside (suc k) (omega arith)).drive));
+        sym (of.drives i (levels_before (levels_found l none_drove i) (suc k)) inside ∙ ap (λ h. is_dominant h.drive) (there_same i inside (suc k) (λ j few. (let a = up i inside j k (omega arith) in omega arith))) ∙ ap is_dominant (quiet_node i inside (suc k) (omega arith)).drive));
   }
 
   history_same : (i k : ℕ) (inside : i < l.nodes) → l.instant i k < until → line_history l setups i (suc k) ≡ node i inside (suc k)
   history_same i k inside early =
-      ap (staying_history (setups i)) (seen_law l (λ i. until) none_drove of.causal expected i (suc k) inside (λ j less. (let a = up i inside j k (omega arith) in omega arith))) ∙ there_same i inside (suc k)
+      ap (staying_history (setups i)) (seen_law l (λ i. until) none_drove of.causal expected i (suc k) inside (λ j less. (let a = up i inside j k (omega arith) in omega arith)))
+      ∙ there_same i inside (suc k) (λ j less. (let a = up i inside j k (omega arith) in omega arith))
 
   pub quiet_then : (i k : ℕ) (inside : i < l.nodes) → l.instant i k < until → IsQuietNode i inside (line_history l setups i (suc k))
   quiet_then i k inside early = subst (IsQuietNode i inside) (sym (history_same i k inside early)) (quiet_node i inside (suc k) (let h = before_last i inside k early in omega arith))

@@ -47,7 +47,7 @@ module _ (laws : SilentLaws) (driven_law : ExpectedLaw) (seen_law : ExpectedSeen
   of_fresh : IsLineOfSince L R s' from
   of_fresh =
       let line = powered.line laws l setups s from until first of is are in
-      record { causal = line.causal; nodes = line.nodes; drives = line.drives; ticks = line.ticks; segments = line.segments; delays = line.delays; undisturbed = λ i t inside late. refl }
+      record { causal = line.causal; nodes = line.nodes; drives = line.drives; ticks = line.ticks; segments = line.segments; delays = line.delays; undisturbed = λ i t inside late below. refl }
 
   grows : (i k : ℕ) → i < l.nodes → k ≤ L.instant i k
   grows i zero inside = omega arith

@@ -95,7 +95,8 @@ module _ (laws : SilentLaws) (l : Line) (setups : ℕ → NodeSetup) (s : Statio
   pub silent : (q : ℕ) → first i ≤ q → l.instant i q < until → levels q ≡ Recessive
   silent q less early =
       let a = after i q inside less in
-      ap level_of (ap (λ b. b || l.disturbed i (l.instant i q)) (undriven (l.instant i q) (λ k there. after k q there less) early) ∙ of.undisturbed i (l.instant i q) inside (omega arith))
+      let stop = is.inside in
+      ap level_of (ap (λ b. b || l.disturbed i (l.instant i q)) (undriven (l.instant i q) (λ k there. after k q there less) early) ∙ of.undisturbed i (l.instant i q) inside (omega arith) (omega arith))
 
   pub drives : (q : ℕ) → first i ≤ q → l.instant i q < until → (node (suc q)).drive ≡ Recessive
   drives q less early =

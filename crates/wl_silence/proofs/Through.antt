@@ -146,7 +146,7 @@ module _ (laws : SilentLaws) (l : Line) (setups : ℕ → NodeSetup) (s : Statio
         (let d = of.causal.delays j i there inside in
         let p = past j there in
         same j (l.instant i (at i + k) - l.delay j i) there (omega arith) (omega arith) (omega arith))))
-        ∙ ap (λ b. driven l.nodes l.delay (level l) i (l.instant i (at i + k)) || b) (sym (of.undisturbed i (l.instant i (at i + k)) inside (omega arith))))
+        ∙ ap (λ b. driven l.nodes l.delay (level l) i (l.instant i (at i + k)) || b) (sym (of.undisturbed i (l.instant i (at i + k)) inside (omega arith) below)))
 
     -- its quanta up to one that has begun
     module _ (q : ℕ) (begun : l.instant i (at i + q) ≤ n) (below : l.instant i (at i + q) < l.stop) where

@@ -25,7 +25,7 @@ use Rattle.wl_buses.specs.OneFrame.Stations.{Stations}
 use Rattle.wl_buses.specs.CleanLines.Lines.{LineGetsThrough, line_history, waiting_with}
 use Rattle.wl_silence.specs.Restarts.{GoesOnAs, line_since, setup_since, stations_since}
 
--- The nodes of a line are these stations. Nothing disturbs them from the tick `from` on.
+-- The nodes of a line are these stations. Nothing disturbs them from the tick `from` up to the end of the line.
 pub record IsLineOfSince (l : Line) (setups : ℕ → NodeSetup) (s : Stations) (from : ℕ) : Type 0 where
   pub causal : IsCausal l
   pub nodes : s.count ≡ l.nodes
@@ -33,7 +33,7 @@ pub record IsLineOfSince (l : Line) (setups : ℕ → NodeSetup) (s : Stations) 
   pub ticks : (i k : ℕ) → i < l.nodes → l.instant i k ≡ steady_tick (s.clocks i) k
   pub segments : (i : ℕ) → i < l.nodes → (setups i).segments ≡ s.lengths i
   pub delays : (i k : ℕ) → i < l.nodes → k < l.nodes → s.delay i k ≡ l.delay i k
-  pub undisturbed : (i t : ℕ) → i < l.nodes → from ≤ t → l.disturbed i t ≡ false
+  pub undisturbed : (i t : ℕ) → i < l.nodes → from ≤ t → t < l.stop → l.disturbed i t ≡ false
 
 -- So many bits of each node are in the silence: two up to its first sample, 32 that leave the bus idle to it, and two for a start of frame that doesn't come (Bosch CAN 2.0 part B, sections 2 and 3.2). In eleven of these
 -- a node that powers up may join.

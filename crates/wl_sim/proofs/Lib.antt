@@ -1,3 +1,6 @@
 mod Words
 mod Written
 mod SettingsFound
+mod AppliedFound
+mod Moving
+mod TraceFound

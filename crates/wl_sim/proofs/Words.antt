@@ -22,7 +22,7 @@ use Rattle.wl_words.specs.declared.task.Task.{Task}
 use Rattle.wl_words.specs.declared.task.Task.TheVariants.{Init, Merge, Horizon, Check, Upgrade, Records, Run, Explain, Trace, Candump, Vcd, Page, Margin, Respond, Traffic, Judge, Settings, Sweep}
 use Rattle.wl_words.specs.declared.task.Swept.{Swept}
 use Rattle.wl_sim.specs.Tasks.{Does, DoesSweep, DoesSwept, IsCount, run_status}
-use Rattle.wl_sim.specs.Orders.{Ends, EndsPlainly, Performs, ReadsFrom, RunsWords}
+use Rattle.wl_sim.specs.Orders.{Ends, EndsPlainly, Performs, PerformsBy, ReadsFrom, RunsWords, settings_tick}
 use Rattle.wl_sim.specs.declared.answer.Done.{Done}
 use Rattle.wl_sim.specs.declared.answer.Fault.{Fault}
 use Rattle.wl_sim.specs.declared.answer.Fault.TheVariants as fault
@@ -87,7 +87,8 @@ module _ {S T F R W : Type 0} (gives : S → Answer → S → Type 0) (takes : T
       → EndsPlainly gives takes file_gives file_takes opens stands holds s s' t t' f f' task status
   alone_is_done order task r status alone done is =
       let ranges = map string_bytes order.ranges.items in
-      let plain = plain_reads order.input order.output order.format order.task ranges order.asked.items r alone.1 alone.2 alone.4 done in
+      let without = subst (λ plan. PerformsBy gives takes file_gives file_takes opens stands holds s s' t t' f f' plan (settings_tick order.task) order r) alone.6 done in
+      let plain = plain_reads order.input order.output order.format order.task ranges order.asked.items r alone.1 alone.2 alone.4 without in
       let of_task = subst (λ k. Does gives takes s s' t t' k ranges order.asked.items r) alone.0 plain.0 in
       let plainly = subst (λ rs. Does gives takes s s' t t' task rs order.asked.items r) alone.3 of_task in
       ((r, subst (λ asked. Does gives takes s s' t t' task [] asked r) alone.5 plainly, is), plain.1)

@@ -2,6 +2,13 @@
 use Rattle.std.specs.Prelude.{◌≡◌, ◌≤◌, ◌==◌, ◌||◌, ◌&&◌, ◌⊎◌, ℕ, Bool, true, false, not, MatchBool, List, [], ◌∷◌, length, Option, Some, None, is_some, if◌then◌else◌, Result, Ok, Err}
 use Rattle.std.specs.List.{list_all}
 use Rattle.clap.specs.Words.{Text}
+use Rattle.wl_apply.specs.declared.fault.ApplyFault.{ApplyFault}
+use Rattle.wl_apply.specs.declared.fault.ApplyFault.TheVariants as apply
+use Rattle.wl_apply_engine.specs.declared.fault.AppliedFault.{AppliedFault}
+use Rattle.wl_apply_engine.specs.declared.fault.AppliedFault.TheVariants as applied
+use Rattle.wl_apply_engine.specs.Applying.{RunsApplied}
+use Rattle.wl_settings.specs.Questions.{wanted_by_words}
+use Rattle.wl_settings.specs.Texts.{ReadsWanted}
 use Rattle.wl_device.specs.Devices.{Answer}
 use Rattle.wl_setup.specs.Check.{IsPlanCheck}
 use Rattle.wl_device.specs.Devices.{Writes}
@@ -19,6 +26,7 @@ use Rattle.wl_engines.specs.Faults.{is_refusal}
 use Rattle.wl_engines.specs.Horizon.{TellsHorizons}
 use Rattle.wl_engines.specs.Judged.{RunsJudge}
 use Rattle.wl_engines.specs.Margin.{IsMarginOutput, RunsBus}
+use Rattle.wl_engines.specs.Named.{IsNodeTrace}
 use Rattle.wl_engines.specs.Merge.{Merges}
 use Rattle.wl_engines.specs.Paged.{PagesWithin}
 use Rattle.wl_engines.specs.Plans.{RunsPlan, RunsPlanWith, IsRecordsWithin, IsReportOutput, IsTracePicked, IsLogAs, IsVcdWithin}
@@ -41,6 +49,7 @@ use Rattle.wl_settings.specs.WordRuns.{RunsWords}
 use Rattle.wl_settings.specs.declared.said.Shown.{Shown}
 use Rattle.wl_settings.specs.declared.said.Shown.TheVariants as listed
 use Rattle.wl_settings.specs.declared.topics.AskedWord.{AskedWord}
+use Rattle.wl_views.specs.declared.pick.Pick.{Pick}
 use Rattle.wl_views.specs.declared.tick.Tick.{Tick}
 use Rattle.wl_sweep.specs.declared.finding.Finding.{Finding}
 use Rattle.wl_sweep.specs.declared.tally.Tally.{Tally}
@@ -117,6 +126,22 @@ of_settings_fault settings.Write = fault.Run run.Write
 of_settings_fault settings.Memory = fault.Run run.Memory
 of_settings_fault f = fault.Settings f
 
+-- a fault of writing a plan with settings: of what is asked for it is one of a search for settings. Of devices, memory or a plan that can't be run it
+-- is that of any engine. Else it is one of the settings in the plan.
+abbrev pub of_plan_with_settings : ApplyFault → Fault
+of_plan_with_settings (apply.Setup f) = fault.Run (run.Setup f)
+of_plan_with_settings f = fault.Apply f
+
+abbrev pub of_applied_fault : AppliedFault → Fault
+of_applied_fault (applied.Settings f) = of_settings_fault f
+of_applied_fault (applied.Plan f) = of_plan_with_settings f
+of_applied_fault applied.Write = fault.Run run.Write
+of_applied_fault applied.Memory = fault.Run run.Memory
+
+abbrev pub of_applied : Result (Unit {0}) AppliedFault → Result Done Fault
+of_applied (Ok u) = Ok Plain
+of_applied (Err f) = Err (of_applied_fault f)
+
 -- what is answered for a search for settings: if the status is to say so, whether each controller has one
 abbrev pub of_settings : (strict : Bool) → Result Bool SettingsFault → Result Done Fault
 of_settings strict (Ok true) = Ok Plain
@@ -144,6 +169,12 @@ of_init_fault f = fault.Init f
 abbrev pub of_init : Result (Unit {0}) InitFault → Result Done Fault
 of_init (Ok u) = Ok Plain
 of_init (Err f) = Err (of_init_fault f)
+
+-- what is answered for the trace of the node of a name, by whether there is one
+abbrev pub of_named_trace : Result Bool RunFault → Result Done Fault
+of_named_trace (Ok true) = Ok Plain
+of_named_trace (Ok false) = Err fault.Node
+of_named_trace (Err f) = Err (fault.Run f)
 
 -- what is answered for the traffic of a run: if the status is to say so, whether the run works
 abbrev pub of_traffic : (strict : Bool) → Result Reason RunFault → Result Done Fault
@@ -182,8 +213,10 @@ run_status (Ok Unclean) = 1
 run_status (Ok Unknown) = 4
 run_status (Err (fault.Run f)) = if is_refusal f then 1 else 3
 run_status (Err (fault.Word f)) = 2
+run_status (Err fault.Node) = 2
 run_status (Err (fault.Init f)) = 2
 run_status (Err (fault.Settings f)) = 1
+run_status (Err (fault.Apply f)) = 1
 run_status (Err (fault.Print f)) = 1
 run_status (Err (fault.Join f)) = 1
 run_status (Err fault.Format) = 3
@@ -268,6 +301,12 @@ module _ {S T : Type 0} (gives : S → Answer → S → Type 0) (takes : T → A
   abbrev pub DoesTraffic : Tick → Bool → Result Done Fault → Type 0
   DoesTraffic tick strict r = (answer : Result Reason RunFault) × RunsTraffic gives takes tick s s' t t' answer × (r ≡ of_traffic strict answer)
 
+  -- the trace of a run was written: as far as it is picked, or of the node of a name
+  abbrev pub DoesTrace : Pick → List Text → Result Done Fault → Type 0
+  DoesTrace pick [] r = Plainly (RunsPlan gives takes (IsTracePicked pick) s s' t t') r
+  DoesTrace pick (name ∷ more) r =
+      (answer : Result Bool RunFault) × RunsPlanWith gives takes (IsNodeTrace pick name) s s' t t' answer × (r ≡ of_named_trace answer)
+
   -- the settings of a bus were written: of a text, or of words in its place, over which nothing is read
   abbrev pub FindsSettings : Tick → Shown → List AskedWord → Result Bool SettingsFault → Type 0
   FindsSettings tick shown [] answer = RunsSettings gives takes (tick_picoseconds tick) shown s s' t t' answer
@@ -277,7 +316,7 @@ module _ {S T : Type 0} (gives : S → Answer → S → Type 0) (takes : T → A
   DoesSettings tick shown strict asked r =
       (answer : Result Bool SettingsFault) × FindsSettings tick shown asked answer × (r ≡ of_settings strict answer)
 
-  -- what was done for a task, over the ranges of a sweep or the words in the place of a text for `settings`
+  -- what was done for a task, over the ranges of a sweep, the node of a trace or the words in the place of a text for `settings`
   abbrev pub Does : Task → List Text → List AskedWord → Result Done Fault → Type 0
   Does (Init wish) ranges asked r =
       (answer : Result (Unit {0}) InitFault) × (s' ≡ s) × Inits takes wish t t' answer × (r ≡ of_init answer)
@@ -289,7 +328,7 @@ module _ {S T : Type 0} (gives : S → Answer → S → Type 0) (takes : T → A
   Does (Run workers kind brief strict) ranges asked r =
       Strictly strict (λ a. MatchBool (workers == 1) (RunsPlanWith gives takes (IsReportOutput brief) s s' t t' a) (RunsByWorkersAs gives takes brief workers s s' t t' a)) r
   Does (Explain strict) ranges asked r = DoesExplain strict r
-  Does (Trace pick) ranges asked r = Plainly (RunsPlan gives takes (IsTracePicked pick) s s' t t') r
+  Does (Trace pick) ranges asked r = DoesTrace pick ranges r
   Does (Candump tick from errors window) ranges asked r = Plainly (RunsPlan gives takes (IsLogAs errors tick from window) s s' t t') r
   Does (Vcd tick window) ranges asked r = Plainly (RunsPlan gives takes (IsVcdWithin tick window) s s' t t') r
   Does (Page tick window) ranges asked r = Plainly (PagesWithin gives takes tick window s s' t t') r
@@ -303,6 +342,18 @@ module _ {S T : Type 0} (gives : S → Answer → S → Type 0) (takes : T → A
   -- the task was done, nothing else was read or written, and the status is that of what was answered
   abbrev pub EndsTask : Task → ℕ → Type 0
   EndsTask task status = (r : Result Done Fault) × Does task [] [] r × (status ≡ run_status r)
+
+-- A plan with the first settings of what is asked for was written: of a text, or of words in its place, over which no text is read.
+module _ {S P T : Type 0} (gives : S → Answer → S → Type 0) (plan_gives : P → Answer → P → Type 0) (takes : T → Answer → T → Type 0)
+    (s s' : S) (p p' : P) (t t' : T) where
+  abbrev pub AppliesAsked : Tick → List AskedWord → Result (Unit {0}) AppliedFault → Type 0
+  AppliesAsked tick [] answer =
+      RunsApplied plan_gives takes (tick_picoseconds tick) p p' t t' (λ wanted. ReadsWanted gives (tick_picoseconds tick) s wanted s') answer
+  AppliesAsked tick (w ∷ ws) answer =
+      (s' ≡ s) × RunsApplied plan_gives takes (tick_picoseconds tick) p p' t t' (λ wanted. wanted_by_words (tick_picoseconds tick) (w ∷ ws) ≡ wanted) answer
+
+  abbrev pub DoesApplied : Tick → List AskedWord → Result Done Fault → Type 0
+  DoesApplied tick asked r = (answer : Result (Unit {0}) AppliedFault) × AppliesAsked tick asked answer × (r ≡ of_applied answer)
 
 -- whether a fault is one of writing
 abbrev pub is_write_of : RunFault → Bool

@@ -4,9 +4,11 @@ ghost use Rattle.std.specs.List.{list_all};
 ghost use Rattle.wl_sweep.specs.Findings.{is_clean};
 ghost use Rattle.wl_sweep.specs.Tallies.{tally_of};
 ghost use Rattle.wl_sweep.specs.declared.finding.Finding.{Finding};
-ghost use Rattle.wl_sim.specs.Tasks.{AnswersSweep, done_by, of_format, of_format_fault, of_init, of_init_fault, of_judge, of_map, of_print, of_doubts, of_settings, of_settings_fault, of_verdict, of_sweep, of_traffic, plainly, of_join, of_join_fault};
+ghost use Rattle.wl_sim.specs.Tasks.{AnswersSweep, done_by, of_format, of_format_fault, of_init, of_init_fault, of_judge, of_map, of_print, of_applied, of_applied_fault, of_doubts, of_named_trace, of_settings, of_settings_fault, of_verdict, of_sweep, of_traffic, plainly, of_join, of_join_fault};
 
 use thiserror::Error;
+use wl_apply::ApplyFault;
+use wl_apply_engine::AppliedFault;
 use wl_engines::{Judgement, Reason, RunFault};
 use wl_init::InitFault;
 use wl_print::PrintFault;
@@ -35,9 +37,15 @@ pub enum Fault {
     /// The plan doesn't allow the words of a sweep.
     #[error("{0}")]
     Word(SweepFault),
+    /// The plan has no node of the name that a trace is asked of.
+    #[error("Node")]
+    Node,
     /// The text that says what settings are asked for was refused, or there is no setting whose plan could be written.
     #[error("{0}")]
     Settings(SettingsFault),
+    /// The plan can't have the settings.
+    #[error("{0}")]
+    Apply(ApplyFault),
     /// The plan has no form in version 4.
     #[error("{0}")]
     Print(PrintFault),
@@ -163,6 +171,30 @@ pub(crate) fn of_settings(strict: bool, answer: Result<bool, SettingsFault>) -> 
     }
 }
 
+/// Returns a fault of writing a plan with settings. Of what is asked for it is one of a search for settings. Of devices, memory or a plan that
+/// can't be run it is that of any engine. Else it is one of the settings in the plan.
+fn of_applied_fault(fault: AppliedFault) -> Fault
+    ensures { result ≡ of_applied_fault fault }
+{
+    match fault {
+        AppliedFault::Settings(fault) => of_settings_fault(fault),
+        AppliedFault::Plan(ApplyFault::Setup(fault)) => Fault::Run(RunFault::Setup(fault)),
+        AppliedFault::Plan(fault) => Fault::Apply(fault),
+        AppliedFault::Write => Fault::Run(RunFault::Write),
+        AppliedFault::Memory => Fault::Run(RunFault::Memory),
+    }
+}
+
+/// Returns what the writing of a plan with settings answered.
+pub(crate) fn of_applied(answer: Result<(), AppliedFault>) -> Result<Done, Fault>
+    ensures { result ≡ of_applied answer }
+{
+    match answer {
+        Ok(()) => Ok(Done::Plain),
+        Err(fault) => Err(of_applied_fault(fault)),
+    }
+}
+
 /// Returns a fault of writing a plan in version 4: of its text, its devices or memory it is that of any engine, else it is one of the plan.
 fn of_format_fault(fault: PrintFault) -> Fault
     ensures { result ≡ of_format_fault fault }
@@ -215,6 +247,17 @@ pub(crate) fn of_verdict(strict: bool, answer: Result<bool, RunFault>) -> Result
         Ok(true) => Ok(Done::Plain),
         Ok(false) if strict => Ok(Done::Unclean),
         Ok(false) => Ok(Done::Plain),
+        Err(fault) => Err(Fault::Run(fault)),
+    }
+}
+
+/// Returns what the trace of the node of a name answered, by whether there is one.
+pub(crate) fn of_named_trace(answer: Result<bool, RunFault>) -> Result<Done, Fault>
+    ensures { result ≡ of_named_trace answer }
+{
+    match answer {
+        Ok(true) => Ok(Done::Plain),
+        Ok(false) => Err(Fault::Node),
         Err(fault) => Err(Fault::Run(fault)),
     }
 }

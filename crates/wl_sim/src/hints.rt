@@ -3,6 +3,7 @@
 use crate::answer::Fault;
 use crate::texts::{is_plan, is_settings};
 use std::alloc::{AllocError, Global};
+use wl_apply::ApplyFault;
 use wl_device::read_up_to;
 use wl_engines::RunFault;
 use wl_files::{Folder, Spot};
@@ -14,7 +15,7 @@ use wl_init::InitFault;
 use wl_print::PrintFault;
 use wl_record::TextFault;
 use wl_settings::SettingsFault;
-use wl_setup::{SetupFault, Text};
+use wl_setup::{Names, SetupFault, Text, bus_of_bytes};
 use wl_sweep_engine::{JoinFault, PartsFault, RangeFault, SweepFault};
 use wl_words::Order;
 
@@ -24,6 +25,7 @@ const MOST_HINTED: usize = 1 << 20;
 /// Returns the file of an order that a fault is about.
 fn file_of<'a>(order: &'a Order, fault: &RunFault) -> Option<&'a Text> {
     match fault {
+        RunFault::Setup(SetupFault::Read) if order.apply.is_some() => order.apply.as_ref(),
         RunFault::Setup(SetupFault::Read) | RunFault::Text(TextFault::Read) => order.input.as_ref(),
         RunFault::Write => order.output.as_ref(),
         _ => None,
@@ -36,9 +38,9 @@ fn input_again<F: Folder>(
     order: &Order,
     folder: &F,
 ) -> Result<Option<Vec<u8>>, AllocError> {
-    let name = match &order.input {
-        Some(name) => name.as_str(),
-        None => "/dev/stdin",
+    let name = match (&order.apply, &order.input) {
+        (Some(name), _) | (None, Some(name)) => name.as_str(),
+        (None, None) => "/dev/stdin",
     };
     match folder.open_again(name) {
         Some(mut file) => {
@@ -210,6 +212,54 @@ fn say_of_word(rt: &impl Eprint, alloc: Global, order: &Order, fault: &SweepFaul
     }
 }
 
+/// Adds names with commas between them, and with `or` before the last one.
+fn push_names(said: &mut String, names: &Names) -> Result<(), AllocError> {
+    let count = names.len();
+    for i in 0..count {
+        let between = if i == 0 {
+            ""
+        } else if i + 1 < count {
+            ", "
+        } else {
+            " or "
+        };
+        said.push_str(between)?;
+        said.push_str(names.name_of(i))?;
+    }
+    Ok(())
+}
+
+/// Returns the names of the nodes of the input; nothing if the input can't be read again.
+fn names_again<F: Folder>(alloc: Global, order: &Order, folder: &F) -> Result<String, AllocError> {
+    let mut said = String::new(alloc);
+    if let Some(text) = input_again(alloc, order, folder)? {
+        if let Ok(bus) = bus_of_bytes(alloc, text.as_slice()) {
+            push_names(&mut said, &bus.names)?;
+        }
+    }
+    Ok(said)
+}
+
+/// Says which nodes a plan has if a trace is asked of another one.
+fn say_of_node<F: Folder>(rt: &impl Eprint, alloc: Global, order: &Order, folder: &F) {
+    let Some(word) = order.ranges.get(0) else {
+        return;
+    };
+    let Ok(word) = Text::new(alloc, word.as_str()) else {
+        return;
+    };
+    let Ok(names) = names_again(alloc, order, folder) else {
+        return;
+    };
+    if names.is_empty() {
+        let _ = eprintln!(rt;
+            "hint: --node {word}: Name a node of the plan, or give a number from 0 to 63."
+        );
+    } else {
+        let _ = eprintln!(rt; "hint: --node {word}: Name {names}, or give a number from 0.");
+    }
+}
+
 /// Returns what to change of a text that says what settings are asked for.
 fn settings_advice(fault: &SettingsFault) -> &'static str {
     match fault {
@@ -225,9 +275,26 @@ fn settings_advice(fault: &SettingsFault) -> &'static str {
         SettingsFault::Unknown(_) =>
             "Remove or rename the key; TOML puts a key into the table last begun.",
         SettingsFault::NoController => "Add a `[[controller]]`.",
-        SettingsFault::NoSetting => "Leave out --plan: the list says why no setting works.",
+        SettingsFault::NoSetting =>
+            "Leave out --plan or --apply: the list says why no setting works.",
         SettingsFault::Size => "Pass a text of at most 1,048,576 bytes.",
         SettingsFault::Read | SettingsFault::Write | SettingsFault::Memory => FREE_MEMORY,
+    }
+}
+
+/// Returns what to change of a plan that can't have settings, or of the settings.
+fn apply_advice(fault: &ApplyFault) -> &'static str {
+    match fault {
+        ApplyFault::Tick => "Give --tick the length of a tick that the plan says.",
+        ApplyFault::NoNode(_) => {
+            "Name a controller of the plan or a node, with the clock that it has there: docs/use/settings.md says how."
+        }
+        ApplyFault::Rates(_) => "Give this node one rate.",
+        ApplyFault::WantsVersion4(_) => "Write the plan in version 4: `format` does that.",
+        ApplyFault::Time(_, _) => {
+            "Let this frame become ready whole bits after power-up (`at` less `offset`), and come again after whole bits: each setting has whole quanta for those."
+        }
+        ApplyFault::Setup(_) | ApplyFault::Memory => FREE_MEMORY,
     }
 }
 
@@ -322,6 +389,13 @@ fn say_of_run<F: Folder>(
     }
 }
 
+/// Says what to change, if an order asks for it.
+fn say_advice(rt: &impl Eprint, order: &Order, advice: &str) {
+    if order.hint {
+        let _ = eprintln!(rt; "hint: {advice}");
+    }
+}
+
 /// Says a fault in one line; in a second one the file that couldn't be read or written; and a hint if the order asks for it.
 pub fn say_fault<F: Folder>(
     rt: &impl Eprint,
@@ -338,6 +412,11 @@ pub fn say_fault<F: Folder>(
                 say_of_word(rt, alloc, order, fault);
             }
         }
+        Fault::Node => {
+            if order.hint {
+                say_of_node(rt, alloc, order, folder);
+            }
+        }
         Fault::Settings(fault) => {
             if order.hint {
                 say_of_settings(rt, alloc, order, fault, folder);
@@ -348,18 +427,9 @@ pub fn say_fault<F: Folder>(
                 say_of_init(rt, *fault);
             }
         }
-        Fault::Print(fault) => {
-            if order.hint {
-                let advice = print_advice(fault);
-                let _ = eprintln!(rt; "hint: {advice}");
-            }
-        }
-        Fault::Join(fault) => {
-            if order.hint {
-                let advice = join_advice(fault);
-                let _ = eprintln!(rt; "hint: {advice}");
-            }
-        }
+        Fault::Apply(fault) => say_advice(rt, order, apply_advice(fault)),
+        Fault::Print(fault) => say_advice(rt, order, print_advice(fault)),
+        Fault::Join(fault) => say_advice(rt, order, join_advice(fault)),
         Fault::Format => {}
     }
 }

@@ -26,8 +26,8 @@ ghost use Rattle.wl_engines.specs.Plans.{RunsPlanWith, IsReportOutput};
 ghost use Rattle.wl_engines.specs.Workers.{RunsByWorkersAs};
 ghost use Rattle.wl_files.specs.Files.{Keeps};
 ghost use Rattle.wl_words.specs.CommandLine.{NamesTask};
-ghost use Rattle.wl_sim.specs.Orders.{Ends, EndsPlainly, MovesFile, Performs, RunsWords, WritesTo};
-ghost use Rattle.wl_sim.specs.Tasks.{Does, DoesAs, DoesBy, DoesSweep, DoesSwept, FindsSettings, IsCount, run_status, refusal_status};
+ghost use Rattle.wl_sim.specs.Orders.{AppliesTo, Ends, EndsPlainly, MovesFile, Performs, PerformsApplied, PerformsTask, RunsWords, WritesTo, settings_tick};
+ghost use Rattle.wl_sim.specs.Tasks.{AppliesAsked, Does, DoesApplied, DoesAs, DoesBy, DoesSweep, DoesSwept, DoesTrace, FindsSettings, IsCount, run_status, refusal_status};
 
 use std::alloc::Global;
 use std::io::ErrorKind;
@@ -36,6 +36,7 @@ use std::sync::Wait;
 use std::thread::Threads;
 use std::time::Clock;
 use std::{io, thread};
+use wl_apply_engine::{AppliedFault, applied_of_words, applied_run};
 use wl_device::{Host, Sink, Source};
 use wl_engines::Kept;
 use wl_files::{BeginFault, Folder, SystemFolder};
@@ -45,7 +46,7 @@ use wl_print::format_run;
 use wl_settings::{AskedWord, SettingsFault, Shown, settings_of_words, settings_run};
 use wl_setup::{SetupFault, Text};
 use wl_sweep_engine::{Asked, Workers, join_run, map_run, part_run, print_run, sweep_run};
-use wl_views::Tick;
+use wl_views::{Pick, Tick};
 use wl_words::{Order, Refusal, Swept, Task};
 
 mod answer;
@@ -55,16 +56,16 @@ mod progress;
 mod texts;
 
 use crate::answer::{
-    of_doubts, of_format, of_init, of_join, of_judge, of_map, of_print, of_settings, of_tally,
-    of_traffic, of_verdict, plainly,
+    of_applied, of_doubts, of_format, of_init, of_join, of_judge, of_map, of_named_trace, of_print,
+    of_settings, of_tally, of_traffic, of_verdict, plainly,
 };
 use crate::formats::{subject_of, write_kept};
 pub use answer::{Done, Fault};
 pub use wl_engines::{
     Crew, LinkKind, RunFault, candump_run_as, check_run, explain_run, horizon_run,
     horizon_run_within, judge_run, margin_run, merge_run, merge_run_within, merges_as_one,
-    page_run_within, picked_trace_run, plan_run, plan_run_as, records_run_within, respond_run,
-    traffic_run, vcd_run_within, workers_run, workers_run_as,
+    node_trace_run, page_run_within, picked_trace_run, plan_run, plan_run_as, records_run_within,
+    respond_run, traffic_run, vcd_run_within, workers_run, workers_run_as,
 };
 
 /// The statuses that the program ends with beside 0.
@@ -81,7 +82,7 @@ const UNKNOWN: u8 = 4;
 /// The most threads of a sweep.
 const MOST_THREADS: u8 = 8;
 
-/// What is done: a task, over the ranges of a sweep, or over words in the place of a text for `settings`.
+/// What is done: a task, over the ranges of a sweep or the node of a trace, or over words in the place of a text for `settings`.
 #[derive(Clone, Copy)]
 struct Work<'a> {
     task: Task,
@@ -196,9 +197,9 @@ fn run_order<
     status_of(&answer)
 }
 
-/// Does the task of an order over the file to read that the order names, or over the reader if it names none. A file that can't be opened
-/// is answered as a reader that fails.
-fn perform<H: Threads + Wait + Sync + Eprint + Clock, R: Source, W: Sink, F: Folder>(
+/// Does the task of an order that has no plan beside it over the file to read that the order names, or over the reader if it names none. A
+/// file that can't be opened is answered as a reader that fails.
+fn perform_task<H: Threads + Wait + Sync + Eprint + Clock, R: Source, W: Sink, F: Folder>(
     rt: &H,
     alloc: Global,
     order: &Order,
@@ -206,7 +207,7 @@ fn perform<H: Threads + Wait + Sync + Eprint + Clock, R: Source, W: Sink, F: Fol
     writer: &mut W,
     folder: &mut F,
 ) -> Result<Done, Fault>
-    ensures { Performs R.gives W.takes F.Reader.gives F.Writer.takes F.opens F.stands F.holds
+    ensures { PerformsTask R.gives W.takes F.Reader.gives F.Writer.takes F.opens F.stands F.holds
         reader.old reader.new writer.old writer.new folder.old folder.new order.now result }
 {
     let work = Work {
@@ -222,6 +223,138 @@ fn perform<H: Threads + Wait + Sync + Eprint + Clock, R: Source, W: Sink, F: Fol
         Some(name) => match folder.open(name.as_str()) {
             Ok(mut file) => write_to(rt, alloc, work, output, &mut file, writer, folder),
             Err(_) => Err(Fault::Run(RunFault::Setup(SetupFault::Read))),
+        },
+    }
+}
+
+/// A plan that gets settings.
+#[derive(Clone, Copy)]
+struct Applying<'a> {
+    /// How long a tick takes.
+    tick: Tick,
+    /// What options ask for in the place of a text.
+    asked: &'a [AskedWord],
+    /// The file to write in the place of the writer.
+    output: Option<&'a Text>,
+}
+
+/// Writes a plan with the first settings of what words ask for, or without words the reader's text.
+fn write_asked<R: Source, P: Source, W: Sink>(
+    alloc: Global,
+    applying: Applying,
+    reader: &mut R,
+    plan: &mut P,
+    writer: &mut W,
+) -> Result<(), AppliedFault>
+    ensures { AppliesAsked R.gives P.gives W.takes reader.old reader.new plan.old plan.new writer.old writer.new
+        applying.entry.tick applying.entry.asked.now result }
+{
+    let picoseconds = applying.tick.picoseconds();
+    match applying.asked {
+        [] => applied_run(alloc, picoseconds, reader, plan, writer),
+        _ => applied_of_words(alloc, picoseconds, applying.asked, plan, writer),
+    }
+}
+
+/// Writes a plan with settings, as `write_asked` does.
+fn run_applied<R: Source, P: Source, W: Sink>(
+    alloc: Global,
+    applying: Applying,
+    reader: &mut R,
+    plan: &mut P,
+    writer: &mut W,
+) -> Result<Done, Fault>
+    ensures { DoesApplied R.gives P.gives W.takes reader.old reader.new plan.old plan.new writer.old writer.new
+        applying.entry.tick applying.entry.asked.now result }
+{
+    of_applied(write_asked(alloc, applying, reader, plan, writer))
+}
+
+/// Writes a plan with settings into a new file, or to the writer if no file is named, as `write_to` does for a task.
+fn apply_to<R: Source, P: Source, W: Sink, F: Folder>(
+    alloc: Global,
+    applying: Applying,
+    reader: &mut R,
+    plan: &mut P,
+    writer: &mut W,
+    folder: &mut F,
+) -> Result<Done, Fault>
+    ensures { AppliesTo R.gives P.gives W.takes F.Writer.takes F.stands F.holds reader.old reader.new plan.old plan.new
+        writer.old writer.new folder.old folder.new applying.entry.tick applying.entry.asked.now
+        (option_map (λ n. n.now) applying.entry.output) result }
+{
+    match applying.output {
+        None => run_applied(alloc, applying, reader, plan, writer),
+        Some(name) => match folder.begin(alloc, name.as_str()) {
+            Ok(mut file) => {
+                let answer = run_applied(alloc, applying, reader, plan, &mut file);
+                finish(folder, file, name.as_str(), answer)
+            }
+            Err(BeginFault::Refused) => Err(Fault::Run(RunFault::Write)),
+            Err(BeginFault::Memory) => Err(Fault::Run(RunFault::Memory)),
+        },
+    }
+}
+
+/// Writes the plan of a file with the settings that an order asks for. A file that can't be opened is answered as a reader that fails.
+fn perform_applied<R: Source, W: Sink, F: Folder>(
+    alloc: Global,
+    order: &Order,
+    tick: Tick,
+    plan: &Text,
+    reader: &mut R,
+    writer: &mut W,
+    folder: &mut F,
+) -> Result<Done, Fault>
+    ensures { PerformsApplied R.gives W.takes F.Reader.gives F.Writer.takes F.opens F.stands F.holds
+        reader.old reader.new writer.old writer.new folder.old folder.new order.now tick plan.now result }
+{
+    let applying = Applying {
+        tick,
+        asked: order.asked.as_slice(),
+        output: order.output.as_ref(),
+    };
+    let Ok(mut plan) = folder.open(plan.as_str()) else {
+        return Err(Fault::Run(RunFault::Setup(SetupFault::Read)));
+    };
+    match &order.input {
+        None => apply_to(alloc, applying, reader, &mut plan, writer, folder),
+        Some(name) => {
+            let Ok(mut file) = folder.open(name.as_str()) else {
+                return Err(Fault::Run(RunFault::Setup(SetupFault::Read)));
+            };
+            apply_to(alloc, applying, &mut file, &mut plan, writer, folder)
+        }
+    }
+}
+
+/// Returns how long a tick is with which settings are asked for; `None` of another task.
+fn settings_tick(task: Task) -> Option<Tick>
+    ensures { result ≡ settings_tick task }
+{
+    match task {
+        Task::Settings(tick, _, _) => Some(tick),
+        _ => None,
+    }
+}
+
+/// Does the task of an order: writes a plan with settings if the order names one, and else what the task is.
+fn perform<H: Threads + Wait + Sync + Eprint + Clock, R: Source, W: Sink, F: Folder>(
+    rt: &H,
+    alloc: Global,
+    order: &Order,
+    reader: &mut R,
+    writer: &mut W,
+    folder: &mut F,
+) -> Result<Done, Fault>
+    ensures { Performs R.gives W.takes F.Reader.gives F.Writer.takes F.opens F.stands F.holds
+        reader.old reader.new writer.old writer.new folder.old folder.new order.now result }
+{
+    match &order.apply {
+        None => perform_task(rt, alloc, order, reader, writer, folder),
+        Some(plan) => match settings_tick(order.task) {
+            None => perform_task(rt, alloc, order, reader, writer, folder),
+            Some(tick) => perform_applied(alloc, order, tick, plan, reader, writer, folder),
         },
     }
 }
@@ -430,6 +563,23 @@ fn run_settings<R: Source, W: Sink>(
     }
 }
 
+/// Writes what happened in a run, as far as it is picked: of the nodes that `pick` has, or of the node of the name that is given.
+fn run_trace<R: Source, W: Sink>(
+    alloc: Global,
+    pick: Pick,
+    named: &[String],
+    reader: &mut R,
+    writer: &mut W,
+) -> Result<Done, Fault>
+    ensures { DoesTrace R.gives W.takes reader.old reader.new writer.old writer.new
+        pick (map string_bytes named.now) result }
+{
+    match named {
+        [] => plainly(picked_trace_run(alloc, pick, reader, writer)),
+        [name, ..] => of_named_trace(node_trace_run(alloc, pick, name.as_str(), reader, writer)),
+    }
+}
+
 /// Runs the engine of a task. It may wait if that is a run by several workers.
 fn run<H: Threads + Wait + Sync + Eprint + Clock, R: Source, W: Sink>(
     rt: &H,
@@ -457,7 +607,7 @@ fn run<H: Threads + Wait + Sync + Eprint + Clock, R: Source, W: Sink>(
             of_verdict(strict, run_by(rt, alloc, crew, reader, writer))
         }
         Task::Explain(strict) => of_doubts(strict, explain_run(alloc, reader, writer)),
-        Task::Trace(pick) => plainly(picked_trace_run(alloc, pick, reader, writer)),
+        Task::Trace(pick) => run_trace(alloc, pick, work.ranges, reader, writer),
         Task::Candump(tick, from, errors, window) => {
             plainly(candump_run_as(alloc, tick, from, errors, window, reader, writer))
         }
@@ -532,10 +682,13 @@ fn status_of(answer: &Result<Done, Fault>) -> ExitCode
                 ExitCode::from(BROKEN)
             }
         }
-        Err(Fault::Word(_)) | Err(Fault::Init(_)) => ExitCode::from(REFUSED_COMMAND),
-        Err(Fault::Settings(_)) | Err(Fault::Print(_)) | Err(Fault::Join(_)) => {
-            ExitCode::from(REFUSED_INPUT)
+        Err(Fault::Word(_)) | Err(Fault::Node) | Err(Fault::Init(_)) => {
+            ExitCode::from(REFUSED_COMMAND)
         }
+        Err(Fault::Settings(_))
+        | Err(Fault::Apply(_))
+        | Err(Fault::Print(_))
+        | Err(Fault::Join(_)) => { ExitCode::from(REFUSED_INPUT) }
         Err(Fault::Format) => ExitCode::from(BROKEN),
     }
 }

@@ -1,4 +1,4 @@
-mod Counted
+pub mod Callers
 mod Found
 mod Frames
 mod Growing

@@ -1,30 +1,14 @@
 -- The parts into which runs are cut, and their tallies one after another.
-use Rattle.std.proofs.Common.{◌≡◌, ◌∙◌, ◌+◌, ◌-◌, ◌*◌, ◌^◌, ◌≤◌, ◌<◌, ℕ, List, get_or, ap, sym, arith, Result, Ok}
+use Rattle.std.proofs.Common.{◌≡◌, ◌∙◌, ◌+◌, ◌-◌, ◌^◌, ◌≤◌, ◌<◌, ℕ, List, get_or, sym, Result, Ok}
 use Rattle.std.specs.declared.alloc.AllocError.{AllocError}
 use Rattle.std.specs.Int.{div_ceil}
-use Rattle.std.proofs.lemmas.Grind.{div_ceil_times}
 use Rattle.std.proofs.lemmas.Result.{IfOk-at_ok}
 use Rattle.wl_setup.specs.declared.plan_text.PlanText.{PlanText}
 use Rattle.wl_sweep.specs.declared.options.Options.{Options}
 use Rattle.wl_sweep.specs.declared.tally.Tally.{Tally}
-use Rattle.wl_sweep.specs.Tallies.{ArePartTallies, findings_from, part_start, tally_of}
-use Rattle.wl_sweep.proofs.Found.{Joins, tally_up}
-
-part_low : (from to size w : ℕ) → from ≤ to → from ≤ part_start from to size w
-part_low from to size w h = omega arith
-
-part_high : (from to size w : ℕ) → part_start from to size w ≤ to
-part_high from to size w = omega arith
-
-part_grows : (from to size w : ℕ) → part_start from to size w ≤ part_start from to size (w + 1)
-part_grows from to size w = omega arith
-
-pub part_first : (from to size : ℕ) → from ≤ to → part_start from to size 0 ≡ from
-part_first from to size h = omega arith
-
--- the last part ends with the last run
-part_last : (from to size w : ℕ) → from ≤ to → to - from ≤ size * w → part_start from to size w ≡ to
-part_last from to size w h enough = omega arith
+use Rattle.wl_sweep.specs.Tallies.{ArePartTallies, finding_at, findings_from, part_start, tally_of}
+use Rattle.wl_sweep.proofs.Callers.{tally_by_part, tally_of_parts}
+use Rattle.wl_sweep.proofs.Found.{Joins}
 
 module _ (options : Options) (plan : PlanText) (from to size : ℕ) where
   -- the tally of one part
@@ -41,14 +25,9 @@ module _ (options : Options) (plan : PlanText) (from to size : ℕ) where
       → t ≡ tally_of (findings_from options plan from (part_start from to size w - from))
       → r ≡ tally_of (findings_from options plan from (part_start from to size (w + 1) - from))
   parts_more count w answers d t u r low small parts within is ok joins before =
-      let high : part_start from to size (w + 1) ≤ to = part_high from to size (w + 1) in
-      tally_up options plan from (part_start from to size w) (part_start from to size (w + 1)) t u r
-      (part_low from to size w low) (part_grows from to size w) (omega arith) joins before (part_tally count w answers d u parts within is ok)
+      tally_by_part (finding_at options plan) tally_of from to size w t u r low small joins before (part_tally count w answers d u parts within is ok)
 
   -- after the last part it is that of all
   pub parts_all : (workers : ℕ) (t : Tally) → from ≤ to → 0 < workers → size ≡ div_ceil (to - from) workers
       → t ≡ tally_of (findings_from options plan from (part_start from to size workers - from)) → t ≡ tally_of (findings_from options plan from (to - from))
-  parts_all workers t low some is before =
-      let covers : to - from ≤ div_ceil (to - from) workers * workers = (div_ceil_times (to - from) workers some).0 in
-      let enough : to - from ≤ size * workers = rw (sym is) at covers in
-      before ∙ ap (λ k. tally_of (findings_from options plan from (k - from))) (part_last from to size workers low enough)
+  parts_all workers t low some is before = tally_of_parts (finding_at options plan) tally_of from to size workers t low some is before

@@ -18,9 +18,8 @@ use Rattle.wl_sweep.specs.Rows.{row_count}
 use Rattle.wl_sweep.specs.Sweeps.{all_findings, all_rows, first_line, line_of_row, row_findings, rows_findings, rows_lines, rows_members, sweep_text, text_in}
 use Rattle.wl_sweep.specs.Tallies.{finding_at, findings_from, tally_of}
 use Rattle.wl_sweep.specs.Words.{members_line, row_words, tally_line}
-use Rattle.wl_sweep.proofs.Counted.{all_counted}
+use Rattle.wl_sweep.proofs.Callers.{all_counted, first-shift}
 use Rattle.wl_sweep.proofs.Found.{Joins, findings_length}
-use Rattle.wl_sweep.proofs.Joining.{first-shift}
 use Rattle.wl_sweep.proofs.Placed.{rows_down, rows_length}
 
 module _ {Y : Type 0} (f : ℕ → Y) where

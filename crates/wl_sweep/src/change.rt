@@ -354,7 +354,7 @@ fn disturbances_again(
 }
 
 /// Returns an equal text.
-pub(crate) fn text_same(alloc: Global, text: &PlanText) -> Result<PlanText, AllocError>
+pub fn text_same(alloc: Global, text: &PlanText) -> Result<PlanText, AllocError>
     ensures { IfOk result (λ copy. copy ≡ text.now) }
 {
     let nodes = nodes_same(alloc, text.node.as_slice())?;

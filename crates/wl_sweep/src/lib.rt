@@ -18,13 +18,14 @@ mod text;
 mod vary;
 mod worst;
 
-pub use change::SweptKey;
+pub use change::{SweptKey, text_same};
 pub use family::bit_in;
 pub use finding::{Finding, clean_is_a_working_bus, finding_of};
 pub use options::Options;
 pub use part::{Share, a_whole_says_the_sweep};
 pub use range::{SweptRange, row_count, row_value};
+pub use runs::SweepProgress;
 pub use sweep::{MOST_ROWS, Sweep, Workers};
 pub use tally::Tally;
-pub use vary::{RangeFault, read_range};
+pub use vary::{RangeFault, node_of, parted_at_equals, read_range, size_of};
 pub use worst::worst_text;

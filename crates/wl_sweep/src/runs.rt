@@ -21,7 +21,7 @@ const PAUSE: u64 = 200;
 
 /// The progress of a sweep: how far it is, for lines on standard error. No clause speaks of it.
 #[derive(Clone, Copy, Debug)]
-pub(crate) struct SweepProgress {
+pub struct SweepProgress {
     /// The row, counted from 1.
     row: u64,
     /// How many rows there are.
@@ -34,7 +34,7 @@ pub(crate) struct SweepProgress {
 
 impl SweepProgress {
     /// Begins to report on this many rows, if there is a clock.
-    pub(crate) fn begin<R: Clock>(rt: &R, rows: u64) -> Option<SweepProgress> {
+    pub fn begin<R: Clock>(rt: &R, rows: u64) -> Option<SweepProgress> {
         let begun = Instant::now(rt).ok()?;
         Some(SweepProgress {
             row: 0,
@@ -45,12 +45,12 @@ impl SweepProgress {
     }
 
     /// Goes on to the next row.
-    pub(crate) fn next_row(&mut self) {
+    pub fn next_row(&mut self) {
         self.row = self.row.saturating_add(1);
     }
 
     /// Writes a line to standard error if one is due; one that can't be written is left out.
-    fn report<R: Eprint + Clock>(&mut self, rt: &R, done: u32, runs: u32, clean: u64) {
+    pub fn report<R: Eprint + Clock>(&mut self, rt: &R, done: u32, runs: u32, clean: u64) {
         let Ok(taken) = self.begun.elapsed(rt) else {
             return;
         };

@@ -67,7 +67,7 @@ struct Ends {
 }
 
 /// Returns a text before and after its first `=`.
-fn parted_at_equals(text: &str) -> Option<(&str, &str)>
+pub fn parted_at_equals(text: &str) -> Option<(&str, &str)>
     ensures { option_map (λ parts. (parts.0.now, parts.1.now)) result ≡ parted 61 text.now }
 {
     text.split_once('=')
@@ -109,7 +109,7 @@ fn after_plus(text: &str) -> Option<&str>
 }
 
 /// Returns the number that decimal digits are.
-pub(crate) fn size_of(text: &str) -> Option<u64>
+pub fn size_of(text: &str) -> Option<u64>
     ensures { result ≡ size_of text.now }
 {
     if after_plus(text).is_some() {
@@ -357,7 +357,7 @@ fn numbered(count: usize, number: Option<i64>) -> Option<usize>
 }
 
 /// Returns the node of a name, or else of a number.
-fn node_of(nodes: &[NodeText], name: &str) -> Option<usize>
+pub fn node_of(nodes: &[NodeText], name: &str) -> Option<usize>
     ensures { result ≡ node_of nodes.now name.now }
 {
     match node_named(nodes, name) {

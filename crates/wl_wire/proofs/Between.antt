@@ -17,6 +17,7 @@ use Rattle.wl_machine.proofs.Callers.{role_first}
 use Rattle.wl_wire.specs.Wire.{Wire, Handed, Bit, Own, stretch_at, bus, sampled, is_between, is_between_by, may_be_alone, next_wire}
 use Rattle.wl_wire.specs.InStep.{AreSoundFrames, AreBetween, AreInIntermission, AreInFrame, AreInStep, IsSender, is_fine}
 use Rattle.wl_wire.specs.Outcome.{IsFree}
+use Rattle.wl_wire.specs.Begins.{frame_begun}
 use Rattle.wl_wire.proofs.Bus.{Drives, level_cases, bus_dominant, bus_recessive, bus_silent}
 use Rattle.wl_wire.proofs.Events.{OwnHeads, sample_at, at_bit, alone, none_alone}
 use Rattle.wl_wire.proofs.Quiet.{StaysQuiet, Begins, GoesOn, read_back, stays_quiet, begins_frame, goes_on}
@@ -85,6 +86,12 @@ module _ (w : Wire) (sound : AreSoundFrames w.count w.frames) (heads : OwnHeads 
   framed : (handed : ℕ → Handed) (d : bus w ≡ Dominant) (k : ℕ) (lt : k < w.count)
       → stretch_at (next_wire w (Bit handed)) k ≡ stretch_by (Framing (begun handed k lt d).head) (Dominant ∷ [])
   framed handed d k lt = at_bit w handed k ∙ (begun handed k lt d).next
+
+  pub begun_there : (handed : ℕ → Handed) → bus w ≡ Dominant → (k : ℕ) → k < w.count
+      → stretch_at (next_wire w (Bit handed)) k ≡ stretch_by (Framing (frame_begun (stretch_at w k).sort (sampled Dominant (w.frames k) (handed k)))) (Dominant ∷ [])
+  begun_there handed d k lt =
+      framed handed d k lt ∙ ap (λ h. stretch_by (Framing h) (Dominant ∷ [])) (begun handed k lt d).begun
+      ∙ ap (λ l. stretch_by (Framing (frame_begun (stretch_at w k).sort (sampled l (w.frames k) (handed k)))) (Dominant ∷ [])) d
 
   first_found : (c : Content) → IsContent c → FoundSent c (Dominant ∷ []) 1
   first_found c is zero lt = sym (read_back c is).begins

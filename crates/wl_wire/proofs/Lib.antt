@@ -12,4 +12,5 @@ mod Passages
 mod FramePassages
 mod Lengths
 mod Run
+mod Rows
 pub mod Callers

@@ -23,6 +23,7 @@ use Rattle.wl_machine.specs.Judged.{judged, judged_by, stretch_after, or_next, d
 use Rattle.wl_machine.specs.States.{sample_of, stretch_by}
 use Rattle.wl_wire.specs.Wire.{is_between, is_between_by}
 use Rattle.wl_wire.specs.InStep.{is_fine}
+use Rattle.wl_wire.specs.Begins.{frame_begun}
 use Rattle.wl_wire.proofs.Bus.{not_both}
 
 -- what is sent is read as what it carries
@@ -107,29 +108,31 @@ pub record Begins (s : Stretch) (x : Sampled) : Type 0 where
   pub fine : is_fine (judged s x).happened ≡ true
   pub plain : is_plain (judged s x) ≡ true
   pub own_head : (c : Content) → s.sort ≡ Framing (Some c) → head ≡ Some c
+  pub begun : head ≡ frame_begun s.sort x
 
-record BeginsBy (s : Stretch) (j : Judgement) : Type 0 where
+record BeginsBy (s : Stretch) (x : Sampled) (j : Judgement) : Type 0 where
   head : Option Content
   next : or_next j.next (stretch_by s.sort (s.own ++ Dominant ∷ [])) ≡ stretch_by (Framing head) (Dominant ∷ [])
   fine : is_fine j.happened ≡ true
   plain : is_plain j ≡ true
   own_head : (c : Content) → s.sort ≡ Framing (Some c) → head ≡ Some c
+  begun : head ≡ frame_begun s.sort x
 
-begins_yes : (s : Stretch) (b : Bool) (j k : Judgement) → b ≡ true → BeginsBy s j → BeginsBy s (cond b j k)
-begins_yes s true j k e p = p
-begins_yes s false j k e p = cc
+begins_yes : (s : Stretch) (x : Sampled) (b : Bool) (j k : Judgement) → b ≡ true → BeginsBy s x j → BeginsBy s x (cond b j k)
+begins_yes s x true j k e p = p
+begins_yes s x false j k e p = cc
 
 begins_by : (sort : Sort) (own : List Level) (head : Option Content) (mode : Mode) → is_between_by sort own ≡ true
-    → ((c : Content) → sort ≡ Framing (Some c) → IsContent c) → BeginsBy (stretch_by sort own) (judged_by sort own (sample_of Dominant head mode))
-begins_by Idle own head mode h is = record { head = None; next = refl; fine = refl; plain = refl; own_head = λ c e. cc }
-begins_by Suspension own head mode h is = record { head = None; next = refl; fine = refl; plain = refl; own_head = λ c e. cc }
+    → ((c : Content) → sort ≡ Framing (Some c) → IsContent c) → BeginsBy (stretch_by sort own) (sample_of Dominant head mode) (judged_by sort own (sample_of Dominant head mode))
+begins_by Idle own head mode h is = record { head = None; next = refl; fine = refl; plain = refl; own_head = λ c e. cc; begun = refl }
+begins_by Suspension own head mode h is = record { head = None; next = refl; fine = refl; plain = refl; own_head = λ c e. cc; begun = refl }
 begins_by (Intermission role) own head mode h is =
-    begins_yes (stretch_by (Intermission role) own) (length own == 2) _ _ h (record { head = begun_head role mode head; next = refl; fine = refl; plain = refl; own_head = λ c e. cc })
+    begins_yes (stretch_by (Intermission role) own) (sample_of Dominant head mode) (length own == 2) _ _ h (record { head = begun_head role mode head; next = refl; fine = refl; plain = refl; own_head = λ c e. cc; begun = refl })
 begins_by (Framing (Some c)) [] head mode h is =
     let x : Sampled = sample_of Dominant head mode in
-    subst (BeginsBy (stretch_by (Framing (Some c)) []))
+    subst (BeginsBy (stretch_by (Framing (Some c)) []) (sample_of Dominant head mode))
     (sym (ap (λ l. cond (same l Dominant) (continues happens.Nothing) (differing c [] x)) (read_back c (is c refl)).begins))
-    (record { head = Some c; next = refl; fine = refl; plain = refl; own_head = λ d e. cc })
+    (record { head = Some c; next = refl; fine = refl; plain = refl; own_head = λ d e. cc; begun = refl })
 begins_by (Framing (Some c)) (l ∷ own) head mode h is = cc
 begins_by (Framing None) own head mode h is = cc
 begins_by Integration own head mode h is = cc
@@ -141,8 +144,8 @@ begins_by OffBus own head mode h is = cc
 pub begins_frame : (s : Stretch) (head : Option Content) (mode : Mode) → is_between s ≡ true
     → ((c : Content) → s.sort ≡ Framing (Some c) → IsContent c) → Begins s (sample_of Dominant head mode)
 begins_frame s head mode h is =
-    let b : BeginsBy s (judged s (sample_of Dominant head mode)) = begins_by s.sort s.own head mode h is in
-    record { head = b.head; next = b.next; fine = b.fine; plain = b.plain; own_head = b.own_head }
+    let b : BeginsBy s (sample_of Dominant head mode) (judged s (sample_of Dominant head mode)) = begins_by s.sort s.own head mode h is in
+    record { head = b.head; next = b.next; fine = b.fine; plain = b.plain; own_head = b.own_head; begun = b.begun }
 
 -- one of the first two bits of an intermission
 pub record GoesOn (role : Role) (own : List Level) (x : Sampled) : Type 0 where

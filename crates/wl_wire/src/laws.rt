@@ -1,14 +1,18 @@
 //! Laws of machines on one wire, each proved as the contract of a function that does nothing.
 
-ghost use Rattle.std.specs.Prelude.{◌≡◌, ◌<◌, ℕ, List, length};
+ghost use Rattle.std.specs.Prelude.{◌≡◌, ◌<◌, ℕ, List, [], ◌∷◌, length};
 ghost use Rattle.wl_level.specs.declared.Level.{Level};
+ghost use Rattle.wl_level.specs.declared.Level.TheVariants.{Dominant};
 ghost use Rattle.wl_confine.specs.Counts.{no_counts};
 ghost use Rattle.wl_frame.specs.Grammar.{Content};
+ghost use Rattle.wl_machine.specs.States.{stretch_by};
+ghost use Rattle.wl_machine.specs.Stretch.Sort.{Framing};
+ghost use Rattle.wl_wire.specs.Begins.{frame_begun};
 ghost use Rattle.wl_wire.specs.Heads.{OwnHeads};
-ghost use Rattle.wl_wire.specs.InStep.{AreSoundFrames, AreInFrame, AreInStep, FindsNoError};
+ghost use Rattle.wl_wire.specs.InStep.{AreBetween, AreSoundFrames, AreInFrame, AreInStep, FindsNoError};
 ghost use Rattle.wl_wire.specs.Outcome.{Passage, HaveGot, IsFree, counts_after_all};
 ghost use Rattle.wl_wire.specs.Winner.{HasOneWinner};
-ghost use Rattle.wl_wire.specs.Wire.{Event, Wire, idle_wire, wire_after};
+ghost use Rattle.wl_wire.specs.Wire.{Bit, Event, Handed, Wire, bus, idle_wire, next_wire, sampled, stretch_at, wire_after};
 
 /// Law: two or more machines on one wire that are handed frames of different format, identifier or RTR stay in step, and none finds an
 /// error. So it is whatever they are handed, in whatever modes, and however many recessive bits each samples by itself between frames.
@@ -34,6 +38,16 @@ pub fn machines_that_are_in_step_stay_so()
     wl_machine::laws::a_sent_frame_is_the_head_that_began_its_stretch();
     wl_frame::laws::the_arbitration_decides();
 }
+
+/// Law: a dominant bit begins a frame at all machines that are between frames. Each that is to begin a frame sends that frame. Each that has
+/// two bits of an intermission sends the frame that it is handed with the bit, if it is handed one. It drives no start of frame then. Each
+/// other one receives.
+pub fn a_dominant_bit_begins_a_frame_at_all()
+    ensures { (w : Wire) (handed : ℕ → Handed) → AreSoundFrames w.count w.frames → OwnHeads w → AreBetween w
+        → bus w ≡ Dominant → (k : ℕ) → k < w.count
+        → stretch_at (next_wire w (Bit handed)) k ≡ stretch_by
+        (Framing (frame_begun (stretch_at w k).sort (sampled Dominant (w.frames k) (handed k)))) (Dominant ∷ []) }
+{}
 
 /// Law: the error counters of such machines stay 0.
 pub fn counters_stay_zero()

@@ -1,5 +1,5 @@
 -- What clap makes of the command line of the program.
-use Rattle.std.proofs.Common.{◌≡◌, ◌∙◌, refl, sym, subst, ap, ℕ, ◌<◌, ◌^◌, nat_lt, Bool, true, false, [], ◌∷◌, List, length, Option, Some, None, option_map, option_and_then, unwrap_or, codes, if◌then◌else◌}
+use Rattle.std.proofs.Common.{◌≡◌, ◌∙◌, refl, sym, subst, ap, ℕ, ◌<◌, ◌^◌, nat_lt, ◌&&◌, Bool, true, false, [], ◌∷◌, List, length, Option, Some, None, option_map, option_and_then, unwrap_or, codes, if◌then◌else◌}
 use Rattle.std.specs.Char.{digit_value}
 use Rattle.std.specs.List.{list_all}
 use Rattle.std.specs.Option.{option_map_or}
@@ -24,7 +24,7 @@ use Rattle.wl_units.specs.Scales.{number_said}
 use Rattle.wl_units.specs.declared.quantity.Measure.TheVariants.{Time}
 use Rattle.wl_words.proofs.Naming.{one_found}
 use Rattle.wl_words.specs.Asked.{IsTaskAlone, ReadsEachWord, ReadsOrder}
-use Rattle.wl_words.specs.CommandLine.{asked_words_in, cable_among, kind_among, nodes_among, rate_among, node_among, only_among, read_only, task_word, tick_among, workers_among, read_link, link_among, entered, file_among, file_in, file_named, format_among, format_in, read_format, is_flagged, is_set, end_among, end_said, is_whole_number, number_among, number_or_zero, plain_values, tick_scale, ticks_said, ranges_among, ranges_in, values_among, word_in, Enters, HasValues, NamesTask, share_among}
+use Rattle.wl_words.specs.CommandLine.{asked_words_in, cable_among, kind_among, nodes_among, rate_among, node_among, said_name, said_name_among, node_number, only_among, read_only, task_word, tick_among, workers_among, read_link, link_among, entered, file_among, file_in, file_named, format_among, format_in, read_format, is_flagged, is_set, end_among, end_said, is_whole_number, number_among, number_or_zero, plain_values, tick_scale, ticks_said, ranges_among, ranges_in, values_among, word_in, Enters, HasValues, NamesTask, share_among}
 use Rattle.wl_words.specs.declared.command.Order.{Order}
 use Rattle.wl_words.specs.declared.command.Refusal.{Refusal}
 use Rattle.wl_words.specs.declared.command.Refusal.TheVariants as refusal
@@ -57,28 +57,28 @@ word_enters (Sweep swept) name h = ((refl, h), refl, refl, refl)
 abbrev NamesNothing : List Text → Type 0
 NamesNothing words =
     (file_in (codes "input") (entered words) ≡ None) × (file_in (codes "output") (entered words) ≡ None) × (ranges_in (entered words) ≡ [])
-    × (asked_words_in (entered words) ≡ [])
+    × (asked_words_in (entered words) ≡ []) × (file_in (codes "apply") (entered words) ≡ None)
 
 word_names_none : (t : Task) (name : Text) → NamesNothing (name ∷ task_word t ∷ [])
 unfolding clap_on_literals
-word_names_none (Init wish) name = (refl, refl, refl, refl)
-word_names_none (Merge limits) name = (refl, refl, refl, refl)
-word_names_none (Horizon limits) name = (refl, refl, refl, refl)
-word_names_none Check name = (refl, refl, refl, refl)
-word_names_none Upgrade name = (refl, refl, refl, refl)
-word_names_none (Records window) name = (refl, refl, refl, refl)
-word_names_none (Run workers kind brief strict) name = (refl, refl, refl, refl)
-word_names_none (Explain strict) name = (refl, refl, refl, refl)
-word_names_none (Trace pick) name = (refl, refl, refl, refl)
-word_names_none (Candump tick from errors window) name = (refl, refl, refl, refl)
-word_names_none (Vcd tick window) name = (refl, refl, refl, refl)
-word_names_none (Page tick window) name = (refl, refl, refl, refl)
-word_names_none (Margin tick all strict) name = (refl, refl, refl, refl)
-word_names_none (Respond tick any strict) name = (refl, refl, refl, refl)
-word_names_none (Traffic tick strict) name = (refl, refl, refl, refl)
-word_names_none (Judge tick explain) name = (refl, refl, refl, refl)
-word_names_none (Settings tick shown strict) name = (refl, refl, refl, refl)
-word_names_none (Sweep swept) name = (refl, refl, refl, refl)
+word_names_none (Init wish) name = (refl, refl, refl, refl, refl)
+word_names_none (Merge limits) name = (refl, refl, refl, refl, refl)
+word_names_none (Horizon limits) name = (refl, refl, refl, refl, refl)
+word_names_none Check name = (refl, refl, refl, refl, refl)
+word_names_none Upgrade name = (refl, refl, refl, refl, refl)
+word_names_none (Records window) name = (refl, refl, refl, refl, refl)
+word_names_none (Run workers kind brief strict) name = (refl, refl, refl, refl, refl)
+word_names_none (Explain strict) name = (refl, refl, refl, refl, refl)
+word_names_none (Trace pick) name = (refl, refl, refl, refl, refl)
+word_names_none (Candump tick from errors window) name = (refl, refl, refl, refl, refl)
+word_names_none (Vcd tick window) name = (refl, refl, refl, refl, refl)
+word_names_none (Page tick window) name = (refl, refl, refl, refl, refl)
+word_names_none (Margin tick all strict) name = (refl, refl, refl, refl, refl)
+word_names_none (Respond tick any strict) name = (refl, refl, refl, refl, refl)
+word_names_none (Traffic tick strict) name = (refl, refl, refl, refl, refl)
+word_names_none (Judge tick explain) name = (refl, refl, refl, refl, refl)
+word_names_none (Settings tick shown strict) name = (refl, refl, refl, refl, refl)
+word_names_none (Sweep swept) name = (refl, refl, refl, refl, refl)
 
 -- and no format
 word_format : (t : Task) (name : Text) → format_in (entered (name ∷ task_word t ∷ [])) ≡ Some None
@@ -125,9 +125,12 @@ tick_text f = ap (option_and_then read_tick) (sym (first_value-rows f (codes "ti
 pub workers_text : (f : Found) → workers_among (rows_of f) ≡ option_map byte_or_zero (first_value f (codes "workers"))
 workers_text f = ap (option_map byte_or_zero) (sym (first_value-rows f (codes "workers")))
 
--- the node of an option, by its text
-pub node_text : (f : Found) → node_among (rows_of f) ≡ option_map byte_or_zero (first_value f (codes "node"))
-node_text f = ap (option_map byte_or_zero) (sym (first_value-rows f (codes "node")))
+-- the node of an option, by its text: by its number, or by its name
+pub node_text : (f : Found) → node_among (rows_of f) ≡ option_and_then node_number (first_value f (codes "node"))
+node_text f = ap (option_and_then node_number) (sym (first_value-rows f (codes "node")))
+
+pub said_name_text : (f : Found) → said_name_among (rows_of f) ≡ option_map_or said_name (first_value f (codes "node")) []
+said_name_text f = ap (λ o. option_map_or said_name o []) (sym (first_value-rows f (codes "node")))
 
 -- the kind of events of an option, by its text
 pub only_text : (f : Found) → only_among (rows_of f) ≡ option_map_or read_only (first_value f (codes "only")) (Some None)
@@ -151,8 +154,8 @@ pub part_text : (f : Found) → share_among (rows_of f) ≡ option_map share_nam
 part_text f = ap (option_map share_named) (sym (first_value-rows f (codes "part")))
 
 -- ranges, by their texts
-pub ranges_text : (f : Found) → ranges_among (rows_of f) ≡ unwrap_or (option_map raw_values (matched_of f (codes "vary"))) []
-ranges_text f = ap (λ o. unwrap_or o []) (sym (raw_values-rows f (codes "vary")))
+pub ranges_text : (f : Found) → ranges_among (rows_of f) ≡ unwrap_or (option_map raw_values (matched_of f (codes "vary"))) (said_name_among (rows_of f))
+ranges_text f = ap (λ o. unwrap_or o (said_name_among (rows_of f))) (sym (raw_values-rows f (codes "vary")))
 
 -- a number, by its text
 all_digits : (ds : List ℕ) → AllDigits 10 ds → list_all (λ d. nat_lt (digit_value d) 10) ds ≡ true
@@ -186,6 +189,17 @@ unread_is bits text h = go (is_whole_number bits text) refl
 pub number_read : {E : Type 0} (bits : ℕ) (text : Text) (r : Result ℕ E) → ParsesUnsigned bits 10 text r → result_unwrap_or r 0 ≡ number_or_zero bits text
 number_read bits text (Ok n) h = rw (read_is bits text h.0) h.1
 number_read bits text (Err e) h = rw (unread_is bits text h) refl
+
+-- the number of a node that a text writes, by what it is read as
+pub node_read : (text : Text) (n : ℕ) → ReadsNumber 8 text × (n ≡ digits_value 10 (without_leading_plus text))
+    → (if nat_lt n 64 then Some n else None) ≡ node_number text
+node_read text n h =
+    ap (λ k. if nat_lt k 64 then Some k else None) h.1
+    ∙ sym (ap (λ b. if b && nat_lt (digits_value 10 (without_leading_plus text)) 64 then Some (digits_value 10 (without_leading_plus text)) else None) (read_is 8 text h.0))
+
+pub node_unread : (text : Text) → ¬ ReadsNumber 8 text → None ≡ node_number text
+node_unread text h =
+    sym (ap (λ b. if b && nat_lt (digits_value 10 (without_leading_plus text)) 64 then Some (digits_value 10 (without_leading_plus text)) else None) (unread_is 8 text h))
 
 -- what a text says in ticks, by what it is read as
 pub said_read : (tick : Tick) (text : Text) (n : ℕ) → ReadsNumber 64 text × (n ≡ digits_value 10 (without_leading_plus text)) → Some n ≡ ticks_said tick text
@@ -233,6 +247,7 @@ reads_word words (Ok order) t asked named =
       asked.5 ∙ none.2,
       ap (λ (o : Option (Option Format)). unwrap_or o None) (sym asked.6 ∙ names_format t words named),
       asked.7 ∙ none.3,
+      asked.8 ∙ none.4,
     )
 reads_word words (Err refusal.Words) t none named = absurd (none t (names_enters t words named))
 reads_word words (Err refusal.Memory) t memory named = refl

@@ -13,7 +13,7 @@ Asks order words =
     Enters order.task words × (order.input ≡ file_in (codes "input") (entered words)) × (order.output ≡ file_in (codes "output") (entered words))
     × (order.hint ≡ has_flag (codes "hint") (entered words)) × (order.progress ≡ has_flag (codes "progress") (entered words))
     × (map string_bytes order.ranges.items ≡ ranges_in (entered words)) × (format_in (entered words) ≡ Some order.format)
-    × (order.asked.items ≡ asked_words_in (entered words))
+    × (order.asked.items ≡ asked_words_in (entered words)) × (order.apply ≡ file_in (codes "apply") (entered words))
 
 -- what was found in the words
 abbrev pub FindsOrder : List Text → Option Order → Type 0
@@ -26,11 +26,11 @@ ReadsOrder words (Ok order) = Asks order words
 ReadsOrder words (Err Words) = (t : Task) → ¬ Enters t words
 ReadsOrder words (Err Memory) = Unit {0}
 
--- this task alone was read, without a file or words in its place, a range or another format; or memory was wanted
+-- this task alone was read, without a file or words in its place, a range, another format or a plan that gets settings; or memory was wanted
 abbrev pub IsTaskAlone : Task → Result Order Refusal → Type 0
 IsTaskAlone t (Ok order) =
     (order.task ≡ t) × (order.input ≡ None) × (order.output ≡ None) × (map string_bytes order.ranges.items ≡ []) × (order.format ≡ None)
-    × (order.asked.items ≡ [])
+    × (order.asked.items ≡ []) × (order.apply ≡ None)
 IsTaskAlone t (Err refusal) = refusal ≡ Memory
 
 -- words that are the name of a task alone are read so

@@ -142,9 +142,9 @@ candump_rules = tick_rule ∷ from_rule ∷ window_rules (codes "since") ++ flag
 abbrev pub wave_rules : List Rule
 wave_rules = tick_rule ∷ text_rule (codes "begin") (codes "from") ∷ text_rule (codes "stop") (codes "to") ∷ []
 
--- of `trace`: the number of a node, and a kind of events
+-- of `trace`: a node, and a kind of events
 abbrev pub node_rule : Rule
-node_rule = record (new_rule (codes "node")) { long = Some (codes "node"); value_names = 1; parser = Some (Signed (pos 0) (pos 63)) }
+node_rule = text_rule (codes "node") (codes "node")
 
 abbrev pub trace_rules : List Rule
 trace_rules = ticks_rule (codes "since") (codes "from") ∷ ticks_rule (codes "until") (codes "to") ∷ node_rule ∷ text_rule (codes "only") (codes "only") ∷ format_rule ∷ []
@@ -189,8 +189,8 @@ named_rule name = text_rule name name
 
 abbrev pub settings_rules : List Rule
 settings_rules =
-    tick_rule ∷ best_rule ∷ flag_rule (codes "plan") ∷ strict_rule ∷ repeated_rule (codes "kind") ∷ repeated_rule (codes "clock") ∷ named_rule (codes "bitrate")
-    ∷ named_rule (codes "cable") ∷ named_rule (codes "per") ∷ named_rule (codes "out") ∷ named_rule (codes "in") ∷ named_rule (codes "tolerance")
+    tick_rule ∷ best_rule ∷ flag_rule (codes "plan") ∷ named_rule (codes "apply") ∷ strict_rule ∷ repeated_rule (codes "kind") ∷ repeated_rule (codes "clock")
+    ∷ named_rule (codes "bitrate") ∷ named_rule (codes "cable") ∷ named_rule (codes "per") ∷ named_rule (codes "out") ∷ named_rule (codes "in") ∷ named_rule (codes "tolerance")
     ∷ named_rule (codes "senders") ∷ named_rule (codes "rate-error") ∷ named_rule (codes "sample-point") ∷ named_rule (codes "nodes")
     ∷ format_rule ∷ []
 
@@ -367,9 +367,23 @@ number_or_zero bits text = if is_whole_number bits text then digits_value 10 (wi
 abbrev pub number_among : ℕ → Text → List Row → Option ℕ
 number_among bits id rows = option_map (number_or_zero bits) (first_of id rows)
 
--- the ranges of a sweep, in their order
+-- the number of a node that a text writes, from 0 to 63; any other text is a name
+abbrev pub node_number : Text → Option ℕ
+node_number text =
+    let n = digits_value 10 (without_leading_plus text) in
+    if is_whole_number 8 text && nat_lt n 64 then Some n else None
+
+-- the name of a node in a list of its own, if a text is no number of one
+abbrev pub said_name : Text → List Text
+said_name text = if is_some (node_number text) then [] else text ∷ []
+
+-- the name of a node that an option gives
+abbrev pub said_name_among : List Row → List Text
+said_name_among rows = option_map_or said_name (first_of (codes "node") rows) []
+
+-- what the plan has to have: the ranges of a sweep in their order, or the node of a trace by its name
 abbrev pub ranges_among : List Row → List Text
-ranges_among rows = unwrap_or (all_of (codes "vary") rows) []
+ranges_among rows = unwrap_or (all_of (codes "vary") rows) (said_name_among rows)
 
 abbrev pub ranges_in : Option (Text × List Row) → List Text
 ranges_in found = option_map_or (λ p. ranges_among p.1) found []
@@ -486,7 +500,7 @@ only_among rows = option_map_or read_only (first_of (codes "only") rows) (Some N
 
 -- the number of a node that the option gives
 abbrev pub node_among : List Row → Option ℕ
-node_among rows = option_map byte_or_zero (first_of (codes "node") rows)
+node_among rows = option_and_then node_number (first_of (codes "node") rows)
 
 -- what the options ask for of a plan to begin from
 abbrev pub nodes_among : List Row → Option ℕ

@@ -35,10 +35,12 @@ pub struct Order {
     pub hint: bool,
     /// Lines say how long the run has taken, or how far a sweep is.
     pub progress: bool,
-    /// The ranges of a sweep, in the order of the words.
+    /// What the plan has to have: the ranges of a sweep, in the order of the words, or the node of a trace by its name.
     pub ranges: Vec<String>,
     /// What options of `settings` say in the place of a file.
     pub asked: Vec<AskedWord>,
+    /// The file with the plan that gets settings.
+    pub apply: Option<Text>,
     /// Another format of the output than text.
     pub format: Option<Format>,
 }
@@ -198,11 +200,13 @@ fn order_for(
         ≡ ranges_in (subcommand_rows_of matches.now)) }
     ensures format { IfOk result (λ order. order.format ≡ format) }
     ensures asked { IfOk result (λ order. order.asked.items ≡ asked_words_in (subcommand_rows_of matches.now)) }
+    ensures apply { IfOk result (λ order. order.apply ≡ file_in (codes "apply") (subcommand_rows_of matches.now)) }
 {
     let input = file_of_subcommand(alloc, matches, "input")?;
     let output = file_of_subcommand(alloc, matches, "output")?;
     let ranges = ranges_of_subcommand(alloc, matches)?;
     let asked = asked_of_subcommand(alloc, matches)?;
+    let apply = file_of_subcommand(alloc, matches, "apply")?;
     Ok(Order {
         task,
         input,
@@ -211,6 +215,7 @@ fn order_for(
         progress: flag_of_subcommand(matches, "progress"),
         ranges,
         asked,
+        apply,
         format,
     })
 }

@@ -55,7 +55,7 @@ const TO_TIME: OptionRow = OptionRow { id: "stop", spelling: Long("to"), takes: 
 const FIRST_SECOND: OptionRow = OptionRow { id: "from", spelling: Long("from"), takes: Signed("SECONDS", 0, 4_294_967_295), default: Some("0"), help: "The second of tick 0, up to 4294967295; log2asc wants one above 0" };
 
 #[rattlefmt::skip]
-const NODE: OptionRow = OptionRow { id: "node", spelling: Long("node"), takes: Signed("N", 0, 63), default: None, help: "Writes the events of this node alone: its number, from 0 on" };
+const NODE: OptionRow = OptionRow { id: "node", spelling: Long("node"), takes: Value("NODE"), default: None, help: "Writes the events of this node alone: its number, from 0 on, or its name" };
 
 #[rattlefmt::skip]
 const ONLY: OptionRow = OptionRow { id: "only", spelling: Long("only"), takes: Value("KIND"), default: None, help: "Writes events of this kind alone: lost, error, flag, frame, mode or sync" };
@@ -104,6 +104,9 @@ const BEST: OptionRow = OptionRow { id: "best", spelling: Long("best"), takes: S
 
 #[rattlefmt::skip]
 const PLAN: OptionRow = OptionRow { id: "plan", spelling: Long("plan"), takes: Nothing, default: None, help: "Writes the plan of the first controller's first setting: two nodes at the ends of the cable" };
+
+#[rattlefmt::skip]
+const APPLY: OptionRow = OptionRow { id: "apply", spelling: Long("apply"), takes: Value("PLAN"), default: None, help: "Writes this plan with the first setting of each controller, at the nodes that have it" };
 
 #[rattlefmt::skip]
 const KINDS: OptionRow = OptionRow { id: "kind", spelling: Long("kind"), takes: Values("KIND"), default: None, help: "The kind of a controller, as mcp2515; several go with a --clock each, in order" };
@@ -206,7 +209,7 @@ pub(crate) const SUBCOMMANDS: [SubcommandRow; 18] = [
     SubcommandRow { word: "respond", about: "Tests the plan, and writes how long each message may wait, at all phases and clocks, and whether that is in time", options: &[TICK, ANY_DATA, IN_TIME, FORMAT] },
     SubcommandRow { word: "traffic", about: "Simulates the plan, and writes how busy the bus was, how long messages waited, and whether it works", options: &[TICK, WORKS, FORMAT] },
     SubcommandRow { word: "check", about: "Tests the plan, and writes what its bit segments allow and how long its cable takes", options: &[FORMAT] },
-    SubcommandRow { word: "settings", about: "Finds the bit timings with which a bus works for a clock, a bit rate and a cable, the best first", options: &[TICK, BEST, PLAN, ANY_SETTING, KINDS, CLOCKS, RATE, LENGTH, PER, OUT, IN, TOLERANCE, SENDERS, RATE_ERROR, SAMPLE_POINT, NODE_COUNT, FORMAT] },
+    SubcommandRow { word: "settings", about: "Finds the bit timings with which a bus works for a clock, a bit rate and a cable, the best first", options: &[TICK, BEST, PLAN, APPLY, ANY_SETTING, KINDS, CLOCKS, RATE, LENGTH, PER, OUT, IN, TOLERANCE, SENDERS, RATE_ERROR, SAMPLE_POINT, NODE_COUNT, FORMAT] },
     SubcommandRow { word: "sweep", about: "Simulates the plan over phases, clocks and values of keys, and writes how often the bus is clean", options: &[VARY, STEP, RUNS, SEED, THREADS, KEEP_OFFSETS, KEEP_PPM, WORST, PRINT, PAGE, PART, JOIN, FORMAT] },
     SubcommandRow { word: "trace", about: "Simulates the plan, and writes what happened to each node: errors, flags, frames, modes", options: &[FROM_TICK, TO_TICK, NODE, ONLY, FORMAT] },
     SubcommandRow { word: "page", about: "Simulates the plan, and writes one page of HTML that shows it in a browser, of a long run a part", options: &[TICK, FROM_TIME, TO_TIME] },

@@ -1,8 +1,8 @@
 //! What a parse of the command line found, by the options of a subcommand.
-ghost use Rattle.std.specs.Prelude.{◌≡◌, map, string_bytes, IfOk, false, option_and_then, option_map};
+ghost use Rattle.std.specs.Prelude.{◌≡◌, if◌then◌else◌, nat_lt, map, string_bytes, IfOk, Some, None, false, option_and_then, option_map};
 ghost use Rattle.std.specs.Option.{option_map_or};
 ghost use Rattle.clap.specs.Words.{found_of, rows_of, subcommand_rows_of};
-ghost use Rattle.wl_words.specs.CommandLine.{limits_among, file_among, file_named, is_flagged, is_set, link_among, node_among, number_among, only_among, pick_among, ranges_among, ranges_in};
+ghost use Rattle.wl_words.specs.CommandLine.{limits_among, file_among, file_named, is_flagged, is_set, link_among, node_among, said_name, said_name_among, node_number, number_among, only_among, pick_among, ranges_among, ranges_in};
 ghost use Rattle.wl_words.specs.CommandLine.{end_among, end_said, tick_scale, ticks_said, wave_among, wave_by};
 ghost use Rattle.wl_words.specs.CommandLine.{cable_among, kind_among, nodes_among, rate_among, wish_among};
 ghost use Rattle.wl_words.specs.CommandLine.{format_among, format_in, read_format, read_link, read_only, shown_among, swept_among, swept_by, tick_among, values_among, window_among, workers_among, share_among};
@@ -19,6 +19,9 @@ use wl_sweep::{Options, Share};
 use wl_units::{Measure, Scale};
 use wl_views::{EventKind, Pick, Tick, Window};
 use wl_worker::LinkKind;
+
+/// How many nodes a plan may have.
+const NODES: u8 = 64;
 
 /// What the options of a subcommand say that only some tasks have.
 #[derive(Clone, Copy)]
@@ -377,12 +380,32 @@ fn only_in(matches: &ArgMatches) -> Option<Option<EventKind>>
     }
 }
 
-/// Returns the number of a node that a subcommand's option gives. Its range keeps out what is no number from 0 to 63.
+/// Returns a number if a node may have it: one from 0 to 63.
+fn as_node(number: u8) -> Option<u8>
+    ensures { result ≡ (if nat_lt number 64 then Some number else None) }
+{
+    if number < NODES { Some(number) } else { None }
+}
+
+/// Returns the number of a node that a text writes, from 0 to 63. `None` if it is another text, as a name.
+fn node_number(text: &str) -> Option<u8>
+    ensures { result ≡ node_number text.now }
+{
+    match text.parse::<u8>() {
+        Ok(number) => as_node(number),
+        Err(_) => None,
+    }
+}
+
+/// Returns the number of a node that a subcommand's option gives, if it gives one.
+#[tactic(auto, using(crate::proofs::Words::node_text))]
 fn node_in(matches: &ArgMatches) -> Option<u8>
     ensures { result ≡ node_among (rows_of (found_of matches.now)) }
 {
-    let text = matches.get_str("node")?;
-    Some(text.parse().unwrap_or(0))
+    match matches.get_str("node") {
+        Some(text) => node_number(text),
+        None => None,
+    }
 }
 
 /// Returns which events the options of a subcommand ask for.
@@ -497,18 +520,39 @@ fn strings(alloc: Global, words: &[&str]) -> Result<Vec<String>, AllocError>
     Ok(strings)
 }
 
-/// Returns the ranges of a sweep that a subcommand's words give.
+/// Returns the name of a node that a text says, unless that is a node's number.
+fn said_name(alloc: Global, text: &str) -> Result<Vec<String>, AllocError>
+    ensures { IfOk result (λ names. map string_bytes names.items ≡ said_name text.now) }
+{
+    match node_number(text) {
+        Some(_) => Ok(Vec::new(alloc)),
+        None => strings(alloc, &[text]),
+    }
+}
+
+/// Returns the name of a node that a subcommand's option gives, if it gives one.
+#[tactic(auto, using(crate::proofs::Words::said_name_text))]
+fn said_name_in(alloc: Global, matches: &ArgMatches) -> Result<Vec<String>, AllocError>
+    ensures { IfOk result (λ names. map string_bytes names.items ≡ said_name_among (rows_of (found_of matches.now))) }
+{
+    match matches.get_str("node") {
+        Some(text) => said_name(alloc, text),
+        None => Ok(Vec::new(alloc)),
+    }
+}
+
+/// Returns what a subcommand's words say that the plan has to have: the ranges of a sweep, or the name of a node.
 #[tactic(auto, using(crate::proofs::Words::ranges_text))]
 fn ranges_of(alloc: Global, matches: &ArgMatches) -> Result<Vec<String>, AllocError>
     ensures { IfOk result (λ ranges. map string_bytes ranges.items ≡ ranges_among (rows_of (found_of matches.now))) }
 {
     match matches.get_strs("vary") {
         Some(words) => strings(alloc, words),
-        None => Ok(Vec::new(alloc)),
+        None => said_name_in(alloc, matches),
     }
 }
 
-/// Returns the ranges of a sweep that the words of the subcommand give, if there is one.
+/// Returns what the words of the subcommand say that the plan has to have, if there is one.
 pub(crate) fn ranges_of_subcommand(
     alloc: Global,
     matches: &ArgMatches,

@@ -108,6 +108,10 @@ module _ (m : MachineLaws) (s : Stations) (are : AreStations s) (room : HaveRoom
           ∙ ap level_of (first_any s.count (drives_dominant (wire n))
           ∙ any_same s.count (drives_dominant (wire n)) (wants s o n) (λ j inside. ap (λ p. is_dominant (drive_of (stretch_of p))) (all j inside)))
 
+  pub reached_after : (n k : ℕ) → k < s.count → (wire_after (idle_wire s.count o.frames) (events n)).past k ≡ past_at s o n k
+  unfolding wire
+  reached_after n k lt = agrees n k lt
+
   -- with a bit more, whatever is handed with it
   pub reached_with : (n : ℕ) (handed : ℕ → Handed) (k : ℕ)
       → (wire_after (idle_wire s.count o.frames) (events n ++ BusBit handed ∷ [])).past k ≡ (wire n).past k ++ Sample (sampled (bus (wire n)) (o.frames k) (handed k)) ∷ []

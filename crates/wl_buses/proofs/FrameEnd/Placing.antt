@@ -97,6 +97,9 @@ module _ (m : MachineLaws) (s : Stations) (are : AreStations s) (room : HaveRoom
   pub last_place : (i : ℕ) → (bits (end + 12)).place i ≡ (bits (suc end)).place i + 11 * bit_quanta (s.lengths i)
   last_place i = (let e : suc end + 11 ≡ end + 12 = omega arith in ap (λ k. (bits k).place i) (sym e) ∙ place_after 11 i (omega arith))
 
+  pub second_place : (i : ℕ) → (bits (end + 11)).place i ≡ (bits (suc end)).place i + 10 * bit_quanta (s.lengths i)
+  second_place i = (let e : suc end + 10 ≡ end + 11 = omega arith in ap (λ k. (bits k).place i) (sym e) ∙ place_after 10 i (omega arith))
+
   -- a station begins each bit after its sample of the one before, if no acknowledgement reaches it before its sample of the CRC delimiter
   module _ (i : ℕ) (inside : i < s.count) (later : (k : ℕ) → Drives s (bits (suc end)) i k → tick i (S end i) < reaches_at s (bits (suc end)) k i) where
     abbrev d : ℕ → Bool

@@ -1,11 +1,14 @@
 -- Worked ends of frames, by computation.
 use Rattle.std.proofs.Common.{◌≡◌, ◌+◌, true, false, [], ◌∷◌, None, Some, refl}
 use Rattle.wl_level.specs.declared.Level.TheVariants.{Dominant, Recessive}
+use Rattle.wl_confine.specs.declared.Mode.TheVariants.{Active}
 use Rattle.wl_frame.specs.Grammar.{Content}
 use Rattle.wl_machine.specs.declared.state.Role.TheVariants.{Rx, Tx}
 use Rattle.wl_machine.specs.Stretch.Sort.{Framing, Intermission}
 use Rattle.wl_machine.specs.Stretch.Ended.{NoFrame, Sent}
-use Rattle.wl_machine.specs.States.{stretch_by}
+use Rattle.wl_machine.specs.States.{sample_of, stretch_by}
+use Rattle.wl_wire.specs.Begins.{frame_begun}
+use Rattle.wl_buses.specs.OneFrame.Machines.{HasTwoBits}
 use Rattle.wl_buses.specs.FrameEnd.Ends.{end_bit, end_drive, end_frame, end_levels, end_stretch}
 use Rattle.wl_buses.specs.FrameEnd.Lines.{earliest_of}
 use Rattle.wl_buses.specs.FrameEnd.Rests.{passing_bit}
@@ -58,3 +61,13 @@ least = refl
 
 least_other : earliest_of 2 (λ k. 10 + k) 12 ≡ 10
 least_other = refl
+
+-- then the next bit is the third one, in which a start of frame begins the frame that it is handed, or it receives
+two_bits : HasTwoBits (end_stretch None (Dominant ∷ []) 12)
+two_bits = (Rx, refl)
+
+third_begins : (c : Content) → frame_begun (end_stretch None (Dominant ∷ []) 12).sort (sample_of Dominant (Some c) Active) ≡ Some c
+third_begins c = refl
+
+third_receives : frame_begun (end_stretch None (Dominant ∷ []) 12).sort (sample_of Dominant None Active) ≡ None
+third_receives = refl

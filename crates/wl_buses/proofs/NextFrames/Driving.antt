@@ -11,24 +11,24 @@ use Rattle.wl_machine.specs.Frames.{stuffed_end}
 use Rattle.wl_node.specs.declared.setup.NodeSetup.{NodeSetup}
 use Rattle.wl_node.specs.History.{History}
 use Rattle.wl_phase.specs.Clocks.{steady_tick}
-use Rattle.wl_buses.specs.OneFrame.Acknowledged.{CatchUp, answering, chased_way}
 use Rattle.wl_buses.specs.OneFrame.Expected.{IsOutset, Outset, expected_bits, expected_drove, expected_sample, wants}
 use Rattle.wl_buses.specs.OneFrame.Machines.{HasWon, bus_levels}
-use Rattle.wl_buses.specs.OneFrame.Stations.{AreStations, HaveRoom, HaveRoomToSample, Stations}
+use Rattle.wl_buses.specs.OneFrame.Starts.{Drives, reaches_at}
+use Rattle.wl_buses.specs.OneFrame.Stations.{AreStations, HaveRoom, Stations}
 use Rattle.wl_buses.proofs.OneFrame.Expecting.{after_there, from_sample}
 use Rattle.wl_buses.proofs.OneFrame.Machines.{level_back}
 use Rattle.wl_buses.proofs.OneFrame.Measures.{tick_next}
 use Rattle.wl_buses.specs.FrameEnd.Asked.{EndAsAsked}
 use Rattle.wl_buses.proofs.FrameEnd.Below.{MachineLaws}
-use Rattle.wl_buses.proofs.FrameEnd.Hearing.{begins_after, samples_up}
+use Rattle.wl_buses.proofs.FrameEnd.Placing.{begins_after, samples_up}
 use Rattle.wl_buses.specs.NextFrames.NextNodes.{GoesThrough}
 use Rattle.wl_buses.proofs.NextFrames.Windows.{any_alone}
 
 module _ (m : MachineLaws) (s : Stations) (are : AreStations s) (room : HaveRoom s) (o : Outset) (is : IsOutset s o) (end : ℕ)
     (valid : (n : ℕ) → n < end → stuffed_end (bus_levels s (expected_bits s o) n) ≡ None)
     (over : stuffed_end (bus_levels s (expected_bits s o) end) ≡ Some end) (won : HasWon s (expected_bits s o) o.frames end)
-    (chase : ℕ → ℕ) (catch : CatchUp s won.station chase) (enough : HaveRoomToSample (answering s (chased_way s won.station chase)))
-    (asked : EndAsAsked s o end won.station won.frame) (i : ℕ) (inside : i < s.count) where
+    (asked : EndAsAsked s o end won.station won.frame) (i : ℕ) (inside : i < s.count)
+    (later : (k : ℕ) → Drives s (expected_bits s o (suc end)) i k → steady_tick (s.clocks i) (expected_sample s o end i) < reaches_at s (expected_bits s o (suc end)) k i) where
   abbrev S : ℕ → ℕ
   S n = expected_sample s o n i
 
@@ -42,7 +42,7 @@ module _ (m : MachineLaws) (s : Stations) (are : AreStations s) (room : HaveRoom
   begun : (n : ℕ) → n < end + 12 → S n < from (suc n)
   begun n less = elim (cases_lt n end) [
     | inl early ↦ after_there m.steps m.errors m.winner m.stuffed m.six m.ten s are room o is end valid n i early inside
-    | inr late ↦ begins_after m s are room o is end valid over won chase catch enough (suc n - end) n i (omega arith) (omega arith) inside
+    | inr late ↦ begins_after m s are room o is end valid over won i inside later (suc n - end) n (omega arith) (omega arith)
   ]
 
   by_sample : (n : ℕ) → from n ≤ S n
@@ -53,7 +53,7 @@ module _ (m : MachineLaws) (s : Stations) (are : AreStations s) (room : HaveRoom
     | inl same ↦ (let e : from a ≡ from n = ap from same in omega arith)
     | inr other ↦
         (let one = by_sample a in
-        let two = samples_up m s are room o is end valid over won chase catch enough a (n - 1) i inside (omega (arith, other, less)) in
+        let two = samples_up m s are room o is end valid over won a (n - 1) i inside (omega (arith, other, less)) in
         let three = begun (n - 1) (omega (arith, other, less)) in
         let e : suc (n - 1) ≡ n = omega (arith, other, less) in
         let f : from (suc (n - 1)) ≡ from n = ap from e in

@@ -34,7 +34,8 @@ use Rattle.wl_buses.specs.NextFrames.Lines.{BeginFrames, finds_frames}
 use Rattle.wl_buses.specs.NextFrames.Silence.{AllAreSent, LineFallsSilent, StillRests}
 use Rattle.wl_buses.proofs.NextFrames.Chaining.{FreeLaw, RestsLaw}
 use Rattle.wl_buses.proofs.NextFrames.LineGoing as going
-use Rattle.wl_buses.proofs.NextFrames.LineGoing.{AskedLaw, NodeLaw}
+use Rattle.wl_buses.proofs.NextFrames.DrivingOn.{AskedLaw}
+use Rattle.wl_buses.proofs.NextFrames.LineGoing.{NodeLaw}
 use Rattle.wl_buses.proofs.NextFrames.Windows as windows
 use Rattle.wl_buses.proofs.NextFrames.Windows.{NothingFound, RestAfter}
 use Rattle.wl_buses.specs.BothProofs.Queues.{head_at}

@@ -56,12 +56,12 @@ handed_one frames k s h (Some c) given e =
     )
 
 -- one machine samples a recessive bit by itself
-own_at : (w : Wire) (k : ℕ) (h : Handed) → may_be_alone (stretch_at w k) ≡ true → (next_wire w (Own k h)).past k ≡ w.past k ++ Sample (sampled Recessive (w.frames k) h) ∷ []
+pub own_at : (w : Wire) (k : ℕ) (h : Handed) → may_be_alone (stretch_at w k) ≡ true → (next_wire w (Own k h)).past k ≡ w.past k ++ Sample (sampled Recessive (w.frames k) h) ∷ []
 own_at w k h may =
     ap (λ b. w.past k ++ cond (b && may_be_alone (stretch_at w k)) (Sample (sampled Recessive (w.frames k) h) ∷ []) []) (eq-eqb k k refl)
     ∙ ap (λ b. w.past k ++ cond b (Sample (sampled Recessive (w.frames k) h) ∷ []) []) may
 
-own_other : (w : Wire) (k j : ℕ) (h : Handed) → j ≢ k → (next_wire w (Own k h)).past j ≡ w.past j
+pub own_other : (w : Wire) (k j : ℕ) (h : Handed) → j ≢ k → (next_wire w (Own k h)).past j ≡ w.past j
 own_other w k j h apart =
     ap (λ b. w.past j ++ cond (b && may_be_alone (stretch_at w j)) (Sample (sampled Recessive (w.frames j) h) ∷ []) []) (ne_eqb j k apart) ∙ append-nil (w.past j)
 

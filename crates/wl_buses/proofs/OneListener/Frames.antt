@@ -69,12 +69,12 @@ module _ (m : MachineLaws) (nothing : NothingFound) (rests : RestsLaw) (free : F
   inside_l : l < x.count
   inside_l = omega arith
 
-  hears : (n : ℕ) → n < count → FindsTheEnd x (fs n).outset (fs n).bits l
+  pub hears : (n : ℕ) → n < count → FindsTheEnd x (fs n).outset (fs n).bits l
   hears n less =
       let f = frames.each n less in
       finds_the_end m s are room mute (fs n).outset f.outset (fs n).bits f.ends.none f.ends.there f.won way chase (more n) (can.each n less) (can.unheard n less)
 
-  other : (n : ℕ) (less : n < count) → l ≢ (frames.each n less).won.station
+  pub other : (n : ℕ) (less : n < count) → l ≢ (frames.each n less).won.station
   other n less e =
       let f = frames.each n less in
       other_wins m s are room mute (fs n).outset f.outset (fs n).bits f.ends.none f.ends.there f.won way chase (more n) (can.each n less) (can.unheard n less) (sym e)
@@ -113,7 +113,7 @@ module _ (m : MachineLaws) (nothing : NothingFound) (rests : RestsLaw) (free : F
       let before = third_first n i k less inside there apart in
       omega arith
 
-  resting : (n : ℕ) (less : suc n < count) → AreResting (r n less)
+  pub resting : (n : ℕ) (less : suc n < count) → AreResting (r n less)
   resting n less = record {
     frames = (frames.each n (omega arith)).outset.frames;
     inside = (frames.next n less).more.inside;
@@ -123,7 +123,7 @@ module _ (m : MachineLaws) (nothing : NothingFound) (rests : RestsLaw) (free : F
   }
 
   -- and the listener is handed nothing
-  none_head : (h : History) (quantum : ℕ) → head_at setup (unsent_of setup h) quantum ≡ None
+  pub none_head : (h : History) (quantum : ℕ) → head_at setup (unsent_of setup h) quantum ≡ None
   none_head h quantum =
       ap (λ q. head_by setup.order (unsent_by setup.order q h.frames) quantum) empty ∙ ap (λ q. head_by setup.order q quantum) (left_none setup.order h.frames) ∙ none_by setup.order quantum
 

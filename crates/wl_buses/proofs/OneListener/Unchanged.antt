@@ -24,7 +24,7 @@ place_due : (s : Stations) (a b : ℕ → ℕ) (i : ℕ) → a i ≡ b i → (o 
 place_due s a b i e None = e
 place_due s a b i e (Some q) = ap (λ n. moved_to (q - 1) (s.lengths i).sjw n) e
 
-same_most : (n : ℕ) (f g : ℕ → ℕ) → ((k : ℕ) → k < n → f k ≡ g k) → most n f ≡ most n g
+pub same_most : (n : ℕ) (f g : ℕ → ℕ) → ((k : ℕ) → k < n → f k ≡ g k) → most n f ≡ most n g
 same_most zero f g h = refl
 same_most (suc n) f g h = ap (λ a. max a (f n)) (same_most n f g (λ k less. h k (omega arith))) ∙ ap (λ a. max (most n g) a) (h n (omega arith))
 

@@ -7,9 +7,10 @@ use Rattle.wl_level.specs.Levels.{is_dominant, level_of}
 use Rattle.wl_topology.specs.Driven.{driven}
 use Rattle.wl_frame.specs.Grammar.{Content, bits_of}
 use Rattle.wl_frame.specs.Stuffing.{Stuffs}
+use Rattle.wl_machine.specs.declared.state.Role.{Role}
 use Rattle.wl_machine.specs.declared.state.Role.TheVariants.{Tx}
 use Rattle.wl_machine.specs.Stretch.{Stretch, Input}
-use Rattle.wl_machine.specs.Stretch.Sort.{Idle, Framing}
+use Rattle.wl_machine.specs.Stretch.Sort.{Idle, Framing, Intermission}
 use Rattle.wl_machine.specs.Stretch.Input.{Sample}
 use Rattle.wl_machine.specs.Frames.{frame_role}
 use Rattle.wl_machine.specs.Judged.{drive_of, judged, stretch_of}
@@ -30,6 +31,10 @@ bus_levels s bits (suc n) = bus_levels s bits n ++ level_of (bus_bit s bits n) �
 -- The bus is idle to a machine, or it has decided to send one of its frames and drives the start of frame next (Bosch CAN 2.0 part B, section 3.2.5, bus idle).
 abbrev pub MayBegin : (ℕ → List Content) → ℕ → Stretch → Type 0
 MayBegin frames k x = (x.sort ≡ Idle) ⊎ ((head : Content) × Has frames k head × (x ≡ stretch_by (Framing (Some head)) []))
+
+-- A machine has two bits of an intermission, so that the next bit is the third one (Bosch CAN 2.0 part B, section 3.2.5, intermission).
+abbrev pub HasTwoBits : Stretch → Type 0
+HasTwoBits x = (role : Role) × (x ≡ stretch_by (Intermission role) (Recessive ∷ Recessive ∷ []))
 
 -- The machines of stations, up to bit `length` of a frame. `past n k` is all that has reached that of station k before it drives bit n. They were on one wire, and all may begin the
 -- frame. What each then drives is what it wants after its samples so far, and it samples what it finds on the line, whatever that is.

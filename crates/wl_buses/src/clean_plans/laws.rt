@@ -61,6 +61,9 @@ pub fn each_frame_ends_later()
 /// Let the condition hold for a family, and its bus leave room. Then it is so on each of its plans, wherever within its tolerance each clock
 /// lies, and whenever each node begins. What `margin` tests before it says that this is proved is enough.
 pub fn any_senders_are_clean()
+    ensures room { (plan : Plan) (s : Stations) (chase : ℕ → ℕ) → IsPlanOf plan s → plan.disturbances ≡ []
+        → AreStations s → HaveRoom s → HasRoomForAll s chase → HasFirstFrames plan (queues_of plan) s
+        → AllGetThrough plan s }
     ensures plan { (plan : Plan) (s : Stations) (bus : Bus) (chase : ℕ → ℕ) → IsPlanOf plan s → plan.disturbances ≡ []
         → HasStations bus s → IsSound bus → HasRoomToAnswer bus chase → LeavesRoomToRest bus chase
         → HasFirstFrames plan (queues_of plan) s → AllGetThrough plan s }

@@ -1,14 +1,18 @@
 //! Laws of the end of a frame, each proved as the contract of a function that does nothing.
 
-ghost use Rattle.std.specs.Prelude.{◌≡◌, ◌+◌, ◌<◌, ◌≤◌, ℕ, suc, List, [], Option, Some, true, length, slice_get};
+ghost use Rattle.std.specs.Prelude.{◌≡◌, ◌+◌, ◌<◌, ◌≤◌, ℕ, suc, Bool, List, [], ◌∷◌, ◌++◌, Option, Some, true, length, slice_get};
 ghost use Rattle.wl_level.specs.declared.Level.{Level};
+ghost use Rattle.wl_level.specs.declared.Level.TheVariants.{Dominant};
 ghost use Rattle.wl_level.specs.Levels.{is_dominant, level_of};
 ghost use Rattle.wl_frame.specs.Stuffing.{destuffed_bits};
 ghost use Rattle.wl_frame.specs.Grammar.{Content, is_crc_right};
 ghost use Rattle.wl_segments.specs.Lengths.{bit_quanta};
-ghost use Rattle.wl_machine.specs.Stretch.{Sampled};
+ghost use Rattle.wl_machine.specs.Stretch.{Input, Sampled};
+ghost use Rattle.wl_machine.specs.Stretch.Input.{Sample};
+ghost use Rattle.wl_machine.specs.Stretch.Sort.{Framing};
+ghost use Rattle.wl_machine.specs.States.{stretch_by};
 ghost use Rattle.wl_machine.specs.Frames.{frame_role, stuffed_end};
-ghost use Rattle.wl_machine.specs.Judged.{drive_of};
+ghost use Rattle.wl_machine.specs.Judged.{drive_of, stretch_of};
 ghost use Rattle.wl_buses.specs.OneFrame.Stations.{AreOnALine, AreStations, HaveRoom, Stations};
 ghost use Rattle.wl_buses.specs.OneFrame.Machines.{HasWon, MayBeginTogether};
 ghost use Rattle.wl_buses.specs.OneFrame.Acknowledged.{IsAcknowledgedByAll, IsAnsweredByAll, chased_way};
@@ -26,7 +30,9 @@ ghost use Rattle.wl_buses.specs.OneFrame.Lines.{BeginsAfter, BeginsAsExpected, I
 ghost use Rattle.wl_plan.specs.PlanLine.{line_of, setup_at};
 ghost use Rattle.wl_plan.specs.declared.plan.Plan.{Plan};
 ghost use Rattle.wl_confine.specs.declared.Mode.TheVariants.{Active};
-ghost use Rattle.wl_wire.specs.Wire.{Handed};
+ghost use Rattle.wl_wire.specs.Begins.{frame_begun};
+ghost use Rattle.wl_wire.specs.InStep.{AreSoundFrames};
+ghost use Rattle.wl_wire.specs.Wire.{Handed, sampled};
 ghost use Rattle.wl_bound.specs.Conditions.{IsSound};
 ghost use Rattle.wl_bound.specs.Families.{Bus};
 ghost use Rattle.wl_buses.specs.OneFrame.Answers.{HasRoomToAnswer};
@@ -35,6 +41,7 @@ ghost use Rattle.wl_buses.specs.OneFrame.Plans.{IsPlanOf};
 ghost use Rattle.wl_buses.specs.FrameEnd.Again.{HasRoomToRest, LeavesRoomToRest, RestsAgain, past_end};
 ghost use Rattle.wl_buses.specs.FrameEnd.Lines.{LineEnds, LineRests, rests_until};
 ghost use Rattle.wl_buses.specs.FrameEnd.Rests.{NodeEnds, waiting_frame};
+ghost use Rattle.wl_buses.specs.FrameEnd.Third.{MayBeginFromThird, past_third};
 ghost use Rattle.wl_buses.specs.FrameEnd.Clocks.{SeesEnd};
 ghost use Rattle.wl_buses.specs.FrameEnd.Asked.{CanBeAnswered, EndAsAsked, EndsBefore};
 ghost use Rattle.wl_buses.specs.FrameEnd.Finds.{FindsTheEnd, finds_at};
@@ -229,6 +236,54 @@ pub fn the_next_frame_finds_all_at_rest()
         → CanBeAnswered s won.station chase → HasRoomToRest s (chased_way s won.station chase)
         → (i k : ℕ) → i < s.count → k < s.count
         → steady_tick (s.clocks i) (expected_sample s o (end + 12) i)
+        < steady_tick (s.clocks k) ((expected_bits s o (end + 12)).place k + bit_quanta (s.lengths k)) + s.delay k i }
+{
+    wl_topology::driven_laws();
+    wl_wire::laws::machines_stay_in_step();
+    wl_wire::laws::the_least_field_wins();
+    wl_machine::laws::a_transmitter_sends_its_head_stuffed();
+    wl_frame::laws::a_front_of_no_stuffing_ends_six_equal_bits();
+    wl_frame::laws::ten_bits_have_an_edge();
+}
+
+/// Law: from that bit on, too, all machines are on one wire, whoever has sampled it. Each that has may begin the next frame, and each other
+/// one has two bits of the intermission. So it is when the next start of frame reaches some stations in their third bit (Bosch CAN 2.0 part
+/// B, section 3.2.5).
+pub fn all_may_begin_from_the_third_bit()
+    ensures { (s : Stations) (o : Outset) (end : ℕ) → AreStations s → HaveRoom s → IsOutset s o
+        → EndsBefore s o end → (won : HasWon s (expected_bits s o) o.frames end) → (handed : ℕ → Handed)
+        → ((k : ℕ) → k < s.count → (handed k).mode ≡ Active) → (third : ℕ → Bool)
+        → MayBeginFromThird s.count o.frames third (past_third s o end handed third) }
+{
+    wl_topology::driven_laws();
+    wl_wire::laws::machines_stay_in_step();
+    wl_wire::laws::the_least_field_wins();
+    wl_machine::laws::a_transmitter_sends_its_head_stuffed();
+    wl_frame::laws::a_front_of_no_stuffing_ends_six_equal_bits();
+    wl_frame::laws::ten_bits_have_an_edge();
+}
+
+/// Law: a start of frame then begins the next frame at all of them. Each that is to begin a frame sends that frame. Each that is in the third
+/// bit of its intermission sends the frame that it is handed with the start of frame, if it is handed one. Each other one receives.
+pub fn a_start_of_frame_begins_the_next_frame_at_all()
+    ensures { (count : ℕ) (frames : ℕ → List Content) (third : ℕ → Bool) (past : ℕ → List Input) (handed : ℕ → Handed)
+        → AreSoundFrames count frames → MayBeginFromThird count frames third past
+        → (j : ℕ) → j < count → drive_of (stretch_of (past j)) ≡ Dominant → (k : ℕ) → k < count
+        → stretch_of (past k ++ Sample (sampled Dominant (frames k) (handed k)) ∷ []) ≡ stretch_by
+        (Framing (frame_begun (stretch_of (past k)).sort (sampled Dominant (frames k) (handed k)))) (Dominant ∷ []) }
+{
+    wl_wire::laws::a_dominant_bit_begins_a_frame_at_all();
+    wl_wire::laws::machines_that_are_in_step_stay_so();
+}
+
+/// Law: each station has sampled the second bit of the intermission before the next start of frame reaches it. No more room is asked for
+/// that than to acknowledge. It holds of a start of frame that a station begins by itself, a bit after its own third bit of the
+/// intermission.
+pub fn the_next_frame_finds_all_in_the_third_bit()
+    ensures { (s : Stations) (o : Outset) (end : ℕ) (chase : ℕ → ℕ) → AreStations s → HaveRoom s
+        → IsOutset s o → EndsBefore s o end → (won : HasWon s (expected_bits s o) o.frames end)
+        → CanBeAnswered s won.station chase → (i k : ℕ) → i < s.count → k < s.count
+        → steady_tick (s.clocks i) (expected_sample s o (end + 11) i)
         < steady_tick (s.clocks k) ((expected_bits s o (end + 12)).place k + bit_quanta (s.lengths k)) + s.delay k i }
 {
     wl_topology::driven_laws();

@@ -37,6 +37,7 @@ returns-in-Some-format_of_subcommand-clause-order c =
       made.ranges ∙ ap ranges_in rows,
       format ∙ ap Some (sym made.format),
       asked,
+      made.apply ∙ ap (file_in (codes "apply")) rows,
     ))
     (sym (ap₂ is_asked_once input asked))
     )

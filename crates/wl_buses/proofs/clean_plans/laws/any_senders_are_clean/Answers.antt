@@ -7,7 +7,8 @@ use Rattle.wl_bound.specs.Rooms.{least_chase, plain_bus}
 use Rattle.wl_buses.specs.OneFrame.Answers.{HasRoomToAnswer}
 use Rattle.wl_buses.specs.OneFrame.Bounds.{HasStations}
 use Rattle.wl_buses.specs.OneFrame.Plans.{IsPlanOf}
-use Rattle.wl_buses.specs.OneFrame.Stations.{AreStations, Stations}
+use Rattle.wl_buses.specs.OneFrame.Stations.{AreStations, HaveRoom, Stations}
+use Rattle.wl_buses.specs.NextFrames.Frames.{HasRoomForAll}
 use Rattle.wl_buses.proofs.OneFrame.Plans.{line_of_plan}
 use Rattle.wl_buses.specs.FirstFrame.FirstFrames.{HasFirstFrames, queues_of, waiting_of}
 use Rattle.wl_buses.specs.FrameEnd.Again.{LeavesRoomToRest}
@@ -35,19 +36,16 @@ handed_on plan s x zero less = x.handed zero less
 handed_on plan s x (suc n) less = x.handed (suc n) less
 
 -- as all frames of its line do
-whole : goal.After-all_frames_of_a_line_get_through → (plan : Plan) (s : Stations) (bus : Bus) (chase : ℕ → ℕ) → IsPlanOf plan s → plan.disturbances ≡ [] → HasStations bus s → IsSound bus
-    → HasRoomToAnswer bus chase → LeavesRoomToRest bus chase → HasFirstFrames plan (queues_of plan) s → AllGetThrough plan s
-whole c plan s bus chase of calm bus_of sound answer rest has =
-    (let line = c.a_plan_is_on_a_line.ensures plan s of in
-    let are : AreStations s = record { line = line; ways = c.a_sound_bus_has_room.ensures.ways bus s line bus_of } in
-    let room = c.a_sound_bus_has_room.ensures.room bus s line bus_of sound in
-    let up : IsPoweredUp (line_of plan) (setup_at plan) (waiting_of plan (queues_of plan) s) = record {
+whole : goal.After-all_frames_of_a_line_get_through → (plan : Plan) (s : Stations) (chase : ℕ → ℕ) → IsPlanOf plan s → plan.disturbances ≡ [] → AreStations s → HaveRoom s → HasRoomForAll s chase
+    → HasFirstFrames plan (queues_of plan) s → AllGetThrough plan s
+whole c plan s chase of calm are room all has =
+    (let up : IsPoweredUp (line_of plan) (setup_at plan) (waiting_of plan (queues_of plan) s) = record {
       line = line_of_plan c.checked_is_sound.ensures plan s of calm;
       idle = c.a_plan_has_a_first_frame.ensures.idle plan (queues_of plan) s of has;
       hands = c.a_plan_has_a_first_frame.ensures.hands plan (queues_of plan) s of has.has.begin;
       queues = λ i. refl;
     } in
-    let x = c.all_frames_of_a_line_get_through.ensures (line_of plan) (setup_at plan) (waiting_of plan (queues_of plan) s) chase up are room (c.a_bus_has_room_for_all.ensures bus s chase line bus_of answer rest) in record {
+    let x = c.all_frames_of_a_line_get_through.ensures (line_of plan) (setup_at plan) (waiting_of plan (queues_of plan) s) chase up are room all in record {
       bus = record { frames = x.bus.frames; count = x.bus.count; some = x.bus.some; are = x.bus.are; first = x.bus.first; by = x.bus.by };
       fine = λ i k inside soon. ap error_count (same plan s of i k inside) ∙ x.fine i k inside soon;
       counters = λ i k inside soon. ap counters_of (same plan s of i k inside) ∙ x.counters i k inside soon;
@@ -61,13 +59,24 @@ whole c plan s bus chase of calm bus_of sound answer rest has =
       ends = x.ends;
     })
 
+-- by its bus
+by_bus : goal.After-all_frames_of_a_line_get_through → (plan : Plan) (s : Stations) (bus : Bus) (chase : ℕ → ℕ) → IsPlanOf plan s → plan.disturbances ≡ [] → HasStations bus s → IsSound bus
+    → HasRoomToAnswer bus chase → LeavesRoomToRest bus chase → HasFirstFrames plan (queues_of plan) s → AllGetThrough plan s
+by_bus c plan s bus chase of calm bus_of sound answer rest has =
+    (let line = c.a_plan_is_on_a_line.ensures plan s of in
+    whole c plan s chase of calm (record { line = line; ways = c.a_sound_bus_has_room.ensures.ways bus s line bus_of }) (c.a_sound_bus_has_room.ensures.room bus s line bus_of sound)
+    (c.a_bus_has_room_for_all.ensures bus s chase line bus_of answer rest) has)
+
+pub returns-clause-room : goal.returns-clause-room
+returns-clause-room c = whole c
+
 pub returns-clause-plan : goal.returns-clause-plan
-returns-clause-plan c = whole c
+returns-clause-plan c = by_bus c
 
 pub returns-clause-family : goal.returns-clause-family
 returns-clause-family c = λ f plan clocks steady of speaks has room sound.
     (let bus = c.a_plan_has_stations.ensures.bus f plan clocks of speaks in
-    whole c plan (stations_of f plan clocks) (plain_bus f) (least_chase (plain_bus f)) (c.a_plan_has_stations.ensures.plan f plan clocks steady of speaks) steady.undisturbed bus
+    by_bus c plan (stations_of f plan clocks) (plain_bus f) (least_chase (plain_bus f)) (c.a_plan_has_stations.ensures.plan f plan clocks steady of speaks) steady.undisturbed bus
     sound (c.a_family_leaves_room.ensures.answers f room) (c.a_family_leaves_room.ensures.rests f room) has)
 
 pub returns-clause-covered : goal.returns-clause-covered
@@ -75,6 +84,6 @@ returns-clause-covered c = λ f plan clocks steady of contents sends verdict cov
     (let v = of_verdict plan f verdict in
     let speaks = c.a_covered_plan_has_first_frames.ensures.speaks plan covered in
     let bus = c.a_plan_has_stations.ensures.bus f plan clocks of speaks in
-    whole c plan (stations_of f plan clocks) (plain_bus f) (least_chase (plain_bus f)) (c.a_plan_has_stations.ensures.plan f plan clocks steady of speaks) steady.undisturbed bus
+    by_bus c plan (stations_of f plan clocks) (plain_bus f) (least_chase (plain_bus f)) (c.a_plan_has_stations.ensures.plan f plan clocks steady of speaks) steady.undisturbed bus
     ((c.condition_laws.ensures.any f plain).0 v.1) (c.a_family_leaves_room.ensures.answers f room)
     (c.a_family_leaves_room.ensures.rests f room) (c.a_covered_plan_has_first_frames.ensures.first f plan clocks steady of covered v.0 contents sends))

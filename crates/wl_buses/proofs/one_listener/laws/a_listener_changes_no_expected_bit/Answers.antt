@@ -14,4 +14,4 @@ returns c = λ s o end are room them two mute is stuffed won unheard.
       ten = c.ten_bits_have_an_edge.ensures.ten;
       driven = c.driven_laws.ensures;
     } in
-    expects_the_same m s are room them two mute o is end stuffed.none stuffed.there won unheard)
+    expects_the_same m s are room them two mute o is end stuffed.none stuffed.there won (λ same. unheard))

@@ -1,7 +1,7 @@
 use Rattle.std.proofs.Common.{◌∙◌, ap, nat_eq}
 use Rattle.wl_sweep.specs.declared.tally.Tally.{Tally}
 use Rattle.wl_sweep.specs.Findings.{is_clean}
-use Rattle.wl_sweep.proofs.Counted.{all_counted}
+use Rattle.wl_sweep.proofs.Callers.{all_counted}
 use Rattle.wl_sweep.proofs.tally.Tally.all_clean.Goals as goal
 
 pub returns : goal.returns

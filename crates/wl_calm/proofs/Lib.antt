@@ -1,0 +1,3 @@
+mod Modes
+mod Driving
+mod Pausing

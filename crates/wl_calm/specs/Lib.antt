@@ -1,0 +1,4 @@
+pub mod Modes
+pub mod Kept
+pub mod Settled
+pub mod Calms

@@ -1,0 +1,5 @@
+mod Queues
+mod Nodes
+mod Lines
+mod Fitting
+mod Calm
