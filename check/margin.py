@@ -212,8 +212,11 @@ class Family:
 
 def rates_of(node, by_ppm):
     """Returns the rates of a node as (num, den), with `ppm` or without it."""
-    return [(rate["quantum"] * (T + by_ppm * rate.get("ppm", 0)), T) if "quantum" in rate else (rate["num"], rate["den"])
-            for rate in node.get("rates", [node])]
+    def parts(rate):
+        """Returns the ticks of a quantum as a fraction."""
+        num, den = (rate["quantum"], 1) if "quantum" in rate else (rate["num"], rate["den"])
+        return (num * (T + by_ppm * rate["ppm"]), den * T) if "ppm" in rate else (num, den)
+    return [parts(rate) for rate in node.get("rates", [node])]
 
 
 def clocks_of(top):

@@ -18,6 +18,7 @@ use Rattle.wl_bound.specs.Oscillators.{Pace, longest_of, oscillator_of, shortest
 use Rattle.wl_bound.specs.Families.{Buses, changed, delay_in, lengths_in, longest_in, sends_in, shortest_in, turns_in}
 use Rattle.wl_bound.specs.Terms.{ahead, answered, apart, behind, chase, drift, early, edges, jump, late, look, lost, pull, pulled, several, spread, strays, tour, trip, way}
 use Rattle.wl_bound.specs.Conditions.{first_failure_of, is_asked, left_of, plain, right_of}
+use Rattle.wl_bound.specs.Spikes.{worst_hiding}
 use Rattle.wl_bound.specs.declared.verdict.Outside.TheVariants.{ListenerSends, NobodyAcknowledges, NotByTheBook}
 use Rattle.wl_bound.specs.Verdicts.{outside_of}
 
@@ -348,3 +349,36 @@ listener_with_frames = refl
 -- one that acknowledges, and rules of synchronisation that aren't the book's
 heard : outside_of (two_of sending no_setup (place 5)) ≡ Some (NotByTheBook 0)
 heard = refl
+
+-- ---- One spike
+
+-- 100 ns, segments 8, 8 and 8, one sender; 60 ns out and 70 in, 15 ns a unit
+abbrev beside : ℕ → Place
+beside x = record { x = x; out_delay = 60; in_delay = 70; listens = false }
+
+abbrev spiked : ℕ → ℕ → Buses
+spiked sjw x = record {
+  members = member (lengths 8 8 8 sjw) (pace 100 0) true ∷ member (lengths 8 8 8 sjw) (pace 100 0) false ∷ member (lengths 8 8 8 sjw) (pace 100 0) false ∷ [];
+  cable = record { places = beside 0 ∷ beside 0 ∷ beside x ∷ []; per = 15 };
+}
+
+-- 2.4 quanta to spare, and jumps of four
+one_hides : worst_hiding (spiked 4 40) plain One
+    ≡ Some (record { sender = 0; receiver = 2; late = record { left = 1460000000; right = 1700000000 }; jumps = 800000000 })
+unfolding lengths_in longest_in jump shortest_in right_of left_of late way sends_in trip delay_in look apart chase spread drift tour ahead answered behind early edges lost pull pulled several strays turns_in
+one_hides = refl
+
+-- jumps of a quantum fit
+narrow_jumps : worst_hiding (spiked 1 40) plain One ≡ None
+unfolding lengths_in longest_in jump shortest_in right_of left_of late way sends_in trip delay_in look apart chase spread drift tour ahead answered behind early edges lost pull pulled several strays turns_in
+narrow_jumps = refl
+
+-- six quanta to spare for two jumps of three; a unit more is too long
+just_fits : worst_hiding (spiked 3 28) plain One ≡ None
+unfolding lengths_in longest_in jump shortest_in right_of left_of late way sends_in trip delay_in look apart chase spread drift tour ahead answered behind early edges lost pull pulled several strays turns_in
+just_fits = refl
+
+just_hides : worst_hiding (spiked 3 29) plain One
+    ≡ Some (record { sender = 0; receiver = 2; late = record { left = 1130000000; right = 1700000000 }; jumps = 600000000 })
+unfolding lengths_in longest_in jump shortest_in right_of left_of late way sends_in trip delay_in look apart chase spread drift tour ahead answered behind early edges lost pull pulled several strays turns_in
+just_hides = refl

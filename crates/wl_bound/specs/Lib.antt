@@ -21,3 +21,4 @@ pub mod Lacks
 pub mod BusTimes
 pub mod Fields
 pub mod Decides
+pub mod Spikes

@@ -21,6 +21,7 @@ mod measures;
 mod oscillator;
 mod room;
 mod search;
+mod spikes;
 mod terms;
 mod times;
 mod verdict;
@@ -33,6 +34,7 @@ pub use lack::{Lack, Shortage};
 pub use laws::{condition_laws, room_law, search_laws};
 pub use oscillator::Oscillator;
 pub use search::Growth;
+pub use spikes::Hiding;
 pub use times::BusTimes;
 pub use verdict::{
     Outside, Verdict, cause_outside, first_without_book, idle_at, is_ready_from, judge, judge_all,

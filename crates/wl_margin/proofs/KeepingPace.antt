@@ -1,5 +1,5 @@
 -- Clocks that keep to their tolerances, each of an oscillator with one rate, keep the pace that the laws ask.
-use Rattle.std.proofs.Common.{◌≡◌, ◌∙◌, ℕ, ◌<◌, ◌==◌, not, Bool, true, false, List, [], ◌∷◌, length, Some, None, Result, Ok, Err, cond, inl, inr, refl, sym, ap, arith}
+use Rattle.std.proofs.Common.{◌≡◌, ◌∙◌, ℕ, ◌+◌, ◌<◌, ◌==◌, not, Bool, true, false, List, [], ◌∷◌, length, Some, None, Result, Ok, Err, cond, inl, inr, refl, sym, ap, arith}
 use Rattle.std.specs.Option.{is_some}
 use Rattle.std.proofs.lemmas.Bool.{and_parts, eqb-true, or_cases, false_from_ne_true, not-false}
 use Rattle.wl_level.proofs.Callers.{first_none}
@@ -17,7 +17,7 @@ use Rattle.wl_bound.specs.Conditions.{plain}
 use Rattle.wl_bound.specs.Families.{Buses, longest_in, member_at, shortest_in}
 use Rattle.wl_bound.specs.Oscillators.{longest_of, shortest_of}
 use Rattle.wl_bound.proofs.Clocks.{rates_are}
-use Rattle.wl_margin.specs.Paces.{breaks_pace, first_stray, has_rate, is_timing, is_turning, is_tolerated, keep_pace, keeps_pace, keeps_rate, rates_at, stray_by, told_stretch, is_astray, told_quanta, told_rate}
+use Rattle.wl_margin.specs.Paces.{breaks_pace, deviated, first_stray, has_deviation, has_rate, has_told_rate, is_timing, is_turning, is_tolerated, keep_pace, keeps_pace, keeps_rate, rates_at, stray_by, told_stretch, is_astray, told_millionths, told_quanta, told_rate}
 
 -- a clock that was compared with one rate has it
 has_one : (t : Timing) (x : Rate) → is_timing t (timing_within Wide t.offset (x ∷ [])) ≡ true → t.rates ≡ x ∷ []
@@ -43,6 +43,23 @@ has_kept f i t x h =
     let both = and_parts (is_timing t (timing_within Wide t.offset (x ∷ []))) (is_tolerated (member_at f i).oscillator x) h in
     rw (has_one t x both.0) (within_keeps f i x both.1)
 
+deviation_keeps : (f : Buses) (i : ℕ) (r : Rate) (t : Timing) → has_deviation (member_at f i).oscillator r t ≡ true → keeps_pace f i t.rates ≡ true
+deviation_keeps f i r t h =
+    let p = (member_at f i).oscillator in
+    let m = told_millionths t r in
+    elim (or_cases (has_rate p t (deviated r m)) (has_rate p t (deviated r (m + 1))) h) [
+      | inl here ↦ has_kept f i t (deviated r m) here
+      | inr next ↦ has_kept f i t (deviated r (m + 1)) next
+    ]
+
+told_keeps : (f : Buses) (i : ℕ) (r : Rate) (t : Timing) → has_told_rate (member_at f i).oscillator r t ≡ true → keeps_pace f i t.rates ≡ true
+told_keeps f i r t h =
+    let p = (member_at f i).oscillator in
+    elim (or_cases (has_rate p t (told_rate t)) (has_deviation p r t) h) [
+      | inl told ↦ has_kept f i t (told_rate t) told
+      | inr other ↦ deviation_keeps f i r t other
+    ]
+
 kept : (b : Bool) {T : Type 0} (x : T) → is_some (cond b None (Some x)) ≡ false → b ≡ true
 kept true x h = refl
 kept false x h = cc
@@ -54,9 +71,9 @@ tested f i t [] e s = cc
 tested f i t (r ∷ []) e s =
     let p = (member_at f i).oscillator in
     let keeps = kept (keeps_rate p r t) (told_stretch t 0 told_quanta) s in
-    elim (or_cases (has_rate p t r) (has_rate p t (told_rate t)) keeps) [
+    elim (or_cases (has_rate p t r) (has_told_rate p r t) keeps) [
       | inl own ↦ has_kept f i t r own
-      | inr told ↦ has_kept f i t (told_rate t) told
+      | inr told ↦ told_keeps f i r t told
     ]
 tested f i t (r ∷ q ∷ later) e s = absurd (omega (arith, eqb-true (length (r ∷ q ∷ later)) 1 (not-false (length (r ∷ q ∷ later) == 1) e)))
 

@@ -5,6 +5,7 @@ use Rattle.wl_bound.specs.declared.verdict.Outside.TheVariants.{ListenerSends, N
 use Rattle.wl_clock.specs.declared.Rate.{Rate}
 use Rattle.wl_clock.specs.Timing.{Timing, tick_of}
 use Rattle.wl_bound.specs.Oscillators.{Pace}
+use Rattle.wl_units.specs.Ratios.{greatest_common}
 use Rattle.wl_margin.specs.Margins.{any_lead, growth_words, outside_words, unless_proved}
 use Rattle.wl_margin.specs.Paces.{keeps_rate, stray_by}
 use Rattle.wl_margin.specs.Reasons.{astray_words}
@@ -70,12 +71,30 @@ as_written : keeps_rate crystal nominal (record { offset = 7; rates = nominal �
 unfolding tick_of
 as_written = refl
 
+-- a quantum of 250 ticks with a `ppm` of 49, in lowest terms; of a crystal of 50 ppm and of 48 ppm
+abbrev longer : Rate
+longer = record { from = 0; num = 250; den = 1 }
+
+abbrev crystal_of : ℕ → Pace
+crystal_of ppm = record { fastest = longer; slowest = longer; tolerance = ppm; turns = 0 }
+
+abbrev with_ppm : Timing
+with_ppm = record { offset = 0; rates = record { from = 0; num = 1000049; den = 4000 } ∷ [] }
+
+deviating : keeps_rate (crystal_of 50) longer with_ppm ≡ true
+unfolding tick_of greatest_common
+deviating = refl
+
+deviating_beyond : keeps_rate (crystal_of 48) longer with_ppm ≡ false
+unfolding tick_of greatest_common
+deviating_beyond = refl
+
 too_slow : stray_by crystal (clock_of 1000101) (nominal ∷ []) ≡ Some (record { quanta = 1000000; ticks = 125012625 })
-unfolding tick_of
+unfolding tick_of greatest_common
 too_slow = refl
 
 too_fast : stray_by crystal (clock_of 999899) (nominal ∷ []) ≡ Some (record { quanta = 1000000; ticks = 124987375 })
-unfolding tick_of
+unfolding tick_of greatest_common
 too_fast = refl
 
 -- of two rates the second one, from quantum 1000 on, is too slow

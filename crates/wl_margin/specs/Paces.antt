@@ -1,5 +1,5 @@
 -- Whether the clocks of a plan keep to their tolerances (this project's profile).
-use Rattle.std.specs.Prelude.{◌≡◌, ℕ, ◌+◌, ◌-◌, ◌*◌, ◌/◌, ◌==◌, ◌&&◌, ◌||◌, nat_le, nat_lt, not, min, Bool, true, false, List, [], ◌∷◌, length, Option, Some, None, Result, Ok, Err, slice_index_or, if◌then◌else◌}
+use Rattle.std.specs.Prelude.{◌≡◌, ℕ, ◌+◌, ◌-◌, ◌*◌, ◌/◌, ◌^◌, ◌==◌, ◌&&◌, ◌||◌, nat_le, nat_lt, not, min, Bool, true, false, List, [], ◌∷◌, length, Option, Some, None, Result, Ok, Err, slice_index_or, if◌then◌else◌}
 use Rattle.std.specs.Option.{is_some}
 use Rattle.wl_level.specs.Places.{first_place}
 use Rattle.wl_clock.specs.declared.ClockFault.{ClockFault}
@@ -8,6 +8,7 @@ use Rattle.wl_clock.specs.Same.{same_timing}
 use Rattle.wl_clock.specs.Timing.{Timing, tick_of, timing_within}
 use Rattle.wl_limits.specs.declared.Limits.TheVariants.{Wide}
 use Rattle.wl_topology.specs.Driven.{any_below}
+use Rattle.wl_units.specs.Ratios.{fraction_with}
 use Rattle.wl_node.specs.Limits.{most_run_quanta}
 use Rattle.wl_plan.specs.declared.plan.Plan.{Plan}
 use Rattle.wl_plan.specs.PlanLine.{setup_at}
@@ -61,9 +62,27 @@ is_timing t (Err fault) = false
 abbrev pub has_rate : Pace → Timing → Rate → Bool
 has_rate p t r = is_timing t (timing_within Wide t.offset (r ∷ [])) && is_tolerated p r
 
--- A clock whose oscillator has one rate keeps to it: it has that rate, or the one that its ticks tell, within the tolerance.
+-- how many millionths of a rate's quantum one quantum of a clock lasts, rounded down, as far as ticks tell it; no `ppm` makes it last twice as long
+abbrev pub told_millionths : Timing → Rate → ℕ
+told_millionths t r = if r.num == 0 then 0 else min (ticks_of_quanta t 0 told_quanta * r.den / r.num) 2000000
+
+-- the fraction of a rate with a deviation, as a text's `ppm` makes it
+abbrev pub deviated_parts : Rate → (millionths : ℕ) → ℕ × ℕ
+deviated_parts r millionths = fraction_with (min r.num (2 ^ 64 - 1)) r.den millionths
+
+abbrev pub deviated : Rate → (millionths : ℕ) → Rate
+deviated r millionths = record { from = 0; num = (deviated_parts r millionths).0; den = (deviated_parts r millionths).1 }
+
+-- a quantum of a tick at least loses less than a millionth by being told in ticks
+abbrev pub has_deviation : Pace → Rate → Timing → Bool
+has_deviation p r t = has_rate p t (deviated r (told_millionths t r)) || has_rate p t (deviated r (told_millionths t r + 1))
+
+abbrev pub has_told_rate : Pace → Rate → Timing → Bool
+has_told_rate p r t = has_rate p t (told_rate t) || has_deviation p r t
+
+-- A clock whose oscillator has one rate keeps to it: it has that rate, or the one that its ticks tell, or that rate with a `ppm`, within the tolerance.
 abbrev pub keeps_rate : Pace → Rate → Timing → Bool
-keeps_rate p r t = has_rate p t r || has_rate p t (told_rate t)
+keeps_rate p r t = has_rate p t r || has_told_rate p r t
 
 -- the ticks that n quanta take at least and at most
 abbrev pub least_ticks : Pace → ℕ → ℕ

@@ -1,9 +1,9 @@
 //! Whether the clocks of a plan keep to their tolerances.
-ghost use Rattle.std.specs.Prelude.{◌≡◌, ◌^◌, ◌<◌, length, IfSome};
+ghost use Rattle.std.specs.Prelude.{◌≡◌, ◌^◌, ◌<◌, ◌≤◌, length, IfSome};
 ghost use Rattle.wl_clock.specs.Timing.{IsRate};
 ghost use Rattle.wl_level.specs.Places.{first_place};
 ghost use Rattle.wl_topology.specs.Driven.{any_below};
-ghost use Rattle.wl_margin.specs.Paces.{PaceLaw, first_stray, has_rate, is_turning, is_tolerated, keeps_rate, least_ticks, most_ticks, stray_at, stray_from, stray_by, stray_over, ticks_of_quanta, told_rate};
+ghost use Rattle.wl_margin.specs.Paces.{PaceLaw, deviated, first_stray, has_deviation, has_rate, has_told_rate, is_turning, is_tolerated, keeps_rate, least_ticks, most_ticks, stray_at, stray_from, stray_by, stray_over, ticks_of_quanta, told_millionths, told_rate};
 
 use wl_bound::{Family, Oscillator};
 use wl_clock::{Clock, Rate};
@@ -11,6 +11,7 @@ use wl_limits::Limits;
 use wl_node::MOST_RUN_QUANTA;
 use wl_plan::CheckedPlan;
 use wl_setup::Deviation;
+use wl_units::fraction_with;
 
 const MILLION: u128 = 1_000_000;
 
@@ -76,11 +77,48 @@ fn has_rate(oscillator: &Oscillator, clock: &Clock, rate: Rate) -> bool
     }
 }
 
+/// Returns how many millionths of a rate's quantum one quantum of a clock lasts, rounded down, as far as its ticks tell it: 2,000,000 at most.
+fn told_millionths(clock: &Clock, rate: &Rate) -> u64
+    ensures value { result ≡ told_millionths clock.now rate.now }
+    ensures most { result ≤ 2000000 }
+{
+    if rate.num == 0 {
+        return 0;
+    }
+    let ticks = ticks_of_quanta(clock, 0, TOLD_QUANTA) as u128;
+    (ticks * rate.den as u128 / rate.num).min(2 * MILLION) as u64
+}
+
+/// Returns a rate with a deviation, as the `ppm` of a plan's text makes it.
+fn deviated(rate: &Rate, millionths: u64) -> Rate
+    ensures { result ≡ deviated rate.now millionths }
+{
+    let num = rate.num.min(u64::MAX as u128) as u64;
+    let (num, den) = fraction_with(num, rate.den, millionths);
+    Rate { from: 0, num, den }
+}
+
+/// True if a clock has this rate with a deviation of whole millionths, and that is within the tolerance.
+fn has_deviation(oscillator: &Oscillator, clock: &Clock, rate: &Rate) -> bool
+    ensures { result ≡ has_deviation oscillator.now rate.now clock.now }
+{
+    let millionths = told_millionths(clock, rate);
+    has_rate(oscillator, clock, deviated(rate, millionths))
+        || has_rate(oscillator, clock, deviated(rate, millionths + 1))
+}
+
+/// True if a clock has a rate that its ticks tell, within the tolerance: in millionths of a tick, or as a deviation from this rate.
+fn has_told_rate(oscillator: &Oscillator, clock: &Clock, rate: &Rate) -> bool
+    ensures { result ≡ has_told_rate oscillator.now rate.now clock.now }
+{
+    has_rate(oscillator, clock, told_rate(clock)) || has_deviation(oscillator, clock, rate)
+}
+
 /// True if a clock keeps to an oscillator of one rate.
 fn keeps_rate(oscillator: &Oscillator, clock: &Clock, rate: Rate) -> bool
     ensures { result ≡ keeps_rate oscillator.now rate clock.now }
 {
-    has_rate(oscillator, clock, rate) || has_rate(oscillator, clock, told_rate(clock))
+    has_rate(oscillator, clock, rate) || has_told_rate(oscillator, clock, &rate)
 }
 
 /// Returns the ticks that `n` quanta take at least.
