@@ -8,11 +8,11 @@ use Rattle.wl_frame.specs.Grammar.{Content}
 use Rattle.wl_node.specs.declared.setup.Passed.{Passed}
 
 abbrev pub same_message : Content → Content → Bool
-same_message a b = beq a.extended b.extended && a.id == b.id && beq a.remote b.remote
+same_message a b = a.id == b.id && beq a.extended b.extended && beq a.remote b.remote
 
 -- it is of the message of this frame, and was sent, or received
 abbrev pub is_of_message : (sent : Bool) → Content → Passed → Bool
-is_of_message sent c p = beq p.sent sent && same_message c p.frame
+is_of_message sent c p = same_message c p.frame && beq p.sent sent
 
 -- the ticks at which a node with this clock has sent, or received, its frames
 abbrev pub message_ticks : Timing → (sent : Bool) → Content → List Passed → List ℕ

@@ -9,14 +9,14 @@ use wl_clock::Clock;
 use wl_frame::frame::Frame;
 use wl_node::Passed;
 
-/// True if a frame has the format, identifier and kind of `frame`, and was sent or received as `sent` says.
+/// True if a frame has the format, identifier and kind of `frame`, and was sent or received as `sent` says. Most frames differ in the identifier.
 fn is_of_message(sent: bool, frame: &Frame, passed: &Passed) -> bool
     ensures { result ≡ is_of_message sent frame.now passed.now }
 {
-    passed.sent == sent
+    frame.id() == passed.frame.id()
         && frame.is_extended() == passed.frame.is_extended()
-        && frame.id() == passed.frame.id()
         && frame.remote() == passed.frame.remote()
+        && passed.sent == sent
 }
 
 /// Returns the ticks at which a node with this clock has sent, or received, the frames of the message of `frame`.
