@@ -31,7 +31,7 @@ pub use covered::{all_speak, finds_one_busy, is_covered, leaves};
 pub use family::{Change, Family, Member, Setting, Source, only_listens};
 pub use field::field_of;
 pub use lack::{Lack, Shortage};
-pub use laws::{condition_laws, room_law, search_laws};
+pub use laws::{a_field_is_its_number, condition_laws, room_law, search_laws};
 pub use oscillator::Oscillator;
 pub use search::Growth;
 pub use spikes::Hiding;

@@ -4,7 +4,6 @@ pub mod Families
 pub mod Fields
 pub mod Leaving
 pub mod Measure
-pub mod Numbers
 pub mod Offered
 pub mod Ordering
 pub mod OnBus

@@ -34,7 +34,7 @@ pub fn respond_law()
     wl_counts::laws::one_window_is_enough_for_each_instance();
     wl_buses::one_sender::laws::a_covered_plan_is_one_of_these();
     wl_buses::bounded_waits::tests::a_winner_has_the_lesser_field();
-    wl_buses::bounded_waits::tests::a_field_is_its_number();
+    wl_bound::a_field_is_its_number();
     wl_buses::bounded_waits::tests::a_tested_bus_has_room_to_decide();
     wl_buses::bounded_waits::laws::waits_are_bounded();
 }

@@ -2,7 +2,6 @@
 
 ghost use Rattle.std.specs.Prelude.{◌≡◌, ◌<◌, true};
 ghost use Rattle.wl_frame.specs.Grammar.{Content, IsContent};
-ghost use Rattle.wl_node.specs.Queues.{field_number};
 ghost use Rattle.wl_wire.specs.Winner.{Beats};
 ghost use Rattle.wl_bound.specs.Decides.{leaves_room_to_decide};
 ghost use Rattle.wl_bound.specs.Families.{Buses};
@@ -16,11 +15,6 @@ pub fn a_winner_has_the_lesser_field()
 {
     wl_frame::laws::reading_by_places_is_the_grammar();
 }
-
-/// Law: the field of a frame as its bits spell it is the number by which a queue by priority picks its head.
-pub fn a_field_is_its_number()
-    ensures { (frame : Content) → IsContent frame → field_of frame ≡ field_number frame }
-{}
 
 /// Law: what is tested of a bus is what these laws ask, that nobody decides twice.
 pub fn a_tested_bus_has_room_to_decide()
