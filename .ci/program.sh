@@ -62,8 +62,9 @@ if part examples; then
 for report in examples/*.report; do
   name=$(basename "$report" .report)
   [ -n "${LIGHT-}" -a "$name" = sixteen_nodes ] && is_long=yes || is_long= # what explain and margin say of it takes a build without proof minutes
-  numbers=examples/$name.toml # plain.py reads no units
+  numbers=examples/$name.toml # plain.py reads no units and no noise
   [ "$name" != six_ecus ] || numbers=check/plans/six_ecus_long.toml
+  [ "$name" != noisy_bus ] || numbers=check/plans/noisy_bus.toml
   runs "run of $name" "examples/$name.toml" 0 "$report" "$room/none" run
   for word in check records explain trace vcd; do
     [ -z "$is_long" -o "$word" != explain ] || continue

@@ -17,8 +17,8 @@ import traffic  # gives plain.py that command
 from tally import asked, asked_bare
 
 WHOLE_SECOND = "thirty_nodes_29bit"  # 120 million quanta: the gate asks its report, and what check and candump write
-WITH_UNITS = "six_ecus"  # plain.py reads no units: units.py compares such plans with those of numbers
-PLANS = sorted(it for it in (Path(__file__).resolve().parent.parent / "examples").glob("*.toml") if it.stem not in (WHOLE_SECOND, WITH_UNITS))
+WITH_UNITS = ("six_ecus", "noisy_bus")  # plain.py reads no units and no noise: units.py and noise.py compare such plans with those of numbers
+PLANS = sorted(it for it in (Path(__file__).resolve().parent.parent / "examples").glob("*.toml") if it.stem not in (WHOLE_SECOND, *WITH_UNITS))
 COUNTS = {"examples": len(PLANS)}
 
 

@@ -195,7 +195,7 @@ const WIDE_MISSING: [(&str, &str); 3] = [
 
 /// What to change in version 4 if the value of a key is of another kind, by the key, if it is something else then.
 #[rattlefmt::skip]
-const WIDE_KIND: [(&str, &str); 10] = [
+const WIDE_KIND: [(&str, &str); 11] = [
     ("tick", "Give `tick` as a text with a time up to 1 ms, as `tick = \"1ns\"` or `tick = \"12.5ns\"`."),
     ("unit", "Give `unit` as a text with a length up to 100 m, as `unit = \"1m\"`, or leave it out."),
     ("controller", "Write each controller under a header `[controller.NAME]`, and name one of them at the node."),
@@ -206,6 +206,7 @@ const WIDE_KIND: [(&str, &str); 10] = [
     ("queue", "Set `queue = \"fifo\"` or `queue = \"priority\"`, or leave it out."),
     ("cycle", "Give `cycle` as a time of one or more whole quanta of the node, which has one rate, or give `every`, but not both."),
     ("at", "Give `at` as a time of the plan at a node with one rate, or give `ready`, but not both."),
+    ("noise", "Give `noise` as a table, as `noise = { rate = 4, length = \"2us\", seed = 1 }`, with a rate and an end that make at most 256 disturbances."),
 ];
 
 /// What is wrong with the segments of a controller, by the fault's name, if it is something else than with those that are set one by one.

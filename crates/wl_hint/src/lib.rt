@@ -6,6 +6,7 @@
 #![tactic(auto)]
 
 mod hint;
+mod noise;
 mod place;
 mod plan;
 mod records;

@@ -21,8 +21,8 @@ const KNOWN: [&str; 35] = [
 
 /// The keys that plans of version 4 have besides.
 #[rattlefmt::skip]
-const KNOWN_WIDE: [&str; 13] = [
-    "tick", "unit", "controller", "kind", "clock", "prescaler", "bitrate", "queue", "until", "cycle", "at", "deadline", "jitter",
+const KNOWN_WIDE: [&str; 14] = [
+    "tick", "unit", "controller", "kind", "clock", "prescaler", "bitrate", "queue", "until", "cycle", "at", "deadline", "jitter", "noise",
 ];
 
 /// Returns the first key of a table that no table of a plan has, which may be a misspelt one.
@@ -203,7 +203,7 @@ fn of_unknown(is_wide: bool, table: Option<&Table>, key: &str, path: TablePath) 
         "num" | "den" | "quantum" | "rates" if has_clock => {
             " (the node has `clock` in its place)"
         }
-        "tick" | "unit" if is_wide => " (it belongs above the first table)",
+        "tick" | "unit" | "noise" if is_wide => " (it belongs above the first table)",
         "clock" | "prescaler" | "bitrate" | "queue" | "kind" if is_wide => {
             " (it belongs into a node or a `[controller.NAME]`)"
         }

@@ -1,4 +1,5 @@
 //! What a hint adds on texts with units, on clocks by their frequency, and on kinds of controllers.
+use crate::noise::of_noise;
 use std::alloc::{AllocError, Global};
 use toml::{Table, Value};
 use wl_kinds::{KINDS, Range, kind_named};
@@ -73,8 +74,26 @@ fn whole_at(top: &Table, table: &Table, key: &str) -> Option<u64> {
 }
 
 /// Returns the femtoseconds of a tick.
-fn tick_in(top: &Table) -> Option<u64> {
+pub(crate) fn tick_in(top: &Table) -> Option<u64> {
     tick_said(value_named(top, "tick")?.as_str()?)
+}
+
+/// Returns the ticks that a text with a unit says, if they are whole.
+pub(crate) fn time_said(top: &Table, text: &str) -> Option<u64> {
+    let scale = Scale {
+        tick: tick_in(top)?,
+        unit: unit_in(top),
+    };
+    scale.number_said(Measure::Time, text)
+}
+
+/// Returns the units of length that a text with a unit says, if they are whole.
+pub(crate) fn length_said(top: &Table, text: &str) -> Option<u64> {
+    let scale = Scale {
+        tick: 1,
+        unit: unit_in(top),
+    };
+    scale.number_said(Measure::Length, text)
 }
 
 /// Returns the micrometres of a unit of length.
@@ -439,6 +458,7 @@ pub(crate) fn of_value(
         "bitrate" => Ok(Some(of_bit_rate(alloc, top, table)?)),
         "cycle" => Ok(Some(of_cycle(alloc, top, path, table)?)),
         "kind" => Ok(Some(of_kind(alloc)?)),
+        "noise" => Ok(Some(of_noise(alloc, top)?)),
         "controller" => Ok(Some(String::from_str(
             alloc,
             " (no `[controller.NAME]` has this name)",

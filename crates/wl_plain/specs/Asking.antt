@@ -14,15 +14,16 @@ abbrev pub asks_measure : Option Measure → Bool
 asks_measure None = false
 asks_measure (Some measure) = measure_asks measure
 
--- a clock by its frequency asks for it
-abbrev pub is_clock_key : Row → List ℕ → Bool
-is_clock_key Node key = bytes_eq key (codes "clock")
-is_clock_key Controller key = bytes_eq key (codes "clock")
-is_clock_key _ key = false
+-- a clock by its frequency asks for it, and so does noise
+abbrev pub needs_tick : Row → List ℕ → Bool
+needs_tick Top key = bytes_eq key (codes "noise")
+needs_tick Node key = bytes_eq key (codes "clock")
+needs_tick Controller key = bytes_eq key (codes "clock")
+needs_tick _ key = false
 
--- a text at the key of a time, and such a clock
+-- a text at the key of a time, and such a key
 abbrev pub asks_at : Row → List ℕ → Data → Bool
-asks_at row key d = (is_some (as_str d) && asks_measure (measure_at_key row key)) || is_clock_key row key
+asks_at row key d = (is_some (as_str d) && asks_measure (measure_at_key row key)) || needs_tick row key
 
 abbrev pub asks_row : Row → Members → Bool
 asks_row row no_members = false

@@ -1,5 +1,5 @@
--- The plain form of a plan's document: each time, length, frequency and bit rate as a number, each node with its own keys alone (this
--- project's profile).
+-- The plain form of a plan's document: each time, length, frequency and bit rate as a number, each node with its own keys alone, and its noise
+-- as disturbances (this project's profile).
 use Rattle.std.specs.Prelude.{ℕ, Bool, ◌&&◌, not, if◌then◌else◌, List, Option, Some, None, is_some, option_and_then, unwrap_or, codes}
 use Rattle.toml.specs.Data.{Data, table, Members, no_members, member, get_member, as_table}
 use Rattle.wl_kinds.specs.Kinds.{kind_named}
@@ -9,6 +9,7 @@ use Rattle.wl_plain.specs.Tables.{has, no_value, with_member, remade_at, text_at
 use Rattle.wl_plain.specs.Measures.{plain_row, plain_row_of, units_of}
 use Rattle.wl_plain.specs.Clocks.{bit_rate_at, hertz_at}
 use Rattle.wl_plain.specs.Nodes.{plain_node_of}
+use Rattle.wl_plain.specs.Noise.{with_noise}
 
 -- without a value at a key whose value is wrong
 abbrev pub unless_right : List ℕ → Bool → Members → Members
@@ -53,7 +54,7 @@ with_nodes u top = remade_at (plain_node_of u (controllers_in top)) (codes "node
 -- the plain form of a document with these lengths of a tick and of a unit
 unfoldable pub plain_with : Units → Members → Members
 plain_with u top =
-    remade_at (plain_row_of u Disturbance) (codes "disturbance") (with_nodes u (with_controllers u (plain_row u Top top)))
+    with_noise u (remade_at (plain_row_of u Disturbance) (codes "disturbance") (with_nodes u (with_controllers u (plain_row u Top top))))
 
 -- the plain form of a document
 abbrev pub plain_document : Members → Members

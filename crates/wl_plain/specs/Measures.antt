@@ -8,7 +8,7 @@ use Rattle.wl_units.specs.declared.scale.Scale.{Scale}
 use Rattle.wl_units.specs.declared.scale.TheConstants.{MICROMETRES}
 use Rattle.wl_units.specs.Scales.{number_said, tick_said, unit_said}
 use Rattle.wl_plain.specs.declared.measure.Row.{Row}
-use Rattle.wl_plain.specs.declared.measure.Row.TheVariants.{Top, Controller, Node, Rate, Frame, Disturbance}
+use Rattle.wl_plain.specs.declared.measure.Row.TheVariants.{Top, Controller, Node, Rate, Frame, Disturbance, Noise}
 use Rattle.wl_plain.specs.declared.measure.Units.{Units}
 use Rattle.wl_plain.specs.Tables.{with_member, text_at}
 
@@ -20,11 +20,13 @@ is_time Node key = bytes_eq key (codes "offset") || bytes_eq key (codes "out") |
 is_time Rate key = bytes_eq key (codes "quantum")
 is_time Frame key = bytes_eq key (codes "cycle") || bytes_eq key (codes "at") || bytes_eq key (codes "deadline") || bytes_eq key (codes "jitter")
 is_time Disturbance key = bytes_eq key (codes "from") || bytes_eq key (codes "to")
+is_time Noise key = bytes_eq key (codes "length")
 
 -- those that are places
 abbrev pub is_place_key : Row → List ℕ → Bool
 is_place_key Node key = bytes_eq key (codes "x")
 is_place_key Disturbance key = bytes_eq key (codes "x")
+is_place_key Noise key = bytes_eq key (codes "x")
 is_place_key _ key = false
 
 -- a time along a length

@@ -2,7 +2,7 @@
 ghost use Rattle.std.specs.Prelude.{◌≡◌, codes, map};
 ghost use Rattle.std.specs.List.{list_any};
 ghost use Rattle.toml.specs.View.{view, table_view};
-ghost use Rattle.wl_plain.specs.Asking.{asks_at, asks_controllers, asks_data, asks_measure, asks_node, asks_node_of, asks_row, asks_some, asks_tick, is_clock_key};
+ghost use Rattle.wl_plain.specs.Asking.{asks_at, asks_controllers, asks_data, asks_measure, asks_node, asks_node_of, asks_row, asks_some, asks_tick, needs_tick};
 ghost use Rattle.wl_plain.specs.Documents.{controllers_in};
 ghost use Rattle.wl_plain.specs.Tables.{array_at};
 
@@ -20,21 +20,22 @@ fn asks_measure(measure: Option<Measure>) -> bool
     }
 }
 
-/// True of the key of a clock by its frequency.
-fn is_clock_key(row: Row, key: &str) -> bool
-    ensures { result ≡ is_clock_key row key.now }
+/// True of a key that asks for the length of a tick, whatever it holds: of a clock by its frequency, and of noise.
+fn needs_tick(row: Row, key: &str) -> bool
+    ensures { result ≡ needs_tick row key.now }
 {
     match row {
         Row::Node | Row::Controller => key == "clock",
-        Row::Top | Row::Rate | Row::Frame | Row::Disturbance => false,
+        Row::Top => key == "noise",
+        Row::Rate | Row::Frame | Row::Disturbance | Row::Noise => false,
     }
 }
 
-/// True if a value is a text at the key of a time, or at that of a clock.
+/// True if a value is a text at the key of a time, or at a key that asks whatever it holds.
 fn asks_at(row: Row, key: &str, value: &Value) -> bool
     ensures { result ≡ asks_at row key.now (view value.now) }
 {
-    value.as_str().is_some() && asks_measure(measure_at_key(row, key)) || is_clock_key(row, key)
+    value.as_str().is_some() && asks_measure(measure_at_key(row, key)) || needs_tick(row, key)
 }
 
 /// True if a table has such a value.
@@ -140,7 +141,7 @@ fn asks_controllers(top: &Table) -> bool
     }
 }
 
-/// True if a document has a text at the key of a time, or a clock by its frequency, which ask for the length of a tick.
+/// True if a document has a text at the key of a time, a clock by its frequency or noise, which ask for the length of a tick.
 #[tactic(auto, unfolding(crate::specs::Asking::asks_tick))]
 pub fn asks_tick(top: &Table) -> bool
     ensures { result ≡ asks_tick (table_view top.now) }

@@ -6,12 +6,13 @@ ghost use Rattle.wl_plain.specs.Documents.{controllers_in, plain_document, plain
 use crate::controller::plain_controllers;
 use crate::measure::{Row, Units, plain_row, remake_rows};
 use crate::node::plain_nodes;
+use crate::noise::remake_noise;
 use crate::tables::{array_at, table_copy, value_at, with_member};
 use std::alloc::{AllocError, Global};
 use toml::{Table, Value};
 
 /// Returns the table at a key, if it has one.
-fn member_table<'a>(table: &'a Table, key: &str) -> Option<&'a Table>
+pub(crate) fn member_table<'a>(table: &'a Table, key: &str) -> Option<&'a Table>
     ensures { option_map (λ t. table_view t.now) result ≡ member_table key.now (table_view table.now) }
 {
     match value_at(table, key) {
@@ -62,12 +63,13 @@ fn plain_with(alloc: Global, units: Units, top: &Table) -> Result<Table, AllocEr
     remake_controllers(alloc, units, &mut plain)?;
     remake_nodes(alloc, units, &mut plain)?;
     remake_rows(alloc, units, Row::Disturbance, &mut plain, "disturbance")?;
+    remake_noise(alloc, units, &mut plain)?;
     Ok(plain)
 }
 
 /// Returns the plain form of a document of a plan of version 4: each time, length and time along a length as a number of ticks and units;
 /// `num` and `den` in the place of a clock's frequency, prescaler and bit rate; `every` and `ready` in the place of `cycle` and `at`; at each
-/// node the keys that it lacks from its controller. What can't be had stays as a text, and the empty text is at a key whose value is wrong
+/// node the keys that it lacks from its controller; disturbances in the place of noise. What can't be had stays as a text, and the empty text is at a key whose value is wrong
 /// beside others. Refused only when out of memory.
 pub fn plain_document(alloc: Global, top: &Table) -> Result<Table, AllocError>
     ensures { IfOk result (λ t. table_view t ≡ plain_document (table_view top.now)) }

@@ -24,6 +24,8 @@ pub enum Row {
     Frame,
     /// A disturbance.
     Disturbance,
+    /// The noise of the plan.
+    Noise,
 }
 
 /// The lengths of a tick and of a unit of length.
@@ -48,6 +50,7 @@ fn is_time(row: Row, key: &str) -> bool
         Row::Rate => key == "quantum",
         Row::Frame => key == "cycle" || key == "at" || key == "deadline" || key == "jitter",
         Row::Disturbance => key == "from" || key == "to",
+        Row::Noise => key == "length",
     }
 }
 
@@ -56,7 +59,7 @@ fn is_place_key(row: Row, key: &str) -> bool
     ensures { result ≡ is_place_key row key.now }
 {
     match row {
-        Row::Node | Row::Disturbance => key == "x",
+        Row::Node | Row::Disturbance | Row::Noise => key == "x",
         Row::Top | Row::Controller | Row::Rate | Row::Frame => false,
     }
 }
@@ -67,7 +70,9 @@ fn is_along(row: Row, key: &str) -> bool
 {
     match row {
         Row::Top => key == "per",
-        Row::Controller | Row::Node | Row::Rate | Row::Frame | Row::Disturbance => false,
+        Row::Controller | Row::Node | Row::Rate | Row::Frame | Row::Disturbance | Row::Noise => {
+            false
+        }
     }
 }
 

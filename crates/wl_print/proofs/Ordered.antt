@@ -11,7 +11,7 @@ use Rattle.toml.specs.View.{items_of}
 use Rattle.wl_units.specs.declared.quantity.Measure.{Measure}
 use Rattle.wl_plain.specs.declared.measure.Row.{Row}
 use Rattle.wl_plain.specs.declared.measure.Units.{Units}
-use Rattle.wl_plain.specs.Asking.{asks_measure, asks_row, is_clock_key}
+use Rattle.wl_plain.specs.Asking.{asks_measure, asks_row, needs_tick}
 use Rattle.wl_plain.specs.Measures.{converted, measure_at_key, number_or, plain_row, put_row, said_by}
 use Rattle.wl_plain.specs.Tables.{data_of, remade_at, with_member}
 
@@ -149,7 +149,7 @@ each_inserted p k d (member l e ms) here all =
 -- ---- tables without a text at the key of a measure, and without a clock by its frequency
 
 abbrev pub is_plain_value : Row → List ℕ → Data → Bool
-is_plain_value row k d = not (is_some (as_str d) && is_some (measure_at_key row k)) && not (is_clock_key row k)
+is_plain_value row k d = not (is_some (as_str d) && is_some (measure_at_key row k)) && not (needs_tick row k)
 
 no_measure : (b m c : Bool) → (not (b && m) && not c) ≡ true → b ≡ true → m ≡ false
 no_measure true true c h is = absurd (false≢true h)
@@ -161,7 +161,7 @@ same_text u None s h = refl
 same_text u (Some m) s h = absurd (false≢true (sym h))
 
 converted_same : (u : Units) (row : Row) (k : List ℕ) (d : Data) → is_plain_value row k d ≡ true → converted u row k d ≡ d
-converted_same u row k (string s) h = same_text u (measure_at_key row k) s (no_measure true (is_some (measure_at_key row k)) (is_clock_key row k) h refl)
+converted_same u row k (string s) h = same_text u (measure_at_key row k) s (no_measure true (is_some (measure_at_key row k)) (needs_tick row k) h refl)
 converted_same u row k (integer z) h = refl
 converted_same u row k (float x) h = refl
 converted_same u row k (boolean b) h = refl
@@ -196,7 +196,7 @@ pub row_asks_none : (row : Row) (ms : Members) → each_member (is_plain_value r
 row_asks_none row no_members plain = refl
 row_asks_none row (member k d ms) plain =
     let (here, more) = and_parts (is_plain_value row k d) (each_member (is_plain_value row) ms) plain in
-    rw (asks_none (is_some (as_str d)) (measure_at_key row k) (is_clock_key row k) here) (row_asks_none row ms more)
+    rw (asks_none (is_some (as_str d)) (measure_at_key row k) (needs_tick row k) here) (row_asks_none row ms more)
 
 -- ---- arrays
 

@@ -231,12 +231,12 @@ module _ (p : PlanText) (h : IsPlan p) where
 
   plan_same : plain_document plan_table ≡ plan_table
   plan_same =
-      document_same p h plan_table (sorted_in_order (all_members plan_entries)) (table_plain Top plan_entries top_plain) (plan_sees (codes "controller")) (plan_sees (codes "node")) (plan_sees (codes "disturbance"))
+      document_same p h plan_table (sorted_in_order (all_members plan_entries)) (table_plain Top plan_entries top_plain) (plan_sees (codes "controller")) (plan_sees (codes "noise")) (plan_sees (codes "node")) (plan_sees (codes "disturbance"))
 
   plan_asks_none : asks_tick_in (number_at key.Version plan_table) plan_table ≡ false
   plan_asks_none =
       ap (λ (b : Bool). has_controllers (number_at key.Version plan_table) && b)
-      (asks_no_tick p h plan_table (sorted_in_order (all_members plan_entries)) (table_plain Top plan_entries top_plain) (plan_sees (codes "controller")) (plan_sees (codes "node")) (plan_sees (codes "disturbance")))
+      (asks_no_tick p h plan_table (sorted_in_order (all_members plan_entries)) (table_plain Top plan_entries top_plain) (plan_sees (codes "controller")) (plan_sees (codes "noise")) (plan_sees (codes "node")) (plan_sees (codes "disturbance")))
       ∙ and-false (has_controllers (number_at key.Version plan_table))
 
   top_taken : AllTaken plan_table (key.Version ∷ key.End ∷ key.Per ∷ key.Node ∷ [])
@@ -259,7 +259,7 @@ module _ (p : PlanText) (h : IsPlan p) where
       inr (string (sync_word p.sync), plan_sees (codes "sync"), sync_kind p.sync),
       (
         tick_allowed wide plan_table p.tick (plan_sees (codes "tick")) h.tick,
-        (unit_allowed wide plan_table p.unit (plan_sees (codes "unit")) h.unit, (inl (plan_sees (codes "controller")), tt)),
+        (unit_allowed wide plan_table p.unit (plan_sees (codes "unit")) h.unit, (inl (plan_sees (codes "controller")), (inl (plan_sees (codes "noise")), tt))),
       ),
     ),
   )

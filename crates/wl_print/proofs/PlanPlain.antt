@@ -7,10 +7,11 @@ use Rattle.wl_plain.specs.declared.frame.Beat.{Beat}
 use Rattle.wl_plain.specs.declared.measure.Row.{Row}
 use Rattle.wl_plain.specs.declared.measure.Row.TheVariants.{Top, Node, Rate, Frame, Disturbance}
 use Rattle.wl_plain.specs.declared.measure.Units.{Units}
-use Rattle.wl_plain.specs.Asking.{asks_data, asks_node, asks_node_of, asks_row, asks_some, asks_tick, is_clock_key}
+use Rattle.wl_plain.specs.Asking.{asks_data, asks_node, asks_node_of, asks_row, asks_some, asks_tick, needs_tick}
 use Rattle.wl_plain.specs.Clocks.{of_kind, with_quantum}
+use Rattle.wl_plain.specs.Noise.{with_noise}
 use Rattle.wl_plain.specs.Documents.{controllers_in, plain_document, plain_with, with_controllers, with_nodes}
-use Rattle.wl_plain.specs.Measures.{measure_at_key, plain_row_of, units_of}
+use Rattle.wl_plain.specs.Measures.{measure_at_key, plain_row, plain_row_of, units_of}
 use Rattle.wl_plain.specs.Nodes.{beat_at_node, plain_frame, plain_frame_of, plain_node, plain_node_of, with_clock, with_controller, with_every, with_frames, with_ready}
 use Rattle.wl_plain.specs.Tables.{array_at, data_of, remade_at}
 use Rattle.wl_setup.specs.declared.plan_text.DisturbanceText.{DisturbanceText}
@@ -61,34 +62,34 @@ table_in_order es = sorted_in_order (all_members es)
 abbrev of_value : Option (List ℕ × Data) → Option Data
 of_value v = option_map (λ w. w.1) v
 
-number_plain : (row : Row) (k : List ℕ) (o : Option ℕ) → is_clock_key row k ≡ false → IsPlain row k (of_value (number_of o))
+number_plain : (row : Row) (k : List ℕ) (o : Option ℕ) → needs_tick row k ≡ false → IsPlain row k (of_value (number_of o))
 number_plain row k None h = tt
 number_plain row k (Some n) h = rw h refl
 
-signed_plain : (row : Row) (k : List ℕ) (o : Option ℤ) → is_clock_key row k ≡ false → IsPlain row k (of_value (signed_of o))
+signed_plain : (row : Row) (k : List ℕ) (o : Option ℤ) → needs_tick row k ≡ false → IsPlain row k (of_value (signed_of o))
 signed_plain row k None h = tt
 signed_plain row k (Some z) h = rw h refl
 
-flag_plain : (row : Row) (k : List ℕ) (b : Bool) → is_clock_key row k ≡ false → IsPlain row k (of_value (flag_of b))
+flag_plain : (row : Row) (k : List ℕ) (b : Bool) → needs_tick row k ≡ false → IsPlain row k (of_value (flag_of b))
 flag_plain row k true h = rw h refl
 flag_plain row k false h = tt
 
-bytes_plain : (row : Row) (k bs : List ℕ) → is_clock_key row k ≡ false → IsPlain row k (of_value (bytes_of bs))
+bytes_plain : (row : Row) (k bs : List ℕ) → needs_tick row k ≡ false → IsPlain row k (of_value (bytes_of bs))
 bytes_plain row k [] h = tt
 bytes_plain row k (b ∷ bs) h = rw h refl
 
-name_plain : (row : Row) (k : List ℕ) (o : Option (List ℕ)) → measure_at_key row k ≡ None → is_clock_key row k ≡ false → IsPlain row k (of_value (name_of o))
+name_plain : (row : Row) (k : List ℕ) (o : Option (List ℕ)) → measure_at_key row k ≡ None → needs_tick row k ≡ false → IsPlain row k (of_value (name_of o))
 name_plain row k None none h = tt
 name_plain row k (Some s) none h = rw (none, h) refl
 
-pub measure_plain : (row : Row) (k unit : List ℕ) (o : Option ℕ) → measure_at_key row k ≡ None → is_clock_key row k ≡ false → IsPlain row k (of_value (measure_of unit o))
+pub measure_plain : (row : Row) (k unit : List ℕ) (o : Option ℕ) → measure_at_key row k ≡ None → needs_tick row k ≡ false → IsPlain row k (of_value (measure_of unit o))
 measure_plain row k unit None none h = tt
 measure_plain row k unit (Some n) none h = rw (none, h) refl
 
 -- ---- arrays of tables
 
 module _ {X : Type 0} (table_of : X → Members) where
-  pub tables_plain : (row : Row) (k : List ℕ) (xs : List X) → is_clock_key row k ≡ false → IsPlain row k (tables_value table_of xs)
+  pub tables_plain : (row : Row) (k : List ℕ) (xs : List X) → needs_tick row k ≡ false → IsPlain row k (tables_value table_of xs)
   tables_plain row k [] h = tt
   tables_plain row k (x ∷ xs) h = rw h refl
 
@@ -341,7 +342,7 @@ node_asks_none version n is = ap (λ (m : Members). asks_node (sorted m)) (node_
 -- ---- the top table
 
 module _ (p : PlanText) (h : IsPlan p) (t : Members) (ordered : is_ordered t ≡ true) (plain : each_member (is_plain_value Top) t ≡ true)
-    (none : get_member (codes "controller") t ≡ None) (nodes : get_member (codes "node") t ≡ option_map kept (tables_value (node_members p.version) p.node))
+    (none : get_member (codes "controller") t ≡ None) (silent : get_member (codes "noise") t ≡ None) (nodes : get_member (codes "node") t ≡ option_map kept (tables_value (node_members p.version) p.node))
     (disturbances : get_member (codes "disturbance") t ≡ option_map kept (tables_value disturbance_members p.disturbance)) where
   controllers_same : (u : Units) → with_controllers u t ≡ t
   unfolding with_controllers
@@ -352,13 +353,20 @@ module _ (p : PlanText) (h : IsPlan p) (t : Members) (ordered : is_ordered t ≡
   nodes_same u =
       tables_remade (node_members p.version) (plain_node_of u (controllers_in t)) (is_node p.version) (node_stays u (controllers_in t) p.version) (codes "node") t p.node ordered nodes h.nodes
 
-  top_same : (u : Units) → plain_with u t ≡ t
-  unfolding plain_with
-  top_same u =
+  noise_same : (u : Units) → with_noise u t ≡ t
+  unfolding with_noise
+  noise_same u = rw silent refl
+
+  rows_same : (u : Units) → remade_at (plain_row_of u Disturbance) (codes "disturbance") (with_nodes u (with_controllers u (plain_row u Top t))) ≡ t
+  rows_same u =
       ap (λ (x : Members). remade_at (plain_row_of u Disturbance) (codes "disturbance") (with_nodes u (with_controllers u x))) (row_same u Top t ordered plain)
       ∙ ap (λ (x : Members). remade_at (plain_row_of u Disturbance) (codes "disturbance") (with_nodes u x)) (controllers_same u)
       ∙ ap (λ (x : Members). remade_at (plain_row_of u Disturbance) (codes "disturbance") x) (nodes_same u)
       ∙ tables_remade disturbance_members (plain_row_of u Disturbance) (is_disturbance (has_traffic p.version)) (disturbance_stays u (has_traffic p.version)) (codes "disturbance") t p.disturbance ordered disturbances h.disturbances
+
+  top_same : (u : Units) → plain_with u t ≡ t
+  unfolding plain_with
+  top_same u = ap (with_noise u) (rows_same u) ∙ noise_same u
 
   pub document_same : plain_document t ≡ t
   document_same = top_same (units_of t)

@@ -1,7 +1,7 @@
 -- The keys of a plan's tables (this project's profile).
 use Rattle.std.specs.Prelude.{ℕ, Bool, true, false, List, [], ◌∷◌, codes}
 use Rattle.wl_setup.specs.declared.keys.Key.{Key}
-use Rattle.wl_setup.specs.declared.keys.Key.TheVariants.{Version, End, Per, Node, Disturbance, Sync, Name, Offset, Num, Den, Quantum, Ppm, Rates, Prop, Ps1, Ps2, Tseg1, Tseg2, Sjw, X, Out, In, Frame, Id, Dlc, Remote, Bytes, Ready, Extended, From, To, Tolerance, Every, Count, Listen, AtNode, Tick, Unit, Controllers, Controller, OfKind, Clock, Prescaler, BitRate, Queue, Until, Cycle, At, Deadline, Jitter}
+use Rattle.wl_setup.specs.declared.keys.Key.TheVariants.{Version, End, Per, Node, Disturbance, Sync, Name, Offset, Num, Den, Quantum, Ppm, Rates, Prop, Ps1, Ps2, Tseg1, Tseg2, Sjw, X, Out, In, Frame, Id, Dlc, Remote, Bytes, Ready, Extended, From, To, Tolerance, Every, Count, Listen, AtNode, Tick, Unit, Controllers, Controller, OfKind, Clock, Prescaler, BitRate, Queue, Until, Cycle, At, Deadline, Jitter, Noise}
 use Rattle.wl_setup.specs.declared.keys.Kind.{Kind}
 use Rattle.wl_setup.specs.declared.keys.Kind.TheVariants as kind
 
@@ -57,6 +57,7 @@ key_text Cycle = codes "cycle"
 key_text At = codes "at"
 key_text Deadline = codes "deadline"
 key_text Jitter = codes "jitter"
+key_text Noise = codes "noise"
 
 -- what its value has to be
 abbrev pub kind_of : Key → Kind
@@ -89,6 +90,7 @@ kind_of BitRate = kind.Filled
 kind_of Queue = kind.Queue
 kind_of Cycle = kind.Filled
 kind_of At = kind.Filled
+kind_of Noise = kind.Filled
 kind_of _ = kind.Number
 
 -- the keys of a table, in the order in which they are tested
@@ -103,7 +105,7 @@ top_required true = Version ∷ Tick ∷ End ∷ Per ∷ Node ∷ []
 
 abbrev pub top_optional : Bool → List Key
 top_optional false = Disturbance ∷ Sync ∷ []
-top_optional true = Disturbance ∷ Sync ∷ Tick ∷ Unit ∷ Controllers ∷ []
+top_optional true = Disturbance ∷ Sync ∷ Tick ∷ Unit ∷ Controllers ∷ Noise ∷ []
 
 -- of a controller that nodes name
 abbrev pub controller_keys : TableKeys

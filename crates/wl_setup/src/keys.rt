@@ -104,6 +104,8 @@ pub enum Key {
     At,
     Deadline,
     Jitter,
+    /// The key `noise`, which the plain form of a document has only if its value is wrong.
+    Noise,
 }
 
 impl Key {
@@ -162,6 +164,7 @@ impl Key {
             Key::At => "at",
             Key::Deadline => "deadline",
             Key::Jitter => "jitter",
+            Key::Noise => "noise",
         }
     }
 
@@ -183,8 +186,13 @@ impl Key {
             Key::Unit => Kind::Unit,
             Key::Queue => Kind::Queue,
             Key::Controllers => Kind::Named,
-            Key::Controller | Key::OfKind | Key::Clock | Key::BitRate | Key::Cycle | Key::At =>
-                Kind::Filled,
+            Key::Controller
+            | Key::OfKind
+            | Key::Clock
+            | Key::BitRate
+            | Key::Cycle
+            | Key::At
+            | Key::Noise => Kind::Filled,
             _ => Kind::Number,
         }
     }
@@ -243,6 +251,7 @@ fn top_optional(wide: bool) -> &'static [Key]
             Key::Tick,
             Key::Unit,
             Key::Controllers,
+            Key::Noise,
         ]
     } else {
         &[Key::Disturbance, Key::Sync]
