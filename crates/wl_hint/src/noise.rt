@@ -69,6 +69,14 @@ fn has_node(top: &Table, noise: &Table) -> bool {
     false
 }
 
+/// True if the plan has a node.
+fn has_nodes(top: &Table) -> bool {
+    match value_named(top, "node").and_then(Value::as_array) {
+        Some(nodes) => !nodes.is_empty(),
+        None => false,
+    }
+}
+
 /// True if the noise says a place on the cable.
 fn has_place(top: &Table, noise: &Table) -> bool {
     let Some(value) = value_named(noise, "x") else {
@@ -94,6 +102,8 @@ fn of_place(top: &Table, noise: &Table) -> &'static str {
         " (no node has the name at its `node`)"
     } else if at_place && !has_place(top, noise) {
         " (its `x` is no place on the cable)"
+    } else if !at_node && !at_place && !has_nodes(top) {
+        " (the plan has no node at whose place it could be)"
     } else {
         ""
     }

@@ -1,5 +1,5 @@
 -- The noise of a plan as disturbances: each burst a table of its own, after those that the plan has (this project's profile).
-use Rattle.std.specs.Prelude.{ℕ, suc, ◌<◌, ◌≤◌, pos, Bool, true, false, ◌||◌, ◌&&◌, not, nat_le, nat_lt, if◌then◌else◌, List, [], ◌∷◌, ◌++◌, length, map, Option, Some, None, option_map, option_and_then, slice_get, unwrap_or, codes}
+use Rattle.std.specs.Prelude.{ℕ, ◌+◌, ◌<◌, ◌≤◌, pos, Bool, true, false, ◌||◌, ◌&&◌, not, nat_le, nat_lt, if◌then◌else◌, List, [], ◌∷◌, ◌++◌, length, map, Option, Some, None, option_map, option_and_then, slice_get, unwrap_or, codes}
 use Rattle.std.specs.List.{list_any}
 use Rattle.std.specs.Str.{bytes_eq}
 use Rattle.toml.specs.Data.{Data, string, integer, array, table, Members, no_members, member, get_member, as_str, as_table}
@@ -52,7 +52,7 @@ abbrev pub is_right : Members → Members → Bool
 is_right noise top =
     has_noise_keys noise
     && (if has (codes "node") noise then not (has (codes "x") noise) && names_node (text_at (codes "node") noise) top
-        else not (has (codes "x") noise) || is_cable_spot (whole_number_at (codes "x") noise))
+    else not (has (codes "x") noise) || is_cable_spot (whole_number_at (codes "x") noise))
 
 -- the key that says where a burst is
 abbrev pub spot_key : Members → List ℕ
@@ -85,8 +85,8 @@ abbrev pub noise_in : Units → Members → Members → ℕ → Option Noise
 noise_in u noise top places = if is_right noise top && nat_lt 0 places then noise_said u noise places else None
 
 -- a burst of which the table of a disturbance can be made, at one of n places
-abbrev pub IsShort : ℕ → Burst → Type 0
-IsShort n burst = (burst.from ≤ LARGEST_WHOLE) × (burst.to ≤ LARGEST_WHOLE) × (burst.place < n)
+abbrev pub IsPlaced : ℕ → Burst → Type 0
+IsPlaced n burst = (burst.from ≤ LARGEST_WHOLE) × (burst.to ≤ LARGEST_WHOLE) × (burst.place < n)
 
 -- a burst as the table of a disturbance
 abbrev pub burst_table : List ℕ → List Data → Burst → Members
@@ -105,8 +105,8 @@ written_or (Some d) all = all
 abbrev pub written : Members → Option (List Data)
 written top = written_or (get_member (codes "disturbance") top) (array_at (codes "disturbance") top)
 
--- as many as a plan may have
-abbrev pub most_in_all : ℕ
+-- how many disturbances a plan may have; the name doesn't unfold, so that no goal computes so many bursts
+unfoldable pub most_in_all : ℕ
 most_in_all = disturbance_limit Wide
 
 abbrev pub unless_many : List Data → Option (List Data)
@@ -115,7 +115,7 @@ unless_many ds = if nat_le (length ds) most_in_all then Some ds else None
 -- those of the plan, and then the bursts that begin before its end
 abbrev pub with_bursts : Members → Members → Option Noise → Option ℕ → Option (List Data) → Option (List Data)
 with_bursts noise top (Some said) (Some end) (Some ds) =
-    unless_many (ds ++ map (burst_data (spot_key noise) (spots noise top)) (bursts said end (suc most_in_all)))
+    unless_many (ds ++ map (burst_data (spot_key noise) (spots noise top)) (bursts said end (most_in_all + 1)))
 with_bursts noise top _ _ _ = None
 
 abbrev pub noisy : Units → Members → Members → Option (List Data)

@@ -1,15 +1,18 @@
 //! The noise of a plan as disturbances.
-ghost use Rattle.std.specs.Prelude.{◌≡◌, ◌≤◌, ◌<◌, ◌++◌, All, IfOk, IfSome, OnOk, length, map, option_map, slice_get, suc, unwrap_or};
+ghost use Rattle.std.specs.Prelude.{◌≡◌, ◌≤◌, ◌<◌, ◌+◌, ◌^◌, All, IfOk, IfSome, OnOk, length, map, option_map, slice_get, unwrap_or};
 ghost use Rattle.std.specs.List.{list_any};
 ghost use Rattle.toml.specs.View.{view, table_view};
 ghost use Rattle.wl_noise.specs.Noise.{IsNoise, bursts};
 ghost use Rattle.wl_plain.specs.Tables.{no_value};
-ghost use Rattle.wl_plain.specs.Noise.{IsShort, burst_data, burst_table, has_noise_keys, is_node_named, is_noise_key, is_right, most_in_all, names_node, noise_in, noise_said, noisy, noisy_of, spot_key, spot_of_node, spots, with_noise, written};
+ghost use Rattle.wl_plain.specs.Noise.{IsPlaced, burst_data, burst_table, has_noise_keys, is_node_named, is_noise_key, is_right, most_in_all, names_node, noise_in, noise_said, noisy, noisy_of, spot_key, spot_of_node, spots, with_noise, written};
 ghost use Rattle.wl_units.specs.declared.ratio.TheConstants.{LARGEST_WHOLE};
 
 use crate::document::member_table;
 use crate::measure::{Row, Units, plain_row};
-use crate::tables::{array_at, has, positive_number_at, put_none, put_number, text_at, value_at, whole_number_at, with_member, without};
+use crate::tables::{
+    array_at, has, positive_number_at, put_none, put_number, text_at, value_at, whole_number_at,
+    with_member, without,
+};
 use std::alloc::{AllocError, Global};
 use toml::{Table, Value};
 use wl_limits::Limits;
@@ -199,7 +202,7 @@ fn burst_tables(
     spots: &[Value],
     bursts: &[Burst],
 ) -> Result<Vec<Value>, AllocError>
-    requires { All (IsShort (length spots.now)) bursts.now }
+    requires { All (IsPlaced (length spots.now)) bursts.now }
     ensures { IfOk result (λ all. map view all.items ≡ map (burst_data key.now (map view spots.now)) bursts.now) }
 {
     let mut all = Vec::new(alloc);
@@ -209,7 +212,16 @@ fn burst_tables(
     Ok(all)
 }
 
-/// Returns the bursts of noise as tables of disturbances, and one more than a plan may have at most.
+/// Returns how many disturbances a plan may have.
+#[tactic(auto, unfolding(crate::specs::Noise::most_in_all))]
+fn most_in_all() -> usize
+    ensures most { result ≡ most_in_all }
+    ensures few { result < 2 ^ 16 }
+{
+    Limits::Wide.disturbance_limit()
+}
+
+/// Returns the bursts of noise as tables of disturbances: at most one more than the disturbances that a plan may have.
 fn burst_values(
     alloc: Global,
     key: &str,
@@ -221,10 +233,9 @@ fn burst_values(
     requires end { end ≤ LARGEST_WHOLE }
     requires places { said.places ≡ length spots.now }
     ensures { IfOk result (λ all. map view all.items
-        ≡ map (burst_data key.now (map view spots.now)) (bursts said end (suc most_in_all))) }
+        ≡ map (burst_data key.now (map view spots.now)) (bursts said end (most_in_all + 1))) }
 {
-    let most = Limits::Wide.disturbance_limit();
-    let all = bursts(alloc, said, end, most + 1)?;
+    let all = bursts(alloc, said, end, most_in_all() + 1)?;
     burst_tables(alloc, key, spots, &all)
 }
 
@@ -274,7 +285,7 @@ fn noisy(
     };
     let mut more = burst_values(alloc, spot_key(noise), &spots, said, end)?;
     all.append(&mut more)?;
-    if all.len() <= Limits::Wide.disturbance_limit() {
+    if all.len() <= most_in_all() {
         Ok(Some(all))
     } else {
         Ok(None)
