@@ -214,6 +214,7 @@ for page in examples/*.toml "$room/marked.toml"; do
 done
 if command -v chromium > /dev/null; then
   is "a page in a browser" python3 -B check/page.py "$program" examples/burst.toml
+  is "the figures of pages in a browser" python3 -B check/figures.py "$program" examples/burst.toml examples/six_ecus.toml examples/cyclic_500k.toml
   is "maps of sweeps in a browser" python3 -B check/page.py "$program" --sweeps
 fi
 
@@ -476,9 +477,12 @@ printf 'error: --link wants hub or mail, and --format text, json, csv, table or 
 runs "a link that is none" examples/clean_500k.toml 2 "$room/none" "$room/fault" run --link post
 runs "a format that is none, run" examples/clean_500k.toml 2 "$room/none" "$room/fault" run --format xml
 printf 'error: --format wants text, json, csv, table or coloured\n' > "$room/fault"
-for word in check explain sweep; do
+for word in check explain; do
   runs "a format that is none, $word" examples/clean_500k.toml 2 "$room/none" "$room/fault" "$word" --format xml
 done
+printf 'error: --format wants text, json, csv, table or coloured, and --spike wants --length, and no --vary, --page, --part and --join\n' > "$room/fault"
+runs "a format that is none, sweep" examples/clean_500k.toml 2 "$room/none" "$room/fault" sweep --format xml
+runs "a spike without its length" examples/clean_500k.toml 2 "$room/none" "$room/fault" sweep --spike sensor
 printf 'error: --only wants lost, error, flag, frame, mode or sync, and --format text, json, csv, table or coloured\n' > "$room/fault"
 runs "a format that is none, trace" examples/clean_500k.toml 2 "$room/none" "$room/fault" trace --format xml
 runs "events that are none, trace" examples/clean_500k.toml 2 "$room/none" "$room/fault" trace --only spikes
@@ -587,6 +591,7 @@ if command -v gcc > /dev/null; then
   is "traffic --format json, each allocation refused" check/refuse.sh "$program" traffic examples/clean_500k.toml --format json
   is "settings, each allocation refused" check/refuse.sh "$program" settings examples/settings/narrow_1m.toml
   is "sweep, each allocation refused" check/refuse.sh "$program" sweep examples/clean_500k.toml --runs 3 --workers 2
+  is "sweep --spike, each allocation refused" check/refuse.sh "$program" sweep examples/clean_500k.toml --spike x=5 --length 100 --runs 3 --workers 2
   [ ! -x "$rows" ] || is "worlds, each allocation refused" python3 check/worlds.py "$rows" refused
 fi
 fi

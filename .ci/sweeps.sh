@@ -24,6 +24,11 @@ for workers in 1 2 3 8; do
   "$program" sweep --runs 700 --step 1 --workers "$workers" < "$long" > "$room/out" 2> "$room/err"
   is "a sweep by $workers threads" [ $? = 1 -a ! -s "$room/err" ] && is "its text by $workers threads" cmp -s "$room/out" "$room/wanted"
 done
+"$program" sweep --spike x=5 --length 2us < examples/clean_500k.toml > "$room/wanted" 2> /dev/null
+for workers in 1 2 3 8; do
+  "$program" sweep --spike x=5 --length 2us --workers "$workers" < examples/clean_500k.toml > "$room/out" 2> "$room/err"
+  is "spikes by $workers threads" [ $? = 1 -a ! -s "$room/err" ] && is "their text by $workers threads" cmp -s "$room/out" "$room/wanted"
+done
 # By hand: perfect clocks, a bit of 16 quanta, five offsets a quantum; the start of frame comes in the quantum of the listener's sample at one
 # quantum's offsets, five of 80.
 node='quantum = 125\nppm = 0\nprop = 6\nps1 = 7\nps2 = 2\nsjw = 1\nout = 40\nin = 40\noffset = 0\n'
@@ -91,7 +96,7 @@ refused 'a plan with fractions' "$room/strange" 1 'fault: Kind(quantum)\n'
 hinted() { # hinted FAULT WORDS..
   local fault=$1 remedy number word=''
   shift
-  remedy=$(grep -hF "| \`${fault/[0-9],/n,}\` |" docs/use/sweeps.md | head -1 | sed 's/ |$//;s/.* | //')
+  remedy=$(grep -hF "| \`${fault/[0-9],/n,}\` |" docs/use/sweeps.md docs/use/spikes.md | head -1 | sed 's/ |$//;s/.* | //')
   if [[ $fault = Range* ]]; then
     number=${fault#Range(} number=${number%%,*}
     word="--vary $(grep -oP -- '(?<=--vary )\S+' <<< "$*" | sed -n "$((number + 1))p"): "
@@ -107,6 +112,13 @@ while IFS='|' read -r words said; do
   # shellcheck disable=SC2086
   [ "$said" = - ] || hinted "${fault%\\n}" $words
 done << 'WORDS'
+--spike nobody --length 9|fault: Spike(Node)\n
+--spike 0 --length 9|fault: Spike(Version)\n
+--spike x=2147483648 --length 9|fault: Spike(Place)\n
+--spike x=5 --length 1fs|fault: Spike(Length)\n
+--spike x=5|-
+--spike x=5 --length 9 --page|-
+--length 9|-
 --vary x=5..1|fault: Range(0, Order)\n
 --vary sjw=1..4 --vary x=5..1|fault: Range(1, Order)\n
 --vary x=1.5..3|fault: Range(0, Form)\n

@@ -28,13 +28,13 @@ TOP = os.path.dirname(os.path.dirname(os.path.realpath(__file__)))
 # How many random inputs of each comparison, and how many a build without proof gets.
 INPUTS = {
     "commands": (60, 12), "traffic": (100, 30), "margin": (200, 40), "candump": (200, 40), "refusals": (200, 60), "record-texts": (400, 60),
-    "plan-texts": (400, 60), "version-3": (200, 40), "settings": (60, 8), "formats": (60, 10), "sweeps": (60, 10), "hints": (100, 20), "workers": (20, 1),
+    "plan-texts": (400, 60), "version-3": (200, 40), "settings": (60, 8), "formats": (60, 10), "sweeps": (60, 10), "spikes": (8, 2), "hints": (100, 20), "workers": (20, 1),
 }
 PARTS = ["examples", "refused", "settings", "formats", "words"]
 ROWS = ["init", "margins", "plans", "records", "settings", "sweeps", "waits"]
 PAGES = [
     "README.md", *(f"docs/use/{it}.md" for it in ["commands", "examples", "explain", "faults", "first-hour", "formats", "judge", "margins", "plan-text", "record-text", "units"]),
-    *(f"docs/use/{it}.md" for it in ["reports", "respond", "settings", "sweeps", "trace", "traffic", "views"]), "docs/bus/any-senders.md",
+    *(f"docs/use/{it}.md" for it in ["reports", "respond", "settings", "spikes", "sweeps", "trace", "traffic", "views"]), "docs/bus/any-senders.md",
 ]
 # What a build without proof doesn't get, and of the other parts what they leave out then: each of these takes it more than ten seconds.
 TOO_LONG = {"settings", "docs/use/sweeps.md"}

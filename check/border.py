@@ -1,14 +1,15 @@
 #!/usr/bin/env python3
 """Power-ups at the border: random families of buses with a cable as long as `margin` allows, run by `sweep`, which should find each of them clean.
 
-usage: border.py PROGRAM [--families N] [--first K] [--seed N] [--followed N] [--listeners] [--room] [--beyond-jump]
+usage: border.py PROGRAM [--families N] [--first K] [--seed N] [--followed N] [--listeners] [--heard] [--room] [--beyond-jump]
 
 A family has two to five nodes, equal or unlike settings, loops from a tick to four quanta, one to all nodes that send, and a tolerance for each.
 Its cable holds for any senders; one tick more doesn't. At the border it is run with random frames, and with long frames whose edges are far
 apart. With --listeners a family has three to five nodes, and one at least that only listens: anywhere on the cable, and some with a loop as long as
-the way to its sample. With --room the border is where `margin` no longer says `proved` for any senders, and with --beyond-jump only families count
-on which a jump there doesn't put right all of ten bits' drift, a look and what gathers. Then, with --followed, failures of some families with longer
-cables are followed back by shorter ones, around their offsets and signs.
+the way to its sample. With --heard it is so, and the border is where one of these no longer has room to hear each frame (`hear_all` of wl_proved).
+With --room the border is where `margin` no longer says `proved` for any senders, and with --beyond-jump only families count on which a jump there
+doesn't put right all of ten bits' drift, a look and what gathers. Then, with --followed, failures of some families with longer cables are followed
+back by shorter ones, around their offsets and signs.
 """
 import argparse
 import random
@@ -77,9 +78,15 @@ def plan_text(nodes):
     return f'version = {version}\nend = {end}\nper = 1\nsync = "book"\n' + "".join(node.lines(f"n{i}") for i, node in enumerate(nodes))
 
 
+def the_bus(nodes):
+    """The bus of these nodes as margin.py has it, with all that have frames as senders."""
+    text = plan_text(nodes).encode()
+    return margin.Family(plain.read_plan(text), margin.clocks_of(plain.read_toml(text))).buses(False)[0]
+
+
 class Program:
-    def __init__(self, path, room=False):
-        self.path, self.runs, self.room = path, 0, room
+    def __init__(self, path, room=False, heard=False):
+        self.path, self.runs, self.room, self.heard = path, 0, room, heard
 
     def said(self, nodes, *words):
         ended = subprocess.run([self.path, *words], input=plan_text(nodes), capture_output=True, text=True)
@@ -88,7 +95,10 @@ class Program:
 
     def holds(self, nodes):
         said = self.said(nodes, "margin")
-        return said.startswith("holds for any senders") and (not self.room or PROVED in said.split("\n", 1)[0])
+        if not said.startswith("holds for any senders") or self.room and PROVED not in said.split("\n", 1)[0]: return False
+        if not self.heard: return True
+        bus = the_bus(nodes)
+        return bus.leaves_room() and bus.hears_all()
 
     def wider(self, nodes):
         """By how many ppm every tolerance may grow; None if the bus isn't at the border's better side as it is."""
@@ -249,8 +259,7 @@ def powered(rng, nodes, waiting):
 def jump_leaves(border):
     """Whether on the bus at the border some jump leaves something of ten bits' drift, a look and what gathers."""
     nodes, _, shares, length = border
-    text = plan_text(placed(nodes, shares, length)).encode()
-    bus = margin.Family(plain.read_plan(text), margin.clocks_of(plain.read_toml(text))).buses(False)[0]
+    bus = the_bus(placed(nodes, shares, length))
     return any(bus.left_over(bus.chases()[2]))
 
 
@@ -333,12 +342,12 @@ def main():
     asked = argparse.ArgumentParser(usage=__doc__.split("usage: ")[1].split("\n")[0])
     asked.add_argument("program")
     for name, value in (("families", 3000), ("first", 0), ("seed", 1), ("followed", 0)): asked.add_argument(f"--{name}", type=int, default=value)
-    for name in ("listeners", "room", "beyond-jump"): asked.add_argument(f"--{name}", action="store_true")
+    for name in ("listeners", "heard", "room", "beyond-jump"): asked.add_argument(f"--{name}", action="store_true")
     asked = asked.parse_args()
-    program, counts, followed, k = Program(asked.program, asked.room), Counter(), Counter(), asked.first
+    program, counts, followed, k = Program(asked.program, asked.room, asked.heard), Counter(), Counter(), asked.first
     while counts["families"] < asked.families:
         rng = random.Random(f"{asked.seed} {k}")
-        k, border = k + 1, family(rng, program, asked.listeners)
+        k, border = k + 1, family(rng, program, asked.listeners or asked.heard)
         if border is None or asked.beyond_jump and not jump_leaves(border): continue
         counts["families"] += 1
         counts.update(at_border(rng, program, border))

@@ -11,6 +11,7 @@ Seed 1 and one process by default. Input N of a seed is always the same, in howe
   examples      each plan of examples/: its report, and what the other commands write of it
   traces        plans with errors, whose traces have to have what their reports count
   traffic       traffic on random plans
+  spikes        sweeps of spikes in random plans, each of some 25 members, and a printed member
   candump       candump on random plans, at random lengths of a tick and seconds of tick 0
   refusals      what explain writes of plans that are refused
   margin        margin, and explain of every other plan, on families around the border of the condition
@@ -52,6 +53,7 @@ WHATS = {
     "examples": ("examples", "examples", 0, {}),
     "traces": ("examples", "traces", 1_000, {}),
     "traffic": ("traffic", "traffic", 1_000, {}),
+    "spikes": ("spike_sweeps", "spikes", 100, {}),
     "candump": ("log", "candump", 1_000, {}),
     "refusals": ("refusals", "refusals", 1_000, {}),
     **{name: ("beside", name, 1_000, {}) for name in ("margin", "settings", "sweeps", "formats", "pages")},

@@ -19,7 +19,7 @@ from pathlib import Path
 TOP = Path(__file__).resolve().parent.parent
 COMMANDS = [
     ["run"], ["run", "--workers", "2"], ["check"], ["explain"], ["margin"], ["margin", "--tick", "125ps"], ["trace"], ["traffic"],
-    ["traffic", "--strict"], ["sweep", "--runs", "3"], ["sweep", "--runs", "2", "--worst"], ["sweep", "--runs", "2", "--vary", "sjw=1..2"],
+    ["traffic", "--strict"], ["respond"], ["respond", "--any-data"], ["sweep", "--runs", "3"], ["sweep", "--runs", "2", "--worst"], ["sweep", "--runs", "2", "--vary", "sjw=1..2"],
     ["sweep", "--runs", "2", "--vary", "sjw=1..2", "--vary", "end=50000..60000:10000"],
     ["sweep", "--runs", "2", "--vary", "sjw=1..2", "--vary", "ps2=2..3", "--vary", "end=50000..60000:10000"],
 ]
@@ -47,7 +47,7 @@ def shown(name, value):
     """Returns a value as the text has it, or None if it has another form there."""
     if value is None:
         return None
-    if name in {"id", "bytes"}:
+    if name in {"id", "by_id", "bytes"}:
         return value[2:] or "-"
     return value
 
@@ -72,7 +72,7 @@ def line_differs(line, record):
         found = place_of(text, line, at)
         if found < 0:
             # Given of lines that don't say it: no count is none, and a clean run has none.
-            if value == "0" and name in {"too_early", "refused", "errors", "unsent"} or value == "does not hold":
+            if value == "0" and name in {"too_early", "refused", "errors", "unsent"} or value in {"does not hold", "deadlines missed"}:
                 continue
             return f"{name} = {value} is not there"
         left += line[at:found] + " "

@@ -57,7 +57,7 @@ def differences(program, plan, runs):
     why = [it for it in margin if it.startswith(OTHERS)]
     if [it for it in lines if it.startswith(OTHERS)] != why: found.append(f"reasons {why}")
     respond = said(program, "respond", plan)[1]
-    found += pairs(lines, margin) + reserve(lines, margin) + waits(lines, respond) + waited(traffic, respond)
+    found += pairs(lines, margin) + reserve(lines, margin) + waits(lines, respond) + waited(traffic, respond) + noise(lines, margin)
     if word == "works" and reason == "works": found += swept(program, plan, runs)
     return found, word if word != "works" else lines[0].split("_")[0]
 
@@ -99,6 +99,13 @@ def waits(lines, respond):
         row = rows[bounds.index(max(bounds))]
         wanted[1:1] = [f"longest {row[row.index('us') + 1]} us, {row[3]} of {row[2]}"]
     return [] if mine == wanted else [f"waits {mine}, wanted {wanted}"]
+
+
+def noise(lines, margin):
+    """The last line is the one of margin on one spike; of a plan for which the condition doesn't hold nothing is known."""
+    wanted = [it for it in margin if it.startswith("noise: ") and " spike " in it] or ["noise: not known, but for the disturbances of this run"]
+    mine = [it for it in lines if it.startswith("noise: ")]
+    return [] if mine == wanted == lines[-1:] else [f"noise {mine}, wanted {wanted}"]
 
 
 def waited(traffic, respond):

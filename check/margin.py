@@ -161,6 +161,17 @@ class Bus:
     def leaves_room(self):
         return next(self.lacks(), None) is None
 
+    def hears_all(self):
+        """Whether no node that only listens sends, and eleven bits' drift fits before the sample of each, as if it spoke."""
+        d, (_, _, chase) = self.delay, self.chases()
+        left = self.left_over(chase)
+
+        def is_deaf(i, k):
+            late = d(i, k) + d(k, i) + self.look[i] + self.gathered(chase, k, i) + left[k]
+            return late + 11 * self.drift(k, i) > self.sample[i] * self.low[i]
+
+        return not any(i in self.sends or any(is_deaf(i, k) for k in self.others(i)) for i in range(self.n) if self.listens[i])
+
     def is_asked(self, kind, i, j):
         """Whether nodes i and j are asked: of one node only whether its own bit is back, of what a listener drives nothing, of two listeners nothing."""
         if kind == LATE: return i == j or not self.listens[j]
@@ -414,6 +425,36 @@ class Text:
             yield f"does not hold: {self.failure(*of_one)}"
         yield from self.pairs(of_any is not None)
         yield from self.searches(proved=of_any is None and why_any is None)
+        if of_any is None or of_one is None: yield from self.noise(of_any is not None)
+
+    def worst_spike(self, one):
+        """Returns sender, receiver, late and jumps of the pair of which one spike may hide a frame by most, the first of equal ones, or None."""
+        buses = self.family.buses(one)
+        bus, lacks = buses[0], []
+        for i in self.family.senders:
+            for j in bus.others(i):
+                if bus.listens[j]: continue
+                left, right = self.family.sides(buses, LATE, i, j)
+                jumps = bus.sjw[j] * bus.high[j] + bus.jump[i]
+                lacks.append((jumps - max(0, right - left), -i, -j, left, right, jumps))
+        worst = max(lacks, default=None, key=lambda it: it[:3])
+        return None if worst is None or worst[0] <= 0 else (-worst[1], -worst[2], *worst[3:])
+
+    def spike(self, one):
+        worst = self.worst_spike(one)
+        if worst is None: return "noise: no spike shorter than a bit hides a frame from an error active node that acknowledges, as far as searched"
+        i, j, left, right, jumps = worst
+        return (f"noise: one spike may hide a frame of {self.names[i]} from {self.names[j]}, as far as searched: late {self.spare(left, right, i)}, "
+                f"and their jumps take {self.amount(jumps, i, ceil)}")
+
+    def noise(self, one):
+        bus = self.family.buses(one)[0]
+        time = min(bit * low for bit, low in zip(bus.bit, bus.low)) * 242 * self.tick // T // 1000
+        yield "noise: error active nodes that acknowledge are in step again 209 bits after a disturbance, on one wire, proved: active_machines_heal"
+        yield (f"noise: n bits raise a TEC by n + 13 at most, so from 0 to bus off it takes more than 242 bits ({point(time, 3)} us), "
+               "proved: what_a_disturbance_counts")
+        yield self.spike(one)
+        yield "noise: an error passive node may need 5 idle bits after each frame to be in step again, as far as searched"
 
     def searches(self, asked=3, proved=False):
         searches = ("cable", " units longer", longer_cable), ("tolerance", " ppm wider", wider_tolerance), ("help", "", first_help)

@@ -773,6 +773,7 @@ def read_plan(text):
     for node in top["node"]:
         clock = {"rates": TABLES} if version == 2 or version >= 3 and "rates" in node else clock_keys(node)
         listen = {"listen": TRUTH} if version >= 3 else {}
+        if version >= 4: listen |= {"ppm": PPM} if clock is FRACTION else {}
         if version >= 4: listen |= {"queue": ORDER, "until": NUMBER}
         test_keys(node, {"name": NAME, "offset": NUMBER} | clock | length_keys(version, node), {"frame": TABLES, "tolerance": TOLERANCE} | listen)
         for rate in node.get("rates", []): test_keys(rate, {"from": NUMBER} | clock_keys(rate), {})
@@ -797,9 +798,11 @@ def table_frame(table):
 
 
 def table_rate(i, start, table):
-    if "quantum" not in table: return Rate(start, table["num"], table["den"])
+    if "quantum" not in table and "ppm" not in table: return Rate(start, table["num"], table["den"])
     refuse(f"NodeClock({i}, %s)", "" if abs(table["ppm"]) <= 100_000 else "BadPpm")
-    return Rate(start, table["quantum"] * (1_000_000 + table["ppm"]), 1_000_000)
+    if "quantum" in table: return Rate(start, table["quantum"] * (1_000_000 + table["ppm"]), 1_000_000)
+    deviated = Fraction(table["num"] * (1_000_000 + table["ppm"]), table["den"] * 1_000_000)
+    return Rate(start, deviated.numerator, deviated.denominator)
 
 
 def instances(clock, end, table, ready, most):

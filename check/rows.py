@@ -2,7 +2,7 @@
 """Asks built programs the rows of check/rows/, and compares status, standard output and standard error, byte for byte.
 
 usage: rows.py PROGRAM[,PROGRAM..] [FILE|FOLDER..]   each program in turn; all of check/rows/ if nothing is named
-       rows.py independent [FILE|FOLDER..]           plain.py, margin.py, settings.py and sweeps.py in the place of a program
+       rows.py independent [FILE|FOLDER..]           plain.py, margin.py, settings.py, sweeps.py and traffic.py in its place
 
 A folder has the rows of one subject, in files NAME.rows, and the texts that they are about. The lines of such a file:
 - `% REMARK`; `% long` before a row: a build without proof, which takes long, isn't asked it (LIGHT=1, as .ci/test.py sets it)
@@ -36,7 +36,7 @@ TOP = Path(__file__).resolve().parent.parent
 SECONDS = 300
 ROW = re.compile(r"\$(\*?) (.*?)(?: ([:<])(!?)(?: (.*))?)?", re.S)
 ESCAPE = re.compile(r"\\(n|r|t|\\|i|x[0-9A-Fa-f]{2})|\\")
-OWN = {"margin": "margin.py", "settings": "settings.py", "sweep": "sweeps.py"}  # commands that plain.py hasn't
+OWN = {"margin": "margin.py", "settings": "settings.py", "sweep": "sweeps.py", "traffic": "traffic.py"}  # commands that plain.py hasn't
 PLAIN = {"n": b"\n", "r": b"\r", "t": b"\t", "\\": b"\\"}
 
 
@@ -177,6 +177,7 @@ def by_another(words, text):
     if word == "run" and options[:1] == ["--workers"]: options = options[2:]
     if "--strict" in options and word in OWN: return None
     if word == "settings" and any(it in options for it in ("--kind", "--clock", "--bitrate", "--cable", "--format", "--apply")): return None
+    if re.search(rb"^(tick|clock) = ", text, re.M) and word != "settings": return None  # they read no units
     if word in OWN: script = [OWN[word]]
     elif options or word == "judge": return None
     else: script = ["plain.py", word]

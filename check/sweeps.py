@@ -3,8 +3,11 @@
 
 usage: sweeps.py [--program PROGRAM] [--jobs N] WORD.. < PLAN      standard output, standard error and status as `sweep WORD..` has them
 
+Words with --spike are answered by spike_sweeps.py.
+
 With --program members are run by a build of wl_sim in the place of plain.py: less independent, and a thousand times as fast.
 """
+import importlib
 import json
 import os
 import re
@@ -497,6 +500,9 @@ def main():
         if words[0] == "--jobs": jobs = int(words[1])
         else: program = words[1]
         del words[:2]
+    if any(word.startswith("--spike") for word in words):
+        sys.argv[1:] = words
+        return importlib.import_module("spike_sweeps").main()
     try:
         request, text = request_of(words), sys.stdin.read()
     except (IndexError, ValueError):

@@ -1,8 +1,9 @@
 #!/usr/bin/env python3
 """The traffic of plans by a second program, over plain.py's simulation: load and gap of the bus, what each message waited, and why a run
-didn't work. It shares no line with the proved program. The definitions are in docs/use/traffic.md. Bounds of waits are in check/respond.py.
+didn't work. It shares no line with the proved program. The definitions are in docs/use/traffic.md, and that of a silence in docs/bus/noise.md.
+What `margin` says of a disturbed bus is margin.py's. Bounds of waits are in check/respond.py.
 
-usage: traffic.py text [TICK]      the traffic of a plan from standard input
+usage: traffic.py [text [TICK]]    the traffic of a plan from standard input
 
 It is the comparison `traffic` of compare.py, too.
 """
@@ -11,9 +12,11 @@ import random
 import re
 import sys
 from collections import Counter
+from itertools import zip_longest
 from pathlib import Path
 
 sys.dont_write_bytecode = True
+import margin
 import plain
 import random_plans
 from tally import asked_bare
@@ -175,6 +178,58 @@ def healed(plan, nodes, tick):
     if clean < plan.end: yield f"healed {(clean - last) * tick // 1_000_000} us after the last disturbance, clean from tick {clean} on"
 
 
+def lack(text, plan, tick):
+    """What `margin` names first that the law on a silence lacks of the plan without its disturbances, in its words, or None. Its times of first frames don't count."""
+    top = plain.read_toml(text)
+    clocks = margin.clocks_of(top)
+    if not margin.are_clocks(clocks): return margin.NO_CLOCK
+    family = margin.Family(plan, clocks)
+    said = margin.stray_line(top, plan, family) or margin.outside(plan)
+    if said: return said
+    family.all_send, words = True, margin.Text(family, tick)
+    of_any, of_one = (next(family.failures(one), None) for one in (False, True))
+    if of_any: return f"any senders: {words.failure(*of_any)}" if of_one is None else f"does not hold: {words.failure(*of_one)}"
+    turning = any(len(rates) > 1 for rates, _ in clocks)
+    leavers = [] if turning else [f"{node.name} leaves the bus" for node in plan.nodes if node.until is not None]
+    causes = leavers or list(words.causes(True))
+    return f"not proved: {causes[0]}" if causes else None
+
+
+def fit_since(node):
+    """The tick since which a node is on the bus and error active, by its samples up to the last one, or None."""
+    since = node.setup.clock.at(0)
+    for tick, (_, _, mode, word) in node.states[1:]:
+        if mode != "active" or word == "bus_off": since = None
+        elif since is None: since = tick
+    return since
+
+
+def first_pause(plan, nodes, settled):
+    """The first tick from which on nobody drives dominant for 36 bits of each node and a quantum, after what was driven before has come to it; and the tick after them."""
+    way = [max(plan.delay(k, i) for k in range(len(nodes))) for i in range(len(nodes))]
+    bits = [setup.clock.at(36 * setup.segments.bit_quanta() + 1) - setup.clock.at(0) for setup in plan.nodes]
+    long = max(map(sum, zip(way, bits)))
+    driven = [stretch for node in nodes for stretch in zip_longest(node.changes[::2], node.changes[1::2], fillvalue=plan.end)]
+    at = settled
+    for start, stop in sorted(driven):
+        if at + long < start: break
+        at = max(at, stop)
+    return at, at + long + 1
+
+
+def silent(text, plan, nodes, tick):
+    """From which tick on a disturbed bus is clean, by the law on a silence, or why that isn't proved."""
+    if not plan.disturbances: return
+    lacking = lack(text, plan, tick)
+    if lacking: return (yield f"not proved clean; margin: {lacking}")
+    since = [fit_since(node) for node in nodes]
+    if None in since: return (yield f"not proved clean: {plan.nodes[since.index(None)].name} is error passive or bus off at the end")
+    over = [end for stretches in plain.Line(plan, nodes).disturbed for start, end in stretches if start < plan.end]
+    begin, end = first_pause(plan, nodes, max(since + over))
+    if end <= plan.end: yield f"clean from tick {end} on, after a silence from tick {begin} on, proved: a_silent_run_speaks_for_each_plan"
+    else: yield "not proved clean: no silence of 36 bits follows the disturbances"
+
+
 def kind_of(frame):
     return frame.extended, frame.id, frame.remote
 
@@ -220,14 +275,15 @@ def verdict(setups, nodes, full, tick, words):
     return deaf + [f"verdict {'deaf' if deaf else 'works'}"]
 
 
-def traffic_text(plan, tick=1_000):
+def traffic_text(text, tick=1_000):
+    plan = plain.read_plan(text)
     nodes = plain.simulate(plan)
     free = pauses(plan.nodes, nodes, plan.end)
     full = plan.end - max((after for _, after in free), default=0)
     lines = [bus_words(free, plan.end, tick)]
     for i, (setup, node) in enumerate(zip(plan.nodes, nodes)): lines += messages(i, setup, node, tick)
     words = list(unequal(plan.nodes, nodes))
-    return lines + words + list(healed(plan, nodes, tick)) + verdict(plan.nodes, nodes, full, tick, words)
+    return lines + words + list(healed(plan, nodes, tick)) + list(silent(text, plan, nodes, tick)) + verdict(plan.nodes, nodes, full, tick, words)
 
 
 def picoseconds(word):
@@ -235,7 +291,7 @@ def picoseconds(word):
 
 
 plain.Node = Watched
-plain.COMMANDS["traffic"] = lambda text: traffic_text(plain.read_plan(text))
+plain.COMMANDS["traffic"] = traffic_text
 
 
 def busy_input(rng):
@@ -261,9 +317,9 @@ def traffic(tally, program, seed, numbers, options):
 
 def main():
     words = sys.argv[1:]
-    if words[:1] != ["text"]: sys.exit(__doc__)
+    if words[:1] not in ([], ["text"]): sys.exit(__doc__)
     try:
-        lines = traffic_text(plain.read_plan(sys.stdin.buffer.read()), picoseconds((words[1:] + ["1ns"])[0]))
+        lines = traffic_text(sys.stdin.buffer.read(), picoseconds((words[1:] + ["1ns"])[0]))
     except plain.Fault as fault:
         sys.exit(f"fault: {fault}")
     print("\n".join(lines))

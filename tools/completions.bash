@@ -24,8 +24,8 @@ _wireline() {
     judge) options+=' --tick --explain --format' ;;
     respond) options+=' --tick --any-data --strict --format' ;;
     traffic) options+=' --tick --strict --format' ;;
-    settings) options+=' --tick --best --plan --apply --strict --kind --clock --bitrate --cable --per --out --in --tolerance --senders --rate-error --sample-point --nodes --format' ;;
-    sweep) options+=' --vary --step --runs --seed --keep-offsets --keep-ppm --worst --workers --print --page --part --join --format' ;;
+    settings) options+=' --tick --best --plan --apply --strict --kind --clock --bitrate --cable --per --out --in --tolerance --senders --rate-error --sample-point --nodes --sjw --format' ;;
+    sweep) options+=' --vary --step --runs --seed --keep-offsets --keep-ppm --worst --workers --print --page --part --join --spike --length --format' ;;
   esac
   if [ "$COMP_CWORD" = 1 ]; then
     mapfile -t COMPREPLY < <(compgen -W 'init judge run margin explain respond traffic check settings sweep trace page vcd candump records format merge horizon build test completions help' -- "$word")

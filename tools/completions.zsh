@@ -29,13 +29,14 @@ _wireline() {
       '*--kind[the kind of a controller]:kind:' '*--clock[the frequency of its clock]:frequency:' '--bitrate[the bit rate]:rate:'
       '--cable[the length of the cable]:length:' '--per[the time along a metre of cable]:time:' '--out[the time from a node to the cable]:time:'
       '--in[the time from the cable to a node]:time:' '--tolerance[how far clocks may be off]:ppm:' '--senders[one or any]:who:(one any)'
-      '--rate-error[how far the bit rate may be off]:ppm:' '--sample-point[the usual sample point]:percent:' '--nodes[how many nodes the bus has]:n:' $format
+      '--rate-error[how far the bit rate may be off]:ppm:' '--sample-point[the usual sample point]:percent:' '--nodes[how many nodes the bus has]:n:' '--sjw[the greatest jump width]:quanta:' $format
     ) ;;
     sweep) options+=(
       '*--vary[a row for each value]:[NODE.]KEY=A..B[\:STEP]:' '--step[ticks between two offsets]:ticks:' '--runs[the most members of a row that are run]:number:'
       '--seed[which random part]:number:' '--keep-offsets[offsets as the plan has them]' '--keep-ppm[signs as the plan has them]'
       '--worst[frames that test the clocks]' '--workers[how many threads]:number:(1 2 3 4 5 6 7 8)' '--print[one member as a plan]:number:'
-      '--page[a map as a page of HTML]' '--part[the K-th of N parts of the members]:K/N:' '--join[what all parts say together]' $format
+      '--page[a map as a page of HTML]' '--part[the K-th of N parts of the members]:K/N:' '--join[what all parts say together]'
+      '--spike[a spike more, at a node or a place]:NODE or x=PLACE:' '--length[how long the spike takes]:TIME:' $format
     ) ;;
     completions) compadd bash zsh fish && return ;;
   esac

@@ -17,3 +17,4 @@ pub mod Twelve
 pub mod Third
 pub mod ThirdRoom
 pub mod ThirdStart
+pub mod Second

@@ -4,6 +4,7 @@ mod OneFrame
 mod FirstFrame
 mod FrameEnd
 mod NextFrames
+mod ThirdBit
 mod PassedFrames
 mod SentFrames
 mod TakesPart

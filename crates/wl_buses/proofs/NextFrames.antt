@@ -20,3 +20,4 @@ pub mod Rows
 pub mod Through
 pub mod Windows
 pub mod Winning
+pub mod Reached

@@ -10,6 +10,8 @@ pub mod Expecting
 pub mod Going
 pub mod Ideal
 pub mod Idling
+pub mod Joined
+pub mod Joining
 pub mod Lasting
 pub mod Lines
 pub mod Machines

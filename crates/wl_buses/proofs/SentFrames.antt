@@ -1,6 +1,7 @@
 pub mod Counting
 pub mod Fewer
 pub mod Handing
+pub mod Joined
 pub mod Nexting
 pub mod Planned
 pub mod Rows

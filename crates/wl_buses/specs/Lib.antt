@@ -4,6 +4,7 @@ pub mod OneFrame
 pub mod FirstFrame
 pub mod FrameEnd
 pub mod NextFrames
+pub mod ThirdBit
 pub mod PassedFrames
 pub mod SentFrames
 pub mod TakesPart

@@ -8,6 +8,7 @@ pub mod Plans
 pub mod Machines
 pub mod Acknowledged
 pub mod Expected
+pub mod Joins
 pub mod Answers
 pub mod Nodes
 pub mod Lines

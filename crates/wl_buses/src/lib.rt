@@ -19,3 +19,4 @@ pub mod one_sender;
 pub mod passed_frames;
 pub mod sent_frames;
 pub mod takes_part;
+pub mod third_bit;

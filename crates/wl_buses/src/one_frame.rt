@@ -6,5 +6,6 @@
 pub mod ack;
 pub mod before;
 pub mod ending;
+pub mod joining;
 pub mod laws;
 pub mod waits;

@@ -10,7 +10,7 @@ use Rattle.wl_c.specs.declared.status.Status.TheVariants.{Done, Refused, Asked, 
 
 module _ (out out' : List ℕ) (needed : ℕ) (text : List ℕ) (order : Order) where
   -- why nothing was shown
-  not_shown : (whole : Status) (said : List ℕ) (e status : Status) → Says text order.task whole said → FailsToShow order said e
+  not_shown : (whole : Status) (said : List ℕ) (e status : Status) → Says text order.format order.task whole said → FailsToShow order said e
       → status ≡ e → IsUntouched out out' needed → EndsOrder out out' needed text order status
   not_shown whole said Memory status says fails is none = subst (λ x. EndsOrder out out' needed text order x) (sym is) none
   not_shown whole said Shape status says fails is none =
@@ -32,7 +32,7 @@ module _ (out out' : List ℕ) (needed : ℕ) (text : List ℕ) (order : Order) 
 
   shown_ends : {Z : Type 0} (whole : Status) (said : List ℕ) (shown : Result (Vec ℕ Z) Status) (status : Status)
       → ((b : List ℕ) → IsWhole order text whole b → Holds out out' needed b → EndsOrder out out' needed text order whole)
-      → Says text order.task whole said
+      → Says text order.format order.task whole said
       → IfOk shown (λ bytes. IsShownAs whole order.format (subject_name order.task) said bytes.items)
       → IfErr shown (λ e. FailsToShow order said e)
       → IfOk shown (λ bytes. Puts out out' needed whole bytes.items status)
@@ -43,7 +43,7 @@ module _ (out out' : List ℕ) (needed : ℕ) (text : List ℕ) (order : Order) 
       not_shown whole said e status says fails none.0 (none.2 ∙ zero, none.1)
 
   pub done_ends : {Z : Type 0} (said : List ℕ) (shown : Result (Vec ℕ Z) Status) (status : Status)
-      → Says text order.task Done said
+      → Says text order.format order.task Done said
       → IfOk shown (λ bytes. IsShownAs Done order.format (subject_name order.task) said bytes.items)
       → IfErr shown (λ e. FailsToShow order said e)
       → IfOk shown (λ bytes. Puts out out' needed Done bytes.items status)
@@ -52,7 +52,7 @@ module _ (out out' : List ℕ) (needed : ℕ) (text : List ℕ) (order : Order) 
   done_ends said shown status = shown_ends Done said shown status (λ b is holds. (b, is, holds))
 
   pub refused_ends : {Z : Type 0} (said : List ℕ) (shown : Result (Vec ℕ Z) Status) (status : Status)
-      → Says text order.task Refused said
+      → Says text order.format order.task Refused said
       → IfOk shown (λ bytes. IsShownAs Refused order.format (subject_name order.task) said bytes.items)
       → IfErr shown (λ e. FailsToShow order said e)
       → IfOk shown (λ bytes. Puts out out' needed Refused bytes.items status)

@@ -1,7 +1,7 @@
 -- How a call ends: its status, the count of bytes, and the caller's buffer (this project's profile).
 use Rattle.std.specs.Prelude.{◌≡◌, ◌<◌, ◌≤◌, ℕ, List, [], ◌∷◌, ◌++◌, drop, length, Option, Some, None}
 use Rattle.wl_formats.specs.Formats.{formatted}
-use Rattle.wl_formats.specs.declared.formats.Format.{Format}
+use Rattle.wl_lines.specs.declared.formats.Format.{Format}
 use Rattle.wl_formats.specs.declared.tables.Subject.{Subject}
 use Rattle.wl_c.specs.Orders.{subject_name}
 use Rattle.wl_c.specs.Statuses.{status_code}
@@ -11,22 +11,24 @@ use Rattle.wl_c.specs.declared.status.Status.{Status}
 use Rattle.wl_c.specs.declared.status.Status.TheVariants.{Done, Refused, Asked, Memory, Room, Shape}
 
 -- what is said, in its form; a refusal of which nothing is said is no byte in any form
-abbrev pub IsInForm : Option Format → Subject → List ℕ → List ℕ → Type 0
+abbrev pub IsInForm : Option Format → Option Subject → List ℕ → List ℕ → Type 0
 IsInForm None subject said bytes = bytes ≡ said
-IsInForm (Some format) subject said bytes = formatted format subject said ≡ Some bytes
+IsInForm (Some format) None said bytes = bytes ≡ said
+IsInForm (Some format) (Some subject) said bytes = formatted format subject said ≡ Some bytes
 
-abbrev pub IsRefusalIn : Option Format → Subject → List ℕ → List ℕ → Type 0
+abbrev pub IsRefusalIn : Option Format → Option Subject → List ℕ → List ℕ → Type 0
 IsRefusalIn format subject [] bytes = bytes ≡ []
 IsRefusalIn format subject (byte ∷ said) bytes = IsInForm format subject (byte ∷ said) bytes
 
-abbrev pub IsShownAs : Status → Option Format → Subject → List ℕ → List ℕ → Type 0
+abbrev pub IsShownAs : Status → Option Format → Option Subject → List ℕ → List ℕ → Type 0
 IsShownAs Refused = IsRefusalIn
 IsShownAs _ = IsInForm
 
 -- a line of what is said has no other form
-abbrev pub HasNoForm : Option Format → Subject → List ℕ → Type 0
+abbrev pub HasNoForm : Option Format → Option Subject → List ℕ → Type 0
 HasNoForm None subject said = ⊥
-HasNoForm (Some format) subject said = formatted format subject said ≡ None
+HasNoForm (Some format) None said = ⊥
+HasNoForm (Some format) (Some subject) said = formatted format subject said ≡ None
 
 -- why what is said isn't shown in an order's form
 abbrev pub FailsToShow : Order → List ℕ → Status → Type 0
@@ -38,10 +40,10 @@ module _ (order : Order) (text : List ℕ) where
   -- these bytes are the whole of what is to be written, with this status
   abbrev pub IsWhole : Status → List ℕ → Type 0
   IsWhole status bytes =
-      (said : List ℕ) × Says text order.task status said × IsShownAs status order.format (subject_name order.task) said bytes
+      (said : List ℕ) × Says text order.format order.task status said × IsShownAs status order.format (subject_name order.task) said bytes
 
   abbrev pub IsShapeless : Type 0
-  IsShapeless = (status : Status) × (said : List ℕ) × Says text order.task status said × HasNoForm order.format (subject_name order.task) said
+  IsShapeless = (status : Status) × (said : List ℕ) × Says text order.format order.task status said × HasNoForm order.format (subject_name order.task) said
 
 module _ (out out' : List ℕ) (needed : ℕ) where
   -- nothing was written

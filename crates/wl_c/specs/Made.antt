@@ -1,8 +1,9 @@
 -- What an engine made of a text, before it is written (this project's profile).
-use Rattle.std.specs.Prelude.{◌≡◌, ℕ, List, Result, Ok, Err}
+use Rattle.std.specs.Prelude.{◌≡◌, ℕ, List, Option, Result, Ok, Err}
 use Rattle.wl_setup.specs.declared.fault.SetupFault.{SetupFault}
 use Rattle.wl_engines.specs.declared.fault.RunFault.{RunFault}
 use Rattle.wl_engines.specs.declared.fault.RunFault.TheVariants.{Setup}
+use Rattle.wl_lines.specs.declared.formats.Format.{Format}
 use Rattle.wl_c.specs.Texts.{Says}
 use Rattle.wl_c.specs.declared.asked.Task.{Task}
 use Rattle.wl_c.specs.declared.engines.Made.{Made}
@@ -27,5 +28,5 @@ ByMade IsOutput IsRefusal (Refusal said) = IsRefusal said.items
 ByMade IsOutput IsRefusal OutOfMemory = Unit {0}
 
 -- what was made is what the command says of the text, unless memory ran out
-abbrev pub Makes : Task → List ℕ → Made → Type 0
-Makes task text made = ByMade (Says text task Done) (Says text task Refused) made
+abbrev pub Makes : Option Format → Task → List ℕ → Made → Type 0
+Makes format task text made = ByMade (Says text format task Done) (Says text format task Refused) made

@@ -1,7 +1,7 @@
 -- What a call asks for, by its numbers (this project's profile).
 use Rattle.std.specs.Prelude.{ℕ, ◌/◌, ◌%◌, ◌==◌, ◌&&◌, nat_lt, Bool, not, if◌then◌else◌, Option, Some, None, option_map, option_and_then}
-use Rattle.wl_formats.specs.declared.formats.Format.{Format}
-use Rattle.wl_formats.specs.declared.formats.Format.TheVariants.{Json, Csv}
+use Rattle.wl_lines.specs.declared.formats.Format.{Format}
+use Rattle.wl_lines.specs.declared.formats.Format.TheVariants.{Json, Csv}
 use Rattle.wl_formats.specs.declared.tables.Subject.{Subject}
 use Rattle.wl_formats.specs.declared.tables.Subject.TheVariants as subject
 use Rattle.wl_views.specs.declared.tick.TimeUnit.{TimeUnit}
@@ -12,15 +12,15 @@ use Rattle.wl_c.specs.declared.asked.Order.{Order}
 use Rattle.wl_c.specs.declared.asked.Task.{Task}
 use Rattle.wl_c.specs.declared.asked.Task.TheVariants.{Run, Check, Explain, Margin, Traffic, Respond, Judge}
 
--- the command's name for another format
-abbrev pub subject_name : Task → Subject
-subject_name Run = subject.Run
-subject_name Check = subject.Check
-subject_name Explain = subject.Explain
-subject_name (Margin tick all) = subject.Margin
-subject_name (Traffic tick) = subject.Traffic
-subject_name (Respond tick) = subject.Respond
-subject_name (Judge tick) = subject.Judge
+-- the command's name, if another format is made of its text; `respond` makes its formats itself
+abbrev pub subject_name : Task → Option Subject
+subject_name Run = Some subject.Run
+subject_name Check = Some subject.Check
+subject_name Explain = Some subject.Explain
+subject_name (Margin tick all) = Some subject.Margin
+subject_name (Traffic tick) = Some subject.Traffic
+subject_name (Respond tick) = None
+subject_name (Judge tick) = Some subject.Judge
 
 -- the form of a number: text, JSON or CSV
 abbrev pub format_of : ℕ → Option (Option Format)

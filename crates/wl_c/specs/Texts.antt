@@ -1,5 +1,5 @@
 -- What the commands say of a plan's text (this project's profile).
-use Rattle.std.specs.Prelude.{◌≡◌, ◌≢◌, ◌≤◌, nat_le, ℕ, Bool, false, MatchBool, List, [], ◌++◌, length, if◌then◌else◌, Result, Ok, Err}
+use Rattle.std.specs.Prelude.{◌≡◌, ◌≢◌, ◌≤◌, nat_le, ℕ, Bool, false, MatchBool, List, [], ◌++◌, length, if◌then◌else◌, Option, Result, Ok, Err}
 use Rattle.wl_plan.specs.declared.plan.Plan.{Plan}
 use Rattle.wl_setup.specs.Buses.{bus_of_text}
 use Rattle.wl_setup.specs.Check.{IsPlanCheck}
@@ -17,6 +17,7 @@ use Rattle.wl_engines.specs.Margin.{IsMarginOutput}
 use Rattle.wl_engines.specs.Plans.{IsRunOutput}
 use Rattle.wl_engines.specs.Responded.{IsResponse}
 use Rattle.wl_engines.specs.TrafficRun.{IsTrafficOutput}
+use Rattle.wl_lines.specs.declared.formats.Format.{Format}
 use Rattle.wl_c.specs.declared.asked.Task.{Task}
 use Rattle.wl_c.specs.declared.asked.Task.TheVariants.{Run, Check, Explain, Margin, Traffic, Respond, Judge}
 use Rattle.wl_c.specs.declared.status.Status.{Status}
@@ -52,15 +53,15 @@ module _ (text : List ℕ) where
     abbrev pub IsAnswered : List ℕ → Type 0
     IsAnswered said = (length text ≤ most_bytes) × (a : A) × IsSaid text said a
 
-  -- the output of a command
-  abbrev pub IsOutputOf : Task → List ℕ → Type 0
-  IsOutputOf Run said = IsOfRun IsRunOutput said
-  IsOutputOf Check said = IsOfPlan IsPlanCheck said
-  IsOutputOf Explain said = IsOfBus (IsExplanationOf text) said
-  IsOutputOf (Margin tick all) said = IsOfBus (IsMarginOutput tick all) said
-  IsOutputOf (Respond tick) said = IsAnswered (IsResponse tick false) said
-  IsOutputOf (Traffic tick) said = IsAnswered (IsTrafficOutput tick) said
-  IsOutputOf (Judge tick) said = IsAnswered (IsJudged tick false) said
+  -- the output of a command: of `respond` in a format, of the others as text
+  abbrev pub IsOutputOf : Option Format → Task → List ℕ → Type 0
+  IsOutputOf format Run said = IsOfRun IsRunOutput said
+  IsOutputOf format Check said = IsOfPlan IsPlanCheck said
+  IsOutputOf format Explain said = IsOfBus (IsExplanationOf text) said
+  IsOutputOf format (Margin tick all) said = IsOfBus (IsMarginOutput tick all) said
+  IsOutputOf format (Respond tick) said = IsAnswered (IsResponse tick false format) said
+  IsOutputOf format (Traffic tick) said = IsAnswered (IsTrafficOutput tick) said
+  IsOutputOf format (Judge tick) said = IsAnswered (IsJudged tick false) said
 
   -- no plan is read from the text, but this fault, and nothing is said of that
   abbrev pub HasNoPlan : List ℕ → Type 0
@@ -89,10 +90,10 @@ module _ (text : List ℕ) where
   IsRefusalOf (Judge tick) said = HasNoBus said
 
   -- what a command says, and whether it is the output or a refusal
-  abbrev pub Says : Task → Status → List ℕ → Type 0
-  Says task Done said = IsOutputOf task said
-  Says task Refused said = IsRefusalOf task said
-  Says task Asked said = ⊥
-  Says task Memory said = ⊥
-  Says task Room said = ⊥
-  Says task Shape said = ⊥
+  abbrev pub Says : Option Format → Task → Status → List ℕ → Type 0
+  Says format task Done said = IsOutputOf format task said
+  Says format task Refused said = IsRefusalOf task said
+  Says format task Asked said = ⊥
+  Says format task Memory said = ⊥
+  Says format task Room said = ⊥
+  Says format task Shape said = ⊥

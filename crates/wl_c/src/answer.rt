@@ -45,7 +45,10 @@ fn shown(alloc: Global, order: Order, said: Vec<u8>) -> Result<Vec<u8>, Status>
     let Some(format) = order.format else {
         return Ok(said);
     };
-    match formatted(alloc, format, order.task.subject(), &said) {
+    let Some(subject) = order.task.subject() else {
+        return Ok(said);
+    };
+    match formatted(alloc, format, subject, &said) {
         Ok(bytes) => Ok(bytes),
         Err(FormatFault::Shape) => Err(Status::Shape),
         Err(FormatFault::Memory) => Err(Status::Memory),
@@ -75,7 +78,7 @@ fn answer_order(
     requires { needed.old ≡ 0 }
     ensures { EndsOrder out.old out.new needed.new text.now order result }
 {
-    match make(alloc, order.task, text) {
+    match make(alloc, order, text) {
         Made::Output(said) => put_shown(shown(alloc, order, said), Status::Done, out, needed),
         Made::Refusal(said) => {
             put_shown(

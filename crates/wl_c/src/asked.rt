@@ -3,7 +3,8 @@ ghost use Rattle.std.specs.Prelude.{◌≡◌, IfSome, ◌<◌};
 ghost use Rattle.wl_views.specs.Ticks.{tick_picoseconds};
 ghost use Rattle.wl_c.specs.Orders.{asked_picoseconds, format_of, judge_task, margin_task, order_in, subject_name, asked_tick, respond_task, traffic_task, unit_count};
 
-use wl_formats::{Format, Subject};
+use wl_formats::Subject;
+use wl_lines::Format;
 use wl_views::{Tick, TimeUnit};
 
 /// What a caller asks for beside the plan. All zeros is the program without options.
@@ -38,18 +39,18 @@ pub enum Task {
 }
 
 impl Task {
-    /// Returns the command's name for another format.
-    pub(crate) fn subject(self) -> Subject
+    /// Returns the command's name, if another format is made of its text. `respond` makes its formats itself.
+    pub(crate) fn subject(self) -> Option<Subject>
         ensures { result ≡ subject_name self }
     {
         match self {
-            Task::Run => Subject::Run,
-            Task::Check => Subject::Check,
-            Task::Explain => Subject::Explain,
-            Task::Margin(_, _) => Subject::Margin,
-            Task::Traffic(_) => Subject::Traffic,
-            Task::Respond(_) => Subject::Respond,
-            Task::Judge(_) => Subject::Judge,
+            Task::Run => Some(Subject::Run),
+            Task::Check => Some(Subject::Check),
+            Task::Explain => Some(Subject::Explain),
+            Task::Margin(_, _) => Some(Subject::Margin),
+            Task::Traffic(_) => Some(Subject::Traffic),
+            Task::Respond(_) => None,
+            Task::Judge(_) => Some(Subject::Judge),
         }
     }
 }

@@ -1,13 +1,14 @@
 //! The engines over a text in memory.
-ghost use Rattle.std.specs.Prelude.{◌≡◌};
+ghost use Rattle.std.specs.Prelude.{◌≡◌, None};
 ghost use Rattle.wl_c.specs.Made.{IsMade, Makes, without_answer};
 
-use crate::asked::Task;
+use crate::asked::{Order, Task};
 use std::alloc::Global;
 use wl_engines::{
     Kept, RunFault, TextReader, check_run, explain_run, judge_run, margin_run, plan_run,
     respond_run, traffic_run,
 };
+use wl_lines::Format;
 use wl_views::Tick;
 
 /// What an engine made of a text.
@@ -44,7 +45,7 @@ fn without_answer<A: Copy>(answer: Result<A, RunFault>) -> Result<(), RunFault>
 
 /// Returns the report of a plan's simulation.
 fn run_of(alloc: Global, text: &[u8]) -> Made
-    ensures { Makes Task.Run text.now result }
+    ensures { Makes None Task.Run text.now result }
 {
     let mut reader = TextReader { rest: text };
     let mut kept = Kept::new(alloc);
@@ -55,7 +56,7 @@ fn run_of(alloc: Global, text: &[u8]) -> Made
 
 /// Returns the check of a plan.
 fn check_of(alloc: Global, text: &[u8]) -> Made
-    ensures { Makes Task.Check text.now result }
+    ensures { Makes None Task.Check text.now result }
 {
     let mut reader = TextReader { rest: text };
     let mut kept = Kept::new(alloc);
@@ -65,7 +66,7 @@ fn check_of(alloc: Global, text: &[u8]) -> Made
 
 /// Returns the explanation of a plan, or of its refusal.
 fn explanation_of(alloc: Global, text: &[u8]) -> Made
-    ensures { Makes Task.Explain text.now result }
+    ensures { Makes None Task.Explain text.now result }
 {
     let mut reader = TextReader { rest: text };
     let mut kept = Kept::new(alloc);
@@ -76,7 +77,7 @@ fn explanation_of(alloc: Global, text: &[u8]) -> Made
 
 /// Returns the margin of a plan's bus.
 fn margin_of(alloc: Global, tick: Tick, all_send: bool, text: &[u8]) -> Made
-    ensures { Makes (Task.Margin tick all_send) text.now result }
+    ensures { Makes None (Task.Margin tick all_send) text.now result }
 {
     let mut reader = TextReader { rest: text };
     let mut kept = Kept::new(alloc);
@@ -87,7 +88,7 @@ fn margin_of(alloc: Global, tick: Tick, all_send: bool, text: &[u8]) -> Made
 
 /// Returns the traffic of a plan's simulation.
 fn traffic_of(alloc: Global, tick: Tick, text: &[u8]) -> Made
-    ensures { Makes (Task.Traffic tick) text.now result }
+    ensures { Makes None (Task.Traffic tick) text.now result }
 {
     let mut reader = TextReader { rest: text };
     let mut kept = Kept::new(alloc);
@@ -96,20 +97,20 @@ fn traffic_of(alloc: Global, tick: Tick, text: &[u8]) -> Made
     made_by(answer, kept)
 }
 
-/// Returns how long the messages of a plan may wait.
-fn response_of(alloc: Global, tick: Tick, text: &[u8]) -> Made
-    ensures { Makes (Task.Respond tick) text.now result }
+/// Returns how long the messages of a plan may wait, as text or in a format.
+fn response_of(alloc: Global, tick: Tick, format: Option<Format>, text: &[u8]) -> Made
+    ensures { Makes format (Task.Respond tick) text.now result }
 {
     let mut reader = TextReader { rest: text };
     let mut kept = Kept::new(alloc);
-    let found = respond_run(alloc, tick, false, &mut reader, &mut kept);
+    let found = respond_run(alloc, tick, false, format, &mut reader, &mut kept);
     let answer = without_answer(found);
     made_by(answer, kept)
 }
 
 /// Returns whether the bus of a plan works.
 fn judgement_of(alloc: Global, tick: Tick, text: &[u8]) -> Made
-    ensures { Makes (Task.Judge tick) text.now result }
+    ensures { Makes None (Task.Judge tick) text.now result }
 {
     let mut reader = TextReader { rest: text };
     let mut kept = Kept::new(alloc);
@@ -118,17 +119,17 @@ fn judgement_of(alloc: Global, tick: Tick, text: &[u8]) -> Made
     made_by(answer, kept)
 }
 
-/// Returns what a command says of a text.
-pub(crate) fn make(alloc: Global, task: Task, text: &[u8]) -> Made
-    ensures { Makes task text.now result }
+/// Returns what the command of an order says of a text: `respond` in the order's format, the others as text.
+pub(crate) fn make(alloc: Global, order: Order, text: &[u8]) -> Made
+    ensures { Makes order.format order.task text.now result }
 {
-    match task {
+    match order.task {
         Task::Run => run_of(alloc, text),
         Task::Check => check_of(alloc, text),
         Task::Explain => explanation_of(alloc, text),
         Task::Margin(tick, all_send) => margin_of(alloc, tick, all_send, text),
         Task::Traffic(tick) => traffic_of(alloc, tick, text),
-        Task::Respond(tick) => response_of(alloc, tick, text),
+        Task::Respond(tick) => response_of(alloc, tick, order.format, text),
         Task::Judge(tick) => judgement_of(alloc, tick, text),
     }
 }

@@ -8,3 +8,4 @@ mod settled;
 mod ticks;
 
 pub use calm::{Calm, calm_of};
+pub use ticks::silence_ticks;

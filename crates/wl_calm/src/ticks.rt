@@ -69,7 +69,7 @@ fn ticks_at(plan: &CheckedPlan, i: usize) -> u128
 }
 
 /// Returns for how many ticks a silence lasts at least.
-pub(crate) fn silence_ticks(plan: &CheckedPlan) -> u128
+pub fn silence_ticks(plan: &CheckedPlan) -> u128
     ensures value { result ≡ silence_ticks plan.now }
     ensures few { result < 2 ^ 65 }
 {

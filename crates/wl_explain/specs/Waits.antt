@@ -9,7 +9,7 @@ use Rattle.wl_respond.specs.declared.parts.Line.{Line}
 use Rattle.wl_respond.specs.declared.parts.Parts.{Parts}
 use Rattle.wl_respond.specs.Parts.{counted_time}
 use Rattle.wl_respond.specs.Asks.{asked_at}
-use Rattle.wl_respond.specs.Texts.{id_words, jitter_tail, misses, told_line_at}
+use Rattle.wl_respond.specs.Texts.{id_words, misses, told_line_at}
 
 -- A message may miss its deadline. Its jitter is a part of the time that it takes (Davis, Burns, Bril, Lukkien 2007, section 2).
 abbrev pub overdue_head : List (List ℕ) → MessageWait → List ℕ
@@ -29,6 +29,9 @@ overdue_line names x line = overdue_by names x line.jitter line.parts line.deadl
 
 abbrev pub overdue_at : List (List ℕ) → List Asked → List Line → ℕ → List ℕ
 overdue_at names asked lines e = if misses lines e then overdue_line names (asked_at asked e).message (told_line_at lines e) else []
+
+abbrev pub jitter_tail : List ℕ → List ℕ
+jitter_tail a = joined (codes " of " ∷ a ∷ codes " isn't less than its period\n" ∷ [])
 
 -- or there is no bound: the jitter of a message leaves nothing of its period, or the bus may be full
 abbrev pub jitter_words : List (List ℕ) → MessageWait → List ℕ

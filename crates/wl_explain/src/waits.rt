@@ -2,8 +2,8 @@
 ghost use Rattle.std.specs.Prelude.{◌≡◌, ◌<◌, length, IfSome, OnOk};
 ghost use Rattle.wl_margin.specs.Pieces.{each_below};
 ghost use Rattle.wl_report.specs.Lines.{GrowsBy};
-ghost use Rattle.wl_respond.specs.Texts.{jitter_tail, misses};
-ghost use Rattle.wl_explain.specs.Waits.{doubts_of, full_doubt, jitter_words, overdue_at, overdue_head, overdue_line, overdue_times, open_doubt, wait_doubts};
+ghost use Rattle.wl_respond.specs.Texts.{misses};
+ghost use Rattle.wl_explain.specs.Waits.{doubts_of, full_doubt, jitter_tail, jitter_words, overdue_at, overdue_head, overdue_line, overdue_times, open_doubt, wait_doubts};
 
 use std::alloc::AllocError;
 use wl_margin::{Hundredths, Thousandths};

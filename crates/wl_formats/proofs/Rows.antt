@@ -1,46 +1,8 @@
 -- Worked values of the definitions: RFC 8259 and RFC 4180 on lines that commands write.
-use Rattle.std.proofs.Common.{◌≡◌, refl, true, false, Some, None, codes, []}
-use Rattle.wl_formats.specs.declared.formats.Format.TheVariants.{Json, Csv}
+use Rattle.std.proofs.Common.{◌≡◌, refl, Some, None, codes, []}
+use Rattle.wl_lines.specs.declared.formats.Format.TheVariants.{Json, Csv}
 use Rattle.wl_formats.specs.declared.tables.Subject.TheVariants as subject
-use Rattle.wl_formats.specs.Numbers.{is_number}
-use Rattle.wl_formats.specs.Json.{quoted}
-use Rattle.wl_formats.specs.Csv.{csv_text}
 use Rattle.wl_formats.specs.Formats.{formatted}
-
--- numbers, and what is none: a superfluous zero, no digit before or after the point, two points, a sign alone
-zero : is_number (codes "0") ≡ true
-zero = refl
-
-negative : is_number (codes "-72.125") ≡ true
-negative = refl
-
-superfluous_zero : is_number (codes "012") ≡ false
-superfluous_zero = refl
-
-no_whole_part : is_number (codes ".5") ≡ false
-no_whole_part = refl
-
-no_fraction : is_number (codes "5.") ≡ false
-no_fraction = refl
-
-two_points : is_number (codes "1.2.3") ≡ false
-two_points = refl
-
-sign_alone : is_number (codes "-") ≡ false
-sign_alone = refl
-
--- escapes
-mark_and_backslash : quoted (codes "a\"b\\c") ≡ codes "\"a\\\"b\\\\c\""
-mark_and_backslash = refl
-
-control_byte : quoted (codes "\n\u{1f}") ≡ codes "\"\\u000a\\u001f\""
-control_byte = refl
-
-plain_cell : csv_text (codes "a b") ≡ codes "a b"
-plain_cell = refl
-
-quoted_cell : csv_text (codes "a\"b,c") ≡ codes "\"a\"\"b,c\""
-quoted_cell = refl
 
 -- a line of `check`, as both formats have it
 pair_as_json : formatted Json subject.Check (codes "pair 0 1 delay 325 back 400\n")
@@ -69,6 +31,13 @@ deliveries = refl
 healed : formatted Json subject.Traffic (codes "healed 14 us after the last disturbance, clean from tick 412000 on\n")
     ≡ Some (codes "{\"command\":\"traffic\",\"records\":[\n{\"kind\":\"healed\",\"healed_us\":14,\"tick\":412000}\n]}\n")
 healed = refl
+
+-- and what is proved of a disturbed bus, or why nothing is
+silences : formatted Json subject.Traffic
+    (codes "clean from tick 900 on, after a silence from tick 500 on, proved: a_law\nnot proved clean; margin: does not hold: it is far\nnot proved clean: a is error passive or bus off at the end\n")
+    ≡ Some
+    (codes "{\"command\":\"traffic\",\"records\":[\n{\"kind\":\"clean\",\"tick\":900,\"silent_tick\":500,\"law\":\"a_law\"},\n{\"kind\":\"unproved\",\"reason\":\"does not hold: it is far\"},\n{\"kind\":\"unproved\",\"reason\":\"a is error passive or bus off at the end\"}\n]}\n")
+silences = refl
 
 no_line : formatted Json subject.Trace [] ≡ Some (codes "{\"command\":\"trace\",\"records\":[\n]}\n")
 no_line = refl

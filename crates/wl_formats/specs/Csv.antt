@@ -1,23 +1,12 @@
 -- Records as lines of one table (RFC 4180, section 2).
-use Rattle.std.specs.Prelude.{ℕ, ◌==◌, ◌||◌, Bool, false, List, [], ◌∷◌, ◌++◌, codes, drop, take, if◌then◌else◌}
-use Rattle.std.specs.List.{flat_map, list_any}
+use Rattle.std.specs.Prelude.{Bool, false, List, [], ◌∷◌, ◌++◌, codes, drop, take, if◌then◌else◌}
 use Rattle.std.specs.Str.{bytes_eq}
 use Rattle.wl_formats.specs.declared.shape.Class.{Class}
 use Rattle.wl_formats.specs.declared.shape.Class.TheVariants.{Number, Measure, Word, Hexadecimal, Phrase, Series, Rest}
 use Rattle.wl_formats.specs.Shapes.{Text, Part, literal, field, passed, given, Form}
-use Rattle.wl_formats.specs.Numbers.{is_dash}
 use Rattle.wl_formats.specs.Matching.{width}
-
--- a quotation mark, a comma, a carriage return and a newline
-abbrev pub is_special : ℕ → Bool
-is_special byte = byte == 34 || byte == 44 || byte == 13 || byte == 10
-
-abbrev pub doubled : ℕ → Text
-doubled byte = if byte == 34 then codes "\"\"" else byte ∷ []
-
--- a text with such a byte is quoted, with its quotation marks twice
-abbrev pub csv_text : Text → Text
-csv_text text = if list_any is_special text then codes "\"" ++ flat_map doubled text ++ codes "\"" else text
+use Rattle.wl_lines.specs.Csv.{csv_text}
+use Rattle.wl_lines.specs.Numbers.{is_dash}
 
 -- a value: if there is no number the cell is empty
 abbrev pub csv_value : Class → Text → Text

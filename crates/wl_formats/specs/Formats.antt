@@ -2,14 +2,15 @@
 use Rattle.std.specs.Prelude.{ℕ, ◌==◌, Bool, true, false, List, [], ◌∷◌, ◌++◌, codes, Option, Some, None, is_some, if◌then◌else◌}
 use Rattle.std.specs.List.{list_all}
 use Rattle.wl_formats.specs.declared.aligned.Paint.TheVariants.{Plain, Coloured}
-use Rattle.wl_formats.specs.declared.formats.Format.{Format}
-use Rattle.wl_formats.specs.declared.formats.Format.TheVariants as format
+use Rattle.wl_lines.specs.declared.formats.Format.{Format}
+use Rattle.wl_lines.specs.declared.formats.Format.TheVariants as format
 use Rattle.wl_formats.specs.declared.formats.RecordForm.{RecordForm}
 use Rattle.wl_formats.specs.declared.formats.RecordForm.TheVariants.{Json, Csv}
 use Rattle.wl_formats.specs.declared.tables.Subject.{Subject}
 use Rattle.wl_formats.specs.Shapes.{Text, Form, Layout}
 use Rattle.wl_formats.specs.Matching.{form_for}
-use Rattle.wl_formats.specs.Json.{json_record, quoted}
+use Rattle.wl_formats.specs.Json.{json_record}
+use Rattle.wl_lines.specs.Json.{quoted}
 use Rattle.wl_formats.specs.Csv.{csv_header, csv_row}
 use Rattle.wl_formats.specs.Aligned.{aligned}
 use Rattle.wl_formats.specs.Layouts.{layout}

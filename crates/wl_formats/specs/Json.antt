@@ -1,29 +1,11 @@
 -- Records as objects of JSON (RFC 8259, sections 4, 6 and 7).
-use Rattle.std.specs.Prelude.{ℕ, ◌+◌, ◌/◌, ◌%◌, ◌==◌, nat_lt, List, [], ◌∷◌, ◌++◌, codes, drop, take, if◌then◌else◌}
-use Rattle.std.specs.List.{flat_map}
+use Rattle.std.specs.Prelude.{List, [], ◌∷◌, ◌++◌, codes, drop, take, if◌then◌else◌}
 use Rattle.wl_formats.specs.declared.shape.Class.{Class}
 use Rattle.wl_formats.specs.declared.shape.Class.TheVariants.{Number, Measure, Word, Hexadecimal, Phrase, Series, Rest}
+use Rattle.wl_lines.specs.Json.{quoted}
 use Rattle.wl_formats.specs.Shapes.{Text, Part, literal, field, passed, given, Form}
-use Rattle.wl_formats.specs.Numbers.{is_dash}
+use Rattle.wl_lines.specs.Numbers.{is_dash}
 use Rattle.wl_formats.specs.Matching.{width}
-
--- `0` is 48, `a` is 97
-abbrev pub hexadecimal_digit : ℕ → ℕ
-hexadecimal_digit value = if nat_lt value 10 then 48 + value else 87 + value
-
--- a byte within a string: a quotation mark (34), a backslash (92) and what is below a space (32) are escaped
-abbrev pub escaped_byte : ℕ → Text
-escaped_byte byte =
-    if byte == 34 then codes "\\\""
-    else if byte == 92 then codes "\\\\"
-    else if nat_lt byte 32 then codes "\\u00" ++ (48 + byte / 16) ∷ hexadecimal_digit (byte % 16) ∷ []
-    else byte ∷ []
-
-abbrev pub escaped : Text → Text
-escaped bytes = flat_map escaped_byte bytes
-
-abbrev pub quoted : Text → Text
-quoted bytes = codes "\"" ++ escaped bytes ++ codes "\""
 
 -- a value: numbers as they are, no number as null, hexadecimal digits and all other values as strings
 abbrev pub json_value : Class → Text → Text

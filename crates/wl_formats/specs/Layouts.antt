@@ -9,7 +9,7 @@ use Rattle.wl_formats.specs.MarginLines.{margin_layout}
 use Rattle.wl_formats.specs.TraceLines.{trace_layout}
 use Rattle.wl_formats.specs.TrafficLines.{traffic_layout}
 use Rattle.wl_formats.specs.SweepLines.{sweep_layout}
-use Rattle.wl_formats.specs.RespondLines.{respond_layout}
+use Rattle.wl_formats.specs.SpikeLines.{spikes_layout}
 use Rattle.wl_formats.specs.JudgeLines.{judge_layout}
 use Rattle.wl_formats.specs.SettingsLines.{settings_layout}
 
@@ -21,6 +21,6 @@ layout subject.Margin = margin_layout
 layout subject.Trace = trace_layout
 layout subject.Traffic = traffic_layout
 layout subject.Sweep = sweep_layout
-layout subject.Respond = respond_layout
+layout subject.Spikes = spikes_layout
 layout subject.Judge = judge_layout
 layout subject.Settings = settings_layout

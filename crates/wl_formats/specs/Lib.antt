@@ -1,6 +1,5 @@
 pub mod Shapes
 pub mod Sentences
-pub mod Numbers
 pub mod Matching
 pub mod Json
 pub mod Csv
@@ -11,7 +10,7 @@ pub mod MarginLines
 pub mod TraceLines
 pub mod TrafficLines
 pub mod SweepLines
-pub mod RespondLines
+pub mod SpikeLines
 pub mod JudgeLines
 pub mod SettingsLines
 pub mod Layouts

@@ -2,7 +2,7 @@
 use Rattle.std.specs.Prelude.{List, [], ◌∷◌, ◌++◌, Bool, true, false, codes}
 use Rattle.wl_formats.specs.declared.shape.Class.TheVariants.{Measure, Number, Phrase, Rest, Word}
 use Rattle.wl_formats.specs.Shapes.{Form, Layout, Part, Text, literal, field, given}
-use Rattle.wl_formats.specs.Sentences.{back_parts, early_parts, growth_parts, late_parts, behind_parts, a_form, pair_forms, taken_parts, two_names}
+use Rattle.wl_formats.specs.Sentences.{back_parts, early_parts, growth_parts, late_parts, behind_parts, a_form, pair_forms, taken_parts, two_names, unit_parts}
 
 -- a bus that doesn't hold, or not for any senders, by the inequality that fails
 abbrev pub refused_form : Text → (Text → List Part) → Form
@@ -19,7 +19,8 @@ margin_columns =
     codes "taken_ns" ∷ codes "taken_quanta" ∷ codes "available_ns" ∷ codes "available_quanta" ∷ codes "reason" ∷ codes "late_ns" ∷
     codes "late_quanta" ∷ codes "early_ns" ∷ codes "early_quanta" ∷ codes "drift_ns" ∷ codes "drift_quanta" ∷
     codes "one_sender_units" ∷ codes "any_senders_units" ∷ codes "proved_units" ∷ codes "one_sender_ppm" ∷ codes "any_senders_ppm" ∷
-    codes "proved_ppm" ∷ codes "one_sender_change" ∷ codes "any_senders_change" ∷ []
+    codes "proved_ppm" ∷ codes "one_sender_change" ∷ codes "any_senders_change" ∷ codes "noise" ∷ codes "jumps_ns" ∷
+    codes "jumps_quanta" ∷ []
 
 -- a bus that holds, for whom that is proved (none: a dash), and the words that say so
 abbrev pub proved_form : Text → Text → Text → Form
@@ -87,13 +88,21 @@ reserve_forms kind name unit =
     (let of = reserve_form kind name unit in
     of true true true ∷ of true true false ∷ of true false false ∷ of false true true ∷ of false true false ∷ of false false false ∷ [])
 
+-- what is said of noise: the pair of which one spike may hide a frame, or a sentence
+abbrev pub noise_forms : List Form
+noise_forms =
+    a_form (codes "noise") (given (codes "noise") Word (codes "one spike may hide a frame") ∷ literal (codes "noise: one spike may hide a frame of ")
+    ∷ (two_names (codes "name") (codes " from ") (codes "other_name") ++ (literal (codes ", as far as searched: late ")
+    ∷ (unit_parts (codes "late") ++ (literal (codes " quanta), and their jumps take ") ∷ (unit_parts (codes "jumps") ++ (literal (codes " quanta)") ∷ [])))))))
+    ∷ a_form (codes "noise") (literal (codes "noise: ") ∷ field (codes "noise") Rest ∷ []) ∷ []
+
 -- the other lines
 abbrev pub figure_forms : List Form
 figure_forms =
     pair_forms ++ (reserve_forms (codes "cable") (codes "units") (codes " units longer") ++ (reserve_forms (codes "tolerance") (codes "ppm") (codes " ppm wider") ++ (
     a_form (codes "help") (literal (codes "help: one sender at a time ") ∷ field (codes "one_sender_change") Phrase ∷
-    literal (codes ", any senders ") ∷ field (codes "any_senders_change") Phrase ∷ []) ∷
-    a_form (codes "verdict") (field (codes "verdict") Phrase ∷ given (codes "proved_for") Measure (codes "-") ∷ literal (codes ": ") ∷ field (codes "reason") Rest ∷ []) ∷ [])))
+    literal (codes ", any senders ") ∷ field (codes "any_senders_change") Phrase ∷ []) ∷ (noise_forms ++ (
+    a_form (codes "verdict") (field (codes "verdict") Phrase ∷ given (codes "proved_for") Measure (codes "-") ∷ literal (codes ": ") ∷ field (codes "reason") Rest ∷ []) ∷ [])))))
 
 abbrev pub margin_layout : Layout
 margin_layout = record { command = codes "margin"; columns = margin_columns; forms = verdict_forms ++ figure_forms }

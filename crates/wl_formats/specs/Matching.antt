@@ -5,7 +5,7 @@ use Rattle.std.specs.Char.{is_ascii_alphanumeric, is_ascii_digit, is_ascii_hexdi
 use Rattle.wl_formats.specs.declared.shape.Class.{Class}
 use Rattle.wl_formats.specs.declared.shape.Class.TheVariants.{Number, Measure, Word, Hexadecimal, Phrase, Series, Rest}
 use Rattle.wl_formats.specs.Shapes.{Text, Part, literal, field, passed, given, Form}
-use Rattle.wl_formats.specs.Numbers.{is_dash, is_number}
+use Rattle.wl_lines.specs.Numbers.{is_dash, is_number}
 
 -- the bytes that a value may have: of a number digits, `-` (45) and `.` (46), of a word letters and `_` (95) too, of a phrase all but `,` (44) and `:` (58), of a series all but `:`
 abbrev pub takes : Class → ℕ → Bool

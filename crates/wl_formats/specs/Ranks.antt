@@ -8,7 +8,7 @@ use Rattle.wl_formats.specs.declared.rank.Worst.TheVariants.{Least, Greatest, No
 use Rattle.wl_formats.specs.declared.tables.Subject.{Subject}
 use Rattle.wl_formats.specs.declared.tables.Subject.TheVariants as subject
 use Rattle.wl_formats.specs.Shapes.{Text, Part, literal, field, passed, given}
-use Rattle.wl_formats.specs.Numbers.{is_number}
+use Rattle.wl_lines.specs.Numbers.{is_number}
 use Rattle.wl_formats.specs.Matching.{width}
 
 -- the digits of a number, without its point, as a whole number of at most 15 digits
@@ -48,7 +48,6 @@ worst_of subject.Check = Least
 worst_of subject.Margin = Least
 worst_of subject.Sweep = Least
 worst_of subject.Traffic = Greatest
-worst_of subject.Respond = Greatest
 worst_of _ = NoRow
 
 abbrev pub judged_fields : Subject → List Text
@@ -56,7 +55,6 @@ judged_fields subject.Check = codes "tolerance_ppm" ∷ []
 judged_fields subject.Margin = codes "late_quanta" ∷ codes "early_quanta" ∷ codes "drift_quanta" ∷ []
 judged_fields subject.Sweep = codes "clean" ∷ []
 judged_fields subject.Traffic = codes "greatest_us" ∷ []
-judged_fields subject.Respond = codes "bound_us" ∷ []
 judged_fields _ = []
 
 abbrev pub is_field : Text → Part → Bool

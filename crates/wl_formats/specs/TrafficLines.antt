@@ -1,6 +1,6 @@
 -- The lines of `traffic`, each kind with its fields (this project's profile).
 use Rattle.std.specs.Prelude.{[], ◌∷◌, ◌++◌, codes}
-use Rattle.wl_formats.specs.declared.shape.Class.TheVariants.{Hexadecimal, Measure, Number, Phrase, Word}
+use Rattle.wl_formats.specs.declared.shape.Class.TheVariants.{Hexadecimal, Measure, Number, Phrase, Rest, Word}
 use Rattle.wl_formats.specs.Shapes.{Form, Layout, Text, literal, field}
 
 -- a message that is late: for how long it waits, and for how long it may
@@ -31,7 +31,8 @@ traffic_layout = record {
       codes "waiting" ∷ codes "lost" ∷ codes "broken" ∷ codes "least_quanta" ∷ codes "mean_quanta" ∷
       codes "greatest_quanta" ∷ codes "least_us" ∷ codes "mean_us" ∷ codes "greatest_us" ∷ codes "verdict" ∷ codes "full_us" ∷
       codes "waits_us" ∷ codes "allowed_us" ∷ codes "passed" ∷ codes "most_passed" ∷ codes "bound_quanta" ∷ codes "bound_us" ∷
-      codes "receiver" ∷ codes "frames" ∷ codes "healed_us" ∷ codes "tick" ∷ [];
+      codes "receiver" ∷ codes "frames" ∷ codes "healed_us" ∷ codes "tick" ∷ codes "silent_tick" ∷ codes "law" ∷
+      codes "reason" ∷ [];
   forms =
       record {
         kind = codes "bus";
@@ -81,6 +82,21 @@ traffic_layout = record {
             literal (codes "healed ") ∷ field (codes "healed_us") Number ∷
             literal (codes " us after the last disturbance, clean from tick ") ∷ field (codes "tick") Number ∷
             literal (codes " on") ∷ [];
+      } ∷
+      record {
+        kind = codes "clean";
+        parts =
+            literal (codes "clean from tick ") ∷ field (codes "tick") Number ∷
+            literal (codes " on, after a silence from tick ") ∷ field (codes "silent_tick") Number ∷
+            literal (codes " on, proved: ") ∷ field (codes "law") Word ∷ [];
+      } ∷
+      record {
+        kind = codes "unproved";
+        parts = literal (codes "not proved clean; margin: ") ∷ field (codes "reason") Rest ∷ [];
+      } ∷
+      record {
+        kind = codes "unproved";
+        parts = literal (codes "not proved clean: ") ∷ field (codes "reason") Rest ∷ [];
       } ∷
       record {
         kind = codes "verdict";

@@ -1,60 +1,13 @@
 //! Records as lines of a table.
 ghost use Rattle.std.specs.Prelude.{◌≡◌, ◌++◌, OnOk, map};
-ghost use Rattle.std.specs.List.{flat_map, list_any};
 ghost use Rattle.wl_formats.specs.Shapes.{part_of, form_of};
-ghost use Rattle.wl_formats.specs.Csv.{is_special, doubled, csv_text, csv_value, is_named, part_value, cell, cells, csv_row, names, csv_header};
+ghost use Rattle.wl_formats.specs.Csv.{csv_value, is_named, part_value, cell, cells, csv_row, names, csv_header};
 ghost use Rattle.wl_formats.specs.declared.shape.Class.TheVariants as Class;
 
 use crate::matching::width;
-use crate::number::is_dash;
 use crate::shape::{Class, Piece, Shape};
 use std::alloc::AllocError;
-
-/// True if a text with this byte is quoted.
-fn is_special(byte: u8) -> bool
-    ensures { result ≡ is_special byte }
-{
-    byte == b'"' || byte == b',' || byte == b'\r' || byte == b'\n'
-}
-
-/// True if a text is quoted.
-fn has_special(text: &[u8]) -> bool
-    ensures { result ≡ list_any is_special text.now }
-{
-    text.iter().any(|byte| is_special(*byte))
-}
-
-/// Adds a byte of a quoted text.
-fn push_byte(text: &mut Vec<u8>, byte: u8) -> Result<(), AllocError>
-    ensures { OnOk result (text.new.items ≡ text.old.items ++ doubled byte) }
-{
-    match byte {
-        b'"' => text.extend_from_slice("\"\"".as_bytes()),
-        _ => text.extend_from_slice(&[byte]),
-    }
-}
-
-/// Adds the bytes of a quoted text.
-fn push_doubled(text: &mut Vec<u8>, bytes: &[u8]) -> Result<(), AllocError>
-    ensures { OnOk result (text.new.items ≡ text.old.items ++ flat_map doubled bytes.now) }
-{
-    for byte in bytes {
-        push_byte(text, *byte)?;
-    }
-    Ok(())
-}
-
-/// Adds a text.
-fn push_text(text: &mut Vec<u8>, bytes: &[u8]) -> Result<(), AllocError>
-    ensures { OnOk result (text.new.items ≡ text.old.items ++ csv_text bytes.now) }
-{
-    if !has_special(bytes) {
-        return text.extend_from_slice(bytes);
-    }
-    text.extend_from_slice("\"".as_bytes())?;
-    push_doubled(text, bytes)?;
-    text.extend_from_slice("\"".as_bytes())
-}
+use wl_lines::{is_dash, push_csv_text};
 
 /// Adds hexadecimal digits, with `0x` in front.
 fn push_hexadecimal(text: &mut Vec<u8>, value: &[u8]) -> Result<(), AllocError>
@@ -87,7 +40,7 @@ fn push_value(text: &mut Vec<u8>, class: Class, value: &[u8]) -> Result<(), Allo
         Class::Number => text.extend_from_slice(value),
         Class::Measure => push_measure(text, value),
         Class::Hexadecimal => push_hexadecimal(text, value),
-        Class::Word | Class::Phrase | Class::Series | Class::Rest => push_text(text, value),
+        Class::Word | Class::Phrase | Class::Series | Class::Rest => push_csv_text(text, value),
     }
 }
 

@@ -10,24 +10,12 @@ ghost use Rattle.wl_formats.specs.declared.fault.FormatFault.TheVariants as Form
 use crate::aligned::{Paint, aligned};
 use crate::csv::{push_header, push_row};
 use crate::fault::FormatFault;
-use crate::json::{push_quoted, push_record};
+use crate::json::push_record;
 use crate::matching::shape_of;
 use crate::shape::{Shape, Table};
 use crate::tables::{Subject, table_of};
 use std::alloc::{AllocError, Global};
-
-/// Another format than text.
-#[derive(Clone, Copy, Debug, PartialEq, Eq)]
-pub enum Format {
-    /// One object, with a list of all records.
-    Json,
-    /// One table with a header.
-    Csv,
-    /// Tables with aligned columns, for people.
-    Table,
-    /// The same in the colours of a terminal.
-    Coloured,
-}
+use wl_lines::{Format, push_quoted};
 
 /// How records are written.
 #[derive(Clone, Copy)]

@@ -1,63 +1,13 @@
 //! Records as objects of JSON.
-ghost use Rattle.std.specs.Prelude.{◌≡◌, ◌++◌, ◌<◌, OnOk, map};
+ghost use Rattle.std.specs.Prelude.{◌≡◌, ◌++◌, OnOk, map};
 ghost use Rattle.wl_formats.specs.declared.shape.Class.TheVariants as Class;
 ghost use Rattle.wl_formats.specs.Shapes.{part_of, form_of};
-ghost use Rattle.wl_formats.specs.Json.{hexadecimal_digit, escaped_byte, escaped, quoted, json_value, field_text, member, members, json_record};
+ghost use Rattle.wl_formats.specs.Json.{json_value, field_text, member, members, json_record};
 
 use crate::matching::width;
-use crate::number::is_dash;
 use crate::shape::{Class, Piece, Shape};
 use std::alloc::AllocError;
-
-/// Returns a hexadecimal digit.
-fn hexadecimal_digit(value: u8) -> u8
-    requires { value < 16 }
-    ensures { result ≡ hexadecimal_digit value }
-{
-    if value < 10 {
-        b'0' + value
-    } else {
-        b'W' + value
-    }
-}
-
-/// Adds a byte as a string of JSON has it.
-fn push_byte(text: &mut Vec<u8>, byte: u8) -> Result<(), AllocError>
-    ensures { OnOk result (text.new.items ≡ text.old.items ++ escaped_byte byte) }
-{
-    match byte {
-        b'"' => text.extend_from_slice("\\\"".as_bytes()),
-        b'\\' => text.extend_from_slice("\\\\".as_bytes()),
-        0..=31 => text.extend_from_slice(&[
-            b'\\',
-            b'u',
-            b'0',
-            b'0',
-            b'0' + byte / 16,
-            hexadecimal_digit(byte % 16),
-        ]),
-        _ => text.extend_from_slice(&[byte]),
-    }
-}
-
-/// Adds bytes as a string of JSON has them.
-fn push_escaped(text: &mut Vec<u8>, bytes: &[u8]) -> Result<(), AllocError>
-    ensures { OnOk result (text.new.items ≡ text.old.items ++ escaped bytes.now) }
-{
-    for byte in bytes {
-        push_byte(text, *byte)?;
-    }
-    Ok(())
-}
-
-/// Adds a string of JSON.
-pub fn push_quoted(text: &mut Vec<u8>, bytes: &[u8]) -> Result<(), AllocError>
-    ensures { OnOk result (text.new.items ≡ text.old.items ++ quoted bytes.now) }
-{
-    text.extend_from_slice("\"".as_bytes())?;
-    push_escaped(text, bytes)?;
-    text.extend_from_slice("\"".as_bytes())
-}
+use wl_lines::{is_dash, push_quoted};
 
 /// Adds hexadecimal digits as a string, with `0x` in front.
 fn push_hexadecimal(text: &mut Vec<u8>, value: &[u8]) -> Result<(), AllocError>

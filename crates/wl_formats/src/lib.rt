@@ -9,12 +9,10 @@ mod fault;
 mod formats;
 mod json;
 mod matching;
-mod number;
 mod rank;
 mod shape;
 mod tables;
 
 pub use fault::FormatFault;
-pub use formats::{Format, formatted};
-pub use json::push_quoted;
+pub use formats::formatted;
 pub use tables::Subject;

@@ -3,8 +3,8 @@ ghost use Rattle.std.specs.Prelude.{◌≡◌, ◌≤◌, ◌<◌, IfSome, map, 
 ghost use Rattle.wl_formats.specs.Shapes.{part_of, form_of, layout_of};
 ghost use Rattle.wl_formats.specs.Matching.{takes, stop_in, width, is_value, holds, fits, form_for};
 
-use crate::number::{is_dash, is_number};
 use crate::shape::{Class, Piece, Shape, Table};
+use wl_lines::{is_dash, is_number};
 
 /// True if a value of this class may have this byte.
 fn takes(class: Class, byte: u8) -> bool

@@ -4,9 +4,9 @@ ghost use Rattle.wl_formats.specs.Shapes.{part_of};
 ghost use Rattle.wl_formats.specs.Ranks.{digits_after, magnitude, number_place, lesser_badness, turned, badness, worst_of, judged_fields, is_field, value_of, row_badness, worst_among, same_badness, are_alike, marked_badness};
 
 use crate::matching::width;
-use crate::number::is_number;
 use crate::shape::Piece;
 use crate::tables::Subject;
+use wl_lines::is_number;
 
 /// Which number of a column is the worst.
 #[derive(Clone, Copy, Debug, PartialEq, Eq)]
@@ -90,9 +90,9 @@ pub(crate) fn worst_of(subject: Subject) -> Worst
 {
     match subject {
         Subject::Check | Subject::Margin | Subject::Sweep => Worst::Least,
-        Subject::Traffic | Subject::Respond => Worst::Greatest,
-        Subject::Run | Subject::Explain | Subject::Trace | Subject::Judge | Subject::Settings =>
-            Worst::NoRow,
+        Subject::Traffic => Worst::Greatest,
+        Subject::Run | Subject::Explain | Subject::Trace => Worst::NoRow,
+        Subject::Judge | Subject::Settings | Subject::Spikes => Worst::NoRow,
     }
 }
 
@@ -105,9 +105,8 @@ pub(crate) fn judged_fields(subject: Subject) -> &'static [&'static str]
         Subject::Margin => &["late_quanta", "early_quanta", "drift_quanta"],
         Subject::Sweep => &["clean"],
         Subject::Traffic => &["greatest_us"],
-        Subject::Respond => &["bound_us"],
-        Subject::Run | Subject::Explain | Subject::Trace | Subject::Judge | Subject::Settings =>
-            &[],
+        Subject::Run | Subject::Explain | Subject::Trace => &[],
+        Subject::Judge | Subject::Settings | Subject::Spikes => &[],
     }
 }
 

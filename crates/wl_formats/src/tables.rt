@@ -7,9 +7,9 @@ mod check;
 mod explain;
 mod judge;
 mod margin;
-mod respond;
 mod run;
 mod settings;
+mod spikes;
 mod sweep;
 mod trace;
 mod traffic;
@@ -19,9 +19,9 @@ use check::check_table;
 use explain::explain_table;
 use judge::judge_table;
 use margin::margin_table;
-use respond::respond_table;
 use run::run_table;
 use settings::settings_table;
+use spikes::spikes_table;
 use sweep::sweep_table;
 use trace::trace_table;
 use traffic::traffic_table;
@@ -36,7 +36,7 @@ pub enum Subject {
     Trace,
     Traffic,
     Sweep,
-    Respond,
+    Spikes,
     Judge,
     Settings,
 }
@@ -53,7 +53,7 @@ pub(crate) fn table_of(subject: Subject) -> Table
         Subject::Trace => *trace_table(),
         Subject::Traffic => *traffic_table(),
         Subject::Sweep => *sweep_table(),
-        Subject::Respond => *respond_table(),
+        Subject::Spikes => *spikes_table(),
         Subject::Judge => *judge_table(),
         Subject::Settings => settings_table(),
     }

@@ -7,6 +7,7 @@ use Rattle.wl_bound.specs.declared.condition.Senders.TheVariants.{Any}
 use Rattle.wl_bound.specs.declared.verdict.Verdict.{Verdict}
 use Rattle.wl_bound.specs.declared.verdict.Verdict.TheVariants.{ForAny, ForOne, DoesNotHold, NoBound}
 use Rattle.wl_margin.specs.Margins.{IsTextAfter, IsTextOfPaces, IsTextUnless, IsVerdictText, all_pairs, any_lead, any_reason, is_proved, paces_of, proved_of, results_words, senders_words, verdict_words}
+use Rattle.wl_margin.specs.Noise.{noise_words}
 use Rattle.wl_margin.specs.Paces.{first_stray}
 use Rattle.wl_margin.specs.Standings.{standing_by, standing_of, standing_unless, surety_of}
 use Rattle.wl_margin.specs.declared.margin.readers.Standing.{Standing}
@@ -95,11 +96,11 @@ module _ (tick : ℕ) (bus : Bus) (f : Buses) (text : List ℕ) where
   led a e = ap (λ b. any_lead who (record { any = b; one = (proved_of ThisPlan bus.deviations bus.plan f).one })) e
 
   said : (v : Verdict) → v ≡ ForAny → (proved_of ThisPlan bus.deviations bus.plan f).any ≡ true
-      → IsTextAfter (is_proved (proved_of ThisPlan bus.deviations bus.plan f) v) v (verdict_words ThisPlan tick bus.deviations bus.plan bus.names f v) f text → BeginsProved f bus.names text
+      → IsTextAfter (is_proved (proved_of ThisPlan bus.deviations bus.plan f) v) v (verdict_words ThisPlan tick bus.deviations bus.plan bus.names f v) (noise_words tick f bus.names v) f text → BeginsProved f bus.names text
   said ForAny e a h =
       let r = any_reason ThisPlan tick bus.deviations bus.plan bus.names f in
       let p = all_pairs tick f bus.names Any in
-      let s = results_words h.0 in (
+      let s = results_words h.0 ++ noise_words tick f bus.names ForAny in (
         (proved_of ThisPlan bus.deviations bus.plan f).one,
         r ++ (p ++ s),
         h.2 ∙ append_assoc (any_lead who (proved_of ThisPlan bus.deviations bus.plan f) ++ r) p s ∙ append_assoc (any_lead who (proved_of ThisPlan bus.deviations bus.plan f)) r (p ++ s) ∙ ap (λ w. w ++ (r ++ (p ++ s))) (led (proved_of ThisPlan bus.deviations bus.plan f).any a),

@@ -1,10 +1,15 @@
 //! What is said of a plan's text: of its bus, of how long its messages may wait, and of noise.
-ghost use Rattle.std.specs.Prelude.{◌≡◌, ◌++◌, ◌<◌, ◌^◌, string_bytes, length, IfOk, OnOk};
+ghost use Rattle.std.specs.Prelude.{◌≡◌, ◌++◌, ◌<◌, ◌^◌, string_bytes, length, IfOk, OnOk, Some};
+ghost use Rattle.wl_margin.specs.Margins.{paces_of};
 ghost use Rattle.wl_judge.specs.Answers.{bus_judgement};
-ghost use Rattle.wl_judge.specs.Plans.{IsPlanAnswer, noise_lines, noise_words, waits_lines};
+ghost use Rattle.wl_judge.specs.Plans.{IsPlanAnswer, noise_by, noise_of, noise_from, spiked_lines, unknown_lines, waits_lines};
 
 use crate::answer::{Answer, Manner, RunSaid, judge_bus, push_source};
+use crate::measure::family_with;
 use std::alloc::{AllocError, Global};
+use wl_bound::{Family, Oscillator, Senders};
+use wl_level::Listed;
+use wl_margin::{Standing, bus_standing, oscillators, push_spike_line};
 use wl_respond::{Question, brief_text};
 use wl_setup::{Bus, PlanText};
 
@@ -19,12 +24,88 @@ fn push_waits(text: &mut String, explain: bool, waits: &str) -> Result<(), Alloc
     text.push_str(waits)
 }
 
-/// Adds what is known of noise.
-fn push_noise(text: &mut String, explain: bool) -> Result<(), AllocError>
-    ensures { OnOk result (string_bytes text.new ≡ string_bytes text.old ++ noise_lines explain) }
+/// Adds that nothing is known of noise.
+fn push_unknown(text: &mut String, explain: bool) -> Result<(), AllocError>
+    ensures { OnOk result (string_bytes text.new ≡ string_bytes text.old ++ unknown_lines explain) }
 {
     push_source(text, explain, "run, by its disturbances")?;
     text.push_str("noise: not known, but for the disturbances of this run\n")
+}
+
+/// Adds whether one spike may hide a frame.
+fn push_spiked(
+    text: &mut String,
+    manner: Manner,
+    bus: &Bus,
+    family: &Family,
+    senders: Senders,
+) -> Result<(), AllocError>
+    requires tick { manner.tick < 2 ^ 36 }
+    ensures { OnOk result (string_bytes text.new ≡ string_bytes text.old
+        ++ spiked_lines manner.tick manner.explain bus.now.names family.now senders) }
+{
+    push_source(text, manner.explain, "margin, on noise")?;
+    push_spike_line(text, family, &bus.names, manner.tick, senders)
+}
+
+/// Adds what is known of noise on a bus of this family, by what its margin says first.
+fn push_noise_of(
+    text: &mut String,
+    manner: Manner,
+    bus: &Bus,
+    family: &Family,
+    first: Standing,
+) -> Result<(), AllocError>
+    requires tick { manner.tick < 2 ^ 36 }
+    ensures { OnOk result (string_bytes text.new ≡ string_bytes text.old
+        ++ noise_of manner.tick manner.explain bus.now.names family.now first) }
+{
+    match first {
+        Standing::AnySenders(_) => push_spiked(text, manner, bus, family, Senders::Any),
+        Standing::OneSender(_) => push_spiked(text, manner, bus, family, Senders::One),
+        Standing::Astray(_) => push_unknown(text, manner.explain),
+        Standing::Fails(_) => push_unknown(text, manner.explain),
+        Standing::Unbound(_) => push_unknown(text, manner.explain),
+    }
+}
+
+/// Adds what is known of noise on a bus with these oscillators.
+fn push_noise_with(
+    alloc: Global,
+    text: &mut String,
+    manner: Manner,
+    bus: &Bus,
+    all: &[Oscillator],
+) -> Result<(), AllocError>
+    requires tick { manner.tick < 2 ^ 36 }
+    requires deviations { length bus.now.deviations ≡ length bus.now.plan.nodes }
+    requires paces { paces_of bus.now.deviations ≡ Some all.now }
+    ensures { OnOk result (string_bytes text.new ≡ string_bytes text.old
+        ++ noise_from manner.tick manner.explain bus.now all.now) }
+{
+    let family = family_with(alloc, &bus.plan, bus.deviations.as_slice(), all)?;
+    let first = bus_standing(&bus.plan, bus.deviations.as_slice(), &family);
+    push_noise_of(text, manner, bus, &family, first)
+}
+
+/// Adds the same if there are such oscillators.
+fn push_noise(
+    alloc: Global,
+    text: &mut String,
+    manner: Manner,
+    bus: &Bus,
+    oscillators: Option<Listed<Oscillator>>,
+) -> Result<(), AllocError>
+    requires tick { manner.tick < 2 ^ 36 }
+    requires deviations { length bus.now.deviations ≡ length bus.now.plan.nodes }
+    requires paces { oscillators ≡ paces_of bus.now.deviations }
+    ensures { OnOk result (string_bytes text.new ≡ string_bytes text.old
+        ++ noise_by manner.tick manner.explain bus.now oscillators) }
+{
+    match oscillators {
+        None => push_unknown(text, manner.explain),
+        Some(all) => push_noise_with(alloc, text, manner, bus, all.as_slice()),
+    }
 }
 
 /// Returns whether the bus of a plan's text works, and the lines that say so: those of `judge_bus`, how long its messages may wait, and what is
@@ -51,7 +132,8 @@ pub fn judge_plan(
     let waits = brief_text(alloc, question, plain, bus)?;
     let mut text = answer.text;
     push_waits(&mut text, manner.explain, &waits)?;
-    push_noise(&mut text, manner.explain)?;
+    let all = oscillators(alloc, bus.deviations.as_slice())?;
+    push_noise(alloc, &mut text, manner, bus, all)?;
     Ok(Answer {
         text,
         judgement: answer.judgement,

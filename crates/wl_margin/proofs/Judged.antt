@@ -8,13 +8,13 @@ use Rattle.wl_margin.specs.declared.searches.Headroom.{Headroom}
 use Rattle.wl_margin.specs.declared.searches.SearchResults.{SearchResults}
 use Rattle.wl_margin.specs.Margins.{AreSearchResults, IsHeadroom, IsTextAfter, results_words, unproved}
 
-pub text_after : (proved : Bool) (v : Verdict) (said : List ℕ) (f : Buses) (text : List ℕ) (found : SearchResults)
-    → ((cause : Outside) → v ≡ NoBound cause → ⊥) → AreSearchResults proved f found → text ≡ said ++ results_words found
-    → IsTextAfter proved v said f text
-text_after proved ForAny said f text found none are e = (found, are, e)
-text_after proved ForOne said f text found none are e = (found, are, e)
-text_after proved (DoesNotHold failure) said f text found none are e = (found, are, e)
-text_after proved (NoBound cause) said f text found none are e = absurd (none cause refl)
+pub text_after : (proved : Bool) (v : Verdict) (said noise : List ℕ) (f : Buses) (text : List ℕ) (found : SearchResults)
+    → ((cause : Outside) → v ≡ NoBound cause → ⊥) → AreSearchResults proved f found → text ≡ said ++ (results_words found ++ noise)
+    → IsTextAfter proved v said noise f text
+text_after proved ForAny said noise f text found none are e = (found, are, e)
+text_after proved ForOne said noise f text found none are e = (found, are, e)
+text_after proved (DoesNotHold failure) said noise f text found none are e = (found, are, e)
+text_after proved (NoBound cause) said noise f text found none are e = absurd (none cause refl)
 
 -- what is found with what stays proved is found without it
 pub without_proof : (proved : Bool) (f : Buses) (longer wider : Headroom) → IsHeadroom proved f longer wider

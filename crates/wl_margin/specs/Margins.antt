@@ -29,6 +29,7 @@ use Rattle.wl_bound.specs.declared.verdict.Verdict.{Verdict}
 use Rattle.wl_bound.specs.declared.verdict.Verdict.TheVariants.{ForAny, ForOne, DoesNotHold, NoBound}
 use Rattle.wl_bound.specs.Rooms.{is_roomy_grown, leaves_room}
 use Rattle.wl_margin.specs.Paces.{first_stray, is_turning, stray_at}
+use Rattle.wl_margin.specs.Noise.{noise_words}
 use Rattle.wl_margin.specs.Pieces.{joined, each_below}
 use Rattle.wl_margin.specs.Reasons.{any_cause, cause_words, one_cause, astray_line}
 use Rattle.wl_margin.specs.declared.reasons.Asked.{Asked}
@@ -242,10 +243,11 @@ pub record AreSearchResults (proved : Bool) (f : Buses) (found : SearchResults) 
   pub help_one : found.help_one ≡ help_of f One
   pub help_any : found.help_any ≡ help_of f Any
 
--- the text of a family: of a plan of which the condition says nothing there is nothing to search
-abbrev pub IsTextAfter : Bool → Verdict → List ℕ → Buses → List ℕ → Type 0
-IsTextAfter proved (NoBound cause) said f text = text ≡ said
-IsTextAfter proved verdict said f text = (found : SearchResults) × AreSearchResults proved f found × (text ≡ said ++ results_words found)
+-- the text of a family, and after it what is said of noise: of a plan of which the condition says nothing there is nothing to search
+abbrev pub IsTextAfter : Bool → Verdict → List ℕ → List ℕ → Buses → List ℕ → Type 0
+IsTextAfter proved (NoBound cause) said noise f text = text ≡ said
+IsTextAfter proved verdict said noise f text =
+    (found : SearchResults) × AreSearchResults proved f found × (text ≡ said ++ (results_words found ++ noise))
 
 -- the verdict on those who are asked about
 abbrev pub verdict_asked : Asked → Plan → Buses → Verdict
@@ -279,7 +281,8 @@ module _ (asked : Asked) (tick : ℕ) (deviations : List Deviation) (plan : Plan
 
   abbrev pub IsVerdictText : List ℕ → Type 0
   IsVerdictText text =
-      IsTextAfter (is_proved (proved_of asked deviations plan f) (verdict_asked asked plan f)) (verdict_asked asked plan f) family_words f text
+      IsTextAfter (is_proved (proved_of asked deviations plan f) (verdict_asked asked plan f)) (verdict_asked asked plan f) family_words
+      (noise_words tick f names (verdict_asked asked plan f)) f text
 
   -- First the clocks: of a plan in which one leaves its tolerance nothing else is said.
   abbrev pub IsTextUnless : Option ℕ → List ℕ → Type 0

@@ -5,6 +5,7 @@
 #![tactic(auto)]
 
 mod margin;
+mod noise;
 mod numbers;
 mod paces;
 mod reasons;
@@ -14,9 +15,11 @@ mod units;
 
 pub use margin::{
     Margin, Standing, Surety, all_send_text, bus_standing, margin_of, margin_text, oscillators,
-    push_failure_line, push_reason, push_spare, push_standing_reasons,
+    push_any_failure, push_any_reason, push_failure_line, push_reason, push_spare,
+    push_standing_reasons,
 };
+pub use noise::push_spike_line;
 pub use numbers::{Hundredths, Thousandths};
 pub use paces::{clocks_keep_pace, first_stray, first_turning};
-pub use reasons::Asked;
+pub use reasons::{Asked, first_leaver};
 pub use searches::{Headroom, push_headroom};

@@ -14,6 +14,7 @@ ghost use Rattle.wl_margin.specs.Margins.{IsAllSendText, IsFamilyText, IsHeadroo
 
 mod readers;
 
+use crate::noise::push_noise;
 use crate::paces::{any_turning, first_stray, stray_at};
 use crate::reasons::{Asked, Cause, any_cause, one_cause, push_astray, push_cause};
 use crate::searches::{Headroom, push_results, search};
@@ -270,8 +271,8 @@ pub fn push_failure_line(
     text.push_str("\n")
 }
 
-/// Adds why the condition doesn't hold for any senders.
-fn push_any_failure(
+/// Adds why the condition doesn't hold for any senders, a line, if it doesn't. A tick takes `tick` picoseconds.
+pub fn push_any_failure(
     text: &mut String,
     family: &Family,
     names: &Names,
@@ -432,8 +433,8 @@ fn push_unproved(
     text.push_str("\n")
 }
 
-/// Adds why it isn't proved for any senders, if it isn't.
-fn push_any_reason(
+/// Adds why it isn't proved for any senders who are asked about, a line, if it isn't. A tick takes `tick` picoseconds.
+pub fn push_any_reason(
     text: &mut String,
     asked: Asked,
     bus: &Bus,
@@ -581,6 +582,7 @@ fn verdict_margin(
     let proved = is_proved(proved_of(asked, bus, family), verdict);
     let found = search(family, proved);
     push_results(&mut text, found)?;
+    push_noise(&mut text, family, &bus.names, tick, verdict)?;
     Ok(Margin {
         text,
         headroom: Some(found.headroom()),

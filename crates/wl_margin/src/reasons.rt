@@ -60,7 +60,7 @@ fn first_listener(plan: &CheckedPlan) -> Option<u8>
 }
 
 /// Returns the first node that leaves the bus.
-fn first_leaver(plan: &CheckedPlan) -> Option<u8>
+pub fn first_leaver(plan: &CheckedPlan) -> Option<u8>
     ensures { result ≡ first_leaver plan.now }
 {
     let mut first = None;

@@ -1,6 +1,7 @@
 //! Times as text, and what goes wrong if the condition for a sound bus fails.
 ghost use Rattle.std.specs.Prelude.{◌≡◌, ◌++◌, string_bytes, OnOk};
 ghost use Rattle.wl_setup.specs.Names.{name_of};
+ghost use Rattle.wl_margin.specs.Noise.{spike_line};
 ghost use Rattle.wl_margin.specs.Sentences.{amount_words, drift_words, early_words, inequality_words, late_words, loop_words, picoseconds_around, picoseconds_within, quanta_around, quanta_within, sentence, signed_words, spare_words};
 
 use crate::numbers::{Hundredths, Thousandths};
@@ -185,6 +186,24 @@ fn push_early(
     write!(
         text,
         "the next bit of {b} comes to {a} up to {taken} too early, and its PHASE_SEG2 has {there}"
+    )
+}
+
+/// Adds that one spike may hide a frame of a node from another, with what is to spare and what both jumps take.
+pub(crate) fn push_spike(
+    text: &mut String,
+    a: &str,
+    b: &str,
+    late: Spare,
+    jumps: Amount,
+) -> Result<(), AllocError>
+    ensures { OnOk result (string_bytes text.new ≡ string_bytes text.old ++ spike_line a.now b.now
+        (signed_words late.is_below late.amount.picoseconds late.amount.quanta)
+        (amount_words jumps.picoseconds jumps.quanta)) }
+{
+    writeln!(
+        text,
+        "noise: one spike may hide a frame of {a} from {b}, as far as searched: late {late}, and their jumps take {jumps}"
     )
 }
 

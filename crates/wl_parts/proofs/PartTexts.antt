@@ -2,7 +2,7 @@
 use Rattle.std.proofs.Common.{◌≡◌, ◌∙◌, ◌+◌, ◌<◌, ℕ, List, [], ◌∷◌, ◌++◌, length, codes, Option, Some, None, refl, sym, ap, arith, length-append}
 use Rattle.std.specs.Fmt.{decimal}
 use Rattle.std.proofs.lemmas.List.{append_assoc, append-nil}
-use Rattle.wl_formats.specs.Json.{escaped}
+use Rattle.wl_lines.specs.Json.{escaped}
 use Rattle.wl_parts.specs.declared.found.RowCounts.{RowCounts}
 use Rattle.wl_parts.specs.declared.found.FirstMember.{FirstMember}
 use Rattle.wl_parts.specs.declared.found.Findings.{Findings}

@@ -3,7 +3,7 @@ use Rattle.std.proofs.Common.{cond, ◌≡◌, ◌∙◌, ◌+◌, ◌/◌, ◌%
 use Rattle.std.specs.Prelude.{nat_lt}
 use Rattle.std.proofs.lemmas.Bool.{eqb-true, false≢true, lt-ltb, ltb-true}
 use Rattle.std.proofs.lemmas.List.{append_assoc, append-nil}
-use Rattle.wl_formats.specs.Json.{escaped, escaped_byte, hexadecimal_digit}
+use Rattle.wl_lines.specs.Json.{escaped, escaped_byte, hexadecimal_digit}
 use Rattle.wl_parts.specs.Reading.{is_quoted_end}
 
 -- the first digit of a byte below a space

@@ -2,7 +2,7 @@
 use Rattle.std.specs.Prelude.{◌≡◌, ℕ, ◌<◌, ◌^◌, List, [], ◌∷◌, ◌++◌, length, codes, Option, Some, None}
 use Rattle.std.specs.List.{AllByRecursion, flat_map}
 use Rattle.std.specs.Fmt.{decimal}
-use Rattle.wl_formats.specs.Json.{escaped}
+use Rattle.wl_lines.specs.Json.{escaped}
 use Rattle.wl_parts.specs.declared.found.RowCounts.{RowCounts}
 use Rattle.wl_parts.specs.declared.found.FirstMember.{FirstMember}
 use Rattle.wl_parts.specs.declared.found.Findings.{Findings}

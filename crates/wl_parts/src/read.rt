@@ -8,7 +8,7 @@ ghost use Rattle.wl_parts.specs.declared.found.FirstMember.{FirstMember as SomeM
 ghost use Rattle.wl_parts.specs.declared.found.Findings.{Findings as SomeFindings};
 ghost use Rattle.wl_parts.specs.declared.part.SweepPart.{SweepPart as APart};
 ghost use Rattle.wl_parts.specs.Reading.{AddsPart, GivesValue, Leaves, ReadsParts, Sets, digit_count, is_quoted_end};
-ghost use Rattle.wl_formats.specs.Json.{escaped, escaped_byte, hexadecimal_digit};
+ghost use Rattle.wl_lines.specs.Json.{escaped, escaped_byte, hexadecimal_digit};
 ghost use Rattle.wl_parts.specs.Text.{CountsFit, FirstFits, Fits64, FoundFits, PartFits, bytes_words, row_counts_words, each_words, first_words, found_words, numbered_words, number_words, part_words, parts_text, sweep_words, word_words};
 
 use crate::fault::PartsFault;

@@ -5,8 +5,8 @@ ghost use Rattle.wl_parts.specs.Text.{AddsWords, bytes_words, row_counts_words, 
 use crate::found::{Findings, FirstMember, RowCounts};
 use crate::part::SweepPart;
 use std::alloc::{AllocError, Global};
-use wl_formats::push_quoted;
 use wl_level::Listed;
+use wl_lines::push_quoted;
 
 /// Adds bytes.
 pub(crate) fn push(text: &mut Vec<u8>, more: &[u8]) -> Result<(), AllocError>

@@ -1,4 +1,5 @@
 mod Alone
+mod Stationed
 mod Any
 mod Listening
 mod Heard
@@ -7,6 +8,7 @@ mod Frames
 mod Lasting
 mod Longest
 mod Members
+mod Mended
 mod Instance
 mod Early
 mod Emptied

@@ -24,7 +24,7 @@ use Rattle.wl_respond.proofs.Sending.{family-length}
 use Rattle.wl_proved.specs.Waits.{messages_asked}
 use Rattle.wl_proved.specs.PlansOfFamily.{IsPlanOfFamily, IsRunnable}
 
-member_is : (nodes : List NodeSetup) (paces : List Pace) → length paces ≡ length nodes → (i : ℕ) → i < length nodes
+pub member_is : (nodes : List NodeSetup) (paces : List Pace) → length paces ≡ length nodes → (i : ℕ) → i < length nodes
     → (pace : Pace) × (get_or (members_of nodes paces) i no_member ≡ member_of (get_or nodes i no_setup) pace)
 member_is [] paces same i less = absurd (omega arith)
 member_is (node ∷ nodes) [] same i less = absurd (omega arith)

@@ -10,6 +10,8 @@ use Rattle.wl_bound.specs.Families.{Buses}
 use Rattle.wl_bound.specs.Oscillators.{Pace}
 use Rattle.wl_bound.specs.Rooms.{leaves_room, plain_bus}
 use Rattle.wl_bound.specs.declared.condition.Senders.TheVariants.{Any}
+use Rattle.wl_lines.specs.Formats.{lines_text}
+use Rattle.wl_lines.specs.Shapes.{TextLine}
 use Rattle.wl_margin.specs.Margins.{paces_of}
 use Rattle.wl_margin.specs.Paces.{PaceLaw, keep_pace}
 use Rattle.wl_margin.proofs.Callers.{paces-length}
@@ -21,13 +23,13 @@ use Rattle.wl_respond.specs.Plans.{KeepsTable}
 use Rattle.wl_respond.specs.Senders.{family_with_text}
 use Rattle.wl_respond.specs.Tables.{messages_of}
 use Rattle.wl_respond.specs.Tests.{pass}
-use Rattle.wl_respond.specs.Texts.{IsTextOf, IsTextOfBus}
+use Rattle.wl_respond.specs.Texts.{AreLinesOf, AreLinesOfBus, IsTextOfBus}
 use Rattle.wl_proved.specs.PlansOfFamily.{IsPlanOfFamily, IsRunnable}
-use Rattle.wl_proved.specs.Waits.{HasBoundedText, HasBoundedWaits, messages_asked}
-use Rattle.wl_proved.specs.Words.{IsFamilyOfText, SaysBounded}
+use Rattle.wl_proved.specs.Waits.{HasBoundedLines, HasBoundedText, HasBoundedWaits, messages_asked}
+use Rattle.wl_proved.specs.Words.{AreSaidBounded, IsFamilyOfText, SaysBounded}
 use Rattle.wl_proved.proofs.Bounded.{decides_of, inside_of, none_turns, sound_of}
 use Rattle.wl_proved.proofs.Members.{plan_of_senders, senders_have}
-use Rattle.wl_proved.proofs.Saying.{has_clocks, premises_of, proved_waits}
+use Rattle.wl_proved.proofs.Saying.{has_clocks, lines_say, premises_of, proved_waits}
 
 abbrev TableLaw : Type 0
 TableLaw = (f : Buses) (plan : Plan) (messages : List MessageWait) (windows : List ℕ) → IsPlanOfFamily f plan → first_failure_of f plain Any ≡ None → leaves_room f ≡ true
@@ -52,14 +54,14 @@ module _ (places : PlaceLaws) (law : TableLaw) (tick : ℕ) (any : Bool) (text :
         (inside_of bus.plan f p.margin.sound) (senders_have f any text bus.plan text are.0 are.2 p.table.keeps)) in
         any_waits f w are none bus.plan own p.table.keeps p.table.levels
 
-    module _ (said : List ℕ) (met : Bool) where
-      by_clocks : (o : Option (List Pace)) → paces_of bus.deviations ≡ o → (found : Option Waits) → AreWaitsBy tick any text bus o found → IsTextOf bus.names found said met
-          → SaysBounded bus.names said → HasBoundedText tick any text bus said met
+    module _ (said : List TextLine) (met : Bool) where
+      by_clocks : (o : Option (List Pace)) → paces_of bus.deviations ≡ o → (found : Option Waits) → AreWaitsBy tick any text bus o found → AreLinesOf bus.names found said met
+          → AreSaidBounded bus.names said → HasBoundedLines tick any text bus said met
       by_clocks None e found none told bounded =
-          (let lines : IsTextOf bus.names None said met = subst (λ (x : Option Waits). IsTextOf bus.names x said met) none told in absurd (has_clocks bus.names said lines.0 bounded))
+          (let lines : AreLinesOf bus.names None said met = subst (λ (x : Option Waits). AreLinesOf bus.names x said met) none told in absurd (has_clocks bus.names said met lines bounded))
       by_clocks (Some paces) e found is told bounded =
-          let lines : IsTextOf bus.names (Some is.0) said met = subst (λ (x : Option Waits). IsTextOf bus.names x said met) is.1 told in
-          let none = proved_waits bus.names is.0 said lines.0 bounded in
+          let lines : AreLinesOf bus.names (Some is.0) said met = subst (λ (x : Option Waits). AreLinesOf bus.names x said met) is.1 told in
+          let none = proved_waits bus.names is.0 said met lines bounded in
           let family : IsFamilyOfText text bus (family_with_text bus.plan text paces) = (paces, e, refl) in record {
             family = family_with_text bus.plan text paces;
             of = family;
@@ -70,5 +72,10 @@ module _ (places : PlaceLaws) (law : TableLaw) (tick : ℕ) (any : Bool) (text :
             waits = own_waits (family_with_text bus.plan text paces) is.0 is.2 none family;
           }
 
-      pub text_waits : IsTextOfBus tick any text bus said met → SaysBounded bus.names said → HasBoundedText tick any text bus said met
-      text_waits is bounded = by_clocks (paces_of bus.deviations) refl is.0 is.1 is.2 bounded
+      pub line_waits : AreLinesOfBus tick any text bus said met → AreSaidBounded bus.names said → HasBoundedLines tick any text bus said met
+      line_waits is bounded = by_clocks (paces_of bus.deviations) refl is.0 is.1 is.2 bounded
+
+    pub text_waits : (words : List ℕ) (met : Bool) → IsTextOfBus tick any text bus words met → SaysBounded bus.names words → HasBoundedText tick any text bus words met
+    text_waits words met is bounded =
+        let said : SaysBounded bus.names (lines_text is.0) = subst (SaysBounded bus.names) is.1 bounded in
+        (is.0, is.1, line_waits is.0 met is.2 (lines_say bus.names is.2.0 is.0 met is.2.2 said))

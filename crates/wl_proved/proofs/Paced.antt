@@ -11,17 +11,18 @@ use Rattle.wl_segments.specs.declared.SyncRules.TheVariants.{After, Book}
 use Rattle.wl_topology.specs.Driven.{any_below}
 use Rattle.wl_topology.proofs.Callers.{any_one}
 use Rattle.wl_node.specs.declared.setup.Queued.{Queued}
+use Rattle.wl_plan.specs.Checked.{IsChecked}
 use Rattle.wl_plan.specs.declared.plan.Plan.{Plan}
 use Rattle.wl_plan.specs.PlanLine.{no_setup, setup_at}
 use Rattle.wl_phase.specs.Clocks.{HasRate, Steady}
 use Rattle.wl_bound.specs.Conditions.{first_failure_of, plain}
 use Rattle.wl_bound.specs.Families.{Buses, longest_in, shortest_in, units}
-use Rattle.wl_bound.specs.Verdicts.{at_node, for_any, for_one, has_frames, is_after, sends_something, unless_outside, verdict_of, without_book}
+use Rattle.wl_bound.specs.Verdicts.{at_node, for_any, for_one, has_frames, is_after, outside_of, sends_something, unless_outside, verdict_of, without_book}
 use Rattle.wl_bound.specs.declared.condition.Senders.TheVariants.{Any, One}
 use Rattle.wl_bound.specs.declared.verdict.Outside.{Outside}
 use Rattle.wl_bound.specs.declared.verdict.Outside.TheVariants.{NotByTheBook}
 use Rattle.wl_bound.specs.declared.verdict.Verdict.TheVariants.{ForAny}
-use Rattle.wl_margin.specs.Paces.{breaks_pace, keeps_pace}
+use Rattle.wl_margin.specs.Paces.{breaks_pace, keep_pace, keeps_pace}
 use Rattle.wl_buses.specs.BothProofs.Plans.{IsOfFamily}
 use Rattle.wl_buses.proofs.Callers.{none_below, no_cause, neither}
 use Rattle.wl_proved.specs.PlansOfFamily.{IsPlanOfFamily, SendsAlone}
@@ -36,13 +37,13 @@ den_of [] = 1
 den_of (r ∷ later) = r.den
 
 -- one rate, and what is asked of it
-record HasPace (f : Buses) (i : ℕ) (rates : List Rate) : Type 0 where
-  rate : Rate
-  one : rates ≡ rate ∷ []
-  slowest : units plain * num_of rates ≤ longest_in f plain i * den_of rates
-  fastest : shortest_in f plain i * den_of rates ≤ units plain * num_of rates
+pub record HasPace (f : Buses) (i : ℕ) (rates : List Rate) : Type 0 where
+  pub rate : Rate
+  pub one : rates ≡ rate ∷ []
+  pub slowest : units plain * num_of rates ≤ longest_in f plain i * den_of rates
+  pub fastest : shortest_in f plain i * den_of rates ≤ units plain * num_of rates
 
-has_pace : (f : Buses) (i : ℕ) (rates : List Rate) → keeps_pace f i rates ≡ true → HasPace f i rates
+pub has_pace : (f : Buses) (i : ℕ) (rates : List Rate) → keeps_pace f i rates ≡ true → HasPace f i rates
 has_pace f i [] keeps = cc
 has_pace f i (r ∷ []) keeps =
     let parts = and_parts _ _ keeps in record {
@@ -70,7 +71,7 @@ by_book : (rules : SyncRules) → is_after rules ≡ false → rules ≡ Book
 by_book After e = cc
 by_book Book e = refl
 
-nothing_at : (name : ℕ → Outside) (o : Option ℕ) → at_node name o ≡ None → o ≡ None
+pub nothing_at : (name : ℕ → Outside) (o : Option ℕ) → at_node name o ≡ None → o ≡ None
 nothing_at name None e = refl
 nothing_at name (Some i) e = cc
 
@@ -78,22 +79,47 @@ not_empty : {A : Type 0} (xs : List A) → 0 < length xs → (x : A) × (more : 
 not_empty [] some = absurd (omega arith)
 not_empty (x ∷ more) some = (x, more, refl)
 
+-- the clocks of a plan, if each has one rate
+abbrev pub clocks_of : Plan → ℕ → Steady
+clocks_of plan i = record {
+  offset = (setup_at plan i).clock.offset;
+  part = 0;
+  num = num_of (setup_at plan i).clock.rates;
+  den = den_of (setup_at plan i).clock.rates;
+}
+
+pub rate_at : (f : Buses) (plan : Plan) → IsChecked plan → (i : ℕ) → i < length plan.nodes → HasPace f i (setup_at plan i).clock.rates → HasRate (setup_at plan i).clock (clocks_of plan i)
+rate_at f plan checked i inside pace =
+    one_rate (setup_at plan i).clock pace.rate pace.one (All-get_or (λ node. IsTiming node.clock) plan.nodes i no_setup inside checked.clocks).order
+
+-- what the condition is about goes by the book
+pub book_at : (plan : Plan) → outside_of plan ≡ None → (i : ℕ) → i < length plan.nodes → (setup_at plan i).segments.sync ≡ Book
+book_at plan none i inside =
+    let few = no_cause (nat_lt (length plan.nodes) 2) _ _ none in
+    let empty = no_cause (not (any_below (length plan.nodes) (sends_something plan))) _ _ few.1 in
+    let listeners = neither _ _ empty.1 in
+    let not_book = neither _ _ listeners.1 in
+    by_book (setup_at plan i).segments.sync
+    (first_none (without_book plan) (length plan.nodes) (nothing_at NotByTheBook _ not_book.0) i inside)
+
+pub verdict_at : (f : Buses) (plan : Plan) → outside_of plan ≡ None → first_failure_of f plain Any ≡ None → verdict_of plan f ≡ ForAny
+verdict_at f plan none sound =
+    ap (λ o. unless_outside o (for_any (first_failure_of f plain Any) (for_one (first_failure_of f plain One)))) none
+    ∙ ap (λ failure. for_any failure (for_one (first_failure_of f plain One))) sound
+
+-- how fast each clock of a plan goes, if all keep pace
+pub paces_at : (f : Buses) (plan : Plan) → keep_pace plan f ≡ true → (i : ℕ) → i < length plan.nodes → HasPace f i (setup_at plan i).clock.rates
+paces_at f plan pace i inside = has_pace f i (setup_at plan i).clock.rates (not-false _ (none_below (length plan.nodes) (breaks_pace plan f) (not-true _ pace) i inside))
+
 module _ (f : Buses) (plan : Plan) (of : IsPlanOfFamily f plan) where
   abbrev pub clocks : ℕ → Steady
-  clocks i = record {
-    offset = (setup_at plan i).clock.offset;
-    part = 0;
-    num = num_of (setup_at plan i).clock.rates;
-    den = den_of (setup_at plan i).clock.rates;
-  }
+  clocks = clocks_of plan
 
   pace_at : (i : ℕ) → i < length plan.nodes → HasPace f i (setup_at plan i).clock.rates
-  pace_at i inside = has_pace f i (setup_at plan i).clock.rates (not-false _ (none_below (length plan.nodes) (breaks_pace plan f) (not-true _ of.pace) i inside))
+  pace_at i inside = paces_at f plan of.pace i inside
 
   pub rates : (i : ℕ) → i < length plan.nodes → HasRate (setup_at plan i).clock (clocks i)
-  rates i inside =
-      let pace = pace_at i inside in
-      one_rate (setup_at plan i).clock pace.rate pace.one (All-get_or (λ node. IsTiming node.clock) plan.nodes i no_setup inside of.runs.checked.clocks).order
+  rates i inside = rate_at f plan of.runs.checked i inside (pace_at i inside)
 
   pub of_family : IsOfFamily f plan clocks
   of_family = record {
@@ -105,13 +131,7 @@ module _ (f : Buses) (plan : Plan) (of : IsPlanOfFamily f plan) where
   }
 
   pub book : (i : ℕ) → i < length plan.nodes → (setup_at plan i).segments.sync ≡ Book
-  book i inside =
-      let few = no_cause (nat_lt (length plan.nodes) 2) _ _ of.inside in
-      let empty = no_cause (not (any_below (length plan.nodes) (sends_something plan))) _ _ few.1 in
-      let listeners = neither _ _ empty.1 in
-      let not_book = neither _ _ listeners.1 in
-      by_book (setup_at plan i).segments.sync
-      (first_none (without_book plan) (length plan.nodes) (nothing_at NotByTheBook _ not_book.0) i inside)
+  book i inside = book_at plan of.inside i inside
 
   -- some node has frames
   some_sender : (i : ℕ) × (i < length plan.nodes) × (has_frames (setup_at plan i) ≡ true)
@@ -121,9 +141,7 @@ module _ (f : Buses) (plan : Plan) (of : IsPlanOfFamily f plan) where
       any_one (length plan.nodes) (sends_something plan) (not-false _ empty.0)
 
   pub for_any_senders : first_failure_of f plain Any ≡ None → verdict_of plan f ≡ ForAny
-  for_any_senders sound =
-      ap (λ o. unless_outside o (for_any (first_failure_of f plain Any) (for_one (first_failure_of f plain One)))) of.inside
-      ∙ ap (λ failure. for_any failure (for_one (first_failure_of f plain One))) sound
+  for_any_senders sound = verdict_at f plan of.inside sound
 
   -- it is the one that sends alone
   module _ (sender : ℕ) (alone : SendsAlone plan sender) where

@@ -21,6 +21,7 @@ use Rattle.wl_bound.specs.declared.condition.Senders.TheVariants.{Any, One}
 use Rattle.wl_bound.specs.Rooms.{beyond_jump, distance, edges_to, gain, gathering, leaves_room, least_chase, left_over}
 use Rattle.wl_margin.specs.Paces.{keep_pace}
 use Rattle.wl_proved.specs.CleanRuns.{as_passing, frames_from, passing_of}
+use Rattle.wl_proved.specs.Listened.{hear_all, is_covered_beside}
 
 abbrev pub frame : ℕ → Content
 frame id = record { extended = false; id = id; remote = false; dlc = 0; bytes = [] }
@@ -90,6 +91,46 @@ sound_for_one = refl
 pub has_room : leaves_room family ≡ true
 unfolding beyond_jump delay_in distance drift edges_to gain gathering jump least_chase left_over lengths_in longest_in look sends_in shortest_in turns_in
 has_room = refl
+
+-- the same with a third node that only listens, at a place on the cable, if all oscillators deviate by some ppm
+abbrev logged : (x : ℕ) → Plan
+logged x = record {
+  nodes = node 300 1000060 240 ∷ node 900 999920 272 ∷ record (node 0 1000000 944) { queue = [] } ∷ [];
+  topology = record { places = place 0 ∷ place 25 ∷ record (place x) { listens = true } ∷ []; per = 5 };
+  disturbances = [];
+  end = 5500000;
+}
+
+abbrev pace_by : (ppm : ℕ) → Pace
+pace_by ppm = record { fastest = rate 1000000; slowest = rate 1000000; tolerance = ppm; turns = 0 }
+
+abbrev logging : (x ppm : ℕ) → Buses
+logging x ppm = family_of (logged x) (pace_by ppm ∷ pace_by ppm ∷ pace_by ppm ∷ [])
+
+is_law_plan_beside : is_covered_beside (logged 40) ≡ true
+unfolding tick_of
+is_law_plan_beside = refl
+
+has_no_cause_beside : outside_of (logged 40) ≡ None
+unfolding tick_of
+has_no_cause_beside = refl
+
+sound_beside : first_failure_of (logging 40 100) plain Any ≡ None
+unfolding ahead answered apart behind chase delay_in drift early edges first_failure_of jump late left_of lengths_in longest_in look lost pull pulled right_of sends_in several shortest_in spread strays tour trip turns_in way
+sound_beside = refl
+
+hears : hear_all (logging 40 100) ≡ true
+unfolding beyond_jump delay_in distance drift edges_to gain gathering jump least_chase left_over lengths_in longest_in look sends_in shortest_in turns_in
+hears = refl
+
+-- with 2,000 ppm the room of any senders ends at 79 units of length, and that to hear at 78
+room_beyond : leaves_room (logging 79 2000) ≡ true
+unfolding beyond_jump delay_in distance drift edges_to gain gathering jump least_chase left_over lengths_in longest_in look sends_in shortest_in turns_in
+room_beyond = refl
+
+deaf_beyond : hear_all (logging 79 2000) ≡ false
+unfolding beyond_jump delay_in distance drift edges_to gain gathering jump least_chase left_over lengths_in longest_in look sends_in shortest_in turns_in
+deaf_beyond = refl
 
 -- node 2 sends the first and the last of three frames, and node 0 the one between them
 abbrev bus : List (ℕ × Content)

@@ -13,6 +13,7 @@ use Rattle.wl_bound.specs.declared.verdict.Verdict.TheVariants.{ForAny, ForOne, 
 use Rattle.wl_setup.specs.Names.{name_of}
 use Rattle.wl_margin.specs.declared.reasons.Asked.{Asked}
 use Rattle.wl_margin.specs.Margins.{IsFamilyText, IsTextAfter, IsTextUnless, IsVerdictText, all_pairs, any_failure, any_lead, any_reason, is_proved, is_proved_for_any, is_proved_for_one, one_lead, one_reason, outside_words, proved_of, results_words, senders_words, verdict_asked, verdict_words}
+use Rattle.wl_margin.specs.Noise.{noise_words}
 use Rattle.wl_margin.specs.Paces.{first_stray, stray_at}
 use Rattle.wl_margin.specs.Reasons.{astray_line}
 use Rattle.wl_proved.specs.Words.{IsProvedForAny, IsProvedForOne}
@@ -95,11 +96,11 @@ module _ (asked : Asked) (tick : ℕ) (deviations : List Deviation) (plan : Plan
 
   module _ (text : List ℕ) where
     abbrev IsAfter : Bool → Verdict → Type 0
-    IsAfter b v = IsTextAfter b v (verdict_words asked tick deviations plan names f v) f text
+    IsAfter b v = IsTextAfter b v (verdict_words asked tick deviations plan names f v) (noise_words tick f names v) f text
 
     any_said : (b : Bool) (v : Verdict) → IsAfter b v → IsProvedForAny f names text → (v ≡ ForAny) × (a ≡ true)
     any_said b ForAny is said =
-        (refl, any_flag a o said.0 who (any_reason asked tick deviations plan names f) (all_pairs tick f names Any) (results_words is.0) said.1 (sym is.2 ∙ said.2))
+        (refl, any_flag a o said.0 who (any_reason asked tick deviations plan names f) (all_pairs tick f names Any) (results_words is.0 ++ noise_words tick f names ForAny) said.1 (sym is.2 ∙ said.2))
     any_said b ForOne is said = absurd (mixed text (ap (letter 10) said.2) (ap (letter 10) is.2))
     any_said b (DoesNotHold failure) is said =
         (let h : letter 0 text ≡ 104 = ap (letter 0) said.2 in let d : letter 0 text ≡ 100 = ap (letter 0) is.2 in absurd (omega arith))
@@ -107,13 +108,13 @@ module _ (asked : Asked) (tick : ℕ) (deviations : List Deviation) (plan : Plan
 
     one_said : (b : Bool) (v : Verdict) → IsAfter b v → IsProvedForOne f names text → ((v ≡ ForAny) ⊎ (v ≡ ForOne)) × (o ≡ true)
     one_said b ForAny is (rest, inl said) =
-        (inl refl, one_flag a o who (any_reason asked tick deviations plan names f) (all_pairs tick f names Any) (results_words is.0) rest (sym is.2 ∙ said))
+        (inl refl, one_flag a o who (any_reason asked tick deviations plan names f) (all_pairs tick f names Any) (results_words is.0 ++ noise_words tick f names ForAny) rest (sym is.2 ∙ said))
     one_said b ForAny is (rest, inr said) = absurd (mixed text (ap (letter 10) is.2) (ap (letter 10) said))
     one_said b ForOne is (rest, inl said) = absurd (mixed text (ap (letter 10) said) (ap (letter 10) is.2))
     one_said b ForOne is (rest, inr said) = (
       inr refl,
-      alone_flag o who (one_reason asked tick deviations plan names f) (any_failure tick f names (first_failure_of f plain Any)) (all_pairs tick f names One ++ results_words is.0) rest
-          (sym (append_assoc (one_lead who o ++ one_reason asked tick deviations plan names f ++ any_failure tick f names (first_failure_of f plain Any)) (all_pairs tick f names One) (results_words is.0))
+      alone_flag o who (one_reason asked tick deviations plan names f) (any_failure tick f names (first_failure_of f plain Any)) (all_pairs tick f names One ++ (results_words is.0 ++ noise_words tick f names ForOne)) rest
+          (sym (append_assoc (one_lead who o ++ one_reason asked tick deviations plan names f ++ any_failure tick f names (first_failure_of f plain Any)) (all_pairs tick f names One) (results_words is.0 ++ noise_words tick f names ForOne))
           ∙ sym is.2 ∙ said),
     )
     one_said b (DoesNotHold failure) is (rest, inl said) =

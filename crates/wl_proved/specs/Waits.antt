@@ -12,6 +12,8 @@ use Rattle.wl_setup.specs.declared.plan_text.FrameText.{FrameText}
 use Rattle.wl_setup.specs.declared.plan_text.PlanText.{PlanText}
 use Rattle.wl_bound.specs.Families.{Buses}
 use Rattle.wl_bound.specs.Rooms.{plain_bus}
+use Rattle.wl_lines.specs.Formats.{lines_text}
+use Rattle.wl_lines.specs.Shapes.{TextLine}
 use Rattle.wl_respond.specs.declared.bounds.Waits.{Waits}
 use Rattle.wl_respond.specs.declared.message.MessageWait.{MessageWait}
 use Rattle.wl_respond.specs.Asks.{IsOfText, frames_at, is_frame_of, message_in}
@@ -19,7 +21,7 @@ use Rattle.wl_respond.specs.Bounds.{AreWaitsFor, asked_in}
 use Rattle.wl_respond.specs.Levels.{top_of}
 use Rattle.wl_respond.specs.Plans.{ArePeriodApart, eleventh_sample, entry_at, message_of}
 use Rattle.wl_respond.specs.Tests.{message_at}
-use Rattle.wl_respond.specs.Texts.{IsTextOf}
+use Rattle.wl_respond.specs.Texts.{AreLinesOf}
 use Rattle.wl_buses.specs.FamilyPlans.FamilyStations.{stations_of}
 use Rattle.wl_buses.specs.CleanPlans.Clean.{AllGetThrough}
 use Rattle.wl_buses.specs.BoundedWaits.Bounds.{PassInTime, WaitInQuanta}
@@ -59,15 +61,19 @@ pub record HasBoundedWaits (f : Buses) (plan : Plan) (messages : List MessageWai
 abbrev pub messages_asked : Buses → (any : Bool) → PlanText → List MessageWait → List MessageWait
 messages_asked f any plain table = map message_in (asked_in f any plain table)
 
--- The text of `respond` is about waits of a bus of which no premise lacks. On its plan no frame waits longer than the text says.
-pub record HasBoundedText (tick : ℕ) (any : Bool) (plain : PlanText) (bus : Bus) (text : List ℕ) (met : Bool) : Type 0 where
+-- The lines of `respond` are about waits of a bus of which no premise lacks. On its plan no frame waits longer than the lines say.
+pub record HasBoundedLines (tick : ℕ) (any : Bool) (plain : PlanText) (bus : Bus) (lines : List TextLine) (met : Bool) : Type 0 where
   pub family : Buses
   pub of : IsFamilyOfText plain bus family
   pub figures : Waits
   pub are : AreWaitsFor tick any plain bus family figures
-  pub told : IsTextOf bus.names (Some figures) text met
+  pub told : AreLinesOf bus.names (Some figures) lines met
   pub proved : figures.lacking ≡ None
   pub waits : HasBoundedWaits family bus.plan (messages_asked family any plain are.0)
+
+-- A text has such lines.
+abbrev pub HasBoundedText : ℕ → (any : Bool) → PlanText → Bus → (text : List ℕ) → (met : Bool) → Type 0
+HasBoundedText tick any plain bus text met = (lines : List TextLine) × (text ≡ lines_text lines) × HasBoundedLines tick any plain bus lines met
 
 -- An entry of node i is a frame of its text, but for its data: of one that has the identifier of the entry's message.
 pub record HasTextFrame (plain : PlanText) (messages : List MessageWait) (i : ℕ) (entry : Queued) : Type 0 where

@@ -15,10 +15,11 @@ ghost use Rattle.wl_respond.specs.Bounds.{AreWaitsFor};
 ghost use Rattle.wl_respond.specs.Levels.{has_levels};
 ghost use Rattle.wl_respond.specs.Plans.{KeepsTable};
 ghost use Rattle.wl_respond.specs.Tests.{pass};
-ghost use Rattle.wl_respond.specs.Texts.{IsTextOfBus};
+ghost use Rattle.wl_lines.specs.Shapes.{TextLine};
+ghost use Rattle.wl_respond.specs.Texts.{AreLinesOfBus, IsTextOfBus};
 ghost use Rattle.wl_proved.specs.PlansOfFamily.{IsPlanOfFamily, IsRunnable};
-ghost use Rattle.wl_proved.specs.Waits.{HasBoundedText, HasBoundedWaits, KeepsText, messages_asked};
-ghost use Rattle.wl_proved.specs.Words.{IsFamilyOfText, SaysBounded};
+ghost use Rattle.wl_proved.specs.Waits.{HasBoundedLines, HasBoundedText, HasBoundedWaits, KeepsText, messages_asked};
+ghost use Rattle.wl_proved.specs.Words.{AreSaidBounded, IsFamilyOfText, SaysBounded};
 
 /// Law: let a table of messages pass its test. Take a plan of the family whose queues have frames of these messages. Let each message have
 /// the level that its queue gives it, first in, first out or by priority. Then no frame waits longer than its message says, whatever the
@@ -41,7 +42,8 @@ pub fn respond_law()
 
 /// Law: let no premise of the waits of a bus lack. On each plan of their family that keeps their table of messages no frame waits longer than
 /// its message says there. With any data it is so on each plan whose frames are those of the text but for their data. The plan of the bus is
-/// such a plan. If the first line of a text of `respond` is 'proved: waits_are_bounded', the text is about such waits.
+/// such a plan. If the first of the lines of `respond` is that of a proof, the lines are about such waits, in each format; so is a text whose
+/// first line is 'proved: waits_are_bounded'.
 pub fn respond_means_bounded()
     ensures any { (tick : ℕ) (any : Bool) (plain : PlanText) (bus : Bus) (f : Buses) (w : Waits)
         (are : AreWaitsFor tick any plain bus f w) → w.lacking ≡ None
@@ -57,6 +59,10 @@ pub fn respond_means_bounded()
         (are : AreWaitsFor tick any plain bus f w) → w.lacking ≡ None → IsFamilyOfText plain bus f
         → IsRunnable bus.plan → length bus.deviations ≡ length bus.plan.nodes
         → HasBoundedWaits f bus.plan (messages_asked f any plain are.0) }
+    ensures lines { (tick : ℕ) (any : Bool) (plain : PlanText) (bus : Bus) (lines : List TextLine) (met : Bool)
+        → AreLinesOfBus tick any plain bus lines met → AreSaidBounded bus.names lines
+        → IsRunnable bus.plan → length bus.deviations ≡ length bus.plan.nodes
+        → HasBoundedLines tick any plain bus lines met }
     ensures text { (tick : ℕ) (any : Bool) (plain : PlanText) (bus : Bus) (text : List ℕ) (met : Bool)
         → IsTextOfBus tick any plain bus text met → SaysBounded bus.names text
         → IsRunnable bus.plan → length bus.deviations ≡ length bus.plan.nodes

@@ -4,6 +4,7 @@ use Rattle.wl_setup.specs.Names.{name_of}
 use Rattle.wl_setup.specs.declared.bus.Bus.{Bus}
 use Rattle.wl_setup.specs.declared.plan_text.PlanText.{PlanText}
 use Rattle.wl_topology.specs.Driven.{any_below}
+use Rattle.wl_lines.specs.Shapes.{TextLine, line_text}
 use Rattle.wl_margin.specs.Pieces.{joined, thousandths}
 use Rattle.wl_respond.specs.declared.asked.Asked.{Asked}
 use Rattle.wl_respond.specs.declared.bounds.Waits.{Waits}
@@ -12,7 +13,7 @@ use Rattle.wl_respond.specs.declared.parts.Parts.{Parts}
 use Rattle.wl_respond.specs.declared.verdict.Outcome.{Outcome}
 use Rattle.wl_respond.specs.Asks.{asked_at, once}
 use Rattle.wl_respond.specs.Bounds.{AreWaitsOf}
-use Rattle.wl_respond.specs.Texts.{id_words, lacking_words, outcome_in, told_line_at, verdict_words}
+use Rattle.wl_respond.specs.Texts.{id_words, lacking_line, outcome_in, told_line_at, verdict_line}
 
 -- some message has a period
 abbrev pub comes_again : List Asked → ℕ → Bool
@@ -56,11 +57,13 @@ abbrev pub longest_words : List (List ℕ) → List Asked → List Line → (sho
 longest_words names asked lines true = longest_at names asked lines (longest_below lines (length lines))
 longest_words names asked lines false = []
 
+abbrev pub waits_line : TextLine → List ℕ
+waits_line line = codes "waits: " ++ line_text line
+
 -- what lacks of the proof, the longest wait, and the verdict
 abbrev pub brief_words : List (List ℕ) → List Asked → List Line → Outcome → List ℕ
 brief_words names asked lines o =
-    codes "waits: " ++ lacking_words names o.lacking ++ longest_words names asked lines o.shown ++ codes "waits: "
-    ++ verdict_words names asked lines o.shown o.load
+    waits_line (lacking_line names o.lacking) ++ longest_words names asked lines o.shown ++ waits_line (verdict_line names asked lines o.shown o.load)
 
 -- nothing is said of messages that come once
 abbrev pub cyclic_words : List (List ℕ) → Waits → List ℕ

@@ -9,5 +9,6 @@ pub mod Tables
 pub mod Senders
 pub mod Parts
 pub mod Bounds
+pub mod Forms
 pub mod Texts
 pub mod Briefs

@@ -241,7 +241,7 @@ fn waits_with(
     waits_searched(alloc, question, plain, bus, &family)
 }
 
-/// Returns how long each message of a bus may wait, as a question asks: all that [`respond_text`](crate::respond_text) says. None if the rates of
+/// Returns how long each message of a bus may wait, as a question asks: all that [`respond_lines`](crate::respond_lines) says. None if the rates of
 /// the nodes without `ppm` make no clocks. Refused only when out of memory.
 pub(crate) fn waits_asked(
     alloc: Global,
@@ -322,7 +322,7 @@ fn waits_for(
     Ok(Some(waits))
 }
 
-/// Returns how long each message of a bus may wait with its own data, for ticks that take that many picoseconds: what `respond_text` says of
+/// Returns how long each message of a bus may wait with its own data, for ticks that take that many picoseconds: what `respond_lines` says of
 /// the bus, in numbers. None if no message comes again or has a deadline, or if the rates of the nodes without `ppm` make no clocks. Refused
 /// only when out of memory.
 pub fn waits_of_bus(

@@ -1,15 +1,16 @@
 //! How long the messages of a bus may wait, in three lines.
 ghost use Rattle.std.specs.Prelude.{◌≡◌, ◌<◌, ◌≤◌, ◌^◌, length, string_bytes, IfOk, IfSome, OnOk};
 ghost use Rattle.wl_report.specs.Lines.{GrowsBy};
-ghost use Rattle.wl_respond.specs.Briefs.{IsBriefOfBus, bound_of_line, bound_in, brief_of, brief_words, comes_again, cyclic_words, is_cyclic, longer_wait, longest_below, longest_head, longest_line, longest_tail, longest_words};
+ghost use Rattle.wl_respond.specs.Briefs.{IsBriefOfBus, bound_of_line, bound_in, brief_of, brief_words, comes_again, cyclic_words, is_cyclic, longer_wait, longest_below, longest_head, longest_line, longest_tail, longest_words, waits_line};
 
 use crate::asked::Asked;
 use crate::bounds::{Question, Waits, waits_asked};
 use crate::parts::{Line, Parts};
 use crate::table::ONCE;
-use crate::verdict::{Outcome, outcome_in, push_verdict};
-use crate::words::push_lacking;
+use crate::verdict::{Outcome, outcome_in, verdict_line};
+use crate::words::lacking_line;
 use std::alloc::{AllocError, Global};
+use wl_lines::TextLine;
 use wl_margin::Thousandths;
 use wl_report::push_id;
 use wl_setup::{Bus, Names, PlanText};
@@ -131,38 +132,48 @@ fn push_longest(
     }
 }
 
-/// Adds the three lines of waits.
-fn push_brief(
-    text: &mut String,
-    names: &Names,
-    asked: &[Asked],
-    lines: &[Line],
-    outcome: Outcome,
-) -> Result<(), AllocError>
-    requires { length asked.now ≡ length lines.now }
-    ensures { OnOk result (GrowsBy text.old text.new (brief_words names.now asked.now lines.now outcome)) }
+/// Adds a line of waits.
+fn push_line(alloc: Global, text: &mut String, line: &TextLine) -> Result<(), AllocError>
+    ensures { OnOk result (GrowsBy text.old text.new (waits_line line.now)) }
 {
     text.push_str("waits: ")?;
-    push_lacking(text, names, outcome.lacking)?;
+    text.push_str(&line.text(alloc)?)
+}
+
+/// Adds the three lines of waits.
+fn push_brief(
+    alloc: Global,
+    text: &mut String,
+    names: &Names,
+    waits: &Waits,
+    outcome: Outcome,
+) -> Result<(), AllocError>
+    requires { length waits.now.asked ≡ length waits.now.lines }
+    ensures { OnOk result (GrowsBy text.old text.new (brief_words names.now waits.now.asked waits.now.lines outcome)) }
+{
+    let asked = waits.asked.as_slice();
+    let lines = waits.lines.as_slice();
+    push_line(alloc, text, &lacking_line(alloc, names, outcome.lacking)?)?;
     push_longest(text, names, asked, lines, outcome.shown)?;
-    text.push_str("waits: ")?;
-    push_verdict(text, names, asked, lines, outcome)
+    push_line(
+        alloc,
+        text,
+        &verdict_line(alloc, names, asked, lines, outcome)?,
+    )
 }
 
 /// Adds the same if some message comes again and again.
-fn push_waits(text: &mut String, names: &Names, waits: &Waits) -> Result<(), AllocError>
+fn push_waits(
+    alloc: Global,
+    text: &mut String,
+    names: &Names,
+    waits: &Waits,
+) -> Result<(), AllocError>
     requires { length waits.now.asked ≡ length waits.now.lines }
     ensures { OnOk result (GrowsBy text.old text.new (cyclic_words names.now waits.now)) }
 {
-    let asked = waits.asked.as_slice();
-    if is_cyclic(asked) {
-        push_brief(
-            text,
-            names,
-            asked,
-            waits.lines.as_slice(),
-            outcome_in(waits),
-        )
+    if is_cyclic(waits.asked.as_slice()) {
+        push_brief(alloc, text, names, waits, outcome_in(waits))
     } else {
         Ok(())
     }
@@ -175,7 +186,7 @@ fn brief_by(alloc: Global, names: &Names, found: Option<Waits>) -> Result<String
 {
     let mut text = String::new(alloc);
     match found {
-        Some(waits) => push_waits(&mut text, names, &waits)?,
+        Some(waits) => push_waits(alloc, &mut text, names, &waits)?,
         None => (),
     }
     Ok(text)

@@ -1,4 +1,4 @@
-//! How long each message of a bus may wait, whatever the offsets are: a table of bounds, the test of its inequalities, and its text.
+//! How long each message of a bus may wait, whatever the offsets are: a table of bounds, the test of its inequalities, and its lines.
 //!
 //! The test is what `wl_buses::bounded_waits` asks of such a table. How its numbers are found doesn't matter (Davis, Burns, Bril, Lukkien 2007, as a
 //! test).
@@ -16,6 +16,7 @@ mod premise;
 mod row;
 mod search;
 mod senders;
+mod shapes;
 mod table;
 mod text;
 mod verdict;
@@ -30,5 +31,6 @@ pub use parts::{Line, Met, Parts};
 pub use plan::keeps_table;
 pub use premise::{Lacking, first_lacking};
 pub use search::{Found, bounds_of};
+pub use shapes::respond_outline;
 pub use table::{ONCE, table_of};
-pub use text::{Response, respond_text};
+pub use text::{Response, respond_lines};

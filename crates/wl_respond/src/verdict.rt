@@ -1,10 +1,10 @@
 //! The verdict: who misses a deadline, or why there is no bound.
-ghost use Rattle.std.specs.Prelude.{◌≡◌, ◌≤◌, ◌<◌, length, IfSome, OnOk};
+ghost use Rattle.std.specs.Prelude.{◌≡◌, ◌≤◌, ◌<◌, length, IfOk, IfSome, OnOk};
 ghost use Rattle.wl_level.specs.Places.{first_place};
 ghost use Rattle.wl_margin.specs.Pieces.{each_below};
 ghost use Rattle.wl_report.specs.Lines.{GrowsBy};
 ghost use Rattle.wl_respond.specs.Asks.{has_no_period};
-ghost use Rattle.wl_respond.specs.Texts.{bounded_verdict, count_words, full_verdict, is_missed, jitter_tail, jittered_verdict, late_verdict, missed_name, load_verdict, missed_count, missed_words, misses, open_verdict, outcome_in, verdict_words};
+ghost use Rattle.wl_respond.specs.Texts.{bounded_line, beyond_load_words, is_missed, no_period_words, missed_line, load_words, missed_count, missed_name, missed_words, misses, open_line, open_words, outcome_in, verdict_line};
 ghost use Rattle.wl_topology.specs.Driven.{any_below};
 
 use crate::asked::Asked;
@@ -12,7 +12,10 @@ use crate::bounds::Waits;
 use crate::message::MessageWait;
 use crate::parts::{Line, Met};
 use crate::premise::Lacking;
-use std::alloc::AllocError;
+use crate::shapes::{late_shape, open_shape, verdict_shape};
+use crate::words::{line_of_text, line_with};
+use std::alloc::{AllocError, Global};
+use wl_lines::TextLine;
 use wl_margin::Hundredths;
 use wl_report::push_id;
 use wl_setup::Names;
@@ -52,7 +55,7 @@ fn push_late(
 ) -> Result<(), AllocError>
     ensures { OnOk result (GrowsBy text.old text.new (missed_name names.now message.now later)) }
 {
-    text.push_str(if later { ", " } else { " " })?;
+    text.push_str(if later { ", " } else { "" })?;
     push_id(text, &message.frame)?;
     text.push_str(" of ")?;
     text.push_str(names.name_of(message.node as usize))
@@ -98,57 +101,60 @@ fn push_all_missed(
     Ok(())
 }
 
-/// Adds how many of all messages may miss their deadlines.
-fn push_count(text: &mut String, missed: usize, all: usize) -> Result<(), AllocError>
-    ensures { OnOk result (GrowsBy text.old text.new (count_words missed all)) }
-{
-    write!(text, "verdict {missed} of {all} missed:")
-}
-
-/// Adds the verdict of messages with bounds.
-fn push_bounded(
-    text: &mut String,
+/// Returns the verdict of messages some of which may miss their deadlines.
+fn missed_line(
+    alloc: Global,
     names: &Names,
     asked: &[Asked],
     lines: &[Line],
-) -> Result<(), AllocError>
+) -> Result<TextLine, AllocError>
     requires { length asked.now ≡ length lines.now }
-    ensures { OnOk result (GrowsBy text.old text.new (bounded_verdict names.now asked.now lines.now)) }
+    ensures { IfOk result (λ line. line ≡ missed_line names.now asked.now lines.now) }
 {
-    let missed = missed_count(lines);
-    if missed == 0 {
-        return text.push_str("verdict all deadlines met\n");
+    let mut missed = String::new(alloc);
+    push_all_missed(&mut missed, names, asked, lines)?;
+    let mut line = TextLine::new(alloc, late_shape());
+    line.show(&missed_count(lines))?;
+    line.show(&lines.len())?;
+    line.add(missed)?;
+    Ok(line)
+}
+
+/// Returns the verdict of messages with bounds.
+fn bounded_line(
+    alloc: Global,
+    names: &Names,
+    asked: &[Asked],
+    lines: &[Line],
+) -> Result<TextLine, AllocError>
+    requires { length asked.now ≡ length lines.now }
+    ensures { IfOk result (λ line. line ≡ bounded_line names.now asked.now lines.now) }
+{
+    if missed_count(lines) == 0 {
+        line_of_text(alloc, verdict_shape(), "all deadlines met")
+    } else {
+        missed_line(alloc, names, asked, lines)
     }
-    push_count(text, missed, lines.len())?;
-    push_all_missed(text, names, asked, lines)?;
-    text.push_str("\n")
 }
 
-/// Adds whose message has a jitter that leaves nothing of its period.
-fn push_jitter_tail(text: &mut String, a: &str) -> Result<(), AllocError>
-    ensures { OnOk result (GrowsBy text.old text.new (jitter_tail a.now)) }
+/// Adds that a message's jitter leaves nothing of its period.
+fn push_jittered(text: &mut String, a: &str, message: &MessageWait) -> Result<(), AllocError>
+    ensures { OnOk result (GrowsBy text.old text.new (no_period_words a.now message.now)) }
 {
-    writeln!(text, " of {a} isn't less than its period")
-}
-
-/// Adds the verdict of a message whose jitter leaves nothing of its period.
-fn push_jittered(text: &mut String, names: &Names, message: &MessageWait) -> Result<(), AllocError>
-    ensures { OnOk result (GrowsBy text.old text.new (jittered_verdict names.now message.now)) }
-{
-    text.push_str("verdict no bound: the jitter of ")?;
+    text.push_str("the jitter of ")?;
     push_id(text, &message.frame)?;
-    push_jitter_tail(text, names.name_of(message.node as usize))
+    write!(text, " of {a} isn't less than its period")
 }
 
-/// Adds the verdict of a bus that may be full, or for which the search found no bounds.
-fn push_load_verdict(text: &mut String, load: u128) -> Result<(), AllocError>
-    ensures { OnOk result (GrowsBy text.old text.new (load_verdict load)) }
+/// Adds that a bus may be full, or that the search found no bounds.
+fn push_load(text: &mut String, load: u128) -> Result<(), AllocError>
+    ensures { OnOk result (GrowsBy text.old text.new (load_words load)) }
 {
     if load > 10_000 {
         let load = Hundredths(load);
-        writeln!(text, "verdict no bound: the bus load is up to {load} %")
+        write!(text, "the bus load is up to {load} %")
     } else {
-        text.push_str("verdict no bound: the search found none\n")
+        text.push_str("the search found none")
     }
 }
 
@@ -174,19 +180,38 @@ pub(crate) fn first_jittered(asked: &[Asked]) -> Option<usize>
     first
 }
 
-/// Adds why there is no bound.
+/// Adds why there is no bound, by the first message of whose period nothing is left.
 fn push_open(
     text: &mut String,
     names: &Names,
     asked: &[Asked],
     load: u128,
+    first: Option<usize>,
 ) -> Result<(), AllocError>
-    ensures { OnOk result (GrowsBy text.old text.new (open_verdict names.now asked.now load)) }
+    requires { IfSome first (λ e. e < length asked.now) }
+    ensures { OnOk result (GrowsBy text.old text.new (open_words names.now asked.now load first)) }
 {
-    match first_jittered(asked) {
-        Some(e) => push_jittered(text, names, &asked[e].message),
-        None => push_load_verdict(text, load),
+    match first {
+        Some(e) => {
+            let message = &asked[e].message;
+            push_jittered(text, names.name_of(message.node as usize), message)
+        }
+        None => push_load(text, load),
     }
+}
+
+/// Returns the verdict of messages without bounds.
+fn open_line(
+    alloc: Global,
+    names: &Names,
+    asked: &[Asked],
+    load: u128,
+) -> Result<TextLine, AllocError>
+    ensures { IfOk result (λ line. line ≡ open_line names.now asked.now load) }
+{
+    let mut reason = String::new(alloc);
+    push_open(&mut reason, names, asked, load, first_jittered(asked))?;
+    line_with(alloc, open_shape(), reason)
 }
 
 /// What the verdict is about.
@@ -211,21 +236,21 @@ pub(crate) fn outcome_in(waits: &Waits) -> Outcome
     }
 }
 
-/// Adds the verdict.
-pub(crate) fn push_verdict(
-    text: &mut String,
+/// Returns the verdict.
+pub(crate) fn verdict_line(
+    alloc: Global,
     names: &Names,
     asked: &[Asked],
     lines: &[Line],
     outcome: Outcome,
-) -> Result<(), AllocError>
+) -> Result<TextLine, AllocError>
     requires { length asked.now ≡ length lines.now }
-    ensures { OnOk result (GrowsBy text.old text.new
-        (verdict_words names.now asked.now lines.now outcome.shown outcome.load)) }
+    ensures { IfOk result (λ line. line
+        ≡ verdict_line names.now asked.now lines.now outcome.shown outcome.load) }
 {
     if outcome.shown {
-        push_bounded(text, names, asked, lines)
+        bounded_line(alloc, names, asked, lines)
     } else {
-        push_open(text, names, asked, outcome.load)
+        open_line(alloc, names, asked, outcome.load)
     }
 }

@@ -18,7 +18,7 @@ use Rattle.wl_settings.specs.declared.topics.Topic.{Topic}
 use Rattle.wl_settings.specs.declared.topics.Topic.TheVariants as topic
 use Rattle.wl_settings.specs.Keys.{value_kind}
 use Rattle.wl_settings.specs.Kinds.{sample_said, senders_named}
-use Rattle.wl_settings.specs.Registers.{bounds_of_kind}
+use Rattle.wl_settings.specs.Registers.{bounds_of_kind, with_jump}
 use Rattle.wl_settings.specs.Topics.{count_about, nth_text, topic_default, topic_key, topic_measure, topic_option}
 use Rattle.wl_units.specs.declared.quantity.Measure.{Measure}
 use Rattle.wl_units.specs.declared.scale.Scale.{Scale}
@@ -119,20 +119,20 @@ asked_by_words tick words =
       tick = tick;
     })))))))))))
 
--- a controller: the n-th kind with the n-th clock, whose name is the kind's word
-abbrev pub controller_of_kind : ℕ → Option (List ℕ) → List ℕ → ControllerKind → Result Controller SettingsFault
-controller_of_kind tick clock name k =
-    if_read (number_by_word tick topic.Clock clock) (λ n. Ok (record { name = name; clock = n; bounds = bounds_of_kind k }))
+-- a controller: the n-th kind with the n-th clock and the jump width that each may have at most; its name is the kind's word
+abbrev pub controller_of_kind : ℕ → Option (List ℕ) → Result ℕ SettingsFault → List ℕ → ControllerKind → Result Controller SettingsFault
+controller_of_kind tick clock jump name k =
+    if_read (number_by_word tick topic.Clock clock) (λ n. if_read jump (λ most. Ok (record { name = name; clock = n; bounds = with_jump (bounds_of_kind k) most })))
 
-abbrev pub controller_by_name : ℕ → Option (List ℕ) → List ℕ → Result Controller SettingsFault
-controller_by_name tick clock name = if_read (read_or_unreadable topic.Kind (kind_named name)) (controller_of_kind tick clock name)
+abbrev pub controller_by_name : ℕ → Option (List ℕ) → Result ℕ SettingsFault → List ℕ → Result Controller SettingsFault
+controller_by_name tick clock jump name = if_read (read_or_unreadable topic.Kind (kind_named name)) (controller_of_kind tick clock jump name)
 
-abbrev pub controller_by : ℕ → Option (List ℕ) → Option (List ℕ) → Result Controller SettingsFault
-controller_by tick None clock = Err (fault.Missing (topic_place topic.Kind))
-controller_by tick (Some name) clock = controller_by_name tick clock name
+abbrev pub controller_by : ℕ → Option (List ℕ) → Option (List ℕ) → Result ℕ SettingsFault → Result Controller SettingsFault
+controller_by tick None clock jump = Err (fault.Missing (topic_place topic.Kind))
+controller_by tick (Some name) clock jump = controller_by_name tick clock jump name
 
 abbrev pub nth_controller : ℕ → List AskedWord → ℕ → Result Controller SettingsFault
-nth_controller tick words n = controller_by tick (nth_text topic.Kind n words) (nth_text topic.Clock n words)
+nth_controller tick words n = controller_by tick (nth_text topic.Kind n words) (nth_text topic.Clock n words) (number_about tick words topic.Sjw)
 
 -- the first ones, in order, or the first fault
 abbrev pub and_controller : List Controller → Controller → Result (List Controller) SettingsFault

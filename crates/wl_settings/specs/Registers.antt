@@ -1,5 +1,5 @@
 -- What the registers of controllers hold whose PROP_SEG and PHASE_SEG1 are one length.
-use Rattle.std.specs.Prelude.{min, false, Some, None}
+use Rattle.std.specs.Prelude.{ℕ, min, false, Some, None}
 use Rattle.wl_kinds.specs.declared.kinds.ControllerKind.{ControllerKind}
 use Rattle.wl_settings.specs.declared.asked.Bounds.{Bounds}
 use Rattle.wl_settings.specs.declared.parts.Parts.TheVariants.{Joint}
@@ -17,3 +17,7 @@ bounds_of_kind k = record {
   is_sjw_free = false;
   kind = Some k;
 }
+
+-- with a jump width of at most this number of quanta
+abbrev pub with_jump : Bounds → ℕ → Bounds
+with_jump b most = record b { sjw = min b.sjw (min most 65535) }

@@ -5,7 +5,7 @@ use Rattle.wl_settings.specs.declared.keys.Key.{Key}
 use Rattle.wl_settings.specs.declared.keys.Key.TheVariants as key
 use Rattle.wl_settings.specs.declared.topics.AskedWord.{AskedWord}
 use Rattle.wl_settings.specs.declared.topics.Topic.{Topic}
-use Rattle.wl_settings.specs.declared.topics.Topic.TheVariants.{Kind, Clock, Bitrate, Cable, Per, Out, In, Tolerance, Senders, RateError, SamplePoint, Nodes}
+use Rattle.wl_settings.specs.declared.topics.Topic.TheVariants.{Kind, Clock, Bitrate, Cable, Per, Out, In, Tolerance, Senders, RateError, SamplePoint, Nodes, Sjw}
 use Rattle.wl_units.specs.declared.quantity.Measure.{Measure}
 use Rattle.wl_units.specs.declared.quantity.Measure.TheVariants as measure
 
@@ -23,6 +23,7 @@ topic_option Senders = codes "senders"
 topic_option RateError = codes "rate-error"
 topic_option SamplePoint = codes "sample-point"
 topic_option Nodes = codes "nodes"
+topic_option Sjw = codes "sjw"
 
 -- the key of a text that is about the same, with its bounds
 abbrev pub topic_key : Topic → Key
@@ -38,6 +39,7 @@ topic_key Senders = key.Senders
 topic_key RateError = key.RateError
 topic_key SamplePoint = key.SamplePoint
 topic_key Nodes = key.Nodes
+topic_key Sjw = key.WideSjw
 
 -- what the text of an option measures, if that is no word and no plain number
 abbrev pub topic_measure : Topic → Option Measure
@@ -49,7 +51,7 @@ topic_measure Out = Some measure.Time
 topic_measure In = Some measure.Time
 topic_measure _ = None
 
--- the text that is taken without the option, if it may be left out: usual transceivers, and a copper cable
+-- the text that is taken without the option, if it may be left out: usual transceivers, a copper cable, and the widest jump width
 abbrev pub topic_default : Topic → Option (List ℕ)
 topic_default Per = Some (codes "5ns/m")
 topic_default Out = Some (codes "70ns")
@@ -58,6 +60,7 @@ topic_default Tolerance = Some (codes "100")
 topic_default Senders = Some (codes "any")
 topic_default RateError = Some (codes "0")
 topic_default Nodes = Some (codes "2")
+topic_default Sjw = Some (codes "128")
 topic_default _ = None
 
 abbrev pub is_about : Topic → AskedWord → Bool

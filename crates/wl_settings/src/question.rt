@@ -10,7 +10,7 @@ use crate::asked::{Asked, Controller};
 use crate::fault::SettingsFault;
 use crate::keys::ValueKind;
 use crate::read::Wanted;
-use crate::registers::bounds_of_kind;
+use crate::registers::{bounds_of_kind, with_jump};
 use crate::topics::{AskedWord, Topic};
 use crate::values::{sample_said, senders_named};
 use std::alloc::{AllocError, Global};
@@ -249,10 +249,11 @@ fn nth_controller(
         return Err(unreadable(alloc, Topic::Kind)?);
     };
     let clock = number_by_word(alloc, tick, Topic::Clock, nth_text(words, Topic::Clock, n))?;
+    let most = number_about(alloc, tick, words, Topic::Sjw)?;
     Ok(Controller {
         name: Text::new(alloc, name)?,
         clock,
-        bounds: bounds_of_kind(kind),
+        bounds: with_jump(bounds_of_kind(kind), most),
     })
 }
 

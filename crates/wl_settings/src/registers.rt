@@ -1,6 +1,6 @@
 //! What the registers of controllers hold.
 ghost use Rattle.std.specs.Prelude.{◌≡◌, min};
-ghost use Rattle.wl_settings.specs.Registers.{bounds_of_kind, widest_bounds};
+ghost use Rattle.wl_settings.specs.Registers.{bounds_of_kind, widest_bounds, with_jump};
 
 use crate::asked::Bounds;
 use crate::parts::Parts;
@@ -42,5 +42,18 @@ pub fn bounds_of_kind(kind: ControllerKind) -> Bounds
         sjw: quanta(kind.sjw.most),
         is_sjw_free: false,
         kind: Some(kind),
+    }
+}
+
+/// Returns bounds with a jump width of at most this number of quanta.
+pub(crate) fn with_jump(bounds: Bounds, most: u32) -> Bounds
+    ensures { result ≡ with_jump bounds most }
+{
+    Bounds {
+        prescaler: bounds.prescaler,
+        parts: bounds.parts,
+        sjw: bounds.sjw.min(quanta(most as u64)),
+        is_sjw_free: bounds.is_sjw_free,
+        kind: bounds.kind,
     }
 }

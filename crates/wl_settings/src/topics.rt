@@ -33,10 +33,12 @@ pub enum Topic {
     SamplePoint,
     /// How many nodes the bus has.
     Nodes,
+    /// The greatest jump width of each controller.
+    Sjw,
 }
 
 /// The topics, in the order in which a help has them.
-pub const TOPICS: [Topic; 12] = [
+pub const TOPICS: [Topic; 13] = [
     Topic::Kind,
     Topic::Clock,
     Topic::Bitrate,
@@ -49,6 +51,7 @@ pub const TOPICS: [Topic; 12] = [
     Topic::RateError,
     Topic::SamplePoint,
     Topic::Nodes,
+    Topic::Sjw,
 ];
 
 /// What an option says, as it was written.
@@ -78,6 +81,7 @@ impl Topic {
             Topic::RateError => "rate-error",
             Topic::SamplePoint => "sample-point",
             Topic::Nodes => "nodes",
+            Topic::Sjw => "sjw",
         }
     }
 
@@ -93,6 +97,7 @@ impl Topic {
             Topic::Senders => "WHO",
             Topic::SamplePoint => "PERCENT",
             Topic::Nodes => "N",
+            Topic::Sjw => "QUANTA",
         }
     }
 
@@ -111,6 +116,7 @@ impl Topic {
             Topic::Senders => "Whether one node sends at a time, or any: one or any",
             Topic::RateError => "By how many ppm the bit rate may be off, as 0",
             Topic::Nodes => "How many nodes the bus has: 2 to 64",
+            Topic::Sjw => "The greatest jump width of each controller, in quanta: 1 to 128",
             Topic::SamplePoint =>
                 "The sample point to which rows are near that come first, as 87.5%",
         }
@@ -141,6 +147,7 @@ impl Topic {
             Topic::RateError => Key::RateError,
             Topic::SamplePoint => Key::SamplePoint,
             Topic::Nodes => Key::Nodes,
+            Topic::Sjw => Key::WideSjw,
         }
     }
 
@@ -159,7 +166,8 @@ impl Topic {
             | Topic::Senders
             | Topic::RateError
             | Topic::SamplePoint
-            | Topic::Nodes => None,
+            | Topic::Nodes
+            | Topic::Sjw => None,
         }
     }
 
@@ -175,6 +183,7 @@ impl Topic {
             Topic::Senders => Some("any"),
             Topic::RateError => Some("0"),
             Topic::Nodes => Some("2"),
+            Topic::Sjw => Some("128"),
             Topic::Kind | Topic::Clock | Topic::Bitrate | Topic::Cable | Topic::SamplePoint => None,
         }
     }

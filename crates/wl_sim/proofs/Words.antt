@@ -5,7 +5,7 @@ use Rattle.clap.specs.Words.{Text}
 use Rattle.wl_device.specs.Devices.{Answer}
 use Rattle.wl_engines.specs.declared.fault.RunFault.TheVariants as run
 use Rattle.wl_files.specs.Files.{Standing}
-use Rattle.wl_formats.specs.declared.formats.Format.{Format}
+use Rattle.wl_lines.specs.declared.formats.Format.{Format}
 use Rattle.wl_init.specs.declared.fault.InitFault.TheVariants as init
 use Rattle.wl_print.specs.declared.fault.PrintFault.TheVariants as print
 use Rattle.wl_settings.specs.declared.fault.SettingsFault.TheVariants as settings
@@ -21,7 +21,7 @@ use Rattle.wl_words.specs.declared.command.Refusal.TheVariants.{Words, Memory}
 use Rattle.wl_words.specs.declared.task.Task.{Task}
 use Rattle.wl_words.specs.declared.task.Task.TheVariants.{Init, Merge, Horizon, Check, Upgrade, Records, Run, Explain, Trace, Candump, Vcd, Page, Margin, Respond, Traffic, Judge, Settings, Sweep}
 use Rattle.wl_words.specs.declared.task.Swept.{Swept}
-use Rattle.wl_sim.specs.Tasks.{Does, DoesSweep, DoesSwept, IsCount, run_status}
+use Rattle.wl_sim.specs.Tasks.{Does, DoesAnySweep, DoesSpikes, DoesSweep, DoesSwept, IsCount, run_status}
 use Rattle.wl_sim.specs.Orders.{Ends, EndsPlainly, Performs, PerformsBy, ReadsFrom, RunsWords, settings_tick}
 use Rattle.wl_sim.specs.declared.answer.Done.{Done}
 use Rattle.wl_sim.specs.declared.answer.Fault.{Fault}
@@ -48,6 +48,14 @@ module _ {S T : Type 0} (gives : S → Answer → S → Type 0) (takes : T → A
   swept_nothing s s' t t' swept false (Some share) h = (Err sweep.Memory, (some_count swept.workers).0, (some_count swept.workers).1, h, refl)
   swept_nothing s s' t t' swept false None h = sweeps_nothing s s' t t' swept swept.print swept.page h
 
+  spikes_nothing : (s s' : S) (t t' : T) (swept : Swept) (number : Option ℕ) → t' ≡ t → DoesSpikes gives takes s s' t t' swept [] number (Err (fault.Run run.Memory))
+  spikes_nothing s s' t t' swept None h = (Err sweep.Memory, (some_count swept.workers).0, (some_count swept.workers).1, h, refl)
+  spikes_nothing s s' t t' swept (Some n) h = (Err sweep.Memory, h, refl)
+
+  any_sweep_nothing : (s s' : S) (t t' : T) (swept : Swept) (spike : Bool) → t' ≡ t → DoesAnySweep gives takes s s' t t' swept [] spike (Err (fault.Run run.Memory))
+  any_sweep_nothing s s' t t' swept true h = spikes_nothing s s' t t' swept swept.print h
+  any_sweep_nothing s s' t t' swept false h = swept_nothing s s' t t' swept swept.join swept.part h
+
   does_nothing : (s s' : S) (t t' : T) (task : Task) → s' ≡ s → t' ≡ t → Does gives takes s s' t t' task [] [] (Err (fault.Run run.Memory))
   does_nothing s s' t t' (Init wish) g h = (Err init.Memory, g, inl (h, inl refl), refl)
   does_nothing s s' t t' (Merge limits) g h = (Err run.Memory, h, refl)
@@ -66,7 +74,7 @@ module _ {S T : Type 0} (gives : S → Answer → S → Type 0) (takes : T → A
   does_nothing s s' t t' (Traffic tick strict) g h = (Err run.Memory, h, refl)
   does_nothing s s' t t' (Judge tick explain) g h = (Err run.Memory, h, refl)
   does_nothing s s' t t' (Settings tick shown strict) g h = (Err settings.Memory, inl (h, inl refl), refl)
-  does_nothing s s' t t' (Sweep swept) g h = swept_nothing s s' t t' swept swept.join swept.part h
+  does_nothing s s' t t' (Sweep swept) g h = any_sweep_nothing s s' t t' swept swept.spike h
 
 -- what is done over an order without files is done over the standard devices
 module _ {S T F R W : Type 0} (gives : S → Answer → S → Type 0) (takes : T → Answer → T → Type 0)

@@ -4,7 +4,7 @@ use Rattle.std.specs.Prelude.{Result}
 use Rattle.wl_device.specs.Devices.{Answer, Writes}
 use Rattle.wl_device.specs.declared.device.WriteFault.{WriteFault}
 use Rattle.wl_formats.specs.Formats.{formatted}
-use Rattle.wl_formats.specs.declared.formats.Format.{Format}
+use Rattle.wl_lines.specs.declared.formats.Format.{Format}
 use Rattle.wl_formats.specs.declared.tables.Subject.{Subject}
 use Rattle.wl_sim.specs.Tasks.{WritesFormatted, after_sent}
 use Rattle.wl_sim.specs.declared.answer.Done.{Done}

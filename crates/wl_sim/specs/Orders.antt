@@ -3,7 +3,7 @@ use Rattle.std.specs.Prelude.{◌≡◌, ◌⊎◌, ℕ, Bool, if◌then◌else�
 use Rattle.clap.specs.Words.{Text}
 use Rattle.wl_device.specs.Devices.{Answer}
 use Rattle.wl_files.specs.Files.{Standing, IsEmpty, Keeps, Places}
-use Rattle.wl_formats.specs.declared.formats.Format.{Format}
+use Rattle.wl_lines.specs.declared.formats.Format.{Format}
 use Rattle.wl_setup.specs.declared.fault.SetupFault.TheVariants as setup
 use Rattle.wl_engines.specs.declared.fault.RunFault.TheVariants.{Setup, Write, Memory}
 use Rattle.wl_sim.specs.declared.answer.Done.{Done}

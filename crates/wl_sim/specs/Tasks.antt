@@ -16,7 +16,7 @@ use Rattle.wl_device.specs.declared.device.WriteFault.{WriteFault}
 use Rattle.wl_engines.specs.Keeping.{KeepsMore}
 use Rattle.wl_engines.specs.declared.kept.Kept.{Kept}
 use Rattle.wl_formats.specs.Formats.{formatted}
-use Rattle.wl_formats.specs.declared.formats.Format.{Format}
+use Rattle.wl_lines.specs.declared.formats.Format.{Format}
 use Rattle.wl_formats.specs.declared.tables.Subject.{Subject}
 use Rattle.wl_formats.specs.declared.tables.Subject.TheVariants as subject
 use Rattle.wl_engines.specs.declared.fault.RunFault.{RunFault}
@@ -58,6 +58,7 @@ use Rattle.wl_sweep.specs.Tallies.{tally_of}
 use Rattle.wl_sweep_engine.specs.declared.asked.Asked.{Asked}
 use Rattle.wl_sweep_engine.specs.declared.fault.SweepFault.{SweepFault}
 use Rattle.wl_sweep_engine.specs.declared.fault.SweepFault.TheVariants as sweep
+use Rattle.wl_sweep_engine.specs.Spiking.{PrintsSpike, RunsSpikes}
 use Rattle.wl_sweep_engine.specs.Sweeping.{Maps, Parts, Prints, Sweeps}
 use Rattle.wl_sweep_engine.specs.declared.join.JoinFault.{JoinFault}
 use Rattle.wl_sweep_engine.specs.declared.join.JoinFault.TheVariants as join
@@ -65,10 +66,12 @@ use Rattle.wl_sweep_engine.specs.Joining.{Joins}
 use Rattle.wl_sweep.specs.declared.part.Share.{Share}
 use Rattle.wl_traffic.specs.declared.reason.Reason.{Reason}
 use Rattle.wl_traffic.specs.declared.reason.Reason.TheVariants.{Works}
+use Rattle.wl_sim.specs.Lines.{respond_asked}
 use Rattle.wl_sim.specs.declared.answer.Done.{Done}
 use Rattle.wl_sim.specs.declared.answer.Done.TheVariants.{Plain, Unclean, Unknown}
 use Rattle.wl_sim.specs.declared.answer.Fault.{Fault}
 use Rattle.wl_sim.specs.declared.answer.Fault.TheVariants as fault
+use Rattle.wl_sim.specs.declared.lines.RespondAsked.{RespondAsked}
 use Rattle.wl_words.specs.declared.command.Refusal.{Refusal}
 use Rattle.wl_words.specs.declared.command.Refusal.TheVariants.{Words, Memory}
 use Rattle.wl_words.specs.declared.task.Task.{Task}
@@ -236,7 +239,12 @@ abbrev pub subject_of_settings : Shown → Option Subject
 subject_of_settings (listed.Best most) = Some subject.Settings
 subject_of_settings listed.Plan = None
 
--- the command of a task, if its output has other formats; a member of a sweep is a plan, its map a page, and a part of it JSON
+-- what a spike costs has lines of its own
+abbrev pub subject_of_sweep : (spike : Bool) → Subject
+subject_of_sweep true = subject.Spikes
+subject_of_sweep false = subject.Sweep
+
+-- The command of a task, if other formats are made of its text. A member of a sweep is a plan, its map a page, and a part of it JSON.
 abbrev pub subject_of : Task → Option Subject
 subject_of (Init wish) = None
 subject_of (Merge limits) = None
@@ -251,11 +259,11 @@ subject_of (Candump tick from errors window) = None
 subject_of (Vcd tick window) = None
 subject_of (Page tick window) = None
 subject_of (Margin tick all strict) = Some subject.Margin
-subject_of (Respond tick any strict) = Some subject.Respond
+subject_of (Respond tick any strict) = None
 subject_of (Traffic tick strict) = Some subject.Traffic
 subject_of (Judge tick explain) = Some subject.Judge
 subject_of (Settings tick shown strict) = subject_of_settings shown
-subject_of (Sweep swept) = if not swept.join && (is_some swept.part || is_some swept.print || swept.page) then None else Some subject.Sweep
+subject_of (Sweep swept) = if not swept.join && (is_some swept.part || is_some swept.print || swept.page) then None else Some (subject_of_sweep swept.spike)
 
 -- what is asked of a sweep
 abbrev pub sweep_asked : Swept → Asked
@@ -288,6 +296,18 @@ module _ {S T : Type 0} (gives : S → Answer → S → Type 0) (takes : T → A
       (answer : Result (Unit {0}) SweepFault) × (count : ℕ) × IsCount swept.workers count
       × Parts gives takes ranges (sweep_asked swept) s s' t t' share count answer × (r ≡ of_print answer)
   DoesSwept swept ranges false None r = DoesSweep swept ranges swept.print swept.page r
+
+  -- what a spike costs at one place in time after another was written, or one of its members
+  abbrev pub DoesSpikes : Swept → List Text → Option ℕ → Result Done Fault → Type 0
+  DoesSpikes swept words None r =
+      (answer : Result Bool SweepFault) × (count : ℕ) × IsCount swept.workers count × RunsSpikes gives takes words (sweep_asked swept) s s' t t' count answer
+      × (r ≡ of_map answer)
+  DoesSpikes swept words (Some n) r =
+      (answer : Result (Unit {0}) SweepFault) × PrintsSpike gives takes words (sweep_asked swept) s s' t t' n answer × (r ≡ of_print answer)
+
+  abbrev pub DoesAnySweep : Swept → List Text → (spike : Bool) → Result Done Fault → Type 0
+  DoesAnySweep swept words true r = DoesSpikes swept words swept.print r
+  DoesAnySweep swept words false r = DoesSwept swept words swept.join swept.part r
 
   -- what is doubtful of a plan was written
   abbrev pub DoesExplain : (strict : Bool) → Result Done Fault → Type 0
@@ -333,11 +353,11 @@ module _ {S T : Type 0} (gives : S → Answer → S → Type 0) (takes : T → A
   Does (Vcd tick window) ranges asked r = Plainly (RunsPlan gives takes (IsVcdWithin tick window) s s' t t') r
   Does (Page tick window) ranges asked r = Plainly (PagesWithin gives takes tick window s s' t t') r
   Does (Margin tick all strict) ranges asked r = Strictly strict (RunsBus gives takes (IsMarginOutput tick all) s s' t t') r
-  Does (Respond tick any strict) ranges asked r = Strictly strict (Responds gives takes tick any s s' t t') r
+  Does (Respond tick any strict) ranges asked r = Strictly strict (Responds gives takes tick any None s s' t t') r
   Does (Traffic tick strict) ranges asked r = DoesTraffic tick strict r
   Does (Judge tick explain) ranges asked r = DoesJudge tick explain r
   Does (Settings tick shown strict) ranges asked r = DoesSettings tick shown strict asked r
-  Does (Sweep swept) ranges asked r = DoesSwept swept ranges swept.join swept.part r
+  Does (Sweep swept) ranges asked r = DoesAnySweep swept ranges swept.spike r
 
   -- the task was done, nothing else was read or written, and the status is that of what was answered
   abbrev pub EndsTask : Task → ℕ → Type 0
@@ -409,6 +429,11 @@ module _ {S T : Type 0} (gives : S → Answer → S → Type 0) (takes : T → A
       (kept : Kept) × (kept' : Kept) × (answer : Result Done Fault) × (kept.bytes.items ≡ [])
       × Does gives keeps s s' kept kept' task ranges asked answer × WritesAs takes t t' format what kept'.bytes.items answer r
 
+  -- `respond` makes the format itself, of its lines
+  abbrev pub DoesIn : Format → Option RespondAsked → Task → List Text → List AskedWord → Result Done Fault → Type 0
+  DoesIn format (Some w) task ranges asked r = Strictly w.strict (Responds gives takes w.tick w.any_data (Some format) s s' t t') r
+  DoesIn format None task ranges asked r = DoesBy format (subject_of task) task ranges asked r
+
   abbrev pub DoesAs : Option Format → Task → List Text → List AskedWord → Result Done Fault → Type 0
   DoesAs None task ranges asked r = Does gives takes s s' t t' task ranges asked r
-  DoesAs (Some format) task ranges asked r = DoesBy format (subject_of task) task ranges asked r
+  DoesAs (Some format) task ranges asked r = DoesIn format (respond_asked task) task ranges asked r

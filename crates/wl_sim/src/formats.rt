@@ -8,12 +8,13 @@ use crate::answer::{Done, Fault};
 use std::alloc::Global;
 use wl_device::{Sink, write_all};
 use wl_engines::RunFault;
-use wl_formats::{Format, FormatFault, Subject, formatted};
+use wl_formats::{FormatFault, Subject, formatted};
+use wl_lines::Format;
 use wl_settings::Shown;
 use wl_words::Task;
 
-/// Returns the command of a task, if its output has other formats. A member of a sweep and the plan of a setting are plans, the map of a
-/// sweep is a page, and a part of it JSON.
+/// Returns the command of a task, if other formats are made of its text. A member of a sweep and the plan of a setting are plans, the map of a
+/// sweep is a page, and a part of it JSON; `respond` makes its formats itself.
 pub(crate) fn subject_of(task: Task) -> Option<Subject>
     ensures { result ≡ subject_of task }
 {
@@ -23,7 +24,6 @@ pub(crate) fn subject_of(task: Task) -> Option<Subject>
         Task::Explain(_) => Some(Subject::Explain),
         Task::Trace(_) => Some(Subject::Trace),
         Task::Margin(_, _, _) => Some(Subject::Margin),
-        Task::Respond(_, _, _) => Some(Subject::Respond),
         Task::Traffic(_, _) => Some(Subject::Traffic),
         Task::Judge(_, _) => Some(Subject::Judge),
         Task::Settings(_, shown, _) => match shown {
@@ -34,7 +34,11 @@ pub(crate) fn subject_of(task: Task) -> Option<Subject>
             if !swept.join && (swept.part.is_some() || swept.print.is_some() || swept.page) {
                 None
             } else {
-                Some(Subject::Sweep)
+                Some(if swept.spike {
+                    Subject::Spikes
+                } else {
+                    Subject::Sweep
+                })
             }
         }
         Task::Init(_)
@@ -44,7 +48,8 @@ pub(crate) fn subject_of(task: Task) -> Option<Subject>
         | Task::Records(_)
         | Task::Candump(_, _, _, _)
         | Task::Vcd(_, _)
-        | Task::Page(_, _) => None,
+        | Task::Page(_, _)
+        | Task::Respond(_, _, _) => None,
     }
 }
 

@@ -16,7 +16,7 @@ use wl_print::PrintFault;
 use wl_record::TextFault;
 use wl_settings::SettingsFault;
 use wl_setup::{Names, SetupFault, Text, bus_of_bytes};
-use wl_sweep_engine::{JoinFault, PartsFault, RangeFault, SweepFault};
+use wl_sweep_engine::{JoinFault, PartsFault, RangeFault, SpikeFault, SweepFault};
 use wl_words::Order;
 
 /// The most bytes of an input that a hint is made from.
@@ -148,10 +148,31 @@ fn range_advice(fault: RangeFault) -> &'static str {
     }
 }
 
+/// Returns what to change of a spike that a plan doesn't allow.
+fn spike_advice(fault: SpikeFault) -> &'static str {
+    match fault {
+        SpikeFault::Words => "Give --spike once with --length once, and no range.",
+        SpikeFault::Node => {
+            "Name a node by its name or its number, from 0, or a place on the cable as x=25."
+        }
+        SpikeFault::Version => {
+            "Set `version = 3` or write the plan by `format`, or give the spike a place on the cable, as x=25."
+        }
+        SpikeFault::Place => {
+            "Give the place as a whole number of units of length from 0 to 2,147,483,647, or as a length that is whole in them, as x=25 or x=25m."
+        }
+        SpikeFault::Length => {
+            "Give --length a number of ticks, or a time of whole ticks, as 2000 or 2us: at least a tick, and at most up to the plan's end."
+        }
+        SpikeFault::Places => "Take a greater step: at most 4,294,967,295 places in time.",
+    }
+}
+
 /// Returns what to change of the words of a sweep that a plan doesn't allow.
 fn word_advice(fault: &SweepFault) -> &'static str {
     match fault {
         SweepFault::Range(_, fault) => range_advice(*fault),
+        SweepFault::Spike(fault) => spike_advice(*fault),
         SweepFault::Rows => {
             "Take greater steps or fewer ranges: at most 10,000 rows in all, one for each choice of a value from each."
         }

@@ -27,7 +27,8 @@ ghost use Rattle.wl_engines.specs.Workers.{RunsByWorkersAs};
 ghost use Rattle.wl_files.specs.Files.{Keeps};
 ghost use Rattle.wl_words.specs.CommandLine.{NamesTask};
 ghost use Rattle.wl_sim.specs.Orders.{AppliesTo, Ends, EndsPlainly, MovesFile, Performs, PerformsApplied, PerformsTask, RunsWords, WritesTo, settings_tick};
-ghost use Rattle.wl_sim.specs.Tasks.{AppliesAsked, Does, DoesApplied, DoesAs, DoesBy, DoesSweep, DoesSwept, DoesTrace, FindsSettings, IsCount, run_status, refusal_status};
+ghost use Rattle.wl_sim.specs.Lines.{respond_asked};
+ghost use Rattle.wl_sim.specs.Tasks.{AppliesAsked, Does, DoesApplied, DoesAs, DoesAnySweep, DoesBy, DoesIn, DoesSpikes, DoesSweep, DoesSwept, DoesTrace, FindsSettings, IsCount, run_status, refusal_status};
 
 use std::alloc::Global;
 use std::io::ErrorKind;
@@ -40,18 +41,22 @@ use wl_apply_engine::{AppliedFault, applied_of_words, applied_run};
 use wl_device::{Host, Sink, Source};
 use wl_engines::Kept;
 use wl_files::{BeginFault, Folder, SystemFolder};
-use wl_formats::{Format, Subject};
+use wl_formats::Subject;
 use wl_init::init_run;
+use wl_lines::Format;
 use wl_print::format_run;
 use wl_settings::{AskedWord, SettingsFault, Shown, settings_of_words, settings_run};
 use wl_setup::{SetupFault, Text};
-use wl_sweep_engine::{Asked, Workers, join_run, map_run, part_run, print_run, sweep_run};
+use wl_sweep_engine::{
+    Asked, Workers, join_run, map_run, part_run, print_run, spike_print, spikes_run, sweep_run,
+};
 use wl_views::{Pick, Tick};
 use wl_words::{Order, Refusal, Swept, Task};
 
 mod answer;
 mod formats;
 mod hints;
+mod lines;
 mod progress;
 mod texts;
 
@@ -60,6 +65,7 @@ use crate::answer::{
     of_settings, of_tally, of_traffic, of_verdict, plainly,
 };
 use crate::formats::{subject_of, write_kept};
+use crate::lines::respond_asked;
 pub use answer::{Done, Fault};
 pub use wl_engines::{
     Crew, LinkKind, RunFault, candump_run_as, check_run, explain_run, horizon_run,
@@ -525,6 +531,53 @@ fn run_swept<H: Threads + Sync + Eprint + Clock, R: Source, W: Sink>(
     }
 }
 
+/// Runs a plan with a spike at one place in time after another and writes what each costs, or writes one of its members.
+fn run_spikes<H: Threads + Sync + Eprint + Clock, R: Source, W: Sink>(
+    rt: &H,
+    alloc: Global,
+    swept: Swept,
+    work: Work,
+    reader: &mut R,
+    writer: &mut W,
+) -> Result<Done, Fault>
+    ensures { DoesSpikes R.gives W.takes reader.old reader.new writer.old writer.new
+        swept (map string_bytes work.entry.ranges.now) swept.print result }
+{
+    let asked = Asked {
+        options: swept.options,
+        worst: swept.worst,
+    };
+    match swept.print {
+        Some(number) => of_print(spike_print(alloc, work.ranges, asked, number, reader, writer)),
+        None => {
+            let workers = Workers {
+                count: thread_count(rt, swept.workers),
+                progress: work.progress,
+            };
+            of_map(spikes_run(rt, alloc, work.ranges, asked, workers, reader, writer))
+        }
+    }
+}
+
+/// Runs a sweep: of spikes, or of a family and its ranges.
+fn run_any_sweep<H: Threads + Sync + Eprint + Clock, R: Source, W: Sink>(
+    rt: &H,
+    alloc: Global,
+    swept: Swept,
+    work: Work,
+    reader: &mut R,
+    writer: &mut W,
+) -> Result<Done, Fault>
+    ensures { DoesAnySweep R.gives W.takes reader.old reader.new writer.old writer.new
+        swept (map string_bytes work.entry.ranges.now) swept.spike result }
+{
+    if swept.spike {
+        run_spikes(rt, alloc, swept, work, reader, writer)
+    } else {
+        run_swept(rt, alloc, swept, work, reader, writer)
+    }
+}
+
 /// Runs a plan by its workers: by the one-thread engine if there is one worker. Returns whether the verdict is clean. It may wait if there
 /// are several workers.
 fn run_by<H: Threads + Wait + Sync, R: Source, W: Sink>(
@@ -617,7 +670,10 @@ fn run<H: Threads + Wait + Sync + Eprint + Clock, R: Source, W: Sink>(
             of_verdict(strict, margin_run(alloc, tick, all_send, reader, writer))
         }
         Task::Respond(tick, any_data, strict) => {
-            of_verdict(strict, respond_run(alloc, tick, any_data, reader, writer))
+            of_verdict(
+                strict,
+                respond_run(alloc, tick, any_data, None, reader, writer),
+            )
         }
         Task::Traffic(tick, strict) => of_traffic(strict, traffic_run(alloc, tick, reader, writer)),
         Task::Judge(tick, explain) => of_judge(judge_run(alloc, tick, explain, reader, writer)),
@@ -625,7 +681,7 @@ fn run<H: Threads + Wait + Sync + Eprint + Clock, R: Source, W: Sink>(
             let found = run_settings(alloc, tick, shown, work.asked, reader, writer);
             of_settings(strict, found)
         }
-        Task::Sweep(swept) => run_swept(rt, alloc, swept, work, reader, writer),
+        Task::Sweep(swept) => run_any_sweep(rt, alloc, swept, work, reader, writer),
     }
 }
 
@@ -647,6 +703,38 @@ fn run_formatted<H: Threads + Wait + Sync + Eprint + Clock, R: Source, W: Sink>(
     write_kept(alloc, format, subject, &kept.bytes, answer, writer)
 }
 
+/// Runs the engine of a task into another format than text, if its output has one. The engine of `respond` makes the format itself.
+fn run_in<H: Threads + Wait + Sync + Eprint + Clock, R: Source, W: Sink>(
+    rt: &H,
+    alloc: Global,
+    work: Work,
+    format: Format,
+    reader: &mut R,
+    writer: &mut W,
+) -> Result<Done, Fault>
+    ensures { DoesIn R.gives W.takes reader.old reader.new writer.old writer.new
+        format (respond_asked work.entry.task) work.entry.task (map string_bytes work.entry.ranges.now)
+        work.entry.asked.now result }
+{
+    match respond_asked(work.task) {
+        Some(waits) => {
+            let found = respond_run(
+                alloc,
+                waits.tick,
+                waits.any_data,
+                Some(format),
+                reader,
+                writer,
+            );
+            of_verdict(waits.strict, found)
+        }
+        None => match subject_of(work.task) {
+            None => run(rt, alloc, work, reader, writer),
+            Some(subject) => run_formatted(rt, alloc, work, format, subject, reader, writer),
+        },
+    }
+}
+
 /// Runs the engine of a task, whose output may have another format than text.
 fn run_as<H: Threads + Wait + Sync + Eprint + Clock, R: Source, W: Sink>(
     rt: &H,
@@ -660,10 +748,7 @@ fn run_as<H: Threads + Wait + Sync + Eprint + Clock, R: Source, W: Sink>(
 {
     match work.format {
         None => run(rt, alloc, work, reader, writer),
-        Some(format) => match subject_of(work.task) {
-            None => run(rt, alloc, work, reader, writer),
-            Some(subject) => run_formatted(rt, alloc, work, format, subject, reader, writer),
-        },
+        Some(format) => run_in(rt, alloc, work, format, reader, writer),
     }
 }
 

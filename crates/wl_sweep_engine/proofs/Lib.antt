@@ -2,3 +2,4 @@ mod Edges
 mod Ranging
 mod Refusing
 mod Rows
+mod Spiking

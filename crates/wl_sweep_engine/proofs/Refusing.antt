@@ -33,6 +33,7 @@ is_write (sweep.Range i f) = false
 is_write sweep.Rows = false
 is_write sweep.Member = false
 is_write sweep.Part = false
+is_write (sweep.Spike f) = false
 is_write sweep.Write = true
 is_write sweep.Memory = false
 
@@ -45,6 +46,7 @@ is_memory (sweep.Range i f) = false
 is_memory sweep.Rows = false
 is_memory sweep.Member = false
 is_memory sweep.Part = false
+is_memory (sweep.Spike f) = false
 is_memory sweep.Write = false
 is_memory sweep.Memory = true
 
@@ -56,7 +58,7 @@ abbrev pub Fine : {T : Type 0} → Result T SweepFault → Type 0
 Fine (Ok x) = Unit {0}
 Fine (Err e) = is_write e ≡ false
 
-after_fine : {T U E : Type 0} (name : E → SweepFault) → ((e : E) → is_write (name e) ≡ false) → (r : Result T E) (make : T → Result U SweepFault)
+pub after_fine : {T U E : Type 0} (name : E → SweepFault) → ((e : E) → is_write (name e) ≡ false) → (r : Result T E) (make : T → Result U SweepFault)
     → ((x : T) → Fine (make x)) → Fine (after name r make)
 after_fine name names (Ok x) make h = h x
 after_fine name names (Err e) make h = names e
@@ -65,7 +67,7 @@ after_same_fine : {T U : Type 0} (r : Result T SweepFault) → Fine r → (make 
 after_same_fine (Ok x) fine make h = h x
 after_same_fine (Err e) fine make h = fine
 
-setup_fine : (e : SetupFault) → is_write (of_setup e) ≡ false
+pub setup_fine : (e : SetupFault) → is_write (of_setup e) ≡ false
 setup_fine setup.Toml = refl
 setup_fine setup.Version = refl
 setup_fine (setup.Missing k) = refl
@@ -81,7 +83,7 @@ setup_fine (setup.Plan f) = refl
 setup_fine setup.Read = refl
 setup_fine setup.Memory = refl
 
-setup_named : (e : SetupFault) → e ≢ setup.Memory → of_setup e ≡ sweep.Setup e
+pub setup_named : (e : SetupFault) → e ≢ setup.Memory → of_setup e ≡ sweep.Setup e
 setup_named setup.Toml n = refl
 setup_named setup.Version n = refl
 setup_named (setup.Missing k) n = refl
@@ -145,6 +147,7 @@ module _ {A T : Type 0} (Refuses : SweepFault → Type 0) (Wrote : A → Result 
   refuse sweep.Rows fine r = (r (not_memory sweep.Rows refl), same)
   refuse sweep.Member fine r = (r (not_memory sweep.Member refl), same)
   refuse sweep.Part fine r = (r (not_memory sweep.Part refl), same)
+  refuse (sweep.Spike f) fine r = (r (not_memory (sweep.Spike f) refl), same)
   refuse sweep.Write fine r = absurd (true≢false (fine (not_memory sweep.Write refl)))
   refuse sweep.Memory fine r = same
 

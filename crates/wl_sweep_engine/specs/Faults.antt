@@ -45,6 +45,7 @@ is_word (sweep.Range i fault) = true
 is_word sweep.Rows = true
 is_word sweep.Member = true
 is_word sweep.Part = true
+is_word (sweep.Spike fault) = true
 is_word (sweep.Setup fault) = false
 is_word sweep.Write = false
 is_word sweep.Memory = false

@@ -7,3 +7,4 @@ pub mod Ran
 pub mod Parts
 pub mod Joining
 pub mod Sweeping
+pub mod Spiking

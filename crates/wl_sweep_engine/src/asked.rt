@@ -90,7 +90,7 @@ fn if_small(sweep: Sweep) -> Result<Sweep, SweepFault>
 }
 
 /// Returns a plan's text with the frames that are asked for.
-fn text_asked(alloc: Global, text: PlanText, worst: bool) -> Result<PlanText, AllocError>
+pub(crate) fn text_asked(alloc: Global, text: PlanText, worst: bool) -> Result<PlanText, AllocError>
     ensures { IfOk result (λ asked. asked ≡ text_asked worst text) }
 {
     if worst {

@@ -4,6 +4,7 @@ use std::alloc::AllocError;
 use thiserror::Error;
 use wl_device::WriteFault;
 use wl_setup::SetupFault;
+use wl_spikes::SpikeFault;
 use wl_sweep::RangeFault;
 
 /// Why a sweep ended early. The fault of a plan's text is shown as `run` shows it. But for `Write` no member was run and nothing was written.
@@ -30,6 +31,9 @@ pub enum SweepFault {
     /// The ranges make more than 10,000 rows.
     #[error("Rows")]
     Rows,
+    /// The words are no spike of this plan: why.
+    #[error("Spike({0})")]
+    Spike(SpikeFault),
     /// The sweep has no member of this number.
     #[error("Member")]
     Member,
@@ -53,6 +57,7 @@ impl SweepFault {
             SweepFault::Runs | SweepFault::Step | SweepFault::Workers => true,
             SweepFault::Range(_, _) | SweepFault::Rows | SweepFault::Member | SweepFault::Part =>
                 true,
+            SweepFault::Spike(_) => true,
             SweepFault::Setup(_) | SweepFault::Write | SweepFault::Memory => false,
         }
     }

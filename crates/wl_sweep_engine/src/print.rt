@@ -13,7 +13,7 @@ use wl_setup::{PlanText, Text, read_text};
 use wl_sweep::Sweep;
 
 /// Returns the text of a member: what it changes as a comment, and its plan.
-fn member_text(
+pub(crate) fn member_text(
     alloc: Global,
     number: u64,
     change: &Text,

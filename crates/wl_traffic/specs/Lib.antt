@@ -11,4 +11,5 @@ pub mod Unequal
 pub mod Reasons
 pub mod Causes
 pub mod Bounds
+pub mod Silence
 pub mod Traffic

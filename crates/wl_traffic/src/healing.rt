@@ -91,7 +91,7 @@ fn disturbed_until(disturbances: &[Disturbance]) -> u64
 }
 
 /// Returns from which tick on no node is at a flag or its delimiter, and nothing disturbs.
-fn clean_from(disturbed: u64, queues: &[NodeQueue]) -> u64
+pub(crate) fn clean_from(disturbed: u64, queues: &[NodeQueue]) -> u64
     ensures { result ≡ clean_from disturbed queues.now }
 {
     let mut last = disturbed;

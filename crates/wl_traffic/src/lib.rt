@@ -13,12 +13,15 @@ mod messages;
 mod nodes;
 mod queues;
 mod reason;
+mod silence;
 mod spans;
 mod statistics;
 mod text;
 mod unequal;
+mod verdict;
 mod waits;
 mod watch;
 
 pub use reason::Reason;
 pub use text::{Traffic, traffic_of, traffic_of_bus};
+pub use verdict::{Verdict, verdict_of};

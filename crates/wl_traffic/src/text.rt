@@ -13,6 +13,7 @@ use crate::load::{Load, share};
 use crate::messages::push_messages;
 use crate::queues::queues_are_known;
 use crate::reason::Reason;
+use crate::silence::silence_line;
 use crate::unequal::push_unequal;
 use crate::watch::watch_all;
 use std::alloc::{AllocError, Global};
@@ -49,18 +50,26 @@ fn push_reason(text: &mut String, reason: Reason) -> Result<(), AllocError>
     writeln!(text, "verdict {word}")
 }
 
-/// Returns the traffic of a plan's simulation, with these bounds of its messages.
+/// What the text has beside its run: bounds of waits, and what is proved after a silence.
+#[derive(Drop)]
+struct Beside {
+    waits: Option<Waits>,
+    silence: String,
+}
+
+/// Returns the traffic of a plan's simulation, with these lines beside it.
 fn traffic_with(
     alloc: Global,
     tick: Tick,
     plan: &CheckedPlan,
     names: &Names,
     counted: &Counted,
-    waits: &Option<Waits>,
+    beside: &Beside,
 ) -> Result<Traffic, AllocError>
     requires counted { counted.now ≡ counted_of (outcome_of plan.now) }
-    requires lines { IfSome waits.now (λ w. length w.asked ≡ length w.lines) }
-    ensures text { IfOk result (λ t. string_bytes t.text ≡ bounded_text tick plan.now names.now waits.now) }
+    requires lines { IfSome beside.now.waits (λ w. length w.asked ≡ length w.lines) }
+    ensures text { IfOk result (λ t. string_bytes t.text ≡ bounded_text tick plan.now names.now beside.now.waits
+        (string_bytes beside.now.silence)) }
     ensures reason { IfOk result (λ t. t.reason ≡ reason_of plan.now) }
 {
     let seen = watch_all(alloc, plan, counted)?;
@@ -70,9 +79,10 @@ fn traffic_with(
     let mut text = String::new(alloc);
     push_bus(&mut text, tick, plan.end, found.load)?;
     push_messages(alloc, &mut text, tick, plan, names, queues.as_slice())?;
-    push_bounds(&mut text, names, waits)?;
+    push_bounds(&mut text, names, &beside.waits)?;
     push_unequal(&mut text, names, found.unequal.as_slice())?;
     push_healed(&mut text, tick, plan, queues.as_slice(), found.reason)?;
+    text.push_str(beside.silence.as_str())?;
     push_causes(&mut text, tick, names, &found, counted.totals.as_slice())?;
     push_reason(&mut text, found.reason)?;
     let reason = found.reason;
@@ -97,12 +107,17 @@ pub fn traffic_of(
     ensures text { IfOk result (λ t. string_bytes t.text ≡ traffic_text tick plan.now names.now) }
     ensures reason { IfOk result (λ t. t.reason ≡ reason_of plan.now) }
 {
-    traffic_with(alloc, tick, plan, names, counted, &None)
+    let beside = Beside {
+        waits: None,
+        silence: String::new(alloc),
+    };
+    traffic_with(alloc, tick, plan, names, counted, &beside)
 }
 
 /// Returns the traffic of the simulation of a bus's plan, in which this was counted. It is the text of [`traffic_of`]. After the lines of messages it
-/// has a line for each message that comes again, with the longest time that it waits on any run, if that is proved. The bus is that of the
-/// plan's text. Refused out of memory alone.
+/// has a line for each message that comes again, with the longest time that it waits on any run, if that is proved. If something disturbs, a line
+/// says from which tick on it is proved that the bus is clean, whatever comes then, or why it isn't. The bus is that of the plan's text. Refused
+/// out of memory alone.
 pub fn traffic_of_bus(
     alloc: Global,
     tick: Tick,
@@ -115,6 +130,9 @@ pub fn traffic_of_bus(
     ensures text { IfOk result (λ t. IsTrafficOfBus tick plain.now bus.now (string_bytes t.text)) }
     ensures reason { IfOk result (λ t. t.reason ≡ reason_of bus.now.plan) }
 {
-    let waits = waits_of_bus(alloc, tick.picoseconds(), plain, bus)?;
-    traffic_with(alloc, tick, &bus.plan, &bus.names, counted, &waits)
+    let picoseconds = tick.picoseconds();
+    let waits = waits_of_bus(alloc, picoseconds, plain, bus)?;
+    let silence = silence_line(alloc, picoseconds, bus, &counted.drives)?;
+    let beside = Beside { waits, silence };
+    traffic_with(alloc, tick, &bus.plan, &bus.names, counted, &beside)
 }

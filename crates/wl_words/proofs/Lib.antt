@@ -4,3 +4,4 @@ mod Naming
 mod Rows
 mod Tabled
 mod Words
+mod Spiked

@@ -194,6 +194,7 @@ given_numbers : entered_sweep (behind_name (codes "sweep" ∷ codes "--runs" ∷
       page = false;
       part = None;
       join = false;
+      spike = false;
     })
 unfolding clap_on_literals behind_name
 given_numbers = refl
@@ -207,9 +208,29 @@ given_flags : entered_sweep (behind_name (codes "sweep" ∷ codes "--keep-ppm" �
       page = false;
       part = None;
       join = false;
+      spike = false;
     })
 unfolding clap_on_literals behind_name
 given_flags = refl
+
+-- a spike with its length, and words that aren't one
+given_spike : ranges_in (entered (behind_name (codes "sweep" ∷ codes "--spike" ∷ codes "motor" ∷ codes "--length=2us" ∷ [])))
+    ≡ codes "motor" ∷ codes "2us" ∷ []
+unfolding clap_on_literals behind_name
+given_spike = refl
+
+spiked : entered_sweep (behind_name (codes "sweep" ∷ codes "--spike" ∷ codes "motor" ∷ codes "--length=2us" ∷ []))
+    ≡ Some (record plainly_swept { spike = true })
+unfolding clap_on_literals behind_name
+spiked = refl
+
+no_length : entered_sweep (behind_name (codes "sweep" ∷ codes "--spike" ∷ codes "motor" ∷ [])) ≡ None
+unfolding clap_on_literals behind_name
+no_length = refl
+
+spike_over_range : entered_sweep (behind_name (codes "sweep" ∷ codes "--spike=motor" ∷ codes "--length=9" ∷ codes "--vary=sjw=1..4:1" ∷ [])) ≡ None
+unfolding clap_on_literals behind_name
+spike_over_range = refl
 
 no_sweep : entered_sweep (behind_name (codes "run" ∷ [])) ≡ None
 unfolding clap_on_literals behind_name

@@ -15,7 +15,7 @@ use Rattle.clap.specs.declared.parser.matches.Found.{Found}
 use Rattle.clap.specs.declared.parser.matches.SubCommand.{SubCommand}
 use Rattle.clap.proofs.OnLiterals.{clap_on_literals}
 use Rattle.clap.proofs.WalkLemmas.{both, first_value-rows, raw_values-rows}
-use Rattle.wl_formats.specs.declared.formats.Format.{Format}
+use Rattle.wl_lines.specs.declared.formats.Format.{Format}
 use Rattle.wl_sweep.specs.Parts.{share_named}
 use Rattle.wl_init.specs.Wishes.{cable_said, kind_said, rate_said}
 use Rattle.wl_views.specs.declared.tick.Tick.{Tick}
@@ -24,7 +24,7 @@ use Rattle.wl_units.specs.Scales.{number_said}
 use Rattle.wl_units.specs.declared.quantity.Measure.TheVariants.{Time}
 use Rattle.wl_words.proofs.Naming.{one_found}
 use Rattle.wl_words.specs.Asked.{IsTaskAlone, ReadsEachWord, ReadsOrder}
-use Rattle.wl_words.specs.CommandLine.{asked_words_in, cable_among, kind_among, nodes_among, rate_among, node_among, said_name, said_name_among, node_number, only_among, read_only, task_word, tick_among, workers_among, read_link, link_among, entered, file_among, file_in, file_named, format_among, format_in, read_format, is_flagged, is_set, end_among, end_said, is_whole_number, number_among, number_or_zero, plain_values, tick_scale, ticks_said, ranges_among, ranges_in, values_among, word_in, Enters, HasValues, NamesTask, share_among}
+use Rattle.wl_words.specs.CommandLine.{asked_words_in, cable_among, clash_among, clash_beside, kind_among, nodes_among, rate_among, node_among, said_name, said_name_among, node_number, only_among, read_only, task_word, tick_among, workers_among, read_link, link_among, entered, file_among, file_in, file_named, format_among, format_in, read_format, is_flagged, is_set, end_among, end_said, is_whole_number, number_among, number_or_zero, plain_values, tick_scale, ticks_said, ranges_among, ranges_in, values_among, word_in, Enters, HasValues, NamesTask, share_among, varied_among}
 use Rattle.wl_words.specs.declared.command.Order.{Order}
 use Rattle.wl_words.specs.declared.command.Refusal.{Refusal}
 use Rattle.wl_words.specs.declared.command.Refusal.TheVariants as refusal
@@ -154,7 +154,7 @@ pub part_text : (f : Found) → share_among (rows_of f) ≡ option_map share_nam
 part_text f = ap (option_map share_named) (sym (first_value-rows f (codes "part")))
 
 -- ranges, by their texts
-pub ranges_text : (f : Found) → ranges_among (rows_of f) ≡ unwrap_or (option_map raw_values (matched_of f (codes "vary"))) (said_name_among (rows_of f))
+pub ranges_text : (f : Found) → varied_among (rows_of f) ≡ unwrap_or (option_map raw_values (matched_of f (codes "vary"))) (said_name_among (rows_of f))
 ranges_text f = ap (λ o. unwrap_or o (said_name_among (rows_of f))) (sym (raw_values-rows f (codes "vary")))
 
 -- a number, by its text
@@ -228,6 +228,10 @@ file_text f id = ap (option_and_then file_named) (sym (first_value-rows f id))
 -- the format of an option, by its text
 pub format_text : (f : Found) → format_among (rows_of f) ≡ option_map_or read_format (first_value f (codes "format")) (Some None)
 format_text f = ap (λ o. option_map_or read_format o (Some None)) (sym (first_value-rows f (codes "format")))
+
+-- what is wrong beside `--apply`, by its text
+pub clash_text : (f : Found) → clash_among (rows_of f) ≡ option_and_then (clash_beside (rows_of f)) (first_value f (codes "apply"))
+clash_text f = ap (option_and_then (clash_beside (rows_of f))) (sym (first_value-rows f (codes "apply")))
 
 -- whether a flag is set, by its text
 pub flag_text : (f : Found) (id : Text) → is_flagged id (rows_of f) ≡ option_map_or is_set (first_value f id) false

@@ -1,5 +1,5 @@
 -- The words of the command line (this project's profile).
-use Rattle.std.specs.Prelude.{◌≡◌, ◌^◌, ◌-◌, ◌*◌, ◌&&◌, ◌++◌, nat_lt, ℕ, Bool, true, false, List, [], ◌∷◌, length, map, codes, pos, fold, Option, Some, None, is_some, unwrap_or, if◌then◌else◌, option_and_then, option_map}
+use Rattle.std.specs.Prelude.{◌≡◌, ◌^◌, ◌-◌, ◌*◌, ◌&&◌, ◌++◌, not, nat_lt, ℕ, Bool, true, false, List, [], ◌∷◌, length, map, codes, pos, fold, Option, Some, None, is_some, unwrap_or, if◌then◌else◌, option_and_then, option_map}
 use Rattle.std.specs.Char.{digit_value}
 use Rattle.std.specs.List.{list_all, list_any}
 use Rattle.std.specs.Option.{option_map_or}
@@ -13,8 +13,8 @@ use Rattle.clap.specs.Walk.{byte_or_zero}
 use Rattle.clap.specs.declared.builder.action.ArgAction.TheVariants.{Append, SetTrue}
 use Rattle.clap.specs.declared.builder.value_parser.ValueParser.TheVariants.{Signed, Unsigned}
 use Rattle.clap.specs.Simple.{on_top}
-use Rattle.wl_formats.specs.declared.formats.Format.{Format}
-use Rattle.wl_formats.specs.declared.formats.Format.TheVariants.{Json, Csv, Table, Coloured}
+use Rattle.wl_lines.specs.declared.formats.Format.{Format}
+use Rattle.wl_lines.specs.declared.formats.Format.TheVariants.{Json, Csv, Table, Coloured}
 use Rattle.wl_settings.specs.declared.said.Shown.{Shown}
 use Rattle.wl_settings.specs.declared.said.Shown.TheVariants.{Best, Plan}
 use Rattle.wl_settings.specs.declared.topics.AskedWord.{AskedWord}
@@ -29,10 +29,13 @@ use Rattle.wl_init.specs.declared.wish.Wish.{Wish}
 use Rattle.wl_init.specs.Wishes.{cable_said, kind_said, rate_said}
 use Rattle.wl_limits.specs.declared.Limits.{Limits}
 use Rattle.wl_limits.specs.declared.Limits.TheVariants.{Narrow, Wide}
+use Rattle.wl_words.specs.declared.clash.Clash.{Clash}
+use Rattle.wl_words.specs.declared.clash.Clash.TheVariants as clash
 use Rattle.wl_words.specs.declared.task.Task.{Task}
 use Rattle.wl_words.specs.declared.task.Task.TheVariants.{Init, Merge, Horizon, Check, Upgrade, Records, Run, Explain, Trace, Candump, Vcd, Page, Margin, Respond, Traffic, Judge, Settings, Sweep}
 use Rattle.wl_words.specs.declared.task.Swept.{Swept}
 use Rattle.wl_words.specs.declared.values.Values.{Values}
+use Rattle.wl_words.specs.Spikes.{if_alone, is_said, with_spike}
 use Rattle.wl_views.specs.declared.pick.EventKind.{EventKind}
 use Rattle.wl_views.specs.declared.pick.EventKind.TheVariants as kinds
 use Rattle.wl_views.specs.declared.pick.Pick.{Pick}
@@ -192,7 +195,7 @@ settings_rules =
     tick_rule ∷ best_rule ∷ flag_rule (codes "plan") ∷ named_rule (codes "apply") ∷ strict_rule ∷ repeated_rule (codes "kind") ∷ repeated_rule (codes "clock")
     ∷ named_rule (codes "bitrate") ∷ named_rule (codes "cable") ∷ named_rule (codes "per") ∷ named_rule (codes "out") ∷ named_rule (codes "in") ∷ named_rule (codes "tolerance")
     ∷ named_rule (codes "senders") ∷ named_rule (codes "rate-error") ∷ named_rule (codes "sample-point") ∷ named_rule (codes "nodes")
-    ∷ format_rule ∷ []
+    ∷ named_rule (codes "sjw") ∷ format_rule ∷ []
 
 -- of `init`, whose nodes are 2 to 64: two nodes, 500 kbit/s, 40 m and an MCP2515 where nothing else is said
 abbrev pub nodes_rule : Rule
@@ -235,7 +238,8 @@ print_rule = record (new_rule (codes "print")) { long = Some (codes "print"); va
 abbrev pub sweep_rules : List Rule
 sweep_rules =
     vary_rule ∷ step_rule ∷ runs_rule ∷ seed_rule ∷ threads_rule ∷ flag_rule (codes "keep-offsets") ∷ flag_rule (codes "keep-ppm") ∷ flag_rule (codes "worst")
-    ∷ print_rule ∷ flag_rule (codes "page") ∷ text_rule (codes "part") (codes "part") ∷ flag_rule (codes "join") ∷ format_rule ∷ []
+    ∷ print_rule ∷ flag_rule (codes "page") ∷ text_rule (codes "part") (codes "part") ∷ flag_rule (codes "join")
+    ∷ text_rule (codes "spike") (codes "spike") ∷ text_rule (codes "length") (codes "length") ∷ format_rule ∷ []
 
 -- the options that a word has beside those of each
 abbrev pub option_rules : Text → List Rule
@@ -381,9 +385,13 @@ said_name text = if is_some (node_number text) then [] else text ∷ []
 abbrev pub said_name_among : List Row → List Text
 said_name_among rows = option_map_or said_name (first_of (codes "node") rows) []
 
--- what the plan has to have: the ranges of a sweep in their order, or the node of a trace by its name
+-- the ranges of a sweep in their order, or the node of a trace by its name
+abbrev pub varied_among : List Row → List Text
+varied_among rows = unwrap_or (all_of (codes "vary") rows) (said_name_among rows)
+
+-- what the plan has to have: these, or where a spike is and how long it takes
 abbrev pub ranges_among : List Row → List Text
-ranges_among rows = unwrap_or (all_of (codes "vary") rows) (said_name_among rows)
+ranges_among rows = with_spike (varied_among rows) rows
 
 abbrev pub ranges_in : Option (Text × List Row) → List Text
 ranges_in found = option_map_or (λ p. ranges_among p.1) found []
@@ -392,7 +400,7 @@ ranges_in found = option_map_or (λ p. ranges_among p.1) found []
 abbrev pub asked_topics : List Topic
 asked_topics =
     topic.Kind ∷ topic.Clock ∷ topic.Bitrate ∷ topic.Cable ∷ topic.Per ∷ topic.Out ∷ topic.In ∷ topic.Tolerance ∷ topic.Senders ∷ topic.RateError
-    ∷ topic.SamplePoint ∷ topic.Nodes ∷ []
+    ∷ topic.SamplePoint ∷ topic.Nodes ∷ topic.Sjw ∷ []
 
 abbrev pub asked_word : Topic → Text → AskedWord
 asked_word t text = record { topic = t; text = text }
@@ -417,8 +425,41 @@ is_asked_once None asked = true
 is_asked_once (Some name) [] = true
 is_asked_once (Some name) (w ∷ ws) = false
 
-abbrev pub asks_once : Option (Text × List Row) → Bool
-asks_once found = is_asked_once (file_in (codes "input") found) (asked_words_in found)
+-- what is wrong with options beside `--apply`, whose plan is a file: no other plan, no list and no other format than text is written with it
+abbrev pub is_stream : Text → Bool
+is_stream text = bytes_eq text (codes "-")
+
+abbrev pub is_listed : List Row → Bool
+is_listed rows = is_some (number_among 32 (codes "best") rows)
+
+abbrev pub is_plain : Option (Option Format) → Bool
+is_plain (Some (Some format)) = false
+is_plain (Some None) = true
+is_plain None = true
+
+abbrev pub is_text : List Row → Bool
+is_text rows = is_plain (format_among rows)
+
+abbrev pub clash_beside : List Row → Text → Option Clash
+clash_beside rows plan =
+    if is_stream plan then Some clash.Stream
+    else (if is_flagged (codes "plan") rows then Some clash.Plan
+    else (if is_listed rows then Some clash.Best
+    else (if not (is_text rows) then Some clash.Format
+    else None)))
+
+abbrev pub clash_among : List Row → Option Clash
+clash_among rows = option_and_then (clash_beside rows) (first_of (codes "apply") rows)
+
+abbrev pub clash_in : Option (Text × List Row) → Option Clash
+clash_in found = option_and_then clash_among (rows_in found)
+
+-- options that go together: nothing is asked for beside a file, and nothing is wrong beside `--apply`
+abbrev pub are_fitting : Option Text → List AskedWord → Option Clash → Bool
+are_fitting name asked wrong = is_asked_once name asked && not (is_some wrong)
+
+abbrev pub go_together : Option (Text × List Row) → Bool
+go_together found = are_fitting (file_in (codes "input") found) (asked_words_in found) (clash_in found)
 
 -- the part of a sweep that a subcommand's option gives
 abbrev pub share_among : List Row → Option Share
@@ -440,11 +481,12 @@ swept_by rows runs seed = record {
   page = is_flagged (codes "page") rows;
   part = share_among rows;
   join = is_flagged (codes "join") rows;
+  spike = is_said (codes "spike") rows;
 }
 
 abbrev pub swept_among : List Row → Option Swept
 swept_among rows =
-    option_and_then (λ runs. option_map (swept_by rows runs) (number_among 32 (codes "seed") rows)) (number_among 32 (codes "runs") rows)
+    option_and_then (λ runs. option_and_then (λ seed. if_alone rows (swept_by rows runs seed)) (number_among 32 (codes "seed") rows)) (number_among 32 (codes "runs") rows)
 
 -- what the options say of the settings of a bus
 abbrev pub shown_among : List Row → Shown
@@ -653,11 +695,11 @@ task_named (Some word) given = or_task (plain_task word) (option_and_then (value
 abbrev pub FoundTask : Option (Text × List Row) → Task → Type 0
 FoundTask found t = NamedTask (word_in found) (option_map (λ p. values_among p.1) found) t
 
--- clap enters the task's subcommand at these words, with the task's values, a format that there is, and no words beside a file, and finds no
+-- clap enters the task's subcommand at these words, with the task's values, a format that there is, and options that go together, and finds no
 -- fault in them
 abbrev pub Enters : Task → List Text → Type 0
 Enters t words =
-    FoundTask (entered words) t × (fault_of program words ≡ []) × (is_some (format_in (entered words)) ≡ true) × (asks_once (entered words) ≡ true)
+    FoundTask (entered words) t × (fault_of program words ≡ []) × (is_some (format_in (entered words)) ≡ true) × (go_together (entered words) ≡ true)
 
 -- what is swept where the words say nothing of it
 abbrev pub plainly_swept : Swept
@@ -669,6 +711,7 @@ plainly_swept = record {
   page = false;
   part = None;
   join = false;
+  spike = false;
 }
 
 -- where the words say nothing of it a tick is a nanosecond, one worker runs, over a hub if it were several, all settings are listed, and the status

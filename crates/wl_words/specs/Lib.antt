@@ -1,3 +1,4 @@
+pub mod Spikes
 pub mod CommandLine
 pub mod Options
 pub mod Asked

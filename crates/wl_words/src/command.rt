@@ -1,11 +1,12 @@
 //! The command line.
 ghost use Rattle.std.specs.Prelude.{◌≡◌, ◌≢◌, ◌↔◌, if◌then◌else◌, map, string_bytes, codes, IfOk, IfErr, Some, None, option_map};
 ghost use Rattle.clap.specs.Words.{kind_of, subcommand_rows_of};
-ghost use Rattle.wl_words.specs.CommandLine.{asked_words_in, begun_task, Enters, FoundTask, file_in, has_flag, is_asked_once, ranges_in};
+ghost use Rattle.wl_words.specs.CommandLine.{asked_words_in, begun_task, Enters, FoundTask, are_fitting, file_in, go_together, has_flag, is_asked_once, ranges_in};
 ghost use Rattle.wl_words.specs.CommandLine.{candump_task, init_task, judgement_task, page_task, plain_task, run_task, sweep_task, task_named, timed_task, trace_task, valued_task, vcd_task};
 ghost use Rattle.wl_words.specs.Asked.{FindsOrder, ReadsOrder};
 
 use crate::asked::asked_of_subcommand;
+use crate::clash::{Clash, clash_of_subcommand};
 use crate::subcommands::matches_of;
 use crate::task::Task;
 use crate::values::{
@@ -17,7 +18,7 @@ use clap::{ArgMatches, Error};
 use std::alloc::{AllocError, Global};
 use std::io;
 use std::rt::Env;
-use wl_formats::Format;
+use wl_lines::Format;
 use wl_settings::AskedWord;
 use wl_setup::Text;
 use wl_views::Tick;
@@ -35,7 +36,8 @@ pub struct Order {
     pub hint: bool,
     /// Lines say how long the run has taken, or how far a sweep is.
     pub progress: bool,
-    /// What the plan has to have: the ranges of a sweep, in the order of the words, or the node of a trace by its name.
+    /// What the plan has to have: the ranges of a sweep, in the order of the words, or where a spike is and how long it takes, or the node of
+    /// a trace by its name.
     pub ranges: Vec<String>,
     /// What options of `settings` say in the place of a file.
     pub asked: Vec<AskedWord>,
@@ -233,11 +235,18 @@ fn is_asked_once(order: &Order) -> bool
     }
 }
 
-/// Returns an order that is asked for once.
-fn asked_once(order: Order) -> Option<Order>
-    ensures { result ≡ (if is_asked_once order.input order.asked.items then Some order else None) }
+/// True if an order is asked for once, and nothing is wrong beside `--apply`.
+fn are_fitting(order: &Order, wrong: Option<Clash>) -> bool
+    ensures { result ≡ are_fitting order.now.input order.now.asked.items wrong }
 {
-    if is_asked_once(&order) {
+    is_asked_once(order) && wrong.is_none()
+}
+
+/// Returns an order whose options go together.
+fn fitting(order: Order, wrong: Option<Clash>) -> Option<Order>
+    ensures { result ≡ (if are_fitting order.input order.asked.items wrong then Some order else None) }
+{
+    if are_fitting(&order, wrong) {
         Some(order)
     } else {
         None
@@ -255,7 +264,7 @@ fn order_of(alloc: Global, words: &[String]) -> Result<Option<Order>, Error>
         Some(task) => match format_of_subcommand(&matches) {
             Some(format) => {
                 let order = order_for(alloc, &matches, task, format)?;
-                Ok(asked_once(order))
+                Ok(fitting(order, clash_of_subcommand(&matches)))
             }
             None => Ok(None),
         },
@@ -280,7 +289,9 @@ fn wanted(words: &[String]) -> &'static str {
     match words.get(1) {
         Some(word) => match word.as_str() {
             "run" => "--link wants hub or mail, and --format text, json, csv, table or coloured",
-            "check" | "explain" | "sweep" => "--format wants text, json, csv, table or coloured",
+            "check" | "explain" => "--format wants text, json, csv, table or coloured",
+            "sweep" =>
+                "--format wants text, json, csv, table or coloured, and --spike wants --length, and no --vary, --page, --part and --join",
             "settings" =>
                 "--tick wants 1 to 999 and ps, ns or us, as 125ps, --format text, json, csv, table or coloured, and what is asked for comes from a FILE or from options",
             "trace" =>
@@ -293,6 +304,22 @@ fn wanted(words: &[String]) -> &'static str {
             _ => "--tick wants 1 to 999 and ps, ns or us, as 125ps",
         },
         None => "no task is named",
+    }
+}
+
+/// Returns what is wrong with options beside `--apply`; `None` if they go together, or memory ran out.
+fn clash_of(alloc: Global, words: &[String]) -> Option<Clash> {
+    match matches_of(alloc, words) {
+        Ok(matches) => clash_of_subcommand(&matches),
+        Err(_) => None,
+    }
+}
+
+/// Returns what is wrong with words that clap lets in and that name no task.
+fn refused_by(alloc: Global, words: &[String]) -> &'static str {
+    match clash_of(alloc, words) {
+        Some(wrong) => wrong.said(),
+        None => wanted(words),
     }
 }
 
@@ -334,7 +361,7 @@ pub fn read(rt: &impl Eprint, alloc: Global, words: &[String]) -> Result<Order, 
     match order_of(alloc, words) {
         Ok(Some(order)) => Ok(order),
         Ok(None) => {
-            let said = wanted(words);
+            let said = refused_by(alloc, words);
             let _ = eprintln!(rt; "error: {said}");
             Err(Refusal::Words)
         }

@@ -5,9 +5,11 @@
 #![tactic(auto)]
 
 mod asked;
+mod clash;
 mod command;
 mod laws;
 mod options;
+mod spikes;
 mod subcommands;
 mod tables;
 mod task;

@@ -145,6 +145,9 @@ const SAMPLE_POINT: OptionRow = OptionRow { id: "sample-point", spelling: Long("
 const NODE_COUNT: OptionRow = OptionRow { id: "nodes", spelling: Long("nodes"), takes: Value("N"), default: None, help: "How many nodes the bus has: 2 to 64" };
 
 #[rattlefmt::skip]
+const JUMP: OptionRow = OptionRow { id: "sjw", spelling: Long("sjw"), takes: Value("QUANTA"), default: None, help: "The greatest jump width of each controller, in quanta: 1 to 128" };
+
+#[rattlefmt::skip]
 const NODES: OptionRow = OptionRow { id: "nodes", spelling: Long("nodes"), takes: Signed("N", 2, 64), default: Some("2"), help: "How many nodes the bus has: 2 to 64" };
 
 #[rattlefmt::skip]
@@ -160,7 +163,7 @@ const KIND: OptionRow = OptionRow { id: "kind", spelling: Long("kind"), takes: V
 const VARY: OptionRow = OptionRow { id: "vary", spelling: Long("vary"), takes: Values("[NODE.]KEY=A..B[:STEP]"), default: None, help: "A row of the output for each value of the key: of end or per, of one node, or of each node that has it" };
 
 #[rattlefmt::skip]
-const STEP: OptionRow = OptionRow { id: "step", spelling: Long("step"), takes: Unsigned("TICKS", 1, u64::MAX), default: None, help: "The distance between two offsets of a node; without it a fifth of the shortest quantum" };
+const STEP: OptionRow = OptionRow { id: "step", spelling: Long("step"), takes: Unsigned("TICKS", 1, u64::MAX), default: None, help: "The distance between two offsets of a node, or two places of a spike; without it a fifth of the shortest quantum, or the end in --runs steps" };
 
 #[rattlefmt::skip]
 const RUNS: OptionRow = OptionRow { id: "runs", spelling: Long("runs"), takes: Signed("N", 1, 4_294_967_295), default: Some("1000"), help: "The most members of a row that are run: all that there are, else a random part" };
@@ -192,6 +195,12 @@ const PART: OptionRow = OptionRow { id: "part", spelling: Long("part"), takes: V
 #[rattlefmt::skip]
 const JOIN: OptionRow = OptionRow { id: "join", spelling: Long("join"), takes: Nothing, default: None, help: "Reads what all parts of a sweep wrote, in any order, and writes what the whole says" };
 
+#[rattlefmt::skip]
+const SPIKE: OptionRow = OptionRow { id: "spike", spelling: Long("spike"), takes: Value("NODE|x=PLACE"), default: None, help: "Runs the plan with a spike more at this node or place, at one --step after another, and writes what each costs" };
+
+#[rattlefmt::skip]
+const SPIKE_LENGTH: OptionRow = OptionRow { id: "length", spelling: Long("length"), takes: Value("TIME"), default: None, help: "How long the spike takes, in ticks or as a time, as 2us" };
+
 /// The argument that names the file to read.
 pub(crate) const INPUTS: [OptionRow; 1] = [INPUT];
 
@@ -209,8 +218,8 @@ pub(crate) const SUBCOMMANDS: [SubcommandRow; 18] = [
     SubcommandRow { word: "respond", about: "Tests the plan, and writes how long each message may wait, at all phases and clocks, and whether that is in time", options: &[TICK, ANY_DATA, IN_TIME, FORMAT] },
     SubcommandRow { word: "traffic", about: "Simulates the plan, and writes how busy the bus was, how long messages waited, and whether it works", options: &[TICK, WORKS, FORMAT] },
     SubcommandRow { word: "check", about: "Tests the plan, and writes what its bit segments allow and how long its cable takes", options: &[FORMAT] },
-    SubcommandRow { word: "settings", about: "Finds the bit timings with which a bus works for a clock, a bit rate and a cable, the best first", options: &[TICK, BEST, PLAN, APPLY, ANY_SETTING, KINDS, CLOCKS, RATE, LENGTH, PER, OUT, IN, TOLERANCE, SENDERS, RATE_ERROR, SAMPLE_POINT, NODE_COUNT, FORMAT] },
-    SubcommandRow { word: "sweep", about: "Simulates the plan over phases, clocks and values of keys, and writes how often the bus is clean", options: &[VARY, STEP, RUNS, SEED, THREADS, KEEP_OFFSETS, KEEP_PPM, WORST, PRINT, PAGE, PART, JOIN, FORMAT] },
+    SubcommandRow { word: "settings", about: "Finds the bit timings with which a bus works for a clock, a bit rate and a cable, the best first", options: &[TICK, BEST, PLAN, APPLY, ANY_SETTING, KINDS, CLOCKS, RATE, LENGTH, PER, OUT, IN, TOLERANCE, SENDERS, RATE_ERROR, SAMPLE_POINT, NODE_COUNT, JUMP, FORMAT] },
+    SubcommandRow { word: "sweep", about: "Simulates the plan over phases, clocks and values of keys, and writes how often the bus is clean", options: &[VARY, STEP, RUNS, SEED, THREADS, KEEP_OFFSETS, KEEP_PPM, WORST, PRINT, PAGE, PART, JOIN, SPIKE, SPIKE_LENGTH, FORMAT] },
     SubcommandRow { word: "trace", about: "Simulates the plan, and writes what happened to each node: errors, flags, frames, modes", options: &[FROM_TICK, TO_TICK, NODE, ONLY, FORMAT] },
     SubcommandRow { word: "page", about: "Simulates the plan, and writes one page of HTML that shows it in a browser, of a long run a part", options: &[TICK, FROM_TIME, TO_TIME] },
     SubcommandRow { word: "vcd", about: "Simulates the plan, and writes the waveform of its nodes as a Value Change Dump", options: &[TICK, FROM_TIME, TO_TIME] },

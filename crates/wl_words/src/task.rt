@@ -72,4 +72,6 @@ pub struct Swept {
     pub part: Option<Share>,
     /// Whether the input has what all parts of a sweep wrote, in the place of a plan.
     pub join: bool,
+    /// Whether a spike is swept: where it is and how long it takes are then the words in the place of ranges.
+    pub spike: bool,
 }

@@ -2,17 +2,18 @@
 ghost use Rattle.std.specs.Prelude.{◌≡◌, if◌then◌else◌, nat_lt, map, string_bytes, IfOk, Some, None, false, option_and_then, option_map};
 ghost use Rattle.std.specs.Option.{option_map_or};
 ghost use Rattle.clap.specs.Words.{found_of, rows_of, subcommand_rows_of};
-ghost use Rattle.wl_words.specs.CommandLine.{limits_among, file_among, file_named, is_flagged, is_set, link_among, node_among, said_name, said_name_among, node_number, number_among, only_among, pick_among, ranges_among, ranges_in};
+ghost use Rattle.wl_words.specs.CommandLine.{limits_among, file_among, file_named, is_flagged, is_set, link_among, node_among, said_name, said_name_among, node_number, number_among, only_among, pick_among, ranges_among, ranges_in, varied_among};
 ghost use Rattle.wl_words.specs.CommandLine.{end_among, end_said, tick_scale, ticks_said, wave_among, wave_by};
 ghost use Rattle.wl_words.specs.CommandLine.{cable_among, kind_among, nodes_among, rate_among, wish_among};
 ghost use Rattle.wl_words.specs.CommandLine.{format_among, format_in, read_format, read_link, read_only, shown_among, swept_among, swept_by, tick_among, values_among, window_among, workers_among, share_among};
 
+use crate::spikes::{if_alone, is_said, with_spike};
 use crate::task::Swept;
 use clap::ArgMatches;
 use std::alloc::{AllocError, Global};
-use wl_formats::Format;
 use wl_init::{Wish, cable_said, kind_said, rate_said};
 use wl_limits::Limits;
+use wl_lines::Format;
 use wl_settings::Shown;
 use wl_setup::Text;
 use wl_sweep::{Options, Share};
@@ -119,7 +120,7 @@ fn format_named(text: &str) -> Option<Option<Format>>
 
 /// Returns the format that a subcommand's option gives, text if it has no such option.
 #[tactic(auto, using(crate::proofs::Words::format_text))]
-fn format_in(matches: &ArgMatches) -> Option<Option<Format>>
+pub(crate) fn format_in(matches: &ArgMatches) -> Option<Option<Format>>
     ensures { result ≡ format_among (rows_of (found_of matches.now)) }
 {
     match matches.get_str("format") {
@@ -186,7 +187,7 @@ fn is_set(text: &str) -> bool
 
 /// True if a flag of a subcommand is set.
 #[tactic(auto, using(crate::proofs::Words::flag_text))]
-fn flag_in(matches: &ArgMatches, id: &str) -> bool
+pub(crate) fn flag_in(matches: &ArgMatches, id: &str) -> bool
     ensures { result ≡ is_flagged id.now (rows_of (found_of matches.now)) }
 {
     match matches.get_str(id) {
@@ -214,7 +215,7 @@ fn number_in(matches: &ArgMatches, id: &str) -> Option<u64>
 }
 
 /// Returns the same of a number below 2^32.
-fn small_number_in(matches: &ArgMatches, id: &str) -> Option<u32>
+pub(crate) fn small_number_in(matches: &ArgMatches, id: &str) -> Option<u32>
     ensures { result ≡ number_among 32 id.now (rows_of (found_of matches.now)) }
 {
     let text = matches.get_str(id)?;
@@ -251,6 +252,7 @@ fn swept_by(matches: &ArgMatches, runs: u32, seed: u32) -> Swept
         page: flag_in(matches, "page"),
         part: share_in(matches),
         join: flag_in(matches, "join"),
+        spike: is_said(matches, "spike"),
     }
 }
 
@@ -260,7 +262,7 @@ fn swept_in(matches: &ArgMatches) -> Option<Swept>
 {
     let runs = small_number_in(matches, "runs")?;
     let seed = small_number_in(matches, "seed")?;
-    Some(swept_by(matches, runs, seed))
+    if_alone(matches, swept_by(matches, runs, seed))
 }
 
 /// Returns what the options of a subcommand say of the settings of a bus: its plan if that is asked for, else the list.
@@ -541,15 +543,22 @@ fn said_name_in(alloc: Global, matches: &ArgMatches) -> Result<Vec<String>, Allo
     }
 }
 
-/// Returns what a subcommand's words say that the plan has to have: the ranges of a sweep, or the name of a node.
+/// Returns the ranges of a sweep that a subcommand's words give, or the name of a node.
 #[tactic(auto, using(crate::proofs::Words::ranges_text))]
-fn ranges_of(alloc: Global, matches: &ArgMatches) -> Result<Vec<String>, AllocError>
-    ensures { IfOk result (λ ranges. map string_bytes ranges.items ≡ ranges_among (rows_of (found_of matches.now))) }
+fn varied_of(alloc: Global, matches: &ArgMatches) -> Result<Vec<String>, AllocError>
+    ensures { IfOk result (λ ranges. map string_bytes ranges.items ≡ varied_among (rows_of (found_of matches.now))) }
 {
     match matches.get_strs("vary") {
         Some(words) => strings(alloc, words),
         None => said_name_in(alloc, matches),
     }
+}
+
+/// Returns what a subcommand's words say that the plan has to have: the ranges of a sweep, the name of a node, or a spike.
+fn ranges_of(alloc: Global, matches: &ArgMatches) -> Result<Vec<String>, AllocError>
+    ensures { IfOk result (λ ranges. map string_bytes ranges.items ≡ ranges_among (rows_of (found_of matches.now))) }
+{
+    with_spike(alloc, varied_of(alloc, matches)?, matches)
 }
 
 /// Returns what the words of the subcommand say that the plan has to have, if there is one.

@@ -22,7 +22,7 @@ use Rattle.wl_buses.specs.FirstFrame.FirstStarts.{AreIdle, HandTheFirst}
 use Rattle.wl_buses.specs.FrameEnd.Rests.{passing_bit}
 use Rattle.wl_buses.specs.NextFrames.Frames.{FollowOneAnother, Frame, HasRoomForAll, IsBegun, IsBegunAfter, resting_of}
 use Rattle.wl_buses.specs.NextFrames.NextStarts.{AreResting, begins_next, has_next}
-use Rattle.wl_buses.proofs.NextFrames.Winning.{has_begun}
+use Rattle.wl_buses.proofs.NextFrames.Winning.{has_driven}
 use Rattle.wl_buses.specs.CleanLines.Lines.{FramesOfLine, HaveSegments, decision_of, waiting_with}
 use Rattle.wl_buses.specs.TakesPart.Decisions.{AllMayDecide}
 use Rattle.wl_buses.specs.TakesPart.Takes.{IsReachedFirst}
@@ -105,10 +105,15 @@ module _ (setups : ℕ → NodeSetup) (s : Stations) (bus : FramesOfLine setups 
       offered_next setups s bus of are room began handed readies parts n less
       (rests s (bus.frames n) (bus.frames (suc n)) are room (bus.are.each n (omega arith)) (bus.are.next n less))
 
+  -- each begins with a start of frame of its own
+  none_joins : (n : ℕ) → n < bus.count → (k : ℕ) → (bus.frames n).outset.start.joins k ≡ false
+  none_joins zero less k = ap (λ o. o.start.joins k) bus.first
+  none_joins (suc n) less k = ap (λ o. o.start.joins k) (bus.are.next n less).is
+
   drives : (n : ℕ) → n < bus.count → (start_of setups s bus n).drives (w n) ≡ true
   drives n less =
       let won = (bus.are.each n less).won in
-      subst (λ k. (start_of setups s bus n).drives k ≡ true) (won_is n less) (has_begun s (expected_bits s (bus.frames n).outset) (bus.frames n).bits won.station won.sends)
+      subst (λ k. (start_of setups s bus n).drives k ≡ true) (won_is n less) (has_driven s (expected_bits s (bus.frames n).outset) (bus.frames n).bits won.station (none_joins n less won.station) won.sends)
 
   -- the entry of a frame
   abbrev u : ℕ → ℕ → List Queued

@@ -20,7 +20,8 @@ use Rattle.wl_buses.specs.OneFrame.Stations.{AreOnALine, Stations}
 use Rattle.wl_buses.specs.OneFrame.Starts.{Start}
 use Rattle.wl_buses.specs.OneFrame.Expected.{IsOutset, Outset}
 use Rattle.wl_buses.specs.OneFrame.Lines.{BeginsAfter}
-use Rattle.wl_buses.specs.OneFrame.Machines.{HasIdled, MayBegin, MayBeginTogether, no_frame_sample}
+use Rattle.wl_buses.specs.OneFrame.Machines.{HasIdled, HasTwoBits, MayBegin, MayBeginTogether, no_frame_sample}
+use Rattle.wl_buses.proofs.OneFrame.Joining.{joins_none, over_by, own_start}
 use Rattle.wl_buses.proofs.OneFrame.Waited.{takes_head}
 use Rattle.wl_buses.specs.FirstFrame.FirstStarts.{AreIdle, Waiting, begins_first, decision_quantum, due_first, eleventh, first_outset, first_start, handed_first, has_first, last_before, rest_first, silent_past}
 use Rattle.wl_buses.proofs.FirstFrame.Lasts as lasts
@@ -62,7 +63,7 @@ decided together n c many = elim (cases_lt 10 n) [
 
 -- the stations as ones on a silent line
 abbrev pub silence_of : Waiting → Silence
-silence_of w = record { stations = w.stations; has = has_first w; due = due_first w; decision = decision_quantum w; rested = eleventh w }
+silence_of w = record { stations = w.stations; has = has_first w; due = due_first w; decision = decision_quantum w; rested = eleventh w; joins = λ i. false }
 
 pub silent_of : (w : Waiting) → AreOnALine w.stations → AreIdle w → IsSilence (silence_of w)
 silent_of w line are = record {
@@ -182,14 +183,19 @@ module _ (together : MayTogether) (w : Waiting) (line : AreOnALine w.stations) (
     | inr other ↦ other ∙ sym (ap (λ p. is_dominant (drive_of (stretch_of p))) (past_follows w line are k other) ∙ ap is_dominant (none_driven_after (suc (last_before w k))))
   ]
 
+  -- its intermission is over
+  pub over_first : (k : ℕ) → k < w.stations.count → HasTwoBits (stretch_of ((first_outset w).past k)) → ⊥
+  over_first k inside = over_by w.frames k (stretch_of ((first_outset w).past k)) (may.may k inside)
+
   pub outset_first : IsOutset w.stations (first_outset w)
   outset_first = record {
     frames = are.frames;
     earlier = may.earlier;
     reached = may.reached;
-    may = may.may;
+    may = λ k inside. inl (may.may k inside);
+    joins = λ k inside. sym (joins_none w.frames k (stretch_of ((first_outset w).past k)) (sampled Dominant (w.frames k) ((first_outset w).handed 0 k)) (may.may k inside));
     drives = drives_as;
     begin = reaching.begin_first (silence_of w) line (silent_of w line are);
-    allowed = λ k inside e. are.may k (reaching.begins_has (silence_of w) line (silent_of w line are) k e);
+    allowed = λ k inside e. are.may k (reaching.begins_has (silence_of w) line (silent_of w line are) k (own_start (begins_first w k) false refl e));
     some = reaching.some_first (silence_of w) line (silent_of w line are);
   }

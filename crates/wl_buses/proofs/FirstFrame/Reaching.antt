@@ -13,13 +13,15 @@ use Rattle.wl_buses.proofs.OneFrame.Settling.{most_from, nearest}
 use Rattle.wl_buses.specs.FirstFrame.FirstStarts.{hard_from, hard_place}
 use Rattle.wl_buses.proofs.BothProofs.Small.{distinct, ticks_up}
 
--- Stations on a silent line: which of them have a frame, when the start of frame of each is due, by which quantum it has decided to send, and by which it is idle.
+-- Stations on a silent line: which of them have a frame, when the start of frame of each is due, by which quantum it has decided to send, and by which it is idle, or in the third bit of its
+-- intermission. Which of them join a start of frame doesn't matter here.
 pub record Silence : Type 0 where
   pub stations : Stations
   pub has : ℕ → Bool
   pub due : ℕ → ℕ
   pub decision : ℕ → ℕ
   pub rested : ℕ → ℕ
+  pub joins : ℕ → Bool
 
 -- Some station has a frame. Each decides before that is due, and is idle before another one's start of frame reaches it.
 pub record IsSilence (w : Silence) : Type 0 where
@@ -64,7 +66,7 @@ module _ (w : Silence) (line : AreOnALine w.stations) (are : IsSilence w) where
   edge i = found_before s has due i (suc (looks i))
 
   abbrev pub b : Start
-  b = record { drives = begins; due = due; place = λ i. hard_place (due i) (edge i); from = λ i. hard_from (due i) (edge i) }
+  b = record { drives = begins; joins = w.joins; due = due; place = λ i. hard_place (due i) (edge i); from = λ i. hard_from (due i) (edge i) }
 
   pub up : (i q r : ℕ) → i < s.count → q ≤ r → tick i q ≤ tick i r
   up i q r inside h = tick_up (s.clocks i) (line.steady i inside).divides q r h
@@ -96,7 +98,7 @@ module _ (w : Silence) (line : AreOnALine w.stations) (are : IsSilence w) where
   ]
 
   -- it stays so
-  reached_later : (i q r : ℕ) → i < s.count → q ≤ r → reached i q ≡ true → reached i r ≡ true
+  pub reached_later : (i q r : ℕ) → i < s.count → q ≤ r → reached i q ≡ true → reached i r ≡ true
   reached_later i q r inside h e =
       let x = reached_by i q e in
       let more = up i q r inside h in

@@ -24,7 +24,7 @@ use Rattle.wl_buses.specs.OneFrame.Lines.{RestsBefore}
 use Rattle.wl_buses.specs.OneFrame.Machines.{bus_levels, no_frame_sample}
 use Rattle.wl_buses.specs.OneFrame.Nodes.{IsRun}
 use Rattle.wl_buses.specs.FirstFrame.FirstStarts.{AreIdle, HandTheFirst, Waiting, begins_first, due_first, edge_first, first_outset, hard_from, has_first, is_reached_first, last_before, rest_first, silent_past}
-use Rattle.wl_buses.proofs.FirstFrame.Beginning.{IsLast, MayTogether, decided, first_some, last_at, many, silence_of, silent_of}
+use Rattle.wl_buses.proofs.FirstFrame.Beginning.{IsLast, MayTogether, decided, first_some, last_at, many, over_first, silence_of, silent_of}
 use Rattle.wl_buses.proofs.FirstFrame.Reaching as reaching
 use Rattle.wl_buses.proofs.FirstFrame.Silent as silence
 use Rattle.wl_buses.proofs.FirstFrame.Waits.{head_by, next_after, rests_then}
@@ -96,6 +96,7 @@ module _ (together : MayTogether) (nothing : NothingFound) (ways : WayLaws) (cal
         sampled = r.sampled;
         clock = r.clock;
         stretch = r.stretch ∙ past_is (begins_first w i) refl;
+        over = over_first together w on.line are i inside;
         counts = r.counts;
         drive = r.drive;
       }

@@ -29,9 +29,11 @@ use Rattle.wl_buses.proofs.OneFrame.Machines.{first_any}
 use Rattle.wl_buses.specs.FrameEnd.Again.{RestsAgain, past_end}
 use Rattle.wl_buses.specs.FrameEnd.Asked.{EndAsAsked, begun_frame}
 use Rattle.wl_buses.specs.FrameEnd.Rests.{NodeEnds, waiting_frame}
+use Rattle.wl_buses.proofs.OneFrame.Joining.{over_by}
 use Rattle.wl_buses.proofs.FrameEnd.Asked.{agrees, as_asked, count_there, crc_all, events, length_is, reached_with, wire}
 use Rattle.wl_buses.proofs.FrameEnd.Below.{MachineLaws}
 use Rattle.wl_buses.proofs.FrameEnd.Ends as machine
+use Rattle.wl_buses.proofs.FrameEnd.Second.{quiet_second}
 
 module _ (m : MachineLaws) (s : Stations) (are : AreStations s) (room : HaveRoom s) (o : Outset) (is : IsOutset s o) (end : ℕ)
     (valid : (n : ℕ) → n < end → stuffed_end (bus_levels s (expected_bits s o) n) ≡ None)
@@ -95,38 +97,6 @@ module _ (m : MachineLaws) (s : Stations) (are : AreStations s) (room : HaveRoom
       abbrev since : ℕ
       since = (bits (suc (suc end))).from i
 
-      none : (n place : ℕ) → end + place ≡ n → 2 ≤ place → place ≤ 12 → wants s o n i ≡ false
-      none n place e low high =
-          ap (λ k. wants s o k i) (sym e) ∙ asked.drives place i high inside ∙ ap (λ b. b && not (i == won.station)) (ne_eqb place 1 (λ f. omega (arith, f)))
-
-      first_quiet : (q : ℕ) → since < q → q ≤ suc (S (suc (suc end))) → (node q).drive ≡ Recessive
-      first_quiet q a b = (ends.next 2 (suc end) (omega arith) (omega arith)).after q a b ∙ ap level_of (none (suc (suc end)) 2 (omega arith) (omega arith) (omega arith))
-
-      step_quiet : (n place q : ℕ) → end + place ≡ suc n → 3 ≤ place → place ≤ 12 → S n < q → q ≤ suc (S (suc n)) → (node q).drive ≡ Recessive
-      step_quiet n place q e low high a b = elim (cases_lt place 12) [
-        | inl more ↦ (let x = ends.next place n (omega arith) e in
-            elim (cases_lt ((bits (suc n)).from i) q) [
-              | inl later ↦ x.after q later b ∙ ap level_of (none (suc n) place e (omega arith) high)
-              | inr sooner ↦ x.before q a sooner ∙ ap level_of (none n (place - 1) (omega arith) (omega arith) (omega arith))
-            ])
-        | inr last ↦
-            (let f : n ≡ end + 11 = omega arith in
-            let g : suc n ≡ end + 12 = omega arith in
-            let low_s : S n ≡ S (end + 11) = ap S f in
-            let high_s : S (suc n) ≡ S (end + 12) = ap S g in
-            ends.rests.drive q (omega arith) (omega arith))
-      ]
-
-      quiet_upto : (p q : ℕ) → p ≤ 10 → since < q → q ≤ suc (S (suc (suc end) + p)) → (node q).drive ≡ Recessive
-      quiet_upto zero q small a b = (let e : suc (suc end) + 0 ≡ suc (suc end) = omega arith in let f : S (suc (suc end) + 0) ≡ S (suc (suc end)) = ap S e in first_quiet q a (omega arith))
-      quiet_upto (suc p) q small a b =
-          (let e : suc (suc end) + suc p ≡ suc (suc (suc end) + p) = omega arith in
-          let f : S (suc (suc end) + suc p) ≡ S (suc (suc (suc end) + p)) = ap S e in
-          elim (cases_lt (S (suc (suc end) + p)) q) [
-            | inl later ↦ step_quiet (suc (suc end) + p) (3 + p) q (omega arith) (omega arith) (omega arith) later (omega arith)
-            | inr sooner ↦ quiet_upto p q (omega arith) a (omega arith)
-          ])
-
       pub rests_again : RestsAgain s (past_end s o end handed i) i levels node ((bits (end + 12)).place i) since
       rests_again =
           let recessive = asked.bus 12 (omega arith) in
@@ -134,6 +104,10 @@ module _ (m : MachineLaws) (s : Stations) (are : AreStations s) (room : HaveRoom
             sampled = subst (λ b. SamplesBy (s.lengths i) (clock_sees levels node) (S (end + 12)) (level_of b)) recessive ends.rests.clock.sampled;
             clock = ends.rests.clock.steady recessive;
             stretch = ends.rests.stretch ∙ ap (λ h. stretch_by (free h) []) (sym waits) ∙ sym (stretch_end i inside);
+            over = over_by o.frames i (stretch_of (past_end s o end handed i)) (may_by i (slice_get (o.frames i) (handed i).which) refl (stretch_end i inside));
             counts = ends.rests.counts;
-            drive = λ q a b. (let e : suc (suc end) + 10 ≡ end + 12 = omega arith in let f : S (suc (suc end) + 10) ≡ S (end + 12) = ap S e in quiet_upto 10 q (omega arith) a (omega arith));
+            drive = λ q a b. elim (cases_lt (S (end + 11)) q) [
+              | inl later ↦ ends.rests.drive q later b
+              | inr sooner ↦ quiet_second m s are room o is end valid over won i inside levels node ends.next q a (omega arith)
+            ];
           }

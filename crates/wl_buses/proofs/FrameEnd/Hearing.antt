@@ -91,7 +91,7 @@ module _ (m : MachineLaws) (s : Stations) (are : AreStations s) (room : HaveRoom
   due_there : (n i k : ℕ) → n < end → i < s.count → k < s.count → tick k (dues n k) + s.delay k i ≤ tick i (dues n i + sample_at (s.lengths i))
   due_there n i k less inside there =
       is_there t are_there enough (λ w. true) (suc (since_edge s bits n)) (let f = few_at_all n less in omega arith)
-      (record { drives = λ w. true; due = dues n; place = dues n; from = dues n }) (λ w lt x. refl)
+      (record { drives = λ w. true; joins = λ w. false; due = dues n; place = dues n; from = dues n }) (λ w lt x. refl)
       (λ a b low high other some. drifted t (since_edge s bits n) a b ((bits n).place a) ((bits n).place b) (close_at n less a b low high other some))
       i k inside there refl refl
 
@@ -170,7 +170,7 @@ module _ (m : MachineLaws) (s : Stations) (are : AreStations s) (room : HaveRoom
   due_slot i k inside there =
       let near = close m s are room o is end valid over won chase catch enough in
       let f = few m s are room o is end valid over won in
-      is_there t are_there enough (λ w. true) (suc (suc (since_edge s bits z))) (omega arith) (record { drives = λ w. true; due = dues end; place = dues end; from = dues end }) (λ w lt x. refl)
+      is_there t are_there enough (λ w. true) (suc (suc (since_edge s bits z))) (omega arith) (record { drives = λ w. true; joins = λ w. false; due = dues end; place = dues end; from = dues end }) (λ w lt x. refl)
       (λ a b low high other some. drifted t (suc (since_edge s bits z)) a b ((bits end).place a) ((bits end).place b) (near a b low high other some))
       i k inside there refl refl
 

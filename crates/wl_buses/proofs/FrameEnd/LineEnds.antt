@@ -188,8 +188,8 @@ module _ (m : MachineLaws) (clocks : ClockLaws) (goes_on : GoesOn) (l : Line) (s
   -- and the end
   ends_at : (i : ℕ) → i < s.count → NodeEnds s o end won.station i won.frame (setups i) (levels i) (node i)
   ends_at i inside =
-      node_ends m s are room o is end valid over won clocks i inside (finds_the_end m s are room o is end valid over won chase catch enough i inside) (setups i) (segments i inside) (levels i) (node i) (run_of (setups i) (levels i)) (λ n q e a b. finds i q inside)
-      (λ n e. early_at i n inside (omega arith))
+      node_ends m s are room o is end valid over won clocks i inside (finds_the_end m s are room o is end valid over won chase catch enough i inside) (setups i) (segments i inside) (levels i) (node i) (run_of (setups i) (levels i)) 12 (omega arith) (λ n q e a b. finds i q inside)
+      (λ n e. early_at i n inside (omega arith)) (omega arith) (omega arith)
 
   next_at : (i n : ℕ) → i < s.count → suc n < end + 12 → GoesToNext s o i (levels i) (node i) n
   next_at i n inside less = elim (cases_lt (suc n) end) [

@@ -47,7 +47,7 @@ module _ (m : MachineLaws) (s : Stations) (are : AreStations s) (room : HaveRoom
     (valid : (n : ℕ) → n < end → stuffed_end (bus_levels s (expected_bits s o) n) ≡ None)
     (over : stuffed_end (bus_levels s (expected_bits s o) end) ≡ Some end) (won : HasWon s (expected_bits s o) o.frames end)
     (clocks : ClockLaws) (i : ℕ) (inside : i < s.count) (hears : FindsTheEnd s o end i) (setup : NodeSetup) (segments : setup.segments ≡ s.lengths i) (levels : ℕ → Level) (node : ℕ → History) (run : IsRun setup levels node)
-    (finds : (n q : ℕ) → suc n ≡ end → expected_sample s o n i < q → q ≤ expected_sample s o (end + 12) i → levels q ≡ level_of (driven s.count s.delay (expected_drove s o (end + 13)) i (steady_tick (s.clocks i) q))) where
+    (upto : ℕ) (in_end : upto ≤ 12) (finds : (n q : ℕ) → suc n ≡ end → expected_sample s o n i < q → q ≤ expected_sample s o (end + upto) i → levels q ≡ level_of (driven s.count s.delay (expected_drove s o (end + 13)) i (steady_tick (s.clocks i) q))) where
   abbrev bits : ℕ → Start
   bits = expected_bits s o
 
@@ -73,7 +73,10 @@ module _ (m : MachineLaws) (s : Stations) (are : AreStations s) (room : HaveRoom
   z_is = placing.z_is m s are room o is end valid over won
 
   -- one bit
-  module _ (place n : ℕ) (small : place ≤ 12) (at : end + place ≡ suc n) (in_bit : IsInBit s o i levels node n) where
+  module _ (place n : ℕ) (found_to : place ≤ upto) (at : end + place ≡ suc n) (in_bit : IsInBit s o i levels node n) where
+    small : place ≤ 12
+    small = omega arith
+
     abbrev X : Stretch
     X = stretch_of (past_at s o (suc n) i)
 
@@ -89,8 +92,8 @@ module _ (m : MachineLaws) (s : Stations) (are : AreStations s) (room : HaveRoom
     after_z : S z ≤ S n
     after_z = let e = z_is in placing.samples_up m s are room o is end valid over won z n i inside (omega arith)
 
-    by_end : S (suc n) ≤ S (end + 12)
-    by_end = placing.samples_up m s are room o is end valid over won (suc n) (end + 12) i inside (omega arith)
+    by_end : S (suc n) ≤ S (end + upto)
+    by_end = placing.samples_up m s are room o is end valid over won (suc n) (end + upto) i inside (omega arith)
 
     bus_is : level_of (bus (suc n)) ≡ level_of (end_bit place)
     bus_is = ap level_of (placing.bus_at m s are room o is end valid over won place (suc n) small at)
@@ -196,7 +199,7 @@ module _ (m : MachineLaws) (s : Stations) (are : AreStations s) (room : HaveRoom
 
   -- all bits
   module _ (first : (n : ℕ) → suc n ≡ end → IsInBit s o i levels node n) where
-    in_bit_at : (place n : ℕ) → place ≤ 12 → end + place ≡ suc n → IsInBit s o i levels node n
+    in_bit_at : (place n : ℕ) → place ≤ upto → end + place ≡ suc n → IsInBit s o i levels node n
     in_bit_at zero n small at = first n (omega (arith, at))
     in_bit_at (suc place) n small at =
         (let e = z_is in
@@ -204,8 +207,10 @@ module _ (m : MachineLaws) (s : Stations) (are : AreStations s) (room : HaveRoom
         let same : suc (z + place) ≡ n = omega (arith, at) in
         subst (IsInBit s o i levels node) same (goes_to_next place (z + place) (omega arith) before (in_bit_at place (z + place) (omega arith) before) (omega arith)).bit)
 
-    next_at : (place n : ℕ) → place ≤ 11 → end + place ≡ suc n → GoesToNext s o i levels node n
-    next_at place n small at = goes_to_next place n (omega arith) at (in_bit_at place n (omega arith) at) (omega arith)
+  -- up to the second bit of the intermission
+  module _ (first : (n : ℕ) → suc n ≡ end → IsInBit s o i levels node n) (second : 11 ≤ upto) where
+    pub next_at : (place n : ℕ) → place ≤ 11 → end + place ≡ suc n → GoesToNext s o i levels node n
+    next_at place n small at = goes_to_next place n (omega arith) at (in_bit_at first place n (omega arith) at) (omega arith)
 
     frames_at : (place : ℕ) → place ≤ 11 → (node (suc (S (end + place)))).frames
         ≡ (node (S (end + place))).frames ++ passed_frames (S (end + place)) (end_frame (frame_role head own) head (destuffed_bits own (length own)) place)
@@ -213,9 +218,9 @@ module _ (m : MachineLaws) (s : Stations) (are : AreStations s) (room : HaveRoom
         (let e = z_is in
         let before : end + place ≡ suc (z + place) = omega arith in
         subst (λ k. (node (suc (S k))).frames ≡ (node (S k)).frames ++ passed_frames (S k) (end_frame (frame_role head own) head (destuffed_bits own (length own)) place)) (sym before)
-        (frames_then place (z + place) (omega arith) before (in_bit_at place (z + place) (omega arith) before) (omega arith)))
+        (frames_then place (z + place) (omega arith) before (in_bit_at first place (z + place) (omega arith) before) (omega arith)))
 
-    abbrev Passes : Bool → Type 0
+    abbrev pub Passes : Bool → Type 0
     Passes b = (node (suc (S (end + cond b 9 8)))).frames ≡ (node (S (end + cond b 9 8))).frames ++ record { sent = b; quantum = S (end + cond b 9 8); frame = won.frame } ∷ []
 
     passes_sent : i ≡ won.station → Passes true
@@ -231,15 +236,15 @@ module _ (m : MachineLaws) (s : Stations) (are : AreStations s) (room : HaveRoom
         ∙ ap (λ n. (node (S (end + 8))).frames ++ passed_frames (S (end + 8)) (Received (content_of (destuffed_bits own n)))) (levels_length s bits end)
         ∙ ap (λ c. (node (S (end + 8))).frames ++ passed_frames (S (end + 8)) (Received c)) asked.read
 
-    passes_all : Passes (i == won.station)
+    pub passes_all : Passes (i == won.station)
     passes_all = elim (cases_eq i won.station) [
       | inl same ↦ subst Passes (sym (eq-eqb i won.station same)) (passes_sent same)
       | inr other ↦ subst Passes (sym (ne_eqb i won.station other)) (passes_received other)
     ]
 
-    pub node_ends : NodeEnds s o end won.station i won.frame setup levels node
-    node_ends = record {
+    pub node_ends : 12 ≤ upto → NodeEnds s o end won.station i won.frame setup levels node
+    node_ends third = record {
       next = next_at;
       passes = passes_all;
-      rests = (let e = z_is in let before : end + 12 ≡ suc (z + 12) = omega arith in rests_by 12 (z + 12) (omega arith) before (in_bit_at 12 (z + 12) (omega arith) before) refl);
+      rests = (let e = z_is in let before : end + 12 ≡ suc (z + 12) = omega arith in rests_by 12 (z + 12) (omega arith) before (in_bit_at first 12 (z + 12) (omega arith) before) refl);
     }

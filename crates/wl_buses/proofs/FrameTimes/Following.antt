@@ -10,7 +10,7 @@ use Rattle.wl_buses.specs.OneFrame.Stations.{Stations}
 use Rattle.wl_buses.specs.FirstFrame.FirstStarts.{Waiting, due_first, edge_first, first_outset, hard_place, has_first, is_reached_first, looks_first}
 use Rattle.wl_buses.specs.NextFrames.Frames.{Frame, IsBegun, IsBegunAfter, resting_of}
 use Rattle.wl_buses.specs.NextFrames.NextStarts.{begins_next, decision_next, due_next, edge_next, has_next, is_reached_next, looks_next}
-use Rattle.wl_buses.proofs.NextFrames.Winning.{has_begun}
+use Rattle.wl_buses.proofs.NextFrames.Winning.{has_driven}
 use Rattle.wl_buses.specs.FrameTimes.Times.{start_place, following_place}
 
 -- an edge that is found by the quantum with which a start of frame is due makes it no later
@@ -21,7 +21,7 @@ hard_by_due test n due (Some q) e same = (let inside = (first_is test n q e).ins
 -- who wins has a frame
 pub winner_has : (s : Stations) (a b : Frame) (next : IsBegunAfter s a b) (is : IsBegun s b) → has_next (resting_of s a b next) is.won.station ≡ true
 winner_has s a b next is =
-    let drives : (expected_bits s b.outset 0).drives is.won.station ≡ true = has_begun s (expected_bits s b.outset) b.bits is.won.station is.won.sends in
+    let drives : (expected_bits s b.outset 0).drives is.won.station ≡ true = has_driven s (expected_bits s b.outset) b.bits is.won.station (ap (λ o. o.start.joins is.won.station) next.is) is.won.sends in
     let begins : begins_next (resting_of s a b next) is.won.station ≡ true = sym (ap (λ o. (expected_bits s o 0).drives is.won.station) next.is) ∙ drives in
     (and_parts (has_next (resting_of s a b next) is.won.station) (not (is_reached_next (resting_of s a b next) is.won.station (decision_next (resting_of s a b next) is.won.station))) begins).0
 

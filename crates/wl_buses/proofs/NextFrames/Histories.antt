@@ -37,6 +37,7 @@ module _ (s : Stations) (o : Outset) (i : ℕ) (setup : NodeSetup) (new old : �
         ∙ ap (beat_of (s.lengths i) (seen_before (clock_sees old (node_after setup old)) R)) (same_sees R (omega arith)) ∙ r.sampled;
     clock = ap (clock_after (s.lengths i)) (seen_up_to (suc R) (omega arith)) ∙ r.clock;
     stretch = ap (λ h. stretch_of h.inputs) (same_node (suc R) (omega arith)) ∙ r.stretch;
+    over = r.over;
     counts = ap (λ h. counts_of h.happened) (same_node (suc R) (omega arith)) ∙ r.counts;
     drive = λ q by. ap (λ h. h.drive) (same_node q by) ∙ r.drive q by;
   }

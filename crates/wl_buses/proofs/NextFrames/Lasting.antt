@@ -11,7 +11,7 @@ use Rattle.wl_buses.proofs.FirstFrame.Reaching.{IsSilence, Silence}
 
 -- the stations as ones on a silent line
 abbrev pub silence_of : Resting → Silence
-silence_of w = record { stations = w.stations; has = has_next w; due = due_next w; decision = decision_next w; rested = rested w }
+silence_of w = record { stations = w.stations; has = has_next w; due = due_next w; decision = decision_next w; rested = rested w; joins = λ i. false }
 
 pub silent_of : (w : Resting) → AreOnALine w.stations → AreResting w → IsSilence (silence_of w)
 silent_of w line are = record {

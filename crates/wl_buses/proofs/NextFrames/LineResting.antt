@@ -40,4 +40,4 @@ module _ (m : MachineLaws) (nothing : NothingFound) (rest_after : RestAfter) (l 
   pub rests_first : (i : ℕ) → i < s.count → RestsAgain s ((fs 0).outset.past i) i (levels i) (node i) (rest i) 0
   rests_first i inside =
       let r = rests_as s (fs 0).outset i (setups i) (levels i) (finds_expected l s (fs 0).outset (fs 0).bits i) (rest i) (λ q by. finds_first m nothing rest_after l setups s line are room fs count frames some i (rest i) q inside (begins i inside) by) (rests i inside) in
-      record { sampled = r.sampled; clock = r.clock; stretch = r.stretch; counts = r.counts; drive = λ q low high. r.drive q high }
+      record { sampled = r.sampled; clock = r.clock; stretch = r.stretch; over = r.over; counts = r.counts; drive = λ q low high. r.drive q high }

@@ -165,7 +165,7 @@ module _ (m : MachineLaws) (nothing : NothingFound) (rests : RestsLaw) (free : F
     waits_quiet =
         let w = waits.0 in
         let by = since_by in
-        record { sampled = w.sampled; clock = w.clock; stretch = w.stretch; counts = w.counts; drive = λ q low high. w.drive q (omega arith) high }
+        record { sampled = w.sampled; clock = w.clock; stretch = w.stretch; over = w.over; counts = w.counts; drive = λ q low high. w.drive q (omega arith) high }
 
     next_rests : RestsAgain s ((fs (suc n)).outset.past i) i levels node (rest_next r i) (T n)
     next_rests = subst (λ o. RestsAgain s (o.past i) i levels node (rest_next r i) (T n)) (sym next.is) waits_quiet

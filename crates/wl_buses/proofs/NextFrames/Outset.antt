@@ -18,7 +18,8 @@ use Rattle.wl_wire.specs.Wire.{Handed, sampled}
 use Rattle.wl_wire.proofs.Callers.{first_drive}
 use Rattle.wl_buses.specs.OneFrame.Stations.{AreOnALine, Stations}
 use Rattle.wl_buses.specs.OneFrame.Expected.{IsOutset, Outset}
-use Rattle.wl_buses.specs.OneFrame.Machines.{MayBegin, MayBeginTogether, no_frame_sample}
+use Rattle.wl_buses.specs.OneFrame.Machines.{HasTwoBits, MayBegin, MayBeginTogether, no_frame_sample}
+use Rattle.wl_buses.proofs.OneFrame.Joining.{joins_none, over_by, own_start}
 use Rattle.wl_buses.specs.OneFrame.Waits.{HasWaited}
 use Rattle.wl_buses.proofs.OneFrame.Waited.{idle_after, none_is, none_of, one_more, takes_head}
 use Rattle.wl_buses.specs.NextFrames.NextStarts.{AreFreeNext, AreResting, Resting, begins_next, handed_next, last_next, outset_next, past_next, waiting_past}
@@ -125,7 +126,7 @@ module _ (wait : MayWait) (w : Resting) (before : ℕ → List Input) (line : Ar
   pub past_inside : (k : ℕ) → k < s.count → o.past k ≡ past_next w before k
   past_inside k lt = ap (λ c. cond c (past_next w before k) []) (lt-ltb k s.count lt)
 
-  past_outside : (k : ℕ) → s.count ≤ k → o.past k ≡ []
+  pub past_outside : (k : ℕ) → s.count ≤ k → o.past k ≡ []
   past_outside k more = ap (λ c. cond c (past_next w before k) []) (le-ltb k s.count more)
 
   -- a machine that is handed its frame drives its start
@@ -159,20 +160,28 @@ module _ (wait : MayWait) (w : Resting) (before : ℕ → List Input) (line : Ar
     | inr more ↦ ap (λ p. drive_of (stretch_of p)) (past_outside k more)
   ]
 
-  drives_as : (k : ℕ) → begins_next w k ≡ is_dominant (drive_of (stretch_of (o.past k)))
+  pub drives_as : (k : ℕ) → begins_next w k ≡ is_dominant (drive_of (stretch_of (o.past k)))
   drives_as k = elim (cases_Bool (begins_next w k)) [
     | inl own ↦ own ∙ sym (ap is_dominant (drives_begun k own))
     | inr other ↦ other ∙ sym (ap is_dominant (drives_none k other))
   ]
+
+  may_there : (k : ℕ) → k < s.count → MayBegin w.frames k (stretch_of (o.past k))
+  may_there k lt = subst (λ p. MayBegin w.frames k (stretch_of p)) (sym (past_inside k lt)) (may.may k lt)
+
+  -- its intermission is over
+  pub over_next : (k : ℕ) → k < s.count → HasTwoBits (stretch_of (o.past k)) → ⊥
+  over_next k lt = over_by w.frames k (stretch_of (o.past k)) (may_there k lt)
 
   pub next_is_outset : IsOutset s o
   next_is_outset = record {
     frames = are.frames;
     earlier = may.earlier;
     reached = λ k lt. past_inside k lt ∙ may.reached k lt;
-    may = λ k lt. subst (λ p. MayBegin w.frames k (stretch_of p)) (sym (past_inside k lt)) (may.may k lt);
+    may = λ k lt. inl (may_there k lt);
+    joins = λ k lt. sym (joins_none w.frames k (stretch_of (o.past k)) (sampled Dominant (w.frames k) (o.handed 0 k)) (may_there k lt));
     drives = drives_as;
     begin = reaching.begin_first (silence_of w) line (silent_of w line are);
-    allowed = λ k inside e. are.may k (reaching.begins_has (silence_of w) line (silent_of w line are) k e);
+    allowed = λ k inside e. are.may k (reaching.begins_has (silence_of w) line (silent_of w line are) k (own_start (begins_next w k) false refl e));
     some = reaching.some_first (silence_of w) line (silent_of w line are);
   }

@@ -186,6 +186,7 @@ module _ (edges : EdgeLaws) (calm : NoEdgeLaws) (s : Stations) (line : AreOnALin
         ∙ ap (beat_of (s.lengths i) (seen_before (clock_sees levels node) last)) (same_sees last more) ∙ first.sampled;
     clock = ap (clock_after (s.lengths i)) (seen_up_to (suc last) more) ∙ first.clock;
     stretch = ap (λ h. stretch_of h.inputs) (same_node (suc last) more) ∙ first.stretch;
+    over = first.over;
     counts = ap (λ h. counts_of h.happened) (same_node (suc last) more) ∙ first.counts;
     drive = λ k low high. ap (λ h. h.drive) (same_node k (omega arith)) ∙ first.drive k low high;
   }

@@ -34,7 +34,7 @@ use Rattle.wl_buses.specs.NextFrames.NextStarts.{AreFreeNext, AreResting, Restin
 use Rattle.wl_buses.specs.NextFrames.NextNodes.{HandsNext, head_after}
 use Rattle.wl_buses.proofs.NextFrames.Idle as idle
 use Rattle.wl_buses.proofs.NextFrames.Lasting.{IsLast, last_at, last_is, silence_of, silent_of}
-use Rattle.wl_buses.proofs.NextFrames.Outset.{MayWait, begun, past_inside}
+use Rattle.wl_buses.proofs.NextFrames.Outset.{MayWait, begun, over_next, past_inside}
 use Rattle.wl_buses.specs.BothProofs.Queues.{head_at, unsent_after}
 
 -- the stretch of a machine that is free, and has sampled so many recessive bits more, with these heads
@@ -210,6 +210,7 @@ module _ (wait : MayWait) (edges : EdgeLaws) (calm : NoEdgeLaws) (w : Resting) (
         sampled = r.sampled;
         clock = r.clock;
         stretch = r.stretch ∙ x_last;
+        over = over_next wait w before line are frees i inside;
         counts = r.counts;
         drive = drive_at m (omega arith);
       }

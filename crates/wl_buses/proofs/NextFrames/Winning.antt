@@ -1,5 +1,5 @@
 -- One station has won each frame that stations begin, and another frame follows it.
-use Rattle.std.proofs.Common.{◌≡◌, ◌∙◌, sym, ap, refl, ℕ, zero, suc, ◌+◌, ◌<◌, ◌≤◌, ◌||◌, not, Bool, true, List, [], ◌∷◌, ◌++◌, Some, None, arith}
+use Rattle.std.proofs.Common.{◌≡◌, ◌∙◌, sym, ap, refl, ℕ, zero, suc, ◌+◌, ◌<◌, ◌≤◌, ◌||◌, not, Bool, true, false, List, [], ◌∷◌, ◌++◌, Some, None, arith}
 use Rattle.std.proofs.lemmas.Bool.{and_parts}
 use Rattle.wl_level.specs.Levels.{level_of}
 use Rattle.wl_topology.proofs.Callers.{any_same}
@@ -9,13 +9,14 @@ use Rattle.wl_machine.specs.Stretch.Input.{Sample}
 use Rattle.wl_machine.specs.Frames.{stuffed_end}
 use Rattle.wl_wire.specs.Wire.{sampled}
 use Rattle.wl_wire.specs.InStep.{AreSoundFrames}
-use Rattle.wl_buses.specs.OneFrame.Course.{IsCourse, IsSampled, bus_bit, still_sends}
+use Rattle.wl_buses.specs.OneFrame.Course.{IsCourse, IsSampled, bus_bit, has_sent, still_sends}
 use Rattle.wl_buses.specs.OneFrame.Ends.{HasStuffedBits}
 use Rattle.wl_buses.specs.OneFrame.Expected.{IsOutset, Outset, expected_bits, expected_drove, expected_end, past_at, wants}
 use Rattle.wl_buses.specs.OneFrame.Machines.{AllRight, AreMachines, HasWon, SomeBegins, bus_levels}
 use Rattle.wl_buses.specs.OneFrame.OneBit.{IsRight}
 use Rattle.wl_buses.specs.OneFrame.Starts.{Start}
 use Rattle.wl_buses.specs.OneFrame.Stations.{AreOnALine, AreStations, HaveRoom, Stations}
+use Rattle.wl_buses.proofs.OneFrame.Joining.{own_start}
 use Rattle.wl_buses.proofs.OneFrame.Expecting.{drives_are}
 use Rattle.wl_buses.specs.FrameEnd.Asked.{EndsBefore}
 use Rattle.wl_buses.proofs.FrameEnd.Below.{MachineLaws}
@@ -48,15 +49,20 @@ winner m left course same s o end are room is ends =
       handed = o.handed;
       reached = is.reached;
       begin = is.may;
+      joins = is.joins;
       drives = λ n k less lt. drives_are m.steps m.errors m.winner m.stuffed m.six m.ten s are room o is n k;
       samples = λ n k less lt. ap (λ b. past_at s o n k ++ Sample (sampled (level_of b) (o.frames k) (o.handed n k)) ∷ [])
           (any_same s.count (wants s o n) (expected_bits s o n).drives (λ j inside. sym (drives_are m.steps m.errors m.winner m.stuffed m.six m.ten s are room o is n j)) ∙ sym (right n less k lt));
     }
 
 -- the winner has begun the frame
-pub has_begun : (s : Stations) (bits : ℕ → Start) (n k : ℕ) → still_sends s bits n k ≡ true → (bits 0).drives k ≡ true
+pub has_begun : (s : Stations) (bits : ℕ → Start) (n k : ℕ) → still_sends s bits n k ≡ true → has_sent bits 0 k ≡ true
 has_begun s bits zero k e = e
-has_begun s bits (suc n) k e = has_begun s bits n k (and_parts (still_sends s bits n k) ((bits n).drives k || not (bus_bit s bits n)) e).0
+has_begun s bits (suc n) k e = has_begun s bits n k (and_parts (still_sends s bits n k) (has_sent bits n k || not (bus_bit s bits n)) e).0
+
+-- with a start of frame of its own, if it joins none
+pub has_driven : (s : Stations) (bits : ℕ → Start) (n k : ℕ) → (bits 0).joins k ≡ false → still_sends s bits n k ≡ true → (bits 0).drives k ≡ true
+has_driven s bits n k none e = own_start ((bits 0).drives k) ((bits 0).joins k) none (has_begun s bits n k e)
 
 abbrev pub PartEnds : Type 0
 PartEnds = (s : Stations) (o : Outset) → AreStations s → HaveRoom s → IsOutset s o → (length : ℕ) × HasStuffedBits s o length

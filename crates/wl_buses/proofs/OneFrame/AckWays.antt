@@ -322,7 +322,7 @@ module _ (s : Stations) (are : AreStations s) (room : HaveRoom s) (bits : ℕ �
 
   first : 0 < length → Chases 0
   first some k there =
-      let begins = frame_close (answering_by s answers way) (answering_stations s are.line answers way ways) (bits 0) (λ k there e. speaks k there (is.allowed k there e)) (begin_frame s answers way (bits 0) is.begin) in
+      let begins = frame_close (answering_by s answers way) (answering_stations s are.line answers way ways) (bits 0) (λ k there e. speaks k there (passing.drives_first s bits is.allowed k there e)) (begin_frame s answers way (bits 0) is.begin) in
       (0, near_it 0 k some there refl (λ i inside other one. begins i k inside there other one))
 
   -- the next bit

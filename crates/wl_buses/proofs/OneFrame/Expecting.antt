@@ -12,7 +12,7 @@ use Rattle.wl_phase.specs.Clocks.{steady_tick}
 use Rattle.wl_buses.specs.OneFrame.Stations.{AreClose, AreStations, HaveRoom, Stations, bit_drift, shared_instant, shared_quantum}
 use Rattle.wl_buses.specs.OneFrame.Starts.{BeginBit, BeginsAlone, Drives, FollowsHard, Start, reaches_at}
 use Rattle.wl_buses.specs.OneFrame.OneBit.{FollowsOne, sampled_at}
-use Rattle.wl_buses.specs.OneFrame.Course.{IsCourse, begins_with_edge, bus_bit, since_edge, still_sends}
+use Rattle.wl_buses.specs.OneFrame.Course.{IsCourse, begins_with_edge, bus_bit, has_sent, since_edge, still_sends}
 use Rattle.wl_buses.specs.OneFrame.Machines.{bus_levels}
 use Rattle.wl_buses.specs.OneFrame.Expected.{IsOutset, Outset, edge_start, expected_bits, expected_drove, expected_end, found_before, looks_up_to, most, next_start, place_found, plain_start, settled, wants}
 use Rattle.wl_buses.proofs.OneFrame.Ideal.{few, senders}
@@ -53,6 +53,9 @@ module _ (steps : StayInStep) (errors : FindNoErrors) (winner : LeastWins) (stuf
   drives_are zero k = is.drives k
   drives_are (suc n) k = drives_by (not (any_below s.count (wants s o n)) && any_below s.count (wants s o (suc n))) (wants s o (suc n)) (bits n) k
 
+  abbrev pub joins_are : (k : ℕ) → (bits 0).joins k ≡ o.start.joins k
+  joins_are k = refl
+
   due_by : (edge : Bool) (d : ℕ → Bool) (b : Start) (i : ℕ) → (next_start s edge d b).due i ≡ b.place i + bit_quanta (s.lengths i)
   due_by true d b i = refl
   due_by false d b i = refl
@@ -73,10 +76,10 @@ module _ (steps : StayInStep) (errors : FindNoErrors) (winner : LeastWins) (stuf
   plain_is n e = ap (λ b. next_start s b (wants s o (suc n)) (bits n)) (sym (edge_are n) ∙ e)
 
   pub few_at : (n : ℕ) → GoesOn n → since n ≤ 9
-  few_at n on = few steps errors winner stuffed six ten s o is bits drives_are n on
+  few_at n on = few steps errors winner stuffed six ten s o is bits drives_are joins_are n on
 
   senders_at : (n k : ℕ) → GoesOn n → k < s.count → (bits (suc n)).drives k ≡ true → sends (suc n) k ≡ true
-  senders_at n k on lt e = senders steps errors winner stuffed six ten s o is bits drives_are n k on lt e
+  senders_at n k on lt e = senders steps errors winner stuffed six ten s o is bits drives_are joins_are n k on lt e
 
   abbrev pub sent_before : (n k : ℕ) → sends (suc n) k ≡ true → sends n k ≡ true
   sent_before = passing.still_before s bits
@@ -169,7 +172,7 @@ module _ (steps : StayInStep) (errors : FindNoErrors) (winner : LeastWins) (stuf
     close_due i k inside there other some = drifted s (since n) i k ((bits n).place i) ((bits n).place k) (close i k inside there other some)
 
     sent_as : (k : ℕ) → bus_bit s bits (suc n) ≡ true → sends (suc (suc n)) k ≡ true → (bits (suc n)).drives k ≡ true
-    sent_as k bus x = elim (or_cases ((bits (suc n)).drives k) (not (bus_bit s bits (suc n))) (and_parts (sends (suc n) k) ((bits (suc n)).drives k || not (bus_bit s bits (suc n))) x).1) [
+    sent_as k bus x = elim (or_cases ((bits (suc n)).drives k) (not (bus_bit s bits (suc n))) (and_parts (sends (suc n) k) (has_sent bits (suc n) k || not (bus_bit s bits (suc n))) x).1) [
       | inl drives ↦ drives
       | inr recessive ↦ (let f : not (bus_bit s bits (suc n)) ≡ false = ap not bus in cc)
     ]
@@ -233,7 +236,7 @@ module _ (steps : StayInStep) (errors : FindNoErrors) (winner : LeastWins) (stuf
   before_on n on = none_before (bus_levels s bits n) (level_of (bus_bit s bits n)) on
 
   close_at : (n : ℕ) → GoesOn n → AreClose s (sends (suc n)) (since n) (bits n).place
-  close_at zero on = fewer s s.may_send (sends 1) 0 (bits 0).place (λ k lt x. may 1 k lt x) (frame_close s are (bits 0) is.allowed is.begin)
+  close_at zero on = fewer s s.may_send (sends 1) 0 (bits 0).place (λ k lt x. may 1 k lt x) (frame_close s are (bits 0) (passing.drives_first s bits is.allowed) is.begin)
   close_at (suc n) on = close_next n (before_on n on) (close_at n (before_on n on))
 
   -- a bit is driven from before its sample on
@@ -310,7 +313,7 @@ module _ (steps : StayInStep) (errors : FindNoErrors) (winner : LeastWins) (stuf
 
     -- who doesn't send any more drives nothing
     pub wants_sends : (n k : ℕ) → n ≤ length → k < s.count → wants s o n k ≡ true → sends n k ≡ true
-    wants_sends zero k less there dominant = drives_are 0 k ∙ dominant
+    wants_sends zero k less there dominant = passing.drives_sent bits 0 k (drives_are 0 k ∙ dominant)
     wants_sends (suc n) k less there dominant = senders_at n k (valid n (omega arith)) there (drives_are (suc n) k ∙ dominant)
 
     lost_at : (n k t : ℕ) → n < length → k < s.count → sends (suc n) k ≡ false → tick k ((bits (suc n)).from k) ≤ t → drove k t ≡ false
@@ -320,9 +323,17 @@ module _ (steps : StayInStep) (errors : FindNoErrors) (winner : LeastWins) (stuf
           | inr below ↦ (let up = from_all (suc m) (suc n) k (omega arith) (omega arith) there in absurd (omega arith))
         ])
 
-    listens_at : (k t : ℕ) → k < s.count → (bits 0).drives k ≡ false → drove k t ≡ false
+    listens_at : (k t : ℕ) → k < s.count → has_sent bits 0 k ≡ false → drove k t ≡ false
     listens_at k t there none =
         none_driven k t (λ m inside dominant low_m high_m. (let x = sent_at 0 m k (omega arith) (wants_sends m k (omega arith) there dominant) in cc))
+
+    -- who joins drives nothing before the bit after the start of frame
+    joined_at : (k t : ℕ) → 0 < length → k < s.count → (bits 0).drives k ≡ false → t < tick k ((bits 1).from k) → drove k t ≡ false
+    joined_at k t some there none before = none_driven k t (by some)
+      where
+        by : 0 < length → (m : ℕ) → m < length → wants s o m k ≡ true → tick k ((bits m).from k) ≤ t → t < tick k ((bits (suc m)).from k) → ⊥
+        by some zero inside dominant low_m high_m = (let e = drives_are 0 k ∙ dominant in cc)
+        by some (suc m) inside dominant low_m high_m = (let up = from_all 1 (suc m) k (omega arith) (omega arith) there in omega arith)
 
     pub course : IsCourse s bits drove length (λ k. expected_end s o length)
     course = record {
@@ -339,6 +350,7 @@ module _ (steps : StayInStep) (errors : FindNoErrors) (winner : LeastWins) (stuf
       drives = λ n k t less there right sender low_t high_t. driven_at n k t less there low_t high_t ∙ sym (drives_are n k);
       lost = λ n k t less there right sender gone low_t high_t. lost_at n k t less there gone low_t;
       listens = λ n i k less inside there none right before later. listens_at k (sampled_at s (bits n) i - s.delay k i) there none;
+      joined = λ k t some there sent none before. joined_at k t some there none before;
       over = λ n i k less inside there.
           (let one = most_from length (λ m. most s.count (λ j. sampled_at s (bits m) j)) n less in
           let two = most_from s.count (λ j. sampled_at s (bits n) j) i inside in

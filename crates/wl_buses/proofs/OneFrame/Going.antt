@@ -41,7 +41,7 @@ module _ (steps : StayInStep) (errors : FindNoErrors) (winner : LeastWins) (stuf
     (at : IsInBit s o i levels node n) where
   frame : (head : Option Content) × (stretch_of (past_at s o (suc n) i) ≡ stretch_by (Framing head) (bus_levels s (expected_bits s o) (suc n)))
   frame =
-      framing steps errors winner stuffed six ten s o is (expected_bits s o) (drives_are steps errors winner stuffed six ten s are room o is) n i (valid n (omega arith)) inside
+      framing steps errors winner stuffed six ten s o is (expected_bits s o) (drives_are steps errors winner stuffed six ten s are room o is) (λ k. refl) n i (valid n (omega arith)) inside
 
   no_start : awaits_start (stretch_of (past_at s o (suc n) i)) ≡ false
   no_start =
@@ -76,7 +76,7 @@ module _ (steps : StayInStep) (errors : FindNoErrors) (winner : LeastWins) (stuf
   fine_there : is_fine (judged (stretch_of (past_at s o (suc n) i)) given).happened ≡ true
   fine_there =
       ap (λ b. is_fine (judged (stretch_of (past_at s o (suc n) i)) (sampled (level_of b) (o.frames i) (o.handed (suc n) i))).happened) bus_is
-      ∙ fine steps errors winner stuffed six ten s o is (expected_bits s o) (drives_are steps errors winner stuffed six ten s are room o is) (suc n) i (o.handed (suc n) i) (valid (suc n) less) inside
+      ∙ fine steps errors winner stuffed six ten s o is (expected_bits s o) (drives_are steps errors winner stuffed six ten s are room o is) (λ k. refl) (suc n) i (o.handed (suc n) i) (valid (suc n) less) inside
 
   pub goes_on : GoesToNext s o i levels node n
   goes_on =

@@ -1,5 +1,5 @@
 -- The machines of an opening: what follows from them for each bit, whenever it begins.
-use Rattle.std.proofs.Common.{◌≡◌, ◌∙◌, refl, sym, ap, ℕ, zero, suc, ◌+◌, ◌-◌, ◌<◌, ◌≤◌, ◌&&◌, ◌||◌, not, cond, Bool, true, [], ◌∷◌, ◌++◌, Option, None, arith}
+use Rattle.std.proofs.Common.{◌≡◌, ◌∙◌, refl, sym, ap, ℕ, zero, suc, ◌+◌, ◌-◌, ◌<◌, ◌≤◌, ◌&&◌, ◌||◌, not, cond, Bool, true, [], ◌∷◌, ◌++◌, Option, Some, None, arith}
 use Rattle.std.specs.Prelude.{nat_le}
 use Rattle.std.proofs.lemmas.Bool.{le-leb}
 use Rattle.wl_level.specs.Levels.{level_of}
@@ -8,7 +8,7 @@ use Rattle.wl_topology.proofs.Callers.{any_same}
 use Rattle.wl_segments.specs.declared.SyncRules.TheVariants.{Book}
 use Rattle.wl_frame.specs.Grammar.{Content}
 use Rattle.wl_machine.specs.Stretch.Input.{Sample}
-use Rattle.wl_machine.specs.Frames.{stuffed_end}
+use Rattle.wl_machine.specs.Frames.{frame_role, stuffed_end}
 use Rattle.wl_machine.specs.Judged.{judged, stretch_of}
 use Rattle.wl_machine.specs.States.{stretch_by}
 use Rattle.wl_machine.specs.Stretch.Sort.{Framing}
@@ -19,10 +19,10 @@ use Rattle.wl_wire.specs.Wire.{Handed, sampled}
 use Rattle.wl_buses.specs.OneFrame.Stations.{Stations}
 use Rattle.wl_buses.specs.OneFrame.Starts.{Start}
 use Rattle.wl_buses.specs.OneFrame.OneBit.{IsRight, sampled_at}
-use Rattle.wl_buses.specs.OneFrame.Course.{begins_with_edge, bus_bit, since_edge, still_sends}
+use Rattle.wl_buses.specs.OneFrame.Course.{begins_with_edge, bus_bit, has_sent, since_edge, still_sends}
 use Rattle.wl_buses.specs.OneFrame.Machines.{AreMachines, GoesByMachines, bus_levels}
 use Rattle.wl_buses.specs.OneFrame.Expected.{IsOutset, Outset, past_at, wants}
-use Rattle.wl_buses.proofs.OneFrame.Machines.{FindNoErrors, LeastWins, SendStuffed, SixOrFront, StayInStep, TenHaveEdge, goes}
+use Rattle.wl_buses.proofs.OneFrame.Machines.{FindNoErrors, LeastWins, JoinsOn, SendStuffed, SixOrFront, StayInStep, TenHaveEdge, goes, joins_on}
 
 -- a clock of a tick a quantum
 abbrev unit : Steady
@@ -45,7 +45,7 @@ module _ (steps : StayInStep) (errors : FindNoErrors) (winner : LeastWins) (stuf
   }
 
   abbrev others : ℕ → Start
-  others n = record { drives = wants s o n; due = λ k. n; place = λ k. n; from = λ k. n }
+  others n = record { drives = wants s o n; joins = o.start.joins; due = λ k. n; place = λ k. n; from = λ k. n }
 
   abbrev drove : ℕ → ℕ → Bool
   drove k t = wants s o (t - 1) k
@@ -64,11 +64,12 @@ module _ (steps : StayInStep) (errors : FindNoErrors) (winner : LeastWins) (stuf
     handed = o.handed;
     reached = is.reached;
     begin = is.may;
+    joins = is.joins;
     drives = λ n k less lt. refl;
     samples = λ n k less lt. ap (λ b. past_at s o n k ++ Sample (sampled (level_of b) (o.frames k) (o.handed n k)) ∷ []) (sym (right n k));
   }
 
-  module _ (bits : ℕ → Start) (same : (n k : ℕ) → (bits n).drives k ≡ wants s o n k) where
+  module _ (bits : ℕ → Start) (same : (n k : ℕ) → (bits n).drives k ≡ wants s o n k) (joins : (k : ℕ) → (bits 0).joins k ≡ o.start.joins k) where
     pub bus_same : (n : ℕ) → bus_bit other others n ≡ bus_bit s bits n
     bus_same n = any_same s.count (wants s o n) (bits n).drives (λ k lt. sym (same n k))
 
@@ -76,12 +77,16 @@ module _ (steps : StayInStep) (errors : FindNoErrors) (winner : LeastWins) (stuf
     levels_same zero = refl
     levels_same (suc n) = ap (λ v. v ++ level_of (bus_bit other others n) ∷ []) (levels_same n) ∙ ap (λ b. bus_levels s bits n ++ level_of b ∷ []) (bus_same n)
 
+    sent_same : (n k : ℕ) → has_sent others n k ≡ has_sent bits n k
+    sent_same zero k = ap (λ b. b || o.start.joins k) (sym (same 0 k)) ∙ ap (λ b. (bits 0).drives k || b) (sym (joins k))
+    sent_same (suc n) k = sym (same (suc n) k)
+
     still_same : (n k : ℕ) → still_sends other others n k ≡ still_sends s bits n k
-    still_same zero k = sym (same 0 k)
+    still_same zero k = sent_same 0 k
     still_same (suc n) k =
-        ap (λ b. b && (wants s o n k || not (bus_bit other others n))) (still_same n k)
-        ∙ ap (λ b. still_sends s bits n k && (b || not (bus_bit other others n))) (sym (same n k))
-        ∙ ap (λ b. still_sends s bits n k && ((bits n).drives k || not b)) (bus_same n)
+        ap (λ b. b && (has_sent others n k || not (bus_bit other others n))) (still_same n k)
+        ∙ ap (λ b. still_sends s bits n k && (b || not (bus_bit other others n))) (sent_same n k)
+        ∙ ap (λ b. still_sends s bits n k && (has_sent bits n k || not b)) (bus_same n)
 
     begins_same : (n : ℕ) → begins_with_edge other others n ≡ begins_with_edge s bits n
     begins_same zero = refl
@@ -114,3 +119,23 @@ module _ (steps : StayInStep) (errors : FindNoErrors) (winner : LeastWins) (stuf
         → is_fine (judged (stretch_of (past_at s o n k)) (sampled (level_of (bus_bit s bits n)) (o.frames k) h)).happened ≡ true
     fine n k h none lt =
         ap (λ b. is_fine (judged (stretch_of (past_at s o n k)) (sampled (level_of b) (o.frames k) h)).happened) (sym (bus_same n)) ∙ (there n none).fine k h lt
+
+    -- who joins the start of frame
+    joins_there : (n k : ℕ) → stuffed_end (bus_levels s bits n) ≡ None → k < s.count → o.start.joins k ≡ true → JoinsOn other others o.frames (past_at s o) o.handed n k
+    unfolding machines
+    joins_there n k none lt e =
+        joins_on steps errors winner stuffed six ten other others drove o.frames (past_at s o) (suc n) is.frames (machines (suc n))
+        (is.some.0, is.some.1, sym (is.drives is.some.0) ∙ is.some.2) n (omega arith) (λ j inside m below. right m j) (ap stuffed_end (levels_same n) ∙ none) k lt (λ m below. right m k) e
+
+    pub joined_at : (n k : ℕ) → stuffed_end (bus_levels s bits n) ≡ None → k < s.count → o.start.joins k ≡ true → JoinsOn s bits o.frames (past_at s o) o.handed n k
+    joined_at n k none lt e =
+        let x = joins_there n k none lt e in
+        record {
+          frame = x.frame;
+          handed = x.handed;
+          silent = same 0 k ∙ x.silent;
+          framing = x.framing ∙ ap (stretch_by (Framing (Some x.frame))) (levels_same (suc n));
+          sends = sym (still_same 1 k) ∙ x.sends;
+          role = λ sends. ap (frame_role (Some x.frame)) (sym (levels_same (suc n))) ∙ x.role (still_same (suc n) k ∙ sends);
+          still = λ role. sym (still_same (suc n) k) ∙ x.still (ap (frame_role (Some x.frame)) (levels_same (suc n)) ∙ role);
+        }

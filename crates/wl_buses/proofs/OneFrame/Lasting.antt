@@ -112,9 +112,9 @@ module _ (steps : StayInStep) (errors : FindNoErrors) (winner : LeastWins) (stuf
   six_at (suc n) none =
       let k = is.some.0 in
       let inside = is.some.1 in
-      let f = framing steps errors winner stuffed six ten s o is (expected_bits s o) same_drives n k (none_before (own n) (bit n) none) inside in
+      let f = framing steps errors winner stuffed six ten s o is (expected_bits s o) same_drives (λ k. refl) n k (none_before (own n) (bit n) none) inside in
       ends_no_six (stretch_of (past_at s o (suc n) k)) (sampled (bit (suc n)) (o.frames k) (o.handed 0 k)) f.0 (own (suc n)) f.1 none
-      (fine steps errors winner stuffed six ten s o is (expected_bits s o) same_drives (suc n) k (o.handed 0 k) none inside)
+      (fine steps errors winner stuffed six ten s o is (expected_bits s o) same_drives (λ k. refl) (suc n) k (o.handed 0 k) none inside)
 
   free_after : (n : ℕ) → Goes n → due n ≡ true → due (suc n) ≡ false
   free_after n none e =

@@ -187,6 +187,7 @@ module _ (steps : StayInStep) (errors : FindNoErrors) (winner : LeastWins) (stuf
     handed = o.handed;
     reached = is.reached;
     begin = is.may;
+    joins = is.joins;
     drives = λ n k less lt. drives_are steps errors winner stuffed six ten s are room o is n k;
     samples = λ n k less lt. ap (λ b. past_at s o n k ++ Sample (sampled (level_of b) (o.frames k) (o.handed n k)) ∷ [])
         (any_same s.count (wants s o n) (expected_bits s o n).drives (λ j inside. sym (drives_are steps errors winner stuffed six ten s are room o is n j))

@@ -1,7 +1,7 @@
 -- What machines drive in a frame, by what they have sampled: they are those of a wire as long as all sample what is on the bus.
 use Rattle.std.proofs.Common.{◌≡◌, ◌∙◌, ◌⊎◌, inl, inr, refl, sym, ap, subst, ℕ, zero, suc, ◌+◌, ◌-◌, ◌<◌, ◌≤◌, ◌&&◌, ◌||◌, not, cond, Bool, true, false, List, [], ◌∷◌, ◌++◌, length, take, Option, Some, None, is_some, arith}
-use Rattle.std.specs.Prelude.{nat_le, MatchOption}
-use Rattle.std.proofs.lemmas.Bool.{cases_Bool, cases_lt, and_parts, and_right, false_from_ne_true, not-true, or_cases}
+use Rattle.std.specs.Prelude.{nat_le, MatchOption, slice_get}
+use Rattle.std.proofs.lemmas.Bool.{both_ways, cases_Bool, cases_lt, and_parts, and_right, false_from_ne_true, not-true, or_cases, or_left, or_right}
 use Rattle.std.proofs.lemmas.List.Sums.{fold-append}
 use Rattle.std.proofs.lemmas.List.{length-append}
 use Rattle.std.proofs.Math.Seq.{take-length}
@@ -13,6 +13,8 @@ use Rattle.wl_level.specs.Places.{at, before, first_place, or_at}
 use Rattle.wl_level.proofs.Callers.{at_front, at_new, first_is, none_first}
 use Rattle.wl_confine.specs.declared.ErrorKind.TheVariants.{Bit, Stuff}
 use Rattle.wl_confine.specs.declared.Happened.TheVariants as happens
+use Rattle.wl_confine.specs.declared.Mode.{Mode}
+use Rattle.wl_confine.specs.declared.Mode.TheVariants as modes
 use Rattle.wl_topology.specs.Driven.{any_below, driven}
 use Rattle.wl_topology.proofs.Callers.{any_from, any_same}
 use Rattle.wl_frame.specs.Stuffing.{IsStuffedFront, Stuffs, destuffed_bits, ends_six, first_six, is_stuff}
@@ -26,21 +28,22 @@ use Rattle.wl_machine.specs.Stretch.Sort.{Idle, Framing, Flagging, Intermission}
 use Rattle.wl_machine.specs.Stretch.Input.{Sample}
 use Rattle.wl_machine.specs.Flags.{error_flag, fails}
 use Rattle.wl_machine.specs.Frames.{differing, drive_up_to, frame_role, framing_by, framing_received, framing_sent, is_lost, sent_at, stuffed_drive, stuffed_end, tail_drive}
-use Rattle.wl_machine.specs.BetweenFrames.{idle_on}
-use Rattle.wl_machine.specs.Judged.{drive_of, judged, judged_by, or_next, stretch_after, stretch_of}
+use Rattle.wl_machine.specs.BetweenFrames.{begun_head, idle_on}
+use Rattle.wl_machine.specs.Judged.{drive_by, drive_of, judged, judged_by, or_next, stretch_after, stretch_of}
 use Rattle.wl_machine.specs.Laws.{FoundSent}
 use Rattle.wl_machine.specs.States.{stretch_by}
 use Rattle.wl_machine.proofs.Callers.{ends_at, end_more, end_stays, role_first, role_next, role_receives, stretch_next}
 use Rattle.wl_wire.specs.Wire.{Event, Handed, Wire, bus, drives_dominant, idle_wire, is_between, next_wire, sampled, stretch_at, wire_after}
 use Rattle.wl_wire.specs.Wire.Event.{Bit as BusBit}
 use Rattle.wl_wire.specs.InStep.{AreInFrame, AreInStep, AreSoundFrames, FindsNoError, Has, IsSender, is_fine, or_all}
-use Rattle.wl_wire.proofs.Callers.{count_after, end_is, end_there, not_both_roles, role_cases, sent_old, some_same}
+use Rattle.wl_wire.proofs.Callers.{count_after, end_is, end_there, first_drive, not_both_roles, role_cases, sent_old, some_same}
 use Rattle.wl_wire.specs.Winner.{HasOneWinner}
 use Rattle.wl_buses.specs.OneFrame.Stations.{Stations}
 use Rattle.wl_buses.specs.OneFrame.Starts.{Start}
 use Rattle.wl_buses.specs.OneFrame.OneBit.{IsRight, sampled_at}
-use Rattle.wl_buses.specs.OneFrame.Course.{RightUpTo, begins_with_edge, bus_bit, since_edge, still_sends}
-use Rattle.wl_buses.specs.OneFrame.Machines.{AllRight, AreMachines, SomeBegins, GoesByMachines, HasWon, MayBegin, bus_levels}
+use Rattle.wl_buses.specs.OneFrame.Course.{RightUpTo, begins_with_edge, bus_bit, has_sent, since_edge, still_sends}
+use Rattle.wl_buses.specs.OneFrame.Machines.{AllRight, AreMachines, SomeBegins, GoesByMachines, HasWon, MayBeginOrJoin, bus_levels, joins_by}
+use Rattle.wl_buses.proofs.OneFrame.Joining.{joins_none}
 
 -- the laws that this rests on
 abbrev pub StayInStep : Type 0
@@ -122,8 +125,22 @@ no_intermission head role e = cc
 same_head : (a b : Option Content) → Framing a ≡ Framing b → a ≡ b
 same_head a b e = cc
 
-not_idle : (head : Option Content) → Idle ≡ Framing head → ⊥
-not_idle head e = cc
+-- a head that is begun in the third bit of an intermission is the one that is handed
+pub head_given : (role : Role) (mode : Mode) (head : Option Content) (h : Content) → begun_head role mode head ≡ Some h → head ≡ Some h
+head_given Tx modes.Passive head h e = cc
+head_given Tx modes.Active head h e = e
+head_given Tx modes.Off head h e = e
+head_given Rx mode head h e = e
+
+pub some_of : (o : Option Content) → is_some o ≡ true → (h : Content) × (o ≡ Some h)
+some_of None e = cc
+some_of (Some h) e = (h, refl)
+
+or_none : (a b : Bool) → a ≡ false → b ≡ false → (a || b) ≡ false
+or_none a b e f = ap (λ x. x || b) e ∙ f
+
+joined_only : (a b : Bool) → a ≡ false → (a || b) ≡ true → b ≡ true
+joined_only a b e f = sym (ap (λ x. x || b) e) ∙ f
 
 -- who drives dominant in the stuffed part is its transmitter
 drives_by : (role : Role) (head : Option Content) (own : List Level) → is_dominant (stuffed_drive role head own) ≡ true → (h : Content) × (head ≡ Some h) × (role ≡ Tx)
@@ -184,6 +201,16 @@ or_not_self false = refl
 pub levels_length : (s : Stations) (bits : ℕ → Start) (n : ℕ) → length (bus_levels s bits n) ≡ n
 levels_length s bits zero = refl
 levels_length s bits (suc n) = length_more (bus_levels s bits n) (level_of (bus_bit s bits n)) ∙ ap suc (levels_length s bits n)
+
+-- what a station that joins the start of frame sends after bit n
+pub record JoinsOn (s : Stations) (bits : ℕ → Start) (frames : ℕ → List Content) (past : ℕ → ℕ → List Input) (given : ℕ → ℕ → Handed) (n k : ℕ) : Type 0 where
+  pub frame : Content
+  pub handed : slice_get (frames k) (given 0 k).which ≡ Some frame
+  pub silent : (bits 0).drives k ≡ false
+  pub framing : stretch_of (past (suc n) k) ≡ stretch_by (Framing (Some frame)) (bus_levels s bits (suc n))
+  pub sends : still_sends s bits 1 k ≡ true
+  pub role : still_sends s bits (suc n) k ≡ true → frame_role (Some frame) (bus_levels s bits (suc n)) ≡ Tx
+  pub still : frame_role (Some frame) (bus_levels s bits (suc n)) ≡ Tx → still_sends s bits (suc n) k ≡ true
 
 module _ (steps : StayInStep) (errors : FindNoErrors) (winner : LeastWins) (stuffed : SendStuffed) (six : SixOrFront) (ten : TenHaveEdge)
     (s : Stations) (bits : ℕ → Start) (drove : ℕ → ℕ → Bool) (frames : ℕ → List Content) (past : ℕ → ℕ → List Input) (total : ℕ)
@@ -288,12 +315,13 @@ module _ (steps : StayInStep) (errors : FindNoErrors) (winner : LeastWins) (stuf
   agree_first : Agree 0
   agree_first = agree 0 (omega arith) (λ i lt j below. absurd (omega arith))
 
-  due_by : (k : ℕ) → (x : Stretch) → MayBegin frames k x → is_dominant (drive_of x) ≡ true → (head : Content) × Has frames k head × (x ≡ stretch_by (Framing (Some head)) [])
-  due_by k x (inl idle) e = absurd (silent x idle e)
+  due_by : (k : ℕ) → (x : Stretch) → MayBeginOrJoin frames k x → is_dominant (drive_of x) ≡ true → (head : Content) × Has frames k head × (x ≡ stretch_by (Framing (Some head)) [])
+  due_by k x (inl (inl idle)) e = absurd (silent x idle e)
     where
       silent : (x : Stretch) → x.sort ≡ Idle → is_dominant (drive_of x) ≡ true → ⊥
       silent x i e = (let f : is_dominant (drive_of x) ≡ false = ap (λ q. is_dominant (drive_of (stretch_by q x.own))) i in cc)
-  due_by k x (inr due) e = due
+  due_by k x (inl (inr due)) e = due
+  due_by k x (inr two) e = (let f : is_dominant (drive_of x) ≡ false = ap (λ y. is_dominant (drive_of y)) two.1 in cc)
 
   due : (k : ℕ) → k < s.count → (bits 0).drives k ≡ true → (head : Content) × Has frames k head × (at_wire 0 k ≡ stretch_by (Framing (Some head)) [])
   due k lt e =
@@ -331,21 +359,90 @@ module _ (steps : StayInStep) (errors : FindNoErrors) (winner : LeastWins) (stuf
   drive_there n k h x none =
       ap drive_of x.0 ∙ ap (λ e. drive_up_to e (Some h) (own n)) none ∙ ap (λ r. stuffed_drive r (Some h) (own n)) x.1 ∙ ap (sent_at h (own n)) (levels_length s bits n)
 
-  -- at the bit before
-  back_first : (k : ℕ) (h : Content) → k < s.count → Sends 1 k h → MayBegin frames k (stretch_of (past 0 k)) → Sends 0 k h
-  back_first k h lt x (inl idle) =
-      (let d : bus (wire 0) ≡ Dominant = bus_is 0 (omega arith) agree_first ∙ ap level_of first_dominant in
-      let e = idle_after (at_wire 0 k) (sample 0 k) (ap (λ p. (stretch_of p).sort) (agree_first k lt) ∙ idle) d in
+  -- with the start of frame
+  bus_first : bus (wire 0) ≡ Dominant
+  bus_first = bus_is 0 (omega arith) agree_first ∙ ap level_of first_dominant
+
+  own_first : own 1 ≡ Dominant ∷ []
+  own_first = ap (λ b. level_of b ∷ []) first_dominant
+
+  -- a machine in the third bit of its intermission takes it for that of the frame that it is handed
+  third_takes : (k : ℕ) (role : Role) → k < s.count → stretch_of (past 0 k) ≡ stretch_by (Intermission role) (Recessive ∷ Recessive ∷ [])
+      → at_wire 1 k ≡ stretch_by (Framing (begun_head role (m.handed 0 k).mode (slice_get (frames k) (m.handed 0 k).which))) (Dominant ∷ [])
+  third_takes k role lt e =
+      stretch_there 0 k ∙ ap (λ y. stretch_after y (Sample (sample 0 k))) (ap stretch_of (agree_first k lt) ∙ e)
+      ∙ ap (λ l. stretch_after (stretch_by (Intermission role) (Recessive ∷ Recessive ∷ [])) (Sample (sampled l (frames k) (m.handed 0 k)))) bus_first
+
+  third_joins : (k : ℕ) (role : Role) → k < s.count → stretch_of (past 0 k) ≡ stretch_by (Intermission role) (Recessive ∷ Recessive ∷ [])
+      → (bits 0).joins k ≡ is_some (begun_head role (m.handed 0 k).mode (slice_get (frames k) (m.handed 0 k).which))
+  third_joins k role lt e = m.joins k lt ∙ ap (λ y. joins_by y.sort (sampled Dominant (frames k) (m.handed 0 k))) e
+
+  -- who begins the frame with it
+  record Begun (k : ℕ) (h : Content) : Type 0 where
+    has : Has frames k h
+    sent : has_sent bits 0 k ≡ true
+
+  begun_by : (k : ℕ) (h : Content) → k < s.count → 0 < total → Sends 1 k h → MayBeginOrJoin frames k (stretch_of (past 0 k)) → Begun k h
+  begun_by k h lt less x (inl (inl idle)) =
+      (let e = idle_after (at_wire 0 k) (sample 0 k) (ap (λ p. (stretch_of p).sort) (agree_first k lt) ∙ idle) bus_first in
       absurd (none-some h (same_head None (Some h) (sym e ∙ ap (λ y. y.sort) (sym (stretch_there 0 k) ∙ x.0)))))
-  back_first k h lt x (inr due) =
+  begun_by k h lt less x (inl (inr due)) =
       (let e = ap stretch_of (agree_first k lt) ∙ due.2 in
       let n = next_stretch 0 k (Some due.0) [] lt e none_first_end in
       let same = some_same due.0 h (same_head (Some due.0) (Some h) (ap (λ y. y.sort) (sym n ∙ x.0))) in
-      (e ∙ ap (λ c. stretch_by (Framing (Some c)) []) same, refl))
+      let drives : (bits 0).drives k ≡ true = m.drives 0 k (omega arith) lt ∙ ap (λ y. is_dominant (drive_of y)) due.2 ∙ ap is_dominant (first_drive due.0 (sound.content k due.0 lt due.1)) in
+      record { has = subst (Has frames k) same due.1; sent = or_left ((bits 0).drives k) ((bits 0).joins k) drives })
+  begun_by k h lt less x (inr two) =
+      (let e = third_takes k two.0 lt two.1 in
+      let same = same_head (begun_head two.0 (m.handed 0 k).mode (slice_get (frames k) (m.handed 0 k).which)) (Some h) (ap (λ y. y.sort) (sym e ∙ x.0)) in
+      record {
+        has = ((m.handed 0 k).which, head_given two.0 (m.handed 0 k).mode (slice_get (frames k) (m.handed 0 k).which) h same);
+        sent = or_right ((bits 0).drives k) ((bits 0).joins k) (third_joins k two.0 lt two.1 ∙ ap is_some same);
+      })
 
-  back : (n k : ℕ) (h : Content) → n < total → AllRight s bits drove n → stuffed_end (own n) ≡ None → k < s.count → Sends (suc n) k h → Sends n k h
-  back zero k h less right none lt x = back_first k h lt x (m.begin k lt)
-  back (suc n) k h less right none lt x =
+  begins_with : (k : ℕ) → k < s.count → has_sent bits 0 k ≡ true → MayBeginOrJoin frames k (stretch_of (past 0 k)) → (h : Content) × Has frames k h × (at_wire 1 k ≡ stretch_by (Framing (Some h)) (own 1))
+  begins_with k lt e (inl (inl idle)) =
+      absurd (both_ways (has_sent bits 0 k) (or_none ((bits 0).drives k) ((bits 0).joins k)
+      (m.drives 0 k (omega arith) lt ∙ ap (λ q. is_dominant (drive_by q (stretch_of (past 0 k)).own)) idle)
+      (m.joins k lt ∙ ap (λ q. joins_by q (sampled Dominant (frames k) (m.handed 0 k))) idle)) e)
+  begins_with k lt e (inl (inr due)) = (
+    due.0,
+    due.1,
+    next_stretch 0 k (Some due.0) [] lt (ap stretch_of (agree_first k lt) ∙ due.2) none_first_end
+        ∙ ap (λ l. stretch_by (Framing (Some due.0)) (l ∷ [])) (bus_is 0 (omega arith) agree_first),
+  )
+  begins_with k lt e (inr two) =
+      (let x = third_takes k two.0 lt two.1 in
+      let h = some_of (begun_head two.0 (m.handed 0 k).mode (slice_get (frames k) (m.handed 0 k).which))
+      (sym (third_joins k two.0 lt two.1)
+      ∙ joined_only ((bits 0).drives k) ((bits 0).joins k) (m.drives 0 k (omega arith) lt ∙ ap (λ y. is_dominant (drive_of y)) two.1) e) in (
+        h.0,
+        ((m.handed 0 k).which, head_given two.0 (m.handed 0 k).mode (slice_get (frames k) (m.handed 0 k).which) h.0 h.1),
+        x ∙ ap (λ c. stretch_by (Framing c) (Dominant ∷ [])) h.1 ∙ ap (stretch_by (Framing (Some h.0))) (sym own_first),
+      ))
+
+  -- with which frame a station joins the start of frame
+  record Joined (k : ℕ) : Type 0 where
+    frame : Content
+    handed : slice_get (frames k) (m.handed 0 k).which ≡ Some frame
+    silent : (bits 0).drives k ≡ false
+    first : at_wire 1 k ≡ stretch_by (Framing (Some frame)) (own 1)
+
+  joined_by : (k : ℕ) → k < s.count → (bits 0).joins k ≡ true → MayBeginOrJoin frames k (stretch_of (past 0 k)) → Joined k
+  joined_by k lt e (inl may) =
+      absurd (both_ways ((bits 0).joins k) (m.joins k lt ∙ joins_none frames k (stretch_of (past 0 k)) (sampled Dominant (frames k) (m.handed 0 k)) may) e)
+  joined_by k lt e (inr two) =
+      (let h = some_of (begun_head two.0 (m.handed 0 k).mode (slice_get (frames k) (m.handed 0 k).which)) (sym (third_joins k two.0 lt two.1) ∙ e) in
+      record {
+        frame = h.0;
+        handed = head_given two.0 (m.handed 0 k).mode (slice_get (frames k) (m.handed 0 k).which) h.0 h.1;
+        silent = m.drives 0 k (omega arith) lt ∙ ap (λ y. is_dominant (drive_of y)) two.1;
+        first = third_takes k two.0 lt two.1 ∙ ap (λ c. stretch_by (Framing c) (Dominant ∷ [])) h.1 ∙ ap (stretch_by (Framing (Some h.0))) (sym own_first);
+      })
+
+  -- at the bit before
+  back : (n k : ℕ) (h : Content) → suc n < total → AllRight s bits drove (suc n) → stuffed_end (own (suc n)) ≡ None → k < s.count → Sends (suc (suc n)) k h → Sends (suc n) k h
+  back n k h less right none lt x =
       (let f = framed n (omega arith) (all_before n right) (none_before (own n) (bit n) none) in
       let each = f.each k (let c = count_is (suc n) in omega arith) in
       let e = next_stretch (suc n) k each.0 (own (suc n)) lt each.1 none in
@@ -358,10 +455,10 @@ module _ (steps : StayInStep) (errors : FindNoErrors) (winner : LeastWins) (stuf
         | inr r ↦ absurd (not_both_roles (frame_role (Some h) (own (suc (suc n)))) x.1 (role_receives (Some h) (own (suc n)) (bit (suc n)) r))
       ]
 
-  first_sends : (n k : ℕ) (h : Content) → n < total → AllRight s bits drove n → stuffed_end (own n) ≡ None → k < s.count → Sends (suc n) k h → Sends 0 k h
-  first_sends zero k h less right none lt x = back zero k h less right none lt x
+  first_sends : (n k : ℕ) (h : Content) → n < total → AllRight s bits drove n → stuffed_end (own n) ≡ None → k < s.count → Sends (suc n) k h → Begun k h
+  first_sends zero k h less right none lt x = begun_by k h lt less x (m.begin k lt)
   first_sends (suc n) k h less right none lt x =
-      first_sends n k h (omega arith) (all_before n right) (none_before (own n) (bit n) none) lt (back (suc n) k h less right none lt x)
+      first_sends n k h (omega arith) (all_before n right) (none_before (own n) (bit n) none) lt (back n k h less right none lt x)
 
   -- what it drives is on the bus, if it has found that
   carries : (n k : ℕ) (h : Content) → n < total → AllRight s bits drove n → stuffed_end (own n) ≡ None → k < s.count → Sends n k h → FoundSent h (own (suc n)) (suc n)
@@ -393,19 +490,18 @@ module _ (steps : StayInStep) (errors : FindNoErrors) (winner : LeastWins) (stuf
 
   still : (n k : ℕ) (h : Content) → n < total → AllRight s bits drove n → stuffed_end (own n) ≡ None → k < s.count → Sends (suc n) k h → still_sends s bits (suc n) k ≡ true
   still zero k h less right none lt x =
-      (let d : (bits 0).drives k ≡ true = carries 0 k h less right none lt (back 0 k h less right none lt x) (found 0 less right none k h lt x) ∙ first_dominant in
+      (let d : has_sent bits 0 k ≡ true = (begun_by k h lt less x (m.begin k lt)).sent in
       ap (λ b. b && (b || not (bus_bit s bits 0))) d)
   still (suc n) k h less right none lt x =
-      (let before = back (suc n) k h less right none lt x in
+      (let before = back n k h less right none lt x in
       let d = carries (suc n) k h less right none lt before (found (suc n) less right none k h lt x) in
       let old = still n k h (omega arith) (all_before n right) (none_before (own n) (bit n) none) lt before in
       ap (λ b. b && ((bits (suc n)).drives k || not (bus_bit s bits (suc n)))) old ∙ ap (λ b. b || not (bus_bit s bits (suc n))) d ∙ or_not_self (bus_bit s bits (suc n)))
 
   -- the head stays
-  kept_head : (n k : ℕ) (h : Content) → n < total → AllRight s bits drove n → stuffed_end (own n) ≡ None → k < s.count → at_wire 0 k ≡ stretch_by (Framing (Some h)) []
+  kept_head : (n k : ℕ) (h : Content) → n < total → AllRight s bits drove n → stuffed_end (own n) ≡ None → k < s.count → at_wire 1 k ≡ stretch_by (Framing (Some h)) (own 1)
       → at_wire (suc n) k ≡ stretch_by (Framing (Some h)) (own (suc n))
-  kept_head zero k h less right none lt e =
-      next_stretch 0 k (Some h) [] lt e none ∙ ap (λ l. stretch_by (Framing (Some h)) (l ∷ [])) (bus_is 0 (omega arith) agree_first)
+  kept_head zero k h less right none lt e = e
   kept_head (suc n) k h less right none lt e =
       next_stretch (suc n) k (Some h) (own (suc n)) lt (kept_head n k h (omega arith) (all_before n right) (none_before (own n) (bit n) none) lt e) none
       ∙ ap (λ l. stretch_by (Framing (Some h)) (own (suc n) ++ l ∷ [])) (bus_is (suc n) (omega arith) (agree (suc n) (omega arith) right))
@@ -434,7 +530,7 @@ module _ (steps : StayInStep) (errors : FindNoErrors) (winner : LeastWins) (stuf
           lost_cases (is_stuff (own (suc (suc n))) (length (own (suc n)))) (is_arbitration (bits_of h) (length (destuffed_bits (own (suc (suc n))) (length (own (suc n))))))
           (sent_at h (own (suc (suc n))) (length (own (suc n)))) (at (own (suc (suc n))) (length (own (suc n)))) which
 
-  role_there : (n k : ℕ) (h : Content) → n < total → AllRight s bits drove n → stuffed_end (own n) ≡ None → k < s.count → at_wire 0 k ≡ stretch_by (Framing (Some h)) []
+  role_there : (n k : ℕ) (h : Content) → n < total → AllRight s bits drove n → stuffed_end (own n) ≡ None → k < s.count → at_wire 1 k ≡ stretch_by (Framing (Some h)) (own 1)
       → still_sends s bits (suc n) k ≡ true → frame_role (Some h) (own (suc n)) ≡ Tx
   role_there zero k h less right none lt e sends = role_first h (bit 0)
   role_there (suc n) k h less right none lt e sends =
@@ -444,14 +540,14 @@ module _ (steps : StayInStep) (errors : FindNoErrors) (winner : LeastWins) (stuf
       let role = role_there n k h (omega arith) before old_none lt e parts.0 in
       role_step n k h less right none lt (kept_head n k h (omega arith) before old_none lt e, role) parts.1)
 
-  began : (n k : ℕ) → still_sends s bits n k ≡ true → (bits 0).drives k ≡ true
+  began : (n k : ℕ) → still_sends s bits n k ≡ true → has_sent bits 0 k ≡ true
   began zero k e = e
-  began (suc n) k e = began n k (and_parts (still_sends s bits n k) ((bits n).drives k || not (bus_bit s bits n)) e).0
+  began (suc n) k e = began n k (and_parts (still_sends s bits n k) (has_sent bits n k || not (bus_bit s bits n)) e).0
 
   sends_now : (n k : ℕ) → n < total → AllRight s bits drove n → stuffed_end (own n) ≡ None → k < s.count → still_sends s bits (suc n) k ≡ true
       → (h : Content) × Has frames k h × Sends (suc n) k h
   sends_now n k less right none lt e =
-      (let d = due k lt (began (suc n) k e) in (d.0, d.1, (kept_head n k d.0 less right none lt d.2, role_there n k d.0 less right none lt d.2 e)))
+      (let d = begins_with k lt (began (suc n) k e) (m.begin k lt) in (d.0, d.1, (kept_head n k d.0 less right none lt d.2, role_there n k d.0 less right none lt d.2 e)))
 
   -- how many bits have passed since an edge
   since_most : (n : ℕ) → since_edge s bits n ≤ n
@@ -542,6 +638,21 @@ module _ (steps : StayInStep) (errors : FindNoErrors) (winner : LeastWins) (stuf
         still n k which.0 less right none lt
         (each.1 ∙ ap (λ c. stretch_by (Framing c) (own (suc n))) which.1, ap (λ c. frame_role c (own (suc n))) (sym which.1) ∙ which.2))
 
+    -- what a station that has joined the start of frame sends
+    pub joins_on : (k : ℕ) → k < s.count → RightUpTo s bits drove (suc n) k → (bits 0).joins k ≡ true → JoinsOn s bits frames past m.handed n k
+    joins_on k lt good e =
+        (let j = joined_by k lt e (m.begin k lt) in
+        let there = kept_head n k j.frame less right none lt j.first in
+        record {
+          frame = j.frame;
+          handed = j.handed;
+          silent = j.silent;
+          framing = ap stretch_of (sym (right_one k lt good)) ∙ there;
+          sends = ap (λ b. b && (b || not (bus_bit s bits 0))) (or_right ((bits 0).drives k) ((bits 0).joins k) e);
+          role = λ sends. role_there n k j.frame less right none lt j.first sends;
+          still = λ role. still n k j.frame less right none lt (there, role);
+        })
+
     pub goes : GoesByMachines s bits drove frames past n
     goes = record {
       few = few_there;
@@ -555,13 +666,6 @@ module _ (steps : StayInStep) (errors : FindNoErrors) (winner : LeastWins) (stuf
     }
 
   -- the end of what is stuffed
-  has_own : (k : ℕ) (h : Content) → k < s.count → Sends 0 k h → Has frames k h
-  has_own k h lt x = by (m.begin k lt)
-    where
-      by : MayBegin frames k (stretch_of (past 0 k)) → Has frames k h
-      by (inl idle) = absurd (not_idle (Some h) (sym idle ∙ ap (λ y. y.sort) (sym (ap stretch_of (agree_first k lt)) ∙ x.0)))
-      by (inr due) = subst (Has frames k) (some_same due.0 h (same_head (Some due.0) (Some h) (ap (λ y. y.sort) (sym due.2 ∙ sym (ap stretch_of (agree_first k lt)) ∙ x.0)))) due.1
-
   not_ended : (n : ℕ) → stuffed_end (own (suc n)) ≡ Some (suc n) → (o : Option ℕ) → stuffed_end (own n) ≡ o → stuffed_end (own n) ≡ None
   not_ended n end None e = e
   not_ended n end (Some place) e =
@@ -588,7 +692,7 @@ module _ (steps : StayInStep) (errors : FindNoErrors) (winner : LeastWins) (stuf
       let low = f.sender.1 in
       let lt : k < s.count = omega arith in
       let x : Sends (suc n) k h = (f.sender.3.framing, f.sender.3.role) in
-      let has = has_own k h lt (first_sends n k h (omega arith) before none lt x) in
+      let has = (first_sends n k h (omega arith) before none lt x).has in
       let one = one_winner (suc n) in
       let alone : (j : ℕ) (a : Content) → j < s.count → Sends (suc n) j a → j ≡ k =
       λ j a inside y. one.alone (own (suc n)) (suc n) j k a h (omega arith) (omega arith) end (is_sender (suc n) j a y) (is_sender (suc n) k h x) in
@@ -603,7 +707,7 @@ module _ (steps : StayInStep) (errors : FindNoErrors) (winner : LeastWins) (stuf
         sends = still n k h (omega arith) before none lt x;
         alone = λ j inside other. false_from_ne_true (still_sends s bits (suc n) j)
             (λ e. (let y = sends_now n j (omega arith) before none inside e in other (alone j y.0 inside y.2)));
-        beats = λ j inside other drives. (let d = due j inside drives in
+        beats = λ j inside other begins. (let d = begins_with j inside begins (m.begin j inside) in
             let there = kept_head n j d.0 (omega arith) before none inside d.2 in (
               d.0,
               d.1,

@@ -207,15 +207,18 @@ module _ (setup : NodeSetup) (levels : ℕ → Level) (node : ℕ → History) (
 
       -- the sample
       module _ (lv : Level) (beat : beat_at S' ≡ Sample lv) (next : Stretch) (counts_first : counts_of (node (suc R)).happened ≡ no_counts) (found : levels S' ≡ lv)
-          (takes : (z : Sampled) → z.level ≡ lv → (is_fine (judged X z).happened ≡ true) × (stretch_after X (Given z) ≡ next)) where
+          (takes : (z : Sampled) → z ≡ sampled_next setup (node S') (levels S') → z.mode ≡ Active → z.level ≡ lv → (is_fine (judged X z).happened ≡ true) × (stretch_after X (Given z) ≡ next)) where
         last : Same S'
         last = same_at S' longer (omega arith)
 
         abbrev given : Sampled
         given = sampled_next setup (node S') (levels S')
 
+        mode_then : given.mode ≡ Active
+        mode_then = ap mode_of (ap counts_of last.happened ∙ counts_first)
+
         given_takes : (is_fine (judged X given).happened ≡ true) × (stretch_after X (Given given) ≡ next)
-        given_takes = takes given found
+        given_takes = takes given refl mode_then found
 
         at_stretch : stretch_of (node S').inputs ≡ X
         at_stretch = ap stretch_of last.inputs ∙ stretch_first
@@ -231,9 +234,6 @@ module _ (setup : NodeSetup) (levels : ℕ → Level) (node : ℕ → History) (
             fold-append counts_after no_counts (node S').happened (judgement.happened ∷ [])
             ∙ ap (λ c. counts_after c judgement.happened) (ap counts_of last.happened ∙ counts_first)
             ∙ fine_counts judgement.happened (ap (λ t. is_fine (judged t given).happened) at_stretch ∙ given_takes.0)
-
-        mode_then : given.mode ≡ Active
-        mode_then = ap mode_of (ap counts_of last.happened ∙ counts_first)
 
         none_off : switched_off given.mode (mode_of (counts_of ((node S').happened ++ judgement.happened ∷ []))) ≡ []
         none_off =
@@ -343,13 +343,13 @@ module _ (setup : NodeSetup) (levels : ℕ → Level) (node : ℕ → History) (
     pub goes_to_next : GoesToNext s o i levels node n
     goes_to_next =
         let seen = all_seen setup levels node run (s.lengths i) segments S S' X drives at.stretch drive_first passes longer (level_of (bus_bit s (expected_bits s o) (suc n))) bit.samples.beat next_of
-        at.counts found takes in
+        at.counts found (λ z same active e. takes z e) in
         let there = stretch_there setup levels node run (s.lengths i) segments S S' X drives at.stretch drive_first passes longer (level_of (bus_bit s (expected_bits s o) (suc n))) bit.samples.beat next_of
-        at.counts found takes in
+        at.counts found (λ z same active e. takes z e) in
         let counts = counts_there setup levels node run (s.lengths i) segments S S' X drives at.stretch drive_first passes longer (level_of (bus_bit s (expected_bits s o) (suc n))) bit.samples.beat next_of
-        at.counts found takes in
+        at.counts found (λ z same active e. takes z e) in
         let drive = drive_there setup levels node run (s.lengths i) segments S S' X drives at.stretch drive_first passes longer (level_of (bus_bit s (expected_bits s o) (suc n))) bit.samples.beat next_of
-        at.counts found takes ∙ ap level_of (drives_after S' bit.starts.inside) in
+        at.counts found (λ z same active e. takes z e) ∙ ap level_of (drives_after S' bit.starts.inside) in
         let same = same_at setup levels node run (s.lengths i) segments S S' X drives at.stretch drive_first passes longer in
         record {
           bit = record {

@@ -1,11 +1,12 @@
 -- A node that rests begins a frame as is expected of it.
 use Rattle.std.proofs.Common.{◌≡◌, ◌≢◌, ◌∙◌, inl, inr, refl, sym, ap, subst, ℕ, zero, suc, ◌+◌, ◌-◌, ◌<◌, ◌≤◌, ◌&&◌, cond, Bool, true, false, List, [], ◌∷◌, ◌++◌, Some, None, arith}
-use Rattle.std.specs.Prelude.{nat_le, nat_lt}
+use Rattle.std.specs.Prelude.{nat_le, nat_lt, slice_get}
 use Rattle.std.proofs.lemmas.Bool.{and_parts, both_ways, cases_Bool, cases_eq, cases_lt, false_from_ne_true, le-leb, leb-true, lt-leb}
 use Rattle.wl_level.specs.declared.Level.{Level}
 use Rattle.wl_level.specs.declared.Level.TheVariants.{Dominant, Recessive}
 use Rattle.wl_level.specs.Levels.{is_dominant, level_of}
-use Rattle.wl_confine.specs.Counts.{counts_of, no_counts}
+use Rattle.wl_confine.specs.declared.Mode.TheVariants.{Active}
+use Rattle.wl_confine.specs.Counts.{counts_of, mode_of, no_counts}
 use Rattle.wl_confine.specs.declared.Happened.TheVariants as happens
 use Rattle.wl_segments.specs.Lengths.{Lengths, bit_quanta, sample_at}
 use Rattle.wl_sync.specs.declared.Beat.{Beat}
@@ -26,7 +27,7 @@ use Rattle.wl_machine.specs.Judged.{awaits_by, awaits_start, is_idle_sort, judge
 use Rattle.wl_machine.specs.States.{stretch_by}
 use Rattle.wl_machine.proofs.Callers.{stretch_next}
 use Rattle.wl_node.specs.declared.setup.NodeSetup.{NodeSetup}
-use Rattle.wl_node.specs.History.{is_integration, History}
+use Rattle.wl_node.specs.History.{handed, head_at_next, is_integration, sampled_next, History}
 use Rattle.wl_phase.specs.Clocks.{steady_tick}
 use Rattle.wl_phase.specs.Ways.{ByTheBook, WayLaws}
 use Rattle.wl_phase.specs.InStep.{seen_before}
@@ -36,14 +37,14 @@ use Rattle.wl_wire.specs.Wire.{sampled}
 use Rattle.wl_buses.specs.OneFrame.Stations.{AreStations, HaveRoom, Stations}
 use Rattle.wl_buses.specs.OneFrame.Starts.{BeginsAlone, Drives, FollowsHard, reaches_at}
 use Rattle.wl_buses.specs.OneFrame.Course.{bus_bit}
-use Rattle.wl_buses.specs.OneFrame.Machines.{MayBegin, bus_levels}
+use Rattle.wl_buses.specs.OneFrame.Machines.{HasTwoBits, MayBeginOrJoin, bus_levels}
 use Rattle.wl_buses.specs.OneFrame.Clocked.{BitIs, BitPlaceLaws, BitStartLaws, EdgeLaws, NoEdgeLaws, SamplesBy, StartsOnce}
 use Rattle.wl_buses.specs.OneFrame.Expected.{IsOutset, Outset, expected_bits, expected_drove, expected_sample, past_at, wants}
-use Rattle.wl_buses.specs.OneFrame.Nodes.{IsInBit, IsRun, clock_sees}
+use Rattle.wl_buses.specs.OneFrame.Nodes.{HandsAsExpected, IsInBit, IsRun, clock_sees}
 use Rattle.wl_buses.specs.OneFrame.Lines.{BeginsAfter}
 use Rattle.wl_buses.proofs.OneFrame.Calm.{LevelGoes, SampleGoes}
 use Rattle.wl_buses.proofs.OneFrame.Counting.{plain_before, samples_start, starts_there, unsampled_before}
-use Rattle.wl_buses.proofs.OneFrame.Expecting.{driven_at, drives_are, from_all, sent_at, wants_sends}
+use Rattle.wl_buses.proofs.OneFrame.Expecting.{driven_at, drives_are, from_all, joins_are, sent_at, wants_sends}
 use Rattle.wl_buses.proofs.OneFrame.Ideal.{fine}
 use Rattle.wl_buses.proofs.OneFrame.Machines.{FindNoErrors, LeastWins, SendStuffed, SixOrFront, StayInStep, TenHaveEdge, on_after}
 use Rattle.wl_buses.proofs.OneFrame.Measures.{tick_next}
@@ -58,15 +59,17 @@ idle_takes s z e d = (
       ∙ ap (λ l. or_next (cond (is_dominant l) (begins happens.Nothing (Framing None) (l ∷ [])) (idle_on z.head)).next (stretch_by Idle (s.own ++ l ∷ []))) d,
 )
 
-waits : (frames : ℕ → List Content) (k : ℕ) (x : Stretch) → MayBegin frames k x → awaits_start x ≡ true
-waits frames k x (inl idle) = ap (λ q. awaits_by q x.own) idle
-waits frames k x (inr due) = ap awaits_start due.2
+waits : (frames : ℕ → List Content) (k : ℕ) (x : Stretch) → MayBeginOrJoin frames k x → awaits_start x ≡ true
+waits frames k x (inl (inl idle)) = ap (λ q. awaits_by q x.own) idle
+waits frames k x (inl (inr due)) = ap awaits_start due.2
+waits frames k x (inr two) = ap awaits_start two.1
 
 -- A node is at rest: it has sampled a recessive bit with its place 0 at the quantum `rest`, as before a frame. What it has done before doesn't matter.
-pub record IsAtRest (s : Stations) (o : Outset) (i : ℕ) (levels : ℕ → Level) (node : ℕ → History) (rest : ℕ) : Type 0 where
+pub record IsAtRest (s : Stations) (o : Outset) (i : ℕ) (setup : NodeSetup) (levels : ℕ → Level) (node : ℕ → History) (rest : ℕ) : Type 0 where
   pub sampled : SamplesBy (s.lengths i) (clock_sees levels node) (rest + sample_at (s.lengths i)) Recessive
   pub clock : clock_after (s.lengths i) (seen_before (clock_sees levels node) (suc (rest + sample_at (s.lengths i)))) ≡ steady_clock (s.lengths i)
   pub stretch : stretch_of (node (suc (rest + sample_at (s.lengths i)))).inputs ≡ stretch_of (o.past i)
+  pub takes : HasTwoBits (stretch_of (o.past i)) → HandsAsExpected s o i setup node
   pub counts : counts_of (node (suc (rest + sample_at (s.lengths i)))).happened ≡ no_counts
   pub drive : (node (suc (rest + sample_at (s.lengths i)))).drive ≡ Recessive
 
@@ -75,7 +78,7 @@ module _ (steps : StayInStep) (errors : FindNoErrors) (winner : LeastWins) (stuf
     (s : Stations) (are : AreStations s) (room : HaveRoom s) (o : Outset) (is : IsOutset s o) (total : ℕ) (some : 0 < total)
     (valid : (n : ℕ) → n < total → stuffed_end (bus_levels s (expected_bits s o) n) ≡ None)
     (i : ℕ) (inside : i < s.count) (setup : NodeSetup) (segments : setup.segments ≡ s.lengths i) (levels : ℕ → Level) (node : ℕ → History) (run : IsRun setup levels node)
-    (rest : ℕ) (r : IsAtRest s o i levels node rest) (b : BeginsAfter s o i rest)
+    (rest : ℕ) (r : IsAtRest s o i setup levels node rest) (b : BeginsAfter s o i rest)
     (finds : (q : ℕ) → rest + sample_at (s.lengths i) < q → q ≤ expected_sample s o 0 i → levels q ≡ level_of (driven s.count s.delay (expected_drove s o total) i (steady_tick (s.clocks i) q))) where
   abbrev drove : ℕ → ℕ → Bool
   drove = expected_drove s o total
@@ -213,19 +216,43 @@ module _ (steps : StayInStep) (errors : FindNoErrors) (winner : LeastWins) (stuf
     next_is : next ≡ stretch_after X (Given first)
     next_is = stretch_next (o.past i) (Given first)
 
-    takes_by : MayBegin o.frames i X → (z : Sampled) → z.level ≡ Dominant → (is_fine (judged X z).happened ≡ true) × (stretch_after X (Given z) ≡ next)
-    takes_by (inl idle) z e = (let one = idle_takes X z idle e in let two = idle_takes X first idle first_level in (one.0, one.1 ∙ sym two.1 ∙ sym next_is))
-    takes_by (inr due) z e =
-        (let f : is_fine (judged X first).happened ≡ true =
+    first_fine : is_fine (judged X first).happened ≡ true
+    first_fine =
         ap (λ c. is_fine (judged X (sampled (level_of c) (o.frames i) (o.handed 0 i))).happened) bus_wants
-        ∙ fine steps errors winner stuffed six ten s o is (expected_bits s o) (drives_are steps errors winner stuffed six ten s are room o is) 0 i (o.handed 0 i) (valid 0 some) inside in
+        ∙ fine steps errors winner stuffed six ten s o is (expected_bits s o) (drives_are steps errors winner stuffed six ten s are room o is)
+        (joins_are steps errors winner stuffed six ten s are room o is) 0 i (o.handed 0 i) (valid 0 some) inside
+
+    -- in the third bit of its intermission its queue hands it what is expected
+    given_first : HandsAsExpected s o i setup node → (z : Sampled) → z ≡ sampled_next setup (node last) (levels last) → z.mode ≡ Active → z.level ≡ Dominant → z ≡ first
+    given_first hands z same active e =
+        same ∙ (λ j. record { level = level_is j; head = head_is j; mode = mode_is j }) ∙ ap (λ v. sampled v (o.frames i) (o.handed 0 i)) (sym first_level)
+      where
+        level_is : levels last ≡ Dominant
+        level_is = sym (ap (λ y. y.level) same) ∙ e
+
+        head_is : handed (levels last) setup.segments.sync (head_at_next setup (node last)) ≡ slice_get (o.frames i) (o.handed 0 i).which
+        head_is =
+            ap (λ v. handed v setup.segments.sync (head_at_next setup (node last))) level_is
+            ∙ ap (λ m. handed Dominant m.sync (head_at_next setup (node last))) segments ∙ ap (λ r. handed Dominant r (head_at_next setup (node last))) book.book ∙ hands.queue
+
+        mode_is : mode_of (counts_of (node last).happened) ≡ (o.handed 0 i).mode
+        mode_is = sym (ap (λ y. y.mode) same) ∙ active ∙ sym hands.active
+
+    takes_by : MayBeginOrJoin o.frames i X → (z : Sampled) → z ≡ sampled_next setup (node last) (levels last) → z.mode ≡ Active → z.level ≡ Dominant
+        → (is_fine (judged X z).happened ≡ true) × (stretch_after X (Given z) ≡ next)
+    takes_by (inr two) z same active e =
+        (let given : z ≡ first = given_first (r.takes two) z same active e in
+        (ap (λ y. is_fine (judged X y).happened) given ∙ first_fine, ap (λ y. stretch_after X (Given y)) given ∙ sym next_is))
+    takes_by (inl (inl idle)) z same active e = (let one = idle_takes X z idle e in let two = idle_takes X first idle first_level in (one.0, one.1 ∙ sym two.1 ∙ sym next_is))
+    takes_by (inl (inr due)) z same active e =
+        (let f : is_fine (judged X first).happened ≡ true = first_fine in
         let g = fine_same X (Some due.0) [] first z due.2 refl (first_level ∙ sym e) f in (
           g,
           on_after X z (Some due.0) [] due.2 refl g ∙ ap (λ v. stretch_by (Framing (Some due.0)) (v ∷ [])) (e ∙ sym first_level)
               ∙ sym (on_after X first (Some due.0) [] due.2 refl f) ∙ sym next_is,
         ))
 
-    takes : (z : Sampled) → z.level ≡ Dominant → (is_fine (judged X z).happened ≡ true) × (stretch_after X (Given z) ≡ next)
+    takes : (z : Sampled) → z ≡ sampled_next setup (node last) (levels last) → z.mode ≡ Active → z.level ≡ Dominant → (is_fine (judged X z).happened ≡ true) × (stretch_after X (Given z) ≡ next)
     takes = takes_by (is.may i inside)
 
     -- so it begins

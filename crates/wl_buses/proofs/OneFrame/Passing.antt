@@ -7,9 +7,9 @@ use Rattle.wl_topology.proofs.Callers.{any_from}
 use Rattle.wl_phase.specs.Clocks.{steady_tick}
 use Rattle.wl_phase.specs.Ways.{moved_to}
 use Rattle.wl_buses.specs.OneFrame.Stations.{Stations, AreStations, AreClose, HaveRoom, ReachesBy}
-use Rattle.wl_buses.specs.OneFrame.Starts.{Start, Drives, BeginsAlone, FollowsHard, FollowsSoft, AreSenders, reaches_at}
+use Rattle.wl_buses.specs.OneFrame.Starts.{Start, Drives, BeginsAlone, FollowsHard, FollowsSoft, AreAllowed, AreSenders, reaches_at}
 use Rattle.wl_buses.specs.OneFrame.OneBit.{OneBit, AreRight, IsRight, sampled_at}
-use Rattle.wl_buses.specs.OneFrame.Course.{IsCourse, IsSampled, RightUpTo, begins_with_edge, bus_bit, since_edge, still_sends}
+use Rattle.wl_buses.specs.OneFrame.Course.{IsCourse, IsSampled, RightUpTo, begins_with_edge, bus_bit, has_sent, since_edge, still_sends}
 use Rattle.wl_buses.proofs.OneFrame.Measures.{drifted, tick_next}
 use Rattle.wl_buses.proofs.OneFrame.Starting.{frame_close}
 use Rattle.wl_buses.proofs.OneFrame.Nearing.{bit_close}
@@ -40,9 +40,17 @@ begun_by s are b k there (inl itself) = inl itself.from
 begun_by s are b k there (inr soft) =
     inr (soft.by, soft.finds.by, (λ e. (let seen = soft.finds.finds.seen in let up = tick_next s are k there soft.found (b.from k) (soft.not_before e) in omega arith)))
 
+-- who drives a bit dominant has sent it
+pub drives_sent : (bits : ℕ → Start) (n k : ℕ) → (bits n).drives k ≡ true → has_sent bits n k ≡ true
+drives_sent bits zero k e = or_left ((bits 0).drives k) ((bits 0).joins k) e
+drives_sent bits (suc n) k e = e
+
+pub drives_first : (s : Stations) (bits : ℕ → Start) → AreAllowed s (has_sent bits 0) → AreAllowed s (bits 0).drives
+drives_first s bits allowed k there e = allowed k there (drives_sent bits 0 k e)
+
 -- who sends still has sent before, and may send
 pub still_before : (s : Stations) (bits : ℕ → Start) (n k : ℕ) → still_sends s bits (suc n) k ≡ true → still_sends s bits n k ≡ true
-still_before s bits n k e = (and_parts (still_sends s bits n k) ((bits n).drives k || not (bus_bit s bits n)) e).0
+still_before s bits n k e = (and_parts (still_sends s bits n k) (has_sent bits n k || not (bus_bit s bits n)) e).0
 
 pub still_allowed : (s : Stations) (bits : ℕ → Start) → ((k : ℕ) → k < s.count → still_sends s bits 0 k ≡ true → s.may_send k ≡ true) → (n k : ℕ) → k < s.count
     → still_sends s bits n k ≡ true → s.may_send k ≡ true
@@ -63,7 +71,7 @@ module _ (s : Stations) (are : AreStations s) (room : HaveRoom s) (bits : ℕ �
   -- what station k drives is recessive from before the sample of bit n at station i up to a tick
   pub record IsHeld (n i k end : ℕ) : Type 0 where
     pub begin : ℕ
-    pub before : begin + s.delay k i ≤ sample n i
+    pub before : begin ≤ sample n i - s.delay k i
     pub recessive : (t : ℕ) → begin ≤ t → t < end → drove k t ≡ false
 
   -- what has been shown when the samples of bit n come
@@ -71,20 +79,20 @@ module _ (s : Stations) (are : AreStations s) (room : HaveRoom s) (bits : ℕ �
     pub close : AreClose s (sends (suc n)) (since n) (bits n).place
     pub right : (i : ℕ) → i < s.count → RightUpTo s bits drove n i
     pub held : (i k : ℕ) → i < s.count → k < s.count → sends n k ≡ true → (bits n).drives k ≡ false → IsHeld n i k (steady_tick (s.clocks k) ((bits (suc n)).from k))
-    pub lost : (i k : ℕ) → i < s.count → k < s.count → (bits 0).drives k ≡ true → sends n k ≡ false → IsHeld n i k (until k)
+    pub lost : (i k : ℕ) → i < s.count → k < s.count → sends 0 k ≡ true → sends n k ≡ false → IsHeld n i k (until k)
 
   -- who sends still
   abbrev pub sent_before : (n k : ℕ) → sends (suc n) k ≡ true → sends n k ≡ true
   sent_before = still_before s bits
 
-  pub sent_as : (n k : ℕ) → bus_bit s bits n ≡ true → sends (suc n) k ≡ true → (bits n).drives k ≡ true
-  sent_as n k bus e = elim (or_cases ((bits n).drives k) (not (bus_bit s bits n)) (and_parts (sends n k) ((bits n).drives k || not (bus_bit s bits n)) e).1) [
+  pub sent_as : (n k : ℕ) → bus_bit s bits n ≡ true → sends (suc n) k ≡ true → has_sent bits n k ≡ true
+  sent_as n k bus e = elim (or_cases (has_sent bits n k) (not (bus_bit s bits n)) (and_parts (sends n k) (has_sent bits n k || not (bus_bit s bits n)) e).1) [
     | inl drives ↦ drives
     | inr recessive ↦ (let f : not (bus_bit s bits n) ≡ false = ap not bus in cc)
   ]
 
   sends_on : (n k : ℕ) → sends n k ≡ true → (bits n).drives k ≡ true → sends (suc n) k ≡ true
-  sends_on n k e f = and_from (sends n k) ((bits n).drives k || not (bus_bit s bits n)) e (or_left ((bits n).drives k) (not (bus_bit s bits n)) f)
+  sends_on n k e f = and_from (sends n k) (has_sent bits n k || not (bus_bit s bits n)) e (or_left (has_sent bits n k) (not (bus_bit s bits n)) (drives_sent bits n k f))
 
   gives_way : (n k : ℕ) → sends n k ≡ true → sends (suc n) k ≡ false → (bits n).drives k ≡ false
   gives_way n k e f = elim (cases_Bool ((bits n).drives k)) [
@@ -153,7 +161,7 @@ module _ (s : Stations) (are : AreStations s) (room : HaveRoom s) (bits : ℕ �
       → (sample n k < sample n i → IsRight s (bits n) drove k) → s.delay k i ≤ sample n i → drove k (sample n i - s.delay k i) ≡ false
   quiet_at n i k less inside there r gone right later = elim (cases_Bool (sends n k)) [
     | inl sender ↦ quiet_now n i k less inside there r sender gone right later
-    | inr none ↦ elim (cases_Bool ((bits 0).drives k)) [
+    | inr none ↦ elim (cases_Bool (sends 0 k)) [
       | inl began ↦ quiet_held n i k (until k) inside there (r.lost i k inside there began none) later (is.over n i k less inside there)
       | inr listens ↦ is.listens n i k less inside there listens (r.right k there) right later
     ]
@@ -180,9 +188,10 @@ module _ (s : Stations) (are : AreStations s) (room : HaveRoom s) (bits : ℕ �
   first : 0 < length → Reached 0
   first some = record {
     close =
-        fewer s s.may_send (sends 1) 0 (bits 0).place (λ k there e. is.allowed k there (sent_before 0 k e)) (frame_close s are (bits 0) is.allowed is.begin);
+        fewer s s.may_send (sends 1) 0 (bits 0).place (λ k there e. is.allowed k there (sent_before 0 k e)) (frame_close s are (bits 0) (drives_first s bits is.allowed) is.begin);
     right = λ i inside m less. absurd (omega arith);
-    held = λ i k inside there sender recessive. cc;
+    held = λ i k inside there sender recessive.
+        record { begin = 0; before = omega arith; recessive = λ t from less. is.joined k t some there sender recessive less };
     lost = λ i k inside there began none. cc;
   }
 
@@ -276,7 +285,7 @@ module _ (s : Stations) (are : AreStations s) (room : HaveRoom s) (bits : ℕ �
         → IsHeld (suc n) i k (steady_tick (s.clocks k) ((bits (suc (suc n))).from k))
     held_plain i k inside there sender recessive plain = record {
       begin = steady_tick (s.clocks k) ((bits (suc n)).from k);
-      before = is_there s are room.samples (sends (suc n)) (since (suc n)) (let f = is.few (suc n) less in omega arith) (bits (suc n)) (λ k there e. still_allowed s bits is.allowed (suc n) k there e) (close_plain plain) i k inside there sender (is.plain n k less there right plain).1;
+      before = (let come = is_there s are room.samples (sends (suc n)) (since (suc n)) (let f = is.few (suc n) less in omega arith) (bits (suc n)) (λ k there e. still_allowed s bits is.allowed (suc n) k there e) (close_plain plain) i k inside there sender (is.plain n k less there right plain).1 in omega arith);
       recessive = λ t from before. is.drives (suc n) k t less there (right k there) sender from before ∙ recessive;
     }
 

@@ -1,6 +1,11 @@
 -- Worked stations, by computation.
-use Rattle.std.proofs.Common.{◌≡◌, ℕ, zero, suc, ◌+◌, Bool, true, false, [], ◌∷◌, Some, refl}
+use Rattle.std.proofs.Common.{◌≡◌, ℕ, zero, suc, ◌+◌, Bool, true, false, [], ◌∷◌, None, Some, refl}
+use Rattle.std.specs.Prelude.{◌==◌}
 use Rattle.wl_level.specs.declared.Level.TheVariants.{Dominant}
+use Rattle.wl_confine.specs.declared.Mode.TheVariants.{Active, Passive}
+use Rattle.wl_machine.specs.declared.state.Role.TheVariants.{Rx, Tx}
+use Rattle.wl_machine.specs.Stretch.Sort.{Framing, Idle, Intermission}
+use Rattle.wl_machine.specs.States.{sample_of}
 use Rattle.wl_phase.specs.Clocks.{steady_tick}
 use Rattle.wl_bound.specs.Families.{Bus}
 use Rattle.wl_bound.specs.Rooms.{beyond_jump, left_over}
@@ -10,10 +15,10 @@ use Rattle.wl_buses.specs.OneFrame.Acknowledged.{any_way, chased_way, gathered_w
 use Rattle.wl_buses.specs.OneFrame.Answers.{gathered}
 use Rattle.wl_buses.specs.OneFrame.Bounds.{bus_way, following_way}
 use Rattle.wl_buses.specs.OneFrame.Starts.{Start, reaches_at}
-use Rattle.wl_buses.specs.OneFrame.Course.{since_edge, still_sends}
-use Rattle.wl_buses.specs.OneFrame.Machines.{bus_levels}
+use Rattle.wl_buses.specs.OneFrame.Course.{has_sent, since_edge, still_sends}
+use Rattle.wl_buses.specs.OneFrame.Machines.{bus_levels, joins_by}
 use Rattle.wl_buses.specs.OneFrame.Expected.{from_after, from_found, place_found}
-use Rattle.wl_buses.proofs.BothProofs.Rows.{l, s}
+use Rattle.wl_buses.proofs.BothProofs.Rows.{c, l, s}
 
 -- in half ticks
 tick : shared_tick s 0 1 ≡ 2
@@ -55,7 +60,7 @@ places zero = 20
 places (suc i) = 19
 
 abbrev b : Start
-b = record { drives = λ i. true; due = λ i. 20 + i; place = places; from = λ i. 20 }
+b = record { drives = λ i. true; joins = λ i. false; due = λ i. 20 + i; place = places; from = λ i. 20 }
 
 edge : reaches_at s b 0 1 ≡ 209
 unfolding steady_tick
@@ -155,7 +160,7 @@ drives_in (suc (suc (suc n))) zero = true
 drives_in (suc n) (suc k) = false
 
 abbrev frame : ℕ → Start
-frame n = record { drives = drives_in n; due = dues; place = places; from = dues }
+frame n = record { drives = drives_in n; joins = λ i. false; due = dues; place = places; from = dues }
 
 lost : still_sends s frame 2 1 ≡ false
 lost = refl
@@ -171,3 +176,54 @@ no_edge_since = refl
 
 edge_there : since_edge s frame 3 ≡ 0
 edge_there = refl
+
+-- 0 begins a frame, and 1 joins it in the third bit of its intermission: it drives no start of frame. Then 0 sends recessive and 1 dominant, so that 0 has lost by bit 2.
+abbrev drives_joined : ℕ → ℕ → Bool
+drives_joined zero zero = true
+drives_joined (suc n) zero = false
+drives_joined zero (suc k) = false
+drives_joined (suc n) (suc k) = true
+
+abbrev joined : ℕ → Start
+joined n = record { drives = drives_joined n; joins = λ k. k == 1; due = dues; place = places; from = dues }
+
+joins_it : has_sent joined 0 1 ≡ true
+joins_it = refl
+
+sends_on : still_sends s joined 1 1 ≡ true
+sends_on = refl
+
+sends_later : still_sends s joined 2 1 ≡ true
+sends_later = refl
+
+began_it : still_sends s joined 1 0 ≡ true
+began_it = refl
+
+loses_to_it : still_sends s joined 2 0 ≡ false
+loses_to_it = refl
+
+-- without a frame it only listens
+abbrev listened : ℕ → Start
+listened n = record { drives = drives_joined n; joins = λ k. false; due = dues; place = places; from = dues }
+
+listens_only : still_sends s listened 1 1 ≡ false
+listens_only = refl
+
+-- who joins: a machine in the third bit of its intermission that is handed a frame, but not an error passive one after its own frame, and none that is idle or to begin a frame
+joins_handed : joins_by (Intermission Rx) (sample_of Dominant (Some c) Active) ≡ true
+joins_handed = refl
+
+joins_after_own : joins_by (Intermission Tx) (sample_of Dominant (Some c) Active) ≡ true
+joins_after_own = refl
+
+joins_suspended : joins_by (Intermission Tx) (sample_of Dominant (Some c) Passive) ≡ false
+joins_suspended = refl
+
+joins_none : joins_by (Intermission Rx) (sample_of Dominant None Active) ≡ false
+joins_none = refl
+
+joins_idle : joins_by Idle (sample_of Dominant (Some c) Active) ≡ false
+joins_idle = refl
+
+joins_begun : joins_by (Framing (Some c)) (sample_of Dominant (Some c) Active) ≡ false
+joins_begun = refl

@@ -19,7 +19,7 @@ use Rattle.wl_phase.specs.InStep.{seen_before}
 use Rattle.wl_buses.specs.OneFrame.Stations.{AreClose, AreStations, HaveRoom, Stations}
 use Rattle.wl_buses.specs.OneFrame.Starts.{BeginBit, BeginsAlone, Drives, FollowsSoft, Start, reaches_at}
 use Rattle.wl_buses.specs.OneFrame.OneBit.{IsRight, sampled_at}
-use Rattle.wl_buses.specs.OneFrame.Course.{IsCourse, begins_with_edge, bus_bit, since_edge, still_sends}
+use Rattle.wl_buses.specs.OneFrame.Course.{IsCourse, begins_with_edge, bus_bit, has_sent, since_edge, still_sends}
 use Rattle.wl_buses.specs.OneFrame.Machines.{bus_levels}
 use Rattle.wl_buses.specs.OneFrame.Clocked.{BitIs, EdgeLaws, FindsEdge, NoEdgeLaws, NoneSyncs, SamplesBy}
 use Rattle.wl_buses.specs.OneFrame.Expected.{HasSampled, IsOutset, Outset, SeesExpected, edge_start, expected_bits, expected_drove, expected_end, expected_sample, found_before, looks_up_to, most, settled, wants}
@@ -27,7 +27,7 @@ use Rattle.wl_buses.proofs.OneFrame.Expecting as expecting
 use Rattle.wl_buses.proofs.OneFrame.Expecting.{course, driven_at, drives_are, edge_is, few_at, from_all, may, place_low, plain_is, sent_at, wants_sends}
 use Rattle.wl_buses.proofs.OneFrame.Machines.{FindNoErrors, LeastWins, SendStuffed, SixOrFront, StayInStep, TenHaveEdge}
 use Rattle.wl_buses.proofs.OneFrame.Measures.{drifted, tick_next}
-use Rattle.wl_buses.proofs.OneFrame.Passing.{one_bit, sampled_bit}
+use Rattle.wl_buses.proofs.OneFrame.Passing.{drives_sent, one_bit, sampled_bit}
 use Rattle.wl_buses.proofs.OneFrame.Sampled.{is_there, next_later}
 use Rattle.wl_buses.proofs.OneFrame.Settling.{from_early, from_late, low}
 
@@ -70,8 +70,8 @@ module _ (steps : StayInStep) (errors : FindNoErrors) (winner : LeastWins) (stuf
   -- who drives a bit dominant sends on after it
   pub sends_on : (n k : ℕ) → n < length → k < s.count → wants s o n k ≡ true → sends (suc n) k ≡ true
   sends_on n k less there dominant =
-      and_from (sends n k) ((bits n).drives k || not (bus n)) (wants_sends steps errors winner stuffed six ten s are room o is length valid n k (omega arith) there dominant)
-      (or_left ((bits n).drives k) (not (bus n)) (wants_are n k ∙ dominant))
+      and_from (sends n k) (has_sent bits n k || not (bus n)) (wants_sends steps errors winner stuffed six ten s are room o is length valid n k (omega arith) there dominant)
+      (or_left (has_sent bits n k) (not (bus n)) (drives_sent bits n k (wants_are n k ∙ dominant)))
 
   pub on_bus : (n k : ℕ) → k < s.count → wants s o n k ≡ true → bus n ≡ true
   on_bus n k there dominant = any_from s.count k (bits n).drives there (wants_are n k ∙ dominant)
@@ -87,7 +87,7 @@ module _ (steps : StayInStep) (errors : FindNoErrors) (winner : LeastWins) (stuf
   due_there : (n i k : ℕ) → n < length → i < s.count → k < s.count → sends (suc n) k ≡ true → tick k (dues n k) + s.delay k i ≤ tick i (dues n i + sample_at (s.lengths i))
   due_there n i k less inside there sender =
       is_there s are room.samples (sends (suc n)) (suc (since_edge s bits n)) (let f = few_at steps errors winner stuffed six ten s are room o is n (valid n less) in omega arith)
-      (record { drives = λ k. true; due = dues n; place = dues n; from = dues n }) (λ w lt x. may steps errors winner stuffed six ten s are room o is (suc n) w lt x)
+      (record { drives = λ k. true; joins = λ k. false; due = dues n; place = dues n; from = dues n }) (λ w lt x. may steps errors winner stuffed six ten s are room o is (suc n) w lt x)
       (λ i k inside there other some. drifted s (since_edge s bits n) i k ((bits n).place i) ((bits n).place k) (close_at n less i k inside there other some))
       i k inside there sender refl
 

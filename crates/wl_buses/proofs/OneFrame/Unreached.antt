@@ -1,7 +1,8 @@
 -- Before a frame no station finds a dominant line.
-use Rattle.std.proofs.Common.{◌≡◌, inl, inr, ap, ℕ, suc, ◌+◌, ◌-◌, ◌<◌, ◌≤◌, ◌&&◌, true, false, None, arith}
+use Rattle.std.proofs.Common.{◌≡◌, ◌∙◌, inl, inr, ap, ℕ, zero, suc, ◌+◌, ◌-◌, ◌<◌, ◌≤◌, ◌&&◌, true, false, None, arith}
 use Rattle.std.specs.Prelude.{nat_le, nat_lt}
 use Rattle.std.proofs.lemmas.Bool.{and_parts, cases_eq, false_from_ne_true, leb-true}
+use Rattle.wl_segments.specs.Lengths.{sample_at}
 use Rattle.wl_topology.specs.Driven.{DrivenLaws, driven}
 use Rattle.wl_topology.proofs.Callers.{any_one}
 use Rattle.wl_machine.specs.Frames.{stuffed_end}
@@ -13,6 +14,7 @@ use Rattle.wl_buses.specs.OneFrame.Expected.{IsOutset, Outset, expected_bits, ex
 use Rattle.wl_buses.proofs.OneFrame.Expecting.{from_all, sent_at, wants_sends}
 use Rattle.wl_buses.proofs.OneFrame.Machines.{FindNoErrors, LeastWins, SendStuffed, SixOrFront, StayInStep, TenHaveEdge}
 use Rattle.wl_buses.proofs.OneFrame.Measures.{tick_next}
+use Rattle.wl_buses.proofs.OneFrame.Seeing.{not_before}
 
 module _ (steps : StayInStep) (errors : FindNoErrors) (winner : LeastWins) (stuffed : SendStuffed) (six : SixOrFront) (ten : TenHaveEdge) (laws : DrivenLaws)
     (s : Stations) (are : AreStations s) (room : HaveRoom s) (o : Outset) (is : IsOutset s o) (total : ℕ)
@@ -22,21 +24,29 @@ module _ (steps : StayInStep) (errors : FindNoErrors) (winner : LeastWins) (stuf
   abbrev tick : ℕ → ℕ → ℕ
   tick k n = steady_tick (s.clocks k) n
 
-  -- a bit that has reached it was driven by a station whose start of frame has
+  from_most : o.start.from i ≤ o.start.place i + sample_at (s.lengths i)
+  from_most = elim (is.begin i inside) [
+    | inl itself ↦ (let e = itself.from in omega arith)
+    | inr hard ↦ (let e = hard.from in let p = hard.place in let a = (are.line.book i inside).lengths.prop_low in omega arith)
+  ]
+
+  -- no start of frame has reached it, and no later bit either
   reached : (k n : ℕ) → k < s.count → n < total → wants s o n k ≡ true → tick k ((expected_bits s o n).from k) + s.delay k i ≤ tick i q → ⊥
-  reached k n there less dominant reach =
-      let first : o.start.drives k ≡ true =
-      sent_at steps errors winner stuffed six ten s are room o is 0 n k (omega arith) (wants_sends steps errors winner stuffed six ten s are room o is total valid n k (omega arith) there dominant) in
-      let up : tick k (o.start.from k) ≤ tick k ((expected_bits s o n).from k) =
-      from_all steps errors winner stuffed six ten s are room o is total valid 0 n k (omega arith) (omega arith) there in
-      elim (cases_eq k i) [
-        | inl own ↦
-            (let more = tick_next s are i inside q (o.start.from i) by_from in
-            let loop = are.line.later i i inside inside in
-            let f : reaches_at s o.start k i ≡ reaches_at s o.start i i = ap (λ j. reaches_at s o.start j i) own in
-            omega arith)
-        | inr other ↦ (let late = unfound k (record { inside = there; other = other; dominant = first }) in omega arith)
-      ]
+  reached k zero there less dominant reach = elim (cases_eq k i) [
+    | inl own ↦
+        (let more = tick_next s are i inside q (o.start.from i) by_from in
+        let loop = are.line.later i i inside inside in
+        let f : reaches_at s o.start k i ≡ reaches_at s o.start i i = ap (λ j. reaches_at s o.start j i) own in
+        omega arith)
+    | inr other ↦ (let late = unfound k (record { inside = there; other = other; dominant = is.drives k ∙ dominant }) in omega arith)
+  ]
+  reached k (suc m) there less dominant reach =
+      (let sender = sent_at steps errors winner stuffed six ten s are room o is 1 (suc m) k (omega arith) (wants_sends steps errors winner stuffed six ten s are room o is total valid (suc m) k (omega arith) there dominant) in
+      let later = not_before steps errors winner stuffed six ten laws s are room o is total valid 0 i k (omega arith) inside there sender in
+      let up = from_all steps errors winner stuffed six ten s are room o is total valid 1 (suc m) k (omega arith) (omega arith) there in
+      let low = from_most in
+      let end = tick_next s are i inside q (o.start.place i + sample_at (s.lengths i)) (omega arith) in
+      omega arith)
 
   pub silent_before : driven s.count s.delay (expected_drove s o total) i (tick i q) ≡ false
   silent_before =

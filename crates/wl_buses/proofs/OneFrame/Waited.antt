@@ -120,7 +120,7 @@ module _ (frames : ℕ → List Content) where
         others = λ j apart. ap (λ v. v.past j) split ∙ own_other (wire_after w (idles k n)) k j h apart ∙ idle_other w k j n apart;
       })
 
-  may_by : (k : ℕ) (old new : List Input) → MayBegin frames k (stretch_of old) → HasWaited (frames k) old new → MayBegin frames k (stretch_of new)
+  pub may_by : (k : ℕ) (old new : List Input) → MayBegin frames k (stretch_of old) → HasWaited (frames k) old new → MayBegin frames k (stretch_of new)
   may_by k old new may (inl e) = subst (λ p. MayBegin frames k (stretch_of p)) (sym e) may
   may_by k old new may (inr (n, h, idle, e)) =
       subst (MayBegin frames k)
@@ -128,17 +128,16 @@ module _ (frames : ℕ → List Content) where
       ∙ stretch_next (old ++ replicate n no_frame_sample) (Sample (sampled Recessive (frames k) h))))
       (handed_one frames k (stretch_of (old ++ replicate n no_frame_sample)) h (slice_get (frames k) h.which) refl (idle_after old n idle))
 
-  module _ (count : ℕ) (old new : ℕ → List Input) (may : MayBeginTogether count frames old) (waited : (k : ℕ) → k < count → HasWaited (frames k) (old k) (new k)) where
-    abbrev first : Wire
-    first = wire_after (idle_wire count frames) may.earlier
-
+  -- machines on one wire, each of which has waited
+  module _ (count : ℕ) (old new : ℕ → List Input) (earlier : List Event) (reached : (k : ℕ) → k < count → old k ≡ (wire_after (idle_wire count frames) earlier).past k)
+      (waited : (k : ℕ) → k < count → HasWaited (frames k) (old k) (new k)) where
     record UpTo (c : ℕ) : Type 0 where
       events : List Event
       mine : (k : ℕ) → k < c → new k ≡ (wire_after (idle_wire count frames) events).past k
       others : (j : ℕ) → c ≤ j → j < count → (wire_after (idle_wire count frames) events).past j ≡ old j
 
     up_to : (c : ℕ) → c ≤ count → UpTo c
-    up_to zero few = record { events = may.earlier; mine = λ k less. absurd (omega arith); others = λ j more less. sym (may.reached j less) }
+    up_to zero few = record { events = earlier; mine = λ k less. absurd (omega arith); others = λ j more less. sym (reached j less) }
     up_to (suc c) few =
         (let u = up_to c (omega arith) in
         let w = wire_after (idle_wire count frames) u.events in
@@ -158,7 +157,10 @@ module _ (frames : ℕ → List Content) where
           others = λ j more less. ap (λ v. v.past j) split ∙ a.others j (λ e. omega (arith, e)) ∙ u.others j (omega arith) less;
         })
 
-    pub wait_together : MayBeginTogether count frames new
-    wait_together =
-        let u = up_to count (omega arith) in
-        record { earlier = u.events; reached = u.mine; may = λ k less. may_by k (old k) (new k) (may.may k less) (waited k less) }
+    pub wait_on : (events : List Event) × ((k : ℕ) → k < count → new k ≡ (wire_after (idle_wire count frames) events).past k)
+    wait_on = (let u = up_to count (omega arith) in (u.events, u.mine))
+
+  pub wait_together : (count : ℕ) (old new : ℕ → List Input) → MayBeginTogether count frames old → ((k : ℕ) → k < count → HasWaited (frames k) (old k) (new k)) → MayBeginTogether count frames new
+  wait_together count old new may waited =
+      let on = wait_on count old new may.earlier may.reached waited in
+      record { earlier = on.0; reached = on.1; may = λ k less. may_by k (old k) (new k) (may.may k less) (waited k less) }

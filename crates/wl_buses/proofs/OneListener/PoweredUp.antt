@@ -54,7 +54,7 @@ module _ (together : MayTogether) (nothing : NothingFound) (ways : WayLaws) (cal
       let r = rests_first together nothing ways calm edges setups v are room idle hand outset length valid s.count inside segments levels node run finds in
       record {
         after = after_first;
-        rests = record { sampled = r.sampled; clock = r.clock; stretch = r.stretch; counts = r.counts; drive = λ q low high. r.drive q high };
+        rests = record { sampled = r.sampled; clock = r.clock; stretch = r.stretch; over = r.over; counts = r.counts; drive = λ q low high. r.drive q high };
         untouched = nothing_first together nothing ways calm edges setups v are room idle hand outset length valid s.count inside segments levels node run finds (suc (rest + sample_at (s.lengths s.count))) (omega arith);
       }
 

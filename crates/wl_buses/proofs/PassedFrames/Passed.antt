@@ -25,7 +25,7 @@ use Rattle.wl_buses.specs.OneFrame.Clocked.{NoEdgeLaws}
 use Rattle.wl_buses.specs.OneFrame.Course.{bus_bit}
 use Rattle.wl_buses.specs.OneFrame.Expected.{IsOutset, Outset, expected_bits, expected_drove, expected_sample}
 use Rattle.wl_buses.specs.OneFrame.Lines.{BeginsAfter}
-use Rattle.wl_buses.specs.OneFrame.Machines.{HasWon, MayBegin, bus_levels}
+use Rattle.wl_buses.specs.OneFrame.Machines.{HasWon, MayBeginOrJoin, bus_levels}
 use Rattle.wl_buses.specs.OneFrame.Nodes.{IsRun, clock_sees}
 use Rattle.wl_buses.specs.OneFrame.Starts.{Drives, reaches_at}
 use Rattle.wl_buses.specs.OneFrame.Stations.{AreStations, HaveRoom, Stations}
@@ -110,9 +110,10 @@ module _ (m : MachineLaws) (ways : WayLaws) (calm_clock : NoEdgeLaws) (s : Stati
   abbrev given : Sampled
   given = sampled_next setup (node (S 0)) (levels (S 0))
 
-  takes_by : MayBegin o.frames i X → (next : Option Content) → (stretch_after X (Given given)).sort ≡ Framing next → TakesOn (judged X given)
-  takes_by (inl idle) next e = takes_idle X given idle
-  takes_by (inr due) next e = takes_stuffed X given (Some due.0) next [] due.2 (valid 0 some) e
+  takes_by : MayBeginOrJoin o.frames i X → (next : Option Content) → (stretch_after X (Given given)).sort ≡ Framing next → TakesOn (judged X given)
+  takes_by (inl (inl idle)) next e = takes_idle X given idle
+  takes_by (inr two) next e = absurd (rests.over two)
+  takes_by (inl (inr due)) next e = takes_stuffed X given (Some due.0) next [] due.2 (valid 0 some) e
 
   takes : TakesOn (judged X given)
   takes =

@@ -91,6 +91,7 @@ module _ (m : MachineLaws) (ways : WayLaws) (s : Stations) (are : AreStations s)
     handed = o.handed;
     reached = is.reached;
     begin = is.may;
+    joins = is.joins;
     drives = λ n k less lt. drives_are m.steps m.errors m.winner m.stuffed m.six m.ten s are room o is n k;
     samples = λ n k less lt. ap (λ b. past_at s o n k ++ Given (sampled (level_of b) (o.frames k) (o.handed n k)) ∷ [])
         (any_same s.count (wants s o n) (bits n).drives (λ j there. sym (drives_are m.steps m.errors m.winner m.stuffed m.six m.ten s are room o is n j))

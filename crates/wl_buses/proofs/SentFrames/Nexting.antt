@@ -1,5 +1,5 @@
 -- The winner of a frame sends what its machine was handed.
-use Rattle.std.proofs.Common.{◌≡◌, ◌∙◌, sym, ap, subst, ℕ, suc, ◌+◌, ◌<◌, max, true, [], length, replicate, Option, Some, None, arith}
+use Rattle.std.proofs.Common.{◌≡◌, ◌∙◌, sym, ap, subst, ℕ, suc, ◌+◌, ◌<◌, max, true, false, [], length, replicate, Option, Some, None, arith}
 use Rattle.std.specs.Prelude.{slice_get}
 use Rattle.std.proofs.lemmas.Bool.{lt-ltb}
 use Rattle.wl_level.specs.declared.Level.TheVariants.{Recessive}
@@ -27,13 +27,13 @@ use Rattle.wl_buses.specs.NextFrames.NextStarts.{begins_next, decision_next}
 use Rattle.wl_buses.proofs.NextFrames.Chaining.{FreeLaw}
 use Rattle.wl_buses.proofs.NextFrames.Outset.{MayWait, begun}
 use Rattle.wl_buses.proofs.NextFrames.Windows.{RestAfter}
-use Rattle.wl_buses.proofs.NextFrames.Winning.{has_begun}
+use Rattle.wl_buses.proofs.NextFrames.Winning.{has_driven}
 use Rattle.wl_buses.specs.SentFrames.Sending.{ByQueues, unsent_with}
 
 -- the laws that this rests on
 abbrev pub BegunLaw : Type 0
 BegunLaw = (s : Stations) (o : Outset) (end : ℕ) → AreStations s → HaveRoom s → IsOutset s o → EndsBefore s o end → (won : HasWon s (expected_bits s o) o.frames end)
-    → stretch_of (o.past won.station) ≡ stretch_by (Framing (Some won.frame)) []
+    → o.start.joins won.station ≡ false → stretch_of (o.past won.station) ≡ stretch_by (Framing (Some won.frame)) []
 
 -- an idle machine that begins a frame begins the one that it is handed
 takes : (s : Stretch) (o : Option Content) (c : Content) → s.sort ≡ Idle → stretch_after s (Sample (sample_of Recessive o Active)) ≡ stretch_by (Framing (Some c)) [] → o ≡ Some c
@@ -58,17 +58,17 @@ pub first_handed : MayTogether → BegunLaw → (w : Waiting) (f : Frame) → Ar
     → slice_get (w.frames is.won.station) (w.which is.won.station) ≡ Some is.won.frame
 first_handed together began w f are room is first =
     first_begun together w f.outset first is.won.station is.won.frame
-    (sym (ap (λ o. o.start.drives is.won.station) first) ∙ has_begun w.stations (expected_bits w.stations f.outset) f.bits is.won.station is.won.sends)
-    (began w.stations f.outset f.bits are room is.outset is.ends is.won)
+    (sym (ap (λ o. o.start.drives is.won.station) first) ∙ has_driven w.stations (expected_bits w.stations f.outset) f.bits is.won.station (ap (λ o. o.start.joins is.won.station) first) is.won.sends)
+    (began w.stations f.outset f.bits are room is.outset is.ends is.won (ap (λ o. o.start.joins is.won.station) first))
 
 -- of a later one
 module _ (wait : MayWait) (rest_after : RestAfter) (free : FreeLaw) (began : BegunLaw) (s : Stations) (are : AreStations s) (room : HaveRoom s) where
   pub next_handed : (a b : Frame) → IsBegun s a → (is : IsBegun s b) → (after : IsBegunAfter s a b) → slice_get (a.outset.frames is.won.station) (after.which is.won.station) ≡ Some is.won.frame
   next_handed a b was is after =
       let begins : begins_next (resting_of s a b after) is.won.station ≡ true =
-      sym (ap (λ o. o.start.drives is.won.station) after.is) ∙ has_begun s (expected_bits s b.outset) b.bits is.won.station is.won.sends in
+      sym (ap (λ o. o.start.drives is.won.station) after.is) ∙ has_driven s (expected_bits s b.outset) b.bits is.won.station (ap (λ o. o.start.joins is.won.station) after.is) is.won.sends in
       let x = begun wait (resting_of s a b after) (past_at s a.outset (a.bits + 12)) are.line (rest_after s a b are room was after) (free s a.outset a.bits are room was.outset was.ends was.won) is.won.station begins in
-      x.1 ∙ ap (λ y. head_of y.sort) (sym x.2 ∙ sym (ap (λ o. stretch_of (o.past is.won.station)) after.is) ∙ began s b.outset b.bits are room is.outset is.ends is.won)
+      x.1 ∙ ap (λ y. head_of y.sort) (sym x.2 ∙ sym (ap (λ o. stretch_of (o.past is.won.station)) after.is) ∙ began s b.outset b.bits are room is.outset is.ends is.won (ap (λ o. o.start.joins is.won.station) after.is))
 
   pub next_queued : (setups : ℕ → NodeSetup) (frames : ℕ → Frame) (count : ℕ) (all : FollowOneAnother s frames count) (by : ByQueues s setups frames count all) (n : ℕ) (less : suc n < count)
       → head_at (setups (by.winner (suc n))) (unsent_with s setups frames by.winner by.content (by.winner (suc n)) (suc n))

@@ -25,14 +25,14 @@ use Rattle.wl_wire.specs.InStep.{AreSoundFrames}
 use Rattle.wl_wire.proofs.Callers.{some_same}
 use Rattle.wl_wire.specs.Wire.{sampled}
 use Rattle.wl_buses.specs.OneFrame.Expected.{IsOutset, Outset, expected_bits, expected_drove, expected_end, past_at, wants}
-use Rattle.wl_buses.specs.OneFrame.Machines.{AllRight, AreMachines, GoesByMachines, HasWon, MayBegin, SomeBegins, bus_levels}
+use Rattle.wl_buses.specs.OneFrame.Machines.{AllRight, AreMachines, GoesByMachines, HasWon, MayBeginOrJoin, SomeBegins, bus_levels}
 use Rattle.wl_buses.specs.OneFrame.OneBit.{IsRight}
 use Rattle.wl_buses.specs.OneFrame.Starts.{Start}
 use Rattle.wl_buses.specs.OneFrame.Stations.{AreStations, HaveRoom, Stations}
 use Rattle.wl_buses.proofs.OneFrame.Expecting.{drives_are}
 use Rattle.wl_buses.specs.FrameEnd.Asked.{EndAsAsked, EndsBefore, begun_frame}
 use Rattle.wl_buses.proofs.FrameEnd.Below.{MachineLaws}
-use Rattle.wl_buses.proofs.NextFrames.Winning.{CourseLaw, SameBits, has_begun}
+use Rattle.wl_buses.proofs.NextFrames.Winning.{CourseLaw, SameBits, has_driven}
 
 -- the laws that this rests on
 abbrev pub DriveLaw : Type 0
@@ -102,6 +102,7 @@ module _ (m : MachineLaws) (course : CourseLaw) (same_bits : SameBits) (drive : 
     handed = o.handed;
     reached = is.reached;
     begin = is.may;
+    joins = is.joins;
     drives = λ n j less lt. drives_are m.steps m.errors m.winner m.stuffed m.six m.ten s are room o is n j;
     samples = λ n j less lt. ap (λ b. past_at s o n j ++ Sample (sampled (level_of b) (o.frames j) (o.handed n j)) ∷ [])
         (any_same s.count (wants s o n) (bits n).drives (λ i inside. sym (drives_are m.steps m.errors m.winner m.stuffed m.six m.ten s are room o is n i)) ∙ sym (right n j less lt));
@@ -109,9 +110,10 @@ module _ (m : MachineLaws) (course : CourseLaw) (same_bits : SameBits) (drive : 
 
   -- a station that begins the frame
   module _ (k : ℕ) (inside : k < s.count) (drives : o.start.drives k ≡ true) where
-    begun_by : (x : Stretch) → MayBegin o.frames k x → is_dominant (drive_of x) ≡ true → (c : Content) × (x ≡ stretch_by (Framing (Some c)) [])
-    begun_by x (inl idle) e = (let none : is_dominant (drive_of x) ≡ false = ap (λ q. is_dominant (drive_by q x.own)) idle in cc)
-    begun_by x (inr due) e = (due.0, due.2)
+    begun_by : (x : Stretch) → MayBeginOrJoin o.frames k x → is_dominant (drive_of x) ≡ true → (c : Content) × (x ≡ stretch_by (Framing (Some c)) [])
+    begun_by x (inl (inl idle)) e = (let none : is_dominant (drive_of x) ≡ false = ap (λ q. is_dominant (drive_by q x.own)) idle in cc)
+    begun_by x (inl (inr due)) e = (due.0, due.2)
+    begun_by x (inr two) e = (let none : is_dominant (drive_of x) ≡ false = ap (λ y. is_dominant (drive_of y)) two.1 in cc)
 
     pub begun : (c : Content) × (stretch_of (o.past k) ≡ stretch_by (Framing (Some c)) [])
     begun = begun_by (stretch_of (o.past k)) (is.may k inside) (sym (is.drives k) ∙ drives)
@@ -134,9 +136,9 @@ module _ (m : MachineLaws) (course : CourseLaw) (same_bits : SameBits) (drive : 
 
 -- and the winner
 module _ (m : MachineLaws) (course : CourseLaw) (same_bits : SameBits) (drive : DriveLaw) (asked : AskedLaw) (s : Stations) (o : Outset) (end : ℕ) (are : AreStations s) (room : HaveRoom s)
-    (is : IsOutset s o) (ends : EndsBefore s o end) (won : HasWon s (expected_bits s o) o.frames end) where
+    (is : IsOutset s o) (ends : EndsBefore s o end) (won : HasWon s (expected_bits s o) o.frames end) (alone : o.start.joins won.station ≡ false) where
   abbrev pub first : o.start.drives won.station ≡ true
-  first = has_begun s (expected_bits s o) end won.station won.sends
+  first = has_driven s (expected_bits s o) end won.station alone won.sends
 
   pub own_begun : (begun m course same_bits drive s o end are room is ends won.station won.inside first).0 ≡ won.frame
   own_begun =

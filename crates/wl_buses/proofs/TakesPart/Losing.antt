@@ -1,5 +1,5 @@
 -- Who loses the arbitration has begun with its own next frame, and that has the greater field.
-use Rattle.std.proofs.Common.{◌≡◌, ◌≢◌, ◌∙◌, refl, sym, ap, ℕ, ◌+◌, ◌<◌, cond, true, [], Some, arith}
+use Rattle.std.proofs.Common.{◌≡◌, ◌≢◌, ◌∙◌, refl, sym, ap, ℕ, ◌+◌, ◌<◌, cond, true, false, [], Some, arith}
 use Rattle.std.proofs.lemmas.Bool.{eq-eqb, ne_eqb}
 use Rattle.wl_frame.specs.Grammar.{Content}
 use Rattle.wl_machine.specs.declared.state.Role.TheVariants.{Rx, Tx}
@@ -30,7 +30,7 @@ use Rattle.wl_buses.proofs.SentFrames.Nexting.{first_begun}
 use Rattle.wl_buses.specs.TakesPart.Takes.{BeganWith}
 
 module _ (m : MachineLaws) (course : CourseLaw) (same_bits : SameBits) (drive : DriveLaw) (asked : AskedLaw) (s : Stations) (o : Outset) (end : ℕ) (are : AreStations s) (room : HaveRoom s)
-    (is : IsOutset s o) (ends : EndsBefore s o end) (won : HasWon s (expected_bits s o) o.frames end) where
+    (is : IsOutset s o) (ends : EndsBefore s o end) (won : HasWon s (expected_bits s o) o.frames end) (alone : o.start.joins won.station ≡ false) where
   abbrev w : Wire
   w = wire m s are room o is end ends.none ends.there won end
 
@@ -43,7 +43,7 @@ module _ (m : MachineLaws) (course : CourseLaw) (same_bits : SameBits) (drive : 
   sender =
       let a = asked s o end are room is ends won in
       record {
-        framing = at_end won.station won.inside (first m course same_bits drive asked s o end are room is ends won) ∙ ap (λ h. stretch_by (Framing (Some h)) (stuffed_levels s o end)) (own_begun m course same_bits drive asked s o end are room is ends won);
+        framing = at_end won.station won.inside (first m course same_bits drive asked s o end are room is ends won alone) ∙ ap (λ h. stretch_by (Framing (Some h)) (stuffed_levels s o end)) (own_begun m course same_bits drive asked s o end are room is ends won alone);
         role = ap (λ h. frame_role h (stuffed_levels s o end)) (sym a.own) ∙ a.role won.station won.inside ∙ ap (λ b. cond b Tx Rx) (eq-eqb won.station won.station refl);
       }
 
@@ -72,7 +72,7 @@ module _ (m : MachineLaws) (course : CourseLaw) (same_bits : SameBits) (drive : 
 -- as a law
 abbrev pub LosesLaw : Type 0
 LosesLaw = (s : Stations) (o : Outset) (end : ℕ) → AreStations s → HaveRoom s → IsOutset s o → EndsBefore s o end → (won : HasWon s (expected_bits s o) o.frames end)
-    → (k : ℕ) → k < s.count → k ≢ won.station → o.start.drives k ≡ true → (d : Content) × (stretch_of (o.past k) ≡ stretch_by (Framing (Some d)) []) × Beats won.frame d
+    → o.start.joins won.station ≡ false → (k : ℕ) → k < s.count → k ≢ won.station → o.start.drives k ≡ true → (d : Content) × (stretch_of (o.past k) ≡ stretch_by (Framing (Some d)) []) × Beats won.frame d
 
 -- the loser of a later frame
 module _ (wait : MayWait) (rest_after : RestAfter) (free : FreeLaw) (law : LosesLaw) (s : Stations) (are : AreStations s) (room : HaveRoom s) where
@@ -81,7 +81,7 @@ module _ (wait : MayWait) (rest_after : RestAfter) (free : FreeLaw) (law : Loses
   next_loses a b was is after k inside apart drives =
       let begins : begins_next (resting_of s a b after) k ≡ true = sym (ap (λ o. o.start.drives k) after.is) ∙ drives in
       let x = outsets.begun wait (resting_of s a b after) (past_at s a.outset (a.bits + 12)) are.line (rest_after s a b are room was after) (free s a.outset a.bits are room was.outset was.ends was.won) k begins in
-      let y = law s b.outset b.bits are room is.outset is.ends is.won k inside apart drives in
+      let y = law s b.outset b.bits are room is.outset is.ends is.won (ap (λ o. o.start.joins is.won.station) after.is) k inside apart drives in
       record {
         frame = y.0;
         is = x.1 ∙ ap (λ z. head_of z.sort) (sym x.2 ∙ sym (ap (λ o. stretch_of (o.past k)) after.is) ∙ y.1);
@@ -92,7 +92,7 @@ module _ (wait : MayWait) (rest_after : RestAfter) (free : FreeLaw) (law : Loses
 pub first_loses : MayTogether → LosesLaw → (w : Waiting) (f : Frame) → AreStations w.stations → HaveRoom w.stations → (is : IsBegun w.stations f) → f.outset ≡ first_outset w → (k : ℕ) → k < w.stations.count
     → k ≢ is.won.station → f.outset.start.drives k ≡ true → BeganWith w.frames w.which k is.won.frame
 first_loses together law w f are room is first k inside apart drives =
-    let y = law w.stations f.outset f.bits are room is.outset is.ends is.won k inside apart drives in
+    let y = law w.stations f.outset f.bits are room is.outset is.ends is.won (ap (λ o. o.start.joins is.won.station) first) k inside apart drives in
     record {
       frame = y.0;
       is = first_begun together w f.outset first k y.0 (sym (ap (λ o. o.start.drives k) first) ∙ drives) y.1;

@@ -67,6 +67,7 @@ hard_from due (Some q) = q
 abbrev pub first_start : Waiting → Start
 first_start w = record {
   drives = begins_first w;
+  joins = λ i. false;
   due = due_first w;
   place = λ i. hard_place (due_first w i) (edge_first w i);
   from = λ i. hard_from (due_first w i) (edge_first w i);

@@ -18,6 +18,7 @@ use Rattle.wl_bound.specs.Terms.{drift, look}
 use Rattle.wl_buses.specs.OneFrame.Answers.{gathered}
 use Rattle.wl_buses.specs.OneFrame.Stations.{Stations, bit_drift, shared_quantum, shared_tick}
 use Rattle.wl_buses.specs.OneFrame.Clocked.{SamplesBy}
+use Rattle.wl_buses.specs.OneFrame.Machines.{HasTwoBits}
 use Rattle.wl_buses.specs.OneFrame.Expected.{Outset, past_at}
 use Rattle.wl_buses.specs.OneFrame.Nodes.{clock_sees}
 
@@ -36,10 +37,11 @@ LeavesRoomToRest bus chase = (i k : ℕ) → i < bus.nodes → k < bus.nodes →
     → look bus k + gathered bus chase i k + left_over bus (gathered bus chase) i + 12 * drift bus i k + bus.tick ≤ (bus.lengths i).ps2 * bus.shortest i
 
 -- A node rests, as before a first frame (`RestsBefore`): it has sampled a recessive bit with its place 0 at the quantum `rest`, and no edge has moved that bit. Its machine is where `past`
--- puts it, nothing has counted, and it has driven nothing since a quantum.
+-- puts it, its intermission is over, nothing has counted, and it has driven nothing since a quantum.
 pub record RestsAgain (s : Stations) (past : List Input) (i : ℕ) (levels : ℕ → Level) (node : ℕ → History) (rest since : ℕ) : Type 0 where
   pub sampled : SamplesBy (s.lengths i) (clock_sees levels node) (rest + sample_at (s.lengths i)) Recessive
   pub clock : clock_after (s.lengths i) (seen_before (clock_sees levels node) (suc (rest + sample_at (s.lengths i)))) ≡ steady_clock (s.lengths i)
   pub stretch : stretch_of (node (suc (rest + sample_at (s.lengths i)))).inputs ≡ stretch_of past
+  pub over : ¬ HasTwoBits (stretch_of past)
   pub counts : counts_of (node (suc (rest + sample_at (s.lengths i)))).happened ≡ no_counts
   pub drive : (q : ℕ) → since < q → q ≤ suc (rest + sample_at (s.lengths i)) → (node q).drive ≡ Recessive

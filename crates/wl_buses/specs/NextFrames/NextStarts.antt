@@ -62,6 +62,7 @@ edge_next r i = found_before r.stations (has_next r) (due_next r) i (suc (looks_
 abbrev pub start_next : Resting → Start
 start_next r = record {
   drives = begins_next r;
+  joins = λ i. false;
   due = due_next r;
   place = λ i. hard_place (due_next r i) (edge_next r i);
   from = λ i. hard_from (due_next r i) (edge_next r i);

@@ -58,7 +58,7 @@ CatchUp s winner chase = (k : ℕ) → k < s.count → k ≢ winner
 
 -- a bit that all drive recessive, each from its place 0 on
 abbrev pub recessive_bit : (place : ℕ → ℕ) → Start
-recessive_bit place = record { drives = λ k. false; due = place; place = place; from = place }
+recessive_bit place = record { drives = λ k. false; joins = λ k. false; due = place; place = place; from = place }
 
 -- The end of a frame, of which one sender is left, the winner: the places 0 of the CRC delimiter, the ACK slot, and the quanta with which the ACK delimiter begins. What a station does may
 -- rest on what it has sampled before. It drives no other frame before the tick `until`.

@@ -1,5 +1,6 @@
 -- What is expected of stations in a frame: the bits that their machines drive, and when each bit begins, if each sample is what is on the bus.
-use Rattle.std.specs.Prelude.{◌≡◌, ℕ, zero, suc, ◌+◌, ◌-◌, ◌<◌, ◌≤◌, ◌==◌, ◌&&◌, not, nat_le, nat_lt, max, Bool, true, false, List, [], ◌∷◌, ◌++◌, Option, Some, None, if◌then◌else◌}
+use Rattle.std.specs.Prelude.{◌≡◌, ℕ, zero, suc, ◌+◌, ◌-◌, ◌<◌, ◌≤◌, ◌==◌, ◌&&◌, ◌||◌, not, nat_le, nat_lt, max, Bool, true, false, List, [], ◌∷◌, ◌++◌, Option, Some, None, if◌then◌else◌}
+use Rattle.wl_level.specs.declared.Level.TheVariants.{Dominant}
 use Rattle.wl_level.specs.Levels.{is_dominant, level_of}
 use Rattle.wl_level.specs.Places.{first_place}
 use Rattle.wl_segments.specs.Lengths.{bit_quanta, sample_at}
@@ -21,7 +22,7 @@ use Rattle.wl_buses.specs.OneFrame.Starts.{AreAllowed, BeginFrame, Start}
 use Rattle.wl_buses.specs.OneFrame.Clocked.{SamplesBy}
 use Rattle.wl_buses.specs.OneFrame.Course.{bus_bit}
 use Rattle.wl_buses.specs.OneFrame.OneBit.{sampled_at}
-use Rattle.wl_buses.specs.OneFrame.Machines.{MayBegin}
+use Rattle.wl_buses.specs.OneFrame.Machines.{MayBeginOrJoin, joins_by}
 
 -- How a frame begins: the frames that each station may be handed, and when; what has reached its machine before; and the start of frame.
 pub record Outset : Type 0 where
@@ -81,6 +82,7 @@ looks_up_to s drives due i =
 abbrev pub edge_start : Stations → (drives : ℕ → Bool) → (due : ℕ → ℕ) → Start
 edge_start s drives due = record {
   drives = drives;
+  joins = λ i. false;
   due = due;
   place = λ i. place_found s due i (found_before s drives (settled s drives due) i (suc (looks_up_to s drives due i)));
   from = settled s drives due;
@@ -88,7 +90,7 @@ edge_start s drives due = record {
 
 -- and one without
 abbrev pub plain_start : (drives : ℕ → Bool) → (due : ℕ → ℕ) → Start
-plain_start drives due = record { drives = drives; due = due; place = due; from = due }
+plain_start drives due = record { drives = drives; joins = λ i. false; due = due; place = due; from = due }
 
 -- the next bit
 abbrev pub next_start : Stations → (edge : Bool) → (drives : ℕ → Bool) → Start → Start
@@ -107,15 +109,16 @@ expected_drove s o length k t =
     any_below length (λ n. wants s o n k
     && (nat_le (steady_tick (s.clocks k) ((expected_bits s o n).from k)) t && nat_lt t (steady_tick (s.clocks k) ((expected_bits s o (suc n)).from k))))
 
--- The frame begins as such machines do that may begin one, were on one wire, and have frames of different format, identifier or RTR.
+-- The frame begins as such machines do that may begin or join one, were on one wire, and have frames of different format, identifier or RTR.
 pub record IsOutset (s : Stations) (o : Outset) : Type 0 where
   pub frames : AreSoundFrames s.count o.frames
   pub earlier : List Event
   pub reached : (k : ℕ) → k < s.count → o.past k ≡ (wire_after (idle_wire s.count o.frames) earlier).past k
-  pub may : (k : ℕ) → k < s.count → MayBegin o.frames k (stretch_of (o.past k))
+  pub may : (k : ℕ) → k < s.count → MayBeginOrJoin o.frames k (stretch_of (o.past k))
   pub drives : (k : ℕ) → o.start.drives k ≡ is_dominant (drive_of (stretch_of (o.past k)))
+  pub joins : (k : ℕ) → k < s.count → o.start.joins k ≡ joins_by (stretch_of (o.past k)).sort (sampled Dominant (o.frames k) (o.handed 0 k))
   pub begin : BeginFrame s o.start
-  pub allowed : AreAllowed s o.start.drives
+  pub allowed : AreAllowed s (λ k. o.start.drives k || o.start.joins k)
   pub some : (k : ℕ) × (k < s.count) × (o.start.drives k ≡ true)
 
 -- a tick after all samples of so many bits

@@ -22,7 +22,7 @@ use Rattle.wl_buses.specs.OneFrame.Stations.{Stations}
 use Rattle.wl_buses.specs.OneFrame.Starts.{BeginsAlone, FollowsHard}
 use Rattle.wl_buses.specs.OneFrame.Clocked.{SamplesBy}
 use Rattle.wl_buses.specs.OneFrame.Expected.{Outset, expected_bits, expected_drove, expected_sample, wants}
-use Rattle.wl_buses.specs.OneFrame.Machines.{HasWon, bus_levels}
+use Rattle.wl_buses.specs.OneFrame.Machines.{HasTwoBits, HasWon, bus_levels}
 use Rattle.wl_buses.specs.OneFrame.Nodes.{IsInBit, clock_sees}
 
 -- The nodes of a line are these stations. Nothing disturbs them.
@@ -67,6 +67,7 @@ pub record RestsBefore (s : Stations) (o : Outset) (i : ℕ) (levels : ℕ → L
   pub sampled : SamplesBy (s.lengths i) (clock_sees levels node) (rest + sample_at (s.lengths i)) Recessive
   pub clock : clock_after (s.lengths i) (seen_before (clock_sees levels node) (suc (rest + sample_at (s.lengths i)))) ≡ steady_clock (s.lengths i)
   pub stretch : stretch_of (node (suc (rest + sample_at (s.lengths i)))).inputs ≡ stretch_of (o.past i)
+  pub over : ¬ HasTwoBits (stretch_of (o.past i))
   pub counts : counts_of (node (suc (rest + sample_at (s.lengths i)))).happened ≡ no_counts
   pub drive : (q : ℕ) → q ≤ suc (rest + sample_at (s.lengths i)) → (node q).drive ≡ Recessive
 

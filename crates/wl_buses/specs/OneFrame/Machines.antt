@@ -1,7 +1,7 @@
 -- Stations whose machines drive the bits of a frame, each by what it has sampled before.
-use Rattle.std.specs.Prelude.{◌≡◌, ◌≢◌, ◌⊎◌, ℕ, zero, suc, ◌<◌, ◌≤◌, Bool, true, false, List, [], ◌∷◌, ◌++◌, Option, Some, None, replicate, ◌+◌}
+use Rattle.std.specs.Prelude.{◌≡◌, ◌≢◌, ◌⊎◌, ℕ, zero, suc, ◌<◌, ◌≤◌, Bool, true, false, List, [], ◌∷◌, ◌++◌, Option, Some, None, is_some, replicate, ◌+◌}
 use Rattle.wl_level.specs.declared.Level.{Level}
-use Rattle.wl_level.specs.declared.Level.TheVariants.{Recessive}
+use Rattle.wl_level.specs.declared.Level.TheVariants.{Dominant, Recessive}
 use Rattle.wl_confine.specs.declared.Mode.TheVariants.{Active}
 use Rattle.wl_level.specs.Levels.{is_dominant, level_of}
 use Rattle.wl_topology.specs.Driven.{driven}
@@ -9,10 +9,11 @@ use Rattle.wl_frame.specs.Grammar.{Content, bits_of}
 use Rattle.wl_frame.specs.Stuffing.{Stuffs}
 use Rattle.wl_machine.specs.declared.state.Role.{Role}
 use Rattle.wl_machine.specs.declared.state.Role.TheVariants.{Tx}
-use Rattle.wl_machine.specs.Stretch.{Stretch, Input}
+use Rattle.wl_machine.specs.Stretch.{Input, Sampled, Sort, Stretch}
 use Rattle.wl_machine.specs.Stretch.Sort.{Idle, Framing, Intermission}
 use Rattle.wl_machine.specs.Stretch.Input.{Sample}
 use Rattle.wl_machine.specs.Frames.{frame_role}
+use Rattle.wl_machine.specs.BetweenFrames.{begun_head}
 use Rattle.wl_machine.specs.Judged.{drive_of, judged, stretch_of}
 use Rattle.wl_machine.specs.States.{sample_of, stretch_by}
 use Rattle.wl_wire.specs.Wire.{Event, Handed, idle_wire, sampled, wire_after}
@@ -21,7 +22,7 @@ use Rattle.wl_wire.specs.Winner.{Beats}
 use Rattle.wl_buses.specs.OneFrame.Stations.{Stations}
 use Rattle.wl_buses.specs.OneFrame.Starts.{Start}
 use Rattle.wl_buses.specs.OneFrame.OneBit.{sampled_at}
-use Rattle.wl_buses.specs.OneFrame.Course.{RightUpTo, bus_bit, since_edge, still_sends}
+use Rattle.wl_buses.specs.OneFrame.Course.{RightUpTo, bus_bit, has_sent, since_edge, still_sends}
 
 -- what is on the bus in the bits before bit n
 abbrev pub bus_levels : Stations → (bits : ℕ → Start) → ℕ → List Level
@@ -36,13 +37,23 @@ MayBegin frames k x = (x.sort ≡ Idle) ⊎ ((head : Content) × Has frames k he
 abbrev pub HasTwoBits : Stretch → Type 0
 HasTwoBits x = (role : Role) × (x ≡ stretch_by (Intermission role) (Recessive ∷ Recessive ∷ []))
 
--- The machines of stations, up to bit `length` of a frame. `past n k` is all that has reached that of station k before it drives bit n. They were on one wire, and all may begin the
--- frame. What each then drives is what it wants after its samples so far, and it samples what it finds on the line, whatever that is.
+-- A machine may begin a frame, or takes a start of frame in the third bit of its intermission.
+abbrev pub MayBeginOrJoin : (ℕ → List Content) → ℕ → Stretch → Type 0
+MayBeginOrJoin frames k x = MayBegin frames k x ⊎ HasTwoBits x
+
+-- It joins the start of frame: in the third bit of its intermission it is handed a frame with it, and it wouldn't be suspended (Bosch CAN 2.0 part B, section 3.2.5, intermission).
+abbrev pub joins_by : Sort → Sampled → Bool
+joins_by (Intermission role) x = is_some (begun_head role x.mode x.head)
+joins_by sort x = false
+
+-- The machines of stations, up to bit `length` of a frame. `past n k` is all that has reached that of station k before it drives bit n. They were on one wire, and each may begin the
+-- frame or join it. What each then drives is what it wants after its samples so far, and it samples what it finds on the line, whatever that is.
 pub record AreMachines (s : Stations) (bits : ℕ → Start) (drove : ℕ → ℕ → Bool) (frames : ℕ → List Content) (past : ℕ → ℕ → List Input) (length : ℕ) : Type 0 where
   pub earlier : List Event
   pub handed : ℕ → ℕ → Handed
   pub reached : (k : ℕ) → k < s.count → past 0 k ≡ (wire_after (idle_wire s.count frames) earlier).past k
-  pub begin : (k : ℕ) → k < s.count → MayBegin frames k (stretch_of (past 0 k))
+  pub begin : (k : ℕ) → k < s.count → MayBeginOrJoin frames k (stretch_of (past 0 k))
+  pub joins : (k : ℕ) → k < s.count → (bits 0).joins k ≡ joins_by (stretch_of (past 0 k)).sort (sampled Dominant (frames k) (handed 0 k))
   pub drives : (n k : ℕ) → n ≤ length → k < s.count → (bits n).drives k ≡ is_dominant (drive_of (stretch_of (past n k)))
   pub samples : (n k : ℕ) → n < length → k < s.count
       → past (suc n) k ≡ past n k ++ Sample (sampled (level_of (driven s.count s.delay drove k (sampled_at s (bits n) k))) (frames k) (handed n k)) ∷ []
@@ -78,7 +89,7 @@ pub record HasWon (s : Stations) (bits : ℕ → Start) (frames : ℕ → List C
   pub stuffs : Stuffs (bus_levels s bits n) (bits_of frame)
   pub sends : still_sends s bits n station ≡ true
   pub alone : (k : ℕ) → k < s.count → k ≢ station → still_sends s bits n k ≡ false
-  pub beats : (k : ℕ) → k < s.count → k ≢ station → (bits 0).drives k ≡ true → (other : Content) × Has frames k other × Beats frame other
+  pub beats : (k : ℕ) → k < s.count → k ≢ station → has_sent bits 0 k ≡ true → (other : Content) × Has frames k other × Beats frame other
 
 -- A machine has sampled an idle bus since its power-up: eleven recessive bits or more without a frame to send, and then at most one with which it may be handed one (ISO 11898-1, bus
 -- integration).

@@ -1,12 +1,13 @@
 -- A node in a frame: its history, quantum by quantum, and what is expected of it.
-use Rattle.std.specs.Prelude.{◌≡◌, ℕ, suc, ◌<◌, ◌≤◌}
+use Rattle.std.specs.Prelude.{◌≡◌, ℕ, suc, ◌<◌, ◌≤◌, slice_get}
 use Rattle.wl_level.specs.declared.Level.{Level}
 use Rattle.wl_level.specs.Levels.{level_of}
+use Rattle.wl_confine.specs.declared.Mode.TheVariants.{Active}
 use Rattle.wl_confine.specs.Counts.{counts_of, no_counts}
 use Rattle.wl_sync.specs.declared.Seen.{Seen}
 use Rattle.wl_machine.specs.Judged.{stretch_of}
 use Rattle.wl_node.specs.declared.setup.NodeSetup.{NodeSetup}
-use Rattle.wl_node.specs.History.{History, history_after, no_history, seen_next}
+use Rattle.wl_node.specs.History.{History, head_at_next, history_after, no_history, seen_next}
 use Rattle.wl_buses.specs.OneFrame.Stations.{Stations}
 use Rattle.wl_buses.specs.OneFrame.Expected.{HasSampled, Outset, expected_bits, expected_sample, past_at, wants}
 
@@ -25,6 +26,11 @@ pub record IsInBit (s : Stations) (o : Outset) (i : ℕ) (levels : ℕ → Level
   pub stretch : stretch_of (node (suc (expected_sample s o n i))).inputs ≡ stretch_of (past_at s o (suc n) i)
   pub counts : counts_of (node (suc (expected_sample s o n i))).happened ≡ no_counts
   pub drive : (node (suc (expected_sample s o n i))).drive ≡ level_of (wants s o n i)
+
+-- With its sample of the start of frame a node is handed what is expected of it: by its queue, and as an error active node.
+pub record HandsAsExpected (s : Stations) (o : Outset) (i : ℕ) (setup : NodeSetup) (node : ℕ → History) : Type 0 where
+  pub queue : head_at_next setup (node (expected_sample s o 0 i)) ≡ slice_get (o.frames i) (o.handed 0 i).which
+  pub active : (o.handed 0 i).mode ≡ Active
 
 -- So it is with the next bit, and it drives each where that is expected.
 pub record GoesToNext (s : Stations) (o : Outset) (i : ℕ) (levels : ℕ → Level) (node : ℕ → History) (n : ℕ) : Type 0 where

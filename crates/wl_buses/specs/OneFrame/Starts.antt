@@ -5,9 +5,11 @@ use Rattle.wl_phase.specs.Ways.{moved_to}
 use Rattle.wl_buses.specs.OneFrame.Stations.{Stations}
 
 -- Such a bit: who drives it dominant, and of each station the quantum with which it is due if no edge moves it, the quantum of its place 0 as its sample is counted from it, and the
--- quantum from which it is driven.
+-- quantum from which it is driven. Of a start of frame also who joins it: who takes it, in the third bit of its intermission, for the start of a frame of its own, and sends the bits after it
+-- (Bosch CAN 2.0 part B, section 3.2.5, intermission).
 pub record Start : Type 0 where
   pub drives : ℕ → Bool
+  pub joins : ℕ → Bool
   pub due : ℕ → ℕ
   pub place : ℕ → ℕ
   pub from : ℕ → ℕ

@@ -41,7 +41,7 @@ ghost use Rattle.wl_buses.specs.OneFrame.Plans.{IsPlanOf};
 ghost use Rattle.wl_buses.specs.FrameEnd.Again.{HasRoomToRest, LeavesRoomToRest, RestsAgain, past_end};
 ghost use Rattle.wl_buses.specs.FrameEnd.Lines.{LineEnds, LineRests, rests_until};
 ghost use Rattle.wl_buses.specs.FrameEnd.Rests.{NodeEnds, waiting_frame};
-ghost use Rattle.wl_buses.specs.FrameEnd.Third.{MayBeginFromThird, past_third};
+ghost use Rattle.wl_buses.specs.FrameEnd.Third.{MayBeginFromThird, NodeEndsInThird, past_third};
 ghost use Rattle.wl_buses.specs.FrameEnd.Clocks.{SeesEnd};
 ghost use Rattle.wl_buses.specs.FrameEnd.Asked.{CanBeAnswered, EndAsAsked, EndsBefore};
 ghost use Rattle.wl_buses.specs.FrameEnd.Finds.{FindsTheEnd, finds_at};
@@ -287,6 +287,28 @@ pub fn the_next_frame_finds_all_in_the_third_bit()
         < steady_tick (s.clocks k) ((expected_bits s o (end + 12)).place k + bit_quanta (s.lengths k)) + s.delay k i }
 {
     wl_topology::driven_laws();
+    wl_wire::laws::machines_stay_in_step();
+    wl_wire::laws::the_least_field_wins();
+    wl_machine::laws::a_transmitter_sends_its_head_stuffed();
+    wl_frame::laws::a_front_of_no_stuffing_ends_six_equal_bits();
+    wl_frame::laws::ten_bits_have_an_edge();
+}
+
+/// Law: a node goes to the third bit of the intermission as is expected, if it finds the end of the frame up to its sample of the second one.
+/// What it finds then doesn't matter. The frame passes it, it finds no error, and nothing counts.
+pub fn a_node_goes_to_its_third_bit()
+    ensures { (s : Stations) (o : Outset) (end : ℕ) → AreStations s → HaveRoom s → IsOutset s o → EndsBefore s o end
+        → (won : HasWon s (expected_bits s o) o.frames end)
+        → (i : ℕ) (setup : NodeSetup) (levels : ℕ → Level) (node : ℕ → History) → i < s.count → FindsTheEnd s o end i
+        → setup.segments ≡ s.lengths i → IsRun setup levels node
+        → ((n q : ℕ) → suc n ≡ end → expected_sample s o n i < q → q ≤ expected_sample s o (end + 11) i
+        → levels q ≡ level_of (finds_at s o end i q))
+        → ((n : ℕ) → suc n ≡ end → IsInBit s o i levels node n)
+        → NodeEndsInThird s o end won.station i won.frame levels node }
+{
+    wl_topology::driven_laws();
+    crate::one_frame::laws::a_station_begins_its_bits();
+    crate::one_frame::laws::no_edge_counts_then();
     wl_wire::laws::machines_stay_in_step();
     wl_wire::laws::the_least_field_wins();
     wl_machine::laws::a_transmitter_sends_its_head_stuffed();

@@ -18,11 +18,12 @@ ghost use Rattle.wl_buses.specs.OneFrame.Expected.{IsOutset, Outset, expected_bi
 ghost use Rattle.wl_buses.specs.OneFrame.Lines.{BeginsAfter};
 ghost use Rattle.wl_buses.specs.OneFrame.Machines.{HasWon, bus_levels};
 ghost use Rattle.wl_buses.specs.BothProofs.Queues.{head_at};
-ghost use Rattle.wl_buses.specs.OneFrame.Nodes.{IsRun};
+ghost use Rattle.wl_buses.specs.OneFrame.Nodes.{HandsAsExpected, IsRun};
 ghost use Rattle.wl_buses.specs.OneFrame.Stations.{AreOnALine, AreStations, HaveRoom, Stations};
 ghost use Rattle.wl_buses.specs.FrameEnd.Again.{RestsAgain};
 ghost use Rattle.wl_buses.specs.FrameEnd.Asked.{CanBeAnswered, EndsBefore};
 ghost use Rattle.wl_buses.specs.FrameEnd.Finds.{FindsTheEnd, finds_at};
+ghost use Rattle.wl_buses.specs.FrameEnd.Third.{RestsInThird};
 ghost use Rattle.wl_buses.specs.NextFrames.NextNodes.{BeginsSince, GoesThrough, HandsNext};
 ghost use Rattle.wl_buses.specs.NextFrames.NextStarts.{AreFreeNext, AreResting, Resting, outset_next, rest_next, rested, start_next};
 
@@ -54,6 +55,31 @@ pub fn a_node_begins_the_next_frame()
         → ((n : ℕ) → n < length → stuffed_end (bus_levels s (expected_bits s o) n) ≡ None) → i < s.count
         → setup.segments ≡ s.lengths i → IsRun setup levels node → BeginsAfter s o i rest
         → RestsAgain s (o.past i) i levels node rest since → since ≤ rest + sample_at (s.lengths i)
+        → ((q : ℕ) → rest + sample_at (s.lengths i) < q → q ≤ expected_sample s o 0 i
+        → levels q ≡ level_of (driven s.count s.delay (expected_drove s o length) i (steady_tick (s.clocks i) q)))
+        → BeginsSince s o i levels node since }
+{
+    wl_topology::driven_laws();
+    crate::one_frame::laws::a_station_begins_its_bits();
+    crate::one_frame::laws::no_edge_counts_then();
+    wl_sync::clock_goes_on();
+    wl_phase::laws::an_edge_moves_the_sample();
+    wl_wire::laws::machines_stay_in_step();
+    wl_wire::laws::the_least_field_wins();
+    wl_machine::laws::a_transmitter_sends_its_head_stuffed();
+    wl_frame::laws::a_front_of_no_stuffing_ends_six_equal_bits();
+    wl_frame::laws::ten_bits_have_an_edge();
+}
+
+/// Law: so does a node that is in the third bit of its intermission. The edge of another one's start of frame synchronises it hard. With its
+/// sample of that its queue hands it its frame, or none (Bosch CAN 2.0 part B, section 3.2.5).
+pub fn a_node_in_its_third_bit_begins_the_next_frame()
+    ensures { (s : Stations) (o : Outset) (length i rest since : ℕ) (setup : NodeSetup) (levels : ℕ → Level)
+        (node : ℕ → History) → AreStations s → HaveRoom s → IsOutset s o → 0 < length
+        → ((n : ℕ) → n < length → stuffed_end (bus_levels s (expected_bits s o) n) ≡ None) → i < s.count
+        → setup.segments ≡ s.lengths i → IsRun setup levels node → BeginsAfter s o i rest
+        → RestsInThird s (o.past i) i levels node rest since → since ≤ rest + sample_at (s.lengths i)
+        → HandsAsExpected s o i setup node
         → ((q : ℕ) → rest + sample_at (s.lengths i) < q → q ≤ expected_sample s o 0 i
         → levels q ≡ level_of (driven s.count s.delay (expected_drove s o length) i (steady_tick (s.clocks i) q)))
         → BeginsSince s o i levels node since }

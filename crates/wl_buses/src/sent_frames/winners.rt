@@ -1,6 +1,6 @@
 //! Laws of the frames that win, each proved as the contract of a function that does nothing.
 
-ghost use Rattle.std.specs.Prelude.{◌≡◌, ◌<◌, ℕ, suc, [], Some, slice_get};
+ghost use Rattle.std.specs.Prelude.{◌≡◌, ◌<◌, ℕ, suc, true, false, [], Some, slice_get};
 ghost use Rattle.wl_machine.specs.Stretch.Sort.{Framing};
 ghost use Rattle.wl_machine.specs.Judged.{stretch_of};
 ghost use Rattle.wl_machine.specs.States.{stretch_by};
@@ -15,10 +15,11 @@ ghost use Rattle.wl_buses.specs.NextFrames.Frames.{FollowOneAnother, Frame, IsBe
 ghost use Rattle.wl_buses.specs.NextFrames.NextStarts.{decision_next};
 ghost use Rattle.wl_buses.specs.SentFrames.Sending.{ByQueues, unsent_with};
 
-/// Law: the frame that has won is the one with which the machine of its station has begun.
+/// Law: the frame that has won is the one with which the machine of its station has begun, if the station has begun with a start of frame of
+/// its own.
 pub fn the_winner_sends_the_frame_that_it_began()
     ensures { (s : Stations) (o : Outset) (end : ℕ) → AreStations s → HaveRoom s → IsOutset s o → EndsBefore s o end
-        → (won : HasWon s (expected_bits s o) o.frames end)
+        → (won : HasWon s (expected_bits s o) o.frames end) → o.start.joins won.station ≡ false
         → stretch_of (o.past won.station) ≡ stretch_by (Framing (Some won.frame)) [] }
 {
     wl_topology::driven_laws();
@@ -31,6 +32,16 @@ pub fn the_winner_sends_the_frame_that_it_began()
     wl_machine::laws::a_transmitter_sends_its_head_stuffed();
     wl_frame::laws::a_front_of_no_stuffing_ends_six_equal_bits();
     wl_frame::laws::ten_bits_have_an_edge();
+}
+
+/// Law: a winner that has joined the start of frame sends the frame that it was handed with its sample of that.
+pub fn the_winner_sends_the_frame_that_it_joined_with()
+    ensures { (s : Stations) (o : Outset) (end : ℕ) → AreStations s → HaveRoom s → IsOutset s o → EndsBefore s o end
+        → (won : HasWon s (expected_bits s o) o.frames end) → o.start.joins won.station ≡ true
+        → slice_get (o.frames won.station) (o.handed 0 won.station).which ≡ Some won.frame }
+{
+    crate::one_frame::joining::a_station_that_joins_still_sends();
+    crate::frame_end::laws::machines_answer_as_asked();
 }
 
 /// Law: so it is the frame that its station decided on. By queues it is the one that the queue handed the station at its decision.

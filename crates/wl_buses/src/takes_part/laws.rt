@@ -1,6 +1,6 @@
 //! Laws of who takes part in a frame, each proved as the contract of a function that does nothing.
 
-ghost use Rattle.std.specs.Prelude.{◌≡◌, ◌≢◌, ◌+◌, ◌<◌, ℕ, true, Some, []};
+ghost use Rattle.std.specs.Prelude.{◌≡◌, ◌≢◌, ◌+◌, ◌<◌, ℕ, true, false, Some, []};
 ghost use Rattle.wl_frame.specs.Grammar.{Content};
 ghost use Rattle.wl_machine.specs.Judged.{stretch_of};
 ghost use Rattle.wl_machine.specs.Stretch.Sort.{Framing};
@@ -36,8 +36,8 @@ pub fn who_is_ready_takes_part()
 /// as of the first frame.
 pub fn who_loses_has_begun_with_its_next_frame()
     ensures begun { (s : Stations) (o : Outset) (end : ℕ) → AreStations s → HaveRoom s → IsOutset s o
-        → EndsBefore s o end → (won : HasWon s (expected_bits s o) o.frames end) → (k : ℕ) → k < s.count
-        → k ≢ won.station → o.start.drives k ≡ true
+        → EndsBefore s o end → (won : HasWon s (expected_bits s o) o.frames end)
+        → o.start.joins won.station ≡ false → (k : ℕ) → k < s.count → k ≢ won.station → o.start.drives k ≡ true
         → (d : Content) × (stretch_of (o.past k) ≡ stretch_by (Framing (Some d)) []) × Beats won.frame d }
     ensures first { (w : Waiting) (f : Frame) → AreStations w.stations → HaveRoom w.stations → AreIdle w
         → (is : IsBegun w.stations f) → f.outset ≡ first_outset w → (k : ℕ) → k < w.stations.count

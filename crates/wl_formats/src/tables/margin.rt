@@ -12,7 +12,7 @@ static COLUMNS: &[&str] = &[
     "verdict", "senders", "proved_for", "inequality", "room", "name", "other_name", "taken_ns", "taken_quanta",
     "available_ns", "available_quanta", "reason", "late_ns", "late_quanta", "early_ns", "early_quanta", "drift_ns",
     "drift_quanta", "one_sender_units", "any_senders_units", "proved_units", "one_sender_ppm", "any_senders_ppm",
-    "proved_ppm", "one_sender_change", "any_senders_change",
+    "proved_ppm", "one_sender_change", "any_senders_change", "noise", "jumps_ns", "jumps_quanta",
 ];
 
 #[rattlefmt::skip]
@@ -223,6 +223,13 @@ static FIGURES: &[Shape] = &[
         Fixed("help: one sender at a time "), Field("one_sender_change", Phrase), Fixed(", any senders "),
         Field("any_senders_change", Phrase),
     ] },
+    Shape { kind: "noise", pieces: &[
+        Given("noise", Word, "one spike may hide a frame"), Fixed("noise: one spike may hide a frame of "), Field("name", Word),
+        Fixed(" from "), Field("other_name", Word), Fixed(", as far as searched: late "), Field("late_ns", Number),
+        Fixed(" ns ("), Field("late_quanta", Number), Fixed(" quanta), and their jumps take "), Field("jumps_ns", Number),
+        Fixed(" ns ("), Field("jumps_quanta", Number), Fixed(" quanta)"),
+    ] },
+    Shape { kind: "noise", pieces: &[ Fixed("noise: "), Field("noise", Rest) ] },
     Shape { kind: "verdict", pieces: &[
         Field("verdict", Phrase), Given("proved_for", Measure, "-"), Fixed(": "), Field("reason", Rest),
     ] },

@@ -3,7 +3,7 @@ ghost use Rattle.std.specs.Prelude.{◌≡◌};
 ghost use Rattle.wl_formats.specs.Shapes.{layout_of};
 ghost use Rattle.wl_formats.specs.TrafficLines.{traffic_layout};
 
-use crate::shape::Class::{Hexadecimal, Measure, Number, Phrase, Word};
+use crate::shape::Class::{Hexadecimal, Measure, Number, Phrase, Rest, Word};
 use crate::shape::Piece::{Field, Fixed};
 use crate::shape::{Shape, Table};
 
@@ -14,7 +14,7 @@ static TRAFFIC: Table = Table {
         "load_percent", "gap_us", "node", "name", "id", "sent", "left", "waiting", "lost", "broken", "least_quanta",
         "mean_quanta", "greatest_quanta", "least_us", "mean_us", "greatest_us", "verdict", "full_us", "waits_us",
         "allowed_us", "passed", "most_passed", "bound_quanta", "bound_us", "receiver", "frames", "healed_us",
-        "tick",
+        "tick", "silent_tick", "law", "reason",
     ],
     shapes: &[
         Shape { kind: "bus", pieces: &[
@@ -58,6 +58,16 @@ static TRAFFIC: Table = Table {
         Shape { kind: "healed", pieces: &[
             Fixed("healed "), Field("healed_us", Number), Fixed(" us after the last disturbance, clean from tick "),
             Field("tick", Number), Fixed(" on"),
+        ] },
+        Shape { kind: "clean", pieces: &[
+            Fixed("clean from tick "), Field("tick", Number), Fixed(" on, after a silence from tick "),
+            Field("silent_tick", Number), Fixed(" on, proved: "), Field("law", Word),
+        ] },
+        Shape { kind: "unproved", pieces: &[
+            Fixed("not proved clean; margin: "), Field("reason", Rest),
+        ] },
+        Shape { kind: "unproved", pieces: &[
+            Fixed("not proved clean: "), Field("reason", Rest),
         ] },
         Shape { kind: "verdict", pieces: &[
             Fixed("verdict "), Field("verdict", Phrase),

@@ -13,5 +13,5 @@ returns-in-End g c =
     let text =
     subst (λ (bytes : List ℕ). ReadsUpTo g.R.Source.gives c.args.reader.now most_bytes bytes ended.End c.read_bytes.new.reader)
     (sym c.deref.ensures.value) reads in
-    answers_whole (IsResponse c.args.tick c.args.any_data) g.R.Source.gives g.W.Sink.takes c.args.reader.now c.read_bytes.new.reader c.args.writer.now c.respond_to.new.writer
+    answers_whole (IsResponse c.args.tick c.args.any_data c.args.format) g.R.Source.gives g.W.Sink.takes c.args.reader.now c.read_bytes.new.reader c.args.writer.now c.respond_to.new.writer
     c.deref.result.now text c.respond_to.result c.respond_to.ensures

@@ -1,5 +1,5 @@
 use Rattle.std.proofs.Common.{◌≡◌, ◌++◌, ◌∷◌, List, ℕ, length}
-use Rattle.wl_formats.specs.Json.{escaped}
+use Rattle.wl_lines.specs.Json.{escaped}
 use Rattle.wl_parts.proofs.read.string.Given as goal
 
 -- of the bytes of a string those that are left have what is left

@@ -2,17 +2,17 @@ use Rattle.std.proofs.Common.{◌≡◌, ◌∙◌, refl, ap, ap₂, sym, subst,
 use Rattle.std.specs.Prelude.{is_some}
 use Rattle.clap.specs.Words.{Text}
 use Rattle.clap.proofs.TakesLemmas.{passed_up}
-use Rattle.wl_formats.specs.declared.formats.Format.{Format}
-use Rattle.wl_words.specs.CommandLine.{Enters, FoundTask, asked_words_in, asks_once, entered, file_in, format_in, has_flag, is_asked_once, ranges_in}
+use Rattle.wl_lines.specs.declared.formats.Format.{Format}
+use Rattle.wl_words.specs.CommandLine.{Enters, FoundTask, are_fitting, asked_words_in, clash_in, entered, file_in, format_in, go_together, has_flag, ranges_in}
 use Rattle.wl_words.specs.Asked.{Asks, FindsOrder}
 use Rattle.wl_words.specs.declared.command.Order.{Order}
 use Rattle.wl_words.proofs.command.order_of.Goals as goal
 
--- what was found for an order that is asked for once, or not
-found_once : (words : List Text) (order : Order) (b : Bool) → is_asked_once order.input order.asked.items ≡ b → (asks_once (entered words) ≡ true → Asks order words)
-    → asks_once (entered words) ≡ is_asked_once order.input order.asked.items → FindsOrder words (if b then Some order else None)
-found_once words order true e asks same = asks (same ∙ e)
-found_once words order false e asks same = λ t enters. let no : false ≡ true = sym (same ∙ e) ∙ enters.3 in cc
+-- what was found for an order whose options go together, or not
+found_fitting : (words : List Text) (order : Order) (fit b : Bool) → fit ≡ b → (go_together (entered words) ≡ true → Asks order words)
+    → go_together (entered words) ≡ fit → FindsOrder words (if b then Some order else None)
+found_fitting words order fit true e asks same = asks (same ∙ e)
+found_fitting words order fit false e asks same = λ t enters. let no : false ≡ true = sym (same ∙ e) ∙ enters.3 in cc
 
 pub returns-in-Some-format_of_subcommand-clause-order : goal.returns-in-Some-format_of_subcommand-clause-order
 returns-in-Some-format_of_subcommand-clause-order c =
@@ -24,12 +24,14 @@ returns-in-Some-format_of_subcommand-clause-order c =
     let made = c.in_ok-order-in-Some-format_of_subcommand.ensures in
     let input = made.input ∙ ap (file_in (codes "input")) rows in
     let asked = made.asked ∙ ap asked_words_in rows in
-    let enters : asks_once (entered words) ≡ true → Enters c.in-Some.task words = λ once.
-    (subst (λ o. FoundTask o c.in-Some.task) rows found, clean, ap is_some format, once) in
-    subst (FindsOrder words) (sym c.asked_once.ensures) (
-    found_once words c.in_ok-order-in-Some-format_of_subcommand.order _ refl
-    (λ once. (
-      subst (λ t. Enters t words) (sym made.task) (enters once),
+    let wrong = c.clash_of_subcommand.ensures ∙ ap clash_in rows in
+    let enters : go_together (entered words) ≡ true → Enters c.in-Some.task words = λ together.
+    (subst (λ o. FoundTask o c.in-Some.task) rows found, clean, ap is_some format, together) in
+    let order = c.in_ok-order-in-Some-format_of_subcommand.order in
+    subst (FindsOrder words) (sym c.fitting.ensures) (
+    found_fitting words order (are_fitting order.input order.asked.items c.clash_of_subcommand.result) _ refl
+    (λ together. (
+      subst (λ t. Enters t words) (sym made.task) (enters together),
       input,
       made.output ∙ ap (file_in (codes "output")) rows,
       made.hint ∙ ap (has_flag (codes "hint")) rows,
@@ -39,7 +41,7 @@ returns-in-Some-format_of_subcommand-clause-order c =
       asked,
       made.apply ∙ ap (file_in (codes "apply")) rows,
     ))
-    (sym (ap₂ is_asked_once input asked))
+    (sym (ap₂ (λ name words. are_fitting name words c.clash_of_subcommand.result) input asked ∙ ap (are_fitting _ _) wrong))
     )
 
 no_format : (o : Option (Option Format)) → o ≡ None → is_some o ≡ true → ⊥

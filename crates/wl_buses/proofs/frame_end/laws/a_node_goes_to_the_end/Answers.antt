@@ -1,3 +1,4 @@
+use Rattle.std.proofs.Common.{◌≤◌, arith}
 use Rattle.wl_buses.proofs.FrameEnd.Below.{ClockLaws, MachineLaws}
 use Rattle.wl_buses.proofs.FrameEnd.Finding.{finds_the_end}
 use Rattle.wl_buses.proofs.FrameEnd.NodeEnds.{node_ends}
@@ -16,4 +17,4 @@ returns c = λ s o end chase are room is stuffed won can i setup levels node ins
       driven = c.driven_laws.ensures;
     } in
     let clocks : ClockLaws = record { edges = c.a_station_begins_its_bits.ensures; calm = c.no_edge_counts_then.ensures } in
-    node_ends m s are room o is end stuffed.none stuffed.there won clocks i inside (finds_the_end m s are room o is end stuffed.none stuffed.there won chase can.catch can.room i inside) setup segments levels node run finds first)
+    node_ends m s are room o is end stuffed.none stuffed.there won clocks i inside (finds_the_end m s are room o is end stuffed.none stuffed.there won chase can.catch can.room i inside) setup segments levels node run 12 (omega arith) finds first (omega arith) (omega arith))

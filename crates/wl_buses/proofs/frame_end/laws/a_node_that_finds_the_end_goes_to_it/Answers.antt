@@ -1,3 +1,4 @@
+use Rattle.std.proofs.Common.{◌≤◌, arith}
 use Rattle.wl_buses.proofs.FrameEnd.Below.{ClockLaws, MachineLaws}
 use Rattle.wl_buses.proofs.FrameEnd.NodeEnds.{node_ends}
 use Rattle.wl_buses.proofs.frame_end.laws.a_node_that_finds_the_end_goes_to_it.Goals as goal
@@ -15,4 +16,4 @@ returns c = λ s o end are room is stuffed won i setup levels node inside hears 
       driven = c.driven_laws.ensures;
     } in
     let clocks : ClockLaws = record { edges = c.a_station_begins_its_bits.ensures; calm = c.no_edge_counts_then.ensures } in
-    node_ends m s are room o is end stuffed.none stuffed.there won clocks i inside hears setup segments levels node run finds first)
+    node_ends m s are room o is end stuffed.none stuffed.there won clocks i inside hears setup segments levels node run 12 (omega arith) finds first (omega arith) (omega arith))

@@ -1,9 +1,14 @@
-use Rattle.std.proofs.Common.{ℕ, ◌+◌, arith}
+use Rattle.std.proofs.Common.{◌≡◌, ◌<◌, ◌≤◌, ℕ, suc, ◌+◌, arith}
+use Rattle.wl_level.specs.Levels.{level_of}
 use Rattle.wl_segments.specs.Lengths.{sample_at}
+use Rattle.wl_buses.specs.OneFrame.Expected.{expected_sample}
+use Rattle.wl_buses.specs.OneFrame.Nodes.{IsInBit}
+use Rattle.wl_buses.specs.FrameEnd.Finds.{finds_at}
+use Rattle.wl_buses.specs.FrameEnd.Rests.{NodeEnds}
 use Rattle.wl_buses.proofs.FrameEnd.Below.{MachineLaws}
 use Rattle.wl_buses.proofs.FrameEnd.Placing.{samples_up}
 use Rattle.wl_buses.proofs.NextFrames.Beginning.{rest_early}
-use Rattle.wl_buses.proofs.NextFrames.Through.{finds_early, goes_through}
+use Rattle.wl_buses.proofs.NextFrames.Through.{finds_early, next_at, to_the_end}
 use Rattle.wl_buses.proofs.next_frames.nodes.a_node_that_finds_its_end_goes_through_the_next_frame.Goals as goal
 
 pub returns : goal.returns
@@ -21,7 +26,14 @@ returns c = λ s o end are room is some ends won i rest since setup levels node 
     let low : ℕ = rest + sample_at (s.lengths i) in
     let by_end = samples_up m s are room o is end ends.none ends.there won 0 end i inside (omega arith) in
     let begins = c.a_node_begins_the_next_frame.ensures s o end i rest since setup levels node are room is some ends.none inside segments run after rests early
-    (λ q more less. finds_early m c.a_node_goes_as_expected.ensures s are room o is end ends.none ends.there won i inside hears setup segments levels node run since (rest + sample_at (s.lengths i)) finds q more (omega arith)) in
-    goes_through m c.a_node_goes_as_expected.ensures s are room o is end ends.none ends.there won i inside hears setup segments levels node run since (rest + sample_at (s.lengths i)) finds
-    (rest_early s o i rest after (is.begin i inside)) begins
-    (λ f b. c.a_node_that_finds_the_end_goes_to_it.ensures s o end are room is ends won i setup levels node inside hears segments run f b))
+    (λ q more less. finds_early m c.a_node_goes_as_expected.ensures s are room o is end ends.none ends.there won i inside hears setup segments levels node run since (rest + sample_at (s.lengths i)) 12 (omega arith) finds q more (omega arith)) in
+    let to_end : ((n q : ℕ) → suc n ≡ end → expected_sample s o n i < q → q ≤ expected_sample s o (end + 12) i → levels q ≡ level_of (finds_at s o end i q)) → ((n : ℕ) → suc n ≡ end → IsInBit s o i levels node n)
+    → NodeEnds s o end won.station i won.frame setup levels node =
+    λ f b. c.a_node_that_finds_the_end_goes_to_it.ensures s o end are room is ends won i setup levels node inside hears segments run f b in
+    record {
+      begins = begins;
+      next = next_at m c.a_node_goes_as_expected.ensures s are room o is end ends.none ends.there won i inside hears setup segments levels node run since (rest + sample_at (s.lengths i)) 12 (omega arith) finds
+          (rest_early s o i rest after (is.begin i inside)) begins (NodeEnds s o end won.station i won.frame setup levels node) to_end (λ e. e.next);
+      ends = to_the_end m c.a_node_goes_as_expected.ensures s are room o is end ends.none ends.there won i inside hears setup segments levels node run since (rest + sample_at (s.lengths i)) 12 (omega arith) finds
+          (rest_early s o i rest after (is.begin i inside)) begins (NodeEnds s o end won.station i won.frame setup levels node) to_end (λ e. e.next);
+    })

@@ -30,7 +30,7 @@ begins_by steps errors winner stuffed six ten laws goes level sample ways edges 
     has_begun steps errors winner stuffed six ten laws goes level sample ways (bit_place_laws ways) (bit_start_laws goes ways) edges (no_edge_laws goes sample level ways) s are room o is length some
     valid i inside (setups i) (line.segments i (let e = line.nodes in omega arith)) (finds_expected l s o length i) (node_after (setups i) (finds_expected l s o length i))
     (run_of (setups i) (finds_expected l s o length i)) rest
-    (record { sampled = rests.sampled; clock = rests.clock; stretch = rests.stretch; counts = rests.counts; drive = rests.drive (suc (rest + sample_at (s.lengths i))) (omega arith) }) after
+    (record { sampled = rests.sampled; clock = rests.clock; stretch = rests.stretch; takes = λ two. absurd (rests.over two); counts = rests.counts; drive = rests.drive (suc (rest + sample_at (s.lengths i))) (omega arith) }) after
     (λ q more less. finds_what_comes l setups s line o length i q inside) in
     record {
       bit = x.0;

@@ -3,7 +3,7 @@ use Rattle.wl_buses.proofs.TakesPart.Losing.{LosesLaw, first_loses, loses, next_
 use Rattle.wl_buses.proofs.takes_part.laws.who_loses_has_begun_with_its_next_frame.Goals as goal
 
 law : goal.After-stations_rest_after_a_frame → LosesLaw
-law c s o end are room is ends won k inside apart drives =
+law c s o end are room is ends won alone k inside apart drives =
     (let m : MachineLaws = record {
       steps = c.machines_stay_in_step.ensures.step;
       errors = c.machines_stay_in_step.ensures.errors;
@@ -14,7 +14,7 @@ law c s o end are room is ends won k inside apart drives =
       ten = c.ten_bits_have_an_edge.ensures.ten;
       driven = c.driven_laws.ensures;
     } in
-    loses m c.what_is_expected_is_a_course.ensures c.all_sample_the_same_bits.ensures c.machines_drive_as_a_course_asks.ensures c.machines_answer_as_asked.ensures s o end are room is ends won k inside apart
+    loses m c.what_is_expected_is_a_course.ensures c.all_sample_the_same_bits.ensures c.machines_drive_as_a_course_asks.ensures c.machines_answer_as_asked.ensures s o end are room is ends won alone k inside apart
     drives)
 
 pub returns-clause-begun : goal.returns-clause-begun

@@ -1,0 +1,5 @@
+pub mod After
+pub mod Following
+pub mod Lasting
+pub mod Outset
+pub mod Rows

@@ -1,0 +1,25 @@
+use Rattle.std.proofs.Common.{◌≤◌, arith}
+use Rattle.wl_buses.proofs.FrameEnd.Below.{ClockLaws, MachineLaws}
+use Rattle.wl_buses.proofs.FrameEnd.NodeEnds.{next_at, passes_all}
+use Rattle.wl_buses.proofs.FrameEnd.Second.{rests_in_third}
+use Rattle.wl_buses.proofs.frame_end.laws.a_node_goes_to_its_third_bit.Goals as goal
+
+pub returns : goal.returns
+returns c = λ s o end are room is stuffed won i setup levels node inside hears segments run finds first.
+    (let m : MachineLaws = record {
+      steps = c.machines_stay_in_step.ensures.step;
+      errors = c.machines_stay_in_step.ensures.errors;
+      winner = c.the_least_field_wins.ensures;
+      stuffed = c.a_transmitter_sends_its_head_stuffed.ensures.sent;
+      found = c.a_transmitter_sends_its_head_stuffed.ensures.found;
+      six = c.a_front_of_no_stuffing_ends_six_equal_bits.ensures;
+      ten = c.ten_bits_have_an_edge.ensures.ten;
+      driven = c.driven_laws.ensures;
+    } in
+    let clocks : ClockLaws = record { edges = c.a_station_begins_its_bits.ensures; calm = c.no_edge_counts_then.ensures } in
+    let next = next_at m s are room o is end stuffed.none stuffed.there won clocks i inside hears setup segments levels node run 11 (omega arith) finds first (omega arith) in
+    record {
+      next = next;
+      passes = passes_all m s are room o is end stuffed.none stuffed.there won clocks i inside hears setup segments levels node run 11 (omega arith) finds first (omega arith);
+      rests = rests_in_third m s are room o is end stuffed.none stuffed.there won i inside levels node next;
+    })

@@ -1,0 +1,3 @@
+pub mod ThirdFrames
+pub mod ThirdNodes
+pub mod ThirdStarts

@@ -1,5 +1,0 @@
-use Rattle.std.proofs.Common.{refl}
-use Rattle.wl_formats.proofs.tables.respond.respond_table.Goals as goal
-
-pub returns : goal.returns
-returns c = refl

@@ -1,8 +1,0 @@
-use Rattle.wl_margin.specs.Pieces.{each_below}
-use Rattle.wl_report.specs.Lines.{GrowsBy}
-use Rattle.wl_respond.specs.Texts.{line_words}
-use Rattle.wl_respond.proofs.text.push_lines.Given as goal
-
--- the lines so far
-abbrev pub invariant-loop-e : goal.invariant-loop-e
-invariant-loop-e l = GrowsBy l.initial.text l.text (each_below (line_words l.names l.asked l.lines) l.e)
